@@ -1,0 +1,2 @@
+//! A leg: a place that keeps blocks, and what it promises.
+#![tactic(auto)]

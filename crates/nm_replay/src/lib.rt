@@ -1,0 +1,2 @@
+//! Blocks, arrays of blocks, and the legal histories of an array.
+#![tactic(auto)]

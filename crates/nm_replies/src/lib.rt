@@ -1,0 +1,2 @@
+//! NBD simple replies: their frames, and a writer that says how much went out.
+#![tactic(auto)]
