@@ -1,0 +1,8 @@
+/// The bytes of one block: 512 of them, the unit in which an array is read and written.
+#[derive(Debug, Drop, PartialEq, Eq)]
+pub struct Block(pub [u8; 512]);
+
+impl Block {
+    /// A block of 512 zero bytes.
+    pub const ZERO: Block = Block([0; 512]);
+}
