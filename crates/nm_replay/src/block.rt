@@ -1,5 +1,7 @@
 /// The bytes of one block: 512 of them, the unit in which an array is read and written.
-#[derive(Debug, Drop, PartialEq, Eq)]
+///
+/// Lend it, as `&Block` or `&mut Block`: a copy moves all 512 bytes.
+#[derive(Clone, Copy, Debug, PartialEq, Eq)]
 pub struct Block(pub [u8; 512]);
 
 impl Block {

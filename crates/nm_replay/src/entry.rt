@@ -1,7 +1,7 @@
 use crate::block::Block;
 
 /// What an entry did to its block.
-#[derive(Debug, Drop, PartialEq, Eq)]
+#[derive(Clone, Copy, Debug, PartialEq, Eq)]
 pub enum Kind {
     /// The block was read.
     Read,
@@ -9,15 +9,15 @@ pub enum Kind {
     Write(u64),
 }
 
-/// One operation on one block, as a history keeps it.
-#[derive(Debug, Drop, PartialEq, Eq)]
+/// One operation on one block of an array, as a history keeps it.
+#[derive(Clone, Copy, Debug, PartialEq, Eq)]
 pub struct Entry {
     /// The entry's number: one more than that of the entry before it.
     pub seq: u64,
     /// Whether the block was read or written.
     pub kind: Kind,
-    /// Which block of the array.
+    /// Which block of the array, counted from 0.
     pub block: u64,
-    /// The bytes that were found there, or that were put there.
+    /// The bytes that a read found there, or that a write put there.
     pub bytes: Block,
 }

@@ -3,6 +3,8 @@
 
 pub use block::Block;
 pub use entry::{Entry, Kind};
+pub use memory::Memory;
 
 mod block;
 mod entry;
+mod memory;
