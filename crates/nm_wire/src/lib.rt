@@ -1,2 +1,39 @@
 //! The numbers, flags and heads that the NBD protocol puts on the wire.
+//!
+//! Each head has a layout, a row of big-endian numbers. `put` writes exactly that layout, and
+//! `get` reads a head exactly where its layout begins the bytes.
 #![tactic(auto)]
+
+pub use client_flags::ClientFlags;
+pub use command::Command;
+pub use command_flags::CommandFlags;
+pub use export::Export;
+pub use export_flags::ExportFlags;
+pub use fault::WireFault;
+pub use memory::Memory;
+pub use name::Name;
+pub use option_head::OptionHead;
+pub use option_kind::OptionKind;
+pub use option_reply::OptionReply;
+pub use reply_kind::ReplyKind;
+pub use request_head::RequestHead;
+pub use server_flags::ServerFlags;
+pub use simple_reply::SimpleReply;
+
+mod client_flags;
+mod command;
+mod command_flags;
+pub mod errors;
+mod export;
+mod export_flags;
+mod fault;
+mod memory;
+mod name;
+pub mod number;
+mod option_head;
+mod option_kind;
+mod option_reply;
+mod reply_kind;
+mod request_head;
+mod server_flags;
+mod simple_reply;

@@ -1,0 +1,8 @@
+use Rattle.std.proofs.Common.{arith}
+use Rattle.nm_wire.proofs.Numbers.{take-number}
+use Rattle.nm_wire.proofs.number.get_u16.Goals as goal
+
+pub returns : goal.returns
+returns c =
+    take-number 2 c.args.at c.read_u16.result c.args.bytes.now (λ i. let byte = c.type_inv.bytes i in omega arith)
+    c.requires c.read_u16.ensures

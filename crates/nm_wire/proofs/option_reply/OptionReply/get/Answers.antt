@@ -1,0 +1,43 @@
+-- The numbers that were read stand one behind the other; what else begins the bytes is the same head.
+use Rattle.std.proofs.Common.{◌++◌, length, take, drop, Ok, refl, sym, ap, ◌∙◌, arith, length-append, lit<}
+use Rattle.std.proofs.lemmas.List.{take-append-drop}
+use Rattle.nm_wire.specs.Layout.{FitsOptionReply, option_reply_bytes}
+use Rattle.nm_wire.specs.declared.option_reply.OptionReply.{OptionReply}
+use Rattle.nm_wire.proofs.Numbers.{be-injective}
+use Rattle.nm_wire.proofs.Heads.{length-option_reply_bytes, option_reply_bytes-magic, option_reply_bytes-unique}
+use Rattle.nm_wire.proofs.option_reply.OptionReply.get.Goals as goal
+
+pub returns-then-bytes-lt20-clause-reads_back : goal.returns-then-bytes-lt20-clause-reads_back
+returns-then-bytes-lt20-clause-reads_back c reply rest fits same =
+    let whole = ap length same ∙ length-append (option_reply_bytes reply) rest in
+    absurd (omega (arith, whole, length-option_reply_bytes reply))
+
+pub returns-then-get_u64-ne-OPTION_REPLY_MAGIC-clause-reads_back :
+    goal.returns-then-get_u64-ne-OPTION_REPLY_MAGIC-clause-reads_back
+returns-then-get_u64-ne-OPTION_REPLY_MAGIC-clause-reads_back c reply rest fits same =
+    let magic = sym c.get_u64.ensures ∙ ap (take 8) same ∙ option_reply_bytes-magic reply rest in
+    absurd (c.if-get_u64-ne-OPTION_REPLY_MAGIC.true (be-injective 8 _ _ (omega arith) (lit< tt) magic))
+
+pub returns-then-get_u64-ne-OPTION_REPLY_MAGIC-clause-magic :
+    goal.returns-then-get_u64-ne-OPTION_REPLY_MAGIC-clause-magic
+returns-then-get_u64-ne-OPTION_REPLY_MAGIC-clause-magic c = (
+  (λ refused. (
+    c.if-bytes-lt20.false,
+    (λ magic. c.if-get_u64-ne-OPTION_REPLY_MAGIC.true
+        (be-injective 8 _ _ (omega arith) (lit< tt) (sym c.get_u64.ensures ∙ magic))),
+  )),
+  (λ cause. refl),
+)
+
+pub returns-clause-ok : goal.returns-clause-ok
+unfolding option_reply_bytes
+returns-clause-ok c =
+    sym (take-append-drop 20 c.args.bytes.now)
+    ∙ ap (λ first. first ++ drop 20 c.args.bytes.now)
+    (rw (c.get_u32-3.ensures, c.get_u32-2.ensures, c.get_u32.ensures, c.get_u64.ensures, c.if-get_u64-ne-OPTION_REPLY_MAGIC.false) refl)
+
+pub returns-clause-reads_back : goal.returns-clause-reads_back
+returns-clause-reads_back c reply rest fits same =
+    let mine : OptionReply = record { option = c.get_u32.result; kind = c.get_u32-2.result; length = c.get_u32-3.result } in
+    let mine_fits : FitsOptionReply mine = record { option = omega arith; kind = omega arith; length = omega arith } in
+    ap Ok (option_reply_bytes-unique mine reply _ _ mine_fits fits (sym (returns-clause-ok c) ∙ same)).0

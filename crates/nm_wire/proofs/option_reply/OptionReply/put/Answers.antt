@@ -1,0 +1,11 @@
+-- The numbers were written one behind the other, and the last one ends the bytes.
+use Rattle.std.proofs.Common.{refl, sym, ◌∙◌, arith}
+use Rattle.std.proofs.lemmas.List.{take_all}
+use Rattle.nm_wire.specs.Layout.{option_reply_bytes}
+use Rattle.nm_wire.proofs.option_reply.OptionReply.put.Goals as goal
+
+pub returns : goal.returns
+unfolding option_reply_bytes
+returns c =
+    sym (take_all 20 c.put_u32-3.new.bytes (omega arith))
+    ∙ rw (c.put_u32-3.ensures.written, c.put_u32-2.ensures.written, c.put_u32.ensures.written, c.put_u64.ensures.written) refl

@@ -1,0 +1,43 @@
+-- The numbers that were read stand one behind the other; what else begins the bytes is the same head.
+use Rattle.std.proofs.Common.{◌++◌, length, take, drop, Ok, refl, sym, ap, ◌∙◌, arith, length-append, lit<}
+use Rattle.std.proofs.lemmas.List.{take-append-drop}
+use Rattle.nm_wire.specs.Layout.{FitsRequestHead, request_head_bytes}
+use Rattle.nm_wire.specs.declared.request_head.RequestHead.{RequestHead}
+use Rattle.nm_wire.proofs.Numbers.{be-injective}
+use Rattle.nm_wire.proofs.Heads.{length-request_head_bytes, request_head_bytes-magic, request_head_bytes-unique}
+use Rattle.nm_wire.proofs.request_head.RequestHead.get.Goals as goal
+
+pub returns-then-bytes-lt28-clause-reads_back : goal.returns-then-bytes-lt28-clause-reads_back
+returns-then-bytes-lt28-clause-reads_back c head rest fits same =
+    let whole = ap length same ∙ length-append (request_head_bytes head) rest in
+    absurd (omega (arith, whole, length-request_head_bytes head))
+
+pub returns-then-get_u32-ne-REQUEST_MAGIC-clause-reads_back :
+    goal.returns-then-get_u32-ne-REQUEST_MAGIC-clause-reads_back
+returns-then-get_u32-ne-REQUEST_MAGIC-clause-reads_back c head rest fits same =
+    let magic = sym c.get_u32.ensures ∙ ap (take 4) same ∙ request_head_bytes-magic head rest in
+    absurd (c.if-get_u32-ne-REQUEST_MAGIC.true (be-injective 4 _ _ (omega arith) (lit< tt) magic))
+
+pub returns-then-get_u32-ne-REQUEST_MAGIC-clause-magic :
+    goal.returns-then-get_u32-ne-REQUEST_MAGIC-clause-magic
+returns-then-get_u32-ne-REQUEST_MAGIC-clause-magic c = (
+  (λ refused. (
+    c.if-bytes-lt28.false,
+    (λ magic. c.if-get_u32-ne-REQUEST_MAGIC.true
+        (be-injective 4 _ _ (omega arith) (lit< tt) (sym c.get_u32.ensures ∙ magic))),
+  )),
+  (λ cause. refl),
+)
+
+pub returns-clause-ok : goal.returns-clause-ok
+unfolding request_head_bytes
+returns-clause-ok c =
+    sym (take-append-drop 28 c.args.bytes.now)
+    ∙ ap (λ first. first ++ drop 28 c.args.bytes.now)
+    (rw (c.get_u32-2.ensures, c.get_u64-2.ensures, c.get_u64.ensures, c.get_u16-2.ensures, c.get_u16.ensures, c.get_u32.ensures, c.if-get_u32-ne-REQUEST_MAGIC.false) refl)
+
+pub returns-clause-reads_back : goal.returns-clause-reads_back
+returns-clause-reads_back c head rest fits same =
+    let mine : RequestHead = record { flags = record { 0 = c.get_u16.result }; kind = c.get_u16-2.result; cookie = c.get_u64.result; offset = c.get_u64-2.result; length = c.get_u32-2.result } in
+    let mine_fits : FitsRequestHead mine = record { flags = omega arith; kind = omega arith; cookie = omega arith; offset = omega arith; length = omega arith } in
+    ap Ok (request_head_bytes-unique mine head _ _ mine_fits fits (sym (returns-clause-ok c) ∙ same)).0

@@ -1,0 +1,51 @@
+ghost use Rattle.std.specs.Prelude.{◌≡◌, ◌≢◌, IfSome, IfNone};
+ghost use Rattle.nm_wire.specs.Command.{command_number};
+
+/// What a request asks for ("Request types").
+#[derive(Clone, Copy, Debug, PartialEq, Eq, Hash)]
+pub enum Command {
+    /// NBD_CMD_READ: send data.
+    Read,
+    /// NBD_CMD_WRITE: keep the data that follow.
+    Write,
+    /// NBD_CMD_DISC: end the session.
+    Disconnect,
+    /// NBD_CMD_FLUSH: make what was answered durable.
+    Flush,
+    /// NBD_CMD_TRIM: the data are no longer needed.
+    Trim,
+    /// NBD_CMD_WRITE_ZEROES: keep zeroes.
+    WriteZeroes,
+}
+
+impl Command {
+    /// The command with this number, if it is one that is served.
+    pub fn from_number(number: u16) -> Option<Command>
+        ensures known { IfSome result (λ command. command_number command ≡ number) }
+        ensures unknown { IfNone result ((command : Command) → command_number command ≢ number) }
+    {
+        match number {
+            0 => Some(Command::Read),
+            1 => Some(Command::Write),
+            2 => Some(Command::Disconnect),
+            3 => Some(Command::Flush),
+            4 => Some(Command::Trim),
+            6 => Some(Command::WriteZeroes),
+            _ => None,
+        }
+    }
+
+    /// The command's number on the wire.
+    pub fn number(self) -> u16
+        ensures { result ≡ command_number self }
+    {
+        match self {
+            Command::Read => 0,
+            Command::Write => 1,
+            Command::Disconnect => 2,
+            Command::Flush => 3,
+            Command::Trim => 4,
+            Command::WriteZeroes => 6,
+        }
+    }
+}

@@ -1,0 +1,54 @@
+ghost use Rattle.std.specs.Prelude.{◌≡◌, ◌≢◌, ◌↔◌, ◌≤◌, ◌<◌, ℕ, List, ◌++◌, length, take, drop, IfOk};
+ghost use Rattle.nm_wire.specs.Number.{be, option_reply_magic};
+ghost use Rattle.nm_wire.specs.Layout.{FitsOptionReply, option_reply_bytes};
+
+use crate::fault::WireFault;
+use crate::number::{get_u32, get_u64, put_u32, put_u64};
+
+const OPTION_REPLY_MAGIC: u64 = 0x0003_e889_0455_65a9;
+
+/// The head of a reply to an option ("Fixed newstyle negotiation").
+#[derive(Clone, Copy, Debug, PartialEq, Eq)]
+pub struct OptionReply {
+    /// The option's number as it was asked.
+    pub option: u32,
+    /// The reply type's number.
+    pub kind: u32,
+    /// How many bytes of data follow.
+    pub length: u32,
+}
+
+impl OptionReply {
+    /// Writes the head's 20 bytes.
+    pub fn put(&self, bytes: &mut [u8; 20])
+        ensures { bytes.new ≡ option_reply_bytes self.now }
+    {
+        put_u64(bytes, 0, OPTION_REPLY_MAGIC);
+        put_u32(bytes, 8, self.option);
+        put_u32(bytes, 12, self.kind);
+        put_u32(bytes, 16, self.length);
+    }
+
+    /// The head that begins the bytes, whatever follows it.
+    pub fn get(bytes: &[u8]) -> Result<OptionReply, WireFault>
+        ensures ok { IfOk result (λ reply. bytes.now ≡ option_reply_bytes reply ++ drop 20 bytes.now) }
+        ensures fits { IfOk result FitsOptionReply }
+        ensures reads_back { (reply : OptionReply) (rest : List ℕ) → FitsOptionReply reply
+            → bytes.now ≡ option_reply_bytes reply ++ rest → result ≡ Ok reply }
+        ensures short { (result ≡ Err WireFault.Short) ↔ (length bytes.now < 20) }
+        ensures magic { (result ≡ Err WireFault.Magic)
+            ↔ ((20 ≤ length bytes.now) × (take 8 bytes.now ≢ be 8 option_reply_magic)) }
+    {
+        if bytes.len() < 20 {
+            return Err(WireFault::Short);
+        }
+        if get_u64(bytes, 0) != OPTION_REPLY_MAGIC {
+            return Err(WireFault::Magic);
+        }
+        Ok(OptionReply {
+            option: get_u32(bytes, 8),
+            kind: get_u32(bytes, 12),
+            length: get_u32(bytes, 16),
+        })
+    }
+}

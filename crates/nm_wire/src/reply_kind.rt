@@ -1,0 +1,35 @@
+ghost use Rattle.std.specs.Prelude.{◌≡◌};
+ghost use Rattle.nm_wire.specs.ReplyKind.{reply_number};
+
+/// The types of replies to options that are sent ("Option reply types").
+#[derive(Clone, Copy, Debug, PartialEq, Eq, Hash)]
+pub enum ReplyKind {
+    /// NBD_REP_ACK: done.
+    Ack,
+    /// NBD_REP_SERVER: an export's name.
+    Server,
+    /// NBD_REP_INFO: a piece of information on an export.
+    Info,
+    /// NBD_REP_ERR_UNSUP: an option that is not served.
+    Unsupported,
+    /// NBD_REP_ERR_INVALID: an option with data that are not of its form.
+    Invalid,
+    /// NBD_REP_ERR_UNKNOWN: there is no export of that name.
+    Unknown,
+}
+
+impl ReplyKind {
+    /// The type's number on the wire.
+    pub fn number(self) -> u32
+        ensures { result ≡ reply_number self }
+    {
+        match self {
+            ReplyKind::Ack => 1,
+            ReplyKind::Server => 2,
+            ReplyKind::Info => 3,
+            ReplyKind::Unsupported => 0x8000_0001,
+            ReplyKind::Invalid => 0x8000_0003,
+            ReplyKind::Unknown => 0x8000_0006,
+        }
+    }
+}

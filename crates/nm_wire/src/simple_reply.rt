@@ -1,0 +1,50 @@
+ghost use Rattle.std.specs.Prelude.{◌≡◌, ◌≢◌, ◌↔◌, ◌≤◌, ◌<◌, ℕ, List, ◌++◌, length, take, drop, IfOk};
+ghost use Rattle.nm_wire.specs.Number.{be, simple_reply_magic};
+ghost use Rattle.nm_wire.specs.Layout.{FitsSimpleReply, simple_reply_bytes};
+
+use crate::fault::WireFault;
+use crate::number::{get_u32, get_u64, put_u32, put_u64};
+
+const SIMPLE_REPLY_MAGIC: u32 = 0x6744_6698;
+
+/// The head of a simple reply ("Simple reply message").
+#[derive(Clone, Copy, Debug, PartialEq, Eq)]
+pub struct SimpleReply {
+    /// 0, or why the request was not done.
+    pub error: u32,
+    /// The request's cookie.
+    pub cookie: u64,
+}
+
+impl SimpleReply {
+    /// Writes the head's 16 bytes.
+    pub fn put(&self, bytes: &mut [u8; 16])
+        ensures { bytes.new ≡ simple_reply_bytes self.now }
+    {
+        put_u32(bytes, 0, SIMPLE_REPLY_MAGIC);
+        put_u32(bytes, 4, self.error);
+        put_u64(bytes, 8, self.cookie);
+    }
+
+    /// The head that begins the bytes, whatever follows it.
+    pub fn get(bytes: &[u8]) -> Result<SimpleReply, WireFault>
+        ensures ok { IfOk result (λ reply. bytes.now ≡ simple_reply_bytes reply ++ drop 16 bytes.now) }
+        ensures fits { IfOk result FitsSimpleReply }
+        ensures reads_back { (reply : SimpleReply) (rest : List ℕ) → FitsSimpleReply reply
+            → bytes.now ≡ simple_reply_bytes reply ++ rest → result ≡ Ok reply }
+        ensures short { (result ≡ Err WireFault.Short) ↔ (length bytes.now < 16) }
+        ensures magic { (result ≡ Err WireFault.Magic)
+            ↔ ((16 ≤ length bytes.now) × (take 4 bytes.now ≢ be 4 simple_reply_magic)) }
+    {
+        if bytes.len() < 16 {
+            return Err(WireFault::Short);
+        }
+        if get_u32(bytes, 0) != SIMPLE_REPLY_MAGIC {
+            return Err(WireFault::Magic);
+        }
+        Ok(SimpleReply {
+            error: get_u32(bytes, 4),
+            cookie: get_u64(bytes, 8),
+        })
+    }
+}
