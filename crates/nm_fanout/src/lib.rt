@@ -1,2 +1,15 @@
-//! The records of writes under way: which legs each has still to reach.
+//! The records of writes under way: which legs each write has still to reach.
+//!
+//! A record stands from a write's beginning until it is claimed. It keeps the block, the data and
+//! the legs that are owed the write, and the number of the write's entry once it took effect.
+//! Every call on `Records` answers exactly what its list of records says, and only `reserve`
+//! takes memory.
 #![tactic(auto)]
+
+pub use payload::Data;
+pub use records::{MOST_RECORDS, Records};
+pub use write::{LEGS, Record};
+
+mod payload;
+mod records;
+mod write;

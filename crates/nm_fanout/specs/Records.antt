@@ -1,0 +1,83 @@
+-- The records of writes, by rising ticket.
+use Rattle.std.specs.Prelude.{ℕ, ◌<◌, ◌≤◌, ◌&&◌, ◌==◌, not, List, [], ◌∷◌, ◌++◌, length, if◌then◌else◌, Option, find, filter, count_by, is_none}
+use Rattle.std.specs.Option.{option_map, option_and_then}
+use Rattle.nm_fanout.specs.declared.write.Record.{Record}
+use Rattle.nm_fanout.specs.Record.{is_under_way, lowest_owed, without_leg, with_entry, IsWhole}
+
+-- the records, and how many more of them fit without memory being taken
+pub record RecordTable : Type 0 where
+  pub list : List Record
+  pub room : ℕ
+
+-- the record of this ticket
+abbrev pub find_record : ℕ → List Record → Option Record
+find_record ticket list = find (λ r. r.ticket == ticket) list
+
+-- the record under way on this block
+abbrev pub busy_on : ℕ → List Record → Option Record
+busy_on block list = find (λ r. (r.block == block) && is_under_way r) list
+
+-- the number of the entry of this ticket's write
+abbrev pub entry_of : ℕ → List Record → Option ℕ
+entry_of ticket list = option_and_then (λ r. r.entry) (find_record ticket list)
+
+-- how many of the writes have no entry yet
+abbrev pub unlanded : List Record → ℕ
+unlanded list = count_by (λ r. is_none r.entry) list
+
+-- the lowest leg that this ticket's write has still to reach
+abbrev pub next_owed : ℕ → List Record → Option ℕ
+next_owed ticket list = option_and_then lowest_owed (find_record ticket list)
+
+-- the lowest ticket under way, with the lowest leg that it has still to reach
+abbrev pub first_owed : List Record → Option (ℕ × ℕ)
+first_owed list =
+    option_and_then (λ r. option_map (λ leg. (r.ticket, leg)) (lowest_owed r))
+    (find is_under_way list)
+
+-- the records with that of this ticket changed by f
+abbrev pub changed : (Record → Record) → ℕ → List Record → List Record
+changed f ticket [] = []
+changed f ticket (r ∷ rs) = (if r.ticket == ticket then f r else r) ∷ changed f ticket rs
+
+-- the records after this ticket's write has reached the leg
+abbrev pub reached : ℕ → ℕ → List Record → List Record
+reached ticket leg list = changed (without_leg leg) ticket list
+
+-- the records after this ticket's write got its entry, under this number
+abbrev pub landed : ℕ → ℕ → List Record → List Record
+landed ticket number list = changed (with_entry number) ticket list
+
+-- the records but that of this ticket
+abbrev pub without : ℕ → List Record → List Record
+without ticket list = filter (λ r. not (r.ticket == ticket)) list
+
+-- the records after a write has begun
+abbrev pub with_new : Record → List Record → List Record
+with_new r list = list ++ r ∷ []
+
+-- each record's ticket is above this one
+abbrev pub AllAbove : ℕ → List Record → Type 0
+AllAbove ticket [] = Unit {0}
+AllAbove ticket (r ∷ rs) = (ticket < r.ticket) × AllAbove ticket rs
+
+-- each record's ticket is below this one
+abbrev pub AllBelow : ℕ → List Record → Type 0
+AllBelow ticket [] = Unit {0}
+AllBelow ticket (r ∷ rs) = (r.ticket < ticket) × AllBelow ticket rs
+
+-- the tickets rise, so that no two records have the same
+abbrev pub Ascends : List Record → Type 0
+Ascends [] = Unit {0}
+Ascends (r ∷ rs) = AllAbove r.ticket rs × Ascends rs
+
+-- each record has a block's worth of bytes and a place for each of eight legs
+abbrev pub AllWhole : List Record → Type 0
+AllWhole [] = Unit {0}
+AllWhole (r ∷ rs) = IsWhole r × AllWhole rs
+
+-- at most 256 whole records, by rising ticket
+pub record AreInOrder (list : List Record) : Type 0 where
+  pub few : length list ≤ 256
+  pub ascending : Ascends list
+  pub whole : AllWhole list

@@ -1,0 +1,29 @@
+ghost use Rattle.std.specs.Prelude.{◌≡◌};
+ghost use Rattle.nm_fanout.specs.Data.{bytes_of};
+
+use bytes::Bytes;
+
+/// 512 zero bytes, which every write of zeroes lends.
+static ZERO_BLOCK: [u8; 512] = [0; 512];
+
+/// What a write puts into its block.
+#[derive(Drop)]
+pub enum Data {
+    /// These bytes, 512 of them, cut out of a receive buffer and shared with it.
+    Cut(Bytes),
+    /// 512 zero bytes.
+    Zero,
+}
+
+impl Data {
+    /// The block's new bytes, lent and never copied.
+    #[tactic(auto, unfolding(crate::specs::Data::zero_block))]
+    pub fn bytes(&self) -> &[u8]
+        ensures { result.now ≡ bytes_of self.now }
+    {
+        match self {
+            Data::Cut(cut) => cut.as_slice(),
+            Data::Zero => &ZERO_BLOCK,
+        }
+    }
+}

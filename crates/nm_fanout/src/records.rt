@@ -1,0 +1,189 @@
+ghost use Rattle.std.specs.Prelude.{◌≡◌, ℕ, ◌+◌, ◌-◌, ◌<◌, ◌≤◌, ◌↔◌, [], ◌==◌, length, find, position, IsTrue, IsSome, Some, OnOk, OnErr};
+ghost use Rattle.std.specs.Option.{option_map, option_copied};
+ghost use Rattle.nm_fanout.specs.Data.{FillsBlock};
+ghost use Rattle.nm_fanout.specs.Record.{begun, is_under_way};
+ghost use Rattle.nm_fanout.specs.Records.{AreInOrder, AllBelow, find_record, busy_on, entry_of, unlanded, next_owed, first_owed, reached, landed, without, with_new};
+
+use crate::payload::Data;
+use crate::write::{LEGS, Record};
+use nm_replay::Memory;
+use std::alloc::Global;
+use std::marker::Model;
+
+/// How many records there may be, finished ones that are not yet claimed included.
+pub const MOST_RECORDS: usize = 256;
+
+/// The records of writes, by rising ticket.
+#[derive(Drop)]
+pub struct Records {
+    list: Vec<Record>,
+}
+
+impl Model for Records {
+    ghost use Rattle.std.specs.Prelude.{◌-◌, vec_len, vec_capacity};
+    ghost use Rattle.nm_fanout.specs.Records.{RecordTable, AreInOrder};
+
+    ghost Value = { RecordTable };
+
+    ghost view = { λ r. record { list = r.list.items; room = vec_capacity r.list - vec_len r.list } };
+
+    ghost invariant = { λ r. AreInOrder r.list.items };
+}
+
+impl Records {
+    /// No records, with no room taken yet.
+    pub fn new(alloc: Global) -> Records
+        ensures { result.list ≡ [] }
+    {
+        Records {
+            list: Vec::new(alloc),
+        }
+    }
+
+    /// How many records there are.
+    pub fn len(&self) -> usize
+        ensures len { result ≡ length self.now.list }
+        ensures in_order { AreInOrder self.now.list }
+    {
+        self.list.len()
+    }
+
+    /// Whether there is no record.
+    pub fn is_empty(&self) -> bool
+        ensures { IsTrue result ↔ (self.now.list ≡ []) }
+    {
+        self.list.is_empty()
+    }
+
+    /// Whether no more record may be begun.
+    pub fn is_full(&self) -> bool
+        ensures full { IsTrue result ↔ (256 ≤ length self.now.list) }
+        ensures in_order { AreInOrder self.now.list }
+    {
+        self.list.len() >= MOST_RECORDS
+    }
+
+    /// The record of this ticket, lent.
+    pub fn get(&self, ticket: u64) -> Option<&Record>
+        ensures found { option_copied result ≡ find_record ticket self.now.list }
+        ensures in_order { AreInOrder self.now.list }
+    {
+        self.list.iter().find(|r| r.ticket == ticket)
+    }
+
+    /// The ticket of the record under way on this block.
+    pub fn busy_on(&self, block: u64) -> Option<u64>
+        ensures busy { result ≡ option_map (λ r. r.ticket) (busy_on block self.now.list) }
+        ensures in_order { AreInOrder self.now.list }
+    {
+        let record = self
+            .list
+            .iter()
+            .find(|r| r.block == block && r.is_under_way())?;
+        Some(record.ticket)
+    }
+
+    /// How many of the writes have no entry yet.
+    pub fn unlanded(&self) -> u64
+        ensures count { result ≡ unlanded self.now.list }
+        ensures most { result ≤ length self.now.list }
+        ensures in_order { AreInOrder self.now.list }
+    {
+        self.list.iter().filter(|r| r.entry.is_none()).count() as u64
+    }
+
+    /// The lowest leg that this ticket's write has still to reach.
+    pub fn next_owed(&self, ticket: u64) -> Option<u8>
+        ensures { result ≡ next_owed ticket self.now.list }
+    {
+        self.get(ticket)?.lowest_owed()
+    }
+
+    /// The lowest ticket under way, with the lowest leg that it has still to reach.
+    pub fn first_owed(&self) -> Option<(u64, u8)>
+        ensures { result ≡ first_owed self.now.list }
+    {
+        let record = first_under_way(&self.list)?;
+        let leg = record.lowest_owed()?;
+        Some((record.ticket, leg))
+    }
+
+    /// Makes room for one more record. Where a growth was refused nothing changes.
+    pub fn reserve(&mut self) -> Result<(), Memory>
+        ensures ok { OnOk result (0 < self.new.room) }
+        ensures no_room { OnErr result (self.old.room ≡ 0) }
+        ensures records { self.new.list ≡ self.old.list }
+        ensures room { self.old.room ≤ self.new.room }
+        ensures err { OnErr result (self.new ≡ self.old) }
+    {
+        self.list.reserve(1)?;
+        Ok(())
+    }
+
+    /// Begins a write: the last record is now its own, with these legs owed and no entry.
+    pub fn begin(&mut self, ticket: u64, block: u64, data: Data, owed: [bool; LEGS])
+        requires room { 0 < self.old.room }
+        requires few { length self.old.list < 256 }
+        requires next { AllBelow ticket self.old.list }
+        requires whole { FillsBlock «data» }
+        ensures records { self.new.list
+            ≡ with_new (begun ticket block «data» owed) self.old.list }
+        ensures room { self.new.room + 1 ≡ self.old.room }
+    {
+        self.list.push_reserved(Record {
+            ticket,
+            block,
+            data,
+            owed,
+            entry: None,
+        });
+    }
+
+    /// Takes the leg out of those that this ticket's write has still to reach.
+    pub fn reach(&mut self, ticket: u64, leg: u8)
+        ensures records { self.new.list ≡ reached ticket leg self.old.list }
+        ensures room { self.new.room ≡ self.old.room }
+    {
+        if let Some(i) = place_of(&self.list, ticket) {
+            self.list[i].reach(leg);
+        }
+    }
+
+    /// Gives this ticket's write the number of its entry.
+    pub fn land(&mut self, ticket: u64, number: u64)
+        ensures records { self.new.list ≡ landed ticket number self.old.list }
+        ensures room { self.new.room ≡ self.old.room }
+    {
+        if let Some(i) = place_of(&self.list, ticket) {
+            self.list[i].land(number);
+        }
+    }
+
+    /// Takes the record of a landed write away, and gives its entry's number.
+    pub fn claim(&mut self, ticket: u64) -> u64
+        requires landed { IsSome (entry_of ticket self.old.list) }
+        ensures number { entry_of ticket self.old.list ≡ Some result }
+        ensures records { self.new.list ≡ without ticket self.old.list }
+        ensures room { self.new.room ≡ self.old.room + 1 }
+    {
+        let Some(i) = place_of(&self.list, ticket) else {
+            unreachable!()
+        };
+        let record = self.list.remove(i);
+        record.into_entry().unwrap()
+    }
+}
+
+/// Where the record of this ticket stands.
+fn place_of(list: &[Record], ticket: u64) -> Option<usize>
+    ensures { result ≡ position (λ r. r.ticket == ticket) list.now }
+{
+    list.iter().position(|r| r.ticket == ticket)
+}
+
+/// The oldest record under way.
+fn first_under_way(list: &[Record]) -> Option<&Record>
+    ensures { option_copied result ≡ find is_under_way list.now }
+{
+    list.iter().find(|r| r.is_under_way())
+}
