@@ -1,0 +1,71 @@
+-- Entries that agree with those before them, one after the other: the form for inductions.
+use Rattle.std.proofs.Common.{◌≡◌, List, [], ◌∷◌, ◌++◌, append_assoc, append-nil, refl, sym, ap, ◌∙◌, subst}
+use Rattle.std.specs.Prelude.{Option, None, Some, IfSome}
+use Rattle.std.specs.Option.{option_or}
+use Rattle.nm_replay.specs.declared.block.Block.{Block}
+use Rattle.nm_replay.specs.declared.entry.Entry.{Entry}
+use Rattle.nm_replay.specs.History.{last_on, Agrees, IsNumbered, Consistent}
+use Rattle.nm_replay.proofs.LastOn.{last_on-append}
+
+-- behind `before`, each of the entries agrees with all that stand before it
+abbrev pub AgreeAfter : List Entry → List Entry → Type 0
+AgreeAfter before [] = Unit {0}
+AgreeAfter before (e ∷ es) = Agrees before e × AgreeAfter (before ++ e ∷ []) es
+
+-- the place of any entry among them will do
+pub agree-at : (es before front : List Entry) (e : Entry) (later : List Entry) → AgreeAfter before es → es ≡ front ++ e ∷ later → Agrees (before ++ front) e
+agree-at [] before [] e later agree cut = absurd (cc)
+agree-at [] before (y ∷ ys) e later agree cut = absurd (cc)
+agree-at (x ∷ xs) before [] e later agree cut =
+    let same : x ≡ e = cc in
+    let P : List Entry → Type 0 = λ b. Agrees b e in
+    subst P (sym (append-nil before)) (subst (λ y. Agrees before y) same agree.0)
+agree-at (x ∷ xs) before (y ∷ ys) e later agree cut =
+    let same : x ≡ y = cc in
+    let rest : xs ≡ ys ++ e ∷ later = cc in
+    let P : List Entry → Type 0 = λ b. Agrees b e in
+    let moved : before ++ x ∷ [] ++ ys ≡ before ++ y ∷ ys = append_assoc before (x ∷ []) ys ∙ ap (λ z. before ++ z ∷ ys) same in
+    subst P moved (agree-at xs (before ++ x ∷ []) ys e later agree.1 rest)
+
+pub agree-from : (es before whole : List Entry) → ((front : List Entry) (e : Entry) (later : List Entry) → whole ≡ front ++ e ∷ later → Agrees front e) → whole ≡ before ++ es → AgreeAfter before es
+agree-from [] before whole each cut = tt
+agree-from (x ∷ xs) before whole each cut =
+    (each before x xs cut, agree-from xs (before ++ x ∷ []) whole each (cut ∙ sym (append_assoc before (x ∷ []) xs)))
+
+pub agree-append : (xs ys before : List Entry) → AgreeAfter before xs → AgreeAfter (before ++ xs) ys → AgreeAfter before (xs ++ ys)
+agree-append [] ys before front rest = subst (λ b. AgreeAfter b ys) (append-nil before) rest
+agree-append (x ∷ xs) ys before front rest =
+    (front.0, agree-append xs ys (before ++ x ∷ []) front.1 (subst (λ b. AgreeAfter b ys) (sym (append_assoc before (x ∷ []) xs)) rest))
+
+pub agree-front : (xs ys before : List Entry) → AgreeAfter before (xs ++ ys) → AgreeAfter before xs
+agree-front [] ys before all = tt
+agree-front (x ∷ xs) ys before all = (all.0, agree-front xs ys (before ++ x ∷ []) all.1)
+
+pub agree-rest : (xs ys before : List Entry) → AgreeAfter before (xs ++ ys) → AgreeAfter (before ++ xs) ys
+agree-rest [] ys before all = subst (λ b. AgreeAfter b ys) (sym (append-nil before)) all
+agree-rest (x ∷ xs) ys before all =
+    subst (λ b. AgreeAfter b ys) (append_assoc before (x ∷ []) xs) (agree-rest xs ys (before ++ x ∷ []) all.1)
+
+-- what agrees behind more entries agrees behind fewer
+fewer : (latest earlier : Option Block) (bytes : Block) → IfSome (option_or latest earlier) (λ last. bytes ≡ last) → IfSome latest (λ last. bytes ≡ last)
+fewer None earlier bytes agrees = tt
+fewer (Some last) earlier bytes agrees = agrees
+
+pub agrees-behind_fewer : (front before : List Entry) (e : Entry) → Agrees (front ++ before) e → Agrees before e
+agrees-behind_fewer front before e agrees = λ read.
+    fewer (last_on e.block before) (last_on e.block front) e.bytes
+    (subst (λ o. IfSome o (λ last. e.bytes ≡ last)) (last_on-append e.block front before) (agrees read))
+
+pub agree-behind_fewer : (es front before : List Entry) → AgreeAfter (front ++ before) es → AgreeAfter before es
+agree-behind_fewer [] front before all = tt
+agree-behind_fewer (x ∷ xs) front before all = (
+  agrees-behind_fewer front before x all.0,
+  agree-behind_fewer xs front (before ++ x ∷ []) (subst (λ b. AgreeAfter b xs) (append_assoc front before (x ∷ [])) all.1),
+)
+
+-- the two forms of consistency
+pub consistent-agree : (es : List Entry) → Consistent es → AgreeAfter [] es
+consistent-agree es consistent = agree-from es [] es consistent.reads refl
+
+pub agree-consistent : (es : List Entry) → IsNumbered es → AgreeAfter [] es → Consistent es
+agree-consistent es numbers agree = record { numbers = numbers; reads = λ front e later cut. agree-at es [] front e later agree cut }

@@ -1,0 +1,7 @@
+pub mod Agreement
+pub mod Arrays
+pub mod Blocks
+pub mod Consistency
+pub mod LastOn
+pub mod Legality
+pub mod Numbering

@@ -1,0 +1,60 @@
+ghost use Rattle.std.specs.Prelude.{◌≡◌, ℕ, ◌<◌, ◌↔◌, length, replicate, IsTrue, IfOk, if◌then◌else◌};
+ghost use Rattle.nm_replay.specs.History.{EntryFits, after_entry};
+
+use crate::block::Block;
+use crate::entry::{Entry, Kind};
+use crate::memory::Memory;
+use std::alloc::Global;
+use std::marker::Model;
+
+/// The plain, slow array, for tests: a block after the other, and each operation as it is defined.
+#[derive(Debug, Drop)]
+pub struct PlainArray {
+    blocks: Vec<Block>,
+}
+
+impl Model for PlainArray {
+    ghost use Rattle.nm_replay.specs.Array.{Array};
+
+    ghost Value = { Array };
+
+    ghost view = { λ a. a.blocks.items };
+}
+
+impl PlainArray {
+    /// An array of so many blocks of zero bytes.
+    pub fn new(alloc: Global, blocks: usize) -> Result<Self, Memory>
+        ensures { IfOk result (λ array. array ≡ replicate blocks Block.ZERO) }
+    {
+        Ok(PlainArray {
+            blocks: Vec::from_elem(alloc, Block::ZERO, blocks)?,
+        })
+    }
+
+    /// The blocks, in order.
+    pub fn as_slice(&self) -> &[Block]
+        ensures { result.now ≡ self.now }
+    {
+        self.blocks.as_slice()
+    }
+
+    /// Does an entry's operation, if the entry fits; else the array stays as it is.
+    pub fn apply(&mut self, entry: &Entry) -> bool
+        ensures fits { IsTrue result ↔ EntryFits entry.now self.old }
+        ensures array { self.new ≡ (if result then after_entry entry.now self.old else self.old) }
+    {
+        let Ok(block) = usize::try_from(entry.block) else {
+            return false;
+        };
+        let Some(place) = self.blocks.get_mut(block) else {
+            return false;
+        };
+        match entry.kind {
+            Kind::Read => *place == entry.bytes,
+            Kind::Write(_) => {
+                *place = entry.bytes;
+                true
+            }
+        }
+    }
+}
