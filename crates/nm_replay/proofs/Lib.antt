@@ -2,6 +2,8 @@ pub mod Agreement
 pub mod Arrays
 pub mod Blocks
 pub mod Consistency
+pub mod Endings
 pub mod LastOn
 pub mod Legality
 pub mod Numbering
+pub mod Openings

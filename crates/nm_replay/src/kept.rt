@@ -21,9 +21,9 @@ impl Model for Kept {
     ghost Value = { KeptHistory };
 
     ghost view = { λ k. record {
-        entries = k.entries.items;
-        total = k.total;
-        room = vec_capacity k.entries - vec_len k.entries
+      entries = k.entries.items;
+      total = k.total;
+      room = vec_capacity k.entries - vec_len k.entries;
     } };
 
     ghost invariant = { λ k. k.total ≡ vec_len k.entries };

@@ -1,7 +1,14 @@
 //! Laws of histories. Each function does nothing: its contract is the law, for every history.
-ghost use Rattle.nm_replay.specs.Laws.{EndPieceIsLegal, LegalThenLegal};
+ghost use Rattle.nm_replay.specs.Laws.{ConsistentIsLegal, EndPieceIsLegal, LegalThenLegal};
 
-/// Each end piece of a legal list of entries is legal, from some array up to the same one.
+/// Some array makes a list of entries legal up to a given array exactly if the list is consistent
+/// and the last entry on each block that has one is what that array has there.
+pub fn consistent_is_legal()
+    ensures { ConsistentIsLegal }
+{}
+
+/// Each end piece of a legal list of entries is legal, from what the front piece leaves up to the
+/// same array.
 pub fn end_piece_is_legal()
     ensures { EndPieceIsLegal }
 {}
