@@ -1,2 +1,15 @@
-//! NBD simple replies: their frames, and a writer that says how much went out.
+//! The server's replies to NBD requests: their frames, and the writer that sends them.
+//!
+//! A frame is the reply's head and, where the request was a READ that met no error, its data.
+//! A writer that is refused says how much went out, and refuses for good from then on.
 #![tactic(auto)]
+
+pub use framing::frame;
+pub use reply::Reply;
+pub use send_fault::SendFault;
+pub use writer::ReplyWriter;
+
+mod framing;
+mod reply;
+mod send_fault;
+mod writer;
