@@ -1,2 +1,23 @@
-//! A leg: a place that keeps blocks, and what it promises.
+//! Legs: places that each keep an array of blocks, and what a call of one promises.
+//!
+//! `LegPart` is a leg as the code above it sees one: what every leg promises, and what an honest
+//! one does. `MemLeg` keeps its blocks in memory. The other legs are for tests.
 #![tactic(auto)]
+
+pub use cached_leg::CachedLeg;
+pub use failing_leg::FailingLeg;
+pub use leg_fault::LegFault;
+pub use leg_part::LegPart;
+pub use lying_leg::LyingLeg;
+pub use mem_leg::MemLeg;
+pub use parts::{read_part, sync_part, write_part};
+
+mod cached_leg;
+mod failing_leg;
+mod leg_fault;
+mod leg_part;
+mod lying_leg;
+mod mem_leg;
+mod parts;
+#[cfg(test)]
+mod tests;

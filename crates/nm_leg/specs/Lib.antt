@@ -1,0 +1,3 @@
+pub mod Leg
+pub mod Parts
+pub mod TestLegs

@@ -1,0 +1,122 @@
+use crate::{
+    CachedLeg, FailingLeg, LegFault, LegPart, LyingLeg, MemLeg, read_part, sync_part, write_part,
+};
+use nm_replay::{Block, Memory};
+use std::process::Abort;
+use std::test::Fail;
+
+// At 512 bytes a block, more bytes than any process can address.
+const TOO_MANY: u64 = 1 << 60;
+
+// Writes block 1 of the second leg, syncs that leg and reads the block back: which calls succeeded.
+fn write_sync_read<L: LegPart>(
+    rt: &impl Abort,
+    parts: &mut [L],
+    found: &mut Block,
+) -> (bool, bool, bool) {
+    assert_eq!(rt; parts.len(), 2);
+    assert!(rt; parts[1].len() > 1);
+    let written = write_part(parts, 1, 1, &[0xaa; 512]).is_ok();
+    let synced = sync_part(parts, 1).is_ok();
+    let read = read_part(parts, 1, 1, found).is_ok();
+    (written, synced, read)
+}
+
+#[test]
+fn a_memory_leg_keeps_what_is_written(rt: HostRuntime) -> Result<(), Fail> {
+    let mut leg = MemLeg::new(rt.alloc(), 3)?;
+    assert_eq!(rt; leg.len(), 3);
+    let mut found = Block([9; 512]);
+    leg.write(1, &[0xaa; 512])?;
+    leg.sync()?;
+    leg.read(1, &mut found)?;
+    assert_eq!(rt; found, Block([0xaa; 512]));
+    assert_eq!(rt; *leg.block(0), Block([0; 512]));
+    assert_eq!(rt; *leg.block(2), Block([0; 512]));
+    assert_eq!(rt; leg.faults(), 0);
+    Ok(())
+}
+
+#[test]
+fn a_memory_leg_is_made_of_one_byte(rt: HostRuntime) -> Result<(), Fail> {
+    let leg = MemLeg::filled(rt.alloc(), 2, 0xff)?;
+    assert_eq!(rt; leg.len(), 2);
+    assert_eq!(rt; *leg.block(1), Block([0xff; 512]));
+    assert_eq!(rt; MemLeg::new(rt.alloc(), 0)?.len(), 0);
+    Ok(())
+}
+
+#[test]
+fn memory_that_is_not_there_is_refused(rt: HostRuntime) {
+    assert_eq!(rt; MemLeg::new(rt.alloc(), TOO_MANY).err(), Some(Memory));
+    assert_eq!(rt; MemLeg::filled(rt.alloc(), TOO_MANY, 1).err(), Some(Memory));
+    assert_eq!(rt; CachedLeg::new(rt.alloc(), TOO_MANY).err(), Some(Memory));
+}
+
+#[test]
+fn generic_code_calls_an_honest_leg(rt: HostRuntime) -> Result<(), Fail> {
+    let alloc = rt.alloc();
+    let mut found = Block([9; 512]);
+    let mut parts = vec![in alloc; MemLeg::new(alloc, 3)?, MemLeg::new(alloc, 3)?]?;
+    assert_eq!(rt;
+        write_sync_read(&rt, &mut parts, &mut found),
+        (true, true, true)
+    );
+    assert_eq!(rt; found, Block([0xaa; 512]));
+    assert_eq!(rt; parts.len(), 2);
+    assert_eq!(rt; parts[0].len(), 3);
+    assert_eq!(rt; *parts[0].block(1), Block([0; 512]));
+    Ok(())
+}
+
+#[test]
+fn a_cached_leg_is_durable_after_a_sync(rt: HostRuntime) -> Result<(), Fail> {
+    let mut leg = CachedLeg::new(rt.alloc(), 3)?;
+    assert_eq!(rt; leg.len(), 3);
+    leg.write(1, &[0xaa; 512])?;
+    assert_eq!(rt; *leg.durable_block(1), Block([0; 512]));
+    leg.sync()?;
+    assert_eq!(rt; *leg.durable_block(1), Block([0xaa; 512]));
+    let mut found = Block([9; 512]);
+    leg.read(1, &mut found)?;
+    assert_eq!(rt; found, Block([0xaa; 512]));
+    assert_eq!(rt; leg.faults(), 0);
+    let mut parts = [leg, CachedLeg::new(rt.alloc(), 3)?];
+    assert_eq!(rt;
+        write_sync_read(&rt, &mut parts, &mut found),
+        (true, true, true)
+    );
+    Ok(())
+}
+
+#[test]
+fn generic_code_calls_a_failing_leg(rt: HostRuntime) {
+    let mut parts = [FailingLeg::new(3), FailingLeg::new(3)];
+    let mut found = Block([9; 512]);
+    assert_eq!(rt;
+        write_sync_read(&rt, &mut parts, &mut found),
+        (false, false, false)
+    );
+    assert_eq!(rt; found, Block([9; 512]));
+    assert_eq!(rt; parts[0].faults(), 0);
+    assert_eq!(rt; parts[1].faults(), 3);
+}
+
+#[test]
+fn generic_code_calls_a_lying_leg(rt: HostRuntime) {
+    let mut parts = [LyingLeg::new(3), LyingLeg::new(3)];
+    let mut found = Block([9; 512]);
+    assert_eq!(rt;
+        write_sync_read(&rt, &mut parts, &mut found),
+        (true, true, true)
+    );
+    assert_eq!(rt; found, Block([255; 512]));
+    assert_eq!(rt; parts[1].faults(), 0);
+}
+
+#[test]
+fn a_fault_prints_its_meaning(rt: HostRuntime) -> Result<(), Fail> {
+    let text = format!(in rt.alloc(); "{LegFault}")?;
+    assert_eq!(rt; text.as_str(), "a call of the leg failed");
+    Ok(())
+}
