@@ -1,5 +1,5 @@
 -- The records stay whole and in order under every change.
-use Rattle.std.proofs.Common.{◌≡◌, ℕ, ◌<◌, ◌≤◌, suc, Bool, true, false, cond, ◌==◌, not, List, [], ◌∷◌, ◌++◌, length, refl, sym, ap, ◌∙◌, subst, arith}
+use Rattle.std.proofs.Common.{◌≡◌, ℕ, ◌+◌, ◌<◌, ◌≤◌, suc, Bool, true, false, cond, ◌==◌, not, List, [], ◌∷◌, ◌++◌, length, refl, sym, ap, ◌∙◌, subst, arith}
 use Rattle.std.proofs.lemmas.List.{length-set, length_push}
 use Rattle.nm_fanout.specs.declared.write.Record.{Record}
 use Rattle.nm_fanout.specs.Record.{IsWhole, without_leg, with_entry}
@@ -128,3 +128,28 @@ AreInOrder-with_new r rs few next whole h = record {
   ascending = Ascends-push r rs next h.ascending;
   whole = AllWhole-push r rs whole h.whole;
 }
+
+-- a ticket that is above all others stays so
+pub AllBelow-changed : (f : Record → Record) (k : KeepsOrder f) (high t : ℕ) (rs : List Record) → AllBelow high rs → AllBelow high (changed f t rs)
+AllBelow-changed f k high t [] h = tt
+AllBelow-changed f k high t (r ∷ rs) h =
+    (omega (arith, h.0, ticket-changed f k (r.ticket == t) r), AllBelow-changed f k high t rs h.1)
+
+pub AllBelow-reached : (high t leg : ℕ) (rs : List Record) → AllBelow high rs → AllBelow high (reached t leg rs)
+AllBelow-reached high t leg rs h = AllBelow-changed (without_leg leg) (without_leg-keeps leg) high t rs h
+
+pub AllBelow-landed : (high t number : ℕ) (rs : List Record) → AllBelow high rs → AllBelow high (landed t number rs)
+AllBelow-landed high t number rs h = AllBelow-changed (with_entry number) (with_entry-keeps number) high t rs h
+
+below-kept : (high : ℕ) (b : Bool) (r : Record) (ws : List Record) → r.ticket < high → AllBelow high ws → AllBelow high (cond b (r ∷ ws) ws)
+below-kept high true r ws h k = (h, k)
+below-kept high false r ws h k = k
+
+pub AllBelow-without : (high t : ℕ) (rs : List Record) → AllBelow high rs → AllBelow high (without t rs)
+AllBelow-without high t [] h = tt
+AllBelow-without high t (r ∷ rs) h = below-kept high (not (r.ticket == t)) r (without t rs) h.0 (AllBelow-without high t rs h.1)
+
+-- the next ticket is above the one that was given last
+pub AllBelow-with_new : (r : Record) (rs : List Record) → AllBelow r.ticket rs → AllBelow (r.ticket + 1) (with_new r rs)
+AllBelow-with_new r [] h = (omega arith, tt)
+AllBelow-with_new r (x ∷ rs) h = (omega (arith, h.0), AllBelow-with_new r rs h.1)

@@ -1,2 +1,10 @@
 pub mod Tickets
 pub mod InOrder
+pub mod Finding
+pub mod Parts
+pub mod Owed
+pub mod Busy
+pub mod Writers
+pub mod Landing
+pub mod Members
+pub mod DataLemmas

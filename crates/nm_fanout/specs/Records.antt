@@ -1,5 +1,5 @@
 -- The records of writes, by rising ticket.
-use Rattle.std.specs.Prelude.{ℕ, ◌<◌, ◌≤◌, ◌&&◌, ◌==◌, not, List, [], ◌∷◌, ◌++◌, length, if◌then◌else◌, Option, find, filter, count_by, is_none}
+use Rattle.std.specs.Prelude.{◌≡◌, ℕ, IsTrue, None, ◌<◌, ◌≤◌, ◌&&◌, ◌==◌, not, List, [], ◌∷◌, ◌++◌, length, if◌then◌else◌, Option, find, filter, count_by, is_none}
 use Rattle.std.specs.Option.{option_map, option_and_then}
 use Rattle.nm_fanout.specs.declared.write.Record.{Record}
 use Rattle.nm_fanout.specs.Record.{is_under_way, lowest_owed, without_leg, with_entry, IsWhole}
@@ -81,3 +81,9 @@ pub record AreInOrder (list : List Record) : Type 0 where
   pub few : length list ≤ 256
   pub ascending : Ascends list
   pub whole : AllWhole list
+
+-- no block has two records under way
+abbrev pub OneWriterABlock : List Record → Type 0
+OneWriterABlock [] = Unit {0}
+OneWriterABlock (r ∷ rs) =
+    (IsTrue (is_under_way r) → busy_on r.block rs ≡ None) × OneWriterABlock rs

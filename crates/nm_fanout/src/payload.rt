@@ -1,5 +1,5 @@
-ghost use Rattle.std.specs.Prelude.{◌≡◌};
-ghost use Rattle.nm_fanout.specs.Data.{bytes_of};
+ghost use Rattle.std.specs.Prelude.{◌≡◌, ◌↔◌, IsTrue};
+ghost use Rattle.nm_fanout.specs.Data.{bytes_of, FillsBlock};
 
 use bytes::Bytes;
 
@@ -25,5 +25,12 @@ impl Data {
             Data::Cut(cut) => cut.as_slice(),
             Data::Zero => &ZERO_BLOCK,
         }
+    }
+    /// Whether the bytes are as many as a block has, which `Records::begin` requires.
+    #[tactic(auto, unfolding(crate::specs::Data::zero_block))]
+    pub fn fills_block(&self) -> bool
+        ensures { IsTrue result ↔ FillsBlock self.now }
+    {
+        self.bytes().len() == 512
     }
 }
