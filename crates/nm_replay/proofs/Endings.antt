@@ -1,6 +1,6 @@
 -- What entries end in: one more entry, and legal entries.
-use Rattle.std.proofs.Common.{◌≡◌, ℕ, ◌+◌, ◌<◌, ◌⊎◌, inl, inr, List, [], ◌∷◌, ◌++◌, append_assoc, append-nil, length, refl, sym, ap, ◌∙◌, subst, slice_get}
-use Rattle.std.specs.Prelude.{Option, None, Some, IfSome}
+use Rattle.std.proofs.Common.{◌≡◌, ℕ, ◌+◌, inl, inr, List, [], ◌∷◌, ◌++◌, append_assoc, append-nil, refl, sym, ap, ◌∙◌, subst, slice_get}
+use Rattle.std.specs.Prelude.{Option, Some, IfSome}
 use Rattle.std.proofs.lemmas.Bool.{cases_eq}
 use Rattle.std.proofs.lemmas.Option.{IfSome_then, same_Some}
 use Rattle.nm_replay.specs.declared.block.Block.{Block}

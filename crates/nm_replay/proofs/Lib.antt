@@ -7,3 +7,4 @@ pub mod LastOn
 pub mod Legality
 pub mod Numbering
 pub mod Openings
+pub mod Pushing

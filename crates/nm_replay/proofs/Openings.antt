@@ -1,6 +1,6 @@
 -- Consistent entries that end in an array are legal up to it, from the array that has, at each block,
 -- the bytes of the first entry there, and elsewhere what is there at last.
-use Rattle.std.proofs.Common.{◌≡◌, ℕ, ◌+◌, ◌<◌, ◌⊎◌, inl, inr, List, [], ◌∷◌, ◌++◌, append_assoc, append-nil, length, length-set, arith, refl, sym, ap, ◌∙◌, subst, slice_get, slice_set}
+use Rattle.std.proofs.Common.{◌≡◌, ℕ, ◌+◌, ◌<◌, inl, inr, List, [], ◌∷◌, ◌++◌, append_assoc, append-nil, length, length-set, arith, refl, sym, ap, ◌∙◌, subst, slice_get, slice_set}
 use Rattle.std.specs.Prelude.{Option, None, Some, IfSome}
 use Rattle.std.specs.Option.{option_or}
 use Rattle.std.proofs.lemmas.Bool.{cases_eq}
@@ -10,8 +10,8 @@ use Rattle.nm_replay.specs.declared.block.Block.{Block}
 use Rattle.nm_replay.specs.declared.entry.Kind.{Kind}
 use Rattle.nm_replay.specs.declared.entry.Kind.TheVariants.{Read, Write}
 use Rattle.nm_replay.specs.declared.entry.Entry.{Entry}
-use Rattle.nm_replay.specs.Array.{Array, after}
-use Rattle.nm_replay.specs.History.{operation, Fits, EntryFits, after_entry, Legal, NumberedFrom, IsNumbered, last_on, Consistent, EndsIn}
+use Rattle.nm_replay.specs.Array.{Array}
+use Rattle.nm_replay.specs.History.{Fits, EntryFits, after_entry, Legal, NumberedFrom, IsNumbered, last_on, Consistent, EndsIn}
 use Rattle.nm_replay.specs.Laws.{HasOpening}
 use Rattle.nm_replay.proofs.Agreement.{AgreeAfter, consistent-agree}
 use Rattle.nm_replay.proofs.Arrays.{slice_get-set_same, slice_get-set_other, same_by_slice_get}

@@ -87,7 +87,7 @@ impl Kept {
         ensures memory_only_at_growth { self.now.entries ≡ [] → IsOk result }
     {
         let mut copy = Vec::with_capacity(alloc, self.entries.len())?;
-        copy.extend_from_slice(self.entries.as_slice())?;
+        copy.extend_from_slice(self.as_slice())?;
         Ok(copy)
     }
 }

@@ -18,3 +18,5 @@ mod kept;
 pub mod laws;
 mod memory;
 mod plain_array;
+#[cfg(test)]
+mod tests;

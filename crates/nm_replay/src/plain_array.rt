@@ -1,4 +1,4 @@
-ghost use Rattle.std.specs.Prelude.{◌≡◌, ℕ, ◌<◌, ◌↔◌, length, replicate, IsTrue, IfOk, if◌then◌else◌};
+ghost use Rattle.std.specs.Prelude.{◌≡◌, ◌↔◌, replicate, IsTrue, IsOk, IfOk, if◌then◌else◌};
 ghost use Rattle.nm_replay.specs.History.{EntryFits, after_entry};
 
 use crate::block::Block;
@@ -24,11 +24,12 @@ impl Model for PlainArray {
 impl PlainArray {
     /// An array of so many blocks of zero bytes.
     pub fn new(alloc: Global, blocks: usize) -> Result<Self, Memory>
-        ensures { IfOk result (λ array. array ≡ replicate blocks Block.ZERO) }
+        ensures ok { IfOk result (λ array. array ≡ replicate blocks Block.ZERO) }
+        ensures memory_only_at_growth { blocks ≡ 0 → IsOk result }
     {
-        Ok(PlainArray {
-            blocks: Vec::from_elem(alloc, Block::ZERO, blocks)?,
-        })
+        let mut zeroes = Vec::with_capacity(alloc, blocks)?;
+        zeroes.resize(blocks, Block::ZERO)?;
+        Ok(PlainArray { blocks: zeroes })
     }
 
     /// The blocks, in order.
