@@ -12,4 +12,6 @@ pub use writer::ReplyWriter;
 mod framing;
 mod reply;
 mod send_fault;
+#[cfg(test)]
+mod tests;
 mod writer;

@@ -37,3 +37,5 @@ mod reply_kind;
 mod request_head;
 mod server_flags;
 mod simple_reply;
+#[cfg(test)]
+mod tests;
