@@ -8,3 +8,4 @@ pub mod Writers
 pub mod Landing
 pub mod Members
 pub mod DataLemmas
+pub mod Owing

@@ -24,7 +24,7 @@ pub find_record-Member : (t : ℕ) (rs : List Record) (x : Record) → find_reco
 find_record-Member t [] x h = absurd cc
 find_record-Member t (r ∷ rs) x h = first-member t r x rs (find_record-Member t rs x) h
 
-AllAbove-Member : (low : ℕ) (rs : List Record) (x : Record) → AllAbove low rs → Member x rs → low < x.ticket
+pub AllAbove-Member : (low : ℕ) (rs : List Record) (x : Record) → AllAbove low rs → Member x rs → low < x.ticket
 AllAbove-Member low [] x h m = absurd m
 AllAbove-Member low (r ∷ rs) x h m =
     elim m [

@@ -12,4 +12,6 @@ pub use write::{LEGS, Record};
 
 mod payload;
 mod records;
+#[cfg(test)]
+mod tests;
 mod write;

@@ -60,7 +60,7 @@ impl Records {
         ensures full { IsTrue result ↔ (256 ≤ length self.now.list) }
         ensures in_order { AreInOrder self.now.list }
     {
-        self.list.len() >= MOST_RECORDS
+        self.len() >= MOST_RECORDS
     }
 
     /// The record of this ticket, lent.

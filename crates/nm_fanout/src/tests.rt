@@ -1,0 +1,90 @@
+ghost use Rattle.std.specs.Prelude.{◌≡◌, length, IfOk};
+
+use crate::{Data, LEGS, MOST_RECORDS, Records};
+use bytes::{Bytes, BytesMut};
+use std::alloc::{AllocError, Global};
+use std::test::Fail;
+
+/// A cut of a receive buffer: 512 bytes of one value.
+fn cut(alloc: Global, byte: u8) -> Result<Bytes, AllocError>
+    ensures { IfOk result (λ b. length b ≡ 512) }
+{
+    let mut buffer = BytesMut::new(alloc);
+    buffer.extend_from_slice(&[byte; 512])?;
+    buffer.freeze_to(512)
+}
+
+/// The places of the eight legs, with these two owed.
+fn owed_to(low: usize, high: usize) -> [bool; LEGS] {
+    let mut owed = [false; LEGS];
+    for (leg, place) in owed.iter_mut().enumerate() {
+        *place = leg == low || leg == high;
+    }
+    owed
+}
+
+#[test]
+fn a_write_reaches_its_legs(rt: HostRuntime) -> Result<(), Fail> {
+    let mut records = Records::new(rt.alloc());
+    assert!(rt; records.is_empty());
+    records.reserve()?;
+    records.begin(7, 3, Data::Cut(cut(rt.alloc(), 0xaa)?), owed_to(0, 1));
+    assert_eq!(rt; records.len(), 1);
+    assert_eq!(rt; records.unlanded(), 1);
+    assert_eq!(rt; records.busy_on(3), Some(7));
+    assert_eq!(rt; records.busy_on(7), None);
+    assert_eq!(rt; records.next_owed(7), Some(0));
+    assert_eq!(rt; records.first_owed(), Some((7, 0)));
+    assert_eq!(rt; records.next_owed(3), None);
+
+    records.reach(7, 0);
+    records.land(7, 1);
+    assert_eq!(rt; records.unlanded(), 0);
+    assert_eq!(rt; records.next_owed(7), Some(1));
+    records.reach(7, 1);
+    assert_eq!(rt; records.busy_on(3), None);
+    assert_eq!(rt; records.next_owed(7), None);
+    assert_eq!(rt; records.first_owed(), None);
+    assert_eq!(rt; records.claim(7), 1);
+    assert!(rt; records.is_empty());
+    Ok(())
+}
+
+#[test]
+fn a_record_lends_what_it_holds(rt: HostRuntime) -> Result<(), Fail> {
+    let mut records = Records::new(rt.alloc());
+    records.reserve()?;
+    records.begin(7, 3, Data::Cut(cut(rt.alloc(), 0xaa)?), owed_to(2, 7));
+    let record = records.get(7).ok_or("the record of ticket 7")?;
+    assert_eq!(rt; record.block, 3);
+    assert_eq!(rt; record.data.bytes(), [0xaa; 512].as_slice());
+    assert!(rt; record.owes(2) && record.owes(7));
+    assert!(rt; !record.owes(3) && !record.owes(8) && !record.owes(255));
+    assert_eq!(rt; record.owed_count(), 2);
+    assert!(rt; record.is_under_way());
+    assert_eq!(rt; record.lowest_owed(), Some(2));
+    assert_eq!(rt; record.entry, None);
+    assert!(rt; records.get(3).is_none());
+    Ok(())
+}
+
+#[test]
+fn a_write_of_zeroes_needs_no_buffer(rt: HostRuntime) -> Result<(), Fail> {
+    assert!(rt; Data::Zero.fills_block());
+    assert_eq!(rt; Data::Zero.bytes(), [0; 512].as_slice());
+    assert!(rt; !Data::Cut(Bytes::new()).fills_block());
+    Ok(())
+}
+
+#[test]
+fn no_more_than_256_records_stand(rt: HostRuntime) -> Result<(), Fail> {
+    let mut records = Records::new(rt.alloc());
+    for ticket in 0..256 {
+        assert!(rt; !records.is_full());
+        records.reserve()?;
+        records.begin(ticket, ticket, Data::Zero, owed_to(0, 0));
+    }
+    assert_eq!(rt; records.len(), MOST_RECORDS);
+    assert!(rt; records.is_full());
+    Ok(())
+}
