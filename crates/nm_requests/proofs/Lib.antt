@@ -1,0 +1,6 @@
+pub mod Heads
+pub mod Messages
+pub mod Streams
+pub mod Calls
+pub mod Fronts
+pub mod Rows

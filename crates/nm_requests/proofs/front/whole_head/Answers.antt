@@ -1,0 +1,8 @@
+-- The head is there, and fewer bytes behind it than it says.
+use Rattle.std.proofs.Common.{arith}
+use Rattle.nm_requests.proofs.Fronts.{unfinished_from_payload}
+use Rattle.nm_requests.proofs.front.whole_head.Goals as goal
+
+pub returns-then-bytes-length-clause-none : goal.returns-then-bytes-length-clause-none
+returns-then-bytes-length-clause-none c =
+    unfinished_from_payload c.args.index c.args.bytes.now c.in-Ok.head c.in-Ok.ensures.ok c.in-Ok.ensures.fits (omega arith) (omega arith) (omega arith)

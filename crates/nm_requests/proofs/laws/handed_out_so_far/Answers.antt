@@ -1,0 +1,12 @@
+use Rattle.nm_requests.proofs.Calls.{so_far, handed_out_first, handed_out_all}
+use Rattle.nm_requests.proofs.laws.handed_out_so_far.Goals as goal
+
+pub returns-clause-begins : goal.returns-clause-begins
+returns-clause-begins c reader new calls fresh run = (so_far reader calls new fresh run).0
+
+pub returns-clause-first : goal.returns-clause-first
+returns-clause-first c reader new calls messages end fresh run stream =
+    handed_out_first reader calls new messages end fresh run stream
+
+pub returns-clause-all : goal.returns-clause-all
+returns-clause-all c reader new calls end fresh run ends = handed_out_all reader calls new end fresh run ends

@@ -1,0 +1,106 @@
+-- How a request is judged against an export: by a table whose first row that applies decides.
+use Rattle.std.specs.Prelude.{◌≡◌, ℕ, ◌+◌, ◌*◌, ◌/◌, ◌%◌, ◌^◌, ◌<◌, ◌≤◌, Bool, not, ◌&&◌, ◌||◌, List, [], ◌∷◌, ◌==◌, nat_lt, bit_and, Result, Ok, Err}
+use Rattle.std.specs.Bool.{MatchBool}
+use Rattle.nm_wire.specs.declared.command.Command.TheVariants as command
+use Rattle.nm_wire.specs.declared.command.Command.{Command}
+use Rattle.nm_wire.specs.declared.export.Export.{Export}
+use Rattle.nm_wire.specs.declared.errors.TheConstants.{EPERM, EINVAL, ENOSPC}
+use Rattle.nm_wire.specs.Command.{command_number}
+use Rattle.nm_wire.specs.Export.{size_of}
+use Rattle.nm_requests.specs.declared.request.Request.{Request}
+use Rattle.nm_requests.specs.declared.task.Task.TheVariants as task
+use Rattle.nm_requests.specs.declared.task.Task.{Task}
+use Rattle.nm_requests.specs.Message.{longest_payload}
+
+-- a row of the table: whether it applies, and its result
+pub record Row : Type 0 where
+  pub applies : Bool
+  pub result : Result Task ℕ
+
+abbrev pub row : Bool → Result Task ℕ → Row
+row applies result = record { applies = applies; result = result }
+
+-- the result of the first row that applies
+abbrev pub IsFirst : List Row → Result Task ℕ → Type 0
+IsFirst [] result = ⊥
+IsFirst (r ∷ rows) result = MatchBool r.applies (result ≡ r.result) (IsFirst rows result)
+
+-- whether the request asks for this
+abbrev pub asks : Request → Command → Bool
+asks request command = request.kind == command_number command
+
+-- whether its type is one of those that are served
+abbrev pub is_known : Request → Bool
+is_known request =
+    asks request command.Read || (asks request command.Write || (asks request command.Disconnect
+    || (asks request command.Flush || (asks request command.Trim || asks request command.WriteZeroes))))
+
+-- whether it would change the data
+abbrev pub is_change : Request → Bool
+is_change request =
+    asks request command.Write || (asks request command.Trim || asks request command.WriteZeroes)
+
+-- whether each bit of the others is set
+abbrev pub contains : ℕ → ℕ → Bool
+contains flags others = bit_and flags others == others
+
+-- the flags FUA, bit 0, and NO_HOLE, bit 1 ("Command flags")
+abbrev pub fua : ℕ
+fua = 2 ^ 0
+
+abbrev pub no_hole : ℕ
+no_hole = 2 ^ 1
+
+-- whether it begins and ends between blocks
+abbrev pub is_aligned : Request → Bool
+is_aligned request = (request.offset % 512 == 0) && (request.length % 512 == 0)
+
+-- the block that it begins with, and how many it names
+abbrev pub first_block : Request → ℕ
+first_block request = request.offset / 512
+
+abbrev pub blocks : Request → ℕ
+blocks request = request.length / 512
+
+-- whether its data are to be durable before the reply
+abbrev pub has_fua : Request → Bool
+has_fua request = contains request.flags.0 fua
+
+-- whether it ends past the export's end, in numbers without a limit
+abbrev pub is_past_end : Request → Export → Bool
+is_past_end request export = nat_lt (size_of export) (request.offset + request.length)
+
+-- the thirteen rows, top first
+abbrev pub table : Request → Export → List Row
+table request export =
+    row (asks request command.Disconnect) (Ok task.Disconnect)
+    ∷ row (not (is_known request)) (Err EINVAL)
+    ∷ row (not (contains (fua + no_hole) request.flags.0)) (Err EINVAL)
+    ∷ row (asks request command.Flush) (Ok task.Flush)
+    ∷ row (is_change request && export.read_only) (Err EPERM)
+    ∷ row (not (is_aligned request)) (Err EINVAL)
+    ∷ row ((asks request command.Read || asks request command.Trim) && is_past_end request export) (Err EINVAL)
+    ∷ row ((asks request command.Write || asks request command.WriteZeroes) && is_past_end request export) (Err ENOSPC)
+    ∷ row (asks request command.Read && nat_lt longest_payload request.length) (Err EINVAL)
+    ∷ row (request.length == 0) (Ok task.Nothing)
+    ∷ row (asks request command.Read) (Ok (task.Read (first_block request) (blocks request)))
+    ∷ row (asks request command.Write) (Ok (task.Write (first_block request) (blocks request) (has_fua request)))
+    ∷ row (asks request command.Trim || asks request command.WriteZeroes) (Ok (task.Zero (first_block request) (blocks request) (has_fua request)))
+    ∷ []
+
+-- the blocks are those that the request names, at least one, and lie inside the export
+pub record AreBlocksOf (request : Request) (export : Export) (block count : ℕ) : Type 0 where
+  pub offset : request.offset ≡ 512 * block
+  pub length : request.length ≡ 512 * count
+  pub some : 0 < count
+  pub inside : block + count ≤ export.blocks
+
+-- the task's blocks are the request's, and no READ is longer than 32 MiB
+abbrev pub LiesInside : Request → Export → Task → Type 0
+LiesInside request export (task.Read block count) =
+    AreBlocksOf request export block count × (512 * count ≤ longest_payload)
+LiesInside request export (task.Write block count fua) = AreBlocksOf request export block count
+LiesInside request export (task.Zero block count fua) = AreBlocksOf request export block count
+LiesInside request export task.Flush = Unit {0}
+LiesInside request export task.Nothing = Unit {0}
+LiesInside request export task.Disconnect = Unit {0}

@@ -1,0 +1,29 @@
+-- A request on the wire ("Request message"): a head and, behind the head of a WRITE, its payload.
+use Rattle.std.specs.Prelude.{◌≡◌, ℕ, ◌≤◌, List, ◌++◌, length, ◌==◌, if◌then◌else◌}
+use Rattle.nm_wire.specs.declared.command.Command.TheVariants.{Write}
+use Rattle.nm_wire.specs.declared.request_head.RequestHead.{RequestHead}
+use Rattle.nm_wire.specs.Command.{command_number}
+use Rattle.nm_wire.specs.Layout.{FitsRequestHead, request_head_bytes}
+
+-- a request as it stands in the stream
+pub record Message : Type 0 where
+  pub head : RequestHead
+  pub payload : List ℕ
+
+-- the longest payload that is taken: 32 MiB
+abbrev pub longest_payload : ℕ
+longest_payload = 33554432
+
+-- how many bytes follow the head: as many as a WRITE's length says, none behind another command
+abbrev pub payload_length : RequestHead → ℕ
+payload_length head = if head.kind == command_number Write then head.length else 0
+
+-- the bytes of a request: its head, then its payload
+abbrev pub message_bytes : Message → List ℕ
+message_bytes message = request_head_bytes message.head ++ message.payload
+
+-- each number fits its field, and the payload is whole and not too long
+pub record IsMessage (message : Message) : Type 0 where
+  pub fits : FitsRequestHead message.head
+  pub whole : length message.payload ≡ payload_length message.head
+  pub short : payload_length message.head ≤ longest_payload

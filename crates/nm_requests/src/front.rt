@@ -1,0 +1,110 @@
+ghost use Rattle.std.specs.Prelude.{◌≡◌, ℕ, List, [], ◌+◌, ◌≤◌, ◌++◌, length, take, drop, None, Some, IfSome, IfNone, IfOk, IfErr, OnErr, IsOk};
+ghost use Rattle.nm_requests.specs.Message.{Message, payload_length, longest_payload};
+ghost use Rattle.nm_requests.specs.Stream.{StartsWith, EndsAs, most_requests};
+ghost use Rattle.nm_requests.specs.Front.{HasWhole, HasPayload, message_of};
+
+use crate::fault::Fault;
+use crate::request::{MAX_PAYLOAD, Request};
+use bytes::{Bytes, BytesMut};
+use nm_wire::{Command, RequestHead, WireFault};
+use std::alloc::AllocError;
+
+const HEAD_BYTES: usize = 28;
+
+const MAX_REQUESTS: u64 = 0x8000_0000_0000_0000;
+
+// Cuts the first request out of the buffer, if all of it is there. It gets this index.
+pub(crate) fn cut_first(buffer: &mut BytesMut, index: u64) -> Result<Option<Request>, Fault>
+    requires { index ≤ most_requests }
+    ensures request { IfOk result (λ found. IfSome found (λ request.
+        StartsWith index buffer.old.items (message_of request) buffer.new.items)) }
+    ensures index { IfOk result (λ found. IfSome found (λ request. request.index ≡ index)) }
+    ensures none { IfOk result (λ found. IfNone found
+        (EndsAs index buffer.old.items None × (buffer.new ≡ buffer.old))) }
+    ensures magic { result ≡ Err Fault.Magic → EndsAs index buffer.old.items (Some Fault.Magic) }
+    ensures too_long { result ≡ Err Fault.TooLong
+        → EndsAs index buffer.old.items (Some Fault.TooLong) }
+    ensures memory { result ≡ Err Fault.Memory → HasPayload index buffer.old.items }
+    ensures err { OnErr result (buffer.new ≡ buffer.old) }
+{
+    let Some(head) = whole_head(buffer.as_slice(), index)? else {
+        return Ok(None);
+    };
+    let payload = cut_payload(buffer, payload_len(&head))?;
+    Ok(Some(Request {
+        index,
+        kind: head.kind,
+        flags: head.flags,
+        cookie: head.cookie,
+        offset: head.offset,
+        length: head.length,
+        payload,
+    }))
+}
+
+// The head of the first request, if all of the request is there.
+pub(crate) fn whole_head(bytes: &[u8], index: u64) -> Result<Option<RequestHead>, Fault>
+    requires { index ≤ most_requests }
+    ensures whole { IfOk result (λ found. IfSome found (HasWhole index bytes.now)) }
+    ensures none { IfOk result (λ found. IfNone found (EndsAs index bytes.now None)) }
+    ensures fault { IfErr result (λ fault. EndsAs index bytes.now (Some fault)) }
+{
+    let head = match RequestHead::get(bytes) {
+        Err(WireFault::Short) => return Ok(None),
+        Ok(head) if index < MAX_REQUESTS => head,
+        _ => return Err(Fault::Magic),
+    };
+    let length = payload_len(&head);
+    if length > MAX_PAYLOAD {
+        return Err(Fault::TooLong);
+    }
+    if bytes.len() - HEAD_BYTES < length as usize {
+        return Ok(None);
+    }
+    Ok(Some(head))
+}
+
+// How many bytes of the first request have not come, where its head is there.
+pub(crate) fn missing_len(bytes: &[u8]) -> usize
+    ensures capped { result ≤ 28 + longest_payload }
+    ensures missing { (message : Message) (more : List ℕ) → 28 ≤ length bytes.now
+        → StartsWith 0 (bytes.now ++ more) message [] → result ≡ length more }
+{
+    let Ok(head) = RequestHead::get(bytes) else {
+        return 0;
+    };
+    let length = payload_len(&head);
+    if length > MAX_PAYLOAD {
+        return 0;
+    }
+    (HEAD_BYTES + length as usize).saturating_sub(bytes.len())
+}
+
+// How many bytes follow the head.
+fn payload_len(head: &RequestHead) -> u32
+    ensures { result ≡ payload_length head.now }
+{
+    if head.kind == Command::Write.number() {
+        head.length
+    } else {
+        0
+    }
+}
+
+// Takes a head and this many bytes behind it off the buffer, and returns the latter.
+fn cut_payload(buffer: &mut BytesMut, len: u32) -> Result<Bytes, AllocError>
+    requires { 28 + len ≤ length buffer.old.items }
+    ensures payload { IfOk result (λ payload. payload ≡ take len (drop 28 buffer.old.items)) }
+    ensures rest { IfOk result (λ _. buffer.new.items ≡ drop (28 + len) buffer.old.items) }
+    ensures room { buffer.new.spare ≡ buffer.old.spare }
+    ensures empty { len ≡ 0 → IsOk result }
+    ensures err { OnErr result (buffer.new ≡ buffer.old) }
+{
+    if len == 0 {
+        buffer.advance(HEAD_BYTES);
+        return Ok(Bytes::new());
+    }
+    let mut request = buffer.freeze_to(HEAD_BYTES + len as usize)?;
+    request.advance(HEAD_BYTES);
+    Ok(request)
+}
