@@ -42,7 +42,8 @@ pub record ReadsLeg (honest succeeded : Bool) (at : ℕ)
   pub durable : IsTrue honest → new.durable ≡ old.durable
 
 -- A write of the block at `at`. A fault leaves any bytes there, and what is durable there is open.
-pub record WritesLeg (honest succeeded : Bool) (at : ℕ) (bytes : List ℕ) (old new : Leg) : Type 0 where
+pub record WritesLeg (honest succeeded : Bool) (at : ℕ) (bytes : List ℕ)
+    (old new : Leg) : Type 0 where
   pub calls : CallsLeg succeeded old new
   pub written : IsTrue honest → IsTrue succeeded
       → new.contents ≡ slice_set old.contents at (block_of bytes)
