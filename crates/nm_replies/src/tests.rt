@@ -119,3 +119,12 @@ fn devices_that_take_all(rt: HostRuntime) -> Result<(), Fail> {
     }
     Ok(())
 }
+
+#[test]
+fn texts_of_faults(rt: HostRuntime) -> Result<(), Fail> {
+    let device = format!(in rt.alloc(); "{}", SendFault::Device(7))?;
+    assert_eq!(rt; device.as_str(), "a write failed after 7 bytes");
+    let failed = format!(in rt.alloc(); "{}", SendFault::Failed)?;
+    assert_eq!(rt; failed.as_str(), "an earlier write failed");
+    Ok(())
+}

@@ -12,7 +12,7 @@ pub struct ReplyWriter<W> {
 }
 
 impl<W: Write> ReplyWriter<W> {
-    ghost use Rattle.nm_replies.specs.Sending.{device_of, has_failed};
+    ghost use Rattle.nm_replies.specs.Sending.{Sends, device_of, has_failed};
 
     /// A writer over a device of which no write has failed.
     pub fn new(device: W) -> ReplyWriter<W>
@@ -42,11 +42,9 @@ impl<W: Write> ReplyWriter<W> {
     /// Sends all the bytes. A write that fails, or that takes nothing of what is left, ends the
     /// sending for good; it is not tried again. Takes no memory.
     pub fn send(&mut self, bytes: &[u8]) -> Result<(), SendFault>
-        ensures ok { OnOk result
-            (Appends (W.contents (device_of self.old)) (W.contents (device_of self.new)) bytes.now) }
-        ensures device { (sent : ℕ) → result ≡ Err (SendFault.Device sent) → (sent < length bytes.now)
-            × Appends (W.contents (device_of self.old)) (W.contents (device_of self.new))
-            (take sent bytes.now) }
+        ensures ok { OnOk result (Sends W.contents self.old self.new bytes.now) }
+        ensures device { (sent : ℕ) → result ≡ Err (SendFault.Device sent)
+            → (sent < length bytes.now) × Sends W.contents self.old self.new (take sent bytes.now) }
         ensures failed { (result ≡ Err SendFault.Failed) ↔ IsTrue (has_failed self.old) }
         ensures unchanged { result ≡ Err SendFault.Failed → self.new ≡ self.old }
         ensures for_good { IsTrue (has_failed self.new) ↔ IsErr result }

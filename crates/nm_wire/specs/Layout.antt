@@ -19,8 +19,8 @@ option_reply_bytes reply =
 -- a request's head, 28 bytes: magic, flags, type, cookie, offset, length ("Request message")
 unfoldable pub request_head_bytes : RequestHead → List ℕ
 request_head_bytes head =
-    be 4 request_magic ++ be 2 head.flags.0 ++ be 2 head.kind ++ be 8 head.cookie ++ be 8 head.offset
-    ++ be 4 head.length
+    be 4 request_magic ++ be 2 head.flags.0 ++ be 2 head.kind
+    ++ be 8 head.cookie ++ be 8 head.offset ++ be 4 head.length
 
 -- a simple reply, 16 bytes: magic, error, cookie ("Simple reply message")
 unfoldable pub simple_reply_bytes : SimpleReply → List ℕ

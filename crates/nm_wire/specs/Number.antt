@@ -2,7 +2,7 @@
 use Rattle.std.specs.Prelude.{ℕ, List}
 use Rattle.std.specs.Int.{bytes_high_first}
 
--- a number as this many bytes, the highest first ("Values": all numbers are big-endian)
+-- a number as this many bytes, the highest first: the network byte order of every number
 unfoldable pub be : ℕ → ℕ → List ℕ
 be width number = bytes_high_first width number
 

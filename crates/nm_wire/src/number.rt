@@ -1,4 +1,4 @@
-//! Big-endian numbers at places of a buffer ("Values").
+//! Numbers in network byte order, the highest byte first, at places of a buffer.
 ghost use Rattle.std.specs.Prelude.{◌≡◌, ◌+◌, ◌≤◌, ◌++◌, length, take, drop};
 ghost use Rattle.nm_wire.specs.Number.{be};
 

@@ -29,7 +29,8 @@ impl OptionHead {
 
     /// The head that begins the bytes, whatever follows it.
     pub fn get(bytes: &[u8]) -> Result<OptionHead, WireFault>
-        ensures ok { IfOk result (λ head. bytes.now ≡ option_head_bytes head ++ drop 16 bytes.now) }
+        ensures ok { IfOk result
+            (λ head. bytes.now ≡ option_head_bytes head ++ drop 16 bytes.now) }
         ensures fits { IfOk result FitsOptionHead }
         ensures reads_back { (head : OptionHead) (rest : List ℕ) → FitsOptionHead head
             → bytes.now ≡ option_head_bytes head ++ rest → result ≡ Ok head }

@@ -31,7 +31,8 @@ impl OptionReply {
 
     /// The head that begins the bytes, whatever follows it.
     pub fn get(bytes: &[u8]) -> Result<OptionReply, WireFault>
-        ensures ok { IfOk result (λ reply. bytes.now ≡ option_reply_bytes reply ++ drop 20 bytes.now) }
+        ensures ok { IfOk result
+            (λ reply. bytes.now ≡ option_reply_bytes reply ++ drop 20 bytes.now) }
         ensures fits { IfOk result FitsOptionReply }
         ensures reads_back { (reply : OptionReply) (rest : List ℕ) → FitsOptionReply reply
             → bytes.now ≡ option_reply_bytes reply ++ rest → result ≡ Ok reply }

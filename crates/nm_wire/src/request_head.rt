@@ -38,7 +38,8 @@ impl RequestHead {
 
     /// The head that begins the bytes, whatever follows it.
     pub fn get(bytes: &[u8]) -> Result<RequestHead, WireFault>
-        ensures ok { IfOk result (λ head. bytes.now ≡ request_head_bytes head ++ drop 28 bytes.now) }
+        ensures ok { IfOk result
+            (λ head. bytes.now ≡ request_head_bytes head ++ drop 28 bytes.now) }
         ensures fits { IfOk result FitsRequestHead }
         ensures reads_back { (head : RequestHead) (rest : List ℕ) → FitsRequestHead head
             → bytes.now ≡ request_head_bytes head ++ rest → result ≡ Ok head }

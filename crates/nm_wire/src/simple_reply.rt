@@ -28,7 +28,8 @@ impl SimpleReply {
 
     /// The head that begins the bytes, whatever follows it.
     pub fn get(bytes: &[u8]) -> Result<SimpleReply, WireFault>
-        ensures ok { IfOk result (λ reply. bytes.now ≡ simple_reply_bytes reply ++ drop 16 bytes.now) }
+        ensures ok { IfOk result
+            (λ reply. bytes.now ≡ simple_reply_bytes reply ++ drop 16 bytes.now) }
         ensures fits { IfOk result FitsSimpleReply }
         ensures reads_back { (reply : SimpleReply) (rest : List ℕ) → FitsSimpleReply reply
             → bytes.now ≡ simple_reply_bytes reply ++ rest → result ≡ Ok reply }

@@ -43,7 +43,11 @@ fn option_head(rt: HostRuntime) {
         let mut wrong = GO;
         wrong[at] ^= 0x10;
         assert_eq!(rt; OptionHead::get(&wrong), Err(WireFault::Magic), "at {at}");
-        assert_eq!(rt; OptionHead::get(&wrong[..15]), Err(WireFault::Short), "at {at}");
+        assert_eq!(rt;
+            OptionHead::get(&wrong[..15]),
+            Err(WireFault::Short),
+            "at {at}"
+        );
     }
 }
 
@@ -66,7 +70,11 @@ fn option_reply(rt: HostRuntime) {
         let mut wrong = ACK;
         wrong[at] ^= 0x10;
         assert_eq!(rt; OptionReply::get(&wrong), Err(WireFault::Magic), "at {at}");
-        assert_eq!(rt; OptionReply::get(&wrong[..19]), Err(WireFault::Short), "at {at}");
+        assert_eq!(rt;
+            OptionReply::get(&wrong[..19]),
+            Err(WireFault::Short),
+            "at {at}"
+        );
     }
 }
 
@@ -91,7 +99,11 @@ fn request_head(rt: HostRuntime) {
         let mut wrong = WRITE;
         wrong[at] ^= 0x10;
         assert_eq!(rt; RequestHead::get(&wrong), Err(WireFault::Magic), "at {at}");
-        assert_eq!(rt; RequestHead::get(&wrong[..27]), Err(WireFault::Short), "at {at}");
+        assert_eq!(rt;
+            RequestHead::get(&wrong[..27]),
+            Err(WireFault::Short),
+            "at {at}"
+        );
     }
 }
 
@@ -113,7 +125,11 @@ fn simple_reply(rt: HostRuntime) {
         let mut wrong = REFUSED;
         wrong[at] ^= 0x10;
         assert_eq!(rt; SimpleReply::get(&wrong), Err(WireFault::Magic), "at {at}");
-        assert_eq!(rt; SimpleReply::get(&wrong[..15]), Err(WireFault::Short), "at {at}");
+        assert_eq!(rt;
+            SimpleReply::get(&wrong[..15]),
+            Err(WireFault::Short),
+            "at {at}"
+        );
     }
 }
 
@@ -216,5 +232,16 @@ fn export_of_one_mebibyte(rt: HostRuntime) -> Result<(), Fail> {
         let Export { name, .. } = export;
         assert_eq!(rt; name.into_bytes().as_slice(), b"disk".as_slice());
     }
+    Ok(())
+}
+
+#[test]
+fn texts_of_refusals(rt: HostRuntime) -> Result<(), Fail> {
+    let short = format!(in rt.alloc(); "{}", WireFault::Short)?;
+    assert_eq!(rt; short.as_str(), "too few bytes for the head");
+    let magic = format!(in rt.alloc(); "{}", WireFault::Magic)?;
+    assert_eq!(rt; magic.as_str(), "the head begins with another magic number");
+    let memory = format!(in rt.alloc(); "{}", Memory)?;
+    assert_eq!(rt; memory.as_str(), "no memory");
     Ok(())
 }
