@@ -4,6 +4,7 @@ pub mod Blocks
 pub mod Consistency
 pub mod Endings
 pub mod LastOn
+pub mod Layings
 pub mod Legality
 pub mod Numbering
 pub mod Openings

@@ -14,6 +14,11 @@ ConsistentIsLegal =
     (entries : List Entry) (left : Array)
     → HasOpening entries left ↔ (Consistent entries × EndsIn entries left)
 
+-- some arrays make entries legal, from one to the other, exactly if they are consistent
+abbrev pub ConsistentIsExplained : Type 0
+ConsistentIsExplained =
+    (entries : List Entry) → ((left : Array) × HasOpening entries left) ↔ Consistent entries
+
 -- each end piece of legal entries is legal, from some array up to the same one
 abbrev pub EndPieceIsLegal : Type 0
 EndPieceIsLegal =

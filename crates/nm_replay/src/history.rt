@@ -51,7 +51,8 @@ fn may_follow(before: &[Entry], entry: &Entry) -> bool
 }
 
 /// Whether the entries are consistent: their numbers rise by one, and each read has the bytes of
-/// the entry before it on its block, where there is one. Only then does some array explain them.
+/// the entry before it on its block, where there is one. Then, and only then, some array makes
+/// them legal (`laws::consistent_is_explained`).
 ///
 /// It takes no memory. For each read it looks back no further than that entry.
 pub fn check(entries: &[Entry]) -> bool

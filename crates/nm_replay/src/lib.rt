@@ -1,7 +1,7 @@
 //! Blocks, arrays of blocks, and the legal histories of an array.
 //!
 //! A history is a list of numbered entries, each one operation on one block. `Kept` keeps one, and
-//! `check` tells exactly whether some array explains it.
+//! `check` tells exactly whether some array explains a list of them (`laws`).
 #![tactic(auto)]
 
 pub use block::Block;
