@@ -1,0 +1,80 @@
+-- No option begins another, none stands in a rest that is unfinished, and none is refused.
+use Rattle.std.proofs.Common.{◌≡◌, ◌≢◌, ℕ, ◌+◌, ◌<◌, ◌≤◌, ◌⊎◌, inl, inr, List, [], ◌++◌, length, take, sym, ap, ◌∙◌, subst, arith, length-append}
+use Rattle.std.proofs.lemmas.List.{append_assoc, take-append-le, take_all}
+use Rattle.nm_wire.specs.Number.{be, option_magic}
+use Rattle.nm_wire.specs.Layout.{FitsOptionHead, option_head_bytes}
+use Rattle.nm_wire.specs.declared.option_head.OptionHead.{OptionHead}
+use Rattle.nm_haggle.specs.Asked.{Asked, option_bytes, head_of, IsTaken, IsUnfinished, IsRefused, IsTooLong, most_data}
+use Rattle.nm_haggle.proofs.Heads.{heads_one, length-head, length-be, same_fronts}
+
+pub fits_head : (o : Asked) → IsTaken o → FitsOptionHead (head_of o)
+fits_head o t = record { option = t.number; length = omega (arith, t.payload) }
+
+pub length-option : (o : Asked) → length (option_bytes o) ≡ 16 + length o.payload
+length-option o = length-append (option_head_bytes (head_of o)) o.payload ∙ ap (λ n. n + length o.payload) (length-head (head_of o))
+
+-- an option is its head and its data
+same_option : (o p : Asked) → o.number ≡ p.number → o.payload ≡ p.payload → o ≡ p
+same_option o p e f =
+    let with_number : ℕ → Asked = λ n. record { number = n; payload = o.payload } in
+    let with_payload : List ℕ → Asked = λ xs. record { number = p.number; payload = xs } in
+    ap with_number e ∙ ap with_payload f
+
+pub options_one : (o p : Asked) (x y : List ℕ) → IsTaken o → IsTaken p
+    → option_bytes o ++ x ≡ option_bytes p ++ y → (o ≡ p) × (x ≡ y)
+options_one o p x y t u e =
+    let both = heads_one (head_of o) (head_of p) (o.payload ++ x) (p.payload ++ y) (fits_head o t) (fits_head p u)
+    (sym (append_assoc (option_head_bytes (head_of o)) o.payload x) ∙ e ∙ append_assoc (option_head_bytes (head_of p)) p.payload y) in
+    let number : o.number ≡ p.number = ap (λ (h : OptionHead). h.option) both.0 in
+    let lengths : length o.payload ≡ length p.payload = ap (λ (h : OptionHead). h.length) both.0 in
+    let data_too = same_fronts o.payload p.payload x y lengths both.1 in
+    (same_option o p number data_too.0, data_too.1)
+
+-- what goes on to an option with an unfinished rest is shorter than the option
+pub part_is_short : (o : Asked) (rest more x : List ℕ) → IsTaken o → IsUnfinished rest
+    → rest ++ more ≡ option_bytes o ++ x → length rest < length (option_bytes o)
+part_is_short o rest more x t (inl short) e = omega (arith, length-option o, short)
+part_is_short o rest more x t (inr p) e =
+    let both = heads_one p.head (head_of o) (p.begun ++ more) (o.payload ++ x) p.fits (fits_head o t)
+    (sym (append_assoc (option_head_bytes p.head) p.begun more) ∙ ap (λ xs. xs ++ more) (sym p.bytes) ∙ e
+    ∙ append_assoc (option_head_bytes (head_of o)) o.payload x) in
+    let same : p.head.length ≡ length o.payload = ap (λ (h : OptionHead). h.length) both.0 in
+    let whole : length rest ≡ 16 + length p.begun =
+    ap length p.bytes ∙ length-append (option_head_bytes p.head) p.begun ∙ ap (λ n. n + length p.begun) (length-head p.head) in
+    omega (arith, length-option o, whole, same, p.short)
+
+head_magic : (h : OptionHead) → take 8 (option_head_bytes h) ≡ be 8 option_magic
+unfolding option_head_bytes
+head_magic h =
+    let short : 8 ≤ length (be 8 option_magic) = omega (arith, length-be 8 option_magic) in
+    ap (λ xs. take 8 xs) (append_assoc (be 8 option_magic) (be 4 h.option) (be 4 h.length))
+    ∙ take-append-le 8 (be 8 option_magic) (be 4 h.option ++ be 4 h.length) short
+    ∙ take_all 8 (be 8 option_magic) (omega (arith, length-be 8 option_magic))
+
+taken_cause : (h : OptionHead) → FitsOptionHead h → h.length ≤ most_data
+    → (take 8 (option_head_bytes h) ≢ be 8 option_magic) ⊎ IsTooLong (option_head_bytes h) → ⊥
+taken_cause h f l (inl other) = other (head_magic h)
+taken_cause h f l (inr long) =
+    let both = heads_one h long.head [] [] f long.fits (ap (λ xs. xs ++ []) long.whole) in
+    let same : h.length ≡ long.head.length = ap (λ (k : OptionHead). k.length) both.0 in
+    omega (arith, l, same, long.long)
+
+-- a head that is taken is not refused
+taken_head : (h : OptionHead) → FitsOptionHead h → h.length ≤ most_data → IsRefused (option_head_bytes h) → ⊥
+taken_head h f l r = taken_cause h f l r.cause
+
+pub taken_not_refused : (o : Asked) (head x y : List ℕ) → IsTaken o → IsRefused head
+    → option_bytes o ++ x ≡ head ++ y → ⊥
+taken_not_refused o head x y t r e =
+    let fronts = same_fronts (option_head_bytes (head_of o)) head (o.payload ++ x) y (length-head (head_of o) ∙ sym r.whole)
+    (sym (append_assoc (option_head_bytes (head_of o)) o.payload x) ∙ e) in
+    taken_head (head_of o) (fits_head o t) t.payload (subst (λ bs. IsRefused bs) (sym fronts.0) r)
+
+-- what goes on to a refused head is shorter than a head
+pub unfinished_not_refused : (rest more head y : List ℕ) → IsUnfinished rest → IsRefused head
+    → rest ++ more ≡ head ++ y → length rest < 16
+unfinished_not_refused rest more head y (inl short) r e = short
+unfinished_not_refused rest more head y (inr p) r e =
+    let fronts = same_fronts (option_head_bytes p.head) head (p.begun ++ more) y (length-head p.head ∙ sym r.whole)
+    (sym (append_assoc (option_head_bytes p.head) p.begun more) ∙ ap (λ xs. xs ++ more) (sym p.bytes) ∙ e) in
+    absurd (taken_head p.head p.fits p.taken (subst (λ bs. IsRefused bs) (sym fronts.0) r))

@@ -1,0 +1,39 @@
+-- What a head tells of the option behind it.
+use Rattle.std.proofs.Common.{◌≡◌, ℕ, ◌-◌, ◌<◌, ◌≤◌, inr, List, ◌++◌, length, take, drop, refl, sym, ap, ◌∙◌, arith, length-append}
+use Rattle.std.proofs.lemmas.List.{append_assoc, take-append-drop, take_at, length-take, length-drop, drop-drop}
+use Rattle.nm_wire.specs.Layout.{FitsOptionHead, option_head_bytes}
+use Rattle.nm_wire.specs.declared.option_head.OptionHead.{OptionHead}
+use Rattle.nm_haggle.specs.Asked.{option_bytes, head_of, most_data}
+use Rattle.nm_haggle.specs.Front.{option_at, BeginsRefused, BeginsTaken}
+use Rattle.nm_haggle.proofs.Heads.{length-head, same_head}
+
+-- a head with too many data breaks the haggling off
+pub too_long : (text : List ℕ) (head : OptionHead) → text ≡ option_head_bytes head ++ drop 16 text → FitsOptionHead head
+    → most_data < head.length → BeginsRefused text
+too_long text head e f l =
+    let fronted : take 16 text ≡ option_head_bytes head =
+    ap (λ xs. take 16 xs) e ∙ take_at (option_head_bytes head) (drop 16 text) 16 (length-head head) in
+    record {
+      within = omega (arith, ap length e, length-append (option_head_bytes head) (drop 16 text), length-head head);
+      refused = record {
+        whole = ap length fronted ∙ length-head head;
+        cause = inr (record { head = head; whole = fronted; fits = f; long = l });
+      };
+    }
+
+-- a head and all of its data are an option
+pub all_there : (text : List ℕ) (head : OptionHead) → text ≡ option_head_bytes head ++ drop 16 text → FitsOptionHead head
+    → head.length ≤ most_data → head.length ≤ length text - 16 → BeginsTaken text head
+all_there text head e f l k =
+    let front_long : 16 ≤ length text = omega (arith, ap length e, length-append (option_head_bytes head) (drop 16 text), length-head head) in
+    let told : length (take head.length (drop 16 text)) ≡ head.length =
+    omega (arith, length-take head.length (drop 16 text), length-drop 16 text, k) in
+    let same : head_of (option_at head text) ≡ head = same_head refl told in
+    record {
+      taken = record { number = f.option; payload = omega (arith, told, l) };
+      within = omega (arith, front_long, k);
+      bytes = e ∙ ap (λ xs. option_head_bytes head ++ xs) (sym (take-append-drop head.length (drop 16 text)))
+          ∙ sym (append_assoc (option_head_bytes head) (take head.length (drop 16 text)) (drop head.length (drop 16 text)))
+          ∙ ap (λ h. (option_head_bytes h ++ take head.length (drop 16 text)) ++ drop head.length (drop 16 text)) (sym same)
+          ∙ ap (λ xs. option_bytes (option_at head text) ++ xs) (drop-drop head.length 16 text);
+    }

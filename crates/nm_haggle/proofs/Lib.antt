@@ -1,0 +1,11 @@
+pub mod Heads
+pub mod Elements
+pub mod Trees
+pub mod Pieces
+pub mod Cuts
+pub mod States
+pub mod ReplyBytes
+pub mod Fronts
+pub mod Passings
+pub mod Flagged
+pub mod Joins

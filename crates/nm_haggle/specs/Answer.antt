@@ -1,0 +1,127 @@
+-- What each option is answered with, and what comes after it ("Option types", "Option reply
+-- types").
+use Rattle.std.specs.Prelude.{◌≡◌, ℕ, ◌+◌, ◌*◌, Bool, true, false, ◌==◌, ◌||◌, if◌then◌else◌, List, [], ◌++◌, length, take, drop, replicate}
+use Rattle.std.specs.Str.{bytes_eq}
+use Rattle.std.specs.Int.{w16, w32, from_be_bytes}
+use Rattle.nm_wire.specs.Number.{be}
+use Rattle.nm_wire.specs.Layout.{option_reply_bytes}
+use Rattle.nm_wire.specs.Export.{size_of, flags_of}
+use Rattle.nm_wire.specs.OptionKind.{option_number}
+use Rattle.nm_wire.specs.ReplyKind.{reply_number}
+use Rattle.nm_wire.specs.declared.export.Export.{Export}
+use Rattle.nm_wire.specs.declared.option_kind.OptionKind.TheVariants as option
+use Rattle.nm_wire.specs.declared.reply_kind.ReplyKind.{ReplyKind}
+use Rattle.nm_wire.specs.declared.reply_kind.ReplyKind.TheVariants as kind
+use Rattle.nm_haggle.specs.declared.next.Next.{Next}
+use Rattle.nm_haggle.specs.declared.next.Next.TheVariants.{More, Transmit, Close}
+use Rattle.nm_haggle.specs.Asked.{Asked}
+
+-- the bytes that answer an option, and what comes after it
+pub record Answer : Type 0 where
+  pub out : List ℕ
+  pub next : Next
+
+-- the bytes went out behind those before, and what comes next is told
+pub record IsAnswered (answer : Answer) (old new : List ℕ) (next : Next) : Type 0 where
+  pub out : new ≡ old ++ answer.out
+  pub next_is : next ≡ answer.next
+
+-- one reply to an option: its head, then its data
+abbrev pub reply : ℕ → ReplyKind → List ℕ → List ℕ
+reply number kind payload =
+    option_reply_bytes (record {
+      option = number;
+      kind = reply_number kind;
+      length = length payload;
+    })
+    ++ payload
+
+-- one reply without data, after which the haggling goes on
+abbrev pub refusal : ℕ → ReplyKind → Answer
+refusal number kind = record { out = reply number kind []; next = More }
+
+-- a client may name the export, or name none
+abbrev pub is_known : Export → List ℕ → Bool
+is_known export name = (length name == 0) || bytes_eq name export.name
+
+-- the size and the flags of an export
+abbrev pub size_and_flags : Export → List ℕ
+size_and_flags export = be 8 (size_of export) ++ be 2 (flags_of export)
+
+-- information of type 0: the size and the flags
+abbrev pub export_information : Export → List ℕ
+export_information export = be 2 0 ++ size_and_flags export
+
+-- information of type 3: the smallest, the preferred and the largest block of a request
+abbrev pub block_sizes : List ℕ
+block_sizes = be 2 3 ++ be 4 512 ++ be 4 4096 ++ be 4 33554432
+
+-- the replies that tell of the export, whatever types of information were asked for
+abbrev pub information_replies : ℕ → Export → List ℕ
+information_replies number export =
+    reply number kind.Info (export_information export)
+    ++ reply number kind.Info block_sizes
+    ++ reply number kind.Ack []
+
+-- the length of the name at the front of the data of INFO and GO
+abbrev pub name_length : List ℕ → ℕ
+name_length payload = from_be_bytes w32 (take 4 payload)
+
+-- that name
+abbrev pub asked_name : List ℕ → List ℕ
+asked_name payload = take (name_length payload) (drop 4 payload)
+
+-- the count of the information types behind the name
+abbrev pub type_count : List ℕ → ℕ
+type_count payload = from_be_bytes w16 (take 2 (drop (4 + name_length payload) payload))
+
+-- the data are the name behind its length, and the information types behind their count
+abbrev pub adds_up : List ℕ → Bool
+adds_up payload = 6 + name_length payload + 2 * type_count payload == length payload
+
+-- INFO and GO tell of the export; after GO transmission begins
+abbrev pub answer_to_information : ℕ → Next → Export → List ℕ → Answer
+answer_to_information number next export payload =
+    if adds_up payload
+    then (if is_known export (asked_name payload)
+    then record { out = information_replies number export; next = next }
+    else refusal number kind.Unknown)
+    else refusal number kind.Invalid
+
+-- LIST names the export; it has no data
+abbrev pub answer_to_list : Export → List ℕ → Answer
+answer_to_list export payload =
+    if length payload == 0
+    then record {
+      out = reply (option_number option.List) kind.Server (be 4 (length export.name) ++ export.name)
+          ++ reply (option_number option.List) kind.Ack [];
+      next = More;
+    }
+    else refusal (option_number option.List) kind.Invalid
+
+-- EXPORT_NAME begins transmission without a reply's head, or closes the session without a byte
+abbrev pub answer_to_export_name : Export → Bool → List ℕ → Answer
+answer_to_export_name export no_zeroes payload =
+    if is_known export payload
+    then record {
+      out = size_and_flags export ++ (if no_zeroes then [] else replicate 124 0);
+      next = Transmit;
+    }
+    else record { out = []; next = Close false }
+
+-- ABORT ends the session, whatever its data
+abbrev pub answer_to_abort : Answer
+answer_to_abort = record { out = reply (option_number option.Abort) kind.Ack []; next = Close true }
+
+-- each option by its number; one that is not served is skipped
+abbrev pub answer_to : Export → Bool → Asked → Answer
+answer_to export no_zeroes o =
+    if o.number == option_number option.ExportName
+    then answer_to_export_name export no_zeroes o.payload
+    else if o.number == option_number option.Abort then answer_to_abort
+    else if o.number == option_number option.List then answer_to_list export o.payload
+    else if o.number == option_number option.Info
+    then answer_to_information (option_number option.Info) More export o.payload
+    else if o.number == option_number option.Go
+    then answer_to_information (option_number option.Go) Transmit export o.payload
+    else refusal o.number kind.Unsupported

@@ -1,0 +1,97 @@
+ghost use Rattle.std.specs.Prelude.{◌≡◌, ◌↔◌, length, IfOk, OnErr, IsErrOf};
+ghost use Rattle.nm_haggle.specs.Haggling.{opened, greeting_bytes, HagglesFrom};
+
+use crate::phase::Phase;
+use crate::piece::take_in;
+use crate::refused::Refused;
+use crate::turn::Turn;
+use nm_wire::number::{put_u16, put_u64};
+use nm_wire::{Export, ServerFlags};
+use std::alloc::Global;
+use std::marker::Model;
+
+// "NBDMAGIC"
+const GREETING_MAGIC: u64 = 0x4e42_444d_4147_4943;
+
+// "IHAVEOPT"
+const OPTION_MAGIC: u64 = 0x4948_4156_454f_5054;
+
+/// The server's side of the fixed newstyle handshake behind its greeting: takes the client's flags
+/// and options in pieces as they come, and tells what goes out for each piece.
+#[derive(Debug, Drop)]
+pub struct Haggle {
+    export: Export,
+    phase: Phase,
+    held: Option<Vec<u8>>,
+}
+
+impl Model for Haggle {
+    ghost use Rattle.std.specs.Prelude.{[]};
+    ghost use Rattle.std.specs.Option.{option_map_or};
+    ghost use Rattle.nm_haggle.specs.Haggling.{Haggling, state, IsAwaited};
+
+    ghost Value = { Haggling };
+
+    ghost view = { λ h. state h.export h.phase (option_map_or (λ v. v.items) h.held []) };
+
+    ghost invariant = { λ h. IsAwaited h.phase (option_map_or (λ v. v.items) h.held []) };
+}
+
+impl Haggle {
+    /// The haggling over an export, before the client's first byte; takes no memory.
+    pub fn new(export: Export) -> Haggle
+        ensures { result ≡ opened export }
+    {
+        Haggle {
+            export,
+            phase: Phase::Flags,
+            held: None,
+        }
+    }
+
+    /// The export.
+    pub fn export(&self) -> &Export
+        ensures { result.now ≡ self.now.export }
+    {
+        &self.export
+    }
+
+    /// The 18 bytes that the server sends first ("Newstyle negotiation").
+    pub fn greeting() -> [u8; 18]
+        ensures { result ≡ greeting_bytes }
+    {
+        let flags = ServerFlags::FIXED_NEWSTYLE.0 | ServerFlags::NO_ZEROES.0;
+        let mut bytes = [0; 18];
+        put_u64(&mut bytes, 0, GREETING_MAGIC);
+        put_u64(&mut bytes, 8, OPTION_MAGIC);
+        put_u16(&mut bytes, 16, flags);
+        bytes
+    }
+
+    /// Takes the next piece of what the client sends, and answers each option that is whole now.
+    pub fn feed(&mut self, alloc: Global, bytes: &[u8]) -> Result<Turn, Refused>
+        // However the client's text is cut, the pieces' answers are those of the whole.
+        ensures ok { IfOk result (λ turn. HagglesFrom self.old bytes.now turn.out.items turn.used
+            turn.next self.new) }
+        ensures closed { IsErrOf result Refused.Closed ↔ (self.old.phase ≡ Phase.Over) }
+        ensures err { OnErr result (self.new ≡ self.old) }
+    {
+        if let Phase::Over = self.phase {
+            return Err(Refused::Closed);
+        }
+        let mut held = match self.held.take() {
+            Some(held) => held,
+            None => Vec::new(alloc),
+        };
+        let mut out = Vec::new(alloc);
+        let answer = take_in(alloc, &mut held, &mut out, &self.export, self.phase, bytes);
+        self.held = Some(held);
+        let progress = answer?;
+        self.phase = progress.phase;
+        Ok(Turn {
+            used: progress.used,
+            out,
+            next: progress.next,
+        })
+    }
+}

@@ -1,0 +1,13 @@
+/// What the client is to send next.
+#[derive(Clone, Copy, Debug, PartialEq, Eq)]
+pub(crate) enum Phase {
+    /// Its flags.
+    Flags,
+    /// Options.
+    Options {
+        /// No zeroes go out behind the reply to EXPORT_NAME.
+        no_zeroes: bool,
+    },
+    /// Nothing: transmission began, or the session closed.
+    Over,
+}

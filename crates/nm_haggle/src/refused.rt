@@ -1,0 +1,34 @@
+ghost use Rattle.nm_haggle.specs.declared.refused.Refused.TheVariants.{Memory};
+ghost use Rattle.std.specs.Prelude.{◌≡◌};
+
+use std::alloc::AllocError;
+use std::error::Error;
+use std::fmt;
+
+/// Why a piece was not taken. The first cause in this order that stands is answered.
+#[derive(Clone, Copy, Debug, PartialEq, Eq, Hash)]
+pub enum Refused {
+    /// 1: a growth of memory was refused; nothing changed, and the piece may be fed again.
+    Memory = 1,
+    /// 2: the haggling is over: transmission began or the session closed.
+    Closed = 2,
+}
+
+impl fmt::Display for Refused {
+    fn fmt<W: fmt::Write>(&self, f: &mut fmt::Formatter<W>) -> fmt::Result {
+        f.write_str(match self {
+            Refused::Memory => "no memory",
+            Refused::Closed => "the option haggling is over",
+        })
+    }
+}
+
+impl Error for Refused {}
+
+impl From<AllocError> for Refused {
+    ghost from_gives = { λ _ refused. refused ≡ Memory };
+
+    fn from(_refused: AllocError) -> Refused {
+        Refused::Memory
+    }
+}
