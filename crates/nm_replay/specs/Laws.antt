@@ -24,7 +24,8 @@ abbrev pub EndPieceIsLegal : Type 0
 EndPieceIsLegal =
     (front piece : List Entry) (next : ℕ) (array left : Array)
     → Legal next (front ++ piece) array left
-    → (middle : Array) × Legal next front array middle × Legal (next + length front) piece middle left
+    → (middle : Array) × Legal next front array middle
+    × Legal (next + length front) piece middle left
 
 -- legal entries followed by legal entries are legal
 abbrev pub LegalThenLegal : Type 0
