@@ -17,40 +17,54 @@ holds-other : (b : ℕ) (r : Record) → r.block ≢ b → holds b r ≡ false
 holds-other b r ne = let other : (r.block == b) ≡ false = ne_eqb r.block b ne in rw other refl
 
 pub holds-idle : (b : ℕ) (r : Record) → is_under_way r ≡ false → holds b r ≡ false
-holds-idle b r idle = elim (eqb_tells r.block b) [ inl w ↦ rw (w.0, idle) refl | inr w ↦ rw w.0 refl ]
+holds-idle b r idle = elim (eqb_tells r.block b)
+    [ inl w ↦ rw (w.0, idle) refl | inr w ↦ rw w.0 refl ]
 
 pub holds-same : (b : ℕ) (r : Record) → r.block ≡ b → is_under_way r ≡ true → holds b r ≡ true
-holds-same b r e busy = let same : (r.block == b) ≡ true = eq-eqb r.block b e in rw (same, busy) refl
+holds-same b r e busy = let same : (r.block == b) ≡ true = eq-eqb r.block b e in rw (same, busy)
+    refl
 
 -- what a block is busy with is under way there
-first-holds : (b : ℕ) (r x : Record) (o : Option Record) → (o ≡ Some x → (x.block ≡ b) × (is_under_way x ≡ true)) → cond (holds b r) (Some r) o ≡ Some x → (x.block ≡ b) × (is_under_way x ≡ true)
+first-holds : (b : ℕ) (r x : Record) (o : Option Record)
+    → (o ≡ Some x → (x.block ≡ b) × (is_under_way x ≡ true)) → cond (holds b r) (Some r) o ≡ Some x
+    → (x.block ≡ b) × (is_under_way x ≡ true)
 first-holds b r x o later h =
     elim (eqb_tells r.block b) [
       | inl w ↦ elim (tells (is_under_way r)) [
         | inl busy ↦
             let here : Some r ≡ Some x = rw (w.0, busy) at h in
-            let e : r ≡ x = cc in
-            (ap (λ (y : Record). y.block) (sym e) ∙ w.1, ap (λ (y : Record). is_under_way y) (sym e) ∙ busy)
+            let e : r ≡ x = cc in (
+              ap (λ (y : Record). y.block) (sym e) ∙ w.1,
+              ap (λ (y : Record). is_under_way y) (sym e)
+                  ∙ busy,
+            )
         | inr idle ↦ later (rw (w.0, idle) at h)
       ]
       | inr w ↦ later (rw w.0 at h)
     ]
 
-pub busy_on-Some : (b : ℕ) (rs : List Record) (x : Record) → busy_on b rs ≡ Some x → (x.block ≡ b) × (is_under_way x ≡ true)
+pub busy_on-Some : (b : ℕ) (rs : List Record) (x : Record) → busy_on b rs ≡ Some x
+    → (x.block ≡ b) × (is_under_way x ≡ true)
 busy_on-Some b [] x h = absurd cc
 busy_on-Some b (r ∷ rs) x h = first-holds b r x (busy_on b rs) (busy_on-Some b rs x) h
 
 -- the records before one, that one, and the records after it
-pub busy_on-parts : (b : ℕ) (front back : List Record) (x : Record) → busy_on b (front ++ x ∷ back) ≡ option_or (busy_on b front) (cond (holds b x) (Some x) (busy_on b back))
+pub busy_on-parts : (b : ℕ) (front back : List Record) (x : Record)
+    → busy_on b (front ++ x ∷ back) ≡ option_or (busy_on b front)
+    (cond (holds b x) (Some x) (busy_on b back))
 busy_on-parts b front back x = find-append (holds b) front (x ∷ back)
 
 -- a record that does not hold the block does not count there
-pub busy_on-skips : (b : ℕ) (front back : List Record) (x : Record) → holds b x ≡ false → busy_on b (front ++ x ∷ back) ≡ busy_on b (front ++ back)
+pub busy_on-skips : (b : ℕ) (front back : List Record) (x : Record) → holds b x ≡ false
+    → busy_on b (front ++ x ∷ back) ≡ busy_on b (front ++ back)
 busy_on-skips b [] back x h = rw h refl
-busy_on-skips b (r ∷ front) back x h = ap (λ (o : Option Record). cond (holds b r) (Some r) o) (busy_on-skips b front back x h)
+busy_on-skips b (r ∷ front) back x h = ap (λ (o : Option Record). cond (holds b r) (Some r) o)
+    (busy_on-skips b front back x h)
 
 -- a change of a record on another block, before and after
-pub busy_on-changed_other : (f : Record → Record) (keeps : (r : Record) → (f r).block ≡ r.block) (t b : ℕ) (rs : List Record) (x : Record) → Ascends rs → find_record t rs ≡ Some x → x.block ≢ b → busy_on b (changed f t rs) ≡ busy_on b rs
+pub busy_on-changed_other : (f : Record → Record) (keeps : (r : Record) → (f r).block ≡ r.block)
+    (t b : ℕ) (rs : List Record) (x : Record) → Ascends rs → find_record t rs ≡ Some x → x.block ≢ b
+    → busy_on b (changed f t rs) ≡ busy_on b rs
 busy_on-changed_other f keeps t b rs x h found other =
     let p = parts t rs x h found in
     let new : holds b (f x) ≡ false = holds-other b (f x) (λ e. other (sym (keeps x) ∙ e)) in
@@ -60,15 +74,20 @@ busy_on-changed_other f keeps t b rs x h found other =
     ∙ sym (ap (λ (l : List Record). busy_on b l) p.whole)
 
 -- a write that reached a leg, seen from another block
-pub busy_on-reached_other : (t leg b : ℕ) (rs : List Record) (x : Record) → Ascends rs → find_record t rs ≡ Some x → x.block ≢ b → busy_on b (reached t leg rs) ≡ busy_on b rs
-busy_on-reached_other t leg b rs x h found other = busy_on-changed_other (without_leg leg) (λ r. refl) t b rs x h found other
+pub busy_on-reached_other : (t leg b : ℕ) (rs : List Record) (x : Record) → Ascends rs
+    → find_record t rs ≡ Some x → x.block ≢ b → busy_on b (reached t leg rs) ≡ busy_on b rs
+busy_on-reached_other t leg b rs x h found other = busy_on-changed_other (without_leg leg)
+    (λ r. refl) t b rs x h found other
 
 -- a write that got its entry, seen from another block
-pub busy_on-landed_other : (t number b : ℕ) (rs : List Record) (x : Record) → Ascends rs → find_record t rs ≡ Some x → x.block ≢ b → busy_on b (landed t number rs) ≡ busy_on b rs
-busy_on-landed_other t number b rs x h found other = busy_on-changed_other (with_entry number) (λ r. refl) t b rs x h found other
+pub busy_on-landed_other : (t number b : ℕ) (rs : List Record) (x : Record) → Ascends rs
+    → find_record t rs ≡ Some x → x.block ≢ b → busy_on b (landed t number rs) ≡ busy_on b rs
+busy_on-landed_other t number b rs x h found other = busy_on-changed_other (with_entry number)
+    (λ r. refl) t b rs x h found other
 
 -- a finished record that is taken away
-pub busy_on-without : (t b : ℕ) (rs : List Record) (x : Record) → Ascends rs → find_record t rs ≡ Some x → is_under_way x ≡ false → busy_on b (without t rs) ≡ busy_on b rs
+pub busy_on-without : (t b : ℕ) (rs : List Record) (x : Record) → Ascends rs
+    → find_record t rs ≡ Some x → is_under_way x ≡ false → busy_on b (without t rs) ≡ busy_on b rs
 busy_on-without t b rs x h found idle =
     let p = parts t rs x h found in
     ap (λ (l : List Record). busy_on b l) p.rest
@@ -76,11 +95,15 @@ busy_on-without t b rs x h found idle =
     ∙ sym (ap (λ (l : List Record). busy_on b l) p.whole)
 
 -- a write that begins, seen from another block
-pub busy_on-with_new_other : (b : ℕ) (r : Record) (rs : List Record) → r.block ≢ b → busy_on b (with_new r rs) ≡ busy_on b rs
-busy_on-with_new_other b r [] other = let no : holds b r ≡ false = holds-other b r other in rw no refl
-busy_on-with_new_other b r (x ∷ rs) other = ap (λ (o : Option Record). cond (holds b x) (Some x) o) (busy_on-with_new_other b r rs other)
+pub busy_on-with_new_other : (b : ℕ) (r : Record) (rs : List Record) → r.block ≢ b
+    → busy_on b (with_new r rs) ≡ busy_on b rs
+busy_on-with_new_other b r [] other = let no : holds b r ≡ false = holds-other b r other in rw no
+    refl
+busy_on-with_new_other b r (x ∷ rs) other = ap (λ (o : Option Record). cond (holds b x) (Some x) o)
+    (busy_on-with_new_other b r rs other)
 
-pub skip-first : (b : ℕ) (x : Record) (o : Option Record) → cond (holds b x) (Some x) o ≡ None → (holds b x ≡ false) × (o ≡ None)
+pub skip-first : (b : ℕ) (x : Record) (o : Option Record) → cond (holds b x) (Some x) o ≡ None
+    → (holds b x ≡ false) × (o ≡ None)
 skip-first b x o h =
     elim (tells (holds b x)) [
       | inl w ↦ absurd (let here : Some x ≡ None = rw w at h in cc)
@@ -88,25 +111,30 @@ skip-first b x o h =
     ]
 
 -- a write that begins on a block with no other under way
-pub busy_on-with_new_same : (r : Record) (rs : List Record) → is_under_way r ≡ true → busy_on r.block rs ≡ None → busy_on r.block (with_new r rs) ≡ Some r
-busy_on-with_new_same r [] busy none = let yes : holds r.block r ≡ true = holds-same r.block r refl busy in rw yes refl
+pub busy_on-with_new_same : (r : Record) (rs : List Record) → is_under_way r ≡ true
+    → busy_on r.block rs ≡ None → busy_on r.block (with_new r rs) ≡ Some r
+busy_on-with_new_same r [] busy none = let yes : holds r.block r ≡ true = holds-same r.block r refl
+    busy in rw yes refl
 busy_on-with_new_same r (x ∷ rs) busy none =
     let skip = skip-first r.block x (busy_on r.block rs) none in
     let no : holds r.block x ≡ false = skip.0 in
     rw no (busy_on-with_new_same r rs busy skip.1)
 
 -- a block with no record under way is not busy with any of them
-pub busy_on-absent : (b : ℕ) (front back : List Record) (x : Record) → x.block ≡ b → is_under_way x ≡ true → busy_on b (front ++ x ∷ back) ≡ None → ⊥
+pub busy_on-absent : (b : ℕ) (front back : List Record) (x : Record) → x.block ≡ b
+    → is_under_way x ≡ true → busy_on b (front ++ x ∷ back) ≡ None → ⊥
 busy_on-absent b [] back x e busy h =
     let yes : holds b x ≡ true = holds-same b x e busy in
     let here : Some x ≡ None = rw yes at h in cc
 busy_on-absent b (r ∷ front) back x e busy h =
     busy_on-absent b front back x e busy (skip-first b r (busy_on b (front ++ x ∷ back)) h).1
 
-pub busy_on-none : (b t : ℕ) (rs : List Record) (x : Record) → Ascends rs → busy_on b rs ≡ None → find_record t rs ≡ Some x → x.block ≡ b → is_under_way x ≡ false
+pub busy_on-none : (b t : ℕ) (rs : List Record) (x : Record) → Ascends rs → busy_on b rs ≡ None
+    → find_record t rs ≡ Some x → x.block ≡ b → is_under_way x ≡ false
 busy_on-none b t rs x h none found e =
     let p = parts t rs x h found in
     elim (tells (is_under_way x)) [
-      | inl w ↦ absurd (busy_on-absent b p.front p.back x e w (sym (ap (λ (l : List Record). busy_on b l) p.whole) ∙ none))
+      | inl w ↦ absurd (busy_on-absent b p.front p.back x e w
+          (sym (ap (λ (l : List Record). busy_on b l) p.whole) ∙ none))
       | inr w ↦ w
     ]

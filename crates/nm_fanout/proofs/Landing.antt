@@ -19,27 +19,41 @@ waits-None r h = ap (λ (entry : Option ℕ). missing entry) h
 waits-Some : (r : Record) (n : ℕ) → r.entry ≡ Some n → waits r ≡ 0
 waits-Some r n h = ap (λ (entry : Option ℕ). missing entry) h
 
-unlanded-parts : (front back : List Record) (x : Record) → unlanded (front ++ x ∷ back) ≡ unlanded front + (waits x + unlanded back)
-unlanded-parts front back x = sum_by-append waits front (x ∷ back) ∙ ap (λ n. unlanded front + n) (sum_by-cons waits x back)
+unlanded-parts : (front back : List Record) (x : Record)
+    → unlanded (front ++ x ∷ back) ≡ unlanded front + (waits x + unlanded back)
+unlanded-parts front back x = sum_by-append waits front (x ∷ back)
+    ∙ ap (λ n. unlanded front + n) (sum_by-cons waits x back)
 
 -- a write begins
-pub unlanded-with_new : (r : Record) (rs : List Record) → r.entry ≡ None → unlanded (with_new r rs) ≡ unlanded rs + 1
+pub unlanded-with_new : (r : Record) (rs : List Record) → r.entry ≡ None
+    → unlanded (with_new r rs) ≡ unlanded rs + 1
 unlanded-with_new r rs h = sum_by_push waits rs r ∙ ap (λ n. unlanded rs + n) (waits-None r h)
 
 -- a record is changed: only its own count moves
-pub unlanded-changed : (f : Record → Record) (t : ℕ) (rs : List Record) (x : Record) → Ascends rs → find_record t rs ≡ Some x → unlanded (changed f t rs) + waits x ≡ unlanded rs + waits (f x)
+pub unlanded-changed : (f : Record → Record) (t : ℕ) (rs : List Record) (x : Record) → Ascends rs
+    → find_record t rs ≡ Some x → unlanded (changed f t rs) + waits x ≡ unlanded rs + waits (f x)
 unlanded-changed f t rs x h found =
     let p = parts t rs x h found in
-    let a : unlanded (changed f t rs) ≡ unlanded p.front + (waits (f x) + unlanded p.back) = ap (λ (l : List Record). unlanded l) (p.change f) ∙ unlanded-parts p.front p.back (f x) in
-    let b : unlanded rs ≡ unlanded p.front + (waits x + unlanded p.back) = ap (λ (l : List Record). unlanded l) p.whole ∙ unlanded-parts p.front p.back x in
+    let a : unlanded (changed f t rs) ≡ unlanded p.front + (waits (f x) + unlanded p.back) = ap
+    (λ (l : List Record). unlanded l) (p.change f) ∙ unlanded-parts p.front p.back (f x) in
+    let b : unlanded rs ≡ unlanded p.front + (waits x + unlanded p.back) = ap
+    (λ (l : List Record). unlanded l) p.whole ∙ unlanded-parts p.front p.back x in
     omega (arith, a, b)
 
 -- a write lands
-pub unlanded-landed : (t number : ℕ) (rs : List Record) (x : Record) → Ascends rs → find_record t rs ≡ Some x → x.entry ≡ None → unlanded (landed t number rs) + 1 ≡ unlanded rs
+pub unlanded-landed : (t number : ℕ) (rs : List Record) (x : Record) → Ascends rs
+    → find_record t rs ≡ Some x → x.entry ≡ None → unlanded (landed t number rs) + 1 ≡ unlanded rs
 unlanded-landed t number rs x h found none =
-    omega (arith, unlanded-changed (with_entry number) t rs x h found, waits-None x none, waits-Some (with_entry number x) number refl)
+    omega (
+      arith,
+      unlanded-changed (with_entry number) t rs x h found,
+      waits-None x none,
+      waits-Some
+          (with_entry number x) number refl,
+    )
 
-same-waits : (f : Record → Record) (keeps : (r : Record) → waits (f r) ≡ waits r) (b : Bool) (r : Record) → waits (cond b (f r) r) ≡ waits r
+same-waits : (f : Record → Record) (keeps : (r : Record) → waits (f r) ≡ waits r) (b : Bool)
+    (r : Record) → waits (cond b (f r) r) ≡ waits r
 same-waits f keeps true r = keeps r
 same-waits f keeps false r = refl
 
@@ -53,20 +67,27 @@ unlanded-reached t leg (r ∷ rs) =
     omega (arith, a, b, c, unlanded-reached t leg rs)
 
 -- a record is taken away
-pub unlanded-removed : (t : ℕ) (rs : List Record) (x : Record) → Ascends rs → find_record t rs ≡ Some x → unlanded (without t rs) + waits x ≡ unlanded rs
+pub unlanded-removed : (t : ℕ) (rs : List Record) (x : Record) → Ascends rs
+    → find_record t rs ≡ Some x → unlanded (without t rs) + waits x ≡ unlanded rs
 unlanded-removed t rs x h found =
     let p = parts t rs x h found in
-    let a : unlanded (without t rs) ≡ unlanded p.front + unlanded p.back = ap (λ (l : List Record). unlanded l) p.rest ∙ sum_by-append waits p.front p.back in
-    let b : unlanded rs ≡ unlanded p.front + (waits x + unlanded p.back) = ap (λ (l : List Record). unlanded l) p.whole ∙ unlanded-parts p.front p.back x in
+    let a : unlanded (without t rs) ≡ unlanded p.front + unlanded p.back = ap
+    (λ (l : List Record). unlanded l) p.rest ∙ sum_by-append waits p.front p.back in
+    let b : unlanded rs ≡ unlanded p.front + (waits x + unlanded p.back) = ap
+    (λ (l : List Record). unlanded l) p.whole ∙ unlanded-parts p.front p.back x in
     omega (arith, a, b)
 
 -- a landed write is claimed
-pub unlanded-without : (t number : ℕ) (rs : List Record) (x : Record) → Ascends rs → find_record t rs ≡ Some x → x.entry ≡ Some number → unlanded (without t rs) ≡ unlanded rs
-unlanded-without t number rs x h found landed = omega (arith, unlanded-removed t rs x h found, waits-Some x number landed)
+pub unlanded-without : (t number : ℕ) (rs : List Record) (x : Record) → Ascends rs
+    → find_record t rs ≡ Some x → x.entry ≡ Some number → unlanded (without t rs) ≡ unlanded rs
+unlanded-without t number rs x h found landed = omega
+    (arith, unlanded-removed t rs x h found, waits-Some x number landed)
 
 -- a write without an entry is among those that are counted
-pub unlanded-positive : (t : ℕ) (rs : List Record) (x : Record) → Ascends rs → find_record t rs ≡ Some x → x.entry ≡ None → 0 < unlanded rs
+pub unlanded-positive : (t : ℕ) (rs : List Record) (x : Record) → Ascends rs
+    → find_record t rs ≡ Some x → x.entry ≡ None → 0 < unlanded rs
 unlanded-positive t rs x h found none =
     let p = parts t rs x h found in
-    let b : unlanded rs ≡ unlanded p.front + (waits x + unlanded p.back) = ap (λ (l : List Record). unlanded l) p.whole ∙ unlanded-parts p.front p.back x in
+    let b : unlanded rs ≡ unlanded p.front + (waits x + unlanded p.back) = ap
+    (λ (l : List Record). unlanded l) p.whole ∙ unlanded-parts p.front p.back x in
     omega (arith, b, waits-None x none)

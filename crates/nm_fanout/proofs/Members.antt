@@ -12,7 +12,8 @@ abbrev pub Member : Record → List Record → Type 0
 Member x [] = ⊥
 Member x (r ∷ rs) = (x ≡ r) ⊎ Member x rs
 
-first-member : (t : ℕ) (r x : Record) (rs : List Record) → (find_record t rs ≡ Some x → Member x rs) → cond (r.ticket == t) (Some r) (find_record t rs) ≡ Some x → (x ≡ r) ⊎ Member x rs
+first-member : (t : ℕ) (r x : Record) (rs : List Record) → (find_record t rs ≡ Some x → Member x rs)
+    → cond (r.ticket == t) (Some r) (find_record t rs) ≡ Some x → (x ≡ r) ⊎ Member x rs
 first-member t r x rs later h =
     elim (eqb_tells r.ticket t) [
       | inl w ↦ inl (let here : Some r ≡ Some x = rw w.0 at h in cc)
@@ -20,11 +21,13 @@ first-member t r x rs later h =
     ]
 
 -- what is found stands there
-pub find_record-Member : (t : ℕ) (rs : List Record) (x : Record) → find_record t rs ≡ Some x → Member x rs
+pub find_record-Member : (t : ℕ) (rs : List Record) (x : Record) → find_record t rs ≡ Some x
+    → Member x rs
 find_record-Member t [] x h = absurd cc
 find_record-Member t (r ∷ rs) x h = first-member t r x rs (find_record-Member t rs x) h
 
-pub AllAbove-Member : (low : ℕ) (rs : List Record) (x : Record) → AllAbove low rs → Member x rs → low < x.ticket
+pub AllAbove-Member : (low : ℕ) (rs : List Record) (x : Record) → AllAbove low rs → Member x rs
+    → low < x.ticket
 AllAbove-Member low [] x h m = absurd m
 AllAbove-Member low (r ∷ rs) x h m =
     elim m [
@@ -33,31 +36,40 @@ AllAbove-Member low (r ∷ rs) x h m =
     ]
 
 -- what stands there is found by its ticket
-pub Member-find_record : (rs : List Record) (x : Record) → Ascends rs → Member x rs → find_record x.ticket rs ≡ Some x
+pub Member-find_record : (rs : List Record) (x : Record) → Ascends rs → Member x rs
+    → find_record x.ticket rs ≡ Some x
 Member-find_record [] x h m = absurd m
 Member-find_record (r ∷ rs) x h m =
     elim m [
       | inl e ↦
-          let same : (r.ticket == x.ticket) ≡ true = eq-eqb r.ticket x.ticket (ap (λ (y : Record). y.ticket) (sym e)) in
+          let same : (r.ticket == x.ticket) ≡ true = eq-eqb r.ticket x.ticket
+          (ap (λ (y : Record). y.ticket) (sym e)) in
           rw same (ap (λ (y : Record). Some y) (sym e))
       | inr k ↦
           let above = AllAbove-Member r.ticket rs x h.0 k in
-          let other : (r.ticket == x.ticket) ≡ false = ne_eqb r.ticket x.ticket (λ e. omega (arith, above, e)) in
+          let other : (r.ticket == x.ticket) ≡ false = ne_eqb r.ticket x.ticket
+          (λ e. omega (arith, above, e)) in
           rw other (Member-find_record rs x h.1 k)
     ]
 
 -- two that stand there under one ticket are one
-pub Member-same : (rs : List Record) (x y : Record) → Ascends rs → Member x rs → Member y rs → x.ticket ≡ y.ticket → x ≡ y
+pub Member-same : (rs : List Record) (x y : Record) → Ascends rs → Member x rs → Member y rs
+    → x.ticket ≡ y.ticket → x ≡ y
 Member-same rs x y h mx my e =
     let a : find_record x.ticket rs ≡ Some x = Member-find_record rs x h mx in
-    let b : find_record x.ticket rs ≡ Some y = ap (λ (t : ℕ). find_record t rs) e ∙ Member-find_record rs y h my in
+    let b : find_record x.ticket rs ≡ Some y = ap (λ (t : ℕ). find_record t rs) e
+    ∙ Member-find_record rs y h my in
     cc
 
 -- two that are under way on one block are one
-pub OneWriterABlock-same : (rs : List Record) (x y : Record) → Ascends rs → OneWriterABlock rs → Member x rs → Member y rs → is_under_way x ≡ true → is_under_way y ≡ true → x.block ≡ y.block → x ≡ y
+pub OneWriterABlock-same : (rs : List Record) (x y : Record) → Ascends rs → OneWriterABlock rs
+    → Member x rs → Member y rs → is_under_way x ≡ true → is_under_way y ≡ true → x.block ≡ y.block
+    → x ≡ y
 OneWriterABlock-same rs x y h one mx my busy_x busy_y e =
-    let a : busy_on x.block rs ≡ Some x = busy_on-here x.ticket rs x h one (Member-find_record rs x h mx) busy_x in
-    let b : busy_on x.block rs ≡ Some y = ap (λ (t : ℕ). busy_on t rs) e ∙ busy_on-here y.ticket rs y h one (Member-find_record rs y h my) busy_y in
+    let a : busy_on x.block rs ≡ Some x = busy_on-here x.ticket rs x h one
+    (Member-find_record rs x h mx) busy_x in
+    let b : busy_on x.block rs ≡ Some y = ap (λ (t : ℕ). busy_on t rs) e
+    ∙ busy_on-here y.ticket rs y h one (Member-find_record rs y h my) busy_y in
     cc
 
 -- each of them is whole
@@ -70,10 +82,13 @@ AllWhole-Member (r ∷ rs) x h m =
     ]
 
 -- also the one that is found
-pub find_record-whole : (t : ℕ) (rs : List Record) (x : Record) → AreInOrder rs → find_record t rs ≡ Some x → IsWhole x
+pub find_record-whole : (t : ℕ) (rs : List Record) (x : Record) → AreInOrder rs
+    → find_record t rs ≡ Some x → IsWhole x
 find_record-whole t rs x h found = AllWhole-Member rs x h.whole (find_record-Member t rs x found)
 
-first-busy : (b : ℕ) (r x : Record) (rs : List Record) (v : Bool) → (busy_on b rs ≡ Some x → Member x rs) → cond v (Some r) (busy_on b rs) ≡ Some x → (x ≡ r) ⊎ Member x rs
+first-busy : (b : ℕ) (r x : Record) (rs : List Record) (v : Bool)
+    → (busy_on b rs ≡ Some x → Member x rs) → cond v (Some r) (busy_on b rs) ≡ Some x
+    → (x ≡ r) ⊎ Member x rs
 first-busy b r x rs true later h = inl cc
 first-busy b r x rs false later h = inr (later h)
 
@@ -83,5 +98,6 @@ busy_on-Member b [] x h = absurd cc
 busy_on-Member b (r ∷ rs) x h = first-busy b r x rs (holds b r) (busy_on-Member b rs x) h
 
 -- and is found by its ticket
-pub busy_on-find_record : (b : ℕ) (rs : List Record) (x : Record) → Ascends rs → busy_on b rs ≡ Some x → find_record x.ticket rs ≡ Some x
+pub busy_on-find_record : (b : ℕ) (rs : List Record) (x : Record) → Ascends rs
+    → busy_on b rs ≡ Some x → find_record x.ticket rs ≡ Some x
 busy_on-find_record b rs x h busy = Member-find_record rs x h (busy_on-Member b rs x busy)

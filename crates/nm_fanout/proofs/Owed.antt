@@ -24,20 +24,24 @@ pub owes-without_leg_same : (leg : ℕ) (r : Record) → owes leg (without_leg l
 owes-without_leg_same leg r = set-false r.owed leg
 
 -- and every other leg is owed as it was
-pub owes-without_leg_other : (leg other : ℕ) (r : Record) → other ≢ leg → owes other (without_leg leg r) ≡ owes other r
+pub owes-without_leg_other : (leg other : ℕ) (r : Record) → other ≢ leg
+    → owes other (without_leg leg r) ≡ owes other r
 owes-without_leg_other leg other r ne = get_or-set_other r.owed leg other false false ne
 
-any-set_false : (owed : List Bool) (leg : ℕ) → list_any (λ b. b) owed ≡ false → list_any (λ b. b) (set owed leg false) ≡ false
+any-set_false : (owed : List Bool) (leg : ℕ) → list_any (λ b. b) owed ≡ false
+    → list_any (λ b. b) (set owed leg false) ≡ false
 any-set_false [] leg h = refl
 any-set_false (true ∷ owed) leg h = absurd cc
 any-set_false (false ∷ owed) zero h = h
 any-set_false (false ∷ owed) (suc leg) h = any-set_false owed leg h
 
 -- a finished write stays finished
-pub is_under_way-without_leg : (leg : ℕ) (r : Record) → is_under_way r ≡ false → is_under_way (without_leg leg r) ≡ false
+pub is_under_way-without_leg : (leg : ℕ) (r : Record) → is_under_way r ≡ false
+    → is_under_way (without_leg leg r) ≡ false
 is_under_way-without_leg leg r h = any-set_false r.owed leg h
 
-any-place : (owed : List Bool) (leg : ℕ) → get_or owed leg false ≡ true → list_any (λ b. b) owed ≡ true
+any-place : (owed : List Bool) (leg : ℕ) → get_or owed leg false ≡ true
+    → list_any (λ b. b) owed ≡ true
 any-place [] leg h = absurd cc
 any-place (true ∷ owed) leg h = refl
 any-place (false ∷ owed) zero h = absurd cc
@@ -47,7 +51,8 @@ any-place (false ∷ owed) (suc leg) h = any-place owed leg h
 pub owes-under_way : (leg : ℕ) (r : Record) → owes leg r ≡ true → is_under_way r ≡ true
 owes-under_way leg r h = any-place r.owed leg h
 
-no-place : (owed : List Bool) (leg : ℕ) → list_any (λ b. b) owed ≡ false → get_or owed leg false ≡ false
+no-place : (owed : List Bool) (leg : ℕ) → list_any (λ b. b) owed ≡ false
+    → get_or owed leg false ≡ false
 no-place [] leg h = refl
 no-place (true ∷ owed) leg h = absurd cc
 no-place (false ∷ owed) zero h = refl
@@ -73,7 +78,8 @@ true-count : (b : Bool) → b ≡ true → weight b ≡ suc zero
 true-count b h = rw h refl
 
 -- reaching an owed leg leaves one fewer
-pub owed_count-without_leg : (leg : ℕ) (r : Record) → owes leg r ≡ true → owed_count (without_leg leg r) + 1 ≡ owed_count r
+pub owed_count-without_leg : (leg : ℕ) (r : Record) → owes leg r ≡ true
+    → owed_count (without_leg leg r) + 1 ≡ owed_count r
 owed_count-without_leg leg r h =
     let s = sum_by-set (λ (b : Bool). cond b 1 0) r.owed leg false false (owes-within leg r h) in
     omega (arith, s, true-count (owes leg r) h)
@@ -81,12 +87,17 @@ owed_count-without_leg leg r h =
 count-none : (owed : List Bool) → list_any (λ b. b) owed ≡ false → count_by (λ b. b) owed ≡ 0
 count-none [] h = refl
 count-none (true ∷ owed) h = absurd cc
-count-none (false ∷ owed) h = sum_by-cons (λ (b : Bool). cond b 1 0) false owed ∙ omega (arith, count-none owed h)
+count-none (false ∷ owed) h = sum_by-cons (λ (b : Bool). cond b 1 0) false owed
+    ∙ omega (arith, count-none owed h)
 
 count-some : (owed : List Bool) → list_any (λ b. b) owed ≡ true → 0 < count_by (λ b. b) owed
 count-some [] h = absurd cc
 count-some (true ∷ owed) h = omega (arith, sum_by-cons (λ (b : Bool). cond b 1 0) true owed)
-count-some (false ∷ owed) h = omega (arith, sum_by-cons (λ (b : Bool). cond b 1 0) false owed, count-some owed h)
+count-some (false ∷ owed) h = omega (
+  arith,
+  sum_by-cons (λ (b : Bool). cond b 1 0) false owed,
+  count-some owed h,
+)
 
 -- a finished write has no leg left
 pub owed_count-finished : (r : Record) → is_under_way r ≡ false → owed_count r ≡ 0
@@ -105,10 +116,12 @@ finished-owed_count r h =
     ]
 
 -- the lowest owed leg is owed, and none below it is
-pub lowest_owed-Some : (r : Record) (leg : ℕ) → lowest_owed r ≡ Some leg → (leg < length r.owed) × (owes leg r ≡ true) × ((k : ℕ) → k < leg → owes k r ≡ false)
+pub lowest_owed-Some : (r : Record) (leg : ℕ) → lowest_owed r ≡ Some leg
+    → (leg < length r.owed) × (owes leg r ≡ true) × ((k : ℕ) → k < leg → owes k r ≡ false)
 lowest_owed-Some r leg h = position-Some (λ (b : Bool). b) r.owed leg false h
 
-first-place : (owed : List Bool) (i : ℕ) → list_any (λ b. b) owed ≡ true → IsSome (position_from (λ b. b) i owed)
+first-place : (owed : List Bool) (i : ℕ) → list_any (λ b. b) owed ≡ true
+    → IsSome (position_from (λ b. b) i owed)
 first-place [] i h = absurd cc
 first-place (true ∷ owed) i h = refl
 first-place (false ∷ owed) i h = first-place owed (i + 1) h
@@ -120,7 +133,8 @@ lowest_owed-under_way r h =
 
 no-leg : (r : Record) (o : Option ℕ) → is_under_way r ≡ false → lowest_owed r ≡ o → o ≡ None
 no-leg r None h e = refl
-no-leg r (Some leg) h e = absurd (let owed = (lowest_owed-Some r leg e).1 in let free = finished-owes leg r h in cc)
+no-leg r (Some leg) h e = absurd (let owed = (lowest_owed-Some r leg e).1 in let free =
+    finished-owes leg r h in cc)
 
 -- and a finished one has none
 pub lowest_owed-finished : (r : Record) → is_under_way r ≡ false → lowest_owed r ≡ None

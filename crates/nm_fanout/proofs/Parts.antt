@@ -15,7 +15,8 @@ pub record Parts (t : ℕ) (rs : List Record) (x : Record) : Type 0 where
   pub change : (f : Record → Record) → changed f t rs ≡ front ++ f x ∷ back
   pub rest : without t rs ≡ front ++ back
 
-pub parts : (t : ℕ) (rs : List Record) (x : Record) → Ascends rs → find_record t rs ≡ Some x → Parts t rs x
+pub parts : (t : ℕ) (rs : List Record) (x : Record) → Ascends rs → find_record t rs ≡ Some x
+    → Parts t rs x
 parts t [] x h found = absurd cc
 parts t (r ∷ rs) x h found =
     elim (eqb_tells r.ticket t) [
@@ -27,7 +28,8 @@ parts t (r ∷ rs) x h found =
             front = [];
             back = rs;
             whole = ap (λ (y : Record). y ∷ rs) e;
-            change = λ f. rw w.0 (ap (λ (l : List Record). f r ∷ l) (changed-above f t rs above) ∙ ap (λ (y : Record). f y ∷ rs) e);
+            change = λ f. rw w.0 (ap (λ (l : List Record). f r ∷ l) (changed-above f t rs above)
+                ∙ ap (λ (y : Record). f y ∷ rs) e);
             rest = rw w.0 (without-above t rs above);
           }
       | inr w ↦
@@ -43,14 +45,18 @@ parts t (r ∷ rs) x h found =
     ]
 
 -- a change leaves the number of records
-pub length-changed : (f : Record → Record) (t : ℕ) (rs : List Record) → length (changed f t rs) ≡ length rs
+pub length-changed : (f : Record → Record) (t : ℕ) (rs : List Record)
+    → length (changed f t rs) ≡ length rs
 length-changed f t [] = refl
 length-changed f t (r ∷ rs) = ap (λ n. suc n) (length-changed f t rs)
 
 -- a claim takes one of them
-pub length-without : (t : ℕ) (rs : List Record) (x : Record) → Ascends rs → find_record t rs ≡ Some x → length (without t rs) + 1 ≡ length rs
+pub length-without : (t : ℕ) (rs : List Record) (x : Record) → Ascends rs
+    → find_record t rs ≡ Some x → length (without t rs) + 1 ≡ length rs
 length-without t rs x h found =
     let p = parts t rs x h found in
-    let a : length (without t rs) ≡ length p.front + length p.back = ap (λ (l : List Record). length l) p.rest ∙ length-append p.front p.back in
-    let b : length rs ≡ length p.front + length (x ∷ p.back) = ap (λ (l : List Record). length l) p.whole ∙ length-append p.front (x ∷ p.back) in
+    let a : length (without t rs) ≡ length p.front + length p.back = ap
+    (λ (l : List Record). length l) p.rest ∙ length-append p.front p.back in
+    let b : length rs ≡ length p.front + length (x ∷ p.back) = ap (λ (l : List Record). length l)
+    p.whole ∙ length-append p.front (x ∷ p.back) in
     omega (arith, a, b)

@@ -9,7 +9,8 @@ use Rattle.nm_fanout.proofs.Owed.{tells, is_under_way-without_leg}
 use Rattle.nm_fanout.proofs.Parts.{parts}
 use Rattle.nm_fanout.proofs.Busy.{holds, holds-idle, holds-same, busy_on-parts, busy_on-absent, busy_on-with_new_other, skip-first}
 
-front-free : (front back : List Record) (x : Record) → OneWriterABlock (front ++ x ∷ back) → is_under_way x ≡ true → busy_on x.block front ≡ None
+front-free : (front back : List Record) (x : Record) → OneWriterABlock (front ++ x ∷ back)
+    → is_under_way x ≡ true → busy_on x.block front ≡ None
 front-free [] back x one busy = refl
 front-free (y ∷ front) back x one busy =
     elim (eqb_tells y.block x.block) [
@@ -20,23 +21,29 @@ front-free (y ∷ front) back x one busy =
       | inr w ↦ rw w.0 (front-free front back x one.1 busy)
     ]
 
-back-free : (front back : List Record) (x : Record) → OneWriterABlock (front ++ x ∷ back) → is_under_way x ≡ true → busy_on x.block back ≡ None
+back-free : (front back : List Record) (x : Record) → OneWriterABlock (front ++ x ∷ back)
+    → is_under_way x ≡ true → busy_on x.block back ≡ None
 back-free [] back x one busy = one.0 busy
 back-free (y ∷ front) back x one busy = back-free front back x one.1 busy
 
-stays-first : (b : ℕ) (front back : List Record) (x : Record) → busy_on b front ≡ None → x.block ≡ b → is_under_way x ≡ true → busy_on b (front ++ x ∷ back) ≡ Some x
+stays-first : (b : ℕ) (front back : List Record) (x : Record) → busy_on b front ≡ None → x.block ≡ b
+    → is_under_way x ≡ true → busy_on b (front ++ x ∷ back) ≡ Some x
 stays-first b front back x free e busy =
     let yes : holds b x ≡ true = holds-same b x e busy in
-    busy_on-parts b front back x ∙ ap (λ (o : Option Record). option_or o (cond (holds b x) (Some x) (busy_on b back))) free
+    busy_on-parts b front back x ∙ ap (λ (o : Option Record). option_or o
+    (cond (holds b x) (Some x) (busy_on b back))) free
     ∙ ap (λ (v : Bool). cond v (Some x) (busy_on b back)) yes
 
-falls-free : (b : ℕ) (front back : List Record) (x : Record) → busy_on b front ≡ None → busy_on b back ≡ None → is_under_way x ≡ false → busy_on b (front ++ x ∷ back) ≡ None
+falls-free : (b : ℕ) (front back : List Record) (x : Record) → busy_on b front ≡ None
+    → busy_on b back ≡ None → is_under_way x ≡ false → busy_on b (front ++ x ∷ back) ≡ None
 falls-free b front back x before behind idle =
-    busy_on-parts b front back x ∙ ap (λ (o : Option Record). option_or o (cond (holds b x) (Some x) (busy_on b back))) before
+    busy_on-parts b front back x ∙ ap (λ (o : Option Record). option_or o
+    (cond (holds b x) (Some x) (busy_on b back))) before
     ∙ ap (λ (v : Bool). cond v (Some x) (busy_on b back)) (holds-idle b x idle) ∙ behind
 
 -- the record under way on a block is the one that the block is busy with
-pub busy_on-here : (t : ℕ) (rs : List Record) (x : Record) → Ascends rs → OneWriterABlock rs → find_record t rs ≡ Some x → is_under_way x ≡ true → busy_on x.block rs ≡ Some x
+pub busy_on-here : (t : ℕ) (rs : List Record) (x : Record) → Ascends rs → OneWriterABlock rs
+    → find_record t rs ≡ Some x → is_under_way x ≡ true → busy_on x.block rs ≡ Some x
 busy_on-here t rs x h one found busy =
     let p = parts t rs x h found in
     let one' = subst (λ (l : List Record). OneWriterABlock l) p.whole one in
@@ -44,32 +51,49 @@ busy_on-here t rs x h one found busy =
     ∙ stays-first x.block p.front p.back x (front-free p.front p.back x one' busy) refl busy
 
 -- a change of it that leaves it under way
-pub busy_on-changed_here : (f : Record → Record) (keeps : (r : Record) → (f r).block ≡ r.block) (t : ℕ) (rs : List Record) (x : Record) → Ascends rs → OneWriterABlock rs → find_record t rs ≡ Some x → is_under_way x ≡ true → is_under_way (f x) ≡ true → busy_on x.block (changed f t rs) ≡ Some (f x)
+pub busy_on-changed_here : (f : Record → Record) (keeps : (r : Record) → (f r).block ≡ r.block)
+    (t : ℕ) (rs : List Record) (x : Record) → Ascends rs → OneWriterABlock rs
+    → find_record t rs ≡ Some x → is_under_way x ≡ true → is_under_way (f x) ≡ true
+    → busy_on x.block (changed f t rs) ≡ Some (f x)
 busy_on-changed_here f keeps t rs x h one found busy still =
     let p = parts t rs x h found in
     let one' = subst (λ (l : List Record). OneWriterABlock l) p.whole one in
     ap (λ (l : List Record). busy_on x.block l) (p.change f)
-    ∙ stays-first x.block p.front p.back (f x) (front-free p.front p.back x one' busy) (keeps x) still
+    ∙ stays-first x.block p.front p.back (f x) (front-free p.front p.back x one' busy) (keeps x)
+    still
 
 -- a change that finishes it
-pub busy_on-changed_done : (f : Record → Record) (t : ℕ) (rs : List Record) (x : Record) → Ascends rs → OneWriterABlock rs → find_record t rs ≡ Some x → is_under_way x ≡ true → is_under_way (f x) ≡ false → busy_on x.block (changed f t rs) ≡ None
+pub busy_on-changed_done : (f : Record → Record) (t : ℕ) (rs : List Record) (x : Record)
+    → Ascends rs → OneWriterABlock rs → find_record t rs ≡ Some x → is_under_way x ≡ true
+    → is_under_way (f x) ≡ false → busy_on x.block (changed f t rs) ≡ None
 busy_on-changed_done f t rs x h one found busy done =
     let p = parts t rs x h found in
     let one' = subst (λ (l : List Record). OneWriterABlock l) p.whole one in
     ap (λ (l : List Record). busy_on x.block l) (p.change f)
-    ∙ falls-free x.block p.front p.back (f x) (front-free p.front p.back x one' busy) (back-free p.front p.back x one' busy) done
+    ∙ falls-free x.block p.front p.back (f x) (front-free p.front p.back x one' busy)
+    (back-free p.front p.back x one' busy) done
 
 -- a write that reached a leg and has still others to reach
-pub busy_on-reached_here : (t leg : ℕ) (rs : List Record) (x : Record) → Ascends rs → OneWriterABlock rs → find_record t rs ≡ Some x → is_under_way x ≡ true → is_under_way (without_leg leg x) ≡ true → busy_on x.block (reached t leg rs) ≡ Some (without_leg leg x)
-busy_on-reached_here t leg rs x h one found busy still = busy_on-changed_here (without_leg leg) (λ r. refl) t rs x h one found busy still
+pub busy_on-reached_here : (t leg : ℕ) (rs : List Record) (x : Record) → Ascends rs
+    → OneWriterABlock rs → find_record t rs ≡ Some x → is_under_way x ≡ true
+    → is_under_way (without_leg leg x) ≡ true
+    → busy_on x.block (reached t leg rs) ≡ Some (without_leg leg x)
+busy_on-reached_here t leg rs x h one found busy still = busy_on-changed_here (without_leg leg)
+    (λ r. refl) t rs x h one found busy still
 
 -- a write that reached its last leg: its block is free
-pub busy_on-reached_last : (t leg : ℕ) (rs : List Record) (x : Record) → Ascends rs → OneWriterABlock rs → find_record t rs ≡ Some x → is_under_way x ≡ true → is_under_way (without_leg leg x) ≡ false → busy_on x.block (reached t leg rs) ≡ None
-busy_on-reached_last t leg rs x h one found busy done = busy_on-changed_done (without_leg leg) t rs x h one found busy done
+pub busy_on-reached_last : (t leg : ℕ) (rs : List Record) (x : Record) → Ascends rs
+    → OneWriterABlock rs → find_record t rs ≡ Some x → is_under_way x ≡ true
+    → is_under_way (without_leg leg x) ≡ false → busy_on x.block (reached t leg rs) ≡ None
+busy_on-reached_last t leg rs x h one found busy done = busy_on-changed_done (without_leg leg) t rs
+    x h one found busy done
 
 -- a write under way that got its entry
-pub busy_on-landed_here : (t number : ℕ) (rs : List Record) (x : Record) → Ascends rs → OneWriterABlock rs → find_record t rs ≡ Some x → is_under_way x ≡ true → busy_on x.block (landed t number rs) ≡ Some (with_entry number x)
-busy_on-landed_here t number rs x h one found busy = busy_on-changed_here (with_entry number) (λ r. refl) t rs x h one found busy busy
+pub busy_on-landed_here : (t number : ℕ) (rs : List Record) (x : Record) → Ascends rs
+    → OneWriterABlock rs → find_record t rs ≡ Some x → is_under_way x ≡ true
+    → busy_on x.block (landed t number rs) ≡ Some (with_entry number x)
+busy_on-landed_here t number rs x h one found busy = busy_on-changed_here (with_entry number)
+    (λ r. refl) t rs x h one found busy busy
 
 -- a change of a record that keeps its block, and does not begin it anew
 pub record Settles (f : Record → Record) : Type 0 where
@@ -82,33 +106,40 @@ without_leg-settles leg = record { block = λ r. refl; idle = is_under_way-witho
 pub with_entry-settles : (number : ℕ) → Settles (with_entry number)
 with_entry-settles number = record { block = λ r. refl; idle = λ r h. h }
 
-holds-settled : (f : Record → Record) (k : Settles f) (b : ℕ) (r : Record) → holds b r ≡ false → holds b (f r) ≡ false
+holds-settled : (f : Record → Record) (k : Settles f) (b : ℕ) (r : Record) → holds b r ≡ false
+    → holds b (f r) ≡ false
 holds-settled f k b r h =
     elim (eqb_tells r.block b) [
       | inl w ↦
           let idle : is_under_way r ≡ false = rw w.0 at h in
           holds-idle b (f r) (k.idle r idle)
-      | inr w ↦ let other : ((f r).block == b) ≡ false = ne_eqb (f r).block b (λ e. w.1 (sym (k.block r) ∙ e)) in rw other refl
+      | inr w ↦ let other : ((f r).block == b) ≡ false = ne_eqb (f r).block b
+          (λ e. w.1 (sym (k.block r) ∙ e)) in rw other refl
     ]
 
-chosen-settled : (f : Record → Record) (k : Settles f) (b : ℕ) (v : Bool) (r : Record) → holds b r ≡ false → holds b (cond v (f r) r) ≡ false
+chosen-settled : (f : Record → Record) (k : Settles f) (b : ℕ) (v : Bool) (r : Record)
+    → holds b r ≡ false → holds b (cond v (f r) r) ≡ false
 chosen-settled f k b true r h = holds-settled f k b r h
 chosen-settled f k b false r h = h
 
 -- a block that is free stays free under such a change
-pub busy_on-changed_none : (f : Record → Record) (k : Settles f) (t b : ℕ) (rs : List Record) → busy_on b rs ≡ None → busy_on b (changed f t rs) ≡ None
+pub busy_on-changed_none : (f : Record → Record) (k : Settles f) (t b : ℕ) (rs : List Record)
+    → busy_on b rs ≡ None → busy_on b (changed f t rs) ≡ None
 busy_on-changed_none f k t b [] h = refl
 busy_on-changed_none f k t b (r ∷ rs) h =
     let skip = skip-first b r (busy_on b rs) h in
-    let no : holds b (cond (r.ticket == t) (f r) r) ≡ false = chosen-settled f k b (r.ticket == t) r skip.0 in
+    let no : holds b (cond (r.ticket == t) (f r) r) ≡ false = chosen-settled f k b (r.ticket == t) r
+    skip.0 in
     ap (λ (v : Bool). cond v (Some (cond (r.ticket == t) (f r) r)) (busy_on b (changed f t rs))) no
     ∙ busy_on-changed_none f k t b rs skip.1
 
-chosen-block : (f : Record → Record) (k : Settles f) (v : Bool) (r : Record) → (cond v (f r) r).block ≡ r.block
+chosen-block : (f : Record → Record) (k : Settles f) (v : Bool) (r : Record)
+    → (cond v (f r) r).block ≡ r.block
 chosen-block f k true r = k.block r
 chosen-block f k false r = refl
 
-chosen-busy : (f : Record → Record) (k : Settles f) (v : Bool) (r : Record) → is_under_way (cond v (f r) r) ≡ true → is_under_way r ≡ true
+chosen-busy : (f : Record → Record) (k : Settles f) (v : Bool) (r : Record)
+    → is_under_way (cond v (f r) r) ≡ true → is_under_way r ≡ true
 chosen-busy f k false r h = h
 chosen-busy f k true r h =
     elim (tells (is_under_way r)) [
@@ -116,51 +147,66 @@ chosen-busy f k true r h =
       | inr w ↦ absurd (let no = k.idle r w in cc)
     ]
 
-pub OneWriterABlock-changed : (f : Record → Record) (k : Settles f) (t : ℕ) (rs : List Record) → OneWriterABlock rs → OneWriterABlock (changed f t rs)
+pub OneWriterABlock-changed : (f : Record → Record) (k : Settles f) (t : ℕ) (rs : List Record)
+    → OneWriterABlock rs → OneWriterABlock (changed f t rs)
 OneWriterABlock-changed f k t [] one = tt
 OneWriterABlock-changed f k t (r ∷ rs) one = (
   λ busy.
-      let free = busy_on-changed_none f k t r.block rs (one.0 (chosen-busy f k (r.ticket == t) r busy)) in
+      let free = busy_on-changed_none f k t r.block rs
+      (one.0 (chosen-busy f k (r.ticket == t) r busy)) in
       ap (λ (b : ℕ). busy_on b (changed f t rs)) (chosen-block f k (r.ticket == t) r) ∙ free,
   OneWriterABlock-changed f k t rs one.1,
 )
 
 -- a write reached a leg
-pub OneWriterABlock-reached : (t leg : ℕ) (rs : List Record) → OneWriterABlock rs → OneWriterABlock (reached t leg rs)
-OneWriterABlock-reached t leg rs one = OneWriterABlock-changed (without_leg leg) (without_leg-settles leg) t rs one
+pub OneWriterABlock-reached : (t leg : ℕ) (rs : List Record) → OneWriterABlock rs
+    → OneWriterABlock (reached t leg rs)
+OneWriterABlock-reached t leg rs one = OneWriterABlock-changed (without_leg leg)
+    (without_leg-settles leg) t rs one
 
 -- a write got its entry
-pub OneWriterABlock-landed : (t number : ℕ) (rs : List Record) → OneWriterABlock rs → OneWriterABlock (landed t number rs)
-OneWriterABlock-landed t number rs one = OneWriterABlock-changed (with_entry number) (with_entry-settles number) t rs one
+pub OneWriterABlock-landed : (t number : ℕ) (rs : List Record) → OneWriterABlock rs
+    → OneWriterABlock (landed t number rs)
+OneWriterABlock-landed t number rs one = OneWriterABlock-changed (with_entry number)
+    (with_entry-settles number) t rs one
 
 -- a block that is free stays free when a record is taken away
-pub busy_on-without_none : (t b : ℕ) (rs : List Record) → busy_on b rs ≡ None → busy_on b (without t rs) ≡ None
+pub busy_on-without_none : (t b : ℕ) (rs : List Record) → busy_on b rs ≡ None
+    → busy_on b (without t rs) ≡ None
 busy_on-without_none t b [] h = refl
 busy_on-without_none t b (r ∷ rs) h =
     let skip = skip-first b r (busy_on b rs) h in
     let later = busy_on-without_none t b rs skip.1 in
     elim (eqb_tells r.ticket t) [
       | inl w ↦ rw w.0 later
-      | inr w ↦ rw w.0 (ap (λ (v : Bool). cond v (Some r) (busy_on b (without t rs))) skip.0 ∙ later)
+      | inr w ↦ rw w.0 (ap (λ (v : Bool). cond v (Some r) (busy_on b (without t rs))) skip.0
+          ∙ later)
     ]
 
 -- a record is taken away
-pub OneWriterABlock-without : (t : ℕ) (rs : List Record) → OneWriterABlock rs → OneWriterABlock (without t rs)
+pub OneWriterABlock-without : (t : ℕ) (rs : List Record) → OneWriterABlock rs
+    → OneWriterABlock (without t rs)
 OneWriterABlock-without t [] one = tt
 OneWriterABlock-without t (r ∷ rs) one =
     elim (eqb_tells r.ticket t) [
       | inl w ↦ rw w.0 (OneWriterABlock-without t rs one.1)
-      | inr w ↦ rw w.0 (λ busy. busy_on-without_none t r.block rs (one.0 busy), OneWriterABlock-without t rs one.1)
+      | inr w ↦ rw w.0 (
+        λ busy. busy_on-without_none t r.block rs (one.0 busy),
+        OneWriterABlock-without t rs one.1,
+      )
     ]
 
-free-with_new : (b : ℕ) (r : Record) (rs : List Record) → r.block ≢ b → busy_on b rs ≡ None → busy_on b (with_new r rs) ≡ None
+free-with_new : (b : ℕ) (r : Record) (rs : List Record) → r.block ≢ b → busy_on b rs ≡ None
+    → busy_on b (with_new r rs) ≡ None
 free-with_new b r rs other h = busy_on-with_new_other b r rs other ∙ h
 
 -- a write begins on a block with no record under way
-pub OneWriterABlock-with_new : (r : Record) (rs : List Record) → busy_on r.block rs ≡ None → OneWriterABlock rs → OneWriterABlock (with_new r rs)
+pub OneWriterABlock-with_new : (r : Record) (rs : List Record) → busy_on r.block rs ≡ None
+    → OneWriterABlock rs → OneWriterABlock (with_new r rs)
 OneWriterABlock-with_new r [] free one = (λ busy. refl, tt)
 OneWriterABlock-with_new r (x ∷ rs) free one =
     let skip = skip-first r.block x (busy_on r.block rs) free in (
-      λ busy. free-with_new x.block r rs (λ e. absurd (let yes = holds-same r.block x (sym e) busy in let no = skip.0 in cc)) (one.0 busy),
+      λ busy. free-with_new x.block r rs (λ e. absurd
+          (let yes = holds-same r.block x (sym e) busy in let no = skip.0 in cc)) (one.0 busy),
       OneWriterABlock-with_new r rs skip.1 one.1,
     )

@@ -11,4 +11,5 @@ begin-requires-clause-whole g c = FillsBlock-Zero
 pub loop-ticket-preserved : goal.loop-ticket-preserved
 loop-ticket-preserved g c =
     rw (c.begin.ensures.records, c.reserve.ensures.records)
-    (AllBelow-with_new (begun c.loop-ticket.ticket c.loop-ticket.ticket Zero c.owed_to.result) c.loop-ticket.records.list c.loop-ticket.invariant)
+    (AllBelow-with_new (begun c.loop-ticket.ticket c.loop-ticket.ticket Zero c.owed_to.result)
+    c.loop-ticket.records.list c.loop-ticket.invariant)

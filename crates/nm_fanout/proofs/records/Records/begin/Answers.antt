@@ -6,8 +6,12 @@ use Rattle.nm_fanout.proofs.records.Records.begin.Goals as goal
 
 pub invariant_of-self : goal.invariant_of-self
 invariant_of-self c =
-    let few : length c.self.inside.list.items < 256 = rw (ap (λ (t : RecordTable). t.list) c.self.view_is) c.requires.few in
-    let next : AllBelow c.args.ticket c.self.inside.list.items = rw (ap (λ (t : RecordTable). t.list) c.self.view_is) c.requires.next in
+    let few : length c.self.inside.list.items < 256 = rw
+    (ap (λ (t : RecordTable). t.list) c.self.view_is) c.requires.few in
+    let next : AllBelow c.args.ticket c.self.inside.list.items = rw
+    (ap (λ (t : RecordTable). t.list) c.self.view_is) c.requires.next in
     let places : length c.args.owed ≡ 8 = search rules in
     rw c.push_reserved.ensures.items
-    (AreInOrder-with_new (begun c.args.ticket c.args.block c.args.data c.args.owed) c.self.inside.list.items few next (record { filled = c.requires.whole; places = places }) c.self.invariant)
+    (AreInOrder-with_new (begun c.args.ticket c.args.block c.args.data c.args.owed)
+    c.self.inside.list.items few next (record { filled = c.requires.whole; places = places })
+    c.self.invariant)
