@@ -13,71 +13,98 @@ pub record Keeps (old : Unread) (calls : List Call) (new : Unread) : Type 0 wher
   pub begins : Begins old.count (old.rest ++ fed calls) (handed_out calls) new.rest
   pub count : new.count ≡ old.count + length (handed_out calls)
 
-begins_at : (m n : ℕ) (bytes other : List ℕ) (messages : List Message) (rest : List ℕ) → m ≡ n → bytes ≡ other → Begins m bytes messages rest → Begins n other messages rest
-begins_at m n bytes other messages rest same e begins = subst (λ k. Begins k other messages rest) same (subst (λ l. Begins m l messages rest) e begins)
+begins_at : (m n : ℕ) (bytes other : List ℕ) (messages : List Message) (rest : List ℕ) → m ≡ n
+    → bytes ≡ other → Begins m bytes messages rest → Begins n other messages rest
+begins_at m n bytes other messages rest same e begins =
+    subst (λ k. Begins k other messages rest) same (subst (λ l. Begins m l messages rest) e begins)
 
 -- a call that hands out nothing and feeds these bytes
-keeps_quiet : (old mid new : Unread) (piece : List ℕ) (calls : List Call) → mid.count ≡ old.count → mid.rest ≡ old.rest ++ piece → Keeps mid calls new
-    → Begins old.count (old.rest ++ (piece ++ fed calls)) (handed_out calls) new.rest × (new.count ≡ old.count + length (handed_out calls))
+keeps_quiet : (old mid new : Unread) (piece : List ℕ) (calls : List Call)
+    → mid.count ≡ old.count → mid.rest ≡ old.rest ++ piece → Keeps mid calls new
+    → Begins old.count (old.rest ++ (piece ++ fed calls)) (handed_out calls) new.rest ×
+    (new.count ≡ old.count + length (handed_out calls))
 keeps_quiet old mid new piece calls count rest keeps = (
-  begins_at mid.count old.count (mid.rest ++ fed calls) (old.rest ++ (piece ++ fed calls)) (handed_out calls) new.rest count
+  begins_at mid.count old.count (mid.rest ++ fed calls) (old.rest ++ (piece ++ fed calls))
+      (handed_out calls) new.rest count
       (ap (λ l. l ++ fed calls) rest ∙ append_assoc old.rest piece (fed calls)) keeps.begins,
   keeps.count ∙ ap (λ n. n + length (handed_out calls)) count,
 )
 
-keeps_unchanged : (old mid new : Unread) (calls : List Call) → IsUnchanged old mid → Keeps mid calls new
-    → Begins old.count (old.rest ++ fed calls) (handed_out calls) new.rest × (new.count ≡ old.count + length (handed_out calls))
-keeps_unchanged old mid new calls same keeps = keeps_quiet old mid new [] calls same.count (same.rest ∙ sym (append-nil old.rest)) keeps
+keeps_unchanged : (old mid new : Unread) (calls : List Call) → IsUnchanged old mid
+    → Keeps mid calls new
+    → Begins old.count (old.rest ++ fed calls) (handed_out calls) new.rest ×
+    (new.count ≡ old.count + length (handed_out calls))
+keeps_unchanged old mid new calls same keeps =
+    keeps_quiet old mid new [] calls same.count (same.rest ∙ sym (append-nil old.rest)) keeps
 
-pub runs_keep : (old : Unread) (calls : List Call) (new : Unread) → old.count ≤ most_requests → Runs old calls new → Keeps old calls new
+pub runs_keep : (old : Unread) (calls : List Call) (new : Unread) → old.count ≤ most_requests
+    → Runs old calls new → Keeps old calls new
 runs_keep old [] new small same = record {
   begins = record { whole = append-nil old.rest ∙ sym same.rest; valid = tt; few = omega arith };
   count = same.count ∙ omega arith;
 }
 runs_keep old (Fed piece ∷ calls) new small run =
-    let kept = keeps_quiet old run.0 new piece calls run.1.count run.1.rest (runs_keep run.0 calls new (omega (arith, run.1.count)) run.2) in
+    let kept = keeps_quiet old run.0 new piece calls run.1.count run.1.rest
+    (runs_keep run.0 calls new (omega (arith, run.1.count)) run.2) in
     record { begins = kept.0; count = kept.1 }
 runs_keep old (HandedOut message ∷ calls) new small run =
     let later = runs_keep run.0 calls new (omega (arith, run.1.count, run.1.first.few)) run.2 in
     record {
-      begins = begins_more old.count (old.rest ++ fed calls) (run.0.rest ++ fed calls) message (handed_out calls) new.rest
+      begins = begins_more old.count (old.rest ++ fed calls) (run.0.rest ++ fed calls) message
+          (handed_out calls) new.rest
           (record {
-            whole = ap (λ l. l ++ fed calls) run.1.first.whole ∙ append_assoc (message_bytes message) run.0.rest (fed calls);
+            whole = ap (λ l. l ++ fed calls) run.1.first.whole
+                ∙ append_assoc (message_bytes message) run.0.rest (fed calls);
             valid = run.1.first.valid;
             few = run.1.first.few;
           })
-          (begins_at run.0.count (old.count + 1) _ _ (handed_out calls) new.rest run.1.count refl later.begins);
+          (begins_at run.0.count (old.count + 1) _ _
+          (handed_out calls) new.rest run.1.count refl later.begins);
       count = omega (arith, later.count, run.1.count);
     }
 runs_keep old (Starved ∷ calls) new small run =
-    let kept = keeps_unchanged old run.0 new calls run.1.unchanged (runs_keep run.0 calls new (omega (arith, run.1.unchanged.count)) run.2) in
+    let kept = keeps_unchanged old run.0 new calls run.1.unchanged (runs_keep run.0 calls new
+    (omega (arith, run.1.unchanged.count)) run.2) in
     record { begins = kept.0; count = kept.1 }
 runs_keep old (Stopped fault ∷ calls) new small run =
-    let kept = keeps_quiet old run.0 new [] calls run.1.count (run.1.rest ∙ sym (append-nil old.rest)) (runs_keep run.0 calls new (omega (arith, run.1.count)) run.2) in
+    let kept = keeps_quiet old run.0 new [] calls run.1.count (run.1.rest
+    ∙ sym (append-nil old.rest)) (runs_keep run.0 calls new (omega
+    (arith, run.1.count)) run.2) in
     record { begins = kept.0; count = kept.1 }
 runs_keep old (Refused ∷ calls) new small run =
-    let kept = keeps_unchanged old run.0 new calls run.1 (runs_keep run.0 calls new (omega (arith, run.1.count)) run.2) in
+    let kept = keeps_unchanged old run.0 new calls run.1 (runs_keep run.0 calls new (omega
+    (arith, run.1.count)) run.2) in
     record { begins = kept.0; count = kept.1 }
 
 -- from a new reader
-pub so_far : (reader : Unread) (calls : List Call) (new : Unread) → IsNew reader → Runs reader calls new
+pub so_far : (reader : Unread) (calls : List Call) (new : Unread) → IsNew reader
+    → Runs reader calls new
     → Begins 0 (fed calls) (handed_out calls) new.rest × (new.count ≡ length (handed_out calls))
 so_far reader calls new fresh run =
     let kept = runs_keep reader calls new (omega (arith, fresh.count)) run in (
-      begins_at reader.count 0 (reader.rest ++ fed calls) (fed calls) (handed_out calls) new.rest fresh.count (ap (λ l. l ++ fed calls) fresh.rest) kept.begins,
+      begins_at reader.count 0 (reader.rest ++ fed calls) (fed calls)
+          (handed_out calls) new.rest fresh.count (ap (λ l. l ++ fed calls) fresh.rest) kept.begins,
       omega (arith, kept.count, fresh.count),
     )
 
-pub handed_out_first : (reader : Unread) (calls : List Call) (new : Unread) (messages : List Message) (end : Option Fault)
+pub handed_out_first : (reader : Unread) (calls : List Call) (new : Unread)
+    (messages : List Message) (end : Option Fault)
     → IsNew reader → Runs reader calls new → IsStream (fed calls) messages end
-    → (later : List Message) × (messages ≡ handed_out calls ++ later) × IsStreamBehind new.count new.rest later end
+    → (later : List Message) × (messages ≡ handed_out calls ++ later) × IsStreamBehind new.count
+    new.rest later end
 handed_out_first reader calls new messages end fresh run stream =
     let far = so_far reader calls new fresh run in
-    let first = front_is_first 0 (fed calls) (handed_out calls) messages new.rest end far.0 stream in
-    (first.0, first.1, subst (λ n. IsStreamBehind n new.rest first.0 end) (omega (arith, far.1)) first.2)
+    let first = front_is_first 0 (fed calls) (handed_out calls) messages new.rest end far.0 stream
+    in (
+      first.0,
+      first.1,
+      subst (λ n. IsStreamBehind n new.rest first.0 end) (omega
+          (arith, far.1)) first.2,
+    )
 
 pub handed_out_all : (reader : Unread) (calls : List Call) (new : Unread) (end : Option Fault)
-    → IsNew reader → Runs reader calls new → EndsAs new.count new.rest end → IsStream (fed calls) (handed_out calls) end
+    → IsNew reader → Runs reader calls new → EndsAs new.count new.rest end
+    → IsStream (fed calls) (handed_out calls) end
 handed_out_all reader calls new end fresh run ends =
     let far = so_far reader calls new fresh run in
     record {

@@ -1,4 +1,3 @@
-pub mod Heads
 pub mod Messages
 pub mod Streams
 pub mod Calls

@@ -2,11 +2,10 @@
 use Rattle.std.proofs.Common.{◌≡◌, ℕ, ◌+◌, Bool, true, false, List, [], ◌∷◌, ◌++◌, map, refl, Result}
 use Rattle.std.specs.Prelude.{not, ◌||◌, ◌&&◌, ◌==◌, nat_lt}
 use Rattle.std.specs.Bool.{MatchBool}
-use Rattle.nm_wire.specs.declared.command.Command.TheVariants as command
 use Rattle.nm_wire.specs.declared.export.Export.{Export}
 use Rattle.nm_requests.specs.declared.request.Request.{Request}
 use Rattle.nm_requests.specs.declared.task.Task.{Task}
-use Rattle.nm_requests.specs.Judging.{Row, row, IsFirst, table, asks, contains, fua, no_hole, is_change, is_aligned, is_past_end}
+use Rattle.nm_requests.specs.Judging.{Row, row, IsFirst, table, is_read, is_write, is_disconnect, is_flush, is_trim, is_write_zeroes, contains, fua, no_hole, is_change, is_aligned, is_past_end}
 use Rattle.nm_requests.specs.Message.{longest_payload}
 
 -- one of the tests is true
@@ -21,7 +20,9 @@ some_behind (false ∷ front) tests some = some_behind front tests some
 
 -- a known type has its row among the last, and an unknown one the second
 each_type : (disconnect read write flush trim zeroes a c d e f g h : Bool)
-    → SomeTrue (disconnect ∷ not (read || (write || (disconnect || (flush || (trim || zeroes))))) ∷ a ∷ flush ∷ c ∷ d ∷ e ∷ f ∷ g ∷ h ∷ read ∷ write ∷ (trim || zeroes) ∷ [])
+    → SomeTrue (disconnect ∷ not (read || (write || (disconnect || (flush ||
+    (trim || zeroes))))) ∷ a ∷ flush ∷ c ∷ d ∷ e ∷ f ∷ g ∷ h ∷ read ∷ write ∷
+    (trim || zeroes) ∷ [])
 each_type true read write flush trim zeroes a c d e f g h = tt
 each_type false true write flush trim zeroes a c d e f g h =
     some_behind (a ∷ flush ∷ c ∷ d ∷ e ∷ f ∷ g ∷ h ∷ []) (true ∷ write ∷ (trim || zeroes) ∷ []) tt
@@ -41,20 +42,23 @@ tests_of rows = map (λ r. r.applies) rows
 some_row : (request : Request) (export : Export) → SomeTrue (tests_of (table request export))
 unfolding tests_of
 some_row request export =
-    each_type (asks request command.Disconnect) (asks request command.Read) (asks request command.Write) (asks request command.Flush) (asks request command.Trim) (asks request command.WriteZeroes)
+    each_type (is_disconnect request) (is_read request) (is_write request) (is_flush request)
+    (is_trim request) (is_write_zeroes request)
     (not (contains (fua + no_hole) request.flags.0))
     (is_change request && export.read_only)
     (not (is_aligned request))
-    ((asks request command.Read || asks request command.Trim) && is_past_end request export)
-    ((asks request command.Write || asks request command.WriteZeroes) && is_past_end request export)
-    (asks request command.Read && nat_lt longest_payload request.length)
+    ((is_read request || is_trim request) && is_past_end request export)
+    ((is_write request || is_write_zeroes request) && is_past_end request export)
+    (is_read request && nat_lt longest_payload request.length)
     (request.length == 0)
 
 -- the one result of the first row that applies
 abbrev pub HasOneResult : List Row → Type 0
-HasOneResult rows = (result : Result Task ℕ) × IsFirst rows result × ((other : Result Task ℕ) → IsFirst rows other → other ≡ result)
+HasOneResult rows = (result : Result Task ℕ) × IsFirst rows result × ((other : Result Task ℕ)
+    → IsFirst rows other → other ≡ result)
 
-first_or_later : (applies : Bool) (result : Result Task ℕ) (rows : List Row) → SomeTrue (applies ∷ tests_of rows) → (SomeTrue (tests_of rows) → HasOneResult rows)
+first_or_later : (applies : Bool) (result : Result Task ℕ) (rows : List Row)
+    → SomeTrue (applies ∷ tests_of rows) → (SomeTrue (tests_of rows) → HasOneResult rows)
     → HasOneResult (row applies result ∷ rows)
 first_or_later true result rows some later = (result, refl, λ other first. first)
 first_or_later false result rows some later = later some
@@ -62,7 +66,9 @@ first_or_later false result rows some later = later some
 one_result : (rows : List Row) → SomeTrue (tests_of rows) → HasOneResult rows
 unfolding tests_of
 one_result [] some = absurd some
-one_result (r ∷ rows) some = first_or_later r.applies r.result rows some (λ later. one_result rows later)
+one_result (r ∷ rows) some = first_or_later r.applies r.result rows some
+    (λ later. one_result rows later)
 
-pub table_has_one_result : (request : Request) (export : Export) → HasOneResult (table request export)
+pub table_has_one_result : (request : Request) (export : Export)
+    → HasOneResult (table request export)
 table_has_one_result request export = one_result (table request export) (some_row request export)

@@ -7,80 +7,96 @@ use Rattle.nm_requests.specs.declared.fault.Fault.{Fault}
 use Rattle.nm_requests.specs.declared.fault.Fault.TheVariants.{Magic, TooLong, Memory}
 use Rattle.nm_requests.specs.Message.{Message, IsMessage, message_bytes, payload_length, longest_payload}
 use Rattle.nm_requests.specs.Stream.{StartsWith, Begins, IsWrongMagic, IsTooLong, IsUnfinished, EndsAs, IsStreamBehind, most_requests}
-use Rattle.nm_requests.proofs.Heads.{head_same, take-request_head_bytes, length-request_head_bytes}
+use Rattle.nm_wire.proofs.Heads.{request_head_bytes-unique, request_head_bytes-magic, length-request_head_bytes}
 use Rattle.nm_requests.proofs.Messages.{one_message, fronts_same}
 
 -- ---- what stands at the front
 
-pub head_is_no_wrong_magic : (before : ℕ) (bytes after : List ℕ) (head : _) → bytes ≡ request_head_bytes head ++ after → before < most_requests → IsWrongMagic before bytes → ⊥
+pub head_is_no_wrong_magic : (before : ℕ) (bytes after : List ℕ) (head : _)
+    → bytes ≡ request_head_bytes head ++ after → before < most_requests
+    → IsWrongMagic before bytes → ⊥
 head_is_no_wrong_magic before bytes after head whole few wrong =
     elim wrong.1 [
-      | inl other ↦ other (ap (take 4) whole ∙ take-request_head_bytes head after)
+      | inl other ↦ other (ap (take 4) whole ∙ request_head_bytes-magic head after)
       | inr full ↦ absurd (omega arith)
     ]
 
-pub request_whole : (message : Message) (after : List ℕ) → message_bytes message ++ after ≡ request_head_bytes message.head ++ (message.payload ++ after)
+pub request_whole : (message : Message) (after : List ℕ)
+    → message_bytes message ++ after ≡ request_head_bytes message.head ++ (message.payload ++ after)
 request_whole message after = append_assoc (request_head_bytes message.head) message.payload after
 
 pub request_is_no_end : (before : ℕ) (bytes after : List ℕ) (message : Message) (end : Option Fault)
     → StartsWith before bytes message after → EndsAs before bytes end → ⊥
 request_is_no_end before bytes after message None starts ends = ends.no_request message after starts
 request_is_no_end before bytes after message (Some Magic) starts ends =
-    head_is_no_wrong_magic before bytes (message.payload ++ after) message.head (starts.whole ∙ request_whole message after) starts.few ends
+    head_is_no_wrong_magic before bytes (message.payload ++ after) message.head (starts.whole
+    ∙ request_whole message after) starts.few ends
 request_is_no_end before bytes after message (Some TooLong) starts ends =
     let heads : message.head ≡ ends.head =
-    head_same message.head ends.head (message.payload ++ after) ends.after starts.valid.fits ends.fits
-    (sym (request_whole message after) ∙ sym starts.whole ∙ ends.whole) in
+    (request_head_bytes-unique message.head ends.head (message.payload ++ after) ends.after
+    starts.valid.fits ends.fits
+    (sym (request_whole message after) ∙ sym starts.whole ∙ ends.whole)).0 in
     let short : payload_length ends.head ≤ longest_payload =
     subst (λ head. payload_length head ≤ longest_payload) heads starts.valid.short in
     absurd (omega (arith, ends.long, short))
 request_is_no_end before bytes after message (Some Memory) starts ends = ends
 
-pub one_end : (before : ℕ) (bytes : List ℕ) (e f : Option Fault) → EndsAs before bytes e → EndsAs before bytes f → e ≡ f
+pub one_end : (before : ℕ) (bytes : List ℕ) (e f : Option Fault) → EndsAs before bytes e
+    → EndsAs before bytes f → e ≡ f
 one_end before bytes None None a b = refl
 one_end before bytes None (Some Magic) a b = absurd (a.no_wrong_magic b)
 one_end before bytes None (Some TooLong) a b = absurd (a.none_too_long b)
 one_end before bytes None (Some Memory) a b = absurd b
 one_end before bytes (Some Magic) None a b = absurd (b.no_wrong_magic a)
 one_end before bytes (Some Magic) (Some Magic) a b = refl
-one_end before bytes (Some Magic) (Some TooLong) a b = absurd (head_is_no_wrong_magic before bytes b.after b.head b.whole b.few a)
+one_end before bytes (Some Magic) (Some TooLong) a b =
+    absurd (head_is_no_wrong_magic before bytes b.after b.head b.whole b.few a)
 one_end before bytes (Some Magic) (Some Memory) a b = absurd b
 one_end before bytes (Some TooLong) None a b = absurd (b.none_too_long a)
-one_end before bytes (Some TooLong) (Some Magic) a b = absurd (head_is_no_wrong_magic before bytes a.after a.head a.whole a.few b)
+one_end before bytes (Some TooLong) (Some Magic) a b =
+    absurd (head_is_no_wrong_magic before bytes a.after a.head a.whole a.few b)
 one_end before bytes (Some TooLong) (Some TooLong) a b = refl
 one_end before bytes (Some TooLong) (Some Memory) a b = absurd b
 one_end before bytes (Some Memory) f a b = absurd a
 
 -- ---- one request more
 
-pub begins_first : (before : ℕ) (bytes : List ℕ) (message : Message) (messages : List Message) (rest : List ℕ)
+pub begins_first : (before : ℕ) (bytes : List ℕ) (message : Message) (messages : List Message)
+    (rest : List ℕ)
     → Begins before bytes (message ∷ messages) rest
-    → StartsWith before bytes message (flat_map message_bytes messages ++ rest) × Begins (before + 1) (flat_map message_bytes messages ++ rest) messages rest
+    → StartsWith before bytes message (flat_map message_bytes messages ++ rest) × Begins
+    (before + 1) (flat_map message_bytes messages ++ rest) messages rest
 begins_first before bytes message messages rest begins =
     let few : before + (length messages + 1) ≤ most_requests = omega (arith, begins.few) in (
       record {
-        whole = begins.whole ∙ append_assoc (message_bytes message) (flat_map message_bytes messages) rest;
+        whole = begins.whole ∙ append_assoc (message_bytes message)
+            (flat_map message_bytes messages) rest;
         valid = begins.valid.0;
         few = omega (arith, few);
       },
       record { whole = refl; valid = begins.valid.1; few = omega (arith, few) },
     )
 
-pub begins_more : (before : ℕ) (bytes after : List ℕ) (message : Message) (messages : List Message) (rest : List ℕ)
+pub begins_more : (before : ℕ) (bytes after : List ℕ) (message : Message)
+    (messages : List Message) (rest : List ℕ)
     → StartsWith before bytes message after → Begins (before + 1) after messages rest
     → Begins before bytes (message ∷ messages) rest
 begins_more before bytes after message messages rest starts begins = record {
-  whole = starts.whole ∙ ap (λ l. message_bytes message ++ l) begins.whole ∙ sym (append_assoc (message_bytes message) (flat_map message_bytes messages) rest);
+  whole = starts.whole ∙ ap (λ l. message_bytes message ++ l) begins.whole
+      ∙ sym (append_assoc (message_bytes message) (flat_map message_bytes messages) rest);
   valid = (starts.valid, begins.valid);
   few = omega (arith, begins.few);
 }
 
-ends_at : (m n : ℕ) (rest : List ℕ) (end : Option Fault) → m ≡ n → EndsAs m rest end → EndsAs n rest end
+ends_at : (m n : ℕ) (rest : List ℕ) (end : Option Fault) → m ≡ n → EndsAs m rest end
+    → EndsAs n rest end
 ends_at m n rest end same ends = subst (λ k. EndsAs k rest end) same ends
 
-pub stream_first : (before : ℕ) (bytes : List ℕ) (message : Message) (messages : List Message) (end : Option Fault)
+pub stream_first : (before : ℕ) (bytes : List ℕ) (message : Message) (messages : List Message)
+    (end : Option Fault)
     → IsStreamBehind before bytes (message ∷ messages) end
-    → (after : List ℕ) × StartsWith before bytes message after × IsStreamBehind (before + 1) after messages end
+    → (after : List ℕ) × StartsWith before bytes message after × IsStreamBehind
+    (before + 1) after messages end
 stream_first before bytes message messages end stream =
     let first = begins_first before bytes message messages stream.rest stream.begins in (
       flat_map message_bytes messages ++ stream.rest,
@@ -94,40 +110,60 @@ stream_first before bytes message messages end stream =
 
 -- ---- the requests that stand in front are the first of the stream
 
-stream_along : (before k : ℕ) (bytes other : List ℕ) (messages : List Message) (end : Option Fault) → before ≡ k → bytes ≡ other → IsStreamBehind before bytes messages end → IsStreamBehind k other messages end
-stream_along before k bytes other messages end same e stream = subst (λ n. IsStreamBehind n other messages end) same (subst (λ l. IsStreamBehind before l messages end) e stream)
+stream_along : (before k : ℕ) (bytes other : List ℕ) (messages : List Message)
+    (end : Option Fault) → before ≡ k → bytes ≡ other → IsStreamBehind before bytes messages end
+    → IsStreamBehind k other messages end
+stream_along before k bytes other messages end same e stream =
+    subst (λ n. IsStreamBehind n other messages end) same (subst
+    (λ l. IsStreamBehind before l messages end) e stream)
 
-pub front_is_first : (before : ℕ) (bytes : List ℕ) (front messages : List Message) (rest : List ℕ) (end : Option Fault)
+pub front_is_first : (before : ℕ) (bytes : List ℕ) (front messages : List Message)
+    (rest : List ℕ) (end : Option Fault)
     → Begins before bytes front rest → IsStreamBehind before bytes messages end
-    → (later : List Message) × (messages ≡ front ++ later) × IsStreamBehind (before + length front) rest later end
-front_is_first before bytes [] messages rest end begins stream =
-    (messages, refl, stream_along before (before + 0) bytes rest messages end (omega arith) begins.whole stream)
+    → (later : List Message) × (messages ≡ front ++ later) × IsStreamBehind
+    (before + length front) rest later end
+front_is_first before bytes [] messages rest end begins stream = (
+  messages,
+  refl,
+  stream_along before (before + 0) bytes rest messages end
+      (omega arith) begins.whole stream,
+)
 front_is_first before bytes (m ∷ front) [] rest end begins stream =
     let first = begins_first before bytes m front rest begins in
     let here : EndsAs before bytes end =
-    subst (λ l. EndsAs before l end) (sym stream.begins.whole) (ends_at _ _ stream.rest end (omega arith) stream.ends) in
-    absurd (request_is_no_end before bytes (flat_map message_bytes front ++ rest) m end first.0 here)
+    subst (λ l. EndsAs before l end) (sym stream.begins.whole) (ends_at _ _ stream.rest end
+    (omega arith) stream.ends) in
+    absurd (request_is_no_end before bytes (flat_map message_bytes front ++ rest) m end first.0
+    here)
 front_is_first before bytes (m ∷ front) (n ∷ messages) rest end begins stream =
     let first = begins_first before bytes m front rest begins in
     let next = stream_first before bytes n messages end stream in
-    let same = one_message n m next.0 (flat_map message_bytes front ++ rest) next.1.valid first.0.valid (sym next.1.whole ∙ first.0.whole) in
-    let others = front_is_first (before + 1) (flat_map message_bytes front ++ rest) front messages rest end first.1
-    (stream_along (before + 1) (before + 1) next.0 (flat_map message_bytes front ++ rest) messages end refl same.1 next.2) in (
+    let same = one_message n m next.0 (flat_map message_bytes front ++ rest) next.1.valid
+    first.0.valid (sym next.1.whole ∙ first.0.whole) in
+    let others = front_is_first (before + 1) (flat_map message_bytes front ++ rest) front messages
+    rest end first.1
+    (stream_along (before + 1) (before + 1) next.0
+    (flat_map message_bytes front ++ rest) messages end refl same.1 next.2) in (
       others.0,
       (λ i. same.0 i ∷ others.1 i),
-      stream_along (before + 1 + length front) (before + length (m ∷ front)) rest rest others.0 end (omega arith) refl others.2,
+      stream_along (before + 1 + length front) (before + length
+          (m ∷ front)) rest rest others.0 end (omega arith) refl others.2,
     )
 
 -- behind an end nothing is read
 pub nothing_behind : (before : ℕ) (rest : List ℕ) (later : List Message) (end other : Option Fault)
     → EndsAs before rest end → IsStreamBehind before rest later other → (later ≡ []) × (end ≡ other)
-nothing_behind before rest [] end other ends stream =
-    (refl, one_end before rest end other ends (subst (λ l. EndsAs before l other) (sym stream.begins.whole) (ends_at _ _ stream.rest other (omega arith) stream.ends)))
+nothing_behind before rest [] end other ends stream = (
+  refl,
+  one_end before rest end other ends (subst (λ l. EndsAs before l other)
+      (sym stream.begins.whole) (ends_at _ _ stream.rest other (omega arith) stream.ends)),
+)
 nothing_behind before rest (m ∷ later) end other ends stream =
     let first = stream_first before rest m later other stream in
     absurd (request_is_no_end before rest first.0 m end first.1 ends)
 
-pub one_stream : (before : ℕ) (bytes : List ℕ) (messages others : List Message) (end other : Option Fault)
+pub one_stream : (before : ℕ) (bytes : List ℕ) (messages others : List Message)
+    (end other : Option Fault)
     → IsStreamBehind before bytes messages end → IsStreamBehind before bytes others other
     → (messages ≡ others) × (end ≡ other)
 one_stream before bytes messages others end other a b =
@@ -137,7 +173,8 @@ one_stream before bytes messages others end other a b =
 
 -- ---- more bytes
 
-end_stays : (before : ℕ) (rest more : List ℕ) (fault : Fault) → EndsAs before rest (Some fault) → EndsAs before (rest ++ more) (Some fault)
+end_stays : (before : ℕ) (rest more : List ℕ) (fault : Fault) → EndsAs before rest (Some fault)
+    → EndsAs before (rest ++ more) (Some fault)
 end_stays before rest more Magic ends =
     let long : 28 ≤ length (rest ++ more) = omega (arith, ends.0, length-append rest more) in (
       long,
@@ -152,29 +189,35 @@ end_stays before rest more Magic ends =
 end_stays before rest more TooLong ends = record {
   head = ends.head;
   after = ends.after ++ more;
-  whole = ap (λ l. l ++ more) ends.whole ∙ append_assoc (request_head_bytes ends.head) ends.after more;
+  whole = ap (λ l. l ++ more) ends.whole ∙ append_assoc
+      (request_head_bytes ends.head) ends.after more;
   fits = ends.fits;
   long = ends.long;
   few = ends.few;
 }
 end_stays before rest more Memory ends = ends
 
-pub begins_append : (before : ℕ) (bytes more : List ℕ) (messages : List Message) (rest : List ℕ) → Begins before bytes messages rest → Begins before (bytes ++ more) messages (rest ++ more)
+pub begins_append : (before : ℕ) (bytes more : List ℕ) (messages : List Message) (rest : List ℕ)
+    → Begins before bytes messages rest → Begins before (bytes ++ more) messages (rest ++ more)
 begins_append before bytes more messages rest begins = record {
-  whole = ap (λ l. l ++ more) begins.whole ∙ append_assoc (flat_map message_bytes messages) rest more;
+  whole = ap (λ l. l ++ more) begins.whole ∙ append_assoc
+      (flat_map message_bytes messages) rest more;
   valid = begins.valid;
   few = begins.few;
 }
 
-pub stream_goes_on : (before : ℕ) (bytes more : List ℕ) (messages others : List Message) (end other : Option Fault)
+pub stream_goes_on : (before : ℕ) (bytes more : List ℕ) (messages others : List Message)
+    (end other : Option Fault)
     → IsStreamBehind before bytes messages end → IsStreamBehind before (bytes ++ more) others other
     → (later : List Message) × (others ≡ messages ++ later)
 stream_goes_on before bytes more messages others end other a b =
-    let more_of = front_is_first before (bytes ++ more) messages others (a.rest ++ more) other (begins_append before bytes more messages a.rest a.begins) b in
+    let more_of = front_is_first before (bytes ++ more) messages others (a.rest ++ more) other
+    (begins_append before bytes more messages a.rest a.begins) b in
     (more_of.0, more_of.1)
 
 pub fault_stays : (before : ℕ) (bytes more : List ℕ) (messages : List Message) (fault : Fault)
-    → IsStreamBehind before bytes messages (Some fault) → IsStreamBehind before (bytes ++ more) messages (Some fault)
+    → IsStreamBehind before bytes messages (Some fault)
+    → IsStreamBehind before (bytes ++ more) messages (Some fault)
 fault_stays before bytes more messages fault stream = record {
   rest = stream.rest ++ more;
   begins = begins_append before bytes more messages stream.rest stream.begins;

@@ -29,16 +29,33 @@ IsFirst (r ∷ rows) result = MatchBool r.applies (result ≡ r.result) (IsFirst
 abbrev pub asks : Request → Command → Bool
 asks request command = request.kind == command_number command
 
+abbrev pub is_read : Request → Bool
+is_read request = asks request command.Read
+
+abbrev pub is_write : Request → Bool
+is_write request = asks request command.Write
+
+abbrev pub is_disconnect : Request → Bool
+is_disconnect request = asks request command.Disconnect
+
+abbrev pub is_flush : Request → Bool
+is_flush request = asks request command.Flush
+
+abbrev pub is_trim : Request → Bool
+is_trim request = asks request command.Trim
+
+abbrev pub is_write_zeroes : Request → Bool
+is_write_zeroes request = asks request command.WriteZeroes
+
 -- whether its type is one of those that are served
 abbrev pub is_known : Request → Bool
 is_known request =
-    asks request command.Read || (asks request command.Write || (asks request command.Disconnect
-    || (asks request command.Flush || (asks request command.Trim || asks request command.WriteZeroes))))
+    is_read request || (is_write request || (is_disconnect request
+    || (is_flush request || (is_trim request || is_write_zeroes request))))
 
 -- whether it would change the data
 abbrev pub is_change : Request → Bool
-is_change request =
-    asks request command.Write || (asks request command.Trim || asks request command.WriteZeroes)
+is_change request = is_write request || (is_trim request || is_write_zeroes request)
 
 -- whether each bit of the others is set
 abbrev pub contains : ℕ → ℕ → Bool
@@ -73,19 +90,21 @@ is_past_end request export = nat_lt (size_of export) (request.offset + request.l
 -- the thirteen rows, top first
 abbrev pub table : Request → Export → List Row
 table request export =
-    row (asks request command.Disconnect) (Ok task.Disconnect)
+    row (is_disconnect request) (Ok task.Disconnect)
     ∷ row (not (is_known request)) (Err EINVAL)
     ∷ row (not (contains (fua + no_hole) request.flags.0)) (Err EINVAL)
-    ∷ row (asks request command.Flush) (Ok task.Flush)
+    ∷ row (is_flush request) (Ok task.Flush)
     ∷ row (is_change request && export.read_only) (Err EPERM)
     ∷ row (not (is_aligned request)) (Err EINVAL)
-    ∷ row ((asks request command.Read || asks request command.Trim) && is_past_end request export) (Err EINVAL)
-    ∷ row ((asks request command.Write || asks request command.WriteZeroes) && is_past_end request export) (Err ENOSPC)
-    ∷ row (asks request command.Read && nat_lt longest_payload request.length) (Err EINVAL)
+    ∷ row ((is_read request || is_trim request) && is_past_end request export) (Err EINVAL)
+    ∷ row ((is_write request || is_write_zeroes request) && is_past_end request export) (Err ENOSPC)
+    ∷ row (is_read request && nat_lt longest_payload request.length) (Err EINVAL)
     ∷ row (request.length == 0) (Ok task.Nothing)
-    ∷ row (asks request command.Read) (Ok (task.Read (first_block request) (blocks request)))
-    ∷ row (asks request command.Write) (Ok (task.Write (first_block request) (blocks request) (has_fua request)))
-    ∷ row (asks request command.Trim || asks request command.WriteZeroes) (Ok (task.Zero (first_block request) (blocks request) (has_fua request)))
+    ∷ row (is_read request) (Ok (task.Read (first_block request) (blocks request)))
+    ∷ row (is_write request)
+    (Ok (task.Write (first_block request) (blocks request) (has_fua request)))
+    ∷ row (is_trim request || is_write_zeroes request)
+    (Ok (task.Zero (first_block request) (blocks request) (has_fua request)))
     ∷ []
 
 -- the blocks are those that the request names, at least one, and lie inside the export

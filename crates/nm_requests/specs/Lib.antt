@@ -4,3 +4,4 @@ pub mod Reader
 pub mod Front
 pub mod Kept
 pub mod Judging
+pub mod FaultText

@@ -14,13 +14,15 @@ abbrev pub most_requests : ℕ
 most_requests = 2 ^ 63
 
 -- behind `before` requests stands one more, and these bytes follow it
-pub record StartsWith (before : ℕ) (bytes : List ℕ) (message : Message) (after : List ℕ) : Type 0 where
+pub record StartsWith (before : ℕ) (bytes : List ℕ) (message : Message) (after : List ℕ)
+    : Type 0 where
   pub whole : bytes ≡ message_bytes message ++ after
   pub valid : IsMessage message
   pub few : before < most_requests
 
 -- behind `before` requests stand these, one after the other, and then the rest
-pub record Begins (before : ℕ) (bytes : List ℕ) (messages : List Message) (rest : List ℕ) : Type 0 where
+pub record Begins (before : ℕ) (bytes : List ℕ) (messages : List Message) (rest : List ℕ)
+    : Type 0 where
   pub whole : bytes ≡ flat_map message_bytes messages ++ rest
   pub valid : AllByRecursion IsMessage messages
   pub few : before + length messages ≤ most_requests
@@ -54,7 +56,8 @@ EndsAs before rest (Some TooLong) = IsTooLong before rest
 EndsAs before rest (Some Memory) = ⊥
 
 -- behind `before` requests the bytes are these, and then the end
-pub record IsStreamBehind (before : ℕ) (bytes : List ℕ) (messages : List Message) (end : Option Fault) : Type 0 where
+pub record IsStreamBehind (before : ℕ) (bytes : List ℕ) (messages : List Message)
+    (end : Option Fault) : Type 0 where
   pub rest : List ℕ
   pub begins : Begins before bytes messages rest
   pub ends : EndsAs (before + length messages) rest end

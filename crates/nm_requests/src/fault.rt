@@ -1,4 +1,5 @@
-ghost use Rattle.std.specs.Prelude.{◌≡◌};
+ghost use Rattle.std.specs.Prelude.{◌≡◌, Some};
+ghost use Rattle.nm_requests.specs.FaultText.{fault_text};
 ghost use Rattle.nm_requests.specs.declared.fault.Fault.TheVariants.{Memory};
 
 use std::alloc::AllocError;
@@ -17,6 +18,8 @@ pub enum Fault {
 }
 
 impl fmt::Display for Fault {
+    ghost output = { λ fault. Some (fault_text fault) };
+
     fn fmt<W: fmt::Write>(&self, f: &mut fmt::Formatter<W>) -> fmt::Result {
         f.write_str(match self {
             Fault::Magic => "a request begins with another magic number",

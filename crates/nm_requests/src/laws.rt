@@ -1,5 +1,5 @@
 //! Laws of the definitions: what the contracts of single calls say, they say of whole streams.
-ghost use Rattle.std.specs.Prelude.{◌≡◌, ◌++◌, ℕ, List, Option, Some, Result};
+ghost use Rattle.std.specs.Prelude.{◌≡◌, ◌++◌, ℕ, List, length, Option, Some, Result};
 ghost use Rattle.nm_wire.specs.declared.export.Export.{Export};
 ghost use Rattle.nm_requests.specs.declared.fault.Fault.{Fault};
 ghost use Rattle.nm_requests.specs.declared.request.Request.{Request};
@@ -43,10 +43,13 @@ pub fn stream_goes_on()
 /// However a stream was cut into pieces and whatever calls of a new reader were made: what was
 /// handed out is the beginning of what was fed, and the reader's state says how that goes on.
 pub fn handed_out_so_far()
-    ensures begins { (reader new : Unread) (calls : List Call) → IsNew reader → Runs reader calls new
-        → Begins 0 (fed calls) (handed_out calls) new.rest }
+    ensures begins { (reader new : Unread) (calls : List Call) → IsNew reader
+        → Runs reader calls new → Begins 0 (fed calls) (handed_out calls) new.rest }
+    ensures count { (reader new : Unread) (calls : List Call) → IsNew reader
+        → Runs reader calls new → new.count ≡ length (handed_out calls) }
     ensures first { (reader new : Unread) (calls : List Call) (messages : List Message)
-        (end : Option Fault) → IsNew reader → Runs reader calls new → IsStream (fed calls) messages end
+        (end : Option Fault) → IsNew reader → Runs reader calls new
+        → IsStream (fed calls) messages end
         → (later : List Message) × (messages ≡ handed_out calls ++ later)
         × IsStreamBehind new.count new.rest later end }
     ensures all { (reader new : Unread) (calls : List Call) (end : Option Fault) → IsNew reader

@@ -76,7 +76,8 @@ impl RequestReader {
     pub fn next(&mut self, _alloc: Global) -> Result<Option<Request>, Fault>
         ensures request { IfOk result (λ found. IfSome found (λ request.
             HandsOut self.old (message_of request) self.new)) }
-        ensures index { IfOk result (λ found. IfSome found (λ request. request.index ≡ self.old.count)) }
+        ensures index { IfOk result (λ found. IfSome found
+            (λ request. request.index ≡ self.old.count)) }
         ensures none { IfOk result (λ found. IfNone found (Starves self.old self.new)) }
         ensures for_good { IfSome self.old.fault (λ fault. result ≡ Err fault) }
         ensures magic { result ≡ Err Fault.Magic → Stops self.old Fault.Magic self.new }

@@ -5,4 +5,5 @@ use Rattle.nm_requests.proofs.front.cut_payload.Goals as goal
 
 pub returns-clause-payload : goal.returns-clause-payload
 returns-clause-payload c =
-    c.advance-2.ensures ∙ ap (drop 28) c.in_ok-request.ensures.front ∙ drop-take 28 c.args.len c.args.buffer.now.items
+    c.advance-2.ensures ∙ ap (drop 28) c.in_ok-request.ensures.front
+    ∙ drop-take 28 c.args.len c.args.buffer.now.items

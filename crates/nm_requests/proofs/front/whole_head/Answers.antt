@@ -5,4 +5,5 @@ use Rattle.nm_requests.proofs.front.whole_head.Goals as goal
 
 pub returns-then-bytes-length-clause-none : goal.returns-then-bytes-length-clause-none
 returns-then-bytes-length-clause-none c =
-    unfinished_from_payload c.args.index c.args.bytes.now c.in-Ok.head c.in-Ok.ensures.ok c.in-Ok.ensures.fits (omega arith) (omega arith) (omega arith)
+    unfinished_from_payload c.args.index c.args.bytes.now c.in-Ok.head c.in-Ok.ensures.ok
+    c.in-Ok.ensures.fits (omega arith) (omega arith) (omega arith)

@@ -6,4 +6,5 @@ returns-clause-later c text more messages others end other a b =
     goes_on 0 text more messages others end other a b
 
 pub returns-clause-stopped : goal.returns-clause-stopped
-returns-clause-stopped c text more messages fault stream = fault_stays 0 text more messages fault stream
+returns-clause-stopped c text more messages fault stream =
+    fault_stays 0 text more messages fault stream

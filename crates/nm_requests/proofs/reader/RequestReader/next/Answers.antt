@@ -7,13 +7,16 @@ use Rattle.nm_requests.specs.Stream.{IsUnfinished}
 use Rattle.nm_requests.proofs.Fronts.{unfinished_from_short}
 use Rattle.nm_requests.proofs.reader.RequestReader.next.Goals as goal
 
-starves_without_buffer : (reader : Inside) → reader.fault ≡ None → reader.buffer ≡ None → Starves (unread_of reader) (unread_of reader)
+starves_without_buffer : (reader : Inside) → reader.fault ≡ None → reader.buffer ≡ None
+    → Starves (unread_of reader) (unread_of reader)
 starves_without_buffer reader going none = record {
   was_open = going;
-  unfinished = let empty : held reader.buffer ≡ [] = rw none refl in rw empty (unfinished_from_short reader.count [] (omega arith));
+  unfinished = let empty : held reader.buffer ≡ [] =
+      rw none refl in rw empty (unfinished_from_short reader.count [] (omega arith));
   unchanged = record { rest = refl; count = refl; fault = refl };
 }
 
 pub returns-in_default-buffer-clause-none : goal.returns-in_default-buffer-clause-none
 returns-in_default-buffer-clause-none c =
-    rw (← c.self.view_is) (starves_without_buffer c.self.inside c.in_default.is c.in_default-buffer.is)
+    rw (← c.self.view_is) (starves_without_buffer c.self.inside c.in_default.is
+    c.in_default-buffer.is)
