@@ -1,0 +1,9 @@
+pub mod Parts
+pub mod Numbers
+pub mod Joined
+pub mod WordLaws
+pub mod StepLaws
+pub mod MirrorLaws
+pub mod LineLaws
+pub mod ScriptLaws
+pub mod Sent

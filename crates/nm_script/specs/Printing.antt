@@ -1,0 +1,60 @@
+-- The lines that are printed.
+use Rattle.std.specs.Prelude.{ℕ, List, [], ◌∷◌, ◌++◌, ◌==◌, Bool, true, false, if◌then◌else◌, length, slice_index, codes, decimal}
+use Rattle.std.specs.List.{flat_map, list_all}
+use Rattle.nm_replay.specs.declared.entry.Kind.{Kind}
+use Rattle.nm_replay.specs.declared.entry.Kind.TheVariants.{Read, Write}
+use Rattle.nm_replay.specs.declared.entry.Entry.{Entry}
+use Rattle.nm_script.specs.declared.outcomes.Fill.{Fill}
+use Rattle.nm_script.specs.declared.outcomes.Fill.TheVariants.{Same, Mixed}
+use Rattle.nm_script.specs.declared.outcomes.Outcome.{Outcome}
+use Rattle.nm_script.specs.declared.outcomes.Outcome.TheVariants.{Begun, Pushed, Complete, Halted, Written, Value}
+use Rattle.nm_script.specs.Grammar.{hex_byte}
+
+-- A line ends with LF.
+abbrev pub ended_line : List ℕ → List ℕ
+ended_line words = words ++ (10 ∷ [])
+
+-- A block's bytes: two digits where all are one, else a word.
+abbrev pub printed_fill : Fill → List ℕ
+printed_fill (Same byte) = hex_byte byte
+printed_fill Mixed = codes "mixed"
+
+-- What is said of an outcome.
+abbrev pub said : Outcome → List ℕ
+said (Begun ticket) = codes "begun " ++ decimal ticket
+said (Pushed owed) = codes "pushed " ++ decimal owed
+said (Complete number) = codes "complete " ++ decimal number
+said Halted = codes "halted"
+said (Written number) = codes "written " ++ decimal number
+said (Value number fill) = codes "value " ++ decimal number ++ codes " " ++ printed_fill fill
+
+-- The line of an outcome.
+abbrev pub printed_outcome : Outcome → List ℕ
+printed_outcome outcome = ended_line (said outcome)
+
+-- The byte that all of a block's bytes are, if there is one.
+abbrev pub fill_of : List ℕ → Fill
+fill_of bytes =
+    if list_all (λ byte. byte == slice_index bytes 0) bytes then Same (slice_index bytes 0) else Mixed
+
+-- What an entry did, and to which write it belongs.
+abbrev pub said_kind : Kind → List ℕ
+said_kind Read = codes " read "
+said_kind (Write ticket) = codes " write " ++ decimal ticket ++ codes " "
+
+-- The line of an entry.
+abbrev pub printed_entry : Entry → List ℕ
+printed_entry e = ended_line (decimal e.seq ++ said_kind e.kind ++ decimal e.block ++ codes " " ++ printed_fill (fill_of e.bytes.0))
+
+-- The line that counts entries: those kept, and all.
+abbrev pub printed_counts : ℕ → ℕ → List ℕ
+printed_counts kept total = ended_line (codes "history " ++ decimal kept ++ codes " of " ++ decimal total)
+
+-- The line that says whether a history is legal.
+abbrev pub printed_legal : Bool → List ℕ
+printed_legal true = ended_line (codes "legal yes")
+printed_legal false = ended_line (codes "legal no")
+
+-- The lines of a history.
+abbrev pub printed_history : List Entry → ℕ → Bool → List ℕ
+printed_history entries total is_legal = printed_counts (length entries) total ++ flat_map printed_entry entries ++ printed_legal is_legal
