@@ -1,0 +1,129 @@
+-- A claim takes a finished write's record away: the write is told its number, and nothing else changes.
+use Rattle.std.proofs.Common.{◌≡◌, ◌≢◌, ◌⊎◌, ⊎_elim, ℕ, ◌+◌, ◌<◌, ◌≤◌, ◌^◌, ◌==◌, max, Bool, true, false, not, IsTrue, List, [], ◌∷◌, ◌++◌, length, Option, None, Some, is_some, refl, sym, ap, ◌∙◌, subst, arith, slice_get, nat_lt, cond, MatchBool, append-nil}
+use Rattle.std.proofs.lemmas.Option.{same_Some}
+use Rattle.std.proofs.lemmas.Bool.Decides.{nat_tests}
+use Rattle.nm_replay.specs.declared.block.Block.{Block}
+use Rattle.nm_fanout.specs.declared.write.Record.{Record}
+use Rattle.nm_fanout.specs.Record.{is_under_way, owes}
+use Rattle.nm_fanout.specs.Records.{find_record, busy_on, unlanded, without}
+use Rattle.nm_fanout.proofs.InOrder.{AreInOrder-without}
+use Rattle.nm_leg.specs.Leg.{Leg}
+use Rattle.nm_stripe.specs.Lives.{WriteLife, Unborn, Landed, Told, WriteLives, RepliesWrite}
+use Rattle.nm_replay.specs.Kept.{KeptHistory}
+use Rattle.nm_fanout.specs.Records.{RecordTable}
+use Rattle.nm_stripe.specs.declared.at.At.{At}
+use Rattle.nm_stripe.specs.State.{StripeState, state_of, write_life, read_life, life_of, recorded_life, written}
+use Rattle.nm_stripe.specs.Invariant.{HasLegs, HasRecords, HasNumbers, LegsAgree, Keeps}
+use Rattle.nm_stripe.specs.Headline.{Acts}
+use Rattle.nm_stripe.proofs.ArrayLemmas.{array_is_master}
+use Rattle.nm_stripe.proofs.OwedLemmas.{finished_owes}
+use Rattle.nm_stripe.proofs.RecordLemmas.{same, one_or_two, without_cases, find-without_same, find-without_other, found_below, below-without, unlanded-without, busy_found, busy_none}
+
+-- the stripe without the record of this ticket
+abbrev pub after_claim : {L : Type 0} → StripeState L → ℕ → StripeState L
+after_claim old ticket = record old { records = without ticket old.records }
+
+-- a record that has its entry has a number
+pub has_number : (e : Option ℕ) → is_some e ≡ true → (n : ℕ) × (e ≡ Some n)
+has_number None h = absurd (cc)
+has_number (Some n) h = (n, refl)
+
+module _ {L : Type 0} (held : L → Leg) (honest : Bool) (old : StripeState L) (ticket : ℕ) (r : Record) (k : Keeps held honest old) (found : find_record ticket old.records ≡ Some r) (over : is_under_way r ≡ false) where
+  -- a finished write has landed
+  pub finished_landed : (n : ℕ) × (r.entry ≡ Some n)
+  finished_landed = has_number r.entry (k.records.landed ticket r found ∙ ap (λ b. not b) (finished_owes old.master r over))
+
+  claim-records : HasRecords (after_claim old ticket)
+  claim-records = record {
+    in_order = AreInOrder-without ticket old.records k.records.in_order;
+    tickets = below-without old.tickets ticket old.records k.records.tickets;
+    one_write = λ t u x y at_t at_u going_t going_u same_block. k.records.one_write t u x y (without_cases ticket t old.records x at_t).1 (without_cases ticket u old.records y at_u).1 going_t going_u same_block;
+    inside = λ t x at. k.records.inside t x (without_cases ticket t old.records x at).1;
+    landed = λ t x at. k.records.landed t x (without_cases ticket t old.records x at).1;
+    owed = λ t x leg at owes_leg. k.records.owed t x leg (without_cases ticket t old.records x at).1 owes_leg;
+  }
+
+  -- what was under way on a block still is
+  none_before : (b : ℕ) → busy_on b (without ticket old.records) ≡ None → busy_on b old.records ≡ None
+  none_before b none =
+      (elim (busy_on b old.records) as (λ o. busy_on b old.records ≡ o → o ≡ None) [
+        | None ↦ λ on. refl
+        | Some q ↦ λ on.
+            let at = busy_found b old.records q k.records.in_order.ascending on in
+            ⊎_elim
+            (λ is. absurd (
+            let one : q ≡ r = same_Some q r (sym at.0 ∙ subst (λ (t : ℕ). find_record t old.records ≡ Some r) (sym is) found) in
+            let going : is_under_way r ≡ true = subst (λ (z : Record). is_under_way z ≡ true) one at.2 in
+            let clash : true ≡ false = sym going ∙ over in
+            cc))
+            (λ other. absurd (busy_none b q.ticket (without ticket old.records) q none (find-without_other ticket q.ticket old.records other ∙ at.0) at.1 at.2))
+            (one_or_two q.ticket ticket)
+      ]) refl
+
+  claim-legs : HasLegs held (after_claim old ticket)
+  claim-legs = record { few = k.legs.few; master = k.legs.master; lengths = k.legs.lengths }
+
+  claim-agrees : LegsAgree held old → LegsAgree held (after_claim old ticket)
+  claim-agrees agree = record {
+    reached = λ t x leg at going free inside. agree.reached t x leg (without_cases ticket t old.records x at).1 going free inside;
+    alike = λ leg b inside none. agree.alike leg b inside (none_before b none);
+    last = agree.last;
+  }
+
+  pub claim-keeps : Keeps held honest (after_claim old ticket)
+  claim-keeps =
+      let n = finished_landed in
+      record {
+        legs = claim-legs;
+        records = claim-records;
+        numbers = record {
+          numbered = k.numbers.numbered;
+          total = k.numbers.total;
+          given = omega (arith, k.numbers.given, unlanded-without ticket old.records r n.0 k.records.in_order.ascending found n.1);
+          left = omega (arith, k.numbers.left, unlanded-without ticket old.records r n.0 k.records.in_order.ascending found n.1);
+        };
+        consistent = k.consistent;
+        agrees = λ is_honest runs. claim-agrees (k.agrees is_honest runs);
+      }
+
+  claim-lives : (n : ℕ) → r.entry ≡ Some n → (t : ℕ) → WriteLives t (write_life old t) (RepliesWrite ticket n ∷ []) (write_life (after_claim old ticket) t)
+  claim-lives n number t = (
+    write_life (after_claim old ticket) t,
+    (elim (ticket == t) as (λ b. (ticket == t) ≡ b → MatchBool b ((write_life old t ≡ Landed n) × (write_life (after_claim old ticket) t ≡ Told)) (write_life (after_claim old ticket) t ≡ write_life old t)) [
+      | true ↦ λ eq.
+          let at : ticket ≡ t = same ticket t eq in
+          let below = found_below old.tickets ticket old.records r k.records.tickets found in
+          let given : nat_lt t old.tickets ≡ true = grind (arith, nat_tests) in
+          let was : find_record t old.records ≡ Some r = subst (λ (u : ℕ). find_record u old.records ≡ Some r) at found in
+          let now : find_record t (without ticket old.records) ≡ None = subst (λ (u : ℕ). find_record u (without ticket old.records) ≡ None) at (find-without_same ticket old.records) in (
+            ap (λ b. cond b (life_of (find_record t old.records)) Unborn) given ∙ ap (λ o. life_of o) was ∙ ap (λ e. recorded_life e r.block (written r)) number,
+            ap (λ b. cond b (life_of (find_record t (without ticket old.records))) Unborn) given ∙ ap (λ o. life_of o) now,
+          )
+      | false ↦ λ ne.
+          let other : t ≢ ticket = λ e. let yes : (ticket == t) ≡ true = grind (arith, nat_tests) in let clash : true ≡ false = sym yes ∙ ne in cc in
+          ap (λ o. cond (nat_lt t old.tickets) (life_of o) Unborn) (find-without_other ticket t old.records other)
+    ]) refl,
+    refl,
+  )
+
+  pub claim-acts : IsTrue honest → old.stopped ≡ false → (n : ℕ) → r.entry ≡ Some n → Acts held old (after_claim old ticket) (RepliesWrite ticket n ∷ [])
+  claim-acts is_honest runs n number =
+      let agree = k.agrees is_honest runs in
+      let before = array_is_master held old k.legs k.records agree in
+      let after = array_is_master held (after_claim old ticket) claim-legs claim-records (claim-agrees agree) in
+      record {
+        explained = record {
+          legal = after ∙ sym before;
+          each_write = claim-lives n number;
+          each_read = λ m. (read_life old m, refl, refl);
+        };
+        kept = sym (append-nil old.kept);
+        total = omega arith;
+        first = refl;
+      }
+
+-- the fields of a stripe after a claim are the state after it
+pub claimed-state : {L : Type 0} (place : At) (parts : List L) (master : ℕ) (table table' : RecordTable) (tickets : ℕ) (history : KeptHistory) (first : ℕ) (stopped : Bool) (ticket : ℕ)
+    → table'.list ≡ without ticket table.list
+    → state_of place parts master table' tickets history first stopped ≡ after_claim (state_of place parts master table tickets history first stopped) ticket
+claimed-state place parts master table table' tickets history first stopped ticket list = rw list refl

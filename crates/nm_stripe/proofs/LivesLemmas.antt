@@ -1,0 +1,28 @@
+-- Lives go on: what holds of two runs of events holds of one run after the other.
+use Rattle.std.proofs.Common.{◌≡◌, ℕ, ◌+◌, List, [], ◌∷◌, ◌++◌, refl, ap, sym, ◌∙◌, subst}
+use Rattle.nm_replay.specs.declared.entry.Entry.{Entry}
+use Rattle.nm_stripe.specs.Lives.{Event, BeginsRead, BeginsWrite, Lands, RepliesRead, RepliesWrite, WriteLife, ReadLife, WriteLives, ReadLives, entries_of, marks_of}
+
+pub entries_of-append : (es fs : List Event) → entries_of (es ++ fs) ≡ entries_of es ++ entries_of fs
+entries_of-append [] fs = refl
+entries_of-append (BeginsRead n b ∷ es) fs = entries_of-append es fs
+entries_of-append (BeginsWrite t b v ∷ es) fs = entries_of-append es fs
+entries_of-append (Lands e ∷ es) fs = ap (λ (xs : List Entry). e ∷ xs) (entries_of-append es fs)
+entries_of-append (RepliesRead n v ∷ es) fs = entries_of-append es fs
+entries_of-append (RepliesWrite t n ∷ es) fs = entries_of-append es fs
+
+pub marks_of-append : (es fs : List Event) → marks_of (es ++ fs) ≡ marks_of es ++ marks_of fs
+marks_of-append [] fs = refl
+marks_of-append (BeginsRead n b ∷ es) fs = ap (λ (xs : List Event). BeginsRead n b ∷ xs) (marks_of-append es fs)
+marks_of-append (BeginsWrite t b v ∷ es) fs = ap (λ (xs : List Event). BeginsWrite t b v ∷ xs) (marks_of-append es fs)
+marks_of-append (Lands e ∷ es) fs = marks_of-append es fs
+marks_of-append (RepliesRead n v ∷ es) fs = ap (λ (xs : List Event). RepliesRead n v ∷ xs) (marks_of-append es fs)
+marks_of-append (RepliesWrite t n ∷ es) fs = ap (λ (xs : List Event). RepliesWrite t n ∷ xs) (marks_of-append es fs)
+
+pub WriteLives-append : (t : ℕ) (old mid new : WriteLife) (es fs : List Event) → WriteLives t old es mid → WriteLives t mid fs new → WriteLives t old (es ++ fs) new
+WriteLives-append t old mid new [] fs p q = subst (λ w. WriteLives t w fs new) p q
+WriteLives-append t old mid new (e ∷ es) fs p q = (p.0, p.1, WriteLives-append t p.0 mid new es fs p.2 q)
+
+pub ReadLives-append : (n : ℕ) (old mid new : ReadLife) (es fs : List Event) → ReadLives n old es mid → ReadLives n mid fs new → ReadLives n old (es ++ fs) new
+ReadLives-append n old mid new [] fs p q = subst (λ w. ReadLives n w fs new) p q
+ReadLives-append n old mid new (e ∷ es) fs p q = (p.0, p.1, ReadLives-append n p.0 mid new es fs p.2 q)

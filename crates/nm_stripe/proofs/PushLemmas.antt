@@ -1,0 +1,121 @@
+-- A push: at the master the write takes effect, at every other leg nothing is seen of it.
+use Rattle.std.proofs.Common.{◌≡◌, ◌≢◌, ◌⊎◌, ⊎_elim, inl, inr, ℕ, ◌+◌, ◌<◌, ◌≤◌, ◌^◌, ◌==◌, max, Bool, true, false, not, IsTrue, List, [], ◌∷◌, ◌++◌, length, Option, None, Some, is_some, refl, sym, ap, ◌∙◌, subst, arith, slice_get, slice_set, nat_lt, cond, MatchBool, append-nil, length-append}
+use Rattle.std.proofs.lemmas.Bool.Decides.{nat_tests}
+use Rattle.nm_replay.specs.declared.block.Block.{Block}
+use Rattle.nm_replay.specs.declared.entry.Kind.TheVariants.{Write}
+use Rattle.nm_replay.specs.declared.entry.Entry.{Entry}
+use Rattle.nm_replay.specs.History.{NumberedFrom, Consistent, EndsIn}
+use Rattle.nm_replay.proofs.Arrays.{slice_get-set_same, slice_get-set_other}
+use Rattle.nm_replay.proofs.Numbering.{numbered-append}
+use Rattle.nm_fanout.specs.declared.payload.Data.{Data}
+use Rattle.nm_fanout.specs.declared.write.Record.{Record}
+use Rattle.nm_fanout.specs.Data.{bytes_of}
+use Rattle.nm_fanout.specs.Record.{is_under_way, owes, without_leg, with_entry}
+use Rattle.nm_fanout.specs.Records.{AreInOrder, find_record, unlanded, changed, reached, landed}
+use Rattle.nm_fanout.proofs.InOrder.{AreInOrder-reached, AreInOrder-landed}
+use Rattle.nm_leg.specs.Leg.{Leg, block_of}
+use Rattle.nm_leg.specs.Parts.{WritesPart}
+use Rattle.nm_stripe.specs.Lives.{WriteLife, Unborn, Begun, Landed, WriteLives, ReadLife, Unasked, Over, ReadLives, Lands}
+use Rattle.nm_stripe.specs.State.{StripeState, next_number, contents_of, stripe_array, write_life, read_life, life_of, recorded_life, written}
+use Rattle.nm_stripe.specs.Steps.{after_reach, after_landing, write_entry}
+use Rattle.nm_stripe.specs.Invariant.{HasLegs, HasRecords, HasNumbers, LegsAgree, Keeps}
+use Rattle.nm_stripe.specs.Headline.{Explained, Acts}
+use Rattle.nm_stripe.proofs.ArrayLemmas.{array_is_master, landed_reached}
+use Rattle.nm_stripe.proofs.HistoryLemmas.{consistent-write, ends-push}
+use Rattle.nm_stripe.proofs.LegLemmas.{writes-contents, writes-other, writes-other_block}
+use Rattle.nm_stripe.proofs.OwedLemmas.{reached_owes_same, reached_owes_other}
+use Rattle.nm_stripe.proofs.ReachLemmas.{Reaches, moved, moved-legs, moved-records, moved-agrees}
+use Rattle.nm_stripe.proofs.RecordLemmas.{same, one_or_two, find-changed_same, find-changed_other, found_below, unlanded-changed, unlanded-landed}
+
+-- a leg is reached, and the entry comes
+abbrev pub landing : ℕ → ℕ → Record → Record
+landing number leg r = with_entry number (without_leg leg r)
+
+pub without-reaches : (leg : ℕ) → Reaches leg (without_leg leg)
+without-reaches leg = record { ticket = λ r. refl; block = λ r. refl; bytes = λ r. refl; owed = λ r. refl }
+
+pub landing-reaches : (number leg : ℕ) → Reaches leg (landing number leg)
+landing-reaches number leg = record { ticket = λ r. refl; block = λ r. refl; bytes = λ r. refl; owed = λ r. refl }
+
+-- two changes of one record are one
+pub changed-twice : (number leg t : ℕ) (rs : List Record) → landed t number (reached t leg rs) ≡ changed (landing number leg) t rs
+changed-twice number leg t [] = refl
+changed-twice number leg t (q ∷ rs) =
+    (elim (q.ticket == t) as (λ b. (q.ticket == t) ≡ b → landed t number (cond b (without_leg leg q) q ∷ reached t leg rs) ≡ cond b (landing number leg q) q ∷ changed (landing number leg) t rs) [
+      | true ↦ λ is. rw is (ap (λ xs. landing number leg q ∷ xs) (changed-twice number leg t rs))
+      | false ↦ λ is. rw is (ap (λ xs. q ∷ xs) (changed-twice number leg t rs))
+    ]) refl
+
+-- what is owed has not landed at the master
+pub not_landed : (e : Option ℕ) → is_some e ≡ false → e ≡ None
+not_landed None h = refl
+not_landed (Some n) h = cc
+
+module _ {L : Type 0} (held : L → Leg) (honest : Bool) (old : StripeState L) (parts : List L) (r : Record) (leg : ℕ) where
+  -- what is known where a write has reached a leg that it owed
+  pub record Reached : Type 0 where
+    pub keeps : Keeps held honest old
+    pub runs : old.stopped ≡ false
+    pub found : find_record r.ticket old.records ≡ Some r
+    pub owed : owes leg r ≡ true
+    pub writes : WritesPart held honest true leg r.block (bytes_of r.data) old.parts parts
+
+  -- at a leg that is not the master
+  module _ (c : Reached) (ne : old.master ≢ leg) where
+    reach-records : HasRecords (after_reach old parts r leg)
+    reach-records =
+        moved-records held honest old parts r leg (without_leg leg) old.kept old.total (without-reaches leg) c.keeps.records c.writes c.found
+        (AreInOrder-reached r.ticket leg old.records c.keeps.records.in_order)
+        (c.keeps.records.landed r.ticket r c.found ∙ ap (λ b. not b) (sym (reached_owes_other leg old.master r ne)))
+
+    reach-legs : HasLegs held (after_reach old parts r leg)
+    reach-legs = moved-legs held honest old parts r leg (without_leg leg) old.kept old.total c.keeps.legs c.writes
+
+    reach-master : contents_of held parts old.master ≡ contents_of held old.parts old.master
+    reach-master = writes-other held honest true old.parts parts leg r.block old.master (bytes_of r.data) c.writes ne
+
+    reach-agrees : IsTrue honest → LegsAgree held (after_reach old parts r leg)
+    reach-agrees is_honest =
+        let agree = c.keeps.agrees is_honest c.runs in
+        moved-agrees held honest old parts r leg (without_leg leg) old.kept old.total (without-reaches leg) is_honest c.keeps.legs c.keeps.records agree c.writes c.found c.owed
+        (subst (λ xs. EndsIn old.kept xs) (sym reach-master) agree.last)
+
+    pub reach-keeps : Keeps held honest (after_reach old parts r leg)
+    reach-keeps = record {
+      legs = reach-legs;
+      records = reach-records;
+      numbers = record {
+        numbered = c.keeps.numbers.numbered;
+        total = c.keeps.numbers.total;
+        given = omega (arith, c.keeps.numbers.given, unlanded-changed (without_leg leg) (λ x. refl) r.ticket old.records);
+        left = omega (arith, c.keeps.numbers.left, unlanded-changed (without_leg leg) (λ x. refl) r.ticket old.records);
+      };
+      consistent = c.keeps.consistent;
+      agrees = λ is_honest runs. reach-agrees is_honest;
+    }
+
+    reach-lives : (t : ℕ) → write_life (after_reach old parts r leg) t ≡ write_life old t
+    reach-lives t =
+        ap (λ (w : WriteLife). cond (nat_lt t old.tickets) w Unborn)
+        (⊎_elim
+        (λ is.
+        let at : find_record t (reached r.ticket leg old.records) ≡ Some (without_leg leg r) = subst (λ (u : ℕ). find_record u (reached r.ticket leg old.records) ≡ Some (without_leg leg r)) (sym is) (find-changed_same (without_leg leg) (λ x. refl) r.ticket old.records r c.found) in
+        let was : find_record t old.records ≡ Some r = subst (λ (u : ℕ). find_record u old.records ≡ Some r) (sym is) c.found in
+        ap (λ o. life_of o) at ∙ ap (λ o. life_of o) (sym was))
+        (λ other. ap (λ o. life_of o) (find-changed_other (without_leg leg) (λ x. refl) r.ticket t old.records other))
+        (one_or_two t r.ticket))
+
+    pub reach-acts : IsTrue honest → Acts held old (after_reach old parts r leg) []
+    reach-acts is_honest =
+        let before = array_is_master held old c.keeps.legs c.keeps.records (c.keeps.agrees is_honest c.runs) in
+        let after = array_is_master held (after_reach old parts r leg) reach-legs reach-records (reach-agrees is_honest) in
+        record {
+          explained = record {
+            legal = after ∙ reach-master ∙ sym before;
+            each_write = reach-lives;
+            each_read = λ n. refl;
+          };
+          kept = sym (append-nil old.kept);
+          total = omega arith;
+          first = refl;
+        }

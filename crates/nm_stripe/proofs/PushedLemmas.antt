@@ -1,0 +1,116 @@
+-- A push, from the fields of a stripe to the state after it.
+use Rattle.std.proofs.Common.{◌≡◌, ◌≢◌, ◌⊎◌, ⊎_elim, ℕ, ◌+◌, ◌<◌, ◌≤◌, ◌==◌, Bool, true, false, not, IsTrue, List, [], ◌∷◌, ◌++◌, length, Option, None, Some, IsSome, is_some, refl, sym, ap, ◌∙◌, subst, arith, slice_get, cond, eq-eqb, ne_eqb}
+use Rattle.std.proofs.lemmas.Option.{same_Some, slice_get_within}
+use Rattle.nm_replay.specs.declared.entry.Entry.{Entry}
+use Rattle.nm_replay.specs.Kept.{KeptHistory}
+use Rattle.nm_fanout.specs.declared.write.Record.{Record}
+use Rattle.nm_fanout.specs.Data.{bytes_of, FillsBlock}
+use Rattle.nm_fanout.specs.Record.{is_under_way, owes, without_leg, with_entry, IsWhole}
+use Rattle.nm_fanout.specs.Records.{RecordTable, AreInOrder, find_record, unlanded, changed, reached, landed}
+use Rattle.nm_fanout.proofs.Members.{find_record-whole}
+use Rattle.nm_leg.specs.Leg.{Leg}
+use Rattle.nm_leg.specs.Parts.{HasBlock, EachHas, WritesPart}
+use Rattle.nm_stripe.specs.declared.at.At.{At}
+use Rattle.nm_stripe.specs.Lives.{Event, Lands}
+use Rattle.nm_stripe.specs.State.{StripeState, next_number, contents_of, contents_at, state_of}
+use Rattle.nm_stripe.specs.Causes.{push_cause}
+use Rattle.nm_stripe.specs.Steps.{after_reach, after_landing, after_push, write_entry, Pushes, Halts, IsReached, Reaches}
+use Rattle.nm_stripe.specs.declared.push.Reach.{Reach}
+use Rattle.nm_stripe.specs.declared.push.Reach.TheVariants.{Pushed, Complete, Halted}
+use Rattle.nm_stripe.specs.Invariant.{HasLegs, HasRecords, HasNumbers, LegsAgree, Keeps, IsStripe}
+use Rattle.nm_stripe.specs.Headline.{Acts, ShowsMarks, ReachShowsNothing}
+use Rattle.nm_stripe.proofs.CauseLemmas.{may_push}
+use Rattle.nm_stripe.proofs.HaltLemmas.{halt-keeps}
+use Rattle.nm_stripe.proofs.PushLemmas.{Reached, reach-keeps, reach-acts, landing, changed-twice, not_landed}
+use Rattle.nm_stripe.proofs.LandLemmas.{land-keeps, land-acts}
+use Rattle.nm_stripe.proofs.RecordLemmas.{found_ticket, find-changed_same, unlanded-changed, unlanded-landed}
+
+-- each leg of a stripe has each of its blocks
+pub has-block : {L : Type 0} (held : L → Leg) (stripe : StripeState L) (leg at : ℕ) → HasLegs held stripe → leg < length stripe.parts → at < stripe.place.blocks → HasBlock held stripe.parts leg at
+has-block held stripe leg at legs inside low part here =
+    omega (arith, legs.lengths leg inside, low, ap (λ o. length (contents_at held o)) here)
+
+module _ {L : Type 0} (held : L → Leg) (honest succeeded : Bool) (old : StripeState L) (ticket leg : ℕ) (parts : List L) (r : Record) where
+  -- what is known once a push has called its leg
+  pub record Called : Type 0 where
+    pub keeps : Keeps held honest old
+    pub no_cause : push_cause old ticket leg ≡ None
+    pub found : find_record ticket old.records ≡ Some r
+    pub writes : WritesPart held honest succeeded leg r.block (bytes_of r.data) old.parts parts
+
+  called_ticket : Called → r.ticket ≡ ticket
+  called_ticket c = found_ticket ticket old.records r c.found
+
+module _ {L : Type 0} (held : L → Leg) (honest : Bool) (old : StripeState L) (ticket leg : ℕ) (parts : List L) (r : Record) (c : Called held honest true old ticket leg parts r) where
+  same_ticket : r.ticket ≡ ticket
+  same_ticket = found_ticket ticket old.records r c.found
+
+  pub was_reached : Reached held honest old parts r leg
+  was_reached =
+      let may = may_push old ticket leg c.no_cause in
+      record {
+        keeps = c.keeps;
+        runs = may.runs;
+        found = subst (λ (t : ℕ). find_record t old.records ≡ Some r) (sym same_ticket) c.found;
+        owed = subst (λ (x : Record). owes leg x ≡ true) (same_Some may.pushed r (sym may.found ∙ c.found)) may.owed;
+        writes = c.writes;
+      }
+
+  -- the stripe after the push, at another leg than the master
+  pub reach-pushes : old.master ≢ leg → Pushes held honest old (after_reach old parts r leg) ticket leg
+  reach-pushes ne = record {
+    no_cause = c.no_cause;
+    pushed = r;
+    found = c.found;
+    writes = c.writes;
+    after = ap (λ b. cond b (after_landing old parts r leg) (after_reach old parts r leg)) (sym (ne_eqb leg old.master (λ e. ne (sym e))));
+  }
+
+  -- and at the master
+  pub land-pushes : leg ≡ old.master → Pushes held honest old (after_landing old parts r leg) ticket leg
+  land-pushes is = record {
+    no_cause = c.no_cause;
+    pushed = r;
+    found = c.found;
+    writes = c.writes;
+    after = ap (λ b. cond b (after_landing old parts r leg) (after_reach old parts r leg)) (sym (eq-eqb leg old.master is));
+  }
+
+  -- its record is still there
+  pub reach-found : find_record ticket (reached ticket leg old.records) ≡ Some (without_leg leg r)
+  reach-found = find-changed_same (without_leg leg) (λ x. refl) ticket old.records r c.found
+
+  pub land-found : find_record ticket (landed ticket (next_number old) (reached ticket leg old.records)) ≡ Some (with_entry (next_number old) (without_leg leg r))
+  land-found = find-changed_same (with_entry (next_number old)) (λ x. refl) ticket (reached ticket leg old.records) (without_leg leg r) reach-found
+
+  -- a write that still owes the master waits for its entry
+  pub still_waits : leg ≡ old.master → unlanded (landed ticket (next_number old) (reached ticket leg old.records)) + 1 ≡ unlanded old.records
+  still_waits is =
+      let w = was_reached in
+      let none : r.entry ≡ None = not_landed r.entry (c.keeps.records.landed ticket r c.found ∙ ap (λ b. not b) (subst (λ (i : ℕ). owes i r ≡ true) is w.owed)) in
+      omega (arith, ap (λ rs. unlanded rs) (changed-twice (next_number old) leg ticket old.records), unlanded-landed (landing (next_number old) leg) ticket old.records r (next_number old) c.keeps.records.in_order.ascending c.found none refl)
+
+-- the fields of a stripe after a push are the state after it
+pub reached-state : {L : Type 0} (place : At) (parts parts' : List L) (master : ℕ) (table table' : RecordTable) (tickets : ℕ) (history : KeptHistory) (first : ℕ) (stopped : Bool) (ticket leg : ℕ) (r : Record)
+    → r.ticket ≡ ticket → table'.list ≡ reached ticket leg table.list
+    → state_of place parts' master table' tickets history first stopped ≡ after_reach (state_of place parts master table tickets history first stopped) parts' r leg
+reached-state place parts parts' master table table' tickets history first stopped ticket leg r is list = rw (is, list) refl
+
+pub landed-state : {L : Type 0} (place : At) (parts parts' : List L) (master : ℕ) (table table' : RecordTable) (tickets : ℕ) (history history' : KeptHistory) (first : ℕ) (stopped : Bool) (ticket leg : ℕ) (r : Record)
+    → r.ticket ≡ ticket → table'.list ≡ landed ticket (first + history.total) (reached ticket leg table.list)
+    → history'.entries ≡ history.entries ++ write_entry (first + history.total) r ∷ [] → history'.total ≡ history.total + 1
+    → state_of place parts' master table' tickets history' first stopped ≡ after_landing (state_of place parts master table tickets history first stopped) parts' r leg
+landed-state place parts parts' master table table' tickets history history' first stopped ticket leg r is list entries total =
+    let same_list : table'.list ≡ landed r.ticket (first + history.total) (reached r.ticket leg table.list) = subst (λ (t : ℕ). table'.list ≡ landed t (first + history.total) (reached t leg table.list)) (sym is) list in
+    rw (same_list, entries, total) refl
+
+-- what a push that reached its leg tells goes with what it did
+pub told-reach : {L : Type 0} (held : L → Leg) (honest : Bool) (old new : StripeState L) (ticket leg : ℕ) (told : Reach) → Pushes held honest old new ticket leg → IsReached new ticket told → Reaches held honest old new ticket leg told
+told-reach held honest old new ticket leg (Pushed count) pushes is = (pushes, is)
+told-reach held honest old new ticket leg (Complete number) pushes is = (pushes, is)
+told-reach held honest old new ticket leg Halted pushes is = absurd is
+
+pub shows-reach : {L : Type 0} (held : L → Leg) (old new : StripeState L) (told : Reach) → ShowsMarks held [] old new → ReachShowsNothing held old new told
+shows-reach held old new (Pushed count) shows = shows
+shows-reach held old new (Complete number) shows = shows
+shows-reach held old new Halted shows = tt

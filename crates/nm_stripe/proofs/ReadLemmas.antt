@@ -1,0 +1,166 @@
+-- A read: it begins, finds its bytes at the entry that it gets, and is told them.
+use Rattle.std.proofs.Common.{◌≡◌, ◌≢◌, ◌⊎◌, ⊎_elim, ℕ, ◌+◌, ◌<◌, ◌≤◌, ◌^◌, ◌==◌, max, Bool, true, false, not, IsTrue, List, [], ◌∷◌, ◌++◌, length, Option, None, Some, is_some, refl, sym, ap, ◌∙◌, subst, arith, slice_get, nat_lt, cond, MatchBool, append-nil, length-append}
+use Rattle.std.proofs.lemmas.Bool.Decides.{nat_tests}
+use Rattle.nm_replay.specs.declared.block.Block.{Block}
+use Rattle.nm_replay.specs.declared.entry.Entry.{Entry}
+use Rattle.nm_replay.specs.History.{EndsIn}
+use Rattle.nm_replay.proofs.Numbering.{numbered-append}
+use Rattle.nm_fanout.specs.Records.{find_record, unlanded}
+use Rattle.nm_leg.specs.Leg.{Leg}
+use Rattle.nm_leg.specs.Parts.{ReadsPart}
+use Rattle.nm_stripe.specs.Lives.{Event, WriteLife, WriteLives, ReadLife, Unasked, Asked, Found, Over, ReadLives, BeginsRead, Lands, RepliesRead}
+use Rattle.nm_replay.specs.Kept.{KeptHistory}
+use Rattle.nm_fanout.specs.Records.{RecordTable}
+use Rattle.nm_stripe.specs.declared.at.At.{At}
+use Rattle.nm_stripe.specs.State.{StripeState, state_of, next_number, contents_of, stripe_array, write_life, read_life}
+use Rattle.nm_stripe.specs.Steps.{after_read, read_entry}
+use Rattle.nm_stripe.specs.Invariant.{HasLegs, HasRecords, HasNumbers, LegsAgree, Keeps}
+use Rattle.nm_stripe.specs.Headline.{Acts}
+use Rattle.nm_stripe.proofs.ArrayLemmas.{array_is_master}
+use Rattle.nm_stripe.proofs.CauseLemmas.{MayRead}
+use Rattle.nm_stripe.proofs.HistoryLemmas.{consistent-read, ends-push}
+use Rattle.nm_stripe.proofs.LegLemmas.{calls-length, calls-lengths, reads-contents, reads-found}
+use Rattle.nm_stripe.proofs.RecordLemmas.{same, one_or_two}
+
+-- what is seen of a read: its begin, its entry and its reply
+abbrev pub read_events : ℕ → ℕ → Block → List Event
+read_events number block bytes =
+    BeginsRead number block ∷ Lands (read_entry number block bytes) ∷ RepliesRead number bytes ∷ []
+
+-- the stripe with these legs and this history in place of its own
+abbrev pub with_read : {L : Type 0} → StripeState L → List L → List Entry → ℕ → StripeState L
+with_read old parts kept total = record old { parts = parts; kept = kept; total = total }
+
+module _ {L : Type 0} (held : L → Leg) (honest succeeded : Bool) (old : StripeState L) (parts : List L) (block : ℕ) (target bytes : Block) (k : Keeps held honest old) (reads : ReadsPart held honest succeeded old.master block old.parts parts target bytes) where
+  pub read-legs : (kept : List Entry) (total : ℕ) → HasLegs held (with_read old parts kept total)
+  read-legs kept total =
+      let same_count : length parts ≡ length old.parts = calls-length held old.parts parts old.master reads.before reads.after reads.part in
+      record {
+        few = omega (arith, k.legs.few, same_count);
+        master = omega (arith, k.legs.master, same_count);
+        lengths = λ j inside. calls-lengths held succeeded old.parts parts old.master j reads.before reads.after reads.part reads.reads.calls ∙ k.legs.lengths j (omega (arith, inside, same_count));
+      }
+
+  pub read-records : (kept : List Entry) (total : ℕ) → HasRecords (with_read old parts kept total)
+  read-records kept total =
+      let same_count : length parts ≡ length old.parts = calls-length held old.parts parts old.master reads.before reads.after reads.part in
+      record {
+        in_order = k.records.in_order;
+        tickets = k.records.tickets;
+        one_write = k.records.one_write;
+        inside = k.records.inside;
+        landed = k.records.landed;
+        owed = λ t x j at owes_j. omega (arith, k.records.owed t x j at owes_j, same_count);
+      }
+
+  read-same : IsTrue honest → (j : ℕ) → contents_of held parts j ≡ contents_of held old.parts j
+  read-same is_honest j = reads-contents held honest succeeded old.parts parts old.master block j target bytes is_honest reads
+
+  pub read-agrees : IsTrue honest → LegsAgree held old → (kept : List Entry) (total : ℕ) → EndsIn kept (contents_of held old.parts old.master) → LegsAgree held (with_read old parts kept total)
+  read-agrees is_honest agree kept total last =
+      let same_count : length parts ≡ length old.parts = calls-length held old.parts parts old.master reads.before reads.after reads.part in
+      record {
+        reached = λ t x j at going free inside. ap (λ xs. slice_get xs x.block) (read-same is_honest j) ∙ agree.reached t x j at going free (omega (arith, inside, same_count));
+        alike = λ j b inside none. ap (λ xs. slice_get xs b) (read-same is_honest j) ∙ agree.alike j b (omega (arith, inside, same_count)) none ∙ ap (λ xs. slice_get xs b) (sym (read-same is_honest old.master));
+        last = subst (λ xs. EndsIn kept xs) (sym (read-same is_honest old.master)) last;
+      }
+
+  -- a read that failed
+  pub fails-keeps : Keeps held honest (record old { parts = parts })
+  fails-keeps = record {
+    legs = read-legs old.kept old.total;
+    records = read-records old.kept old.total;
+    numbers = record { numbered = k.numbers.numbered; total = k.numbers.total; given = k.numbers.given; left = k.numbers.left };
+    consistent = k.consistent;
+    agrees = λ is_honest runs. let agree = k.agrees is_honest runs in read-agrees is_honest agree old.kept old.total agree.last;
+  }
+
+  pub fails-acts : IsTrue honest → old.stopped ≡ false → Acts held old (record old { parts = parts }) []
+  fails-acts is_honest runs =
+      let agree = k.agrees is_honest runs in
+      let before = array_is_master held old k.legs k.records agree in
+      let after = array_is_master held (with_read old parts old.kept old.total) (read-legs old.kept old.total) (read-records old.kept old.total) (read-agrees is_honest agree old.kept old.total agree.last) in
+      record {
+        explained = record {
+          legal = after ∙ read-same is_honest old.master ∙ sym before;
+          each_write = λ t. refl;
+          each_read = λ n. refl;
+        };
+        kept = sym (append-nil old.kept);
+        total = omega arith;
+        first = refl;
+      }
+
+module _ {L : Type 0} (held : L → Leg) (honest : Bool) (old : StripeState L) (parts : List L) (block : ℕ) (target bytes : Block) (k : Keeps held honest old) (may : MayRead old) (reads : ReadsPart held honest true old.master block old.parts parts target bytes) where
+  read_at : IsTrue honest → slice_get (contents_of held old.parts old.master) block ≡ Some bytes
+  read_at is_honest = reads-found held honest old.parts parts old.master block target bytes is_honest reads
+
+  read-ends : IsTrue honest → EndsIn (old.kept ++ read_entry (next_number old) block bytes ∷ []) (contents_of held old.parts old.master)
+  read-ends is_honest = ends-push old.kept (read_entry (next_number old) block bytes) (contents_of held old.parts old.master) (contents_of held old.parts old.master) (k.agrees is_honest may.runs).last (read_at is_honest) (λ b off. refl)
+
+  pub read-keeps : Keeps held honest (after_read old parts block bytes)
+  read-keeps = record {
+    legs = read-legs held honest true old parts block target bytes k reads (old.kept ++ read_entry (next_number old) block bytes ∷ []) (old.total + 1);
+    records = read-records held honest true old parts block target bytes k reads (old.kept ++ read_entry (next_number old) block bytes ∷ []) (old.total + 1);
+    numbers = record {
+      numbered = numbered-append old.first old.kept (read_entry (next_number old) block bytes ∷ []) k.numbers.numbered (let n : old.first + old.total ≡ old.first + length old.kept = omega (arith, k.numbers.total) in n, tt);
+      total = omega (arith, k.numbers.total, length-append old.kept (read_entry (next_number old) block bytes ∷ []));
+      given = omega (arith, k.numbers.given);
+      left = omega (arith, may.left);
+    };
+    consistent = λ is_honest. consistent-read old.first old.kept (contents_of held old.parts old.master) (next_number old) block bytes k.numbers.numbered (let n : old.first + old.total ≡ old.first + length old.kept = omega (arith, k.numbers.total) in n) (k.agrees is_honest may.runs).last (read_at is_honest) (k.consistent is_honest);
+    agrees = λ is_honest runs. read-agrees held honest true old parts block target bytes k reads is_honest (k.agrees is_honest may.runs) (old.kept ++ read_entry (next_number old) block bytes ∷ []) (old.total + 1) (read-ends is_honest);
+  }
+
+  read-lives : (n : ℕ) → ReadLives n (read_life old n) (read_events (next_number old) block bytes) (read_life (after_read old parts block bytes) n)
+  read-lives n =
+      (elim (next_number old == n) as (λ b. (next_number old == n) ≡ b →
+      (one : ReadLife) × MatchBool b ((read_life old n ≡ Unasked) × (one ≡ Asked block)) (one ≡ read_life old n)
+      × ((two : ReadLife) × MatchBool b ((one ≡ Asked block) × (two ≡ Found bytes)) (two ≡ one)
+      × ((three : ReadLife) × MatchBool b ((two ≡ Found bytes) × (three ≡ Over)) (three ≡ two)
+      × (read_life (after_read old parts block bytes) n ≡ three)))) [
+        | true ↦ λ eq.
+            let at : next_number old ≡ n = same (next_number old) n eq in
+            let not_yet : nat_lt n (next_number old) ≡ false = grind (arith, nat_tests) in
+            let now : nat_lt n (old.first + (old.total + 1)) ≡ true = grind (arith, nat_tests) in
+            (Asked block, (ap (λ b. cond b Over Unasked) not_yet, refl), (Found bytes, (refl, refl), (Over, (refl, refl), ap (λ b. cond b Over Unasked) now)))
+        | false ↦ λ ne.
+            let other : n ≢ old.first + old.total = λ e. let yes : (next_number old == n) ≡ true = grind (arith, nat_tests) in let clash : true ≡ false = sym yes ∙ ne in cc in
+            let alike : nat_lt n (old.first + (old.total + 1)) ≡ nat_lt n (next_number old) = grind (arith, nat_tests) in
+            (read_life old n, refl, (read_life old n, refl, (read_life old n, refl, ap (λ b. cond b Over Unasked) alike)))
+      ]) refl
+
+  pub read-acts : IsTrue honest → Acts held old (after_read old parts block bytes) (read_events (next_number old) block bytes)
+  read-acts is_honest =
+      let agree = k.agrees is_honest may.runs in
+      let before = array_is_master held old k.legs k.records agree in
+      let new = with_read old parts (old.kept ++ read_entry (next_number old) block bytes ∷ []) (old.total + 1) in
+      let after = array_is_master held new
+      (read-legs held honest true old parts block target bytes k reads (old.kept ++ read_entry (next_number old) block bytes ∷ []) (old.total + 1))
+      (read-records held honest true old parts block target bytes k reads (old.kept ++ read_entry (next_number old) block bytes ∷ []) (old.total + 1))
+      (read-agrees held honest true old parts block target bytes k reads is_honest agree (old.kept ++ read_entry (next_number old) block bytes ∷ []) (old.total + 1) (read-ends is_honest)) in
+      record {
+        explained = record {
+          legal = (refl, ap (λ xs. slice_get xs block) before ∙ read_at is_honest, after ∙ reads-contents held honest true old.parts parts old.master block old.master target bytes is_honest reads ∙ sym before);
+          each_write = λ t. (write_life old t, refl, (write_life old t, refl, (write_life old t, refl, refl)));
+          each_read = read-lives;
+        };
+        kept = refl;
+        total = refl;
+        first = refl;
+      }
+
+  -- a read finds what the stripe's array has
+  pub read-array : IsTrue honest → slice_get (stripe_array held old) block ≡ Some bytes
+  read-array is_honest = ap (λ xs. slice_get xs block) (array_is_master held old k.legs k.records (k.agrees is_honest may.runs)) ∙ read_at is_honest
+
+-- the fields of a stripe after a read are the state after it
+pub read-state : {L : Type 0} (place : At) (parts parts' : List L) (master : ℕ) (table : RecordTable) (tickets : ℕ) (history history' : KeptHistory) (first : ℕ) (stopped : Bool) (block : ℕ) (bytes : Block)
+    → history'.entries ≡ history.entries ++ read_entry (first + history.total) block bytes ∷ [] → history'.total ≡ history.total + 1
+    → state_of place parts' master table tickets history' first stopped ≡ after_read (state_of place parts master table tickets history first stopped) parts' block bytes
+read-state place parts parts' master table tickets history history' first stopped block bytes entries total = rw (entries, total) refl
+
+pub failed-state : {L : Type 0} (place : At) (parts parts' : List L) (master : ℕ) (table : RecordTable) (tickets : ℕ) (history history' : KeptHistory) (first : ℕ) (stopped : Bool)
+    → history'.entries ≡ history.entries → history'.total ≡ history.total
+    → state_of place parts' master table tickets history' first stopped ≡ with_read (state_of place parts master table tickets history first stopped) parts' history.entries history.total
+failed-state place parts parts' master table tickets history history' first stopped entries total = rw (entries, total) refl

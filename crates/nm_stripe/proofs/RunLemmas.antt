@@ -1,0 +1,182 @@
+-- Steps one after the other: runs and joint lists, with one step more.
+use Rattle.std.proofs.Common.{◌≡◌, ℕ, Bool, IsTrue, List, [], ◌∷◌, ◌++◌, refl, sym, ap, ◌∙◌, subst, append_assoc, append-nil}
+use Rattle.std.proofs.Common.{length, reverse, true, false, cond, ◌==◌, Option, None, Some}
+use Rattle.std.proofs.lemmas.List.{reverse-append}
+use Rattle.nm_fanout.specs.declared.write.Record.{Record}
+use Rattle.nm_stripe.specs.declared.refusal.Refusal.{Refusal}
+use Rattle.nm_stripe.specs.declared.refusal.Refusal.TheVariants.{Fault}
+use Rattle.nm_stripe.specs.Causes.{read_cause}
+use Rattle.nm_stripe.specs.Steps.{Pushes, ReadRefused, after_push, after_landing, after_reach}
+use Rattle.nm_stripe.proofs.LegLemmas.{calls-length}
+use Rattle.nm_leg.specs.Leg.{Leg}
+use Rattle.nm_stripe.specs.declared.step.Step.{Step}
+use Rattle.nm_stripe.specs.declared.step.Step.TheVariants.{Begin, Push, Claim, Read, Replace}
+use Rattle.nm_stripe.specs.declared.answer.Answer.{Answer}
+use Rattle.nm_stripe.specs.declared.answer.Answer.TheVariants.{Begun, Pushed, Complete, Halted, Written, Value, Refused}
+use Rattle.nm_stripe.specs.Lives.{Event, marks_of}
+use Rattle.nm_stripe.specs.State.{StripeState}
+use Rattle.nm_stripe.specs.Headline.{Acts, ShowsMarks}
+use Rattle.nm_stripe.specs.Machine.{StepOf, MayBeAsked, AllAsked, Runs, marks, IsJoint, joined, NoneHalted, ActOnOneArray}
+use Rattle.nm_stripe.proofs.ActsLemmas.{acts-none, acts-append}
+
+-- one step more
+pub runs-push : {L : Type 0} (held : L → Leg) (honest : Bool) (old mid new : StripeState L) (steps : List (Step L)) (answers : List (Answer L)) (step : Step L) (answer : Answer L)
+    → Runs held honest old steps answers mid → StepOf held honest step answer mid new → Runs held honest old (steps ++ step ∷ []) (answers ++ answer ∷ []) new
+runs-push held honest old mid new [] [] step answer runs one = (new, subst (λ (s : StripeState _). StepOf held honest step answer s new) runs one, refl)
+runs-push held honest old mid new (s ∷ steps) (a ∷ answers) step answer runs one =
+    (runs.0, runs.1, runs-push held honest runs.0 mid new steps answers step answer runs.2 one)
+runs-push held honest old mid new [] (a ∷ answers) step answer runs one = absurd runs
+runs-push held honest old mid new (s ∷ steps) [] step answer runs one = absurd runs
+
+joint-push : {L : Type 0} (steps : List (Step L)) (answers : List (Answer L)) (pieces : List (List Event)) (step : Step L) (answer : Answer L) (piece : List Event)
+    → IsJoint steps answers pieces → marks_of piece ≡ marks step answer → IsJoint (steps ++ step ∷ []) (answers ++ answer ∷ []) (pieces ++ piece ∷ [])
+joint-push [] [] [] step answer piece joint marked = (marked, tt)
+joint-push (s ∷ steps) (a ∷ answers) (p ∷ pieces) step answer piece joint marked = (joint.0, joint-push steps answers pieces step answer piece joint.1 marked)
+joint-push [] [] (p ∷ pieces) step answer piece joint marked = absurd joint
+joint-push [] (a ∷ answers) pieces step answer piece joint marked = absurd joint
+joint-push (s ∷ steps) [] pieces step answer piece joint marked = absurd joint
+joint-push (s ∷ steps) (a ∷ answers) [] step answer piece joint marked = absurd joint
+
+joined-push : (pieces : List (List Event)) (piece : List Event) → joined (pieces ++ piece ∷ []) ≡ joined pieces ++ piece
+joined-push [] piece = append-nil piece
+joined-push (p ∷ pieces) piece = ap (λ es. p ++ es) (joined-push pieces piece) ∙ sym (append_assoc p (joined pieces) piece)
+
+-- no steps, and one step more
+pub none-acts : {L : Type 0} (held : L → Leg) (stripe : StripeState L) → ActOnOneArray held [] [] stripe stripe
+none-acts held stripe = record { pieces = []; joint = tt; acts = acts-none held stripe }
+
+pub act-push : {L : Type 0} (held : L → Leg) (old mid new : StripeState L) (steps : List (Step L)) (answers : List (Answer L)) (step : Step L) (answer : Answer L)
+    → ActOnOneArray held steps answers old mid → ShowsMarks held (marks step answer) mid new → ActOnOneArray held (steps ++ step ∷ []) (answers ++ answer ∷ []) old new
+act-push held old mid new steps answers step answer all one = record {
+  pieces = all.pieces ++ one.piece ∷ [];
+  joint = joint-push steps answers all.pieces step answer one.piece all.joint one.marked;
+  acts = subst (λ (es : List Event). Acts held old new es) (sym (joined-push all.pieces one.piece)) (acts-append held old mid new (joined all.pieces) one.piece all.acts one.acts);
+}
+
+-- none halted among more answers: none among the first, and not the last
+pub halted-front : {L : Type 0} (answers : List (Answer L)) (answer : Answer L) → NoneHalted (answers ++ answer ∷ []) → NoneHalted answers
+halted-front [] answer none = tt
+halted-front (Halted ∷ answers) answer none = absurd none
+halted-front (Begun t ∷ answers) answer none = halted-front answers answer none
+halted-front (Pushed n ∷ answers) answer none = halted-front answers answer none
+halted-front (Complete n ∷ answers) answer none = halted-front answers answer none
+halted-front (Written r ∷ answers) answer none = halted-front answers answer none
+halted-front (Value r b ∷ answers) answer none = halted-front answers answer none
+halted-front (Refused c h ∷ answers) answer none = halted-front answers answer none
+
+pub halted-last : {L : Type 0} (answers : List (Answer L)) (answer : Answer L) → NoneHalted (answers ++ answer ∷ []) → NoneHalted (answer ∷ [])
+halted-last [] answer none = none
+halted-last (Halted ∷ answers) answer none = absurd none
+halted-last (Begun t ∷ answers) answer none = halted-last answers answer none
+halted-last (Pushed n ∷ answers) answer none = halted-last answers answer none
+halted-last (Complete n ∷ answers) answer none = halted-last answers answer none
+halted-last (Written r ∷ answers) answer none = halted-last answers answer none
+halted-last (Value r b ∷ answers) answer none = halted-last answers answer none
+halted-last (Refused c h ∷ answers) answer none = halted-last answers answer none
+
+-- a list turned round, and turned round again
+reverse-push : {A : Type 0} (xs : List A) (x : A) → reverse (xs ++ x ∷ []) ≡ x ∷ reverse xs
+reverse-push xs x = reverse-append xs (x ∷ [])
+
+reverse-reverse : {A : Type 0} (xs : List A) → reverse (reverse xs) ≡ xs
+reverse-reverse [] = refl
+reverse-reverse (x ∷ xs) = ap (λ ys. reverse ys) (reverse-append (x ∷ []) xs) ∙ reverse-push (reverse xs) x ∙ ap (λ ys. x ∷ ys) (reverse-reverse xs)
+
+-- a step leaves the stripe's place, and as many legs
+pub record SameShape {L : Type 0} (old new : StripeState L) : Type 0 where
+  pub place : new.place ≡ old.place
+  pub legs : length new.parts ≡ length old.parts
+
+same : {L : Type 0} (old new : StripeState L) → new ≡ old → SameShape old new
+same old new is = record { place = ap (λ s. s.place) is; legs = ap (λ s. length s.parts) is }
+
+-- a push leaves the place, whichever leg it reached
+push-place : {L : Type 0} (old : StripeState L) (parts : List L) (r : Record) (leg : ℕ) → (after_push old parts r leg).place ≡ old.place
+push-place old parts r leg =
+    elim (leg == old.master) as (λ b. (cond b (after_landing old parts r leg) (after_reach old parts r leg)).place ≡ old.place) [ true ↦ refl | false ↦ refl ]
+
+push-shape : {L : Type 0} (held : L → Leg) (honest : Bool) (old new : StripeState L) (ticket leg : ℕ) → Pushes held honest old new ticket leg → SameShape old new
+push-shape held honest old new ticket leg p = record {
+  place = ap (λ s. s.place) p.after ∙ push-place old new.parts p.pushed leg;
+  legs = calls-length held old.parts new.parts leg p.writes.before p.writes.after p.writes.part;
+}
+
+-- a read that is refused
+refused-shape : {L : Type 0} (held : L → Leg) (honest : Bool) (old new : StripeState L) (block : ℕ) (cause : Option Refusal) (given : Refusal) → ReadRefused held honest old new block cause given → SameShape old new
+refused-shape held honest old new block (Some cause) given is = same old new is.1
+refused-shape held honest old new block None Fault is = record {
+  place = ap (λ s. s.place) is.after;
+  legs = calls-length held old.parts new.parts old.master is.reads.before is.reads.after is.reads.part;
+}
+refused-shape held honest old new block None given is = same old new is.1
+
+pub step-shape : {L : Type 0} (held : L → Leg) (honest : Bool) (step : Step L) (answer : Answer L) (old new : StripeState L) → StepOf held honest step answer old new → SameShape old new
+step-shape held honest (Begin block bytes) (Begun ticket) old new is = record { place = ap (λ s. s.place) is.after; legs = ap (λ s. length s.parts) is.after }
+step-shape held honest (Begin block bytes) (Refused cause handed) old new is = same old new is.2
+step-shape held honest (Push ticket leg) (Pushed count) old new is = push-shape held honest old new ticket leg is.0
+step-shape held honest (Push ticket leg) (Complete number) old new is = push-shape held honest old new ticket leg is.0
+step-shape held honest (Push ticket leg) Halted old new is = record {
+  place = ap (λ s. s.place) is.after;
+  legs = calls-length held old.parts new.parts leg is.writes.before is.writes.after is.writes.part;
+}
+step-shape held honest (Push ticket leg) (Refused cause handed) old new is = same old new is.2
+step-shape held honest (Claim ticket) (Written receipt) old new is = record { place = ap (λ s. s.place) is.after; legs = ap (λ s. length s.parts) is.after }
+step-shape held honest (Claim ticket) (Refused cause handed) old new is = same old new is.2
+step-shape held honest (Read block) (Value receipt bytes) old new is = record {
+  place = ap (λ s. s.place) is.after;
+  legs = calls-length held old.parts new.parts old.master is.reads.before is.reads.after is.reads.part;
+}
+step-shape held honest (Read block) (Refused cause handed) old new is = refused-shape held honest old new block (read_cause old) cause is.0
+step-shape held honest (Replace leg part) (Refused cause handed) old new is = same old new is.2
+step-shape held honest step answer old new is = absurd is
+
+-- what may be asked for may still be
+pub asked-later : {L : Type 0} (held : L → Leg) (step : Step L) (old new : StripeState L) → SameShape old new → MayBeAsked held old step → MayBeAsked held new step
+asked-later held (Begin block bytes) old new shape asked = (rw shape.place asked.0, asked.1)
+asked-later held (Push ticket leg) old new shape asked = rw shape.legs asked
+asked-later held (Claim ticket) old new shape asked = tt
+asked-later held (Read block) old new shape asked = rw shape.place asked
+asked-later held (Replace leg part) old new shape asked = (rw shape.legs asked.0, rw shape.place asked.1)
+
+pub all_asked-later : {L : Type 0} (held : L → Leg) (steps : List (Step L)) (old new : StripeState L) → SameShape old new → AllAsked held old steps → AllAsked held new steps
+all_asked-later held [] old new shape asked = tt
+all_asked-later held (step ∷ steps) old new shape asked = (asked-later held step old new shape asked.0, all_asked-later held steps old new shape asked.1)
+
+-- how far a run has come: the steps done, of all steps, and those that are left, the last of them first
+pub record HasRun {L : Type 0} (held : L → Leg) (honest : Bool) (old : StripeState L) (steps rest : List (Step L)) (answers : List (Answer L)) (now : StripeState L) : Type 0 where
+  pub done : List (Step L)
+  pub split : done ++ reverse rest ≡ steps
+  pub runs : Runs held honest old done answers now
+  pub acts : IsTrue honest → NoneHalted answers → ActOnOneArray held done answers old now
+  pub asked : AllAsked held now (reverse rest)
+
+pub run-begins : {L : Type 0} (held : L → Leg) (honest : Bool) (old : StripeState L) (steps : List (Step L)) → AllAsked held old steps → HasRun held honest old steps (reverse steps) [] old
+run-begins held honest old steps asked = record {
+  done = [];
+  split = reverse-reverse steps;
+  runs = refl;
+  acts = λ is_honest none. none-acts held old;
+  asked = subst (λ ss. AllAsked held old ss) (sym (reverse-reverse steps)) asked;
+}
+
+-- the next step may be asked for
+pub next-asked : {L : Type 0} (held : L → Leg) (honest : Bool) (old : StripeState L) (steps rest : List (Step L)) (step : Step L) (answers : List (Answer L)) (now : StripeState L)
+    → HasRun held honest old steps (rest ++ step ∷ []) answers now → MayBeAsked held now step
+next-asked held honest old steps rest step answers now run = (subst (λ ss. AllAsked held now ss) (reverse-push rest step) run.asked).0
+
+pub run-on : {L : Type 0} (held : L → Leg) (honest : Bool) (old : StripeState L) (steps rest : List (Step L)) (step : Step L) (answers : List (Answer L)) (answer : Answer L) (now new : StripeState L)
+    → HasRun held honest old steps (rest ++ step ∷ []) answers now → StepOf held honest step answer now new → (IsTrue honest → NoneHalted (answer ∷ []) → ShowsMarks held (marks step answer) now new)
+    → HasRun held honest old steps rest (answers ++ answer ∷ []) new
+run-on held honest old steps rest step answers answer now new run is shows = record {
+  done = run.done ++ step ∷ [];
+  split = append_assoc run.done (step ∷ []) (reverse rest) ∙ ap (λ ss. run.done ++ ss) (sym (reverse-push rest step)) ∙ run.split;
+  runs = runs-push held honest old now new run.done answers step answer run.runs is;
+  acts = λ is_honest none. act-push held old now new run.done answers step answer (run.acts is_honest (halted-front answers answer none)) (shows is_honest (halted-last answers answer none));
+  asked = all_asked-later held (reverse rest) now new (step-shape held honest step answer now new is) (subst (λ ss. AllAsked held now ss) (reverse-push rest step) run.asked).1;
+}
+
+pub run-ends : {L : Type 0} (held : L → Leg) (honest : Bool) (old : StripeState L) (steps : List (Step L)) (answers : List (Answer L)) (new : StripeState L)
+    → HasRun held honest old steps [] answers new → Runs held honest old steps answers new × (IsTrue honest → NoneHalted answers → ActOnOneArray held steps answers old new)
+run-ends held honest old steps answers new run =
+    let all : run.done ≡ steps = sym (append-nil run.done) ∙ run.split in
+    (subst (λ ss. Runs held honest old ss answers new) all run.runs, λ is_honest none. subst (λ ss. ActOnOneArray held ss answers old new) all (run.acts is_honest none))

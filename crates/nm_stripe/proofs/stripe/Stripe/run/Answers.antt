@@ -1,0 +1,26 @@
+-- One turn of the loop is one step more.
+use Rattle.std.proofs.Common.{rules, ◌≡◌, ℕ, ◌+◌, ◌-◌, ◌≤◌, List, [], ◌∷◌, ◌++◌, reverse, refl, sym, ap, ◌∙◌, subst, arith, vec_len, vec_capacity}
+use Rattle.nm_stripe.specs.declared.step.Step.{Step}
+use Rattle.nm_stripe.specs.declared.answer.Answer.{Answer}
+use Rattle.nm_stripe.specs.State.{StripeState}
+use Rattle.nm_stripe.proofs.RunLemmas.{HasRun, run-begins, next-asked, run-on, run-ends}
+use Rattle.nm_stripe.proofs.stripe.Stripe.run.Goals as goal
+
+pub loop-step-init : goal.loop-step-init
+loop-step-init g c =
+    let turned : c.reverse.new.self.items ≡ reverse c.args.steps.items = search rules in
+    let none : c.reserve.new.self.items ≡ [] = search rules in
+    record {
+      run = rw (turned, none) (run-begins g.L.LegPart.model g.L.LegPart.honest c.args.self.now c.args.steps.items c.requires);
+      room = search rules;
+    }
+
+pub loop-step-preserved : goal.loop-step-preserved
+loop-step-preserved g c =
+    let last : c.loop-step.rest.items ≡ c.pop.new.self.items ++ c.in-Some.step ∷ [] = search rules in
+    let answered : c.push_reserved.new.self.items ≡ c.loop-step.answers.items ++ c.step.result ∷ [] = search rules in
+    record {
+      run = rw answered (run-on g.L.LegPart.model g.L.LegPart.honest c.args.self.now c.args.steps.items c.pop.new.self.items c.in-Some.step c.loop-step.answers.items c.step.result c.loop-step.self c.step.new.self
+          (rw last at c.loop-step.invariant.run) c.step.ensures.step c.step.ensures.acts);
+      room = search rules;
+    }

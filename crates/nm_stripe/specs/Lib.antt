@@ -1,0 +1,10 @@
+pub mod Causes
+pub mod Headline
+pub mod Invariant
+pub mod Lives
+pub mod Machine
+pub mod Opening
+pub mod Receipt
+pub mod Sound
+pub mod State
+pub mod Steps

@@ -1,0 +1,29 @@
+-- A sound stripe: what holds of it between any two steps.
+use Rattle.std.specs.Prelude.{◌≡◌, ℕ, ◌+◌, ◌<◌, ◌≤◌, ◌^◌, Bool, true, false, IsTrue, List, Option, None, Some, length, max, slice_get}
+use Rattle.nm_replay.specs.History.{Consistent, EndsIn, IsNumbered}
+use Rattle.nm_fanout.specs.declared.write.Record.{Record}
+use Rattle.nm_fanout.specs.Record.{is_under_way}
+use Rattle.nm_fanout.specs.Records.{find_record, busy_on}
+use Rattle.nm_leg.specs.Leg.{Leg}
+use Rattle.nm_stripe.specs.State.{StripeState, contents_of, stripe_array}
+
+-- at most one write is under way on each block
+abbrev pub OneWriteABlock : List Record → Type 0
+OneWriteABlock records =
+    (t u : ℕ) (r q : Record) → find_record t records ≡ Some r → find_record u records ≡ Some q
+    → is_under_way r ≡ true → is_under_way q ≡ true → r.block ≡ q.block → t ≡ u
+
+-- each leg in sync, as all are until one goes out, equals the stripe's array at each block that has no write under way
+abbrev pub LegsInSync : {L : Type 0} → (L → Leg) → StripeState L → Type 0
+LegsInSync held stripe =
+    (leg block : ℕ) → leg < length stripe.parts → busy_on block stripe.records ≡ None
+    → slice_get (contents_of held stripe.parts leg) block ≡ slice_get (stripe_array held stripe) block
+
+-- a sound stripe; its last three parts speak of honest legs, and two of them of a stripe that has not stopped
+pub record IsSound {L : Type 0} (held : L → Leg) (honest : Bool) (stripe : StripeState L) : Type 0 where
+  pub one_write : OneWriteABlock stripe.records
+  pub few : length stripe.records ≤ 256
+  pub numbers : IsNumbered stripe.kept
+  pub consistent : IsTrue honest → Consistent stripe.kept
+  pub in_sync : IsTrue honest → stripe.stopped ≡ false → LegsInSync held stripe
+  pub last : IsTrue honest → stripe.stopped ≡ false → EndsIn stripe.kept (stripe_array held stripe)

@@ -1,0 +1,93 @@
+-- What a contract sees of a stripe, and the array that it stands for.
+use Rattle.std.specs.Prelude.{ℕ, ◌+◌, ◌<◌, Bool, List, [], ◌∷◌, Option, None, Some, length, slice_get, nat_lt, if◌then◌else◌}
+use Rattle.nm_replay.specs.declared.block.Block.{Block}
+use Rattle.nm_replay.specs.declared.entry.Entry.{Entry}
+use Rattle.nm_replay.specs.Kept.{KeptHistory}
+use Rattle.nm_fanout.specs.declared.write.Record.{Record}
+use Rattle.nm_fanout.specs.Data.{bytes_of}
+use Rattle.nm_fanout.specs.Records.{RecordTable, find_record, busy_on}
+use Rattle.nm_leg.specs.Leg.{Leg, block_of}
+use Rattle.nm_stripe.specs.declared.at.At.{At}
+use Rattle.nm_stripe.specs.Lives.{WriteLife, Unborn, Begun, Landed, Told, ReadLife, Unasked, Over}
+
+-- a stripe: where it stands, its legs, the records of writes by rising ticket, the next ticket, the
+-- kept history, its first number and its total, and whether the stripe has stopped
+pub record StripeState (L : Type 0) : Type 0 where
+  pub place : At
+  pub parts : List L
+  pub master : ℕ
+  pub records : List Record
+  pub tickets : ℕ
+  pub kept : List Entry
+  pub first : ℕ
+  pub total : ℕ
+  pub stopped : Bool
+
+-- the number of the next entry
+abbrev pub next_number : {L : Type 0} → StripeState L → ℕ
+next_number stripe = stripe.first + stripe.total
+
+-- the contents of a leg; none where there is no leg
+abbrev pub contents_at : {L : Type 0} → (L → Leg) → Option L → List Block
+contents_at held None = []
+contents_at held (Some part) = (held part).contents
+
+-- the contents of the leg of this number
+abbrev pub contents_of : {L : Type 0} → (L → Leg) → List L → ℕ → List Block
+contents_of held parts leg = contents_at held (slice_get parts leg)
+
+-- the bytes that a write puts into its block
+abbrev pub written : Record → Block
+written r = block_of (bytes_of r.data)
+
+-- a block, or these bytes in its place once they have their entry
+abbrev pub landed_over : Option ℕ → Block → Block → Block
+landed_over None bytes block = block
+landed_over (Some number) bytes block = bytes
+
+-- a block under the record on it: a landed write's bytes stand for it
+abbrev pub laid_over : Option Record → Block → Block
+laid_over None block = block
+laid_over (Some r) block = landed_over r.entry (written r) block
+
+-- the blocks from this one on, each under the record under way on it
+abbrev pub laid_from : ℕ → List Record → List Block → List Block
+laid_from i records [] = []
+laid_from i records (block ∷ blocks) = laid_over (busy_on i records) block ∷ laid_from (i + 1) records blocks
+
+-- the stripe's array: at each block the data of the landed write under way there, else the master's
+abbrev pub stripe_array : {L : Type 0} → (L → Leg) → StripeState L → List Block
+stripe_array held stripe = laid_from 0 stripe.records (contents_of held stripe.parts stripe.master)
+
+-- the life of a write that is recorded, by its entry's number
+abbrev pub recorded_life : Option ℕ → ℕ → Block → WriteLife
+recorded_life None block bytes = Begun block bytes
+recorded_life (Some number) block bytes = Landed number
+
+-- the life of a write that has this record, or none any more
+abbrev pub life_of : Option Record → WriteLife
+life_of None = Told
+life_of (Some r) = recorded_life r.entry r.block (written r)
+
+-- the life of each write: unborn while its ticket is not given
+abbrev pub write_life : {L : Type 0} → StripeState L → ℕ → WriteLife
+write_life stripe ticket =
+    if nat_lt ticket stripe.tickets then life_of (find_record ticket stripe.records) else Unborn
+
+-- the life of each read: over once its number is taken
+abbrev pub read_life : {L : Type 0} → StripeState L → ℕ → ReadLife
+read_life stripe number = if nat_lt number (next_number stripe) then Over else Unasked
+
+-- a stripe's state, from its parts
+abbrev pub state_of : {L : Type 0} → At → List L → ℕ → RecordTable → ℕ → KeptHistory → ℕ → Bool → StripeState L
+state_of place parts master table tickets history first stopped = record {
+  place = place;
+  parts = parts;
+  master = master;
+  records = table.list;
+  tickets = tickets;
+  kept = history.entries;
+  first = first;
+  total = history.total;
+  stopped = stopped;
+}

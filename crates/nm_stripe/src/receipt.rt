@@ -1,0 +1,56 @@
+ghost use Rattle.std.specs.Prelude.{◌≡◌};
+
+use std::marker::{Model, PhantomData};
+
+/// The receipt of one entry in a stripe's history: its number, the stripe and the block.
+///
+/// Only a `Stripe<L>` makes one, so a receipt of one type of stripe is no receipt of another.
+#[derive(Drop)]
+pub struct Receipt<L> {
+    stripe: u32,
+    block: u64,
+    number: u64,
+    of: PhantomData<L>,
+}
+
+impl<L> Model for Receipt<L> {
+    ghost use Rattle.nm_stripe.specs.Receipt.{EntryName};
+
+    ghost Value = { EntryName };
+
+    ghost view = { λ r. record { stripe = r.stripe; block = r.block; number = r.number } };
+}
+
+impl<L> Receipt<L> {
+    pub(crate) fn new(stripe: u32, block: u64, number: u64) -> Self
+        ensures { result ≡ record { stripe = stripe; block = block; number = number } }
+    {
+        Receipt {
+            stripe,
+            block,
+            number,
+            of: PhantomData,
+        }
+    }
+
+    /// The stripe's number.
+    pub fn stripe(&self) -> u32
+        ensures { result ≡ self.now.stripe }
+    {
+        self.stripe
+    }
+
+    /// The block, by its number in the stripe.
+    pub fn block(&self) -> u64
+        ensures { result ≡ self.now.block }
+    {
+        self.block
+    }
+
+    /// The entry's number.
+    pub fn number(&self) -> u64
+        ensures { result ≡ self.now.number }
+    {
+        self.number
+    }
+}

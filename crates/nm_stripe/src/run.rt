@@ -1,0 +1,44 @@
+ghost use Rattle.std.specs.Prelude.{◌≡◌, IsTrue, IfOk, IfErr, OnErr};
+ghost use Rattle.nm_stripe.specs.Sound.{IsSound};
+ghost use Rattle.nm_stripe.specs.Machine.{AllAsked, Runs, NoneHalted, ActOnOneArray};
+
+use crate::answer::Answer;
+use crate::step::Step;
+use crate::stripe::Stripe;
+use nm_leg::LegPart;
+use std::alloc::Global;
+
+impl<L: LegPart> Stripe<L> {
+    /// Does the steps one after the other, and gives one answer a step.
+    ///
+    /// Over honest legs, while no answer is `Halted`, each block read or written acts once, between its
+    /// begin and its reply, on one array, and the kept history grows by just those acts. Room for all
+    /// answers is made first: where it is refused the steps come back, and nothing was done.
+    pub fn run(
+        &mut self,
+        alloc: Global,
+        steps: Vec<Step<L>>,
+    ) -> Result<Vec<Answer<L>>, Vec<Step<L>>>
+        requires { AllAsked L.model self.old steps.items }
+        ensures steps_done { IfOk result (λ answers. Runs L.model L.honest self.old
+            steps.items answers.items self.new) }
+        ensures headline { IsTrue L.honest → IfOk result (λ answers. NoneHalted answers.items
+            → ActOnOneArray L.model steps.items answers.items self.old self.new) }
+        ensures sound { IsSound L.model L.honest self.new }
+        ensures handed_back { IfErr result (λ back. back.items ≡ steps.items) }
+        ensures stays { OnErr result (self.new ≡ self.old) }
+    {
+        let mut answers = Vec::new(alloc);
+        if answers.reserve(steps.len()).is_err() {
+            let _ = self.is_stopped();
+            return Err(steps);
+        }
+        let mut rest = steps;
+        rest.reverse();
+        while let Some(step) = rest.pop() {
+            answers.push_reserved(self.step(step));
+        }
+        let _ = self.is_stopped();
+        Ok(answers)
+    }
+}

@@ -1,0 +1,114 @@
+ghost use Rattle.std.specs.Prelude.{◌≡◌, ℕ, ◌+◌, ◌-◌, ◌<◌, ◌≤◌, ◌^◌, ◌↔◌, true, false, [], length, IsTrue, IsOk, IfOk, OnOk, IfErr, OnErr, Some, None};
+ghost use Rattle.nm_fanout.specs.Records.{next_owed, first_owed};
+ghost use Rattle.nm_leg.specs.Parts.{EachHas};
+ghost use Rattle.nm_stripe.specs.Opening.{opened, HoldEqual};
+ghost use Rattle.nm_stripe.specs.Sound.{IsSound};
+
+use crate::at::At;
+use nm_fanout::Records;
+use nm_leg::LegPart;
+use nm_replay::{Entry, Kept, Memory};
+use std::alloc::Global;
+use std::marker::Model;
+
+/// A lock shard of the mirror: some of its blocks, on all of its legs. (No stripe of RAID 0's kind.)
+///
+/// A stripe cannot be copied, and gives none of its parts away.
+#[derive(Drop)]
+pub struct Stripe<L: LegPart> {
+    pub(crate) place: At,
+    pub(crate) parts: Vec<L>,
+    pub(crate) master: u8,
+    pub(crate) records: Records,
+    pub(crate) tickets: u64,
+    pub(crate) kept: Kept,
+    pub(crate) first: u64,
+    pub(crate) stopped: bool,
+}
+
+impl<L: LegPart> Model for Stripe<L> {
+    ghost use Rattle.nm_stripe.specs.State.{StripeState, state_of};
+    ghost use Rattle.nm_stripe.specs.Invariant.{IsStripe};
+
+    ghost Value = { StripeState L };
+
+    ghost view = { λ s. state_of s.place s.parts.items s.master s.records s.tickets s.kept s.first s.stopped };
+
+    ghost invariant = { λ s. IsStripe L.model L.honest s.kept.room (state_of s.place s.parts.items s.master s.records s.tickets s.kept s.first s.stopped) };
+}
+
+impl<L: LegPart> Stripe<L> {
+    /// A stripe of these legs, which are all in sync and hold equal contents. The lowest is the master.
+    /// `first` is the number that its first entry gets. It takes no memory yet.
+    pub fn open(
+        alloc: Global,
+        place: At,
+        parts: Vec<L>,
+        in_sync: u8,
+        first: u64,
+    ) -> Result<Stripe<L>, (Memory, Vec<L>)>
+        requires some { 0 < length parts.items }
+        requires few { length parts.items ≤ 8 }
+        requires lengths { EachHas L.model parts.items place.blocks }
+        requires equal { HoldEqual L.model parts.items }
+        requires all_in_sync { in_sync + 1 ≡ 2 ^ length parts.items }
+        ensures ok { IsOk result }
+        ensures opened { IfOk result (λ stripe. stripe ≡ opened place parts.items first) }
+    {
+        let _ = in_sync;
+        Ok(Stripe {
+            place,
+            parts,
+            master: 0,
+            records: Records::new(alloc),
+            tickets: 0,
+            kept: Kept::new(alloc),
+            first,
+            stopped: false,
+        })
+    }
+
+    /// The leg that reads come from, and where a write takes effect: the lowest in sync.
+    pub fn master(&self) -> u8
+        ensures master { result ≡ self.now.master }
+        ensures leg { result < length self.now.parts }
+    {
+        self.master
+    }
+
+    /// Whether the stripe has stopped: its only leg in sync failed in a write.
+    pub fn is_stopped(&self) -> bool
+        ensures stopped { result ≡ self.now.stopped }
+        ensures sound { IsSound L.model L.honest self.now }
+    {
+        self.stopped
+    }
+
+    /// The lowest leg that this ticket's write has still to reach.
+    pub fn next_owed(&self, ticket: u64) -> Option<u8>
+        ensures { result ≡ next_owed ticket self.now.records }
+    {
+        self.records.next_owed(ticket)
+    }
+
+    /// The lowest ticket under way, with the lowest leg that it has still to reach.
+    pub fn first_owed(&self) -> Option<(u64, u8)>
+        ensures { result ≡ first_owed self.now.records }
+    {
+        self.records.first_owed()
+    }
+
+    /// How many entries the history has had.
+    pub fn total(&self) -> u64
+        ensures { result ≡ self.now.total }
+    {
+        self.kept.total()
+    }
+
+    /// A copy of the kept entries, by rising number.
+    pub fn entries(&self, alloc: Global) -> Result<Vec<Entry>, Memory>
+        ensures ok { IfOk result (λ copy. copy.items ≡ self.now.kept) }
+    {
+        self.kept.entries(alloc)
+    }
+}
