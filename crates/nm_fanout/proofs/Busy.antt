@@ -1,6 +1,7 @@
 -- Which record is under way on a block, after each change of the records.
 use Rattle.std.proofs.Common.{◌≡◌, ◌≢◌, ℕ, Bool, true, false, cond, ◌==◌, ◌&&◌, List, [], ◌∷◌, ◌++◌, Option, None, Some, refl, sym, ap, ◌∙◌, eq-eqb, ne_eqb, inl, inr}
-use Rattle.std.specs.Option.{option_or}
+use Rattle.std.specs.Option.{option_or, option_map}
+use Rattle.std.proofs.lemmas.Option.{same_Some}
 use Rattle.std.proofs.lemmas.Bool.Decides.{eqb_tells}
 use Rattle.std.proofs.lemmas.List.Folds.{find-append}
 use Rattle.nm_fanout.specs.declared.write.Record.{Record}
@@ -138,3 +139,23 @@ busy_on-none b t rs x h none found e =
           (sym (ap (λ (l : List Record). busy_on b l) p.whole) ∙ none))
       | inr w ↦ w
     ]
+
+no-record : (o : Option Record) → option_map (λ r. r.ticket) o ≡ None → o ≡ None
+no-record None h = refl
+no-record (Some r) h = absurd cc
+
+some-ticket : (o : Option Record) (t : ℕ) → option_map (λ r. r.ticket) o ≡ Some t
+    → (x : Record) × (o ≡ Some x) × (x.ticket ≡ t)
+some-ticket None t h = absurd cc
+some-ticket (Some r) t h = (r, refl, same_Some r.ticket t h)
+
+-- the answer of `busy_on`: where it names no ticket the block is free
+pub busy_on-free : (b : ℕ) (rs : List Record) → option_map (λ r. r.ticket) (busy_on b rs) ≡ None
+    → busy_on b rs ≡ None
+busy_on-free b rs h = no-record (busy_on b rs) h
+
+-- and a ticket that it names is that of the record under way there
+pub busy_on-ticket : (b : ℕ) (rs : List Record) (t : ℕ)
+    → option_map (λ r. r.ticket) (busy_on b rs) ≡ Some t
+    → (x : Record) × (busy_on b rs ≡ Some x) × (x.ticket ≡ t)
+busy_on-ticket b rs t h = some-ticket (busy_on b rs) t h
