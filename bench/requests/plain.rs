@@ -1,0 +1,129 @@
+// A plain Rust reader of the same stream, with the standard library alone: it copies each payload
+// out of its receive buffer into a Vec of its own.
+use std::time::Instant;
+
+const PIECE: usize = 65_536;
+const ROUNDS: u32 = 5;
+const LONGEST: u32 = 33_554_432;
+
+struct Request {
+    index: u64,
+    kind: u16,
+    flags: u16,
+    cookie: u64,
+    offset: u64,
+    length: u32,
+    payload: Vec<u8>,
+}
+
+#[derive(Debug)]
+enum Fault {
+    Magic,
+    TooLong,
+}
+
+struct Reader {
+    buffer: Vec<u8>,
+    start: usize,
+    count: u64,
+}
+
+impl Reader {
+    fn new() -> Reader {
+        Reader {
+            buffer: Vec::new(),
+            start: 0,
+            count: 0,
+        }
+    }
+
+    fn feed(&mut self, piece: &[u8]) {
+        if self.start > 0 && self.buffer.len() + piece.len() > self.buffer.capacity() {
+            self.buffer.copy_within(self.start.., 0);
+            self.buffer.truncate(self.buffer.len() - self.start);
+            self.start = 0;
+        }
+        self.buffer.extend_from_slice(piece);
+    }
+
+    fn next(&mut self) -> Result<Option<Request>, Fault> {
+        let bytes = &self.buffer[self.start..];
+        let Some(head) = bytes.first_chunk::<28>() else {
+            return Ok(None);
+        };
+        if u32::from_be_bytes(head[..4].try_into().unwrap()) != 0x2560_9513 {
+            return Err(Fault::Magic);
+        }
+        let flags = u16::from_be_bytes(head[4..6].try_into().unwrap());
+        let kind = u16::from_be_bytes(head[6..8].try_into().unwrap());
+        let cookie = u64::from_be_bytes(head[8..16].try_into().unwrap());
+        let offset = u64::from_be_bytes(head[16..24].try_into().unwrap());
+        let length = u32::from_be_bytes(head[24..].try_into().unwrap());
+        let payload_len = if kind == 1 { length } else { 0 };
+        if payload_len > LONGEST {
+            return Err(Fault::TooLong);
+        }
+        let end = 28 + payload_len as usize;
+        if bytes.len() < end {
+            return Ok(None);
+        }
+        let payload = bytes[28..end].to_vec();
+        self.start += end;
+        let index = self.count;
+        self.count += 1;
+        Ok(Some(Request {
+            index,
+            kind,
+            flags,
+            cookie,
+            offset,
+            length,
+            payload,
+        }))
+    }
+}
+
+fn stream(kind: u16, length: u32, count: u64) -> Vec<u8> {
+    let mut bytes = Vec::new();
+    for cookie in 0..count {
+        bytes.extend_from_slice(&0x2560_9513u32.to_be_bytes());
+        bytes.extend_from_slice(&0u16.to_be_bytes());
+        bytes.extend_from_slice(&kind.to_be_bytes());
+        bytes.extend_from_slice(&cookie.to_be_bytes());
+        bytes.extend_from_slice(&(cookie * 4096).to_be_bytes());
+        bytes.extend_from_slice(&length.to_be_bytes());
+        if kind == 1 {
+            bytes.resize(bytes.len() + length as usize, 0xaa);
+        }
+    }
+    bytes
+}
+
+fn main() {
+    for (name, kind, length, requests, times) in [
+        ("writes", 1, 4096, 16_384, 1),
+        ("reads", 0, 4096, 16_384, 148),
+        ("long-writes", 1, 33_554_432, 2, 1),
+    ] {
+        let bytes = stream(kind, length, requests);
+        for _ in 0..ROUNDS {
+            let start = Instant::now();
+            let mut reader = Reader::new();
+            let (mut count, mut sum) = (0u64, 0u64);
+            for _ in 0..times {
+                for piece in bytes.chunks(PIECE) {
+                    reader.feed(piece);
+                    while let Some(request) = reader.next().unwrap() {
+                        count += 1;
+                        sum = sum
+                            .wrapping_add(request.index ^ request.cookie ^ request.offset)
+                            .wrapping_add(u64::from(request.length ^ u32::from(request.kind ^ request.flags)))
+                            .wrapping_add(request.payload.last().map_or(0, |byte| u64::from(*byte)));
+                    }
+                }
+            }
+            let took = start.elapsed().as_nanos();
+            println!("{name} {count} {} {sum} {took}", bytes.len() * times);
+        }
+    }
+}
