@@ -92,7 +92,7 @@ impl Records {
         self.list.iter().filter(|r| r.entry.is_none()).count() as u64
     }
 
-    /// The lowest leg that this ticket's write has still to reach.
+    /// The lowest leg that this ticket's write has still to reach; none for an unknown ticket.
     pub fn next_owed(&self, ticket: u64) -> Option<u8>
         ensures { result ≡ next_owed ticket self.now.list }
     {
@@ -108,7 +108,8 @@ impl Records {
         Some((record.ticket, leg))
     }
 
-    /// Makes room for one more record. Where a growth was refused nothing changes.
+    /// Makes room for one more record. It is refused only where the room was used up and a growth
+    /// was refused, and then nothing changes.
     pub fn reserve(&mut self) -> Result<(), Memory>
         ensures ok { OnOk result (0 < self.new.room) }
         ensures no_room { OnErr result (self.old.room ≡ 0) }
@@ -120,7 +121,9 @@ impl Records {
         Ok(())
     }
 
-    /// Begins a write: the last record is now its own, with these legs owed and no entry.
+    /// Begins a write: the last record is now its own, with these legs owed and no entry. Room comes
+    /// from `reserve`, `is_full` tells whether one more record may stand, `Data::fills_block` whether
+    /// the data are a block's worth, and tickets rise.
     pub fn begin(&mut self, ticket: u64, block: u64, data: Data, owed: [bool; LEGS])
         requires room { 0 < self.old.room }
         requires few { length self.old.list < 256 }
@@ -139,7 +142,8 @@ impl Records {
         });
     }
 
-    /// Takes the leg out of those that this ticket's write has still to reach.
+    /// Takes the leg out of those that this ticket's write has still to reach. Where no record has
+    /// the ticket, or the leg is not owed, nothing changes.
     pub fn reach(&mut self, ticket: u64, leg: u8)
         ensures records { self.new.list ≡ reached ticket leg self.old.list }
         ensures room { self.new.room ≡ self.old.room }
@@ -149,7 +153,8 @@ impl Records {
         }
     }
 
-    /// Gives this ticket's write the number of its entry.
+    /// Gives this ticket's write the number of its entry. Where no record has the ticket nothing
+    /// changes.
     pub fn land(&mut self, ticket: u64, number: u64)
         ensures records { self.new.list ≡ landed ticket number self.old.list }
         ensures room { self.new.room ≡ self.old.room }
@@ -159,7 +164,8 @@ impl Records {
         }
     }
 
-    /// Takes the record of a landed write away, and gives its entry's number.
+    /// Takes the record of a landed write away, and gives its entry's number. The others keep their
+    /// order.
     pub fn claim(&mut self, ticket: u64) -> u64
         requires landed { IsSome (entry_of ticket self.old.list) }
         ensures number { entry_of ticket self.old.list ≡ Some result }
