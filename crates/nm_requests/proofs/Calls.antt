@@ -1,11 +1,10 @@
 -- What a run of calls handed out is the beginning of what it fed.
-use Rattle.std.proofs.Common.{◌≡◌, ℕ, ◌+◌, ◌^◌, ◌<◌, ◌≤◌, List, [], ◌∷◌, ◌++◌, length, refl, ap, sym, subst, ◌∙◌, arith, append_assoc, Option, Some, None}
+use Rattle.std.proofs.Common.{◌≡◌, ℕ, ◌+◌, ◌≤◌, List, [], ◌∷◌, ◌++◌, length, refl, ap, sym, subst, ◌∙◌, arith, append_assoc, Option}
 use Rattle.std.proofs.lemmas.List.{append-nil}
-use Rattle.std.specs.List.{flat_map}
 use Rattle.nm_requests.specs.declared.fault.Fault.{Fault}
-use Rattle.nm_requests.specs.Message.{Message, IsMessage, message_bytes}
-use Rattle.nm_requests.specs.Stream.{StartsWith, Begins, EndsAs, IsStreamBehind, IsStream, most_requests}
-use Rattle.nm_requests.specs.Reader.{Unread, IsUnchanged, Feeds, HandsOut, Starves, Stops, Call, Fed, HandedOut, Starved, Stopped, Refused, Step, Runs, fed, handed_out, IsNew}
+use Rattle.nm_requests.specs.Message.{Message, message_bytes}
+use Rattle.nm_requests.specs.Stream.{Begins, EndsAs, IsStreamBehind, IsStream, most_requests}
+use Rattle.nm_requests.specs.Reader.{Unread, IsUnchanged, Call, Fed, HandedOut, Starved, Stopped, Refused, Runs, fed, handed_out, IsNew}
 use Rattle.nm_requests.proofs.Streams.{begins_more, front_is_first}
 
 -- from any state: what was unread and what was fed begin with what was handed out

@@ -1,10 +1,10 @@
 -- What a whole head tells of the first request: it stands there, or its payload is not whole.
-use Rattle.std.proofs.Common.{◌≡◌, ℕ, ◌+◌, ◌^◌, ◌<◌, ◌≤◌, List, [], ◌∷◌, ◌++◌, length, take, drop, refl, ap, sym, subst, ◌∙◌, arith, append_assoc, length-append}
+use Rattle.std.proofs.Common.{◌≡◌, ℕ, ◌+◌, ◌<◌, ◌≤◌, List, [], ◌++◌, length, take, drop, ap, sym, subst, ◌∙◌, arith, append_assoc, length-append}
 use Rattle.std.proofs.lemmas.List.{take-append-drop, take-append-le, take_at, drop-drop, length-take-le, length-drop}
 use Rattle.nm_wire.specs.declared.request_head.RequestHead.{RequestHead}
 use Rattle.nm_wire.specs.Layout.{request_head_bytes, FitsRequestHead}
-use Rattle.nm_requests.specs.Message.{Message, IsMessage, message_bytes, payload_length, longest_payload}
-use Rattle.nm_requests.specs.Stream.{StartsWith, IsTooLong, IsUnfinished, most_requests}
+use Rattle.nm_requests.specs.Message.{Message, message_bytes, payload_length, longest_payload}
+use Rattle.nm_requests.specs.Stream.{StartsWith, IsUnfinished, most_requests}
 use Rattle.nm_requests.specs.Front.{HasWhole, HasPayload}
 use Rattle.nm_wire.proofs.Heads.{request_head_bytes-unique, length-request_head_bytes}
 use Rattle.nm_requests.proofs.Messages.{length-message_bytes}

@@ -3,3 +3,4 @@ pub mod Streams
 pub mod Calls
 pub mod Fronts
 pub mod Rows
+pub mod Existence

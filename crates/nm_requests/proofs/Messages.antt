@@ -1,8 +1,7 @@
 -- No request begins another: the head says how long the payload is.
-use Rattle.std.proofs.Common.{◌≡◌, ℕ, ◌+◌, ◌<◌, ◌≤◌, List, ◌++◌, length, take, drop, refl, ap, sym, ◌∙◌, arith, append_assoc, length-append}
+use Rattle.std.proofs.Common.{◌≡◌, ℕ, ◌+◌, List, ◌++◌, length, take, drop, ap, sym, ◌∙◌, arith, append_assoc, length-append}
 use Rattle.std.proofs.lemmas.List.{take_at, drop_at}
-use Rattle.nm_wire.specs.declared.request_head.RequestHead.{RequestHead}
-use Rattle.nm_wire.specs.Layout.{request_head_bytes, FitsRequestHead}
+use Rattle.nm_wire.specs.Layout.{request_head_bytes}
 use Rattle.nm_requests.specs.Message.{Message, IsMessage, message_bytes, payload_length}
 use Rattle.nm_wire.proofs.Heads.{request_head_bytes-unique, length-request_head_bytes}
 

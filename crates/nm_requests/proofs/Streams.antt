@@ -1,14 +1,14 @@
--- A stream is read in one way: what stands at its front is a request or an end, and only one of these.
-use Rattle.std.proofs.Common.{◌≡◌, ℕ, ◌+◌, ◌^◌, ◌<◌, ◌≤◌, List, [], ◌∷◌, ◌++◌, length, take, drop, refl, ap, sym, subst, ◌∙◌, arith, append_assoc, length-append, inl, inr, Option, Some, None}
+-- A stream is read in one way: at its front stands a request or an end, and only one of these.
+use Rattle.std.proofs.Common.{◌≡◌, ℕ, ◌+◌, ◌<◌, ◌≤◌, List, [], ◌∷◌, ◌++◌, length, take, refl, ap, sym, subst, ◌∙◌, arith, append_assoc, length-append, inl, inr, Option, Some, None}
 use Rattle.std.proofs.lemmas.List.{append-nil, take-append-le}
-use Rattle.std.specs.List.{flat_map, AllByRecursion}
+use Rattle.std.specs.List.{flat_map}
 use Rattle.nm_wire.specs.Layout.{request_head_bytes}
 use Rattle.nm_requests.specs.declared.fault.Fault.{Fault}
 use Rattle.nm_requests.specs.declared.fault.Fault.TheVariants.{Magic, TooLong, Memory}
-use Rattle.nm_requests.specs.Message.{Message, IsMessage, message_bytes, payload_length, longest_payload}
-use Rattle.nm_requests.specs.Stream.{StartsWith, Begins, IsWrongMagic, IsTooLong, IsUnfinished, EndsAs, IsStreamBehind, most_requests}
-use Rattle.nm_wire.proofs.Heads.{request_head_bytes-unique, request_head_bytes-magic, length-request_head_bytes}
-use Rattle.nm_requests.proofs.Messages.{one_message, fronts_same}
+use Rattle.nm_requests.specs.Message.{Message, message_bytes, payload_length, longest_payload}
+use Rattle.nm_requests.specs.Stream.{StartsWith, Begins, IsWrongMagic, EndsAs, IsStreamBehind, most_requests}
+use Rattle.nm_wire.proofs.Heads.{request_head_bytes-unique, request_head_bytes-magic}
+use Rattle.nm_requests.proofs.Messages.{one_message}
 
 -- ---- what stands at the front
 
@@ -107,6 +107,24 @@ stream_first before bytes message messages end stream =
         ends = ends_at _ _ stream.rest end (omega arith) stream.ends;
       },
     )
+
+pub stream_more : (before : ℕ) (bytes after : List ℕ) (message : Message)
+    (messages : List Message) (end : Option Fault)
+    → StartsWith before bytes message after → IsStreamBehind (before + 1) after messages end
+    → IsStreamBehind before bytes (message ∷ messages) end
+stream_more before bytes after message messages end starts stream = record {
+  rest = stream.rest;
+  begins = begins_more before bytes after message messages stream.rest starts stream.begins;
+  ends = ends_at _ _ stream.rest end (omega arith) stream.ends;
+}
+
+pub stream_ends : (before : ℕ) (bytes : List ℕ) (end : Option Fault) → before ≤ most_requests
+    → EndsAs before bytes end → IsStreamBehind before bytes [] end
+stream_ends before bytes end few ends = record {
+  rest = bytes;
+  begins = record { whole = refl; valid = tt; few = omega arith };
+  ends = ends_at before (before + 0) bytes end (omega arith) ends;
+}
 
 -- ---- the requests that stand in front are the first of the stream
 

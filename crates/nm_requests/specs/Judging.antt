@@ -118,8 +118,8 @@ pub record AreBlocksOf (request : Request) (export : Export) (block count : ℕ)
 abbrev pub LiesInside : Request → Export → Task → Type 0
 LiesInside request export (task.Read block count) =
     AreBlocksOf request export block count × (512 * count ≤ longest_payload)
-LiesInside request export (task.Write block count fua) = AreBlocksOf request export block count
-LiesInside request export (task.Zero block count fua) = AreBlocksOf request export block count
+LiesInside request export (task.Write block count _) = AreBlocksOf request export block count
+LiesInside request export (task.Zero block count _) = AreBlocksOf request export block count
 LiesInside request export task.Flush = Unit {0}
 LiesInside request export task.Nothing = Unit {0}
 LiesInside request export task.Disconnect = Unit {0}

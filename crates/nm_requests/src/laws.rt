@@ -1,5 +1,5 @@
 //! Laws of the definitions: what the contracts of single calls say, they say of whole streams.
-ghost use Rattle.std.specs.Prelude.{◌≡◌, ◌++◌, ℕ, List, length, Option, Some, Result};
+ghost use Rattle.std.specs.Prelude.{◌≡◌, ◌<◌, ◌++◌, ℕ, slice_index, List, length, Option, Some, Result};
 ghost use Rattle.nm_wire.specs.declared.export.Export.{Export};
 ghost use Rattle.nm_requests.specs.declared.fault.Fault.{Fault};
 ghost use Rattle.nm_requests.specs.declared.request.Request.{Request};
@@ -24,9 +24,11 @@ pub fn one_thing_stands_there()
         → EndsAs before bytes end → EndsAs before bytes other → end ≡ other }
 {}
 
-/// A text is these requests and this end, and no others.
+/// Any bytes are a text of some requests and some end, and of no others.
 pub fn one_stream()
-    ensures { (text : List ℕ) (messages others : List Message) (end other : Option Fault)
+    ensures some { (text : List ℕ) → ((i : ℕ) → slice_index text i < 256)
+        → (messages : List Message) × (end : Option Fault) × IsStream text messages end }
+    ensures only { (text : List ℕ) (messages others : List Message) (end other : Option Fault)
         → IsStream text messages end → IsStream text others other
         → (messages ≡ others) × (end ≡ other) }
 {}

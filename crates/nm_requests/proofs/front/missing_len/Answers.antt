@@ -1,5 +1,5 @@
 -- The head that completes the bytes is the one that begins them.
-use Rattle.std.proofs.Common.{drop, arith, ap, ◌∙◌, sym}
+use Rattle.std.proofs.Common.{drop, arith}
 use Rattle.nm_requests.proofs.Fronts.{missing_from_head, head_from_more}
 use Rattle.nm_requests.proofs.front.missing_len.Goals as goal
 

@@ -1,5 +1,5 @@
 -- A number that is no command's is none that is served.
-use Rattle.std.proofs.Common.{◌≡◌, ℕ, Bool, false, sym}
+use Rattle.std.proofs.Common.{◌≡◌, false, sym}
 use Rattle.std.proofs.lemmas.Bool.{ne_eqb}
 use Rattle.nm_wire.specs.declared.command.Command.{Command}
 use Rattle.nm_wire.specs.declared.command.Command.TheVariants as command

@@ -1,3 +1,4 @@
+-- By induction on the calls: each keeps what was fed as what was handed out and what is unread.
 use Rattle.nm_requests.proofs.Calls.{so_far, handed_out_first, handed_out_all}
 use Rattle.nm_requests.proofs.laws.handed_out_so_far.Goals as goal
 

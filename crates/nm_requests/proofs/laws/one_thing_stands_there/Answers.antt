@@ -1,3 +1,4 @@
+-- By cases of the end: a head is told by its bytes.
 use Rattle.nm_requests.proofs.Streams.{request_is_no_end, one_end}
 use Rattle.nm_requests.proofs.laws.one_thing_stands_there.Goals as goal
 

@@ -3,7 +3,6 @@ use Rattle.std.proofs.Common.{◌≡◌, [], refl, arith, None}
 use Rattle.nm_requests.specs.declared.reader.RequestReader.TheInside.{Inside}
 use Rattle.nm_requests.specs.Kept.{held, unread_of}
 use Rattle.nm_requests.specs.Reader.{Starves}
-use Rattle.nm_requests.specs.Stream.{IsUnfinished}
 use Rattle.nm_requests.proofs.Fronts.{unfinished_from_short}
 use Rattle.nm_requests.proofs.reader.RequestReader.next.Goals as goal
 
