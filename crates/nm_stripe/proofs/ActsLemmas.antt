@@ -1,12 +1,12 @@
 -- Events behind events: what is explained of each is explained of both.
-use Rattle.std.proofs.Common.{◌≡◌, ℕ, ◌+◌, List, [], ◌∷◌, ◌++◌, length, refl, sym, ap, ◌∙◌, subst, arith, append_assoc, append-nil, length-append}
+use Rattle.std.proofs.Common.{◌≡◌, ℕ, ◌+◌, List, [], ◌++◌, length, refl, sym, ap, ◌∙◌, subst, arith, append_assoc, append-nil, length-append}
 use Rattle.nm_replay.specs.declared.entry.Entry.{Entry}
 use Rattle.nm_replay.specs.History.{Legal}
 use Rattle.nm_replay.proofs.Legality.{legal-append}
 use Rattle.nm_leg.specs.Leg.{Leg}
 use Rattle.nm_stripe.specs.Lives.{Event, entries_of}
 use Rattle.nm_stripe.specs.State.{StripeState, next_number, stripe_array, write_life, read_life}
-use Rattle.nm_stripe.specs.Headline.{Explained, Acts, ShowsMarks}
+use Rattle.nm_stripe.specs.Headline.{Acts, ShowsMarks}
 use Rattle.nm_stripe.proofs.LivesLemmas.{entries_of-append, WriteLives-append, ReadLives-append}
 
 -- a stripe that stays as it is

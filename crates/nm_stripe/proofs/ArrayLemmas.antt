@@ -1,13 +1,13 @@
 -- The stripe's array is what the master holds: a landed write under way has reached the master.
-use Rattle.std.proofs.Common.{◌≡◌, ◌≢◌, ℕ, ◌+◌, ◌<◌, zero, suc, Bool, true, false, not, IsTrue, List, [], ◌∷◌, length, Option, None, Some, is_some, refl, sym, ap, ◌∙◌, subst, arith, slice_get, add-one, add-suc}
+use Rattle.std.proofs.Common.{◌≡◌, ℕ, ◌+◌, suc, Bool, true, false, not, List, [], ◌∷◌, Option, None, Some, is_some, refl, sym, ap, ◌∙◌, subst, arith, slice_get}
 use Rattle.std.proofs.lemmas.Option.{same_Some}
 use Rattle.nm_replay.specs.declared.block.Block.{Block}
 use Rattle.nm_fanout.specs.declared.write.Record.{Record}
-use Rattle.nm_fanout.specs.Record.{is_under_way, owes}
-use Rattle.nm_fanout.specs.Records.{find_record, busy_on}
+use Rattle.nm_fanout.specs.Record.{owes}
+use Rattle.nm_fanout.specs.Records.{busy_on}
 use Rattle.nm_leg.specs.Leg.{Leg}
 use Rattle.nm_stripe.specs.State.{StripeState, contents_of, stripe_array, laid_from, laid_over, landed_over, written}
-use Rattle.nm_stripe.specs.Invariant.{HasRecords, HasLegs, LegsAgree, Keeps}
+use Rattle.nm_stripe.specs.Invariant.{HasRecords, HasLegs, LegsAgree}
 use Rattle.nm_stripe.proofs.RecordLemmas.{busy_found}
 
 -- where each block stands as the record on it says, laying the records over changes nothing

@@ -1,27 +1,25 @@
 -- A begin: the new write owes every leg, so nothing that is held or kept changes.
-use Rattle.std.proofs.Common.{◌≡◌, ◌≢◌, ◌⊎◌, ⊎_elim, ℕ, ◌+◌, ◌<◌, ◌≤◌, ◌^◌, ◌==◌, max, Bool, true, false, not, IsTrue, List, [], ◌∷◌, ◌++◌, length, Option, None, Some, is_some, refl, sym, ap, ◌∙◌, subst, arith, slice_get, nat_lt, cond, MatchBool, append-nil}
+use Rattle.std.proofs.Common.{◌≡◌, ◌≢◌, ⊎_elim, ℕ, ◌+◌, ◌<◌, ◌==◌, Bool, true, false, not, IsTrue, List, [], ◌∷◌, length, Some, is_some, refl, sym, ap, ◌∙◌, subst, arith, nat_lt, MatchBool, append-nil}
 use Rattle.std.proofs.lemmas.Bool.Decides.{nat_tests}
-use Rattle.nm_replay.specs.declared.block.Block.{Block}
-use Rattle.nm_replay.specs.declared.entry.Entry.{Entry}
 use Rattle.nm_fanout.specs.declared.payload.Data.{Data}
 use Rattle.nm_fanout.specs.declared.write.Record.{Record}
 use Rattle.nm_fanout.specs.Data.{FillsBlock}
-use Rattle.nm_fanout.specs.Record.{is_under_way, owes, begun}
-use Rattle.nm_fanout.specs.Records.{find_record, busy_on, unlanded, with_new}
+use Rattle.nm_fanout.specs.Record.{owes, begun}
+use Rattle.nm_fanout.specs.Records.{find_record, with_new}
 use Rattle.nm_fanout.proofs.InOrder.{AreInOrder-with_new}
 use Rattle.nm_leg.specs.Leg.{Leg}
-use Rattle.nm_stripe.specs.Lives.{WriteLife, Unborn, Begun, WriteLives, BeginsWrite}
+use Rattle.nm_stripe.specs.Lives.{Unborn, Begun, WriteLives, BeginsWrite}
 use Rattle.nm_replay.specs.Kept.{KeptHistory}
 use Rattle.nm_fanout.specs.Records.{RecordTable}
 use Rattle.nm_stripe.specs.declared.at.At.{At}
-use Rattle.nm_stripe.specs.State.{StripeState, state_of, stripe_array, write_life, read_life, life_of, written}
+use Rattle.nm_stripe.specs.State.{StripeState, state_of, write_life, read_life, written}
 use Rattle.nm_stripe.specs.Steps.{all_legs, after_begin}
 use Rattle.nm_stripe.specs.Invariant.{HasLegs, HasRecords, HasNumbers, LegsAgree, Keeps}
-use Rattle.nm_stripe.specs.Headline.{Explained, Acts}
+use Rattle.nm_stripe.specs.Headline.{Acts}
 use Rattle.nm_stripe.proofs.ArrayLemmas.{array_is_master}
 use Rattle.nm_stripe.proofs.CauseLemmas.{MayBegin}
 use Rattle.nm_stripe.proofs.OwedLemmas.{all_owed, owed_few}
-use Rattle.nm_stripe.proofs.RecordLemmas.{one_or_two, same, new_cases, below-new, find-new_same, find-new_other, busy_none, busy-front, unlanded-new}
+use Rattle.nm_stripe.proofs.RecordLemmas.{same, new_cases, below-new, find-new_same, find-new_other, busy_none, busy-front, unlanded-new}
 
 module _ {L : Type 0} (held : L → Leg) (old : StripeState L) (block : ℕ) (bytes : Data) where
   -- the new write's record

@@ -1,11 +1,10 @@
 -- What is known where no cause of refusal stands.
-use Rattle.std.proofs.Common.{◌≡◌, ◌≢◌, ℕ, ◌+◌, ◌<◌, ◌≤◌, ◌^◌, Bool, true, false, Option, None, Some, refl, sym, ap, ◌∙◌, arith, length, nat_lt, nat_le, cond}
+use Rattle.std.proofs.Common.{◌≡◌, ℕ, ◌+◌, ◌<◌, ◌^◌, true, false, None, Some, refl, arith, length, nat_le, cond}
 use Rattle.std.proofs.lemmas.Bool.Decides.{nat_tests}
 use Rattle.nm_fanout.specs.declared.write.Record.{Record}
 use Rattle.nm_fanout.specs.Record.{is_under_way, owes}
 use Rattle.nm_fanout.specs.Records.{find_record, busy_on, unlanded}
-use Rattle.nm_stripe.specs.declared.refusal.Refusal.{Refusal}
-use Rattle.nm_stripe.specs.declared.refusal.Refusal.TheVariants.{Busy, Full, Stopped, Exhausted, NoTicket, NotOwed, NotYet}
+use Rattle.nm_stripe.specs.declared.refusal.Refusal.TheVariants.{Full, Stopped, Exhausted, NotOwed, NotYet}
 use Rattle.nm_stripe.specs.State.{StripeState, next_number}
 use Rattle.nm_stripe.specs.Causes.{begin_cause, push_cause, claim_cause, read_cause, busy_or, owing_cause, finished_cause, is_full, is_exhausted}
 

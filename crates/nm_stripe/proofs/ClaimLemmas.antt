@@ -1,19 +1,18 @@
 -- A claim takes a finished write's record away: the write is told its number, and nothing else changes.
-use Rattle.std.proofs.Common.{◌≡◌, ◌≢◌, ◌⊎◌, ⊎_elim, ℕ, ◌+◌, ◌<◌, ◌≤◌, ◌^◌, ◌==◌, max, Bool, true, false, not, IsTrue, List, [], ◌∷◌, ◌++◌, length, Option, None, Some, is_some, refl, sym, ap, ◌∙◌, subst, arith, slice_get, nat_lt, cond, MatchBool, append-nil}
+use Rattle.std.proofs.Common.{◌≡◌, ◌≢◌, ⊎_elim, ℕ, ◌==◌, Bool, true, false, not, IsTrue, List, [], ◌∷◌, Option, None, Some, is_some, refl, sym, ap, ◌∙◌, subst, arith, nat_lt, cond, MatchBool, append-nil}
 use Rattle.std.proofs.lemmas.Option.{same_Some}
 use Rattle.std.proofs.lemmas.Bool.Decides.{nat_tests}
-use Rattle.nm_replay.specs.declared.block.Block.{Block}
 use Rattle.nm_fanout.specs.declared.write.Record.{Record}
-use Rattle.nm_fanout.specs.Record.{is_under_way, owes}
-use Rattle.nm_fanout.specs.Records.{find_record, busy_on, unlanded, without}
+use Rattle.nm_fanout.specs.Record.{is_under_way}
+use Rattle.nm_fanout.specs.Records.{find_record, busy_on, without}
 use Rattle.nm_fanout.proofs.InOrder.{AreInOrder-without}
 use Rattle.nm_leg.specs.Leg.{Leg}
-use Rattle.nm_stripe.specs.Lives.{WriteLife, Unborn, Landed, Told, WriteLives, RepliesWrite}
+use Rattle.nm_stripe.specs.Lives.{Unborn, Landed, Told, WriteLives, RepliesWrite}
 use Rattle.nm_replay.specs.Kept.{KeptHistory}
 use Rattle.nm_fanout.specs.Records.{RecordTable}
 use Rattle.nm_stripe.specs.declared.at.At.{At}
 use Rattle.nm_stripe.specs.State.{StripeState, state_of, write_life, read_life, life_of, recorded_life, written}
-use Rattle.nm_stripe.specs.Invariant.{HasLegs, HasRecords, HasNumbers, LegsAgree, Keeps}
+use Rattle.nm_stripe.specs.Invariant.{HasLegs, HasRecords, LegsAgree, Keeps}
 use Rattle.nm_stripe.specs.Headline.{Acts}
 use Rattle.nm_stripe.proofs.ArrayLemmas.{array_is_master}
 use Rattle.nm_stripe.proofs.OwedLemmas.{finished_owes}

@@ -1,5 +1,5 @@
 -- A push whose leg fails stops the stripe: what is left is what needs no leg to be trusted.
-use Rattle.std.proofs.Common.{◌≡◌, ℕ, ◌+◌, ◌<◌, ◌≤◌, Bool, true, false, IsTrue, List, length, refl, sym, ap, ◌∙◌, arith}
+use Rattle.std.proofs.Common.{◌≡◌, ℕ, Bool, true, false, List, length, ◌∙◌, arith}
 use Rattle.nm_leg.specs.Leg.{Leg}
 use Rattle.nm_leg.specs.Parts.{WritesPart}
 use Rattle.nm_stripe.specs.State.{StripeState}

@@ -1,14 +1,13 @@
 -- One more entry behind a kept history.
-use Rattle.std.proofs.Common.{◌≡◌, ◌≢◌, ⊎_elim, ℕ, ◌+◌, ◌-◌, ◌<◌, ◌≤◌, zero, suc, List, [], ◌∷◌, ◌++◌, length, Option, None, Some, refl, sym, ap, ◌∙◌, subst, arith, slice_get}
+use Rattle.std.proofs.Common.{◌≡◌, ◌≢◌, ⊎_elim, ℕ, ◌+◌, ◌-◌, List, [], ◌∷◌, ◌++◌, length, Option, None, Some, refl, sym, ap, ◌∙◌, subst, arith, slice_get}
 use Rattle.std.specs.Prelude.{IfSome}
 use Rattle.std.proofs.lemmas.Option.{same_Some, slice_get_within}
 use Rattle.nm_replay.specs.declared.block.Block.{Block}
 use Rattle.nm_replay.specs.declared.entry.Kind.TheVariants.{Read, Write}
 use Rattle.nm_replay.specs.declared.entry.Entry.{Entry}
 use Rattle.nm_replay.specs.Array.{Array}
-use Rattle.nm_replay.specs.History.{NumberedFrom, Consistent, EndsIn, last_on, Agrees}
-use Rattle.nm_replay.specs.Following.{MayFollow, IsNext}
-use Rattle.nm_replay.proofs.Arrays.{slice_get-set_same, slice_get-set_other}
+use Rattle.nm_replay.specs.History.{NumberedFrom, Consistent, EndsIn, last_on}
+use Rattle.nm_replay.specs.Following.{IsNext}
 use Rattle.nm_replay.proofs.LastOn.{last_on-push_same, last_on-push_other}
 use Rattle.nm_replay.proofs.Numbering.{numbered-at}
 use Rattle.nm_replay.proofs.Consistency.{consistent-push}

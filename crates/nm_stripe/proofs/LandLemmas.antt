@@ -1,30 +1,27 @@
 -- A write reaches the master, and takes effect there: its entry is the next of the history.
-use Rattle.std.proofs.Common.{◌≡◌, ◌≢◌, ◌⊎◌, ⊎_elim, ℕ, ◌+◌, ◌<◌, ◌≤◌, ◌^◌, ◌==◌, max, Bool, true, false, not, IsTrue, List, [], ◌∷◌, ◌++◌, length, Option, None, Some, is_some, refl, sym, ap, ◌∙◌, subst, arith, slice_get, slice_set, nat_lt, cond, MatchBool, length-append}
+use Rattle.std.proofs.Common.{◌≡◌, ◌≢◌, ℕ, ◌+◌, ◌<◌, ◌==◌, Bool, true, false, not, IsTrue, List, [], ◌∷◌, ◌++◌, length, None, Some, refl, sym, ap, ◌∙◌, subst, arith, slice_get, slice_set, nat_lt, cond, MatchBool, length-append}
 use Rattle.std.proofs.lemmas.Bool.Decides.{nat_tests}
 use Rattle.nm_replay.specs.declared.block.Block.{Block}
-use Rattle.nm_replay.specs.declared.entry.Kind.TheVariants.{Write}
-use Rattle.nm_replay.specs.declared.entry.Entry.{Entry}
-use Rattle.nm_replay.specs.History.{NumberedFrom, Consistent, EndsIn}
 use Rattle.nm_replay.proofs.Arrays.{slice_get-set_same, slice_get-set_other}
 use Rattle.nm_replay.proofs.Numbering.{numbered-append}
 use Rattle.nm_fanout.specs.declared.write.Record.{Record}
 use Rattle.nm_fanout.specs.Data.{bytes_of}
-use Rattle.nm_fanout.specs.Record.{is_under_way, owes, without_leg, with_entry}
-use Rattle.nm_fanout.specs.Records.{AreInOrder, find_record, unlanded, changed, reached, landed}
+use Rattle.nm_fanout.specs.Record.{owes, without_leg}
+use Rattle.nm_fanout.specs.Records.{AreInOrder, find_record, unlanded, changed, reached}
 use Rattle.nm_fanout.proofs.InOrder.{AreInOrder-reached, AreInOrder-landed}
-use Rattle.nm_leg.specs.Leg.{Leg, block_of}
-use Rattle.nm_stripe.specs.Lives.{WriteLife, Unborn, Begun, Landed, WriteLives, ReadLife, Unasked, Over, ReadLives, Lands}
-use Rattle.nm_stripe.specs.State.{StripeState, next_number, contents_of, stripe_array, write_life, read_life, life_of, recorded_life, written}
+use Rattle.nm_leg.specs.Leg.{Leg}
+use Rattle.nm_stripe.specs.Lives.{Unborn, Begun, Landed, WriteLives, Unasked, Over, ReadLives, Lands}
+use Rattle.nm_stripe.specs.State.{StripeState, next_number, contents_of, write_life, read_life, life_of, recorded_life, written}
 use Rattle.nm_stripe.specs.Steps.{after_landing, write_entry}
 use Rattle.nm_stripe.specs.Invariant.{HasLegs, HasRecords, HasNumbers, LegsAgree, Keeps}
-use Rattle.nm_stripe.specs.Headline.{Explained, Acts}
-use Rattle.nm_stripe.proofs.ArrayLemmas.{array_is_master, landed_reached}
+use Rattle.nm_stripe.specs.Headline.{Acts}
+use Rattle.nm_stripe.proofs.ArrayLemmas.{array_is_master}
 use Rattle.nm_stripe.proofs.HistoryLemmas.{consistent-write, ends-push}
-use Rattle.nm_stripe.proofs.LegLemmas.{writes-contents, writes-other_block}
+use Rattle.nm_stripe.proofs.LegLemmas.{writes-contents}
 use Rattle.nm_stripe.proofs.OwedLemmas.{reached_owes_same}
-use Rattle.nm_stripe.proofs.ReachLemmas.{Reaches, moved, moved-legs, moved-records, moved-agrees}
+use Rattle.nm_stripe.proofs.ReachLemmas.{moved, moved-legs, moved-records, moved-agrees}
 use Rattle.nm_stripe.proofs.PushLemmas.{Reached, landing, landing-reaches, changed-twice, not_landed}
-use Rattle.nm_stripe.proofs.RecordLemmas.{same, one_or_two, find-changed_same, find-changed_other, found_below, unlanded-landed}
+use Rattle.nm_stripe.proofs.RecordLemmas.{same, find-changed_same, find-changed_other, found_below, unlanded-landed}
 
 -- the stripe, with one change of the record in place of two
 abbrev landed_state : {L : Type 0} → StripeState L → List L → Record → ℕ → StripeState L

@@ -1,5 +1,5 @@
 -- Lives go on: what holds of two runs of events holds of one run after the other.
-use Rattle.std.proofs.Common.{◌≡◌, ℕ, ◌+◌, List, [], ◌∷◌, ◌++◌, refl, ap, sym, ◌∙◌, subst}
+use Rattle.std.proofs.Common.{◌≡◌, ℕ, List, [], ◌∷◌, ◌++◌, refl, ap, subst}
 use Rattle.nm_replay.specs.declared.entry.Entry.{Entry}
 use Rattle.nm_stripe.specs.Lives.{Event, BeginsRead, BeginsWrite, Lands, RepliesRead, RepliesWrite, WriteLife, ReadLife, WriteLives, ReadLives, entries_of, marks_of}
 

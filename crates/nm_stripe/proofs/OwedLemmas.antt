@@ -1,10 +1,9 @@
 -- Which legs a record owes, and how that changes.
-use Rattle.std.proofs.Common.{◌≡◌, ◌≢◌, ℕ, ◌+◌, ◌<◌, ◌≤◌, zero, suc, Bool, true, false, ◌||◌, List, [], ◌∷◌, length, refl, sym, ap, ◌∙◌, arith, nat_lt, slice_set, get_or, get_or-set_other, get_or-set_same}
+use Rattle.std.proofs.Common.{◌≡◌, ◌≢◌, ℕ, ◌<◌, ◌≤◌, zero, suc, Bool, true, false, List, [], ◌∷◌, refl, sym, ap, ◌∙◌, arith, slice_set}
 use Rattle.std.proofs.lemmas.Bool.Decides.{nat_tests}
 use Rattle.std.specs.List.{list_any, slice_index_or}
 use Rattle.nm_fanout.specs.declared.write.Record.{Record}
-use Rattle.nm_fanout.specs.declared.payload.Data.{Data}
-use Rattle.nm_fanout.specs.Record.{is_under_way, owes, without_leg, begun}
+use Rattle.nm_fanout.specs.Record.{is_under_way, owes, without_leg}
 use Rattle.nm_stripe.specs.Steps.{all_legs}
 
 -- a place that is owed makes the list owe

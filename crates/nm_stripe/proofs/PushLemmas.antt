@@ -1,31 +1,23 @@
 -- A push: at the master the write takes effect, at every other leg nothing is seen of it.
-use Rattle.std.proofs.Common.{◌≡◌, ◌≢◌, ◌⊎◌, ⊎_elim, inl, inr, ℕ, ◌+◌, ◌<◌, ◌≤◌, ◌^◌, ◌==◌, max, Bool, true, false, not, IsTrue, List, [], ◌∷◌, ◌++◌, length, Option, None, Some, is_some, refl, sym, ap, ◌∙◌, subst, arith, slice_get, slice_set, nat_lt, cond, MatchBool, append-nil, length-append}
-use Rattle.std.proofs.lemmas.Bool.Decides.{nat_tests}
-use Rattle.nm_replay.specs.declared.block.Block.{Block}
-use Rattle.nm_replay.specs.declared.entry.Kind.TheVariants.{Write}
-use Rattle.nm_replay.specs.declared.entry.Entry.{Entry}
-use Rattle.nm_replay.specs.History.{NumberedFrom, Consistent, EndsIn}
-use Rattle.nm_replay.proofs.Arrays.{slice_get-set_same, slice_get-set_other}
-use Rattle.nm_replay.proofs.Numbering.{numbered-append}
-use Rattle.nm_fanout.specs.declared.payload.Data.{Data}
+use Rattle.std.proofs.Common.{◌≡◌, ◌≢◌, ⊎_elim, ℕ, ◌==◌, Bool, true, false, not, IsTrue, List, [], ◌∷◌, Option, None, Some, is_some, refl, sym, ap, ◌∙◌, subst, arith, nat_lt, cond, append-nil}
+use Rattle.nm_replay.specs.History.{EndsIn}
 use Rattle.nm_fanout.specs.declared.write.Record.{Record}
 use Rattle.nm_fanout.specs.Data.{bytes_of}
-use Rattle.nm_fanout.specs.Record.{is_under_way, owes, without_leg, with_entry}
-use Rattle.nm_fanout.specs.Records.{AreInOrder, find_record, unlanded, changed, reached, landed}
-use Rattle.nm_fanout.proofs.InOrder.{AreInOrder-reached, AreInOrder-landed}
-use Rattle.nm_leg.specs.Leg.{Leg, block_of}
+use Rattle.nm_fanout.specs.Record.{owes, without_leg, with_entry}
+use Rattle.nm_fanout.specs.Records.{find_record, changed, reached, landed}
+use Rattle.nm_fanout.proofs.InOrder.{AreInOrder-reached}
+use Rattle.nm_leg.specs.Leg.{Leg}
 use Rattle.nm_leg.specs.Parts.{WritesPart}
-use Rattle.nm_stripe.specs.Lives.{WriteLife, Unborn, Begun, Landed, WriteLives, ReadLife, Unasked, Over, ReadLives, Lands}
-use Rattle.nm_stripe.specs.State.{StripeState, next_number, contents_of, stripe_array, write_life, read_life, life_of, recorded_life, written}
-use Rattle.nm_stripe.specs.Steps.{after_reach, after_landing, write_entry}
-use Rattle.nm_stripe.specs.Invariant.{HasLegs, HasRecords, HasNumbers, LegsAgree, Keeps}
-use Rattle.nm_stripe.specs.Headline.{Explained, Acts}
-use Rattle.nm_stripe.proofs.ArrayLemmas.{array_is_master, landed_reached}
-use Rattle.nm_stripe.proofs.HistoryLemmas.{consistent-write, ends-push}
-use Rattle.nm_stripe.proofs.LegLemmas.{writes-contents, writes-other, writes-other_block}
-use Rattle.nm_stripe.proofs.OwedLemmas.{reached_owes_same, reached_owes_other}
-use Rattle.nm_stripe.proofs.ReachLemmas.{Reaches, moved, moved-legs, moved-records, moved-agrees}
-use Rattle.nm_stripe.proofs.RecordLemmas.{same, one_or_two, find-changed_same, find-changed_other, found_below, unlanded-changed, unlanded-landed}
+use Rattle.nm_stripe.specs.Lives.{WriteLife, Unborn}
+use Rattle.nm_stripe.specs.State.{StripeState, contents_of, write_life, life_of}
+use Rattle.nm_stripe.specs.Steps.{after_reach}
+use Rattle.nm_stripe.specs.Invariant.{HasLegs, HasRecords, LegsAgree, Keeps}
+use Rattle.nm_stripe.specs.Headline.{Acts}
+use Rattle.nm_stripe.proofs.ArrayLemmas.{array_is_master}
+use Rattle.nm_stripe.proofs.LegLemmas.{writes-other}
+use Rattle.nm_stripe.proofs.OwedLemmas.{reached_owes_other}
+use Rattle.nm_stripe.proofs.ReachLemmas.{Reaches, moved-legs, moved-records, moved-agrees}
+use Rattle.nm_stripe.proofs.RecordLemmas.{one_or_two, find-changed_same, find-changed_other, unlanded-changed}
 
 -- a leg is reached, and the entry comes
 abbrev pub landing : ℕ → ℕ → Record → Record

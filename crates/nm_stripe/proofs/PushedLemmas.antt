@@ -1,29 +1,24 @@
 -- A push, from the fields of a stripe to the state after it.
-use Rattle.std.proofs.Common.{◌≡◌, ◌≢◌, ◌⊎◌, ⊎_elim, ℕ, ◌+◌, ◌<◌, ◌≤◌, ◌==◌, Bool, true, false, not, IsTrue, List, [], ◌∷◌, ◌++◌, length, Option, None, Some, IsSome, is_some, refl, sym, ap, ◌∙◌, subst, arith, slice_get, cond, eq-eqb, ne_eqb}
-use Rattle.std.proofs.lemmas.Option.{same_Some, slice_get_within}
-use Rattle.nm_replay.specs.declared.entry.Entry.{Entry}
+use Rattle.std.proofs.Common.{◌≡◌, ◌≢◌, ℕ, ◌+◌, ◌<◌, Bool, true, not, List, [], ◌∷◌, ◌++◌, length, None, Some, refl, sym, ap, ◌∙◌, subst, arith, cond, eq-eqb, ne_eqb}
+use Rattle.std.proofs.lemmas.Option.{same_Some}
 use Rattle.nm_replay.specs.Kept.{KeptHistory}
 use Rattle.nm_fanout.specs.declared.write.Record.{Record}
-use Rattle.nm_fanout.specs.Data.{bytes_of, FillsBlock}
-use Rattle.nm_fanout.specs.Record.{is_under_way, owes, without_leg, with_entry, IsWhole}
-use Rattle.nm_fanout.specs.Records.{RecordTable, AreInOrder, find_record, unlanded, changed, reached, landed}
-use Rattle.nm_fanout.proofs.Members.{find_record-whole}
+use Rattle.nm_fanout.specs.Data.{bytes_of}
+use Rattle.nm_fanout.specs.Record.{owes, without_leg, with_entry}
+use Rattle.nm_fanout.specs.Records.{RecordTable, find_record, unlanded, reached, landed}
 use Rattle.nm_leg.specs.Leg.{Leg}
-use Rattle.nm_leg.specs.Parts.{HasBlock, EachHas, WritesPart}
+use Rattle.nm_leg.specs.Parts.{HasBlock, WritesPart}
 use Rattle.nm_stripe.specs.declared.at.At.{At}
-use Rattle.nm_stripe.specs.Lives.{Event, Lands}
-use Rattle.nm_stripe.specs.State.{StripeState, next_number, contents_of, contents_at, state_of}
+use Rattle.nm_stripe.specs.State.{StripeState, next_number, contents_at, state_of}
 use Rattle.nm_stripe.specs.Causes.{push_cause}
-use Rattle.nm_stripe.specs.Steps.{after_reach, after_landing, after_push, write_entry, Pushes, Halts, IsReached, Reaches}
+use Rattle.nm_stripe.specs.Steps.{after_reach, after_landing, write_entry, Pushes, IsReached, Reaches}
 use Rattle.nm_stripe.specs.declared.push.Reach.{Reach}
 use Rattle.nm_stripe.specs.declared.push.Reach.TheVariants.{Pushed, Complete, Halted}
-use Rattle.nm_stripe.specs.Invariant.{HasLegs, HasRecords, HasNumbers, LegsAgree, Keeps, IsStripe}
-use Rattle.nm_stripe.specs.Headline.{Acts, ShowsMarks, ReachShowsNothing}
+use Rattle.nm_stripe.specs.Invariant.{HasLegs, Keeps}
+use Rattle.nm_stripe.specs.Headline.{ShowsMarks, ReachShowsNothing}
 use Rattle.nm_stripe.proofs.CauseLemmas.{may_push}
-use Rattle.nm_stripe.proofs.HaltLemmas.{halt-keeps}
-use Rattle.nm_stripe.proofs.PushLemmas.{Reached, reach-keeps, reach-acts, landing, changed-twice, not_landed}
-use Rattle.nm_stripe.proofs.LandLemmas.{land-keeps, land-acts}
-use Rattle.nm_stripe.proofs.RecordLemmas.{found_ticket, find-changed_same, unlanded-changed, unlanded-landed}
+use Rattle.nm_stripe.proofs.PushLemmas.{Reached, landing, changed-twice, not_landed}
+use Rattle.nm_stripe.proofs.RecordLemmas.{found_ticket, find-changed_same, unlanded-landed}
 
 -- each leg of a stripe has each of its blocks
 pub has-block : {L : Type 0} (held : L → Leg) (stripe : StripeState L) (leg at : ℕ) → HasLegs held stripe → leg < length stripe.parts → at < stripe.place.blocks → HasBlock held stripe.parts leg at

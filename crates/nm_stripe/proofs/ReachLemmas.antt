@@ -1,15 +1,14 @@
 -- A write reaches a leg: what the records and the legs keep, whether it lands there or not.
-use Rattle.std.proofs.Common.{◌≡◌, ◌≢◌, ◌⊎◌, ⊎_elim, inl, inr, ℕ, ◌+◌, ◌<◌, ◌≤◌, ◌^◌, ◌==◌, max, Bool, true, false, not, IsTrue, List, [], ◌∷◌, ◌++◌, length, Option, None, Some, is_some, refl, sym, ap, ◌∙◌, subst, arith, slice_get, slice_set, nat_lt, cond}
+use Rattle.std.proofs.Common.{◌≡◌, ◌≢◌, ⊎_elim, ℕ, ◌<◌, Bool, true, false, not, IsTrue, List, length, None, Some, is_some, refl, sym, ap, ◌∙◌, subst, arith, slice_get}
 use Rattle.std.proofs.lemmas.Option.{same_Some}
-use Rattle.nm_replay.specs.declared.block.Block.{Block}
 use Rattle.nm_replay.specs.declared.entry.Entry.{Entry}
 use Rattle.nm_replay.specs.History.{EndsIn}
-use Rattle.nm_replay.proofs.Arrays.{slice_get-set_same, slice_get-set_other}
+use Rattle.nm_replay.proofs.Arrays.{slice_get-set_same}
 use Rattle.nm_fanout.specs.declared.payload.Data.{Data}
 use Rattle.nm_fanout.specs.declared.write.Record.{Record}
 use Rattle.nm_fanout.specs.Data.{bytes_of}
-use Rattle.nm_fanout.specs.Record.{is_under_way, owes, without_leg, with_entry}
-use Rattle.nm_fanout.specs.Records.{AreInOrder, find_record, busy_on, changed, reached, landed}
+use Rattle.nm_fanout.specs.Record.{is_under_way, owes, without_leg}
+use Rattle.nm_fanout.specs.Records.{AreInOrder, find_record, busy_on, changed}
 use Rattle.nm_leg.specs.Leg.{Leg, block_of}
 use Rattle.nm_leg.specs.Parts.{WritesPart}
 use Rattle.nm_stripe.specs.State.{StripeState, contents_of, written}

@@ -1,26 +1,25 @@
 -- A read: it begins, finds its bytes at the entry that it gets, and is told them.
-use Rattle.std.proofs.Common.{◌≡◌, ◌≢◌, ◌⊎◌, ⊎_elim, ℕ, ◌+◌, ◌<◌, ◌≤◌, ◌^◌, ◌==◌, max, Bool, true, false, not, IsTrue, List, [], ◌∷◌, ◌++◌, length, Option, None, Some, is_some, refl, sym, ap, ◌∙◌, subst, arith, slice_get, nat_lt, cond, MatchBool, append-nil, length-append}
+use Rattle.std.proofs.Common.{◌≡◌, ◌≢◌, ℕ, ◌+◌, ◌==◌, Bool, true, false, IsTrue, List, [], ◌∷◌, ◌++◌, length, Some, refl, sym, ap, ◌∙◌, subst, arith, slice_get, nat_lt, cond, MatchBool, append-nil, length-append}
 use Rattle.std.proofs.lemmas.Bool.Decides.{nat_tests}
 use Rattle.nm_replay.specs.declared.block.Block.{Block}
 use Rattle.nm_replay.specs.declared.entry.Entry.{Entry}
 use Rattle.nm_replay.specs.History.{EndsIn}
 use Rattle.nm_replay.proofs.Numbering.{numbered-append}
-use Rattle.nm_fanout.specs.Records.{find_record, unlanded}
 use Rattle.nm_leg.specs.Leg.{Leg}
 use Rattle.nm_leg.specs.Parts.{ReadsPart}
-use Rattle.nm_stripe.specs.Lives.{Event, WriteLife, WriteLives, ReadLife, Unasked, Asked, Found, Over, ReadLives, BeginsRead, Lands, RepliesRead}
+use Rattle.nm_stripe.specs.Lives.{Event, ReadLife, Unasked, Asked, Found, Over, ReadLives, BeginsRead, Lands, RepliesRead}
 use Rattle.nm_replay.specs.Kept.{KeptHistory}
 use Rattle.nm_fanout.specs.Records.{RecordTable}
 use Rattle.nm_stripe.specs.declared.at.At.{At}
 use Rattle.nm_stripe.specs.State.{StripeState, state_of, next_number, contents_of, stripe_array, write_life, read_life}
 use Rattle.nm_stripe.specs.Steps.{after_read, read_entry}
-use Rattle.nm_stripe.specs.Invariant.{HasLegs, HasRecords, HasNumbers, LegsAgree, Keeps}
+use Rattle.nm_stripe.specs.Invariant.{HasLegs, HasRecords, LegsAgree, Keeps}
 use Rattle.nm_stripe.specs.Headline.{Acts}
 use Rattle.nm_stripe.proofs.ArrayLemmas.{array_is_master}
 use Rattle.nm_stripe.proofs.CauseLemmas.{MayRead}
 use Rattle.nm_stripe.proofs.HistoryLemmas.{consistent-read, ends-push}
 use Rattle.nm_stripe.proofs.LegLemmas.{calls-length, calls-lengths, reads-contents, reads-found}
-use Rattle.nm_stripe.proofs.RecordLemmas.{same, one_or_two}
+use Rattle.nm_stripe.proofs.RecordLemmas.{same}
 
 -- what is seen of a read: its begin, its entry and its reply
 abbrev pub read_events : ℕ → ℕ → Block → List Event

@@ -180,3 +180,8 @@ pub run-ends : {L : Type 0} (held : L → Leg) (honest : Bool) (old : StripeStat
 run-ends held honest old steps answers new run =
     let all : run.done ≡ steps = sym (append-nil run.done) ∙ run.split in
     (subst (λ ss. Runs held honest old ss answers new) all run.runs, λ is_honest none. subst (λ ss. ActOnOneArray held ss answers old new) all (run.acts is_honest none))
+
+-- one step more that may be asked for
+pub all_asked-push : {L : Type 0} (held : L → Leg) (stripe : StripeState L) (steps : List (Step L)) (step : Step L) → AllAsked held stripe steps → MayBeAsked held stripe step → AllAsked held stripe (steps ++ step ∷ [])
+all_asked-push held stripe [] step all one = (one, tt)
+all_asked-push held stripe (s ∷ steps) step all one = (all.0, all_asked-push held stripe steps step all.1 one)

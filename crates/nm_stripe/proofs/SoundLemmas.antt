@@ -1,9 +1,9 @@
 -- What a stripe keeps makes it sound.
-use Rattle.std.proofs.Common.{◌≡◌, ℕ, Bool, false, IsTrue, refl, sym, ap, ◌∙◌, subst, slice_get}
+use Rattle.std.proofs.Common.{Bool, sym, ap, ◌∙◌, subst, slice_get}
 use Rattle.nm_replay.specs.History.{EndsIn}
 use Rattle.nm_replay.proofs.Numbering.{numbered-somewhere}
 use Rattle.nm_leg.specs.Leg.{Leg}
-use Rattle.nm_stripe.specs.State.{StripeState, contents_of, stripe_array}
+use Rattle.nm_stripe.specs.State.{StripeState}
 use Rattle.nm_stripe.specs.Invariant.{Keeps}
 use Rattle.nm_stripe.specs.Sound.{IsSound}
 use Rattle.nm_stripe.proofs.ArrayLemmas.{array_is_master}
@@ -14,7 +14,7 @@ keeps-sound held honest stripe k = record {
   few = k.records.in_order.few;
   numbers = numbered-somewhere stripe.first stripe.kept k.numbers.numbered;
   consistent = k.consistent;
-  in_sync = λ is_honest runs leg block inside none.
+  in_sync = λ is_honest runs leg block inside in_sync none.
       let agree = k.agrees is_honest runs in
       agree.alike leg block inside none ∙ ap (λ xs. slice_get xs block) (sym (array_is_master held stripe k.legs k.records agree));
   last = λ is_honest runs.

@@ -1,7 +1,6 @@
 -- Every operation acts once, between its begin and its reply, on one array.
-use Rattle.std.specs.Prelude.{◌≡◌, ℕ, ◌+◌, List, [], ◌∷◌, ◌++◌, length}
+use Rattle.std.specs.Prelude.{◌≡◌, ℕ, ◌+◌, List, [], ◌++◌, length}
 use Rattle.nm_replay.specs.declared.block.Block.{Block}
-use Rattle.nm_replay.specs.declared.entry.Entry.{Entry}
 use Rattle.nm_replay.specs.History.{Legal}
 use Rattle.nm_leg.specs.Leg.{Leg}
 use Rattle.nm_stripe.specs.declared.push.Reach.{Reach}

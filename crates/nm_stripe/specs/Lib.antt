@@ -1,6 +1,7 @@
 pub mod Causes
 pub mod Headline
 pub mod Invariant
+pub mod Laws
 pub mod Lives
 pub mod Machine
 pub mod Opening

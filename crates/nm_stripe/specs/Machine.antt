@@ -1,14 +1,11 @@
 -- The machine: which answers a step may have and what it leaves, and what a list of steps shows.
-use Rattle.std.specs.Prelude.{◌≡◌, ℕ, ◌<◌, Bool, List, [], ◌∷◌, ◌++◌, Option, None, Some, length}
-use Rattle.nm_replay.specs.declared.block.Block.{Block}
+use Rattle.std.specs.Prelude.{◌≡◌, ◌<◌, Bool, List, [], ◌∷◌, ◌++◌, Some, length}
 use Rattle.nm_fanout.specs.Data.{bytes_of, FillsBlock}
 use Rattle.nm_leg.specs.Leg.{Leg, block_of}
-use Rattle.nm_stripe.specs.declared.refusal.Refusal.{Refusal}
 use Rattle.nm_stripe.specs.declared.step.Step.{Step}
 use Rattle.nm_stripe.specs.declared.step.Step.TheVariants.{Begin, Push, Claim, Read, Replace}
 use Rattle.nm_stripe.specs.declared.answer.Answer.{Answer}
 use Rattle.nm_stripe.specs.declared.answer.Answer.TheVariants.{Begun, Pushed, Complete, Halted, Written, Value, Refused}
-use Rattle.nm_stripe.specs.declared.answer.Handed.{Handed}
 use Rattle.nm_stripe.specs.declared.answer.Handed.TheVariants.{Nothing, Data, Part}
 use Rattle.nm_stripe.specs.Lives.{Event, BeginsRead, BeginsWrite, RepliesRead, RepliesWrite, marks_of}
 use Rattle.nm_stripe.specs.State.{StripeState}

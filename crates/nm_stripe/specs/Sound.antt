@@ -1,10 +1,12 @@
 -- A sound stripe: what holds of it between any two steps.
-use Rattle.std.specs.Prelude.{◌≡◌, ℕ, ◌+◌, ◌<◌, ◌≤◌, ◌^◌, Bool, true, false, IsTrue, List, Option, None, Some, length, max, slice_get}
+use Rattle.std.specs.Prelude.{◌≡◌, ℕ, ◌<◌, ◌≤◌, Bool, true, false, IsTrue, List, None, Some, length, slice_get}
 use Rattle.nm_replay.specs.History.{Consistent, EndsIn, IsNumbered}
 use Rattle.nm_fanout.specs.declared.write.Record.{Record}
 use Rattle.nm_fanout.specs.Record.{is_under_way}
 use Rattle.nm_fanout.specs.Records.{find_record, busy_on}
 use Rattle.nm_leg.specs.Leg.{Leg}
+use Rattle.nm_stripe.specs.declared.stripe.LegState.{LegState}
+use Rattle.nm_stripe.specs.declared.stripe.LegState.TheVariants.{InSync}
 use Rattle.nm_stripe.specs.State.{StripeState, contents_of, stripe_array}
 
 -- at most one write is under way on each block
@@ -13,10 +15,14 @@ OneWriteABlock records =
     (t u : ℕ) (r q : Record) → find_record t records ≡ Some r → find_record u records ≡ Some q
     → is_under_way r ≡ true → is_under_way q ≡ true → r.block ≡ q.block → t ≡ u
 
--- each leg in sync, as all are until one goes out, equals the stripe's array at each block that has no write under way
+-- how a leg stands: until a leg can go out, each is in sync
+abbrev pub leg_state : {L : Type 0} → StripeState L → ℕ → LegState
+leg_state stripe leg = InSync
+
+-- each leg in sync equals the stripe's array at each block that has no write under way
 abbrev pub LegsInSync : {L : Type 0} → (L → Leg) → StripeState L → Type 0
 LegsInSync held stripe =
-    (leg block : ℕ) → leg < length stripe.parts → busy_on block stripe.records ≡ None
+    (leg block : ℕ) → leg < length stripe.parts → leg_state stripe leg ≡ InSync → busy_on block stripe.records ≡ None
     → slice_get (contents_of held stripe.parts leg) block ≡ slice_get (stripe_array held stripe) block
 
 -- a sound stripe; its last three parts speak of honest legs, and two of them of a stripe that has not stopped

@@ -10,13 +10,14 @@ pub use push::Reach;
 pub use receipt::Receipt;
 pub use refusal::Refusal;
 pub use step::Step;
-pub use stripe::Stripe;
+pub use stripe::{LegState, Stripe};
 
 mod answer;
 mod at;
 mod begin;
 mod causes;
 mod claim;
+pub mod laws;
 mod legs;
 mod push;
 mod read;
@@ -25,3 +26,5 @@ mod refusal;
 mod run;
 mod step;
 mod stripe;
+#[cfg(test)]
+mod tests;

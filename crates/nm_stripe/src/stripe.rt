@@ -2,7 +2,7 @@ ghost use Rattle.std.specs.Prelude.{◌≡◌, ℕ, ◌+◌, ◌-◌, ◌<◌, �
 ghost use Rattle.nm_fanout.specs.Records.{next_owed, first_owed};
 ghost use Rattle.nm_leg.specs.Parts.{EachHas};
 ghost use Rattle.nm_stripe.specs.Opening.{opened, HoldEqual};
-ghost use Rattle.nm_stripe.specs.Sound.{IsSound};
+ghost use Rattle.nm_stripe.specs.Sound.{IsSound, leg_state};
 
 use crate::at::At;
 use nm_fanout::Records;
@@ -10,6 +10,13 @@ use nm_leg::LegPart;
 use nm_replay::{Entry, Kept, Memory};
 use std::alloc::Global;
 use std::marker::Model;
+
+/// How a leg stands in its stripe.
+#[derive(Clone, Copy, Debug, PartialEq, Eq)]
+pub enum LegState {
+    /// It holds what the stripe's array has, but where a write is under way.
+    InSync,
+}
 
 /// A lock shard of the mirror: some of its blocks, on all of its legs. (No stripe of RAID 0's kind.)
 ///
@@ -76,6 +83,15 @@ impl<L: LegPart> Stripe<L> {
         self.master
     }
 
+    /// The leg's state. Until a leg can go out each of them is in sync.
+    pub fn state(&self, leg: u8) -> LegState
+        requires { leg < length self.now.parts }
+        ensures { result ≡ leg_state self.now leg }
+    {
+        let _ = leg;
+        LegState::InSync
+    }
+
     /// Whether the stripe has stopped: its only leg in sync failed in a write.
     pub fn is_stopped(&self) -> bool
         ensures stopped { result ≡ self.now.stopped }
@@ -108,6 +124,7 @@ impl<L: LegPart> Stripe<L> {
     /// A copy of the kept entries, by rising number.
     pub fn entries(&self, alloc: Global) -> Result<Vec<Entry>, Memory>
         ensures ok { IfOk result (λ copy. copy.items ≡ self.now.kept) }
+        ensures memory_only_at_growth { self.now.kept ≡ [] → IsOk result }
     {
         self.kept.entries(alloc)
     }

@@ -1,13 +1,11 @@
 -- The fields after a begin are the state after it, which the lemmas on begins are about.
-use Rattle.std.proofs.Common.{rules, ◌≡◌, ℕ, ◌+◌, ◌<◌, ◌≤◌, length, refl, sym, ap, ◌∙◌, subst, arith, None}
+use Rattle.std.proofs.Common.{rules, ◌≡◌, ◌+◌, ◌<◌, ◌≤◌, length, refl, sym, ap, ◌∙◌, subst, arith, None}
 use Rattle.nm_fanout.specs.Record.{begun}
 use Rattle.nm_fanout.specs.Records.{with_new, unlanded}
-use Rattle.nm_stripe.specs.Lives.{BeginsWrite}
 use Rattle.nm_stripe.specs.Causes.{begin_cause}
-use Rattle.nm_stripe.specs.Steps.{all_legs, after_begin}
+use Rattle.nm_stripe.specs.Steps.{all_legs}
 use Rattle.nm_stripe.specs.State.{StripeState, state_of}
-use Rattle.nm_stripe.specs.Invariant.{Keeps, IsStripe}
-use Rattle.nm_stripe.specs.Headline.{Acts, ShowsMarks}
+use Rattle.nm_stripe.specs.Invariant.{Keeps}
 use Rattle.nm_stripe.proofs.CauseLemmas.{may_begin}
 use Rattle.nm_stripe.proofs.BeginLemmas.{begin-keeps, begin-acts, begun-state}
 use Rattle.nm_stripe.proofs.RecordLemmas.{unlanded-new}

@@ -1,15 +1,13 @@
 -- A claim is read off its fields, and the lemmas on claims do the rest.
-use Rattle.std.proofs.Common.{rules, ◌≡◌, ℕ, ◌+◌, ◌≤◌, false, Option, None, Some, List, [], ◌∷◌, refl, sym, ap, ◌∙◌, subst, arith}
+use Rattle.std.proofs.Common.{rules, ◌≡◌, Option, None, Some, [], ◌∷◌, refl, sym, ap, ◌∙◌, arith}
 use Rattle.std.specs.Option.{option_and_then}
 use Rattle.nm_fanout.specs.declared.write.Record.{Record}
-use Rattle.nm_fanout.specs.Record.{is_under_way}
-use Rattle.nm_fanout.specs.Records.{find_record, entry_of, unlanded, without}
+use Rattle.nm_fanout.specs.Records.{unlanded}
 use Rattle.nm_stripe.specs.Lives.{RepliesWrite}
 use Rattle.nm_stripe.specs.Causes.{claim_cause}
-use Rattle.nm_stripe.specs.State.{StripeState, state_of}
-use Rattle.nm_stripe.specs.Headline.{ShowsMarks}
+use Rattle.nm_stripe.specs.State.{state_of}
 use Rattle.nm_stripe.proofs.CauseLemmas.{may_claim}
-use Rattle.nm_stripe.proofs.ClaimLemmas.{after_claim, claim-keeps, claim-acts, claimed-state, finished_landed}
+use Rattle.nm_stripe.proofs.ClaimLemmas.{claim-keeps, claim-acts, claimed-state, finished_landed}
 use Rattle.nm_stripe.proofs.RecordLemmas.{unlanded-without}
 use Rattle.nm_stripe.proofs.stripe.Stripe.claim.Goals as goal
 

@@ -1,5 +1,4 @@
 -- What the stripe keeps makes it sound.
-use Rattle.nm_stripe.specs.Sound.{IsSound}
 use Rattle.nm_stripe.proofs.SoundLemmas.{keeps-sound}
 use Rattle.nm_stripe.proofs.stripe.Stripe.is_stopped.Goals as goal
 

@@ -1,18 +1,14 @@
 -- A push is read off its fields once, and the lemmas on pushes do the rest.
-use Rattle.std.proofs.Common.{rules, ◌≡◌, ◌≢◌, ℕ, ◌+◌, ◌<◌, ◌≤◌, Bool, true, false, length, is_ok, List, [], ◌∷◌, ◌++◌, Option, None, Some, IsSome, refl, sym, ap, ◌∙◌, subst, arith}
-use Rattle.nm_fanout.specs.Data.{bytes_of, FillsBlock}
-use Rattle.nm_fanout.specs.Record.{without_leg, with_entry}
+use Rattle.std.proofs.Common.{rules, ◌≡◌, ◌≢◌, ◌+◌, true, false, is_ok, [], ◌∷◌, ◌++◌, None, Some, refl, ap, ◌∙◌, arith}
+use Rattle.nm_fanout.specs.Data.{bytes_of}
+use Rattle.nm_fanout.specs.Record.{without_leg}
 use Rattle.nm_fanout.specs.Records.{find_record, unlanded, reached, landed}
 use Rattle.nm_fanout.proofs.Members.{find_record-whole}
 use Rattle.nm_leg.specs.Parts.{WritesPart}
-use Rattle.nm_stripe.specs.Lives.{Event, Lands}
+use Rattle.nm_stripe.specs.Lives.{Lands}
 use Rattle.nm_stripe.specs.Causes.{push_cause}
-use Rattle.nm_stripe.specs.State.{StripeState, state_of}
-use Rattle.nm_stripe.specs.Steps.{after_reach, after_landing, write_entry, Pushes, Reaches, IsReached}
-use Rattle.nm_stripe.specs.Invariant.{Keeps, IsStripe}
-use Rattle.nm_stripe.specs.Headline.{Acts, ShowsMarks, ReachShowsNothing}
-use Rattle.nm_stripe.specs.declared.push.Reach.{Reach}
-use Rattle.nm_stripe.specs.declared.push.Reach.TheVariants.{Pushed, Complete, Halted}
+use Rattle.nm_stripe.specs.State.{state_of}
+use Rattle.nm_stripe.specs.Steps.{write_entry}
 use Rattle.nm_stripe.proofs.HaltLemmas.{halt-keeps}
 use Rattle.nm_stripe.proofs.PushLemmas.{reach-keeps, reach-acts}
 use Rattle.nm_stripe.proofs.LandLemmas.{land-keeps, land-acts}

@@ -1,5 +1,5 @@
 -- A write that owes no leg has its entry.
-use Rattle.std.proofs.Common.{rules, ◌≡◌, ℕ, refl, sym, ap, ◌∙◌, None, Some, Option, false}
+use Rattle.std.proofs.Common.{rules, ◌≡◌, sym, ◌∙◌, Some, false}
 use Rattle.nm_fanout.specs.Records.{find_record}
 use Rattle.nm_fanout.specs.Record.{is_under_way}
 use Rattle.nm_stripe.specs.State.{state_of}

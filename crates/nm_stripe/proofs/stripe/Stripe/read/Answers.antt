@@ -1,12 +1,9 @@
 -- A read is read off its fields, and the lemmas on reads do the rest.
-use Rattle.std.proofs.Common.{rules, ◌≡◌, ℕ, ◌+◌, ◌≤◌, Bool, true, false, is_ok, Option, None, Some, List, [], ◌∷◌, ◌++◌, refl, sym, ap, ◌∙◌, subst, arith, slice_get}
-use Rattle.nm_replay.specs.declared.block.Block.{Block}
-use Rattle.nm_fanout.specs.Records.{unlanded}
+use Rattle.std.proofs.Common.{rules, ◌≡◌, ◌+◌, ◌≤◌, true, false, is_ok, None, [], ◌∷◌, ◌++◌, refl, ap, ◌∙◌, arith}
 use Rattle.nm_leg.specs.Parts.{ReadsPart}
 use Rattle.nm_stripe.specs.Causes.{read_cause}
-use Rattle.nm_stripe.specs.State.{StripeState, state_of, stripe_array}
+use Rattle.nm_stripe.specs.State.{state_of}
 use Rattle.nm_stripe.specs.Steps.{read_entry}
-use Rattle.nm_stripe.specs.Headline.{ShowsMarks}
 use Rattle.nm_stripe.proofs.ActsLemmas.{acts-none}
 use Rattle.nm_stripe.proofs.CauseLemmas.{may_read}
 use Rattle.nm_stripe.proofs.ReadLemmas.{read_events, read-keeps, read-acts, read-array, fails-keeps, fails-acts, read-state, failed-state}

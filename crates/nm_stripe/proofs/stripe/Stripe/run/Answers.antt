@@ -1,9 +1,6 @@
 -- One turn of the loop is one step more.
-use Rattle.std.proofs.Common.{rules, ◌≡◌, ℕ, ◌+◌, ◌-◌, ◌≤◌, List, [], ◌∷◌, ◌++◌, reverse, refl, sym, ap, ◌∙◌, subst, arith, vec_len, vec_capacity}
-use Rattle.nm_stripe.specs.declared.step.Step.{Step}
-use Rattle.nm_stripe.specs.declared.answer.Answer.{Answer}
-use Rattle.nm_stripe.specs.State.{StripeState}
-use Rattle.nm_stripe.proofs.RunLemmas.{HasRun, run-begins, next-asked, run-on, run-ends}
+use Rattle.std.proofs.Common.{rules, ◌≡◌, [], ◌∷◌, ◌++◌, reverse}
+use Rattle.nm_stripe.proofs.RunLemmas.{run-begins, run-on}
 use Rattle.nm_stripe.proofs.stripe.Stripe.run.Goals as goal
 
 pub loop-step-init : goal.loop-step-init

@@ -1,5 +1,5 @@
 -- The loop goes on from the steps done to the steps left, which stand last first.
-use Rattle.std.proofs.Common.{◌≡◌, ◌-◌, ◌≤◌, vec_len, vec_capacity}
+use Rattle.std.proofs.Common.{◌-◌, ◌≤◌, vec_len, vec_capacity}
 use Rattle.nm_stripe.proofs.RunLemmas.{HasRun}
 use Rattle.nm_stripe.proofs.stripe.Stripe.run.Given as goal
 
