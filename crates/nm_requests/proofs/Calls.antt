@@ -1,11 +1,11 @@
 -- What a run of calls handed out is the beginning of what it fed.
-use Rattle.std.proofs.Common.{◌≡◌, ℕ, ◌+◌, ◌≤◌, List, [], ◌∷◌, ◌++◌, length, refl, ap, sym, subst, ◌∙◌, arith, append_assoc, Option}
+use Rattle.std.proofs.Common.{◌≡◌, ℕ, ◌+◌, ◌≤◌, List, [], ◌∷◌, ◌++◌, length, refl, ap, sym, subst, ◌∙◌, arith, append_assoc, Option, Some, None}
 use Rattle.std.proofs.lemmas.List.{append-nil}
 use Rattle.nm_requests.specs.declared.fault.Fault.{Fault}
 use Rattle.nm_requests.specs.Message.{Message, message_bytes}
 use Rattle.nm_requests.specs.Stream.{Begins, EndsAs, IsStreamBehind, IsStream, most_requests}
-use Rattle.nm_requests.specs.Reader.{Unread, IsUnchanged, Call, Fed, HandedOut, Starved, Stopped, Refused, Runs, fed, handed_out, IsNew}
-use Rattle.nm_requests.proofs.Streams.{begins_more, front_is_first}
+use Rattle.nm_requests.specs.Reader.{Unread, IsUnchanged, Call, Fed, HandedOut, Starved, Stopped, Refused, Runs, fed, handed_out, IsNew, Stops, Step}
+use Rattle.nm_requests.proofs.Streams.{begins_more, front_is_first, one_end}
 
 -- from any state: what was unread and what was fed begin with what was handed out
 pub record Keeps (old : Unread) (calls : List Call) (new : Unread) : Type 0 where
@@ -71,8 +71,8 @@ runs_keep old (Stopped fault ∷ calls) new small run =
     (arith, run.1.count)) run.2) in
     record { begins = kept.0; count = kept.1 }
 runs_keep old (Refused ∷ calls) new small run =
-    let kept = keeps_unchanged old run.0 new calls run.1 (runs_keep run.0 calls new (omega
-    (arith, run.1.count)) run.2) in
+    let kept = keeps_unchanged old run.0 new calls run.1.unchanged (runs_keep run.0 calls new (omega
+    (arith, run.1.unchanged.count)) run.2) in
     record { begins = kept.0; count = kept.1 }
 
 -- from a new reader
@@ -111,3 +111,26 @@ handed_out_all reader calls new end fresh run ends =
       begins = far.0;
       ends = subst (λ n. EndsAs n new.rest end) (omega (arith, far.1)) ends;
     }
+
+apart : (reader : Unread) (fault : Fault) → reader.fault ≡ Some fault → reader.fault ≡ None → ⊥
+apart reader fault stopped going = cc
+
+-- behind a fault each call answers it again
+pub stays_stopped : (old mid new : Unread) (fault : Fault) (call : Call)
+    → Stops old fault mid → Step mid call new → call ≡ Stopped fault
+stays_stopped old mid new fault (Fed piece) stops step =
+    absurd (apart mid fault stops.fault step.was_open)
+stays_stopped old mid new fault (HandedOut message) stops step =
+    absurd (apart mid fault stops.fault step.was_open)
+stays_stopped old mid new fault Starved stops step =
+    absurd (apart mid fault stops.fault step.was_open)
+stays_stopped old mid new fault Refused stops step =
+    absurd (apart mid fault stops.fault step.was_open)
+stays_stopped old mid new fault (Stopped other) stops step =
+    let here : EndsAs mid.count mid.rest (Some fault) =
+    subst (λ n. EndsAs n mid.rest (Some fault)) (sym stops.count)
+    (subst (λ l. EndsAs old.count l (Some fault)) (sym stops.rest) stops.ends) in
+    let same : Some fault ≡ Some other = one_end mid.count mid.rest (Some fault)
+    (Some other) here step.ends in
+    let faults : fault ≡ other = cc in
+    ap Stopped (sym faults)

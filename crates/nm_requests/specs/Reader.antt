@@ -45,6 +45,11 @@ pub record Stops (old : Unread) (found : Fault) (new : Unread) : Type 0 where
   pub count : new.count ≡ old.count
   pub fault : new.fault ≡ Some found
 
+-- want of memory: nothing changes
+pub record Refuses (old new : Unread) : Type 0 where
+  pub was_open : old.fault ≡ None
+  pub unchanged : IsUnchanged old new
+
 -- a call of a reader, with its answer
 pub data Call : Type 0 where
   Fed : (piece : List ℕ) → Call
@@ -59,7 +64,7 @@ Step old (Fed piece) new = Feeds old piece new
 Step old (HandedOut message) new = HandsOut old message new
 Step old Starved new = Starves old new
 Step old (Stopped fault) new = Stops old fault new
-Step old Refused new = IsUnchanged old new
+Step old Refused new = Refuses old new
 
 -- the calls lead from one state to the other
 abbrev pub Runs : Unread → List Call → Unread → Type 0

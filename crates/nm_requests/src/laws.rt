@@ -6,7 +6,7 @@ ghost use Rattle.nm_requests.specs.declared.request.Request.{Request};
 ghost use Rattle.nm_requests.specs.declared.task.Task.{Task};
 ghost use Rattle.nm_requests.specs.Judging.{IsFirst, table};
 ghost use Rattle.nm_requests.specs.Message.{Message, IsMessage, message_bytes};
-ghost use Rattle.nm_requests.specs.Reader.{Unread, Call, IsNew, Runs, fed, handed_out};
+ghost use Rattle.nm_requests.specs.Reader.{Unread, Call, Stopped, IsNew, Stops, Step, Runs, fed, handed_out};
 ghost use Rattle.nm_requests.specs.Stream.{StartsWith, Begins, EndsAs, IsStream, IsStreamBehind};
 
 /// No request begins another: of what stands in front of the rest of a stream there is one reading.
@@ -57,6 +57,12 @@ pub fn handed_out_so_far()
     ensures all { (reader new : Unread) (calls : List Call) (end : Option Fault) → IsNew reader
         → Runs reader calls new → EndsAs new.count new.rest end
         → IsStream (fed calls) (handed_out calls) end }
+{}
+
+/// Behind a fault a reader answers nothing else.
+pub fn stays_stopped()
+    ensures { (old mid new : Unread) (fault : Fault) (call : Call) → Stops old fault mid
+        → Step mid call new → call ≡ Stopped fault }
 {}
 
 /// Each request has exactly one result by the table, over each export.

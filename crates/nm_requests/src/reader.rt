@@ -1,4 +1,4 @@
-ghost use Rattle.std.specs.Prelude.{◌≡◌, ◌<◌, ◌≤◌, length, IfSome, IfNone, IfOk, OnOk, OnErr};
+ghost use Rattle.std.specs.Prelude.{◌≡◌, ◌<◌, ◌≤◌, length, None, IfSome, IfNone, IfOk, OnOk, OnErr};
 ghost use Rattle.nm_requests.specs.Front.{HasPayload, message_of};
 
 use crate::fault::Fault;
@@ -53,7 +53,8 @@ impl RequestReader {
     /// this answers it too, for good.
     pub fn feed(&mut self, alloc: Global, piece: &[u8]) -> Result<(), Fault>
         ensures ok { OnOk result (Feeds self.old piece.now self.new) }
-        ensures for_good { IfSome self.old.fault (λ fault. result ≡ Err fault) }
+        ensures for_good { IfSome self.old.fault (λ fault. (result ≡ Err fault)
+            × Stops self.old fault self.new) }
         ensures memory { IfNone self.old.fault (OnErr result (result ≡ Err Fault.Memory)) }
         ensures full { result ≡ Err Fault.Memory → self.old.room < length piece.now }
         ensures err { OnErr result (IsUnchanged self.old self.new) }
@@ -79,11 +80,13 @@ impl RequestReader {
         ensures index { IfOk result (λ found. IfSome found
             (λ request. request.index ≡ self.old.count)) }
         ensures none { IfOk result (λ found. IfNone found (Starves self.old self.new)) }
-        ensures for_good { IfSome self.old.fault (λ fault. result ≡ Err fault) }
+        ensures for_good { IfSome self.old.fault (λ fault. (result ≡ Err fault)
+            × Stops self.old fault self.new) }
         ensures magic { result ≡ Err Fault.Magic → Stops self.old Fault.Magic self.new }
         ensures too_long { result ≡ Err Fault.TooLong → Stops self.old Fault.TooLong self.new }
         ensures memory { result ≡ Err Fault.Memory → HasPayload self.old.count self.old.rest }
-        ensures unchanged { result ≡ Err Fault.Memory → self.new ≡ self.old }
+        ensures unchanged { result ≡ Err Fault.Memory
+            → (self.old.fault ≡ None) × (self.new ≡ self.old) }
     {
         if let Some(fault) = self.fault {
             return Err(fault);
