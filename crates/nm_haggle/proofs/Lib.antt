@@ -9,3 +9,4 @@ pub mod Fronts
 pub mod Passings
 pub mod Flagged
 pub mod Joins
+pub mod DataLengths

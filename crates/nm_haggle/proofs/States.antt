@@ -1,14 +1,15 @@
 -- The laws of whole texts and of texts in pieces, from each state on.
-use Rattle.std.proofs.Common.{◌≡◌, ◌≢◌, ℕ, ◌+◌, ◌-◌, ◌≤◌, List, [], ◌∷◌, ◌++◌, length, drop, refl, sym, ap, ◌∙◌, subst, arith, length-append, zero-add}
+use Rattle.std.proofs.Common.{Bool, ◌≡◌, ◌≢◌, ℕ, ◌+◌, ◌-◌, ◌≤◌, List, [], ◌∷◌, ◌++◌, length, drop, refl, sym, ap, ◌∙◌, subst, arith, length-append, zero-add}
 use Rattle.std.proofs.lemmas.List.{append_assoc, length-drop, drop-append-le}
 use Rattle.std.proofs.Math.Seq.{drop-append-add}
 use Rattle.nm_wire.specs.declared.export.Export.{Export}
 use Rattle.nm_haggle.specs.declared.next.Next.{Next}
 use Rattle.nm_haggle.specs.declared.next.Next.TheVariants.{More, Transmit, Close}
 use Rattle.nm_haggle.specs.declared.phase.Phase.{Phase}
-use Rattle.nm_haggle.specs.Handshake.{Outcome}
-use Rattle.nm_haggle.specs.Haggling.{Haggling, HagglesFrom, Leads, IsUsed, end_at, kept, opened}
-use Rattle.nm_haggle.specs.Laws.{LeadsOneWay, HagglesOneWay, GoesOn, GoesOnOnlySo, EndsThere, HoweverCut, Fed, Feeds, pieces, answers, NoOptionBeginsAnother}
+use Rattle.nm_haggle.specs.declared.phase.Phase.TheVariants as phase
+use Rattle.nm_haggle.specs.Handshake.{Ending, Waits, Settles, Breaks, Handshake, NoFlags, BadFlags, GoodFlags, IsEnding, IsHandshake, Outcome, ending_outcome, handshake_outcome, has_no_zeroes, options_bytes, replies}
+use Rattle.nm_haggle.specs.Haggling.{OptionsLead, Haggling, HagglesFrom, Leads, IsUsed, end_at, kept, opened}
+use Rattle.nm_haggle.specs.Laws.{LeadsOneWay, HagglesOneWay, GoesOn, GoesOnOnlySo, EndsThere, OverBehindAnEnd, HoweverCut, Fed, Feeds, pieces, answers, NoOptionBeginsAnother}
 use Rattle.nm_haggle.proofs.Elements.{options_one}
 use Rattle.nm_haggle.proofs.Pieces.{joined, leads_join, leads_one, awaited_after}
 use Rattle.nm_haggle.proofs.Cuts.{leads_within, leads_apart}
@@ -207,3 +208,41 @@ however_cut export feds last new p = record {
   from = however_from (opened export) new feds last p;
   end_is = refl;
 }
+
+-- a text of options leads to the end exactly where it does not ask for more
+over_ending : (export : Export) (nz : Bool) (out : List ℕ) (e : Ending) → IsEnding export nz e
+    → ((ending_outcome export nz out e).next ≡ More → ¬ ((ending_outcome export nz out e).phase ≡ phase.Over))
+    × ((ending_outcome export nz out e).next ≢ More → (ending_outcome export nz out e).phase ≡ phase.Over)
+over_ending export nz out (Waits r) v = (λ _ h. cc, λ n. absurd (n refl))
+over_ending export nz out (Settles o x) v = (λ h _. v.next h, λ _. refl)
+over_ending export nz out (Breaks b x) v = (λ h _. cc, λ _. refl)
+
+-- the end, and what it says of what comes next
+record OverSo (o : Outcome) : Type 0 where
+  going : o.next ≡ More → ¬ (o.phase ≡ phase.Over)
+  ended : o.next ≢ More → o.phase ≡ phase.Over
+
+over_options : (export : Export) (nz : Bool) (text : List ℕ) (a : Outcome) → OptionsLead export nz text a → OverSo a
+over_options export nz text a p =
+    let both = over_ending export nz (replies export nz p.tree.answered) p.tree.ending p.valid.ending in
+    subst (λ o. OverSo o) (sym p.outcome) (record { going = both.0; ended = both.1 })
+
+over_flags : (export : Export) (t : Handshake) (a : Outcome) → IsHandshake export t → a ≡ handshake_outcome export t → OverSo a
+over_flags export (NoFlags r) a v e =
+    subst (λ o. OverSo o) (sym e) (record { going = λ _ h. cc; ended = λ n. absurd (n refl) })
+over_flags export (BadFlags f x) a v e =
+    subst (λ o. OverSo o) (sym e) (record { going = λ h _. cc; ended = λ _. refl })
+over_flags export (GoodFlags f os) a v e =
+    over_options export (has_no_zeroes f) (options_bytes os) a (record { tree = os; valid = v.1; bytes = refl; outcome = e })
+
+over_leads : (export : Export) (ph : Phase) (text : List ℕ) (a : Outcome) → Leads export ph text a → OverSo a
+over_leads export phase.Flags text a p = over_flags export p.tree a p.valid p.outcome
+over_leads export (phase.Options nz) text a p = over_options export nz text a p
+over_leads export phase.Over text a p = absurd p
+
+pub over_behind_an_end : OverBehindAnEnd
+over_behind_an_end old new text out used next p =
+    let so = over_leads old.export old.phase (old.rest ++ text) p.outcome p.leads in (
+      λ h over. so.going (sym p.next_is ∙ h) (sym p.phase_is ∙ over),
+      λ n. p.phase_is ∙ so.ended (λ h. n (p.next_is ∙ h)),
+    )

@@ -1,6 +1,6 @@
 -- What each option is answered with, and what comes after it ("Option types", "Option reply
 -- types").
-use Rattle.std.specs.Prelude.{◌≡◌, ℕ, ◌+◌, ◌*◌, Bool, true, false, ◌==◌, ◌||◌, if◌then◌else◌, List, [], ◌++◌, length, take, drop, replicate}
+use Rattle.std.specs.Prelude.{◌≡◌, ℕ, ◌+◌, ◌*◌, ◌^◌, ◌<◌, Bool, true, false, ◌==◌, ◌||◌, if◌then◌else◌, List, [], ◌++◌, length, take, drop, replicate}
 use Rattle.std.specs.Str.{bytes_eq}
 use Rattle.std.specs.Int.{w16, w32, from_be_bytes}
 use Rattle.nm_wire.specs.Number.{be}
@@ -78,6 +78,17 @@ type_count payload = from_be_bytes w16 (take 2 (drop (4 + name_length payload) p
 -- the data are the name behind its length, and the information types behind their count
 abbrev pub adds_up : List ℕ → Bool
 adds_up payload = 6 + name_length payload + 2 * type_count payload == length payload
+
+-- the data of INFO and GO as they are put together: the length of the name, the name, the count of
+-- the types, and two bytes a type
+abbrev pub information_bytes : List ℕ → ℕ → List ℕ → List ℕ
+information_bytes name count types = be 4 (length name) ++ name ++ be 2 count ++ types
+
+-- what can be put together so
+pub record IsInformation (name : List ℕ) (count : ℕ) (types : List ℕ) : Type 0 where
+  pub name_fits : length name < 2 ^ 32
+  pub count_fits : count < 2 ^ 16
+  pub counted : length types ≡ 2 * count
 
 -- INFO and GO tell of the export; after GO transmission begins
 abbrev pub answer_to_information : ℕ → Next → Export → List ℕ → Answer

@@ -24,6 +24,10 @@ pub record Haggling : Type 0 where
   pub phase : Phase
   pub rest : List ℕ
 
+-- transmission began, or the session closed
+abbrev pub IsOver : Haggling → Type 0
+IsOver haggling = haggling.phase ≡ phase.Over
+
 -- the state with these parts
 abbrev pub state : Export → Phase → List ℕ → Haggling
 state export phase rest = record { export = export; phase = phase; rest = rest }

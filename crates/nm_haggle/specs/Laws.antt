@@ -1,11 +1,12 @@
 -- What the definitions say of whole texts, and of texts that come in pieces.
-use Rattle.std.specs.Prelude.{◌≡◌, ◌≢◌, ℕ, ◌+◌, List, [], ◌∷◌, ◌++◌, length}
+use Rattle.std.specs.Prelude.{◌≡◌, ◌≢◌, ℕ, ◌+◌, ◌<◌, true, slice_index, List, [], ◌∷◌, ◌++◌, length}
 use Rattle.std.specs.List.{flat_map}
 use Rattle.nm_wire.specs.declared.export.Export.{Export}
 use Rattle.nm_haggle.specs.declared.next.Next.{Next}
 use Rattle.nm_haggle.specs.declared.next.Next.TheVariants.{More}
 use Rattle.nm_haggle.specs.Asked.{Asked, option_bytes, IsTaken}
-use Rattle.nm_haggle.specs.Haggling.{Haggling, HagglesFrom, Haggles, End, end_at, opened}
+use Rattle.nm_haggle.specs.Answer.{information_bytes, IsInformation, adds_up, asked_name}
+use Rattle.nm_haggle.specs.Haggling.{Haggling, HagglesFrom, Haggles, IsOver, End, end_at, opened}
 
 -- no option begins another one: bytes that begin with an option begin with no other, and go on
 -- alike
@@ -29,6 +30,13 @@ HagglesOneWay =
     (export : Export) (text out other_out : List ℕ) (end other_end : End)
     → Haggles export text out end → Haggles export text other_out other_end
     → (out ≡ other_out) × (end ≡ other_end)
+
+-- the haggling is over behind a text exactly where the text does not ask for more
+abbrev pub OverBehindAnEnd : Type 0
+OverBehindAnEnd =
+    (old new : Haggling) (text out : List ℕ) (used : ℕ) (next : Next)
+    → HagglesFrom old text out used next new
+    → (next ≡ More → ¬ IsOver new) × (next ≢ More → IsOver new)
 
 -- where a text asks for more, what follows is answered from the state that is left
 abbrev pub GoesOn : Type 0
@@ -86,3 +94,17 @@ HoweverCut =
     → Feeds (opened export) feds last new
     → Haggles export (pieces feds ++ last.piece) (answers feds ++ last.out)
     (end_at (length (pieces feds) + last.used) last.next)
+
+-- data of INFO and GO add up where they are a name and a list of types, and ask for that name
+abbrev pub InformationAddsUp : Type 0
+InformationAddsUp =
+    (name types : List ℕ) (count : ℕ) → IsInformation name count types
+    → (adds_up (information_bytes name count types) ≡ true)
+    × (asked_name (information_bytes name count types) ≡ name)
+
+-- and only there, where each is a byte
+abbrev pub OnlyInformationAddsUp : Type 0
+OnlyInformationAddsUp =
+    (payload : List ℕ) → ((k : ℕ) → slice_index payload k < 256) → adds_up payload ≡ true
+    → (types : List ℕ) × (count : ℕ) × IsInformation (asked_name payload) count types
+    × (payload ≡ information_bytes (asked_name payload) count types)

@@ -7,7 +7,7 @@ use crate::replies::{put_empty, put_information, put_name, put_size_and_flags};
 use nm_wire::{Export, OptionKind, ReplyKind};
 use std::alloc::AllocError;
 
-/// How many zero bytes end the reply to EXPORT_NAME.
+/// The zeroes at the end of the reply to EXPORT_NAME.
 const ZEROES: [u8; 124] = [0; 124];
 
 /// Whether a client may name the export so.
@@ -87,14 +87,14 @@ fn answer_information(
     ensures { IfOk result (IsAnswered (answer_to_information option next export.now payload.now)
         out.old.items out.new.items) }
 {
-    let Some(name) = asked_name(payload) else {
-        return refuse(out, option, ReplyKind::Invalid);
-    };
-    if !is_known(export, name) {
-        return refuse(out, option, ReplyKind::Unknown);
+    match asked_name(payload) {
+        None => refuse(out, option, ReplyKind::Invalid),
+        Some(name) if is_known(export, name) => {
+            put_information(out, option, export)?;
+            Ok(next)
+        }
+        Some(_) => refuse(out, option, ReplyKind::Unknown),
     }
-    put_information(out, option, export)?;
-    Ok(next)
 }
 
 /// Answers an option, and tells what comes after it.

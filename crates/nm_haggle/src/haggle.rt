@@ -1,5 +1,5 @@
 ghost use Rattle.std.specs.Prelude.{◌≡◌, ◌↔◌, length, IfOk, OnErr, IsErrOf};
-ghost use Rattle.nm_haggle.specs.Haggling.{opened, greeting_bytes, HagglesFrom};
+ghost use Rattle.nm_haggle.specs.Haggling.{opened, greeting_bytes, HagglesFrom, IsOver};
 
 use crate::phase::Phase;
 use crate::piece::take_in;
@@ -73,7 +73,7 @@ impl Haggle {
         // However the client's text is cut, the pieces' answers are those of the whole.
         ensures ok { IfOk result (λ turn. HagglesFrom self.old bytes.now turn.out.items turn.used
             turn.next self.new) }
-        ensures closed { IsErrOf result Refused.Closed ↔ (self.old.phase ≡ Phase.Over) }
+        ensures closed { IsErrOf result Refused.Closed ↔ IsOver self.old }
         ensures err { OnErr result (self.new ≡ self.old) }
     {
         if let Phase::Over = self.phase {
@@ -83,14 +83,21 @@ impl Haggle {
             Some(held) => held,
             None => Vec::new(alloc),
         };
-        let mut out = Vec::new(alloc);
-        let answer = take_in(alloc, &mut held, &mut out, &self.export, self.phase, bytes);
+        let mut replies = Vec::new(alloc);
+        let answer = take_in(
+            alloc,
+            &mut held,
+            &mut replies,
+            &self.export,
+            self.phase,
+            bytes,
+        );
         self.held = Some(held);
         let progress = answer?;
         self.phase = progress.phase;
         Ok(Turn {
             used: progress.used,
-            out,
+            out: replies,
             next: progress.next,
         })
     }

@@ -18,4 +18,6 @@ mod piece;
 mod progress;
 mod refused;
 mod replies;
+#[cfg(test)]
+mod tests;
 mod turn;

@@ -25,19 +25,19 @@ fn read_piece(
         p held.new.items) }
     ensures err { OnErr result (held.new.items ≡ held.old.items) }
 {
-    let progress = answer_text(out, export, phase, piece)?;
-    match progress.next {
+    let read = answer_text(out, export, phase, piece)?;
+    match read.next {
         Next::More => {
-            *held = Vec::from_slice(alloc, &piece[progress.used..])?;
+            *held = Vec::from_slice(alloc, &piece[read.used..])?;
             Ok(Progress {
                 used: piece.len(),
                 next: Next::More,
-                phase: progress.phase,
+                phase: read.phase,
             })
         }
         Next::Transmit | Next::Close { .. } => {
             *held = Vec::new(alloc);
-            Ok(progress)
+            Ok(read)
         }
     }
 }
@@ -58,13 +58,13 @@ fn join(
         out.old.items out.new.items) }
     ensures err { OnErr result (held.new.items ≡ held.old.items) }
 {
-    let before = held.len();
-    let part = piece.len().min(MOST_HELD - before);
+    let known = held.len();
+    let part = piece.len().min(MOST_HELD - known);
     held.extend_from_slice(&piece[..part])?;
     match answer_text(out, export, phase, held.as_slice()) {
         Ok(progress) => Ok(progress),
         Err(refused) => {
-            held.truncate(before);
+            held.truncate(known);
             Err(refused)
         }
     }

@@ -29,6 +29,6 @@ impl From<AllocError> for Refused {
     ghost from_gives = { λ _ refused. refused ≡ Memory };
 
     fn from(_refused: AllocError) -> Refused {
-        Refused::Memory
+        Self::Memory
     }
 }

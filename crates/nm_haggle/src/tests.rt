@@ -1,0 +1,529 @@
+//! Handshakes byte for byte, in every cutting, and what comes at the edges of each length.
+ghost use Rattle.std.specs.Prelude.{◌≤◌, length, IfOk};
+
+use super::*;
+use nm_wire::{Export, Name};
+use std::alloc::{AllocError, Global};
+use std::process::Abort;
+use std::test::Fail;
+
+const FIXED: [u8; 4] = [0, 0, 0, 1];
+
+const FIXED_NO_ZEROES: [u8; 4] = [0, 0, 0, 3];
+
+// GO for "disk", asking for nothing.
+const GO: [u8; 26] = [
+    0x49, 0x48, 0x41, 0x56, 0x45, 0x4f, 0x50, 0x54, 0, 0, 0, 7, 0, 0, 0, 0x0a, 0, 0, 0, 4, 0x64,
+    0x69, 0x73, 0x6b, 0, 0,
+];
+
+// GO for "disk", asking for the block sizes.
+const GO_ASKING: [u8; 28] = [
+    0x49, 0x48, 0x41, 0x56, 0x45, 0x4f, 0x50, 0x54, 0, 0, 0, 7, 0, 0, 0, 0x0c, 0, 0, 0, 4, 0x64,
+    0x69, 0x73, 0x6b, 0, 1, 0, 3,
+];
+
+// GO whose name is longer than its data.
+const GO_TOO_SHORT: [u8; 26] = [
+    0x49, 0x48, 0x41, 0x56, 0x45, 0x4f, 0x50, 0x54, 0, 0, 0, 7, 0, 0, 0, 0x0a, 0, 0, 0, 5, 0x64,
+    0x69, 0x73, 0x6b, 0, 0,
+];
+
+// What GO is answered by: size and flags, block sizes, and ACK.
+const TOLD: [u8; 86] = [
+    0x00, 0x03, 0xe8, 0x89, 0x04, 0x55, 0x65, 0xa9, 0, 0, 0, 7, 0, 0, 0, 3, 0, 0, 0, 0x0c, 0, 0, 0,
+    0, 0, 0, 0, 0x10, 0, 0, 0x01, 0x6d, 0x00, 0x03, 0xe8, 0x89, 0x04, 0x55, 0x65, 0xa9, 0, 0, 0, 7,
+    0, 0, 0, 3, 0, 0, 0, 0x0e, 0, 3, 0, 0, 2, 0, 0, 0, 0x10, 0, 2, 0, 0, 0, 0x00, 0x03, 0xe8, 0x89,
+    0x04, 0x55, 0x65, 0xa9, 0, 0, 0, 7, 0, 0, 0, 1, 0, 0, 0, 0,
+];
+
+const EXPORT_NAME_DISK: [u8; 20] = [
+    0x49, 0x48, 0x41, 0x56, 0x45, 0x4f, 0x50, 0x54, 0, 0, 0, 1, 0, 0, 0, 4, 0x64, 0x69, 0x73, 0x6b,
+];
+
+const EXPORT_NAME_DISC: [u8; 20] = [
+    0x49, 0x48, 0x41, 0x56, 0x45, 0x4f, 0x50, 0x54, 0, 0, 0, 1, 0, 0, 0, 4, 0x64, 0x69, 0x73, 0x63,
+];
+
+const SIZE_AND_FLAGS: [u8; 10] = [0, 0, 0, 0, 0, 0x10, 0, 0, 0x01, 0x6d];
+
+const LIST: [u8; 16] = [
+    0x49, 0x48, 0x41, 0x56, 0x45, 0x4f, 0x50, 0x54, 0, 0, 0, 3, 0, 0, 0, 0,
+];
+
+const LISTED: [u8; 48] = [
+    0x00, 0x03, 0xe8, 0x89, 0x04, 0x55, 0x65, 0xa9, 0, 0, 0, 3, 0, 0, 0, 2, 0, 0, 0, 8, 0, 0, 0, 4,
+    0x64, 0x69, 0x73, 0x6b, 0x00, 0x03, 0xe8, 0x89, 0x04, 0x55, 0x65, 0xa9, 0, 0, 0, 3, 0, 0, 0, 1,
+    0, 0, 0, 0,
+];
+
+const LIST_WITH_DATA: [u8; 17] = [
+    0x49, 0x48, 0x41, 0x56, 0x45, 0x4f, 0x50, 0x54, 0, 0, 0, 3, 0, 0, 0, 1, 0,
+];
+
+const STRUCTURED_REPLY: [u8; 16] = [
+    0x49, 0x48, 0x41, 0x56, 0x45, 0x4f, 0x50, 0x54, 0, 0, 0, 8, 0, 0, 0, 0,
+];
+
+const ABORT: [u8; 16] = [
+    0x49, 0x48, 0x41, 0x56, 0x45, 0x4f, 0x50, 0x54, 0, 0, 0, 2, 0, 0, 0, 0,
+];
+
+// The head of an option with one byte of data too many.
+const TOO_LONG: [u8; 16] = [
+    0x49, 0x48, 0x41, 0x56, 0x45, 0x4f, 0x50, 0x54, 0, 0, 0, 2, 0, 1, 0, 1,
+];
+
+// The head of an option whose magic's last bit is wrong.
+const WRONG_MAGIC: [u8; 16] = [
+    0x49, 0x48, 0x41, 0x56, 0x45, 0x4f, 0x50, 0x55, 0, 0, 0, 2, 0, 0, 0, 0,
+];
+
+// The beginning of a request, which is none of the haggling's.
+const REQUEST: [u8; 5] = [0x25, 0x60, 0x95, 0x13, 0];
+
+// The numbers of the replies' types.
+const ACK: [u8; 4] = [0, 0, 0, 1];
+
+const UNSUP: [u8; 4] = [0x80, 0, 0, 1];
+
+const INVALID: [u8; 4] = [0x80, 0, 0, 3];
+
+const UNKNOWN: [u8; 4] = [0x80, 0, 0, 6];
+
+const CLOSED: Next = Next::Close { aborted: false };
+
+const ABORTED: Next = Next::Close { aborted: true };
+
+/// A reply without data.
+fn empty_reply(option: u8, kind: [u8; 4]) -> [u8; 20] {
+    [
+        0x00, 0x03, 0xe8, 0x89, 0x04, 0x55, 0x65, 0xa9, 0, 0, 0, option, kind[0], kind[1], kind[2],
+        kind[3], 0, 0, 0, 0,
+    ]
+}
+
+/// An export of 1 MiB with this name, writable.
+fn export(alloc: Global, name: &[u8]) -> Result<Export, AllocError>
+    requires { length name.now ≤ 255 }
+{
+    Ok(Export {
+        name: Name::new(Vec::from_slice(alloc, name)?),
+        blocks: 2048,
+        read_only: false,
+    })
+}
+
+/// These parts in a row.
+fn joined(alloc: Global, parts: &[&[u8]]) -> Result<Vec<u8>, AllocError> {
+    let mut whole = Vec::new(alloc);
+    for part in parts {
+        whole.extend_from_slice(part)?;
+    }
+    Ok(whole)
+}
+
+/// A client of "disk": what it was answered by, how many of its bytes were used, what came last.
+#[derive(Drop)]
+struct Client {
+    haggle: Haggle,
+    out: Vec<u8>,
+    used: usize,
+    next: Next,
+}
+
+impl Client {
+    fn new(alloc: Global) -> Result<Client, AllocError> {
+        Ok(Client {
+            haggle: Haggle::new(export(alloc, b"disk")?),
+            out: Vec::new(alloc),
+            used: 0,
+            next: Next::More,
+        })
+    }
+
+    /// Feeds a piece, unless the haggling is over.
+    fn send(&mut self, alloc: Global, piece: &[u8]) -> Result<(), Fail> {
+        if self.next != Next::More {
+            return Ok(());
+        }
+        let turn = self.haggle.feed(alloc, piece)?;
+        self.out.extend_from_slice(turn.out.as_slice())?;
+        self.used = self.used.wrapping_add(turn.used);
+        self.next = turn.next;
+        Ok(())
+    }
+
+    /// That is what the client was answered by.
+    fn got(&self, rt: &impl Abort, out: &[u8], used: usize, next: Next, place: usize) {
+        assert_eq!(rt; self.out.as_slice(), out, "cut at {place}");
+        assert_eq!(rt; self.used, used, "cut at {place}");
+        assert_eq!(rt; self.next, next, "cut at {place}");
+    }
+}
+
+/// A text is answered by these bytes, so many of it are used and that comes next: whole, cut in two
+/// at every byte, and byte by byte.
+fn meets(
+    rt: &impl Abort,
+    alloc: Global,
+    text: &[u8],
+    out: &[u8],
+    used: usize,
+    next: Next,
+) -> Result<(), Fail> {
+    for at in 0..=text.len() {
+        let (front, back) = text.split_at(at);
+        let mut client = Client::new(alloc)?;
+        client.send(alloc, front)?;
+        client.send(alloc, back)?;
+        client.got(rt, out, used, next, at);
+    }
+    let mut client = Client::new(alloc)?;
+    for byte in text.chunks(1) {
+        client.send(alloc, byte)?;
+    }
+    client.got(rt, out, used, next, text.len());
+    Ok(())
+}
+
+#[test]
+fn greets(rt: HostRuntime) {
+    let greeting: [u8; 18] = [
+        0x4e, 0x42, 0x44, 0x4d, 0x41, 0x47, 0x49, 0x43, 0x49, 0x48, 0x41, 0x56, 0x45, 0x4f, 0x50,
+        0x54, 0x00, 0x03,
+    ];
+    assert_eq!(rt; Haggle::greeting(), greeting);
+}
+
+#[test]
+fn answers_go(rt: HostRuntime) -> Result<(), Fail> {
+    let alloc = rt.alloc();
+    let plain = joined(alloc, &[&FIXED_NO_ZEROES, &GO])?;
+    meets(&rt, alloc, &plain, &TOLD, 30, Next::Transmit)?;
+    let asking = joined(alloc, &[&FIXED_NO_ZEROES, &GO_ASKING])?;
+    meets(&rt, alloc, &asking, &TOLD, 32, Next::Transmit)?;
+    let followed = joined(alloc, &[&FIXED, &GO, &REQUEST])?;
+    meets(&rt, alloc, &followed, &TOLD, 30, Next::Transmit)
+}
+
+#[test]
+fn answers_export_name(rt: HostRuntime) -> Result<(), Fail> {
+    let alloc = rt.alloc();
+    let filled = joined(alloc, &[&SIZE_AND_FLAGS, &[0; 124]])?;
+    let with_zeroes = joined(alloc, &[&FIXED, &EXPORT_NAME_DISK])?;
+    meets(&rt, alloc, &with_zeroes, &filled, 24, Next::Transmit)?;
+    let without = joined(alloc, &[&FIXED_NO_ZEROES, &EXPORT_NAME_DISK, &REQUEST])?;
+    meets(&rt, alloc, &without, &SIZE_AND_FLAGS, 24, Next::Transmit)?;
+    let unknown = joined(alloc, &[&FIXED, &EXPORT_NAME_DISC])?;
+    meets(&rt, alloc, &unknown, &[], 24, CLOSED)
+}
+
+#[test]
+fn goes_on_behind_refused_options(rt: HostRuntime) -> Result<(), Fail> {
+    let alloc = rt.alloc();
+    let text = joined(
+        alloc,
+        &[&FIXED_NO_ZEROES, &LIST_WITH_DATA, &STRUCTURED_REPLY, &GO],
+    )?;
+    let out = joined(
+        alloc,
+        &[&empty_reply(3, INVALID), &empty_reply(8, UNSUP), &TOLD],
+    )?;
+    meets(&rt, alloc, &text, &out, 63, Next::Transmit)?;
+    let short = joined(alloc, &[&FIXED_NO_ZEROES, &GO_TOO_SHORT])?;
+    meets(&rt, alloc, &short, &empty_reply(7, INVALID), 30, Next::More)
+}
+
+#[test]
+fn answers_list_and_abort(rt: HostRuntime) -> Result<(), Fail> {
+    let alloc = rt.alloc();
+    let list = joined(alloc, &[&FIXED_NO_ZEROES, &LIST])?;
+    meets(&rt, alloc, &list, &LISTED, 20, Next::More)?;
+    let abort = joined(alloc, &[&FIXED_NO_ZEROES, &ABORT, &REQUEST])?;
+    let acknowledged = empty_reply(2, ACK);
+    meets(&rt, alloc, &abort, &acknowledged, 20, ABORTED)
+}
+
+#[test]
+fn breaks_off(rt: HostRuntime) -> Result<(), Fail> {
+    let alloc = rt.alloc();
+    for bit in 2..32u32 {
+        let flags = 1u32.wrapping_shl(bit).to_be_bytes();
+        let text = joined(alloc, &[&flags, &GO])?;
+        meets(&rt, alloc, &text, &[], 4, CLOSED)?;
+    }
+    for head in [&TOO_LONG, &WRONG_MAGIC] {
+        let text = joined(alloc, &[&FIXED, head, &REQUEST])?;
+        meets(&rt, alloc, &text, &[], 20, CLOSED)?;
+        let part = joined(alloc, &[&FIXED, &head[..15]])?;
+        meets(&rt, alloc, &part, &[], 19, Next::More)?;
+    }
+    Ok(())
+}
+
+#[test]
+fn takes_nothing_behind_the_end(rt: HostRuntime) -> Result<(), Fail> {
+    let alloc = rt.alloc();
+    for last in [&GO[..], &ABORT, &TOO_LONG] {
+        let mut client = Client::new(alloc)?;
+        client.send(alloc, &FIXED)?;
+        client.send(alloc, last)?;
+        let again = client.haggle.feed(alloc, &REQUEST);
+        assert!(rt; matches!(again, Err(Refused::Closed)));
+        let empty = client.haggle.feed(alloc, &[]);
+        assert!(rt; matches!(empty, Err(Refused::Closed)));
+        assert_eq!(rt; client.haggle.export().blocks, 2048);
+    }
+    Ok(())
+}
+
+/// The bytes of an option behind the client's flags.
+fn asking(alloc: Global, number: u8, payload: &[u8]) -> Result<Vec<u8>, AllocError> {
+    let length = u32::try_from(payload.len()).unwrap_or(0).to_be_bytes();
+    let magic = [0x49, 0x48, 0x41, 0x56, 0x45, 0x4f, 0x50, 0x54];
+    joined(
+        alloc,
+        &[
+            &FIXED_NO_ZEROES,
+            &magic,
+            &[0, 0, 0, number],
+            &length,
+            payload,
+        ],
+    )
+}
+
+/// An option with these data is answered so: whole, and cut at its head's and its data's edges.
+fn answers(
+    rt: &impl Abort,
+    alloc: Global,
+    number: u8,
+    payload: &[u8],
+    out: &[u8],
+    next: Next,
+) -> Result<(), Fail> {
+    let text = asking(alloc, number, payload)?;
+    let used = if payload.len() > 65_536 {
+        20
+    } else {
+        text.len()
+    };
+    for cut in [0, 4, 19, 20, 21, text.len().saturating_sub(1)] {
+        let (front, back) = text.split_at(cut.min(text.len()));
+        let mut client = Client::new(alloc)?;
+        client.send(alloc, front)?;
+        client.send(alloc, back)?;
+        client.got(rt, out, used, next, cut);
+    }
+    Ok(())
+}
+
+/// What INFO is answered by.
+fn told_of_info() -> [u8; 86] {
+    let mut told = TOLD;
+    told[11] = 6;
+    told[43] = 6;
+    told[77] = 6;
+    told
+}
+
+#[test]
+fn takes_data_of_each_length(rt: HostRuntime) -> Result<(), Fail> {
+    let alloc = rt.alloc();
+    let zeroes = vec![in alloc; 0u8; 65_537]?;
+    for (number, length, out, next) in [
+        (1, 0, &SIZE_AND_FLAGS[..], Next::Transmit),
+        (1, 1, &[], CLOSED),
+        (1, 5, &[], CLOSED),
+        (1, 65_536, &[], CLOSED),
+        (2, 0, &empty_reply(2, ACK), ABORTED),
+        (2, 1, &empty_reply(2, ACK), ABORTED),
+        (2, 65_536, &empty_reply(2, ACK), ABORTED),
+        (3, 0, &LISTED, Next::More),
+        (3, 1, &empty_reply(3, INVALID), Next::More),
+        (3, 65_536, &empty_reply(3, INVALID), Next::More),
+        (6, 0, &empty_reply(6, INVALID), Next::More),
+        (6, 1, &empty_reply(6, INVALID), Next::More),
+        (6, 6, &told_of_info(), Next::More),
+        (6, 7, &empty_reply(6, INVALID), Next::More),
+        (6, 65_536, &empty_reply(6, INVALID), Next::More),
+        (7, 0, &empty_reply(7, INVALID), Next::More),
+        (7, 1, &empty_reply(7, INVALID), Next::More),
+        (7, 6, &TOLD, Next::Transmit),
+        (7, 7, &empty_reply(7, INVALID), Next::More),
+        (7, 65_536, &empty_reply(7, INVALID), Next::More),
+        (8, 0, &empty_reply(8, UNSUP), Next::More),
+        (8, 1, &empty_reply(8, UNSUP), Next::More),
+        (8, 65_536, &empty_reply(8, UNSUP), Next::More),
+    ] {
+        let payload = zeroes.get(..length).ok_or("too long")?;
+        answers(&rt, alloc, number, payload, out, next)?;
+    }
+    for number in 1..9 {
+        answers(&rt, alloc, number, &zeroes, &[], CLOSED)?;
+    }
+    Ok(())
+}
+
+#[test]
+fn adds_up_the_lengths_of_info_and_go(rt: HostRuntime) -> Result<(), Fail> {
+    let alloc = rt.alloc();
+    for (name_length, type_count) in [
+        (0u32, 1u16),
+        (3, 1),
+        (5, 1),
+        (6, 1),
+        (65_535, 1),
+        (1 << 31, 1),
+        (u32::MAX, 1),
+        (4, 0),
+        (4, 2),
+        (4, u16::MAX),
+    ] {
+        let payload = joined(
+            alloc,
+            &[
+                &name_length.to_be_bytes(),
+                b"disk",
+                &type_count.to_be_bytes(),
+                &[0, 3],
+            ],
+        )?;
+        answers(
+            &rt,
+            alloc,
+            6,
+            &payload,
+            &empty_reply(6, INVALID),
+            Next::More,
+        )?;
+        answers(
+            &rt,
+            alloc,
+            7,
+            &payload,
+            &empty_reply(7, INVALID),
+            Next::More,
+        )?;
+    }
+    let payload = joined(alloc, &[&[0, 0, 0, 4], b"disk", &[0, 1, 0, 3]])?;
+    answers(&rt, alloc, 6, &payload, &told_of_info(), Next::More)?;
+    answers(&rt, alloc, 7, &payload, &TOLD, Next::Transmit)
+}
+
+/// The data of GO for this name, asking for nothing.
+fn naming(alloc: Global, name: &[u8]) -> Result<Vec<u8>, AllocError> {
+    let length = u32::try_from(name.len()).unwrap_or(0).to_be_bytes();
+    joined(alloc, &[&length, name, &[0, 0]])
+}
+
+#[test]
+fn knows_names_byte_for_byte(rt: HostRuntime) -> Result<(), Fail> {
+    let alloc = rt.alloc();
+    for name in [&b""[..], b"disk"] {
+        let payload = naming(alloc, name)?;
+        answers(&rt, alloc, 7, &payload, &TOLD, Next::Transmit)?;
+    }
+    let unknown = empty_reply(7, UNKNOWN);
+    for name in [
+        &b"disc"[..],
+        b"Disk",
+        b"dis",
+        b"disk0",
+        &[0xff, 0xfe, 0xfd, 0xfc],
+    ] {
+        let payload = naming(alloc, name)?;
+        answers(&rt, alloc, 7, &payload, &unknown, Next::More)?;
+    }
+    Ok(())
+}
+
+#[test]
+fn serves_a_name_that_is_no_text(rt: HostRuntime) -> Result<(), Fail> {
+    let alloc = rt.alloc();
+    let mut haggle = Haggle::new(export(alloc, &[0xff, 0xfe])?);
+    let text = asking(alloc, 1, &[0xff, 0xfe])?;
+    let turn = haggle.feed(alloc, &text)?;
+    assert_eq!(rt; turn.out.as_slice(), &SIZE_AND_FLAGS[..]);
+    assert_eq!(rt; turn.next, Next::Transmit);
+    Ok(())
+}
+
+#[test]
+fn tells_a_read_only_export(rt: HostRuntime) -> Result<(), Fail> {
+    let alloc = rt.alloc();
+    let mut disk = export(alloc, b"disk")?;
+    disk.read_only = true;
+    let mut haggle = Haggle::new(disk);
+    let text = joined(alloc, &[&FIXED_NO_ZEROES, &EXPORT_NAME_DISK])?;
+    let turn = haggle.feed(alloc, &text)?;
+    assert_eq!(rt;
+        turn.out.as_slice(),
+        &[0, 0, 0, 0, 0, 0x10, 0, 0, 0x01, 0x07][..]
+    );
+    Ok(())
+}
+
+// Copying what is held again at each byte would take some thousand million copies here.
+#[test]
+fn takes_the_longest_option_byte_by_byte(rt: HostRuntime) -> Result<(), Fail> {
+    let alloc = rt.alloc();
+    let zeroes = vec![in alloc; 0u8; 65_536]?;
+    let text = asking(alloc, 8, &zeroes)?;
+    let mut client = Client::new(alloc)?;
+    for byte in text.chunks(1) {
+        client.send(alloc, byte)?;
+    }
+    client.got(&rt, &empty_reply(8, UNSUP), 65_556, Next::More, 0);
+    Ok(())
+}
+
+/// Feeds a piece, and once more where memory was refused.
+fn fed_again(haggle: &mut Haggle, alloc: Global, piece: &[u8]) -> Result<Turn, Refused> {
+    match haggle.feed(alloc, piece) {
+        Err(Refused::Memory) => haggle.feed(alloc, piece),
+        answer => answer,
+    }
+}
+
+/// The bytes of the name, and once more where memory was refused.
+fn name_again(alloc: Global) -> Result<Vec<u8>, AllocError>
+    ensures { IfOk result (λ name. length name.items ≤ 255) }
+{
+    match Vec::from_slice(alloc, b"disk") {
+        Err(_) => Vec::from_slice(alloc, b"disk"),
+        name => name,
+    }
+}
+
+// Run with each allocation refused in turn: what is fed again is answered as if nothing had been.
+#[test]
+fn forgets_a_piece_that_memory_refused(rt: HostRuntime) -> Result<(), Fail> {
+    let alloc = rt.alloc();
+    let text = [
+        0, 0, 0, 3, 0x49, 0x48, 0x41, 0x56, 0x45, 0x4f, 0x50, 0x54, 0, 0, 0, 7, 0, 0, 0, 0x0a, 0,
+        0, 0, 4, 0x64, 0x69, 0x73, 0x6b, 0, 0,
+    ];
+    for size in [30, 17, 1] {
+        let name = Name::new(name_again(alloc)?);
+        let mut haggle = Haggle::new(Export {
+            name,
+            blocks: 2048,
+            read_only: false,
+        });
+        let mut sent = 0usize;
+        let mut next = Next::More;
+        for piece in text.chunks(size) {
+            let turn = fed_again(&mut haggle, alloc, piece)?;
+            let end = sent.wrapping_add(turn.out.len());
+            assert_eq!(rt; TOLD.get(sent..end), Some(turn.out.as_slice()));
+            assert_eq!(rt; turn.used, piece.len());
+            sent = end;
+            next = turn.next;
+        }
+        assert_eq!(rt; sent, TOLD.len());
+        assert_eq!(rt; next, Next::Transmit);
+    }
+    Ok(())
+}
