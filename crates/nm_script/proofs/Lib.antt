@@ -7,3 +7,9 @@ pub mod MirrorLaws
 pub mod LineLaws
 pub mod ScriptLaws
 pub mod Sent
+pub mod Legs
+pub mod Shapes
+pub mod RunLaws
+pub mod HistoryLaws
+pub mod EndLaws
+pub mod Inside

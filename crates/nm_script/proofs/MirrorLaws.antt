@@ -1,9 +1,9 @@
 -- The mirror that a line is read as is the one that its words say, and what they say is read.
-use Rattle.std.proofs.Common.{◌≡◌, ℕ, ◌≤◌, ◌^◌, cond, List, [], ◌∷◌, Some, None, Option, codes, refl, ap, ◌∙◌, arith}
+use Rattle.std.proofs.Common.{◌≡◌, ℕ, ◌^◌, cond, List, [], ◌∷◌, Some, None, Option, codes, refl, ap, ◌∙◌, arith}
 use Rattle.std.specs.List.{AllByRecursion}
 use Rattle.std.proofs.lemmas.Option.{same_Some}
 use Rattle.nm_script.specs.declared.mirrors.Mirror.{Mirror}
-use Rattle.nm_script.specs.Grammar.{Spells, policy_word, IsMirrorLine}
+use Rattle.nm_script.specs.Grammar.{Spells, policy_word, IsMirrorLine, InRange}
 use Rattle.nm_script.specs.Reading.{parts, word_at, within_at, policy_at, is_word, ended, mirror_at, mirror_of, ◌>>=◌}
 use Rattle.nm_script.proofs.Numbers.{guarded}
 use Rattle.nm_script.proofs.Joined.{Lacks, lacks_from_test}
@@ -29,11 +29,7 @@ pub record MirrorWords (ws : List (List ℕ)) (m : Mirror) (rest : List (List �
   pub is_region : Spells region m.region
   pub is_chunk : Spells chunk m.chunk
   pub is_first : Spells first m.first
-  pub legs_range : (1 ≤ m.legs) × (m.legs ≤ 8)
-  pub blocks_range : (1 ≤ m.blocks) × (m.blocks ≤ 65536)
-  pub region_range : (1 ≤ m.region) × (m.region ≤ 65536)
-  pub chunk_range : (1 ≤ m.chunk) × (m.chunk ≤ m.region)
-  pub first_range : m.first ≤ 2 ^ 63
+  pub in_range : InRange m
 
 -- six words, taken one after the other
 chained : (ws a b c d e f : List (List ℕ)) (legs blocks region chunk policy first : List ℕ) → ws ≡ legs ∷ a → a ≡ blocks ∷ b → b ≡ region ∷ c →
@@ -70,11 +66,13 @@ mirror_taken ws x h =
       is_region = region.0.2;
       is_chunk = chunk.0.2;
       is_first = first.0.2;
-      legs_range = (legs.1, legs.2);
-      blocks_range = (blocks.1, blocks.2);
-      region_range = (region.1, region.2);
-      chunk_range = (chunk.1, chunk.2);
-      first_range = first.2;
+      in_range = record {
+        legs = (legs.1, legs.2);
+        blocks = (blocks.1, blocks.2);
+        region = (region.1, region.2);
+        chunk = (chunk.1, chunk.2);
+        first = first.2;
+      };
     })
 
 line_said : (line : List ℕ) (ws : List (List ℕ)) (m : Mirror) → parts 32 line ≡ codes "mirror" ∷ ws → MirrorWords ws m [] → IsMirrorLine line m
@@ -90,11 +88,7 @@ line_said line ws m e h = record {
   is_region = h.is_region;
   is_chunk = h.is_chunk;
   is_first = h.is_first;
-  legs_range = h.legs_range;
-  blocks_range = h.blocks_range;
-  region_range = h.region_range;
-  chunk_range = h.chunk_range;
-  first_range = h.first_range;
+  in_range = h.in_range;
 }
 
 words_said : (line : List ℕ) (ws : List (List ℕ)) (m : Mirror) → parts 32 line ≡ ws →
@@ -127,10 +121,10 @@ mirror_read line m h =
     ) in
     rw (
       words_of line ws h.words (omega arith) clean,
-      within_given 1 8 h.legs (h.blocks ∷ h.region ∷ h.chunk ∷ policy_word m.policy ∷ h.first ∷ []) m.legs h.is_legs h.legs_range.0 h.legs_range.1,
-      within_given 1 65536 h.blocks (h.region ∷ h.chunk ∷ policy_word m.policy ∷ h.first ∷ []) m.blocks h.is_blocks h.blocks_range.0 h.blocks_range.1,
-      within_given 1 65536 h.region (h.chunk ∷ policy_word m.policy ∷ h.first ∷ []) m.region h.is_region h.region_range.0 h.region_range.1,
-      within_given 1 m.region h.chunk (policy_word m.policy ∷ h.first ∷ []) m.chunk h.is_chunk h.chunk_range.0 h.chunk_range.1,
+      within_given 1 8 h.legs (h.blocks ∷ h.region ∷ h.chunk ∷ policy_word m.policy ∷ h.first ∷ []) m.legs h.is_legs h.in_range.legs.0 h.in_range.legs.1,
+      within_given 1 65536 h.blocks (h.region ∷ h.chunk ∷ policy_word m.policy ∷ h.first ∷ []) m.blocks h.is_blocks h.in_range.blocks.0 h.in_range.blocks.1,
+      within_given 1 65536 h.region (h.chunk ∷ policy_word m.policy ∷ h.first ∷ []) m.region h.is_region h.in_range.region.0 h.in_range.region.1,
+      within_given 1 m.region h.chunk (policy_word m.policy ∷ h.first ∷ []) m.chunk h.is_chunk h.in_range.chunk.0 h.in_range.chunk.1,
       policy_given (h.first ∷ []) m.policy,
-      within_given 0 (2 ^ 63) h.first [] m.first h.is_first (omega arith) h.first_range,
+      within_given 0 (2 ^ 63) h.first [] m.first h.is_first (omega arith) h.in_range.first,
     ) refl

@@ -28,6 +28,14 @@ abbrev pub policy_word : Policy → List ℕ
 policy_word RoundRobin = codes "rr"
 policy_word Striped = codes "st"
 
+-- A mirror's numbers are within their limits.
+pub record InRange (m : Mirror) : Type 0 where
+  pub legs : (1 ≤ m.legs) × (m.legs ≤ 8)
+  pub blocks : (1 ≤ m.blocks) × (m.blocks ≤ 65536)
+  pub region : (1 ≤ m.region) × (m.region ≤ 65536)
+  pub chunk : (1 ≤ m.chunk) × (m.chunk ≤ m.region)
+  pub first : m.first ≤ 2 ^ 63
+
 -- The line that says what mirror the steps run on.
 pub record IsMirrorLine (line : List ℕ) (m : Mirror) : Type 0 where
   pub legs : List ℕ
@@ -41,11 +49,14 @@ pub record IsMirrorLine (line : List ℕ) (m : Mirror) : Type 0 where
   pub is_region : Spells region m.region
   pub is_chunk : Spells chunk m.chunk
   pub is_first : Spells first m.first
-  pub legs_range : (1 ≤ m.legs) × (m.legs ≤ 8)
-  pub blocks_range : (1 ≤ m.blocks) × (m.blocks ≤ 65536)
-  pub region_range : (1 ≤ m.region) × (m.region ≤ 65536)
-  pub chunk_range : (1 ≤ m.chunk) × (m.chunk ≤ m.region)
-  pub first_range : m.first ≤ 2 ^ 63
+  pub in_range : InRange m
+
+-- A step names a block and a leg that the mirror has.
+abbrev pub IsInside : Mirror → Step → Type 0
+IsInside m (Begin block fill) = block < m.blocks
+IsInside m (Push ticket leg) = leg < m.legs
+IsInside m (Claim ticket) = Unit {0}
+IsInside m (Read block) = block < m.blocks
 
 -- The line of a step on such a mirror: its word, and what the step is given.
 abbrev pub IsStepLine : Mirror → List ℕ → Step → Type 0

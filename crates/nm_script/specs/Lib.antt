@@ -5,3 +5,7 @@ pub mod ScriptReading
 pub mod BadLine
 pub mod Printing
 pub mod Streams
+pub mod Machine
+pub mod Stops
+pub mod Runs
+pub mod Ending

@@ -7,7 +7,9 @@ use Rattle.nm_replay.specs.declared.entry.Entry.{Entry}
 use Rattle.nm_script.specs.declared.outcomes.Fill.{Fill}
 use Rattle.nm_script.specs.declared.outcomes.Fill.TheVariants.{Same, Mixed}
 use Rattle.nm_script.specs.declared.outcomes.Outcome.{Outcome}
-use Rattle.nm_script.specs.declared.outcomes.Outcome.TheVariants.{Begun, Pushed, Complete, Halted, Written, Value}
+use Rattle.nm_script.specs.declared.outcomes.Outcome.TheVariants.{Begun, Pushed, Complete, Halted, Written, Value, Refused}
+use Rattle.nm_stripe.specs.declared.refusal.Refusal.{Refusal}
+use Rattle.nm_stripe.specs.declared.refusal.Refusal.TheVariants.{Busy, Full, Stopped, Exhausted, NoTicket, NotOwed, NotYet, Fault, NotOut, Memory}
 use Rattle.nm_script.specs.Grammar.{hex_byte}
 
 -- A line ends with LF.
@@ -19,6 +21,19 @@ abbrev pub printed_fill : Fill → List ℕ
 printed_fill (Same byte) = hex_byte byte
 printed_fill Mixed = codes "mixed"
 
+-- A refusal: its number, its name, and the number that it carries.
+abbrev pub printed_refusal : Refusal → List ℕ
+printed_refusal (Busy ticket) = codes "1 Busy " ++ decimal ticket
+printed_refusal Full = codes "4 Full"
+printed_refusal Stopped = codes "5 Stopped"
+printed_refusal Exhausted = codes "6 Exhausted"
+printed_refusal NoTicket = codes "7 NoTicket"
+printed_refusal NotOwed = codes "8 NotOwed"
+printed_refusal NotYet = codes "9 NotYet"
+printed_refusal Fault = codes "10 Fault"
+printed_refusal NotOut = codes "13 NotOut"
+printed_refusal Memory = codes "16 Memory"
+
 -- What is said of an outcome.
 abbrev pub said : Outcome → List ℕ
 said (Begun ticket) = codes "begun " ++ decimal ticket
@@ -27,6 +42,7 @@ said (Complete number) = codes "complete " ++ decimal number
 said Halted = codes "halted"
 said (Written number) = codes "written " ++ decimal number
 said (Value number fill) = codes "value " ++ decimal number ++ codes " " ++ printed_fill fill
+said (Refused refusal) = codes "refused " ++ printed_refusal refusal
 
 -- The line of an outcome.
 abbrev pub printed_outcome : Outcome → List ℕ

@@ -1,11 +1,31 @@
-//! `nm_script`: runs a text of mirror steps and prints what happened.
+//! `nm_script` runs a text of steps on one stripe of memory legs.
+//!
+//! It reads the whole script from standard input, does its steps one after the other, and prints a
+//! line for each answer, the history that the stripe keeps, and whether that history is legal. It is
+//! proved to print exactly the lines of the answers, and that the last line is `legal yes`.
 #![tactic(auto)]
 
+use crate::program::run_script;
+use std::process::ExitCode;
+
+mod engine;
+mod machine;
 mod mirrors;
 mod outcomes;
+mod printing;
+mod program;
 mod scripts;
 mod steps;
+mod stops;
 mod streams;
 mod words;
 
-fn main() {}
+fn main(rt: HostRuntime) -> ExitCode {
+    let status = run_script(
+        rt.alloc(),
+        &mut rt.stdin(),
+        &mut rt.stdout(),
+        &mut rt.stderr(),
+    );
+    ExitCode::from(status)
+}

@@ -1,12 +1,10 @@
-//! What a step came to, and the line that says so.
-ghost use Rattle.std.specs.Prelude.{◌≡◌, ℕ, ◌+◌, List, [], ◌∷◌, ◌++◌, ◌<◌, ◌==◌, false, codes, decimal, OnOk};
+//! What a step came to.
+ghost use Rattle.std.specs.Prelude.{◌≡◌, ◌==◌};
 ghost use Rattle.std.specs.List.{list_all};
-ghost use Rattle.std.specs.Fmt.{digit_glyph};
-ghost use Rattle.nm_script.specs.Grammar.{hex_byte};
-ghost use Rattle.nm_script.specs.Printing.{printed_fill, printed_outcome, fill_of, said_kind, printed_entry, printed_counts, printed_legal};
+ghost use Rattle.nm_script.specs.Printing.{fill_of};
 
-use nm_replay::{Block, Entry, Kind};
-use std::alloc::AllocError;
+use nm_replay::Block;
+use nm_stripe::Refusal;
 
 /// The byte that all 512 bytes of a block are, if there is one.
 #[derive(Clone, Copy, Debug, PartialEq, Eq)]
@@ -32,82 +30,8 @@ pub enum Outcome {
     Written(u64),
     /// The read's entry has this number, and these bytes.
     Value(u64, Fill),
-}
-
-/// Adds bytes to a text.
-fn put(text: &mut Vec<u8>, bytes: &[u8]) -> Result<(), AllocError>
-    ensures { OnOk result (text.new.items ≡ text.old.items ++ bytes.now) }
-{
-    text.extend_from_slice(bytes)
-}
-
-/// Adds a number to a text, in decimal digits.
-fn put_number(text: &mut Vec<u8>, number: u64) -> Result<(), AllocError>
-    ensures { OnOk result (text.new.items ≡ text.old.items ++ decimal number) }
-{
-    let mut digits = itoa::Buffer::new();
-    put(text, digits.format(number).as_bytes())
-}
-
-/// Adds a fill to a text: two hexadecimal digits, or `mixed`.
-fn put_fill(text: &mut Vec<u8>, fill: Fill) -> Result<(), AllocError>
-    ensures { OnOk result (text.new.items ≡ text.old.items ++ printed_fill fill) }
-{
-    match fill {
-        Fill::Same(byte) => put(text, &hex_digits(byte)),
-        Fill::Mixed => put(text, b"mixed"),
-    }
-}
-
-/// The lower-case hexadecimal digit of a value below 16.
-fn hex_digit(value: u8) -> u8
-    requires { value < 16 }
-    ensures { result ≡ digit_glyph false value }
-{
-    if value < 10 {
-        b'0' + value
-    } else {
-        b'a' + value - 10
-    }
-}
-
-/// The two hexadecimal digits of a byte.
-fn hex_digits(byte: u8) -> [u8; 2]
-    ensures { result ≡ hex_byte byte }
-{
-    [hex_digit(byte / 16), hex_digit(byte % 16)]
-}
-
-/// Adds the line of an outcome to a text.
-pub fn put_outcome(text: &mut Vec<u8>, outcome: Outcome) -> Result<(), AllocError>
-    ensures { OnOk result (text.new.items ≡ text.old.items ++ printed_outcome outcome) }
-{
-    match outcome {
-        Outcome::Begun(ticket) => {
-            put(text, b"begun ")?;
-            put_number(text, ticket)?;
-        }
-        Outcome::Pushed(owed) => {
-            put(text, b"pushed ")?;
-            put_number(text, owed)?;
-        }
-        Outcome::Complete(number) => {
-            put(text, b"complete ")?;
-            put_number(text, number)?;
-        }
-        Outcome::Halted => put(text, b"halted")?,
-        Outcome::Written(number) => {
-            put(text, b"written ")?;
-            put_number(text, number)?;
-        }
-        Outcome::Value(number, fill) => {
-            put(text, b"value ")?;
-            put_number(text, number)?;
-            put(text, b" ")?;
-            put_fill(text, fill)?;
-        }
-    }
-    put(text, b"\n")
+    /// The step was refused.
+    Refused(Refusal),
 }
 
 /// Whether all bytes are this one.
@@ -126,53 +50,5 @@ pub fn fill_of(block: &Block) -> Fill
         Fill::Same(first)
     } else {
         Fill::Mixed
-    }
-}
-
-/// Adds what an entry did to a text, between blanks.
-fn put_kind(text: &mut Vec<u8>, kind: Kind) -> Result<(), AllocError>
-    ensures { OnOk result (text.new.items ≡ text.old.items ++ said_kind kind) }
-{
-    match kind {
-        Kind::Read => put(text, b" read "),
-        Kind::Write(ticket) => {
-            put(text, b" write ")?;
-            put_number(text, ticket)?;
-            put(text, b" ")
-        }
-    }
-}
-
-/// Adds the line of an entry to a text.
-pub fn put_entry(text: &mut Vec<u8>, entry: &Entry) -> Result<(), AllocError>
-    ensures { OnOk result (text.new.items ≡ text.old.items ++ printed_entry entry.now) }
-{
-    put_number(text, entry.seq)?;
-    put_kind(text, entry.kind)?;
-    put_number(text, entry.block)?;
-    put(text, b" ")?;
-    put_fill(text, fill_of(&entry.bytes))?;
-    put(text, b"\n")
-}
-
-/// Adds the line that counts the entries to a text: those kept, and all.
-pub fn put_counts(text: &mut Vec<u8>, kept: u64, total: u64) -> Result<(), AllocError>
-    ensures { OnOk result (text.new.items ≡ text.old.items ++ printed_counts kept total) }
-{
-    put(text, b"history ")?;
-    put_number(text, kept)?;
-    put(text, b" of ")?;
-    put_number(text, total)?;
-    put(text, b"\n")
-}
-
-/// Adds the line that says whether the history is legal to a text.
-pub fn put_legal(text: &mut Vec<u8>, is_legal: bool) -> Result<(), AllocError>
-    ensures { OnOk result (text.new.items ≡ text.old.items ++ printed_legal is_legal) }
-{
-    if is_legal {
-        put(text, b"legal yes\n")
-    } else {
-        put(text, b"legal no\n")
     }
 }

@@ -1,9 +1,9 @@
 //! A script: the mirror line, and the steps behind it.
 ghost use Rattle.std.specs.Prelude.{◌≡◌, ℕ, ◌+◌, ◌<◌, ◌≤◌, ◌^◌, not, List, length, Option, Some, None, IfSome, Result, IfOk, MatchResult, IsErrOf};
 ghost use Rattle.std.specs.Option.{option_copied, option_map};
-ghost use Rattle.std.specs.List.{list_any};
+ghost use Rattle.std.specs.List.{list_any, AllByRecursion};
 ghost use Rattle.std.specs.Str.{is_utf8};
-ghost use Rattle.nm_script.specs.Grammar.{speaks, IsScript};
+ghost use Rattle.nm_script.specs.Grammar.{speaks, IsScript, InRange, IsInside};
 ghost use Rattle.nm_script.specs.Reading.{parts, parts_left, bytes_left};
 ghost use Rattle.nm_script.specs.ScriptReading.{first_where, spoken_from, steps_of, names_mirror, script_of, Reads};
 ghost use Rattle.nm_script.specs.declared.scripts.Unread.TheVariants.{Memory, BadStep};
@@ -192,6 +192,8 @@ pub fn parse(alloc: Global, text: &[u8]) -> Result<Script, Unread>
     // What the text says is read, unless memory runs out.
     ensures script { (m : Mirror) (steps : List Step) → IsScript text.now m steps → MatchResult result
         (λ s. (s.mirror ≡ m) × (s.steps.items ≡ steps)) (λ e. e ≡ Memory) }
+    ensures range { IfOk result (λ s. InRange s.mirror) }
+    ensures inside { IfOk result (λ s. AllByRecursion (IsInside s.mirror) s.steps.items) }
     ensures named { (n : ℕ) → IsErrOf result (BadStep n) → NamesLine text.now n }
 {
     script_of(alloc, text)

@@ -5,10 +5,12 @@ use Rattle.nm_script.specs.declared.steps.Step.{Step}
 use Rattle.nm_script.specs.declared.scripts.Script.{Script}
 use Rattle.nm_script.specs.declared.scripts.Unread.{Unread}
 use Rattle.nm_script.specs.declared.scripts.Unread.TheVariants.{Memory, BadStep}
-use Rattle.nm_script.specs.Grammar.{IsScript}
+use Rattle.nm_script.specs.Grammar.{IsScript, InRange, IsInside}
 use Rattle.nm_script.specs.BadLine.{NamesLine}
 use Rattle.nm_script.specs.Reading.{parts}
 use Rattle.nm_script.specs.ScriptReading.{script_of, Reads}
+use Rattle.std.specs.List.{AllByRecursion}
+use Rattle.nm_script.proofs.Inside.{all_inside}
 use Rattle.nm_script.proofs.ScriptLaws.{script_said, script_read, line_named}
 use Rattle.nm_script.proofs.scripts.parse.Goals as goal
 
@@ -19,6 +21,15 @@ Read text r = Reads (λ s. (s.mirror, s.steps.items)) r (script_of (parts 10 tex
 is_parsed : (text : List ℕ) (r : Result Script Unread) → Read text r → IfOk r (λ s. IsScript text s.mirror s.steps.items)
 is_parsed text (Ok s) h = script_said text s.mirror s.steps.items h
 is_parsed text (Err e) h = tt
+
+of_parsed : (text : List ℕ) (P : Mirror → Type 0) (r : Result Script Unread) → Read text r → ((m : Mirror) (ss : List Step) → IsScript text m ss → P m) →
+    IfOk r (λ s. P s.mirror)
+of_parsed text P (Ok s) h f = f s.mirror s.steps.items (script_said text s.mirror s.steps.items h)
+of_parsed text P (Err e) h f = tt
+
+of_steps : (text : List ℕ) (r : Result Script Unread) → Read text r → IfOk r (λ s. AllByRecursion (IsInside s.mirror) s.steps.items)
+of_steps text (Ok s) h = let is = script_said text s.mirror s.steps.items h in all_inside s.mirror is.others s.steps.items is.each_step
+of_steps text (Err e) h = tt
 
 same_pair : (m n : Mirror) (ss ts : List Step) → ◌≡◌ {A = Result (Mirror × List Step) ℕ} (Ok (m, ss)) (Ok (n, ts)) → (m ≡ n) × (ss ≡ ts)
 same_pair m n ss ts h =
@@ -44,3 +55,9 @@ returns-clause-script c = λ m ss is. is_script c.args.text.now m ss c.script_of
 
 pub returns-clause-named : goal.returns-clause-named
 returns-clause-named c = λ n e. is_named c.args.text.now n c.script_of.result c.script_of.ensures e
+
+pub returns-clause-range : goal.returns-clause-range
+returns-clause-range c = of_parsed c.args.text.now InRange c.script_of.result c.script_of.ensures (λ m ss is. is.mirror.in_range)
+
+pub returns-clause-inside : goal.returns-clause-inside
+returns-clause-inside c = of_steps c.args.text.now c.script_of.result c.script_of.ensures

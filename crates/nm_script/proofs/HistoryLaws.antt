@@ -1,0 +1,97 @@
+-- What is written of a history, at each point where its writing may end.
+use Rattle.std.proofs.Common.{◌≡◌, ◌↔◌, ℕ, List, [], ◌++◌, length, Bool, true, IsTrue, Option, append_assoc, sym, subst, ap, ◌∙◌}
+use Rattle.std.specs.List.{flat_map}
+use Rattle.std.specs.Io.KnownBytes.{Appends, Keeps}
+use Rattle.std.proofs.KnownBytes.{Appends-trans}
+use Rattle.nm_replay.specs.declared.entry.Entry.{Entry}
+use Rattle.nm_replay.specs.History.{Consistent}
+use Rattle.nm_script.specs.Machine.{Machine}
+use Rattle.nm_script.specs.Printing.{printed_counts, printed_entry, printed_legal, printed_history}
+use Rattle.nm_script.specs.Streams.{AppendsFront, PassesOn}
+use Rattle.nm_script.specs.Runs.{JudgesHistory, history}
+use Rattle.nm_script.proofs.RunLaws.{front_none, front_longer, front_sent, all_sent, appends_kept, front_after, regroup}
+
+abbrev Judged : Bool → List Entry → Type 0
+Judged b entries = IsTrue b ↔ Consistent entries
+
+pub nothing_yet : (entries : List Entry) (total : ℕ) (b : Bool) → Judged b entries → (a : Option (List ℕ)) (g : List ℕ) →
+    JudgesHistory entries total (λ text. AppendsFront a a (g ++ text))
+nothing_yet entries total b judged a g = (b, judged, front_none a (g ++ printed_history entries total b))
+
+pub front_of_entries : (entries : List Entry) (total : ℕ) (b : Bool) → Judged b entries → (old new : Option (List ℕ)) (g counted : List ℕ) →
+    counted ≡ g ++ printed_counts (length entries) total → AppendsFront old new (counted ++ flat_map printed_entry entries) →
+    JudgesHistory entries total (λ text. AppendsFront old new (g ++ text))
+front_of_entries entries total b judged old new g counted e w =
+    let counts : List ℕ = printed_counts (length entries) total in
+    let lines : List ℕ = flat_map printed_entry entries in
+    let legal : List ℕ = printed_legal b in
+    let there : AppendsFront old new ((g ++ counts) ++ lines) = subst (λ (x : List ℕ). AppendsFront old new (x ++ lines)) e w in
+    (b, judged, subst (λ (x : List ℕ). AppendsFront old new x) (sym (regroup g counts lines legal)) (front_longer old new ((g ++ counts) ++ lines) legal there))
+
+-- all lines gathered or passed on
+abbrev pub all_gathered : List Entry → ℕ → Bool → List ℕ → List ℕ
+all_gathered entries total b g = ((g ++ printed_counts (length entries) total) ++ flat_map printed_entry entries) ++ printed_legal b
+
+pub gathers_all : (entries : List Entry) (total : ℕ) (b : Bool) (old cur : Option (List ℕ)) (g counted passed judged : List ℕ) →
+    counted ≡ g ++ printed_counts (length entries) total → PassesOn old cur (counted ++ flat_map printed_entry entries) passed →
+    judged ≡ passed ++ printed_legal b → PassesOn old cur (all_gathered entries total b g) judged
+gathers_all entries total b old cur g counted passed judged e p f =
+    let counts : List ℕ = printed_counts (length entries) total in
+    let lines : List ℕ = flat_map printed_entry entries in
+    let there : PassesOn old cur ((g ++ counts) ++ lines) passed = subst (λ (x : List ℕ). PassesOn old cur (x ++ lines) passed) e p in
+    (there.0, ap (λ r. r ++ printed_legal b) there.1 ∙ append_assoc there.0 passed (printed_legal b) ∙ ap (λ r. there.0 ++ r) (sym f), there.2)
+
+pub front_of_all : (entries : List Entry) (total : ℕ) (b : Bool) → Judged b entries → (old cur new : Option (List ℕ)) (g judged : List ℕ) →
+    PassesOn old cur (all_gathered entries total b g) judged → AppendsFront cur new judged →
+    JudgesHistory entries total (λ text. AppendsFront old new (g ++ text))
+front_of_all entries total b known old cur new g judged p w = (
+  b,
+  known,
+  subst (λ (x : List ℕ). AppendsFront old new x)
+      (sym (regroup g (printed_counts (length entries) total) (flat_map printed_entry entries) (printed_legal b)))
+      (front_sent old cur new (all_gathered entries total b g) judged p w),
+)
+
+pub whole_history : (entries : List Entry) (total : ℕ) (b : Bool) → Judged b entries → (old cur new : Option (List ℕ)) (g judged : List ℕ) →
+    PassesOn old cur (all_gathered entries total b g) judged → Appends cur new judged →
+    JudgesHistory entries total (λ text. Appends old new (g ++ text))
+whole_history entries total b known old cur new g judged p w = (
+  b,
+  known,
+  subst (λ (x : List ℕ). Appends old new x)
+      (sym (regroup g (printed_counts (length entries) total) (flat_map printed_entry entries) (printed_legal b)))
+      (all_sent old cur new (all_gathered entries total b g) judged p w),
+)
+
+-- consistent entries are judged legal
+pub judged_legal : (entries : List Entry) (total : ℕ) (P : List ℕ → Type 0) → Consistent entries → JudgesHistory entries total P → P (printed_history entries total true)
+judged_legal entries total P is (b, judged, p) = subst (λ (x : Bool). P (printed_history entries total x)) (judged.1 is) p
+
+-- the history of a machine, from a copy of what it keeps
+pub machine_history : (machine : Machine) (entries : List Entry) (total : ℕ) (gathered : List ℕ) (P : List ℕ → Type 0) → entries ≡ machine.kept →
+    total ≡ machine.total → gathered ≡ [] → Consistent entries → JudgesHistory entries total (λ text. P (gathered ++ text)) → P (history machine)
+machine_history machine entries total gathered P e t g is judged =
+    let here : P (gathered ++ printed_history entries total true) = judged_legal entries total (λ text. P (gathered ++ text)) is judged in
+    let bare : P (printed_history entries total true) = subst (λ (x : List ℕ). P (x ++ printed_history entries total true)) g here in
+    subst (λ (x : ℕ). P (printed_history machine.kept x true)) t (subst (λ (x : List Entry). P (printed_history x total true)) e bare)
+
+-- what a machine keeps, as a copy of its entries shows it
+pub record Copied (machine : Machine) (entries : List Entry) (total : ℕ) : Type 0 where
+  pub entries_are : entries ≡ machine.kept
+  pub total_is : total ≡ machine.total
+  pub consistent : Consistent entries
+
+pub front_finished : (machine : Machine) (entries : List Entry) (total : ℕ) (old cur new : Option (List ℕ)) (sent gathered : List ℕ) →
+    Appends old cur sent → Copied machine entries total → gathered ≡ [] →
+    JudgesHistory entries total (λ text. AppendsFront cur new (gathered ++ text)) → AppendsFront old new (sent ++ history machine)
+front_finished machine entries total old cur new sent gathered h k g judged =
+    front_after old cur new sent (history machine) h
+    (machine_history machine entries total gathered (AppendsFront cur new) k.entries_are k.total_is g k.consistent judged)
+
+pub whole_finished : (machine : Machine) (entries : List Entry) (total : ℕ) (old cur mid new : Option (List ℕ)) (sent gathered : List ℕ) →
+    Appends old cur sent → Copied machine entries total → gathered ≡ [] →
+    JudgesHistory entries total (λ text. Appends cur mid (gathered ++ text)) → Keeps mid new → Appends old new (sent ++ history machine)
+whole_finished machine entries total old cur mid new sent gathered h k g judged kept =
+    appends_kept old mid new (sent ++ history machine)
+    (Appends-trans old cur mid sent (history machine) h
+    (machine_history machine entries total gathered (Appends cur mid) k.entries_are k.total_is g k.consistent judged)) kept

@@ -1,0 +1,9 @@
+use Rattle.std.proofs.Common.{◌++◌, take}
+use Rattle.std.specs.List.{flat_map}
+use Rattle.nm_script.specs.Printing.{printed_entry}
+use Rattle.nm_script.specs.Streams.{PassesOn}
+use Rattle.nm_script.proofs.engine.put_entries.Given as goal
+
+abbrev pub invariant-loop-entry : goal.invariant-loop-entry
+invariant-loop-entry g l = PassesOn (g.W.Write.contents l.initial.out) (g.W.Write.contents l.out)
+    (l.initial.gathered.items ++ flat_map printed_entry (take l.entry-index l.entries)) l.gathered.items

@@ -1,0 +1,67 @@
+-- How a script ends: what was read, what was written, and what is said of it.
+use Rattle.std.specs.Prelude.{◌≡◌, ℕ, List, Option, Result, Ok, Err, ◌⊎◌}
+use Rattle.std.specs.Io.KnownBytes.{Appends, Keeps}
+use Rattle.nm_script.specs.declared.mirrors.Mirror.{Mirror}
+use Rattle.nm_script.specs.declared.steps.Step.{Step}
+use Rattle.nm_script.specs.declared.stops.Stop.{Stop}
+use Rattle.nm_script.specs.declared.stops.Stop.TheVariants.{BadStep, Memory, Input, Output}
+use Rattle.nm_script.specs.Grammar.{IsScript}
+use Rattle.nm_script.specs.BadLine.{NamesLine}
+use Rattle.nm_script.specs.Streams.{AppendsFront, ReadsAll}
+use Rattle.nm_script.specs.Stops.{status_of, printed_stop}
+use Rattle.nm_script.specs.Runs.{WholeRun, PartOfRun, Writes}
+
+-- The whole input is this script.
+pub record ReadsScript (old new : Option (List ℕ)) (m : Mirror) (steps : List Step) : Type 0 where
+  pub text : List ℕ
+  pub read : ReadsAll old new text
+  pub script : IsScript text m steps
+
+-- The whole input is no script, and this line is named.
+pub record ReadsNone (old new : Option (List ℕ)) (line : ℕ) : Type 0 where
+  pub text : List ℕ
+  pub read : ReadsAll old new text
+  pub named : NamesLine text line
+  pub none : (m : Mirror) (steps : List Step) → IsScript text m steps → ⊥
+
+-- The input is a script, whose run has written its first lines.
+abbrev pub PartDone : Option (List ℕ) → Option (List ℕ) → Option (List ℕ) → Option (List ℕ) → Type 0
+PartDone in_old in_new out_old out_new =
+    (m : Mirror) × (steps : List Step) × ReadsScript in_old in_new m steps
+    × Writes (PartOfRun m steps) (AppendsFront out_old out_new)
+
+-- What was read and written where the script ended so.
+abbrev pub Ended : Result (Unit {0}) Stop → Option (List ℕ) → Option (List ℕ) → Option (List ℕ) → Option (List ℕ) → Type 0
+Ended (Ok done) in_old in_new out_old out_new =
+    (m : Mirror) × (steps : List Step) × ReadsScript in_old in_new m steps
+    × Writes (WholeRun m steps) (Appends out_old out_new)
+Ended (Err (BadStep line)) in_old in_new out_old out_new =
+    ReadsNone in_old in_new line × Keeps out_old out_new
+Ended (Err Memory) in_old in_new out_old out_new =
+    Keeps out_old out_new ⊎ PartDone in_old in_new out_old out_new
+Ended (Err Input) in_old in_new out_old out_new = Keeps out_old out_new
+Ended (Err Output) in_old in_new out_old out_new = PartDone in_old in_new out_old out_new
+
+-- The exit status.
+abbrev pub exit_status : Result (Unit {0}) Stop → ℕ
+exit_status (Ok done) = 0
+exit_status (Err stop) = status_of stop
+
+-- What standard error gets: nothing, or the line of what stopped the script, as far as it is taken.
+abbrev pub IsSaid : Result (Unit {0}) Stop → Option (List ℕ) → Option (List ℕ) → Type 0
+IsSaid (Ok done) old new = Keeps old new
+IsSaid (Err stop) old new = AppendsFront old new (printed_stop stop)
+
+-- A script ended, with this exit status.
+pub record Ends (status : ℕ) (in_old in_new out_old out_new err_old err_new : Option (List ℕ)) : Type 0 where
+  pub came_to : Result (Unit {0}) Stop
+  pub exits : status ≡ exit_status came_to
+  pub ended : Ended came_to in_old in_new out_old out_new
+  pub said : IsSaid came_to err_old err_new
+
+-- Why the input was not read as a script.
+abbrev pub CannotRead : Option (List ℕ) → Option (List ℕ) → Stop → Type 0
+CannotRead old new (BadStep line) = ReadsNone old new line
+CannotRead old new Memory = Unit {0}
+CannotRead old new Input = Unit {0}
+CannotRead old new Output = ⊥

@@ -1,0 +1,104 @@
+//! The stripe that a script runs: memory legs of zero bytes, all in sync.
+ghost use Rattle.std.specs.Prelude.{◌≡◌, ℕ, ◌<◌, ◌≤◌, ◌+◌, ◌^◌, IfOk, IfErr};
+ghost use Rattle.nm_stripe.specs.Machine.{StepOf, MayBeAsked};
+ghost use Rattle.nm_script.specs.Grammar.{InRange};
+ghost use Rattle.nm_script.specs.Stops.{IsRunStop};
+ghost use Rattle.nm_script.specs.Machine.{in_memory, new_machine, zero_legs, filled_block, asked, outcome_of, CanTake, Steps, HasShapeOf};
+
+use crate::mirrors::Mirror;
+use crate::outcomes::{Outcome, fill_of};
+use crate::steps::Step;
+use crate::stops::Stop;
+use bytes::Bytes;
+use nm_fanout::Data;
+use nm_leg::MemLeg;
+use nm_stripe::{Answer, At, Stripe};
+use std::alloc::{AllocError, Global};
+
+/// So many legs of so many zero blocks.
+fn zero_legs(alloc: Global, legs: u8, blocks: u64) -> Result<Vec<MemLeg>, Stop>
+    ensures legs { IfOk result (λ v. v.items ≡ zero_legs legs blocks) }
+    ensures cause { IfErr result IsRunStop }
+{
+    let mut all = Vec::new(alloc);
+    for _ in 0..legs {
+        all.push(MemLeg::new(alloc, blocks)?)?;
+    }
+    Ok(all)
+}
+
+/// The bits of so many legs, from leg 0 on.
+fn all_in_sync(legs: u8) -> u8
+    requires { (1 ≤ legs) × (legs ≤ 8) }
+    ensures { result + 1 ≡ 2 ^ legs }
+{
+    u8::MAX >> (8 - legs)
+}
+
+/// A new stripe for such a mirror.
+pub fn open(alloc: Global, mirror: &Mirror) -> Result<Stripe<MemLeg>, Stop>
+    requires { InRange mirror.now }
+    ensures opened { IfOk result (λ stripe. stripe ≡ new_machine mirror.now) }
+    ensures cause { IfErr result IsRunStop }
+{
+    let legs = zero_legs(alloc, mirror.legs, mirror.blocks)?;
+    let in_sync = all_in_sync(mirror.legs);
+    let place = At {
+        stripe: 0,
+        blocks: mirror.blocks,
+        region: mirror.region,
+        chunk: mirror.chunk,
+    };
+    match Stripe::open(alloc, place, legs, in_sync, mirror.first) {
+        Ok(stripe) => Ok(stripe),
+        Err((memory, _)) => Err(Stop::from(memory)),
+    }
+}
+
+/// A block of one byte throughout.
+#[tactic(auto, unfolding(crate::specs::Machine::filled_block))]
+fn filled_block(fill: u8) -> [u8; 512]
+    ensures { result ≡ filled_block fill }
+{
+    [fill; 512]
+}
+
+/// The stripe's step that a script's step asks for, with its data.
+fn asked(alloc: Global, step: Step) -> Result<nm_stripe::Step<MemLeg>, AllocError>
+    ensures { IfOk result (λ s. s ≡ asked step) }
+{
+    Ok(match step {
+        Step::Begin { block, fill } => {
+            let bytes = Bytes::copy_from_slice(alloc, &filled_block(fill))?;
+            nm_stripe::Step::Begin(block, Data::Cut(bytes))
+        }
+        Step::Push { ticket, leg } => nm_stripe::Step::Push(ticket, leg),
+        Step::Claim { ticket } => nm_stripe::Step::Claim(ticket),
+        Step::Read { block } => nm_stripe::Step::Read(block),
+    })
+}
+
+/// What an answer comes to.
+fn outcome_of(answer: &Answer<MemLeg>) -> Outcome
+    ensures { result ≡ outcome_of answer.now }
+{
+    match answer {
+        Answer::Begun(ticket) => Outcome::Begun(*ticket),
+        Answer::Pushed(owed) => Outcome::Pushed(*owed),
+        Answer::Complete(number) => Outcome::Complete(*number),
+        Answer::Halted => Outcome::Halted,
+        Answer::Written(receipt) => Outcome::Written(receipt.number()),
+        Answer::Value(receipt, bytes) => Outcome::Value(receipt.number(), fill_of(bytes)),
+        Answer::Refused(refusal, _) => Outcome::Refused(*refusal),
+    }
+}
+
+/// Does one step of a script. Memory for a write's data is wanted before the step.
+pub fn step(alloc: Global, stripe: &mut Stripe<MemLeg>, step: Step) -> Result<Outcome, AllocError>
+    requires { CanTake stripe.old step }
+    ensures ok { IfOk result (λ outcome. Steps step outcome stripe.old stripe.new) }
+    ensures shape { HasShapeOf stripe.old stripe.new }
+{
+    let answer = stripe.step(asked(alloc, step)?);
+    Ok(outcome_of(&answer))
+}
