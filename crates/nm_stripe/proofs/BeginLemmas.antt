@@ -1,6 +1,9 @@
 -- A begin: the new write owes every leg, so nothing that is held or kept changes.
 use Rattle.std.proofs.Common.{◌≡◌, ◌≢◌, ⊎_elim, ℕ, ◌+◌, ◌<◌, ◌==◌, Bool, true, false, not, IsTrue, List, [], ◌∷◌, length, Some, is_some, refl, sym, ap, ◌∙◌, subst, arith, nat_lt, MatchBool, append-nil}
 use Rattle.std.proofs.lemmas.Bool.Decides.{nat_tests}
+use Rattle.nm_fanout.proofs.InOrder.{AllBelow-with_new}
+use Rattle.nm_fanout.proofs.Landing.{unlanded-with_new}
+use Rattle.nm_fanout.proofs.Finding.{find_record-with_new_other}
 use Rattle.nm_fanout.specs.declared.payload.Data.{Data}
 use Rattle.nm_fanout.specs.declared.write.Record.{Record}
 use Rattle.nm_fanout.specs.Data.{FillsBlock}
@@ -19,7 +22,7 @@ use Rattle.nm_stripe.specs.Headline.{Acts}
 use Rattle.nm_stripe.proofs.ArrayLemmas.{array_is_master}
 use Rattle.nm_stripe.proofs.CauseLemmas.{MayBegin}
 use Rattle.nm_stripe.proofs.OwedLemmas.{all_owed, owed_few}
-use Rattle.nm_stripe.proofs.RecordLemmas.{same, new_cases, below-new, find-new_same, find-new_other, busy_none, busy-front, unlanded-new}
+use Rattle.nm_stripe.proofs.RecordLemmas.{same, new_cases, find-new_same, busy_none, busy-front}
 
 module _ {L : Type 0} (held : L → Leg) (old : StripeState L) (block : ℕ) (bytes : Data) where
   -- the new write's record
@@ -29,7 +32,7 @@ module _ {L : Type 0} (held : L → Leg) (old : StripeState L) (block : ℕ) (by
   begin-records : HasLegs held old → HasRecords old → MayBegin old block → block < old.place.blocks → FillsBlock bytes → HasRecords (after_begin old block bytes)
   begin-records legs k may inside fills = record {
     in_order = AreInOrder-with_new new_record old.records may.few k.tickets (record { filled = fills; places = refl }) k.in_order;
-    tickets = below-new old.tickets (old.tickets + 1) old.records new_record k.tickets (omega arith) (omega arith);
+    tickets = AllBelow-with_new new_record old.records k.tickets;
     one_write = λ t u r q at_t at_u going_t going_u same_block.
         ⊎_elim
         (λ new_t. ⊎_elim
@@ -59,8 +62,8 @@ module _ {L : Type 0} (held : L → Leg) (old : StripeState L) (block : ℕ) (by
   begin-numbers k may = record {
     numbered = k.numbered;
     total = k.total;
-    given = omega (arith, k.given, unlanded-new old.records new_record refl);
-    left = omega (arith, may.left, unlanded-new old.records new_record refl);
+    given = omega (arith, k.given, unlanded-with_new new_record old.records refl);
+    left = omega (arith, may.left, unlanded-with_new new_record old.records refl);
   }
 
   begin-agrees : HasLegs held old → HasRecords old → LegsAgree held old → LegsAgree held (after_begin old block bytes)
@@ -96,7 +99,7 @@ module _ {L : Type 0} (held : L → Leg) (old : StripeState L) (block : ℕ) (by
       | false ↦ λ is.
           let ne : old.tickets ≢ t = λ e. let yes : (old.tickets == t) ≡ true = grind (arith, nat_tests) in let clash : true ≡ false = sym yes ∙ is in cc in
           let given : nat_lt t (old.tickets + 1) ≡ nat_lt t old.tickets = grind (arith, nat_tests) in
-          let found = find-new_other t old.records new_record ne in
+          let found = find_record-with_new_other new_record t old.records (λ e. ne (sym e)) in
           rw (given, found) refl
     ]) refl,
     refl,

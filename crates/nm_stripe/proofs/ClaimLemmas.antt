@@ -2,6 +2,10 @@
 use Rattle.std.proofs.Common.{◌≡◌, ◌≢◌, ⊎_elim, ℕ, ◌==◌, Bool, true, false, not, IsTrue, List, [], ◌∷◌, Option, None, Some, is_some, refl, sym, ap, ◌∙◌, subst, arith, nat_lt, cond, MatchBool, append-nil}
 use Rattle.std.proofs.lemmas.Option.{same_Some}
 use Rattle.std.proofs.lemmas.Bool.Decides.{nat_tests}
+use Rattle.nm_fanout.proofs.Owed.{finished-owes}
+use Rattle.nm_fanout.proofs.InOrder.{AllBelow-without}
+use Rattle.nm_fanout.proofs.Landing.{unlanded-without}
+use Rattle.nm_fanout.proofs.Finding.{find_record-without_same, find_record-without_other, find_record-below}
 use Rattle.nm_fanout.specs.declared.write.Record.{Record}
 use Rattle.nm_fanout.specs.Record.{is_under_way}
 use Rattle.nm_fanout.specs.Records.{find_record, busy_on, without}
@@ -15,8 +19,7 @@ use Rattle.nm_stripe.specs.State.{StripeState, state_of, write_life, read_life, 
 use Rattle.nm_stripe.specs.Invariant.{HasLegs, HasRecords, LegsAgree, Keeps}
 use Rattle.nm_stripe.specs.Headline.{Acts}
 use Rattle.nm_stripe.proofs.ArrayLemmas.{array_is_master}
-use Rattle.nm_stripe.proofs.OwedLemmas.{finished_owes}
-use Rattle.nm_stripe.proofs.RecordLemmas.{same, one_or_two, without_cases, find-without_same, find-without_other, found_below, below-without, unlanded-without, busy_found, busy_none}
+use Rattle.nm_stripe.proofs.RecordLemmas.{same, one_or_two, without_cases, busy_found, busy_none}
 
 -- the stripe without the record of this ticket
 abbrev pub after_claim : {L : Type 0} → StripeState L → ℕ → StripeState L
@@ -30,12 +33,12 @@ has_number (Some n) h = (n, refl)
 module _ {L : Type 0} (held : L → Leg) (honest : Bool) (old : StripeState L) (ticket : ℕ) (r : Record) (k : Keeps held honest old) (found : find_record ticket old.records ≡ Some r) (over : is_under_way r ≡ false) where
   -- a finished write has landed
   pub finished_landed : (n : ℕ) × (r.entry ≡ Some n)
-  finished_landed = has_number r.entry (k.records.landed ticket r found ∙ ap (λ b. not b) (finished_owes old.master r over))
+  finished_landed = has_number r.entry (k.records.landed ticket r found ∙ ap (λ b. not b) (finished-owes old.master r over))
 
   claim-records : HasRecords (after_claim old ticket)
   claim-records = record {
     in_order = AreInOrder-without ticket old.records k.records.in_order;
-    tickets = below-without old.tickets ticket old.records k.records.tickets;
+    tickets = AllBelow-without old.tickets ticket old.records k.records.tickets;
     one_write = λ t u x y at_t at_u going_t going_u same_block. k.records.one_write t u x y (without_cases ticket t old.records x at_t).1 (without_cases ticket u old.records y at_u).1 going_t going_u same_block;
     inside = λ t x at. k.records.inside t x (without_cases ticket t old.records x at).1;
     landed = λ t x at. k.records.landed t x (without_cases ticket t old.records x at).1;
@@ -55,7 +58,7 @@ module _ {L : Type 0} (held : L → Leg) (honest : Bool) (old : StripeState L) (
             let going : is_under_way r ≡ true = subst (λ (z : Record). is_under_way z ≡ true) one at.2 in
             let clash : true ≡ false = sym going ∙ over in
             cc))
-            (λ other. absurd (busy_none b q.ticket (without ticket old.records) q none (find-without_other ticket q.ticket old.records other ∙ at.0) at.1 at.2))
+            (λ other. absurd (busy_none b q.ticket (without ticket old.records) q none (find_record-without_other ticket q.ticket old.records other ∙ at.0) at.1 at.2))
             (one_or_two q.ticket ticket)
       ]) refl
 
@@ -78,8 +81,8 @@ module _ {L : Type 0} (held : L → Leg) (honest : Bool) (old : StripeState L) (
         numbers = record {
           numbered = k.numbers.numbered;
           total = k.numbers.total;
-          given = omega (arith, k.numbers.given, unlanded-without ticket old.records r n.0 k.records.in_order.ascending found n.1);
-          left = omega (arith, k.numbers.left, unlanded-without ticket old.records r n.0 k.records.in_order.ascending found n.1);
+          given = omega (arith, k.numbers.given, unlanded-without ticket n.0 old.records r k.records.in_order.ascending found n.1);
+          left = omega (arith, k.numbers.left, unlanded-without ticket n.0 old.records r k.records.in_order.ascending found n.1);
         };
         consistent = k.consistent;
         agrees = λ is_honest runs. claim-agrees (k.agrees is_honest runs);
@@ -91,16 +94,16 @@ module _ {L : Type 0} (held : L → Leg) (honest : Bool) (old : StripeState L) (
     (elim (ticket == t) as (λ b. (ticket == t) ≡ b → MatchBool b ((write_life old t ≡ Landed n) × (write_life (after_claim old ticket) t ≡ Told)) (write_life (after_claim old ticket) t ≡ write_life old t)) [
       | true ↦ λ eq.
           let at : ticket ≡ t = same ticket t eq in
-          let below = found_below old.tickets ticket old.records r k.records.tickets found in
+          let below = find_record-below old.tickets ticket old.records r k.records.tickets found in
           let given : nat_lt t old.tickets ≡ true = grind (arith, nat_tests) in
           let was : find_record t old.records ≡ Some r = subst (λ (u : ℕ). find_record u old.records ≡ Some r) at found in
-          let now : find_record t (without ticket old.records) ≡ None = subst (λ (u : ℕ). find_record u (without ticket old.records) ≡ None) at (find-without_same ticket old.records) in (
+          let now : find_record t (without ticket old.records) ≡ None = subst (λ (u : ℕ). find_record u (without ticket old.records) ≡ None) at (find_record-without_same ticket old.records) in (
             ap (λ b. cond b (life_of (find_record t old.records)) Unborn) given ∙ ap (λ o. life_of o) was ∙ ap (λ e. recorded_life e r.block (written r)) number,
             ap (λ b. cond b (life_of (find_record t (without ticket old.records))) Unborn) given ∙ ap (λ o. life_of o) now,
           )
       | false ↦ λ ne.
           let other : t ≢ ticket = λ e. let yes : (ticket == t) ≡ true = grind (arith, nat_tests) in let clash : true ≡ false = sym yes ∙ ne in cc in
-          ap (λ o. cond (nat_lt t old.tickets) (life_of o) Unborn) (find-without_other ticket t old.records other)
+          ap (λ o. cond (nat_lt t old.tickets) (life_of o) Unborn) (find_record-without_other ticket t old.records other)
     ]) refl,
     refl,
   )

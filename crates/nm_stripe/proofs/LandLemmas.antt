@@ -4,6 +4,8 @@ use Rattle.std.proofs.lemmas.Bool.Decides.{nat_tests}
 use Rattle.nm_replay.specs.declared.block.Block.{Block}
 use Rattle.nm_replay.proofs.Arrays.{slice_get-set_same, slice_get-set_other}
 use Rattle.nm_replay.proofs.Numbering.{numbered-append}
+use Rattle.nm_fanout.proofs.Owed.{owes-without_leg_same}
+use Rattle.nm_fanout.proofs.Finding.{find_record-changed_other, find_record-below}
 use Rattle.nm_fanout.specs.declared.write.Record.{Record}
 use Rattle.nm_fanout.specs.Data.{bytes_of}
 use Rattle.nm_fanout.specs.Record.{owes, without_leg}
@@ -18,10 +20,9 @@ use Rattle.nm_stripe.specs.Headline.{Acts}
 use Rattle.nm_stripe.proofs.ArrayLemmas.{array_is_master}
 use Rattle.nm_stripe.proofs.HistoryLemmas.{consistent-write, ends-push}
 use Rattle.nm_stripe.proofs.LegLemmas.{writes-contents}
-use Rattle.nm_stripe.proofs.OwedLemmas.{reached_owes_same}
 use Rattle.nm_stripe.proofs.ReachLemmas.{moved, moved-legs, moved-records, moved-agrees}
 use Rattle.nm_stripe.proofs.PushLemmas.{Reached, landing, landing-reaches, changed-twice, not_landed}
-use Rattle.nm_stripe.proofs.RecordLemmas.{same, find-changed_same, find-changed_other, found_below, unlanded-landed}
+use Rattle.nm_stripe.proofs.RecordLemmas.{same, find-changed_same, unlanded-landed}
 
 -- the stripe, with one change of the record in place of two
 abbrev landed_state : {L : Type 0} → StripeState L → List L → Record → ℕ → StripeState L
@@ -39,7 +40,7 @@ module _ {L : Type 0} (held : L → Leg) (honest : Bool) (old : StripeState L) (
       moved-records held honest old parts r leg (landing (next_number old) leg) (old.kept ++ write_entry (next_number old) r ∷ []) (old.total + 1) (landing-reaches (next_number old) leg) c.keeps.records c.writes c.found
       (subst (λ (rs : List Record). AreInOrder rs) (changed-twice (next_number old) leg r.ticket old.records)
       (AreInOrder-landed r.ticket (next_number old) (reached r.ticket leg old.records) (AreInOrder-reached r.ticket leg old.records c.keeps.records.in_order)))
-      (ap (λ b. not b) (sym (subst (λ (i : ℕ). owes i (without_leg leg r) ≡ false) is (reached_owes_same leg r))))
+      (ap (λ b. not b) (sym (subst (λ (i : ℕ). owes i (without_leg leg r) ≡ false) is (owes-without_leg_same leg r))))
 
   land-legs : HasLegs held (landed_state old parts r leg)
   land-legs = moved-legs held honest old parts r leg (landing (next_number old) leg) (old.kept ++ write_entry (next_number old) r ∷ []) (old.total + 1) c.keeps.legs c.writes
@@ -89,7 +90,7 @@ module _ {L : Type 0} (held : L → Leg) (honest : Bool) (old : StripeState L) (
     (elim (r.ticket == t) as (λ b. (r.ticket == t) ≡ b → MatchBool b ((write_life old t ≡ Begun r.block (written r)) × (write_life (landed_state old parts r leg) t ≡ Landed (next_number old))) (write_life (landed_state old parts r leg) t ≡ write_life old t)) [
       | true ↦ λ eq.
           let at : r.ticket ≡ t = same r.ticket t eq in
-          let below = found_below old.tickets r.ticket old.records r c.keeps.records.tickets c.found in
+          let below = find_record-below old.tickets r.ticket old.records r c.keeps.records.tickets c.found in
           let given : nat_lt t old.tickets ≡ true = grind (arith, nat_tests) in
           let was : find_record t old.records ≡ Some r = subst (λ (u : ℕ). find_record u old.records ≡ Some r) at c.found in
           let now : find_record t (changed (landing (next_number old) leg) r.ticket old.records) ≡ Some (landing (next_number old) leg r) = subst (λ (u : ℕ). find_record u (changed (landing (next_number old) leg) r.ticket old.records) ≡ Some (landing (next_number old) leg r)) at (find-changed_same (landing (next_number old) leg) (λ x. refl) r.ticket old.records r c.found) in (
@@ -98,7 +99,7 @@ module _ {L : Type 0} (held : L → Leg) (honest : Bool) (old : StripeState L) (
           )
       | false ↦ λ ne.
           let other : t ≢ r.ticket = λ e. let yes : (r.ticket == t) ≡ true = grind (arith, nat_tests) in let clash : true ≡ false = sym yes ∙ ne in cc in
-          ap (λ o. cond (nat_lt t old.tickets) (life_of o) Unborn) (find-changed_other (landing (next_number old) leg) (λ x. refl) r.ticket t old.records other)
+          ap (λ o. cond (nat_lt t old.tickets) (life_of o) Unborn) (find_record-changed_other (landing (next_number old) leg) (λ x. refl) r.ticket t old.records other)
     ]) refl,
     refl,
   )

@@ -1,6 +1,9 @@
 -- A push: at the master the write takes effect, at every other leg nothing is seen of it.
 use Rattle.std.proofs.Common.{◌≡◌, ◌≢◌, ⊎_elim, ℕ, ◌==◌, Bool, true, false, not, IsTrue, List, [], ◌∷◌, Option, None, Some, is_some, refl, sym, ap, ◌∙◌, subst, arith, nat_lt, cond, append-nil}
 use Rattle.nm_replay.specs.History.{EndsIn}
+use Rattle.nm_fanout.proofs.Owed.{owes-without_leg_other}
+use Rattle.nm_fanout.proofs.Landing.{unlanded-reached}
+use Rattle.nm_fanout.proofs.Finding.{find_record-changed_other}
 use Rattle.nm_fanout.specs.declared.write.Record.{Record}
 use Rattle.nm_fanout.specs.Data.{bytes_of}
 use Rattle.nm_fanout.specs.Record.{owes, without_leg, with_entry}
@@ -15,9 +18,8 @@ use Rattle.nm_stripe.specs.Invariant.{HasLegs, HasRecords, LegsAgree, Keeps}
 use Rattle.nm_stripe.specs.Headline.{Acts}
 use Rattle.nm_stripe.proofs.ArrayLemmas.{array_is_master}
 use Rattle.nm_stripe.proofs.LegLemmas.{writes-other}
-use Rattle.nm_stripe.proofs.OwedLemmas.{reached_owes_other}
 use Rattle.nm_stripe.proofs.ReachLemmas.{Reaches, moved-legs, moved-records, moved-agrees}
-use Rattle.nm_stripe.proofs.RecordLemmas.{one_or_two, find-changed_same, find-changed_other, unlanded-changed}
+use Rattle.nm_stripe.proofs.RecordLemmas.{one_or_two, find-changed_same}
 
 -- a leg is reached, and the entry comes
 abbrev pub landing : ℕ → ℕ → Record → Record
@@ -58,7 +60,7 @@ module _ {L : Type 0} (held : L → Leg) (honest : Bool) (old : StripeState L) (
     reach-records =
         moved-records held honest old parts r leg (without_leg leg) old.kept old.total (without-reaches leg) c.keeps.records c.writes c.found
         (AreInOrder-reached r.ticket leg old.records c.keeps.records.in_order)
-        (c.keeps.records.landed r.ticket r c.found ∙ ap (λ b. not b) (sym (reached_owes_other leg old.master r ne)))
+        (c.keeps.records.landed r.ticket r c.found ∙ ap (λ b. not b) (sym (owes-without_leg_other leg old.master r ne)))
 
     reach-legs : HasLegs held (after_reach old parts r leg)
     reach-legs = moved-legs held honest old parts r leg (without_leg leg) old.kept old.total c.keeps.legs c.writes
@@ -79,8 +81,8 @@ module _ {L : Type 0} (held : L → Leg) (honest : Bool) (old : StripeState L) (
       numbers = record {
         numbered = c.keeps.numbers.numbered;
         total = c.keeps.numbers.total;
-        given = omega (arith, c.keeps.numbers.given, unlanded-changed (without_leg leg) (λ x. refl) r.ticket old.records);
-        left = omega (arith, c.keeps.numbers.left, unlanded-changed (without_leg leg) (λ x. refl) r.ticket old.records);
+        given = omega (arith, c.keeps.numbers.given, unlanded-reached r.ticket leg old.records);
+        left = omega (arith, c.keeps.numbers.left, unlanded-reached r.ticket leg old.records);
       };
       consistent = c.keeps.consistent;
       agrees = λ is_honest runs. reach-agrees is_honest;
@@ -94,7 +96,7 @@ module _ {L : Type 0} (held : L → Leg) (honest : Bool) (old : StripeState L) (
         let at : find_record t (reached r.ticket leg old.records) ≡ Some (without_leg leg r) = subst (λ (u : ℕ). find_record u (reached r.ticket leg old.records) ≡ Some (without_leg leg r)) (sym is) (find-changed_same (without_leg leg) (λ x. refl) r.ticket old.records r c.found) in
         let was : find_record t old.records ≡ Some r = subst (λ (u : ℕ). find_record u old.records ≡ Some r) (sym is) c.found in
         ap (λ o. life_of o) at ∙ ap (λ o. life_of o) (sym was))
-        (λ other. ap (λ o. life_of o) (find-changed_other (without_leg leg) (λ x. refl) r.ticket t old.records other))
+        (λ other. ap (λ o. life_of o) (find_record-changed_other (without_leg leg) (λ x. refl) r.ticket t old.records other))
         (one_or_two t r.ticket))
 
     pub reach-acts : IsTrue honest → Acts held old (after_reach old parts r leg) []

@@ -2,6 +2,7 @@
 use Rattle.std.proofs.Common.{◌≡◌, ◌≢◌, ℕ, ◌+◌, ◌<◌, Bool, true, not, List, [], ◌∷◌, ◌++◌, length, None, Some, refl, sym, ap, ◌∙◌, subst, arith, cond, eq-eqb, ne_eqb}
 use Rattle.std.proofs.lemmas.Option.{same_Some}
 use Rattle.nm_replay.specs.Kept.{KeptHistory}
+use Rattle.nm_fanout.proofs.Finding.{find_record-ticket}
 use Rattle.nm_fanout.specs.declared.write.Record.{Record}
 use Rattle.nm_fanout.specs.Data.{bytes_of}
 use Rattle.nm_fanout.specs.Record.{owes, without_leg, with_entry}
@@ -18,7 +19,7 @@ use Rattle.nm_stripe.specs.Invariant.{HasLegs, Keeps}
 use Rattle.nm_stripe.specs.Headline.{ShowsMarks, ReachShowsNothing}
 use Rattle.nm_stripe.proofs.CauseLemmas.{may_push}
 use Rattle.nm_stripe.proofs.PushLemmas.{Reached, landing, changed-twice, not_landed}
-use Rattle.nm_stripe.proofs.RecordLemmas.{found_ticket, find-changed_same, unlanded-landed}
+use Rattle.nm_stripe.proofs.RecordLemmas.{find-changed_same, unlanded-landed}
 
 -- each leg of a stripe has each of its blocks
 pub has-block : {L : Type 0} (held : L → Leg) (stripe : StripeState L) (leg at : ℕ) → HasLegs held stripe → leg < length stripe.parts → at < stripe.place.blocks → HasBlock held stripe.parts leg at
@@ -34,11 +35,11 @@ module _ {L : Type 0} (held : L → Leg) (honest succeeded : Bool) (old : Stripe
     pub writes : WritesPart held honest succeeded leg r.block (bytes_of r.data) old.parts parts
 
   called_ticket : Called → r.ticket ≡ ticket
-  called_ticket c = found_ticket ticket old.records r c.found
+  called_ticket c = find_record-ticket ticket old.records r c.found
 
 module _ {L : Type 0} (held : L → Leg) (honest : Bool) (old : StripeState L) (ticket leg : ℕ) (parts : List L) (r : Record) (c : Called held honest true old ticket leg parts r) where
   same_ticket : r.ticket ≡ ticket
-  same_ticket = found_ticket ticket old.records r c.found
+  same_ticket = find_record-ticket ticket old.records r c.found
 
   pub was_reached : Reached held honest old parts r leg
   was_reached =

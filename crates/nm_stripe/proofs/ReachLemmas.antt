@@ -4,6 +4,8 @@ use Rattle.std.proofs.lemmas.Option.{same_Some}
 use Rattle.nm_replay.specs.declared.entry.Entry.{Entry}
 use Rattle.nm_replay.specs.History.{EndsIn}
 use Rattle.nm_replay.proofs.Arrays.{slice_get-set_same}
+use Rattle.nm_fanout.proofs.Owed.{owes-under_way, finished-owes, owes-without_leg_same, owes-without_leg_other}
+use Rattle.nm_fanout.proofs.Finding.{find_record-changed_other}
 use Rattle.nm_fanout.specs.declared.payload.Data.{Data}
 use Rattle.nm_fanout.specs.declared.write.Record.{Record}
 use Rattle.nm_fanout.specs.Data.{bytes_of}
@@ -14,8 +16,8 @@ use Rattle.nm_leg.specs.Parts.{WritesPart}
 use Rattle.nm_stripe.specs.State.{StripeState, contents_of, written}
 use Rattle.nm_stripe.specs.Invariant.{HasLegs, HasRecords, LegsAgree}
 use Rattle.nm_stripe.proofs.LegLemmas.{calls-length, calls-lengths, writes-contents, writes-other, writes-other_block}
-use Rattle.nm_stripe.proofs.OwedLemmas.{owed_under_way, finished_owes, reached_owes_same, reached_owes_other, still_under_way}
-use Rattle.nm_stripe.proofs.RecordLemmas.{one_or_two, changed_cases, find-changed_same, find-changed_other, busy_found, busy_none, below-changed}
+use Rattle.nm_stripe.proofs.OwedLemmas.{still_under_way}
+use Rattle.nm_stripe.proofs.RecordLemmas.{one_or_two, changed_cases, find-changed_same, busy_found, busy_none, below-changed}
 
 -- a change of a record that takes a leg out of those it owes, and perhaps gives it an entry
 pub record Reaches (leg : ℕ) (f : Record → Record) : Type 0 where
@@ -78,8 +80,8 @@ module _ {L : Type 0} (held : L → Leg) (honest : Bool) (old : StripeState L) (
             let owes_f : owes j (f r) ≡ true = subst (λ (z : Record). owes j z ≡ true) this.1 owes_j in
             let owes_without : owes j (without_leg leg r) ≡ true = sym (changed_owes c j r) ∙ owes_f in
             ⊎_elim
-            (λ is. absurd (let not_owed = reached_owes_same leg r in let here : owes leg (without_leg leg r) ≡ true = subst (λ (i : ℕ). owes i (without_leg leg r) ≡ true) is owes_without in let clash : true ≡ false = sym here ∙ not_owed in cc))
-            (λ ne. k.owed r.ticket r j found (sym (reached_owes_other leg j r ne) ∙ owes_without))
+            (λ is. absurd (let not_owed = owes-without_leg_same leg r in let here : owes leg (without_leg leg r) ≡ true = subst (λ (i : ℕ). owes i (without_leg leg r) ≡ true) is owes_without in let clash : true ≡ false = sym here ∙ not_owed in cc))
+            (λ ne. k.owed r.ticket r j found (sym (owes-without_leg_other leg j r ne) ∙ owes_without))
             (one_or_two j leg))
             (λ other. k.owed t x j other.1 owes_j)
             (changed_cases f c.ticket r.ticket t old.records r x found at) in
@@ -97,7 +99,7 @@ module _ {L : Type 0} (held : L → Leg) (honest : Bool) (old : StripeState L) (
       (ap (λ xs. slice_get xs r.block) (writes-contents held honest old.parts parts leg r.block (bytes_of r.data) is_honest w) ∙ slice_get-set_same (contents_of held old.parts leg) r.block (written r) long))
       (λ ne.
       ap (λ xs. slice_get xs r.block) (writes-other held honest true old.parts parts leg r.block j (bytes_of r.data) w ne)
-      ∙ agree.reached r.ticket r j found (owed_under_way leg r owed) (sym (reached_owes_other leg j r ne) ∙ sym (changed_owes c j r) ∙ free) inside)
+      ∙ agree.reached r.ticket r j found (owes-under_way leg r owed) (sym (owes-without_leg_other leg j r ne) ∙ sym (changed_owes c j r) ∙ free) inside)
       (one_or_two j leg)
 
   -- where no write is under way on a block now, none was, but for the one that reached its last leg
@@ -111,7 +113,7 @@ module _ {L : Type 0} (held : L → Leg) (honest : Bool) (old : StripeState L) (
             (λ is. absurd (
             let same_record : q ≡ r = same_Some q r (sym at.0 ∙ subst (λ (t : ℕ). find_record t old.records ≡ Some r) (sym is) found) in
             ne (sym at.1 ∙ ap (λ (z : Record). z.block) same_record)))
-            (λ other. absurd (busy_none b q.ticket (changed f r.ticket old.records) q none (find-changed_other f c.ticket r.ticket q.ticket old.records other ∙ at.0) at.1 at.2))
+            (λ other. absurd (busy_none b q.ticket (changed f r.ticket old.records) q none (find_record-changed_other f c.ticket r.ticket q.ticket old.records other ∙ at.0) at.1 at.2))
             (one_or_two q.ticket r.ticket)
       ]) refl
 
@@ -120,14 +122,14 @@ module _ {L : Type 0} (held : L → Leg) (honest : Bool) (old : StripeState L) (
   all_arrived c found none j =
       (elim (is_under_way (f r)) as (λ b. is_under_way (f r) ≡ b → owes j (f r) ≡ false) [
         | true ↦ λ going. absurd (busy_none r.block r.ticket (changed f r.ticket old.records) (f r) none (find-changed_same f c.ticket r.ticket old.records r found) (c.block r) going)
-        | false ↦ λ over. finished_owes j (f r) over
+        | false ↦ λ over. finished-owes j (f r) over
       ]) refl
 
   pub moved-agrees : Reaches leg f → IsTrue honest → HasLegs held old → HasRecords old → LegsAgree held old → WritesPart held honest true leg r.block (bytes_of r.data) old.parts parts → find_record r.ticket old.records ≡ Some r → owes leg r ≡ true
       → EndsIn kept (contents_of held parts old.master) → LegsAgree held (moved old parts f r.ticket kept total)
   moved-agrees c is_honest legs records agree w found owed last =
       let same_count : length parts ≡ length old.parts = calls-length held old.parts parts leg w.before w.after w.part in
-      let going : is_under_way r ≡ true = owed_under_way leg r owed in
+      let going : is_under_way r ≡ true = owes-under_way leg r owed in
       record {
         reached = λ t x j at going_x free inside. ⊎_elim
             (λ this.

@@ -273,6 +273,33 @@ fn a_leg_that_lies_is_believed(rt: HostRuntime) -> Result<(), Fail> {
     read_begin_push(&rt, rt.alloc(), LyingLeg::new(4), &LYING)
 }
 
+/// Does a step. Where memory was wanting nothing has changed, and the step is done once more.
+fn once_or_again<L: LegPart>(
+    rt: &impl Abort,
+    alloc: Global,
+    stripe: &mut Stripe<L>,
+    ask: Ask,
+) -> Result<Told, Fail> {
+    let before = (stripe.total(), stripe.first_owed());
+    let first = stripe.step(step_of(rt, alloc, stripe, ask)?);
+    if summary_of(&first) != Told::Refused(Refusal::Memory) {
+        return Ok(summary_of(&first));
+    }
+    assert_eq!(rt; (stripe.total(), stripe.first_owed()), before);
+    let again = stripe.step(step_of(rt, alloc, stripe, ask)?);
+    Ok(summary_of(&again))
+}
+
+#[test]
+fn want_of_memory_changes_nothing(rt: HostRuntime) -> Result<(), Fail> {
+    let mut stripe = opened(rt.alloc(), true, 16, 0)?;
+    for (ask, want) in &WRITE_AND_READS {
+        let answer = once_or_again(&rt, rt.alloc(), &mut stripe, *ask)?;
+        assert_eq!(rt; answer, *want, "at {ask:?}");
+    }
+    Ok(())
+}
+
 #[test]
 fn a_stripe_tells_how_it_stands(rt: HostRuntime) -> Result<(), Fail> {
     let stripe = opened(rt.alloc(), true, 4, 0)?;

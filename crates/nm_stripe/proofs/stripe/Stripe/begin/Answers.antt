@@ -1,5 +1,6 @@
 -- The fields after a begin are the state after it, which the lemmas on begins are about.
 use Rattle.std.proofs.Common.{rules, ◌≡◌, ◌+◌, ◌<◌, ◌≤◌, length, refl, sym, ap, ◌∙◌, subst, arith, None}
+use Rattle.nm_fanout.proofs.Landing.{unlanded-with_new}
 use Rattle.nm_fanout.specs.Record.{begun}
 use Rattle.nm_fanout.specs.Records.{with_new, unlanded}
 use Rattle.nm_stripe.specs.Causes.{begin_cause}
@@ -8,7 +9,6 @@ use Rattle.nm_stripe.specs.State.{StripeState, state_of}
 use Rattle.nm_stripe.specs.Invariant.{Keeps}
 use Rattle.nm_stripe.proofs.CauseLemmas.{may_begin}
 use Rattle.nm_stripe.proofs.BeginLemmas.{begin-keeps, begin-acts, begun-state}
-use Rattle.nm_stripe.proofs.RecordLemmas.{unlanded-new}
 use Rattle.nm_stripe.proofs.stripe.Stripe.begin.Goals as goal
 
 pub invariant_of-self-2 : goal.invariant_of-self-2
@@ -24,7 +24,7 @@ invariant_of-self-2 g c =
     let room : c.unlanded-unlanded.result + 1 ≤ c.reserve.new.self.room = search rules in
     record {
       keeps = subst (λ (s : StripeState _). Keeps g.L.LegPart.model g.L.LegPart.honest s) (sym is) keeps;
-      room_left = omega (arith, ap (λ rs. unlanded rs) list, unlanded-new i.records.list (begun i.tickets c.args.block c.args.data (all_legs (length i.parts.items))) refl, c.unlanded-unlanded.ensures.count, room);
+      room_left = omega (arith, ap (λ rs. unlanded rs) list, unlanded-with_new (begun i.tickets c.args.block c.args.data (all_legs (length i.parts.items))) i.records.list refl, c.unlanded-unlanded.ensures.count, room);
     }
 
 pub returns-clause-acts : goal.returns-clause-acts

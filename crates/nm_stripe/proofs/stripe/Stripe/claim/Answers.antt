@@ -1,6 +1,7 @@
 -- A claim is read off its fields, and the lemmas on claims do the rest.
 use Rattle.std.proofs.Common.{rules, ◌≡◌, Option, None, Some, [], ◌∷◌, refl, sym, ap, ◌∙◌, arith}
 use Rattle.std.specs.Option.{option_and_then}
+use Rattle.nm_fanout.proofs.Landing.{unlanded-without}
 use Rattle.nm_fanout.specs.declared.write.Record.{Record}
 use Rattle.nm_fanout.specs.Records.{unlanded}
 use Rattle.nm_stripe.specs.Lives.{RepliesWrite}
@@ -8,7 +9,6 @@ use Rattle.nm_stripe.specs.Causes.{claim_cause}
 use Rattle.nm_stripe.specs.State.{state_of}
 use Rattle.nm_stripe.proofs.CauseLemmas.{may_claim}
 use Rattle.nm_stripe.proofs.ClaimLemmas.{claim-keeps, claim-acts, claimed-state, finished_landed}
-use Rattle.nm_stripe.proofs.RecordLemmas.{unlanded-without}
 use Rattle.nm_stripe.proofs.stripe.Stripe.claim.Goals as goal
 
 pub invariant_of-self : goal.invariant_of-self
@@ -21,7 +21,7 @@ invariant_of-self g c =
     let is = claimed-state i.place i.parts.items i.master i.records c.claim-number.new.self i.tickets i.kept i.first i.stopped c.args.ticket c.claim-number.ensures.records in
     record {
       keeps = rw is (claim-keeps g.L.LegPart.model g.L.LegPart.honest old c.args.ticket may.finished c.self.invariant.keeps may.found may.over);
-      room_left = omega (arith, c.self.invariant.room_left, ap (λ rs. unlanded rs) c.claim-number.ensures.records, unlanded-without c.args.ticket i.records.list may.finished n.0 c.self.invariant.keeps.records.in_order.ascending may.found n.1);
+      room_left = omega (arith, c.self.invariant.room_left, ap (λ rs. unlanded rs) c.claim-number.ensures.records, unlanded-without c.args.ticket n.0 i.records.list may.finished c.self.invariant.keeps.records.in_order.ascending may.found n.1);
     }
 
 pub returns-clause-acts : goal.returns-clause-acts

@@ -1,7 +1,8 @@
 -- A push is read off its fields once, and the lemmas on pushes do the rest.
 use Rattle.std.proofs.Common.{rules, ◌≡◌, ◌≢◌, ◌+◌, true, false, is_ok, [], ◌∷◌, ◌++◌, None, Some, refl, ap, ◌∙◌, arith}
+use Rattle.nm_fanout.proofs.Landing.{unlanded-reached}
+use Rattle.nm_fanout.proofs.Finding.{find_record-ticket}
 use Rattle.nm_fanout.specs.Data.{bytes_of}
-use Rattle.nm_fanout.specs.Record.{without_leg}
 use Rattle.nm_fanout.specs.Records.{find_record, unlanded, reached, landed}
 use Rattle.nm_fanout.proofs.Members.{find_record-whole}
 use Rattle.nm_leg.specs.Parts.{WritesPart}
@@ -13,7 +14,6 @@ use Rattle.nm_stripe.proofs.HaltLemmas.{halt-keeps}
 use Rattle.nm_stripe.proofs.PushLemmas.{reach-keeps, reach-acts}
 use Rattle.nm_stripe.proofs.LandLemmas.{land-keeps, land-acts}
 use Rattle.nm_stripe.proofs.PushedLemmas.{Called, was_reached, reach-pushes, land-pushes, reach-found, land-found, still_waits, reached-state, landed-state, told-reach, shows-reach}
-use Rattle.nm_stripe.proofs.RecordLemmas.{found_ticket, unlanded-changed}
 use Rattle.nm_stripe.proofs.stripe.Stripe.push.Goals as goal
 
 pub write_leg-written-requires-clause-bytes : goal.write_leg-written-requires-clause-bytes
@@ -45,7 +45,7 @@ invariant_of-self g c =
     let bytes : c.bytes.result.now ≡ bytes_of r.data = search rules in
     let writes : WritesPart g.L.LegPart.model g.L.LegPart.honest false c.args.leg r.block (bytes_of r.data) i.parts.items parts = rw (← ok, ← bytes) c.write_leg-written.ensures in
     let called : Called g.L.LegPart.model g.L.LegPart.honest false old c.args.ticket c.args.leg parts r = record { keeps = c.self.invariant.keeps; no_cause = ap (λ s. push_cause s c.args.ticket c.args.leg) c.self.view_is ∙ none; found = found; writes = writes } in
-    let ticket = found_ticket c.args.ticket i.records.list r found in
+    let ticket = find_record-ticket c.args.ticket i.records.list r found in
     record {
       keeps = halt-keeps g.L.LegPart.model g.L.LegPart.honest old parts c.args.leg r.block (bytes_of r.data) called.keeps writes;
       room_left = c.self.invariant.room_left;
@@ -63,14 +63,14 @@ invariant_of-self-then-leg-self g c =
     let bytes : c.bytes.result.now ≡ bytes_of r.data = search rules in
     let writes : WritesPart g.L.LegPart.model g.L.LegPart.honest true c.args.leg r.block (bytes_of r.data) i.parts.items parts = rw (← ok, ← bytes) c.write_leg-written.ensures in
     let called : Called g.L.LegPart.model g.L.LegPart.honest true old c.args.ticket c.args.leg parts r = record { keeps = c.self.invariant.keeps; no_cause = ap (λ s. push_cause s c.args.ticket c.args.leg) c.self.view_is ∙ none; found = found; writes = writes } in
-    let ticket = found_ticket c.args.ticket i.records.list r found in
+    let ticket = find_record-ticket c.args.ticket i.records.list r found in
     let ne : i.master ≢ c.args.leg = search rules in
     let list : c.reach.new.self.list ≡ reached c.args.ticket c.args.leg i.records.list = c.reach.ensures.records in
     let is = reached-state i.place i.parts.items parts i.master i.records c.reach.new.self i.tickets i.kept i.first i.stopped c.args.ticket c.args.leg r ticket list in
     let was = was_reached g.L.LegPart.model g.L.LegPart.honest old c.args.ticket c.args.leg parts r called in
     record {
       keeps = rw is (reach-keeps g.L.LegPart.model g.L.LegPart.honest old parts r c.args.leg was ne);
-      room_left = omega (arith, c.self.invariant.room_left, ap (λ rs. unlanded rs) list, unlanded-changed (without_leg c.args.leg) (λ x. refl) c.args.ticket i.records.list);
+      room_left = omega (arith, c.self.invariant.room_left, ap (λ rs. unlanded rs) list, unlanded-reached c.args.ticket c.args.leg i.records.list);
     }
 
 pub reached-requires : goal.reached-requires
@@ -85,7 +85,7 @@ reached-requires g c =
     let bytes : c.bytes.result.now ≡ bytes_of r.data = search rules in
     let writes : WritesPart g.L.LegPart.model g.L.LegPart.honest true c.args.leg r.block (bytes_of r.data) i.parts.items parts = rw (← ok, ← bytes) c.write_leg-written.ensures in
     let called : Called g.L.LegPart.model g.L.LegPart.honest true old c.args.ticket c.args.leg parts r = record { keeps = c.self.invariant.keeps; no_cause = ap (λ s. push_cause s c.args.ticket c.args.leg) c.self.view_is ∙ none; found = found; writes = writes } in
-    let ticket = found_ticket c.args.ticket i.records.list r found in
+    let ticket = find_record-ticket c.args.ticket i.records.list r found in
     rw (c.reach.ensures.records, reach-found g.L.LegPart.model g.L.LegPart.honest old c.args.ticket c.args.leg parts r called) refl
 
 pub returns-then-leg-self-clause-ok : goal.returns-then-leg-self-clause-ok
@@ -100,7 +100,7 @@ returns-then-leg-self-clause-ok g c =
     let bytes : c.bytes.result.now ≡ bytes_of r.data = search rules in
     let writes : WritesPart g.L.LegPart.model g.L.LegPart.honest true c.args.leg r.block (bytes_of r.data) i.parts.items parts = rw (← ok, ← bytes) c.write_leg-written.ensures in
     let called : Called g.L.LegPart.model g.L.LegPart.honest true old c.args.ticket c.args.leg parts r = record { keeps = c.self.invariant.keeps; no_cause = ap (λ s. push_cause s c.args.ticket c.args.leg) c.self.view_is ∙ none; found = found; writes = writes } in
-    let ticket = found_ticket c.args.ticket i.records.list r found in
+    let ticket = find_record-ticket c.args.ticket i.records.list r found in
     let ne : i.master ≢ c.args.leg = search rules in
     let list : c.reach.new.self.list ≡ reached c.args.ticket c.args.leg i.records.list = c.reach.ensures.records in
     let is = reached-state i.place i.parts.items parts i.master i.records c.reach.new.self i.tickets i.kept i.first i.stopped c.args.ticket c.args.leg r ticket list in
@@ -122,7 +122,7 @@ returns-then-leg-self-clause-acts g c =
     let bytes : c.bytes.result.now ≡ bytes_of r.data = search rules in
     let writes : WritesPart g.L.LegPart.model g.L.LegPart.honest true c.args.leg r.block (bytes_of r.data) i.parts.items parts = rw (← ok, ← bytes) c.write_leg-written.ensures in
     let called : Called g.L.LegPart.model g.L.LegPart.honest true old c.args.ticket c.args.leg parts r = record { keeps = c.self.invariant.keeps; no_cause = ap (λ s. push_cause s c.args.ticket c.args.leg) c.self.view_is ∙ none; found = found; writes = writes } in
-    let ticket = found_ticket c.args.ticket i.records.list r found in
+    let ticket = find_record-ticket c.args.ticket i.records.list r found in
     let ne : i.master ≢ c.args.leg = search rules in
     let list : c.reach.new.self.list ≡ reached c.args.ticket c.args.leg i.records.list = c.reach.ensures.records in
     let is = reached-state i.place i.parts.items parts i.master i.records c.reach.new.self i.tickets i.kept i.first i.stopped c.args.ticket c.args.leg r ticket list in
@@ -142,7 +142,7 @@ push-requires g c =
     let bytes : c.bytes.result.now ≡ bytes_of r.data = search rules in
     let writes : WritesPart g.L.LegPart.model g.L.LegPart.honest true c.args.leg r.block (bytes_of r.data) i.parts.items parts = rw (← ok, ← bytes) c.write_leg-written.ensures in
     let called : Called g.L.LegPart.model g.L.LegPart.honest true old c.args.ticket c.args.leg parts r = record { keeps = c.self.invariant.keeps; no_cause = ap (λ s. push_cause s c.args.ticket c.args.leg) c.self.view_is ∙ none; found = found; writes = writes } in
-    let ticket = found_ticket c.args.ticket i.records.list r found in
+    let ticket = find_record-ticket c.args.ticket i.records.list r found in
     let at : c.args.leg ≡ i.master = search rules in
     let waits = still_waits g.L.LegPart.model g.L.LegPart.honest old c.args.ticket c.args.leg parts r called at in
     omega (arith, waits, c.self.invariant.room_left)
@@ -159,7 +159,7 @@ invariant_of-self-2 g c =
     let bytes : c.bytes.result.now ≡ bytes_of r.data = search rules in
     let writes : WritesPart g.L.LegPart.model g.L.LegPart.honest true c.args.leg r.block (bytes_of r.data) i.parts.items parts = rw (← ok, ← bytes) c.write_leg-written.ensures in
     let called : Called g.L.LegPart.model g.L.LegPart.honest true old c.args.ticket c.args.leg parts r = record { keeps = c.self.invariant.keeps; no_cause = ap (λ s. push_cause s c.args.ticket c.args.leg) c.self.view_is ∙ none; found = found; writes = writes } in
-    let ticket = found_ticket c.args.ticket i.records.list r found in
+    let ticket = find_record-ticket c.args.ticket i.records.list r found in
     let at : c.args.leg ≡ i.master = search rules in
     let number : c.next_number-number.result ≡ i.first + i.kept.total = rw (← c.self.view_is) at c.next_number-number.ensures in
     let list : c.land.new.self.list ≡ landed c.args.ticket (i.first + i.kept.total) (reached c.args.ticket c.args.leg i.records.list) = rw (← number, ← c.reach-2.ensures.records) c.land.ensures.records in
@@ -184,7 +184,7 @@ reached-requires-2 g c =
     let bytes : c.bytes.result.now ≡ bytes_of r.data = search rules in
     let writes : WritesPart g.L.LegPart.model g.L.LegPart.honest true c.args.leg r.block (bytes_of r.data) i.parts.items parts = rw (← ok, ← bytes) c.write_leg-written.ensures in
     let called : Called g.L.LegPart.model g.L.LegPart.honest true old c.args.ticket c.args.leg parts r = record { keeps = c.self.invariant.keeps; no_cause = ap (λ s. push_cause s c.args.ticket c.args.leg) c.self.view_is ∙ none; found = found; writes = writes } in
-    let ticket = found_ticket c.args.ticket i.records.list r found in
+    let ticket = find_record-ticket c.args.ticket i.records.list r found in
     let at : c.args.leg ≡ i.master = search rules in
     let number : c.next_number-number.result ≡ i.first + i.kept.total = rw (← c.self.view_is) at c.next_number-number.ensures in
     let list : c.land.new.self.list ≡ landed c.args.ticket (i.first + i.kept.total) (reached c.args.ticket c.args.leg i.records.list) = rw (← number, ← c.reach-2.ensures.records) c.land.ensures.records in
@@ -203,7 +203,7 @@ returns-clause-ok g c =
     let bytes : c.bytes.result.now ≡ bytes_of r.data = search rules in
     let writes : WritesPart g.L.LegPart.model g.L.LegPart.honest true c.args.leg r.block (bytes_of r.data) i.parts.items parts = rw (← ok, ← bytes) c.write_leg-written.ensures in
     let called : Called g.L.LegPart.model g.L.LegPart.honest true old c.args.ticket c.args.leg parts r = record { keeps = c.self.invariant.keeps; no_cause = ap (λ s. push_cause s c.args.ticket c.args.leg) c.self.view_is ∙ none; found = found; writes = writes } in
-    let ticket = found_ticket c.args.ticket i.records.list r found in
+    let ticket = find_record-ticket c.args.ticket i.records.list r found in
     let at : c.args.leg ≡ i.master = search rules in
     let number : c.next_number-number.result ≡ i.first + i.kept.total = rw (← c.self.view_is) at c.next_number-number.ensures in
     let list : c.land.new.self.list ≡ landed c.args.ticket (i.first + i.kept.total) (reached c.args.ticket c.args.leg i.records.list) = rw (← number, ← c.reach-2.ensures.records) c.land.ensures.records in
@@ -227,7 +227,7 @@ returns-clause-acts g c =
     let bytes : c.bytes.result.now ≡ bytes_of r.data = search rules in
     let writes : WritesPart g.L.LegPart.model g.L.LegPart.honest true c.args.leg r.block (bytes_of r.data) i.parts.items parts = rw (← ok, ← bytes) c.write_leg-written.ensures in
     let called : Called g.L.LegPart.model g.L.LegPart.honest true old c.args.ticket c.args.leg parts r = record { keeps = c.self.invariant.keeps; no_cause = ap (λ s. push_cause s c.args.ticket c.args.leg) c.self.view_is ∙ none; found = found; writes = writes } in
-    let ticket = found_ticket c.args.ticket i.records.list r found in
+    let ticket = find_record-ticket c.args.ticket i.records.list r found in
     let at : c.args.leg ≡ i.master = search rules in
     let number : c.next_number-number.result ≡ i.first + i.kept.total = rw (← c.self.view_is) at c.next_number-number.ensures in
     let list : c.land.new.self.list ≡ landed c.args.ticket (i.first + i.kept.total) (reached c.args.ticket c.args.leg i.records.list) = rw (← number, ← c.reach-2.ensures.records) c.land.ensures.records in
