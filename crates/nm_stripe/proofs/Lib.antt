@@ -9,6 +9,7 @@ pub mod LandLemmas
 pub mod LegLemmas
 pub mod LivesLemmas
 pub mod OwedLemmas
+pub mod OrderLemmas
 pub mod PushLemmas
 pub mod PushedLemmas
 pub mod ReachLemmas

@@ -1,10 +1,10 @@
 -- Lists of events that nothing explains, and what an explained list says of order.
-use Rattle.std.specs.Prelude.{◌≡◌, ◌≢◌, ℕ, List, ◌∷◌, Some, slice_get}
+use Rattle.std.specs.Prelude.{◌≡◌, ◌≢◌, ℕ, ◌<◌, List, ◌∷◌, ◌++◌, Some, slice_get}
 use Rattle.nm_replay.specs.declared.block.Block.{Block}
 use Rattle.nm_replay.specs.declared.entry.Kind.TheVariants.{Read, Write}
 use Rattle.nm_replay.specs.declared.entry.Entry.{Entry}
 use Rattle.nm_replay.specs.Array.{Array}
-use Rattle.nm_stripe.specs.Lives.{Event, BeginsRead, BeginsWrite, Lands, RepliesRead, RepliesWrite, WriteLife, Unborn, ReadLife, Unasked}
+use Rattle.nm_stripe.specs.Lives.{Event, BeginsRead, BeginsWrite, Lands, RepliesRead, RepliesWrite, WriteLife, Unborn, ReadLife, Unasked, entries_of}
 use Rattle.nm_stripe.specs.Headline.{Explained}
 
 -- the events are explained from some start, at which the write of this ticket has not begun
@@ -85,3 +85,32 @@ NoReadOfOtherBytes =
     → slice_get array block ≢ Some bytes
     → ¬ Explained next array left writes writes_left reads reads_left
     (BeginsRead next block ∷ Lands (entry_of_read next block bytes) ∷ RepliesRead next bytes ∷ later)
+
+-- some of the entries has this number
+pub record HasNumber (number : ℕ) (entries : List Entry) : Type 0 where
+  pub before : List Entry
+  pub entry : Entry
+  pub behind : List Entry
+  pub split : entries ≡ before ++ entry ∷ behind
+  pub is : entry.seq ≡ number
+
+-- a write is told the number of an entry that stands before the telling
+abbrev pub WriteToldBehindItsEntry : Type 0
+WriteToldBehindItsEntry =
+    (ticket number : ℕ) (front later : List Event)
+    → ExplainsWrite ticket (front ++ RepliesWrite ticket number ∷ later)
+    → HasNumber number (entries_of front)
+
+-- a read is told under the number of an entry that stands before the telling
+abbrev pub ReadToldBehindItsEntry : Type 0
+ReadToldBehindItsEntry =
+    (number : ℕ) (front later : List Event) (bytes : Block)
+    → ExplainsRead number (front ++ RepliesRead number bytes ∷ later)
+    → HasNumber number (entries_of front)
+
+-- a write that was told before another began has the lower number
+abbrev pub ToldBeforeBegun : Type 0
+ToldBeforeBegun =
+    (ticket number other above block : ℕ) (bytes : Block) (front between behind later : List Event)
+    → ExplainsWrite ticket (front ++ RepliesWrite ticket number ∷ (between ++ BeginsWrite other block bytes ∷ (behind ++ RepliesWrite other above ∷ later)))
+    → number < above
