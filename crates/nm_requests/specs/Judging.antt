@@ -4,13 +4,22 @@ use Rattle.std.specs.Bool.{MatchBool}
 use Rattle.nm_wire.specs.declared.command.Command.TheVariants as command
 use Rattle.nm_wire.specs.declared.command.Command.{Command}
 use Rattle.nm_wire.specs.declared.export.Export.{Export}
-use Rattle.nm_wire.specs.declared.errors.TheConstants.{EPERM, EINVAL, ENOSPC}
 use Rattle.nm_wire.specs.Command.{command_number}
 use Rattle.nm_wire.specs.Export.{size_of}
 use Rattle.nm_requests.specs.declared.request.Request.{Request}
 use Rattle.nm_requests.specs.declared.task.Task.TheVariants as task
 use Rattle.nm_requests.specs.declared.task.Task.{Task}
 use Rattle.nm_requests.specs.Message.{longest_payload}
+
+-- the error values ("Error values"): not permitted, not valid, no space left
+abbrev pub not_permitted : ℕ
+not_permitted = 1
+
+abbrev pub not_valid : ℕ
+not_valid = 22
+
+abbrev pub no_space : ℕ
+no_space = 28
 
 -- a row of the table: whether it applies, and its result
 pub record Row : Type 0 where
@@ -91,14 +100,14 @@ is_past_end request export = nat_lt (size_of export) (request.offset + request.l
 abbrev pub table : Request → Export → List Row
 table request export =
     row (is_disconnect request) (Ok task.Disconnect)
-    ∷ row (not (is_known request)) (Err EINVAL)
-    ∷ row (not (contains (fua + no_hole) request.flags.0)) (Err EINVAL)
+    ∷ row (not (is_known request)) (Err not_valid)
+    ∷ row (not (contains (fua + no_hole) request.flags.0)) (Err not_valid)
     ∷ row (is_flush request) (Ok task.Flush)
-    ∷ row (is_change request && export.read_only) (Err EPERM)
-    ∷ row (not (is_aligned request)) (Err EINVAL)
-    ∷ row ((is_read request || is_trim request) && is_past_end request export) (Err EINVAL)
-    ∷ row ((is_write request || is_write_zeroes request) && is_past_end request export) (Err ENOSPC)
-    ∷ row (is_read request && nat_lt longest_payload request.length) (Err EINVAL)
+    ∷ row (is_change request && export.read_only) (Err not_permitted)
+    ∷ row (not (is_aligned request)) (Err not_valid)
+    ∷ row ((is_read request || is_trim request) && is_past_end request export) (Err not_valid)
+    ∷ row ((is_write request || is_write_zeroes request) && is_past_end request export) (Err no_space)
+    ∷ row (is_read request && nat_lt longest_payload request.length) (Err not_valid)
     ∷ row (request.length == 0) (Ok task.Nothing)
     ∷ row (is_read request) (Ok (task.Read (first_block request) (blocks request)))
     ∷ row (is_write request)
