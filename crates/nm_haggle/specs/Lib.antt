@@ -5,3 +5,4 @@ pub mod Haggling
 pub mod Laws
 pub mod Front
 pub mod Progress
+pub mod Refused

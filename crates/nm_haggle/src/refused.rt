@@ -1,5 +1,6 @@
 ghost use Rattle.nm_haggle.specs.declared.refused.Refused.TheVariants.{Memory};
-ghost use Rattle.std.specs.Prelude.{◌≡◌};
+ghost use Rattle.std.specs.Prelude.{◌≡◌, Some};
+ghost use Rattle.nm_haggle.specs.Refused.{refused_text};
 
 use std::alloc::AllocError;
 use std::error::Error;
@@ -15,6 +16,8 @@ pub enum Refused {
 }
 
 impl fmt::Display for Refused {
+    ghost output = { λ refused. Some (refused_text refused) };
+
     fn fmt<W: fmt::Write>(&self, f: &mut fmt::Formatter<W>) -> fmt::Result {
         f.write_str(match self {
             Refused::Memory => "no memory",
