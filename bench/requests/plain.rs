@@ -1,19 +1,20 @@
-// A plain Rust reader of the same stream, with the standard library alone: it copies each payload
-// out of its receive buffer into a Vec of its own.
+// A plain Rust reader of the same stream, with the standard library alone. It copies each payload out
+// of its receive buffer, so that a request can be kept; or, `lent`, lends it until the next call.
+use std::hint::black_box;
 use std::time::Instant;
 
 const PIECE: usize = 65_536;
-const ROUNDS: u32 = 5;
+const ROUNDS: u32 = 12;
 const LONGEST: u32 = 33_554_432;
 
-struct Request {
+struct Request<P> {
     index: u64,
     kind: u16,
     flags: u16,
     cookie: u64,
     offset: u64,
     length: u32,
-    payload: Vec<u8>,
+    payload: P,
 }
 
 #[derive(Debug)]
@@ -46,7 +47,7 @@ impl Reader {
         self.buffer.extend_from_slice(piece);
     }
 
-    fn next(&mut self) -> Result<Option<Request>, Fault> {
+    fn next(&mut self) -> Result<Option<Request<&[u8]>>, Fault> {
         let bytes = &self.buffer[self.start..];
         let Some(head) = bytes.first_chunk::<28>() else {
             return Ok(None);
@@ -67,7 +68,7 @@ impl Reader {
         if bytes.len() < end {
             return Ok(None);
         }
-        let payload = bytes[28..end].to_vec();
+        let payload = self.start + 28..self.start + end;
         self.start += end;
         let index = self.count;
         self.count += 1;
@@ -78,9 +79,52 @@ impl Reader {
             cookie,
             offset,
             length,
-            payload,
+            payload: &self.buffer[payload],
         }))
     }
+}
+
+impl Request<&[u8]> {
+    fn kept(self) -> Request<Vec<u8>> {
+        Request {
+            index: self.index,
+            kind: self.kind,
+            flags: self.flags,
+            cookie: self.cookie,
+            offset: self.offset,
+            length: self.length,
+            payload: self.payload.to_vec(),
+        }
+    }
+}
+
+impl<P: AsRef<[u8]>> Request<P> {
+    fn sum(&self) -> u64 {
+        let last = self.payload.as_ref().last();
+        (self.index ^ self.cookie ^ self.offset)
+            .wrapping_add(u64::from(self.length ^ u32::from(self.kind ^ self.flags)))
+            .wrapping_add(last.map_or(0, |byte| u64::from(*byte)))
+    }
+}
+
+// How many requests are read, and a sum over them.
+fn read_all(bytes: &[u8], times: usize, is_lent: bool) -> (u64, u64) {
+    let mut reader = Reader::new();
+    let (mut count, mut sum) = (0u64, 0u64);
+    for _ in 0..times {
+        for piece in bytes.chunks(PIECE) {
+            reader.feed(piece);
+            while let Some(request) = reader.next().unwrap() {
+                count += 1;
+                sum = sum.wrapping_add(if is_lent {
+                    request.sum()
+                } else {
+                    black_box(request.kept()).sum()
+                });
+            }
+        }
+    }
+    (count, sum)
 }
 
 fn stream(kind: u16, length: u32, count: u64) -> Vec<u8> {
@@ -101,29 +145,18 @@ fn stream(kind: u16, length: u32, count: u64) -> Vec<u8> {
 
 fn main() {
     for (name, kind, length, requests, times) in [
-        ("writes", 1, 4096, 16_384, 1),
-        ("reads", 0, 4096, 16_384, 148),
-        ("long-writes", 1, 33_554_432, 2, 1),
+        ("WRITE of 4 KiB", 1, 4096, 16_384, 1),
+        ("READ", 0, 4096, 16_384, 148),
+        ("WRITE of 32 MiB", 1, 33_554_432, 2, 1),
     ] {
         let bytes = stream(kind, length, requests);
-        for _ in 0..ROUNDS {
-            let start = Instant::now();
-            let mut reader = Reader::new();
-            let (mut count, mut sum) = (0u64, 0u64);
-            for _ in 0..times {
-                for piece in bytes.chunks(PIECE) {
-                    reader.feed(piece);
-                    while let Some(request) = reader.next().unwrap() {
-                        count += 1;
-                        sum = sum
-                            .wrapping_add(request.index ^ request.cookie ^ request.offset)
-                            .wrapping_add(u64::from(request.length ^ u32::from(request.kind ^ request.flags)))
-                            .wrapping_add(request.payload.last().map_or(0, |byte| u64::from(*byte)));
-                    }
-                }
+        for (is_lent, how) in [(false, ""), (true, ", lent")] {
+            for _ in 0..ROUNDS {
+                let start = Instant::now();
+                let (count, sum) = read_all(&bytes, times, is_lent);
+                let took = start.elapsed().as_nanos();
+                println!("{name}{how}: {count} {} {sum} {took}", bytes.len() * times);
             }
-            let took = start.elapsed().as_nanos();
-            println!("{name} {count} {} {sum} {took}", bytes.len() * times);
         }
     }
 }
