@@ -1,6 +1,7 @@
 -- Lists of events that nothing explains, and what an explained list says of order.
 use Rattle.std.specs.Prelude.{◌≡◌, ◌≢◌, ℕ, ◌<◌, List, ◌∷◌, ◌++◌, Some, slice_get}
 use Rattle.nm_replay.specs.declared.block.Block.{Block}
+use Rattle.nm_replay.specs.declared.entry.Kind.{Kind}
 use Rattle.nm_replay.specs.declared.entry.Kind.TheVariants.{Read, Write}
 use Rattle.nm_replay.specs.declared.entry.Entry.{Entry}
 use Rattle.nm_replay.specs.Array.{Array}
@@ -86,27 +87,28 @@ NoReadOfOtherBytes =
     → ¬ Explained next array left writes writes_left reads reads_left
     (BeginsRead next block ∷ Lands (entry_of_read next block bytes) ∷ RepliesRead next bytes ∷ later)
 
--- some of the entries has this number
-pub record HasNumber (number : ℕ) (entries : List Entry) : Type 0 where
+-- some of the entries has this number, and is of this kind
+pub record HasNumber (kind : Kind) (number : ℕ) (entries : List Entry) : Type 0 where
   pub before : List Entry
   pub entry : Entry
   pub behind : List Entry
   pub split : entries ≡ before ++ entry ∷ behind
   pub is : entry.seq ≡ number
+  pub of : entry.kind ≡ kind
 
--- a write is told the number of an entry that stands before the telling
+-- a write is told the number of its own entry, which stands before the telling
 abbrev pub WriteToldBehindItsEntry : Type 0
 WriteToldBehindItsEntry =
     (ticket number : ℕ) (front later : List Event)
     → ExplainsWrite ticket (front ++ RepliesWrite ticket number ∷ later)
-    → HasNumber number (entries_of front)
+    → HasNumber (Write ticket) number (entries_of front)
 
--- a read is told under the number of an entry that stands before the telling
+-- a read is told under the number of its own entry, which stands before the telling
 abbrev pub ReadToldBehindItsEntry : Type 0
 ReadToldBehindItsEntry =
     (number : ℕ) (front later : List Event) (bytes : Block)
     → ExplainsRead number (front ++ RepliesRead number bytes ∷ later)
-    → HasNumber number (entries_of front)
+    → HasNumber Read number (entries_of front)
 
 -- a write that was told before another began has the lower number
 abbrev pub ToldBeforeBegun : Type 0

@@ -36,7 +36,7 @@ pub fn no_read_of_other_bytes()
     ensures { NoReadOfOtherBytes }
 {}
 
-/// A write is told the number of an entry that stands before.
+/// A write is told the number of its own entry, which stands before.
 pub fn write_told_behind_its_entry()
     ensures { WriteToldBehindItsEntry }
 {}
