@@ -1,5 +1,5 @@
 -- What is written of a history, at each point where its writing may end.
-use Rattle.std.proofs.Common.{◌≡◌, ◌↔◌, ℕ, List, [], ◌++◌, length, Bool, true, IsTrue, Option, append_assoc, sym, subst, ap, ◌∙◌}
+use Rattle.std.proofs.Common.{◌≡◌, ◌↔◌, ℕ, List, [], ◌++◌, length, Bool, true, false, IsTrue, Option, append_assoc, refl, sym, subst, ap, ◌∙◌}
 use Rattle.std.specs.List.{flat_map}
 use Rattle.std.specs.Io.KnownBytes.{Appends, Keeps}
 use Rattle.std.proofs.KnownBytes.{Appends-trans}
@@ -14,19 +14,25 @@ use Rattle.nm_script.proofs.RunLaws.{front_none, front_longer, front_sent, all_s
 abbrev Judged : Bool → List Entry → Type 0
 Judged b entries = IsTrue b ↔ Consistent entries
 
-pub nothing_yet : (entries : List Entry) (total : ℕ) (b : Bool) → Judged b entries → (a : Option (List ℕ)) (g : List ℕ) →
-    JudgesHistory entries total (λ text. AppendsFront a a (g ++ text))
-nothing_yet entries total b judged a g = (b, judged, front_none a (g ++ printed_history entries total b))
+pub nothing_yet : (entries : List Entry) (total : ℕ) (a : Option (List ℕ)) (g : List ℕ) → JudgesHistory entries total (λ text. AppendsFront a a (g ++ text))
+nothing_yet entries total a g b judged = front_none a (g ++ printed_history entries total b)
 
-pub front_of_entries : (entries : List Entry) (total : ℕ) (b : Bool) → Judged b entries → (old new : Option (List ℕ)) (g counted : List ℕ) →
+pub front_of_entries : (entries : List Entry) (total : ℕ) (old new : Option (List ℕ)) (g counted : List ℕ) →
     counted ≡ g ++ printed_counts (length entries) total → AppendsFront old new (counted ++ flat_map printed_entry entries) →
     JudgesHistory entries total (λ text. AppendsFront old new (g ++ text))
-front_of_entries entries total b judged old new g counted e w =
+front_of_entries entries total old new g counted e w b judged =
     let counts : List ℕ = printed_counts (length entries) total in
     let lines : List ℕ = flat_map printed_entry entries in
     let legal : List ℕ = printed_legal b in
     let there : AppendsFront old new ((g ++ counts) ++ lines) = subst (λ (x : List ℕ). AppendsFront old new (x ++ lines)) e w in
-    (b, judged, subst (λ (x : List ℕ). AppendsFront old new x) (sym (regroup g counts lines legal)) (front_longer old new ((g ++ counts) ++ lines) legal there))
+    subst (λ (x : List ℕ). AppendsFront old new x) (sym (regroup g counts lines legal)) (front_longer old new ((g ++ counts) ++ lines) legal there)
+
+-- two judgements of one history are one
+same_judged : (a b : Bool) (C : Type 0) → (IsTrue a ↔ C) → (IsTrue b ↔ C) → a ≡ b
+same_judged true true C h k = refl
+same_judged true false C h k = sym (k.1 (h.0 refl))
+same_judged false true C h k = h.1 (k.0 refl)
+same_judged false false C h k = refl
 
 -- all lines gathered or passed on
 abbrev pub all_gathered : List Entry → ℕ → Bool → List ℕ → List ℕ
@@ -44,28 +50,24 @@ gathers_all entries total b old cur g counted passed judged e p f =
 pub front_of_all : (entries : List Entry) (total : ℕ) (b : Bool) → Judged b entries → (old cur new : Option (List ℕ)) (g judged : List ℕ) →
     PassesOn old cur (all_gathered entries total b g) judged → AppendsFront cur new judged →
     JudgesHistory entries total (λ text. AppendsFront old new (g ++ text))
-front_of_all entries total b known old cur new g judged p w = (
-  b,
-  known,
-  subst (λ (x : List ℕ). AppendsFront old new x)
-      (sym (regroup g (printed_counts (length entries) total) (flat_map printed_entry entries) (printed_legal b)))
-      (front_sent old cur new (all_gathered entries total b g) judged p w),
-)
+front_of_all entries total b known old cur new g judged p w other also =
+    subst (λ (x : Bool). AppendsFront old new (g ++ printed_history entries total x)) (same_judged b other (Consistent entries) known also)
+    (subst (λ (x : List ℕ). AppendsFront old new x)
+    (sym (regroup g (printed_counts (length entries) total) (flat_map printed_entry entries) (printed_legal b)))
+    (front_sent old cur new (all_gathered entries total b g) judged p w))
 
 pub whole_history : (entries : List Entry) (total : ℕ) (b : Bool) → Judged b entries → (old cur new : Option (List ℕ)) (g judged : List ℕ) →
     PassesOn old cur (all_gathered entries total b g) judged → Appends cur new judged →
     JudgesHistory entries total (λ text. Appends old new (g ++ text))
-whole_history entries total b known old cur new g judged p w = (
-  b,
-  known,
-  subst (λ (x : List ℕ). Appends old new x)
-      (sym (regroup g (printed_counts (length entries) total) (flat_map printed_entry entries) (printed_legal b)))
-      (all_sent old cur new (all_gathered entries total b g) judged p w),
-)
+whole_history entries total b known old cur new g judged p w other also =
+    subst (λ (x : Bool). Appends old new (g ++ printed_history entries total x)) (same_judged b other (Consistent entries) known also)
+    (subst (λ (x : List ℕ). Appends old new x)
+    (sym (regroup g (printed_counts (length entries) total) (flat_map printed_entry entries) (printed_legal b)))
+    (all_sent old cur new (all_gathered entries total b g) judged p w))
 
 -- consistent entries are judged legal
 pub judged_legal : (entries : List Entry) (total : ℕ) (P : List ℕ → Type 0) → Consistent entries → JudgesHistory entries total P → P (printed_history entries total true)
-judged_legal entries total P is (b, judged, p) = subst (λ (x : Bool). P (printed_history entries total x)) (judged.1 is) p
+judged_legal entries total P is judged = judged true ((λ known. is), (λ known. refl))
 
 -- the history of a machine, from a copy of what it keeps
 pub machine_history : (machine : Machine) (entries : List Entry) (total : ℕ) (gathered : List ℕ) (P : List ℕ → Type 0) → entries ≡ machine.kept →

@@ -13,3 +13,4 @@ pub mod RunLaws
 pub mod HistoryLaws
 pub mod EndLaws
 pub mod Inside
+pub mod Judged

@@ -9,3 +9,4 @@ pub mod Machine
 pub mod Stops
 pub mod Runs
 pub mod Ending
+pub mod Judging

@@ -18,7 +18,7 @@ Answers steps answers old new = Runs in_memory true old (map asked steps) answer
 -- What holds of the lines of a history, in which `legal yes` stands exactly where it is consistent.
 abbrev pub JudgesHistory : List Entry → ℕ → (List ℕ → Type 0) → Type 0
 JudgesHistory entries total P =
-    (is_legal : Bool) × (IsTrue is_legal ↔ Consistent entries) × P (printed_history entries total is_legal)
+    (is_legal : Bool) → (IsTrue is_legal ↔ Consistent entries) → P (printed_history entries total is_legal)
 
 -- The lines of the history that a stripe keeps, which is legal.
 abbrev pub history : Machine → List ℕ

@@ -9,6 +9,7 @@ ghost use Rattle.nm_script.specs.Printing.{printed_entry};
 ghost use Rattle.nm_script.specs.Stops.{IsRunStop};
 ghost use Rattle.nm_script.specs.Runs.{RunsSteps, RunsFront, WholeRun, PartOfRun, JudgesHistory, Writes, history};
 
+use crate::judging::is_legal;
 use crate::machine::{open, step};
 use crate::printing::{put_counts, put_entry, put_legal, put_outcome};
 use crate::scripts::Script;
@@ -16,7 +17,7 @@ use crate::steps::Step;
 use crate::stops::Stop;
 use crate::streams::{Unwritten, send};
 use nm_leg::MemLeg;
-use nm_replay::{Entry, check};
+use nm_replay::Entry;
 use nm_stripe::Stripe;
 use std::alloc::Global;
 use std::io::Write;
@@ -82,7 +83,9 @@ fn put_entries<W: Write>(entries: &[Entry], out: &mut W, gathered: &mut Vec<u8>)
 
 /// Writes a history behind what is gathered: its counts, its entries, and whether it is legal.
 fn put_history<W: Write>(
+    alloc: Global,
     entries: &[Entry],
+    blocks: usize,
     total: u64,
     out: &mut W,
     gathered: &mut Vec<u8>,
@@ -93,7 +96,7 @@ fn put_history<W: Write>(
         AppendsFront (W.contents out.old) (W.contents out.new) (gathered.old.items ++ text))) }
     ensures cause { IfErr result IsRunStop }
 {
-    let is_legal = check(entries);
+    let is_legal = is_legal(alloc, entries, blocks)?;
     put_counts(gathered, entries.len() as u64, total)?;
     put_entries(entries, out, gathered)?;
     put_legal(gathered, is_legal)?;
@@ -105,6 +108,7 @@ fn put_history<W: Write>(
 fn finish<W: Write>(
     alloc: Global,
     stripe: &Stripe<MemLeg>,
+    blocks: usize,
     out: &mut W,
     gathered: &mut Vec<u8>,
 ) -> Result<(), Stop>
@@ -119,7 +123,7 @@ fn finish<W: Write>(
     // A stripe is sound at any time, and so is what it keeps: that it is legal is proved by this.
     let _ = stripe.is_stopped();
     let entries = stripe.entries(alloc)?;
-    put_history(&entries, stripe.total(), out, gathered)?;
+    put_history(alloc, &entries, blocks, stripe.total(), out, gathered)?;
     if out.flush().is_err() {
         return Err(Stop::Output);
     }
@@ -141,5 +145,6 @@ pub fn run<W: Write>(alloc: Global, script: &Script, out: &mut W) -> Result<(), 
     let mut gathered = Vec::with_capacity(alloc, GATHERED + LINE)?;
     let mut stripe = open(alloc, &script.mirror)?;
     run_steps(alloc, &mut stripe, &script.steps, out, &mut gathered)?;
-    finish(alloc, &stripe, out, &mut gathered)
+    let blocks = script.mirror.blocks as usize;
+    finish(alloc, &stripe, blocks, out, &mut gathered)
 }

@@ -9,6 +9,7 @@ use crate::program::run_script;
 use std::process::ExitCode;
 
 mod engine;
+mod judging;
 mod machine;
 mod mirrors;
 mod outcomes;
@@ -18,6 +19,8 @@ mod scripts;
 mod steps;
 mod stops;
 mod streams;
+#[cfg(test)]
+mod tests;
 mod words;
 
 fn main(rt: HostRuntime) -> ExitCode {

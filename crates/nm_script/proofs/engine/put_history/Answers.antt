@@ -3,32 +3,36 @@ use Rattle.nm_script.proofs.RunLaws.{on_err, front_passed}
 use Rattle.nm_script.proofs.HistoryLaws.{nothing_yet, front_of_entries, gathers_all, front_of_all, whole_history}
 use Rattle.nm_script.proofs.engine.put_history.Goals as goal
 
+pub returns-in_err-is_legal-clause-err : goal.returns-in_err-is_legal-clause-err
+returns-in_err-is_legal-clause-err g c =
+    on_err _ _ (nothing_yet c.args.entries.now c.args.total _ c.args.gathered.now.items)
+
 pub returns-in_err-put_counts-clause-err : goal.returns-in_err-put_counts-clause-err
 returns-in_err-put_counts-clause-err g c =
-    on_err _ _ (nothing_yet c.args.entries.now c.args.total c.check-is_legal.result c.check-is_legal.ensures _ c.args.gathered.now.items)
+    on_err _ _ (nothing_yet c.args.entries.now c.args.total _ c.args.gathered.now.items)
 
 pub returns-in_err-put_entries-clause-err : goal.returns-in_err-put_entries-clause-err
 returns-in_err-put_entries-clause-err g c =
-    on_err _ _ (front_of_entries c.args.entries.now c.args.total c.check-is_legal.result c.check-is_legal.ensures _ _
+    on_err _ _ (front_of_entries c.args.entries.now c.args.total _ _
     c.args.gathered.now.items c.put_counts.new.text.items c.in_ok-put_counts.ensures c.in_err-put_entries.ensures.err)
 
 pub returns-in_err-put_legal-clause-err : goal.returns-in_err-put_legal-clause-err
 returns-in_err-put_legal-clause-err g c =
-    on_err _ _ (front_of_entries c.args.entries.now c.args.total c.check-is_legal.result c.check-is_legal.ensures _ _
+    on_err _ _ (front_of_entries c.args.entries.now c.args.total _ _
     c.args.gathered.now.items c.put_counts.new.text.items c.in_ok-put_counts.ensures (front_passed _ _ _ _ c.in_ok-put_entries.ensures.ok))
 
 pub returns-in_err-send-clause-err : goal.returns-in_err-send-clause-err
 returns-in_err-send-clause-err g c =
-    let gathered = gathers_all c.args.entries.now c.args.total c.check-is_legal.result _ _
+    let gathered = gathers_all c.args.entries.now c.args.total c.in_ok-is_legal.is_legal _ _
     c.args.gathered.now.items c.put_counts.new.text.items c.put_entries.new.gathered.items c.put_legal.new.text.items
     c.in_ok-put_counts.ensures c.in_ok-put_entries.ensures.ok c.in_ok-put_legal.ensures in
-    on_err _ _ (front_of_all c.args.entries.now c.args.total c.check-is_legal.result c.check-is_legal.ensures _ _ _
+    on_err _ _ (front_of_all c.args.entries.now c.args.total c.in_ok-is_legal.is_legal c.in_ok-is_legal.ensures _ _ _
     c.args.gathered.now.items c.put_legal.new.text.items gathered (rw c.deref.ensures.value at c.in_err-send.ensures.err))
 
 pub returns-clause-ok : goal.returns-clause-ok
 returns-clause-ok g c =
-    let gathered = gathers_all c.args.entries.now c.args.total c.check-is_legal.result _ _
+    let gathered = gathers_all c.args.entries.now c.args.total c.in_ok-is_legal.is_legal _ _
     c.args.gathered.now.items c.put_counts.new.text.items c.put_entries.new.gathered.items c.put_legal.new.text.items
     c.in_ok-put_counts.ensures c.in_ok-put_entries.ensures.ok c.in_ok-put_legal.ensures in
-    whole_history c.args.entries.now c.args.total c.check-is_legal.result c.check-is_legal.ensures _ _ _
+    whole_history c.args.entries.now c.args.total c.in_ok-is_legal.is_legal c.in_ok-is_legal.ensures _ _ _
     c.args.gathered.now.items c.put_legal.new.text.items gathered (rw c.deref.ensures.value at c.in_ok-send.ensures.ok)
