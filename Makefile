@@ -2,13 +2,14 @@
 RT ?= rt
 
 .DEFAULT_GOAL := help
-.PHONY: help run check must-fail fail-alloc fmt
+.PHONY: help run check must-fail fail-alloc bench fmt
 
 help:
 	@echo 'make run        build nm_script and run it on the example script'
 	@echo 'make check      the whole gate: every proof from nothing, every must-fail edit, every test'
 	@echo 'make must-fail  the must-fail edits alone'
 	@echo 'make fail-alloc each allocation of the tests failing in turn (long; no part of the gate)'
+	@echo 'make bench      the stripe and the requests, timed beside plain Rust (about 13 minutes)'
 	@echo 'make fmt        lay out every crate'
 
 run:
@@ -28,6 +29,9 @@ fail-alloc:
 	  echo "$$crate, allocation $$n refused:"; \
 	  (cd $$crate && $(RT) try --test --fail-alloc $$n 2>&1 | grep -E '^test |panicked|fault') || true; \
 	done; done
+
+bench:
+	@bench/run
 
 fmt:
 	@for crate in crates/*/; do (cd $$crate && $(RT) fmt) || exit 1; done
