@@ -36,8 +36,10 @@ impl<L: LegPart> Stripe<L> {
         requires inside { block < self.old.place.blocks }
         requires whole { FillsBlock «data» }
         ensures ok { IfOk result (λ ticket. Begins self.old self.new block «data» ticket) }
-        ensures acts { IsTrue L.honest → IfOk result (λ ticket. ShowsMarks L.model (BeginsWrite ticket block (block_of (bytes_of «data»)) ∷ []) self.old self.new) }
-        ensures cause { IfErr result (λ refused. RefusesFor (begin_cause self.old block) refused.0) }
+        ensures acts { IsTrue L.honest → IfOk result (λ ticket. ShowsMarks L.model
+            (BeginsWrite ticket block (block_of (bytes_of «data»)) ∷ []) self.old self.new) }
+        ensures cause { IfErr result (λ refused.
+            RefusesFor (begin_cause self.old block) refused.0) }
         ensures handed_back { IfErr result (λ refused. refused.1 ≡ «data») }
         ensures stays { OnErr result (self.new ≡ self.old) }
     {

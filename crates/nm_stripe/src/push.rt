@@ -62,7 +62,8 @@ impl<L: LegPart> Stripe<L> {
     pub fn push(&mut self, ticket: u64, leg: u8) -> Result<Reach, Refusal>
         requires { leg < length self.old.parts }
         ensures ok { IfOk result (Reaches L.model L.honest self.old self.new ticket leg) }
-        ensures acts { IsTrue L.honest → IfOk result (ReachShowsNothing L.model self.old self.new) }
+        ensures acts { IsTrue L.honest
+            → IfOk result (ReachShowsNothing L.model self.old self.new) }
         ensures cause { IfErr result (λ refusal. push_cause self.old ticket leg ≡ Some refusal) }
         ensures stays { OnErr result (self.new ≡ self.old) }
     {

@@ -1,6 +1,5 @@
-ghost use Rattle.std.specs.Prelude.{◌≡◌, ℕ, ◌<◌, [], ◌∷◌, IsTrue, IfOk, IfErr, OnErr, Some};
+ghost use Rattle.std.specs.Prelude.{◌≡◌, ℕ, ◌<◌, [], ◌∷◌, IsTrue, IfOk, IfErr, OnErr, Some, slice_get};
 ghost use Rattle.nm_stripe.specs.State.{stripe_array};
-ghost use Rattle.std.specs.Prelude.{slice_get};
 ghost use Rattle.nm_stripe.specs.Lives.{BeginsRead, RepliesRead};
 ghost use Rattle.nm_stripe.specs.Causes.{read_cause};
 ghost use Rattle.nm_stripe.specs.Steps.{Finds, ReadRefused};
@@ -21,11 +20,14 @@ impl<L: LegPart> Stripe<L> {
     pub fn read(&mut self, block: u64, into: &mut Block) -> Result<Receipt<L>, Refusal>
         requires { block < self.old.place.blocks }
         ensures ok { IfOk result (Finds L.model L.honest self.old self.new block into.new) }
-        ensures array { IsTrue L.honest → IfOk result (λ _. slice_get (stripe_array L.model self.old) block ≡ Some into.new) }
+        ensures array { IsTrue L.honest → IfOk result (λ _.
+            slice_get (stripe_array L.model self.old) block ≡ Some into.new) }
         ensures acts { IsTrue L.honest → IfOk result (λ receipt. ShowsMarks L.model
             (BeginsRead receipt.number block ∷ RepliesRead receipt.number into.new ∷ []) self.old self.new) }
-        ensures refused { IfErr result (ReadRefused L.model L.honest self.old self.new block (read_cause self.old)) }
-        ensures shows_nothing { IsTrue L.honest → OnErr result (ShowsMarks L.model [] self.old self.new) }
+        ensures refused { IfErr result (ReadRefused L.model L.honest self.old self.new block
+            (read_cause self.old)) }
+        ensures shows_nothing { IsTrue L.honest
+            → OnErr result (ShowsMarks L.model [] self.old self.new) }
         ensures target_left { OnErr result (into.new ≡ into.old) }
     {
         if let Some(refusal) = self.read_cause() {

@@ -38,7 +38,8 @@ impl<L: LegPart> Stripe<L> {
     fn step_read(&mut self, block: u64) -> Answer<L>
         requires { block < self.old.place.blocks }
         ensures step { StepOf L.model L.honest (Step.Read block) result self.old self.new }
-        ensures acts { IsTrue L.honest → ShowsMarks L.model (marks (Step.Read block) result) self.old self.new }
+        ensures acts { IsTrue L.honest
+            → ShowsMarks L.model (marks (Step.Read block) result) self.old self.new }
     {
         let mut bytes = Block::ZERO;
         match self.read(block, &mut bytes) {
