@@ -14,18 +14,23 @@ use Rattle.nm_script.proofs.RunLaws.{front_none, front_longer, front_sent, all_s
 abbrev Judged : Bool → List Entry → Type 0
 Judged b entries = IsTrue b ↔ Consistent entries
 
-pub nothing_yet : (entries : List Entry) (total : ℕ) (a : Option (List ℕ)) (g : List ℕ) → JudgesHistory entries total (λ text. AppendsFront a a (g ++ text))
+pub nothing_yet : (entries : List Entry) (total : ℕ) (a : Option (List ℕ)) (g : List ℕ) →
+    JudgesHistory entries total (λ text. AppendsFront a a (g ++ text))
 nothing_yet entries total a g b judged = front_none a (g ++ printed_history entries total b)
 
-pub front_of_entries : (entries : List Entry) (total : ℕ) (old new : Option (List ℕ)) (g counted : List ℕ) →
-    counted ≡ g ++ printed_counts (length entries) total → AppendsFront old new (counted ++ flat_map printed_entry entries) →
+pub front_of_entries : (entries : List Entry) (total : ℕ) (old new : Option (List ℕ))
+    (g counted : List ℕ) →
+    counted ≡ g ++ printed_counts (length entries) total →
+    AppendsFront old new (counted ++ flat_map printed_entry entries) →
     JudgesHistory entries total (λ text. AppendsFront old new (g ++ text))
 front_of_entries entries total old new g counted e w b judged =
     let counts : List ℕ = printed_counts (length entries) total in
     let lines : List ℕ = flat_map printed_entry entries in
     let legal : List ℕ = printed_legal b in
-    let there : AppendsFront old new ((g ++ counts) ++ lines) = subst (λ (x : List ℕ). AppendsFront old new (x ++ lines)) e w in
-    subst (λ (x : List ℕ). AppendsFront old new x) (sym (regroup g counts lines legal)) (front_longer old new ((g ++ counts) ++ lines) legal there)
+    let there : AppendsFront old new ((g ++ counts) ++ lines) = subst
+    (λ (x : List ℕ). AppendsFront old new (x ++ lines)) e w in
+    subst (λ (x : List ℕ). AppendsFront old new x) (sym (regroup g counts lines legal))
+    (front_longer old new ((g ++ counts) ++ lines) legal there)
 
 -- two judgements of one history are one
 same_judged : (a b : Bool) (C : Type 0) → (IsTrue a ↔ C) → (IsTrue b ↔ C) → a ≡ b
@@ -36,46 +41,67 @@ same_judged false false C h k = refl
 
 -- all lines gathered or passed on
 abbrev pub all_gathered : List Entry → ℕ → Bool → List ℕ → List ℕ
-all_gathered entries total b g = ((g ++ printed_counts (length entries) total) ++ flat_map printed_entry entries) ++ printed_legal b
+all_gathered entries total b g =
+    ((g ++ printed_counts (length entries) total) ++ flat_map printed_entry entries) ++
+    printed_legal b
 
-pub gathers_all : (entries : List Entry) (total : ℕ) (b : Bool) (old cur : Option (List ℕ)) (g counted passed judged : List ℕ) →
-    counted ≡ g ++ printed_counts (length entries) total → PassesOn old cur (counted ++ flat_map printed_entry entries) passed →
+pub gathers_all : (entries : List Entry) (total : ℕ) (b : Bool) (old cur : Option (List ℕ))
+    (g counted passed judged : List ℕ) →
+    counted ≡ g ++ printed_counts (length entries) total →
+    PassesOn old cur (counted ++ flat_map printed_entry entries) passed →
     judged ≡ passed ++ printed_legal b → PassesOn old cur (all_gathered entries total b g) judged
 gathers_all entries total b old cur g counted passed judged e p f =
     let counts : List ℕ = printed_counts (length entries) total in
     let lines : List ℕ = flat_map printed_entry entries in
-    let there : PassesOn old cur ((g ++ counts) ++ lines) passed = subst (λ (x : List ℕ). PassesOn old cur (x ++ lines) passed) e p in
-    (there.0, ap (λ r. r ++ printed_legal b) there.1 ∙ append_assoc there.0 passed (printed_legal b) ∙ ap (λ r. there.0 ++ r) (sym f), there.2)
+    let there : PassesOn old cur ((g ++ counts) ++ lines) passed = subst
+    (λ (x : List ℕ). PassesOn old cur (x ++ lines) passed) e p in (
+      there.0,
+      ap (λ r. r ++ printed_legal b) there.1 ∙
+          append_assoc there.0 passed (printed_legal b) ∙ ap (λ r. there.0 ++ r) (sym f),
+      there.2,
+    )
 
-pub front_of_all : (entries : List Entry) (total : ℕ) (b : Bool) → Judged b entries → (old cur new : Option (List ℕ)) (g judged : List ℕ) →
+pub front_of_all : (entries : List Entry) (total : ℕ) (b : Bool) → Judged b entries →
+    (old cur new : Option (List ℕ)) (g judged : List ℕ) →
     PassesOn old cur (all_gathered entries total b g) judged → AppendsFront cur new judged →
     JudgesHistory entries total (λ text. AppendsFront old new (g ++ text))
 front_of_all entries total b known old cur new g judged p w other also =
-    subst (λ (x : Bool). AppendsFront old new (g ++ printed_history entries total x)) (same_judged b other (Consistent entries) known also)
+    subst (λ (x : Bool). AppendsFront old new (g ++ printed_history entries total x))
+    (same_judged b other (Consistent entries) known also)
     (subst (λ (x : List ℕ). AppendsFront old new x)
-    (sym (regroup g (printed_counts (length entries) total) (flat_map printed_entry entries) (printed_legal b)))
+    (sym (regroup g (printed_counts (length entries) total) (flat_map printed_entry entries)
+    (printed_legal b)))
     (front_sent old cur new (all_gathered entries total b g) judged p w))
 
-pub whole_history : (entries : List Entry) (total : ℕ) (b : Bool) → Judged b entries → (old cur new : Option (List ℕ)) (g judged : List ℕ) →
+pub whole_history : (entries : List Entry) (total : ℕ) (b : Bool) → Judged b entries →
+    (old cur new : Option (List ℕ)) (g judged : List ℕ) →
     PassesOn old cur (all_gathered entries total b g) judged → Appends cur new judged →
     JudgesHistory entries total (λ text. Appends old new (g ++ text))
 whole_history entries total b known old cur new g judged p w other also =
-    subst (λ (x : Bool). Appends old new (g ++ printed_history entries total x)) (same_judged b other (Consistent entries) known also)
+    subst (λ (x : Bool). Appends old new (g ++ printed_history entries total x))
+    (same_judged b other (Consistent entries) known also)
     (subst (λ (x : List ℕ). Appends old new x)
-    (sym (regroup g (printed_counts (length entries) total) (flat_map printed_entry entries) (printed_legal b)))
+    (sym (regroup g (printed_counts (length entries) total) (flat_map printed_entry entries)
+    (printed_legal b)))
     (all_sent old cur new (all_gathered entries total b g) judged p w))
 
 -- consistent entries are judged legal
-pub judged_legal : (entries : List Entry) (total : ℕ) (P : List ℕ → Type 0) → Consistent entries → JudgesHistory entries total P → P (printed_history entries total true)
+pub judged_legal : (entries : List Entry) (total : ℕ) (P : List ℕ → Type 0) → Consistent entries →
+    JudgesHistory entries total P → P (printed_history entries total true)
 judged_legal entries total P is judged = judged true ((λ known. is), (λ known. refl))
 
 -- the history of a machine, from a copy of what it keeps
-pub machine_history : (machine : Machine) (entries : List Entry) (total : ℕ) (gathered : List ℕ) (P : List ℕ → Type 0) → entries ≡ machine.kept →
-    total ≡ machine.total → gathered ≡ [] → Consistent entries → JudgesHistory entries total (λ text. P (gathered ++ text)) → P (history machine)
+pub machine_history : (machine : Machine) (entries : List Entry) (total : ℕ) (gathered : List ℕ)
+    (P : List ℕ → Type 0) → entries ≡ machine.kept →
+    total ≡ machine.total → gathered ≡ [] → Consistent entries →
+    JudgesHistory entries total (λ text. P (gathered ++ text)) → P (history machine)
 machine_history machine entries total gathered P e t g is judged =
-    let here : P (gathered ++ printed_history entries total true) = judged_legal entries total (λ text. P (gathered ++ text)) is judged in
-    let bare : P (printed_history entries total true) = subst (λ (x : List ℕ). P (x ++ printed_history entries total true)) g here in
-    subst (λ (x : ℕ). P (printed_history machine.kept x true)) t (subst (λ (x : List Entry). P (printed_history x total true)) e bare)
+    let here : P (gathered ++ printed_history entries total true) = judged_legal entries total
+    (λ text. P (gathered ++ text)) is judged in
+    let bare : P (printed_history entries total true) = subst
+    (λ (x : List ℕ). P (x ++ printed_history entries total true)) g here in
+    subst (λ (x : ℕ). P (printed_history machine.kept x true)) t
+    (subst (λ (x : List Entry). P (printed_history x total true)) e bare)
 
 -- what a machine keeps, as a copy of its entries shows it
 pub record Copied (machine : Machine) (entries : List Entry) (total : ℕ) : Type 0 where
@@ -83,17 +109,23 @@ pub record Copied (machine : Machine) (entries : List Entry) (total : ℕ) : Typ
   pub total_is : total ≡ machine.total
   pub consistent : Consistent entries
 
-pub front_finished : (machine : Machine) (entries : List Entry) (total : ℕ) (old cur new : Option (List ℕ)) (sent gathered : List ℕ) →
+pub front_finished : (machine : Machine) (entries : List Entry) (total : ℕ)
+    (old cur new : Option (List ℕ)) (sent gathered : List ℕ) →
     Appends old cur sent → Copied machine entries total → gathered ≡ [] →
-    JudgesHistory entries total (λ text. AppendsFront cur new (gathered ++ text)) → AppendsFront old new (sent ++ history machine)
+    JudgesHistory entries total (λ text. AppendsFront cur new (gathered ++ text)) →
+    AppendsFront old new (sent ++ history machine)
 front_finished machine entries total old cur new sent gathered h k g judged =
     front_after old cur new sent (history machine) h
-    (machine_history machine entries total gathered (AppendsFront cur new) k.entries_are k.total_is g k.consistent judged)
+    (machine_history machine entries total gathered (AppendsFront cur new) k.entries_are k.total_is
+    g k.consistent judged)
 
-pub whole_finished : (machine : Machine) (entries : List Entry) (total : ℕ) (old cur mid new : Option (List ℕ)) (sent gathered : List ℕ) →
+pub whole_finished : (machine : Machine) (entries : List Entry) (total : ℕ)
+    (old cur mid new : Option (List ℕ)) (sent gathered : List ℕ) →
     Appends old cur sent → Copied machine entries total → gathered ≡ [] →
-    JudgesHistory entries total (λ text. Appends cur mid (gathered ++ text)) → Keeps mid new → Appends old new (sent ++ history machine)
+    JudgesHistory entries total (λ text. Appends cur mid (gathered ++ text)) → Keeps mid new →
+    Appends old new (sent ++ history machine)
 whole_finished machine entries total old cur mid new sent gathered h k g judged kept =
     appends_kept old mid new (sent ++ history machine)
     (Appends-trans old cur mid sent (history machine) h
-    (machine_history machine entries total gathered (Appends cur mid) k.entries_are k.total_is g k.consistent judged)) kept
+    (machine_history machine entries total gathered (Appends cur mid) k.entries_are k.total_is g
+    k.consistent judged)) kept

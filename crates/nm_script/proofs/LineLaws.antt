@@ -13,7 +13,8 @@ use Rattle.nm_script.proofs.WordLaws.{chosen}
 use Rattle.nm_script.proofs.StepLaws.{step_said, step_read}
 
 -- the same as the first line of which a fact holds, where the first line here is the n-th
-pub record FirstFrom (Holds : List ℕ → Type 0) (n : ℕ) (lines : List (List ℕ)) (k : ℕ) : Type 0 where
+pub record FirstFrom (Holds : List ℕ →
+    Type 0) (n : ℕ) (lines : List (List ℕ)) (k : ℕ) : Type 0 where
   pub before : List (List ℕ)
   pub line : List ℕ
   pub behind : List (List ℕ)
@@ -22,31 +23,80 @@ pub record FirstFrom (Holds : List ℕ → Type 0) (n : ℕ) (lines : List (List
   pub none_before : AllByRecursion (λ other. Holds other → ⊥) before
   pub holds : Holds line
 
-first_here : (Holds : List ℕ → Type 0) (n : ℕ) (line : List ℕ) (lines : List (List ℕ)) (k : ℕ) → n ≡ k → Holds line → FirstFrom Holds n (line ∷ lines) k
-first_here Holds n line lines k e h = record { before = []; line = line; behind = lines; split = refl; number = omega arith; none_before = tt; holds = h }
+first_here : (Holds : List ℕ → Type 0) (n : ℕ) (line : List ℕ) (lines : List (List ℕ)) (k : ℕ) →
+    n ≡ k → Holds line → FirstFrom Holds n (line ∷ lines) k
+first_here Holds n line lines k e h = record {
+  before = [];
+  line = line;
+  behind = lines;
+  split = refl;
+  number = omega arith;
+  none_before =
+      tt;
+  holds = h;
+}
 
-first_later : (Holds : List ℕ → Type 0) (n : ℕ) (line : List ℕ) (lines : List (List ℕ)) (k : ℕ) → (Holds line → ⊥) → FirstFrom Holds (n + 1) lines k → FirstFrom Holds n (line ∷ lines) k
-first_later Holds n line lines k fails f = record { before = line ∷ f.before; line = f.line; behind = f.behind; split = ap (λ r. line ∷ r) f.split; number = omega (arith, f.number); none_before = (fails, f.none_before); holds = f.holds }
+first_later : (Holds : List ℕ → Type 0) (n : ℕ) (line : List ℕ) (lines : List (List ℕ)) (k : ℕ) →
+    (Holds line → ⊥) → FirstFrom Holds (n + 1) lines k → FirstFrom Holds n (line ∷ lines) k
+first_later Holds n line lines k fails f = record {
+  before = line ∷ f.before;
+  line = f.line;
+  behind = f.behind;
+  split = ap (λ r. line ∷ r)
+      f.split;
+  number = omega (arith, f.number);
+  none_before = (
+    fails,
+    f.none_before,
+  );
+  holds = f.holds;
+}
 
-pub first_of_lines : (Holds : List ℕ → Type 0) (lines : List (List ℕ)) (k : ℕ) → FirstFrom Holds 1 lines k → IsFirst Holds lines k
-first_of_lines Holds lines k f = record { before = f.before; line = f.line; behind = f.behind; split = f.split; number = f.number; none_before = f.none_before; holds = f.holds }
+pub first_of_lines : (Holds : List ℕ → Type 0) (lines : List (List ℕ)) (k : ℕ) →
+    FirstFrom Holds 1 lines k → IsFirst Holds lines k
+first_of_lines Holds lines k f = record {
+  before = f.before;
+  line = f.line;
+  behind = f.behind;
+  split = f.split;
+  number = f.number;
+  none_before = f.none_before;
+  holds = f.holds;
+}
 
 -- counted from behind line n
-pub later_first : (Holds : List ℕ → Type 0) (n : ℕ) (lines : List (List ℕ)) (k : ℕ) → FirstFrom Holds (n + 1) lines k →
+pub later_first : (Holds : List ℕ → Type 0) (n : ℕ) (lines : List (List ℕ)) (k : ℕ) →
+    FirstFrom Holds (n + 1) lines k →
     (j : ℕ) × (k ≡ n + j) × IsFirst Holds lines j
-later_first Holds n lines k f =
-    (length f.before + 1, omega (arith, f.number), record { before = f.before; line = f.line; behind = f.behind; split = f.split; number = refl; none_before = f.none_before; holds = f.holds })
+later_first Holds n lines k f = (
+  length f.before + 1,
+  omega (arith, f.number),
+  record {
+    before = f.before;
+    line = f.line;
+    behind = f.behind;
+    split = f.split;
+    number =
+        refl;
+    none_before = f.none_before;
+    holds = f.holds;
+  },
+)
 
-pub where_found : (test : List ℕ → Bool) (Holds : List ℕ → Type 0) → ((l : List ℕ) → test l ≡ true → Holds l) → ((l : List ℕ) → test l ≡ false → Holds l → ⊥) →
-    (n : ℕ) (lines : List (List ℕ)) (k : ℕ) → first_where test n lines ≡ Some k → FirstFrom Holds n lines k
+pub where_found : (test : List ℕ → Bool) (Holds : List ℕ → Type 0) →
+    ((l : List ℕ) → test l ≡ true → Holds l) → ((l : List ℕ) → test l ≡ false → Holds l → ⊥) →
+    (n : ℕ) (lines : List (List ℕ)) (k : ℕ) → first_where test n lines ≡ Some k →
+    FirstFrom Holds n lines k
 where_found test Holds passes fails n [] k h = cc
 where_found test Holds passes fails n (line ∷ lines) k h =
     elim (chosen (test line) (Some n) (first_where test (n + 1) lines) (Some k) h) [
       | inl p ↦ first_here Holds n line lines k (same_Some n k p.1) (passes line p.0)
-      | inr p ↦ first_later Holds n line lines k (fails line p.0) (where_found test Holds passes fails (n + 1) lines k p.1)
+      | inr p ↦ first_later Holds n line lines k (fails line p.0)
+          (where_found test Holds passes fails (n + 1) lines k p.1)
     ]
 
-pub where_none : (test : List ℕ → Bool) (Fails : List ℕ → Type 0) → ((l : List ℕ) → test l ≡ false → Fails l) →
+pub where_none : (test : List ℕ → Bool) (Fails : List ℕ → Type 0) →
+    ((l : List ℕ) → test l ≡ false → Fails l) →
     (n : ℕ) (lines : List (List ℕ)) → first_where test n lines ≡ None → AllByRecursion Fails lines
 where_none test Fails fails n [] h = tt
 where_none test Fails fails n (line ∷ lines) h =
@@ -55,14 +105,17 @@ where_none test Fails fails n (line ∷ lines) h =
       | inr p ↦ (fails line p.0, where_none test Fails fails (n + 1) lines p.1)
     ]
 
-pub none_where : (test : List ℕ → Bool) (Fails : List ℕ → Type 0) → ((l : List ℕ) → Fails l → test l ≡ false) →
+pub none_where : (test : List ℕ → Bool) (Fails : List ℕ → Type 0) →
+    ((l : List ℕ) → Fails l → test l ≡ false) →
     (n : ℕ) (lines : List (List ℕ)) → AllByRecursion Fails lines → first_where test n lines ≡ None
 none_where test Fails fails n [] h = refl
-none_where test Fails fails n (line ∷ lines) h = rw (fails line h.0) (none_where test Fails fails (n + 1) lines h.1)
+none_where test Fails fails n (line ∷ lines) h = rw (fails line h.0)
+    (none_where test Fails fails (n + 1) lines h.1)
 
 -- the first line that speaks
 
-pub record SpokenFrom (n : ℕ) (lines : List (List ℕ)) (k : ℕ) (line : List ℕ) (rest : List (List ℕ)) : Type 0 where
+pub record SpokenFrom (n : ℕ) (lines : List (List ℕ)) (k : ℕ) (line : List ℕ) (rest : List (List ℕ))
+    : Type 0 where
   pub before : List (List ℕ)
   pub split : lines ≡ before ++ (line ∷ rest)
   pub number : k ≡ length before + n
@@ -73,11 +126,24 @@ pub record SpokenFrom (n : ℕ) (lines : List (List ℕ)) (k : ℕ) (line : List
 abbrev SpokenHere : ℕ → List (List ℕ) → ℕ × List ℕ × List (List ℕ) → Type 0
 SpokenHere n lines x = SpokenFrom n lines x.0 x.1 x.2
 
-pub spoken_found : (n : ℕ) (lines : List (List ℕ)) (x : ℕ × List ℕ × List (List ℕ)) → spoken_from n lines ≡ Some x → SpokenHere n lines x
+pub spoken_found : (n : ℕ) (lines : List (List ℕ)) (x : ℕ × List ℕ × List (List ℕ)) →
+    spoken_from n lines ≡ Some x → SpokenHere n lines x
 spoken_found n [] x h = cc
 spoken_found n (line ∷ lines) x h =
     elim (chosen (speaks line) (Some (n, line, lines)) (spoken_from (n + 1) lines) (Some x) h) [
-      | inl p ↦ rw (← same_Some (n, line, lines) x p.1) (record { before = []; split = refl; number = omega arith; silent = tt; here = p.0; spoken = rw p.0 refl })
+      | inl p ↦ rw (← same_Some (
+        n,
+        line,
+        lines,
+      ) x p.1) (record {
+        before = [];
+        split = refl;
+        number = omega arith;
+        silent = tt;
+        here = p.0;
+        spoken = rw
+            p.0 refl;
+      })
       | inr p ↦
           let f = spoken_found (n + 1) lines x p.1 in
           record {
@@ -90,7 +156,8 @@ spoken_found n (line ∷ lines) x h =
           }
     ]
 
-pub spoken_none : (n : ℕ) (lines : List (List ℕ)) → spoken_from n lines ≡ None → AllByRecursion (λ line. speaks line ≡ false) lines
+pub spoken_none : (n : ℕ) (lines : List (List ℕ)) → spoken_from n lines ≡ None →
+    AllByRecursion (λ line. speaks line ≡ false) lines
 spoken_none n [] h = tt
 spoken_none n (line ∷ lines) h =
     elim (chosen (speaks line) (Some (n, line, lines)) (spoken_from (n + 1) lines) None h) [
@@ -99,11 +166,14 @@ spoken_none n (line ∷ lines) h =
     ]
 
 -- what the grammar calls the first line is found
-pub spoken_back : (n : ℕ) (lines others : List (List ℕ)) (first : List ℕ) → filter speaks lines ≡ first ∷ others →
-    (k : ℕ) × (rest : List (List ℕ)) × (spoken_from n lines ≡ Some (k, first, rest)) × (filter speaks rest ≡ others)
+pub spoken_back : (n : ℕ) (lines others : List (List ℕ)) (first : List ℕ) →
+    filter speaks lines ≡ first ∷ others →
+    (k : ℕ) × (rest : List (List ℕ)) × (spoken_from n lines ≡ Some (k, first, rest)) ×
+    (filter speaks rest ≡ others)
 spoken_back n [] others first h = cc
 spoken_back n (line ∷ lines) others first h =
-    elim (chosen (speaks line) (line ∷ filter speaks lines) (filter speaks lines) (first ∷ others) h) [
+    elim (chosen (speaks line) (line ∷ filter speaks lines) (filter speaks lines) (first ∷ others)
+    h) [
       | inl p ↦
           let e : line ≡ first = cc in
           let f : filter speaks lines ≡ others = cc in
@@ -115,7 +185,8 @@ spoken_back n (line ∷ lines) others first h =
 
 -- the steps
 
-onto_ok : (o : Option Step) (n : ℕ) (r : Result (List Step) ℕ) (ss : List Step) → onto_steps o n r ≡ Ok ss →
+onto_ok : (o : Option Step) (n : ℕ) (r : Result (List Step) ℕ) (ss : List Step) →
+    onto_steps o n r ≡ Ok ss →
     (s : Step) × (rest : List Step) × (o ≡ Some s) × (r ≡ Ok rest) × (ss ≡ s ∷ rest)
 onto_ok None n r ss h = cc
 onto_ok (Some s) n (Err k) ss h = cc
@@ -127,43 +198,59 @@ onto_err None n r k h = inl (refl, cc)
 onto_err (Some s) n (Err j) k h = inr (s, refl, h)
 onto_err (Some s) n (Ok rest) k h = cc
 
-pub steps_said : (m : Mirror) (n : ℕ) (lines : List (List ℕ)) (ss : List Step) → steps_of m n lines ≡ Ok ss → AllZip (IsStepLine m) (filter speaks lines) ss
+pub steps_said : (m : Mirror) (n : ℕ) (lines : List (List ℕ)) (ss : List Step) →
+    steps_of m n lines ≡ Ok ss → AllZip (IsStepLine m) (filter speaks lines) ss
 steps_said m n [] ss h = let e : [] ≡ ss = cc in rw (← e) tt
 steps_said m n (line ∷ lines) ss h =
-    elim (chosen (speaks line) (onto_steps (step_of m line) n (steps_of m (n + 1) lines)) (steps_of m (n + 1) lines) (Ok ss) h) [
+    elim (chosen (speaks line) (onto_steps (step_of m line) n (steps_of m (n + 1) lines))
+    (steps_of m (n + 1) lines) (Ok ss) h) [
       | inl p ↦
           let o = onto_ok (step_of m line) n (steps_of m (n + 1) lines) ss p.1 in
           rw (p.0, o.4) (step_said m line o.0 o.2, steps_said m (n + 1) lines o.1 o.3)
       | inr p ↦ rw p.0 (steps_said m (n + 1) lines ss p.1)
     ]
 
-no_step : (m : Mirror) (line : List ℕ) → step_of m line ≡ None → (s : Step) → IsStepLine m line s → ⊥
+no_step : (m : Mirror) (line : List ℕ) → step_of m line ≡ None → (s : Step) → IsStepLine m line s →
+    ⊥
 no_step m line none s is = let some = step_read m line s is in cc
 
-pub steps_bad : (m : Mirror) (n : ℕ) (lines : List (List ℕ)) (k : ℕ) → steps_of m n lines ≡ Err k → FirstFrom (IsBadStep m) n lines k
+pub steps_bad : (m : Mirror) (n : ℕ) (lines : List (List ℕ)) (k : ℕ) → steps_of m n lines ≡ Err k →
+    FirstFrom (IsBadStep m) n lines k
 steps_bad m n [] k h = cc
 steps_bad m n (line ∷ lines) k h =
-    elim (chosen (speaks line) (onto_steps (step_of m line) n (steps_of m (n + 1) lines)) (steps_of m (n + 1) lines) (Err k) h) [
+    elim (chosen (speaks line) (onto_steps (step_of m line) n (steps_of m (n + 1) lines))
+    (steps_of m (n + 1) lines) (Err k) h) [
       | inl p ↦ elim (onto_err (step_of m line) n (steps_of m (n + 1) lines) k p.1) [
         | inl q ↦ first_here (IsBadStep m) n line lines k q.1 (p.0, no_step m line q.0)
-        | inr q ↦ first_later (IsBadStep m) n line lines k (λ bad. bad.1 q.0 (step_said m line q.0 q.1)) (steps_bad m (n + 1) lines k q.2)
+        | inr q ↦ first_later (IsBadStep m) n line lines k
+            (λ bad. bad.1 q.0 (step_said m line q.0 q.1)) (steps_bad m (n + 1) lines k q.2)
       ]
-      | inr p ↦ first_later (IsBadStep m) n line lines k (λ bad. both_ways (speaks line) p.0 bad.0) (steps_bad m (n + 1) lines k p.1)
+      | inr p ↦ first_later (IsBadStep m) n line lines k (λ bad. both_ways (speaks line) p.0 bad.0)
+          (steps_bad m (n + 1) lines k p.1)
     ]
 
-pub steps_read : (m : Mirror) (n : ℕ) (lines : List (List ℕ)) (ss : List Step) → AllZip (IsStepLine m) (filter speaks lines) ss → steps_of m n lines ≡ Ok ss
+pub steps_read : (m : Mirror) (n : ℕ) (lines : List (List ℕ)) (ss : List Step) →
+    AllZip (IsStepLine m) (filter speaks lines) ss → steps_of m n lines ≡ Ok ss
 steps_read m n [] [] h = refl
 steps_read m n [] (s ∷ ss) h = absurd h
-steps_read m n (line ∷ lines) ss h = step m n line lines ss (steps_read m (n + 1) lines) (cases_Bool (speaks line)) h
+steps_read m n (line ∷ lines) ss h = step m n line lines ss (steps_read m (n + 1) lines)
+    (cases_Bool (speaks line)) h
   where
     there : (m : Mirror) (n : ℕ) (line : List ℕ) (lines : List (List ℕ)) (ss : List Step) →
-        ((rest : List Step) → AllZip (IsStepLine m) (filter speaks lines) rest → steps_of m (n + 1) lines ≡ Ok rest) →
-        AllZip (IsStepLine m) (line ∷ filter speaks lines) ss → onto_steps (step_of m line) n (steps_of m (n + 1) lines) ≡ Ok ss
+        ((rest : List Step) → AllZip (IsStepLine m) (filter speaks lines) rest →
+        steps_of m (n + 1) lines ≡ Ok rest) →
+        AllZip (IsStepLine m) (line ∷ filter speaks lines) ss →
+        onto_steps (step_of m line) n (steps_of m (n + 1) lines) ≡ Ok ss
     there m n line lines [] rest h = absurd h
     there m n line lines (s ∷ ss) rest h = rw (step_read m line s h.0, rest ss h.1) refl
 
     step : (m : Mirror) (n : ℕ) (line : List ℕ) (lines : List (List ℕ)) (ss : List Step) →
-        ((rest : List Step) → AllZip (IsStepLine m) (filter speaks lines) rest → steps_of m (n + 1) lines ≡ Ok rest) →
-        (speaks line ≡ true) ⊎ (speaks line ≡ false) → AllZip (IsStepLine m) (filter speaks (line ∷ lines)) ss → steps_of m n (line ∷ lines) ≡ Ok ss
-    step m n line lines ss rest (inl e) h = let k : AllZip (IsStepLine m) (line ∷ filter speaks lines) ss = rw e at h in rw e (there m n line lines ss rest k)
-    step m n line lines ss rest (inr e) h = let k : AllZip (IsStepLine m) (filter speaks lines) ss = rw e at h in rw e (rest ss k)
+        ((rest : List Step) → AllZip (IsStepLine m) (filter speaks lines) rest →
+        steps_of m (n + 1) lines ≡ Ok rest) →
+        (speaks line ≡ true) ⊎ (speaks line ≡ false) →
+        AllZip (IsStepLine m) (filter speaks (line ∷ lines)) ss →
+        steps_of m n (line ∷ lines) ≡ Ok ss
+    step m n line lines ss rest (inl e) h = let k : AllZip (IsStepLine m)
+        (line ∷ filter speaks lines) ss = rw e at h in rw e (there m n line lines ss rest k)
+    step m n line lines ss rest (inr e) h = let k : AllZip (IsStepLine m) (filter speaks lines) ss =
+        rw e at h in rw e (rest ss k)

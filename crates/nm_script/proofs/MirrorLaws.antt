@@ -14,7 +14,18 @@ abbrev WithLegs : ℕ → List (List ℕ) → Option (Mirror × List (List ℕ))
 WithLegs legs ws = within_at 1 65536 ws >>= λ blocks.
     within_at 1 65536 blocks.1 >>= λ region. within_at 1 region.0 region.1 >>= λ chunk.
     policy_at chunk.1 >>= λ policy. within_at 0 (2 ^ 63) policy.1 >>= λ first.
-    Some (record { legs = legs; blocks = blocks.0; region = region.0; chunk = chunk.0; policy = policy.0; first = first.0 }, first.1)
+    Some (
+      record {
+        legs = legs;
+        blocks = blocks.0;
+        region = region.0;
+        chunk = chunk.0;
+        policy =
+            policy.0;
+        first = first.0;
+      },
+      first.1,
+    )
 
 -- the words behind `mirror`, and what they spell
 pub record MirrorWords (ws : List (List ℕ)) (m : Mirror) (rest : List (List ℕ)) : Type 0 where
@@ -32,12 +43,17 @@ pub record MirrorWords (ws : List (List ℕ)) (m : Mirror) (rest : List (List �
   pub in_range : InRange m
 
 -- six words, taken one after the other
-chained : (ws a b c d e f : List (List ℕ)) (legs blocks region chunk policy first : List ℕ) → ws ≡ legs ∷ a → a ≡ blocks ∷ b → b ≡ region ∷ c →
-    c ≡ chunk ∷ d → d ≡ policy ∷ e → e ≡ first ∷ f → ws ≡ legs ∷ blocks ∷ region ∷ chunk ∷ policy ∷ first ∷ f
+chained : (ws a b c d e f : List (List ℕ)) (legs blocks region chunk policy first : List ℕ) →
+    ws ≡ legs ∷ a → a ≡ blocks ∷ b → b ≡ region ∷ c →
+    c ≡ chunk ∷ d → d ≡ policy ∷ e → e ≡ first ∷ f →
+    ws ≡ legs ∷ blocks ∷ region ∷ chunk ∷ policy ∷ first ∷ f
 chained ws a b c d e f legs blocks region chunk policy first h i j k l m =
-    h ∙ ap (λ r. legs ∷ r) (i ∙ ap (λ r. blocks ∷ r) (j ∙ ap (λ r. region ∷ r) (k ∙ ap (λ r. chunk ∷ r) (l ∙ ap (λ r. policy ∷ r) m))))
+    h ∙ ap (λ r. legs ∷ r) (i ∙
+    ap (λ r. blocks ∷ r) (j ∙
+    ap (λ r. region ∷ r) (k ∙ ap (λ r. chunk ∷ r) (l ∙ ap (λ r. policy ∷ r) m))))
 
-mirror_taken : (ws : List (List ℕ)) (x : Mirror × List (List ℕ)) → mirror_at ws ≡ Some x → MirrorWords ws x.0 x.1
+mirror_taken : (ws : List (List ℕ)) (x : Mirror × List (List ℕ)) → mirror_at ws ≡ Some x →
+    MirrorWords ws x.0 x.1
 unfolding mirror_at
 mirror_taken ws x h =
     let a = bound (within_at 1 8 ws) (λ legs. WithLegs legs.0 legs.1) x h in
@@ -46,7 +62,18 @@ mirror_taken ws x h =
     let d = bound (within_at 1 c.0.0 c.0.1) _ x c.2 in
     let e = bound (policy_at d.0.1) _ x d.2 in
     let f = bound (within_at 0 (2 ^ 63) e.0.1) _ x e.2 in
-    let whole = same_Some (record { legs = a.0.0; blocks = b.0.0; region = c.0.0; chunk = d.0.0; policy = e.0.0; first = f.0.0 }, f.0.1) x f.2 in
+    let whole = same_Some (
+      record {
+        legs = a.0.0;
+        blocks = b.0.0;
+        region = c.0.0;
+        chunk = d.0.0;
+        policy = e.0.0;
+        first
+            = f.0.0;
+      },
+      f.0.1,
+    ) x f.2 in
     let legs = within_taken 1 8 ws a.0 a.1 in
     let blocks = within_taken 1 65536 a.0.1 b.0 b.1 in
     let region = within_taken 1 65536 b.0.1 c.0 c.1 in
@@ -59,7 +86,8 @@ mirror_taken ws x h =
       region = region.0.0;
       chunk = chunk.0.0;
       first = first.0.0;
-      words = chained ws a.0.1 b.0.1 c.0.1 d.0.1 e.0.1 f.0.1 legs.0.0 blocks.0.0 region.0.0 chunk.0.0 (policy_word e.0.0) first.0.0
+      words = chained ws a.0.1 b.0.1 c.0.1 d.0.1 e.0.1 f.0.1 legs.0.0 blocks.0.0 region.0.0
+          chunk.0.0 (policy_word e.0.0) first.0.0
           legs.0.1 blocks.0.1 region.0.1 chunk.0.1 policy first.0.1;
       is_legs = legs.0.2;
       is_blocks = blocks.0.2;
@@ -75,14 +103,16 @@ mirror_taken ws x h =
       };
     })
 
-line_said : (line : List ℕ) (ws : List (List ℕ)) (m : Mirror) → parts 32 line ≡ codes "mirror" ∷ ws → MirrorWords ws m [] → IsMirrorLine line m
+line_said : (line : List ℕ) (ws : List (List ℕ)) (m : Mirror) →
+    parts 32 line ≡ codes "mirror" ∷ ws → MirrorWords ws m [] → IsMirrorLine line m
 line_said line ws m e h = record {
   legs = h.legs;
   blocks = h.blocks;
   region = h.region;
   chunk = h.chunk;
   first = h.first;
-  words = joined line (codes "mirror" ∷ h.legs ∷ h.blocks ∷ h.region ∷ h.chunk ∷ policy_word m.policy ∷ h.first ∷ []) (e ∙ ap (λ r. codes "mirror" ∷ r) h.words);
+  words = joined line (codes "mirror" ∷ h.legs ∷ h.blocks ∷ h.region ∷ h.chunk ∷ policy_word
+      m.policy ∷ h.first ∷ []) (e ∙ ap (λ r. codes "mirror" ∷ r) h.words);
   is_legs = h.is_legs;
   is_blocks = h.is_blocks;
   is_region = h.is_region;
@@ -92,7 +122,8 @@ line_said line ws m e h = record {
 }
 
 words_said : (line : List ℕ) (ws : List (List ℕ)) (m : Mirror) → parts 32 line ≡ ws →
-    (word_at ws >>= λ w. cond (is_word w.0 (codes "mirror")) (mirror_at w.1 >>= ended) None) ≡ Some m → IsMirrorLine line m
+    (word_at ws >>= λ w. cond (is_word w.0 (codes "mirror")) (mirror_at w.1 >>= ended) None) ≡
+    Some m → IsMirrorLine line m
 words_said line [] m e h = cc
 words_said line (w ∷ ws) m e h =
     let g = guarded (is_word w (codes "mirror")) (mirror_at ws >>= ended) m h in
@@ -108,23 +139,34 @@ mirror_said line m h = words_said line (parts 32 line) m refl h
 pub mirror_read : (line : List ℕ) (m : Mirror) → IsMirrorLine line m → mirror_of line ≡ Some m
 unfolding mirror_of mirror_at
 mirror_read line m h =
-    let ws : List (List ℕ) = codes "mirror" ∷ h.legs ∷ h.blocks ∷ h.region ∷ h.chunk ∷ policy_word m.policy ∷ h.first ∷ [] in
+    let ws : List (List ℕ) = codes "mirror" ∷ h.legs ∷ h.blocks ∷ h.region ∷ h.chunk ∷ policy_word
+    m.policy ∷ h.first ∷ [] in
     let clean : AllByRecursion (Lacks 32) ws = (
       lacks_from_test 32 (codes "mirror") refl,
       (
         number_lacks h.legs m.legs h.is_legs,
         (
           number_lacks h.blocks m.blocks h.is_blocks,
-          (number_lacks h.region m.region h.is_region, (number_lacks h.chunk m.chunk h.is_chunk, (policy_lacks m.policy, (number_lacks h.first m.first h.is_first, tt)))),
+          (
+            number_lacks h.region m.region h.is_region,
+            (
+              number_lacks h.chunk m.chunk h.is_chunk,
+              (policy_lacks m.policy, (number_lacks h.first m.first h.is_first, tt)),
+            ),
+          ),
         ),
       ),
     ) in
     rw (
       words_of line ws h.words (omega arith) clean,
-      within_given 1 8 h.legs (h.blocks ∷ h.region ∷ h.chunk ∷ policy_word m.policy ∷ h.first ∷ []) m.legs h.is_legs h.in_range.legs.0 h.in_range.legs.1,
-      within_given 1 65536 h.blocks (h.region ∷ h.chunk ∷ policy_word m.policy ∷ h.first ∷ []) m.blocks h.is_blocks h.in_range.blocks.0 h.in_range.blocks.1,
-      within_given 1 65536 h.region (h.chunk ∷ policy_word m.policy ∷ h.first ∷ []) m.region h.is_region h.in_range.region.0 h.in_range.region.1,
-      within_given 1 m.region h.chunk (policy_word m.policy ∷ h.first ∷ []) m.chunk h.is_chunk h.in_range.chunk.0 h.in_range.chunk.1,
+      within_given 1 8 h.legs (h.blocks ∷ h.region ∷ h.chunk ∷ policy_word m.policy ∷ h.first ∷ [])
+          m.legs h.is_legs h.in_range.legs.0 h.in_range.legs.1,
+      within_given 1 65536 h.blocks (h.region ∷ h.chunk ∷ policy_word m.policy ∷ h.first ∷ [])
+          m.blocks h.is_blocks h.in_range.blocks.0 h.in_range.blocks.1,
+      within_given 1 65536 h.region (h.chunk ∷ policy_word m.policy ∷ h.first ∷ []) m.region
+          h.is_region h.in_range.region.0 h.in_range.region.1,
+      within_given 1 m.region h.chunk (policy_word m.policy ∷ h.first ∷ []) m.chunk h.is_chunk
+          h.in_range.chunk.0 h.in_range.chunk.1,
       policy_given (h.first ∷ []) m.policy,
       within_given 0 (2 ^ 63) h.first [] m.first h.is_first (omega arith) h.in_range.first,
     ) refl

@@ -10,12 +10,14 @@ use Rattle.std.proofs.lemmas.Option.{same_Some}
 use Rattle.nm_script.specs.Grammar.{Spells, hex_byte}
 use Rattle.nm_script.specs.Reading.{digits_on, number_of, hex_digit_of, byte_of, ◌>>=◌}
 
-pub guarded : {A : Type 0} (b : Bool) (x : Option A) (y : A) → cond b x None ≡ Some y → (b ≡ true) × (x ≡ Some y)
+pub guarded : {A : Type 0} (b : Bool) (x : Option A) (y : A) → cond b x None ≡ Some y →
+    (b ≡ true) × (x ≡ Some y)
 guarded true x y h = (refl, h)
 guarded false x y h = cc
 
 is_digit_range : (c : ℕ) → is_ascii_digit c ≡ true → (48 ≤ c) × (c ≤ 57)
-is_digit_range c h = let p = and_parts (leb 48 c) (leb c 57) h in (leb-true 48 c p.0, leb-true c 57 p.1)
+is_digit_range c h = let p = and_parts (leb 48 c) (leb c 57) h in
+    (leb-true 48 c p.0, leb-true c 57 p.1)
 
 range_is_digit : (c : ℕ) → (48 ≤ c) → (c ≤ 57) → is_ascii_digit c ≡ true
 range_is_digit c low high = and_from (leb 48 c) (leb c 57) (le-leb 48 c low) (le-leb c 57 high)
@@ -24,7 +26,8 @@ value_of_digit : (c : ℕ) → (48 ≤ c) → (c ≤ 57) → digit_value c ≡ c
 value_of_digit c low high = omega (arith, digit_value_digit c (low, high))
 
 -- what is read has digits alone, and is their value
-read_digits : (w : List ℕ) (n m : ℕ) → n < 2 ^ 64 → digits_on n w ≡ Some m → AllDigits 10 w × (digits_value_after 10 n w ≡ m) × (m < 2 ^ 64)
+read_digits : (w : List ℕ) (n m : ℕ) → n < 2 ^ 64 → digits_on n w ≡ Some m →
+    AllDigits 10 w × (digits_value_after 10 n w ≡ m) × (m < 2 ^ 64)
 read_digits [] n m small h = let e = same_Some n m h in (tt, e, omega arith)
 read_digits (c ∷ cs) n m small h =
     let next : ℕ = n * 10 + (c - 48) in
@@ -40,7 +43,8 @@ grown : (w : List ℕ) (n : ℕ) → n ≤ digits_value_after 10 n w
 grown [] n = omega arith
 grown (c ∷ cs) n = let h = grown cs (n * 10 + digit_value c) in omega arith
 
-read_back : (w : List ℕ) (n : ℕ) → AllDigits 10 w → digits_value_after 10 n w < 2 ^ 64 → digits_on n w ≡ Some (digits_value_after 10 n w)
+read_back : (w : List ℕ) (n : ℕ) → AllDigits 10 w → digits_value_after 10 n w < 2 ^ 64 →
+    digits_on n w ≡ Some (digits_value_after 10 n w)
 read_back [] n all small = refl
 read_back (c ∷ cs) n all small =
     let range = digit_from_value c all.0 in
@@ -48,7 +52,8 @@ read_back (c ∷ cs) n all small =
     let next : ℕ = n * 10 + (c - 48) in
     let more : digits_value_after 10 next cs < 2 ^ 64 = rw (← e) small in
     let fits : next < 2 ^ 64 = omega (arith, grown cs next) in
-    let t = and_from (is_ascii_digit c) (nat_lt next (2 ^ 64)) (range_is_digit c range.0 range.1) (lt-ltb next (2 ^ 64) fits) in
+    let t = and_from (is_ascii_digit c) (nat_lt next (2 ^ 64)) (range_is_digit c range.0 range.1)
+    (lt-ltb next (2 ^ 64) fits) in
     rw (t, e) (read_back cs next all.1 more)
 
 pub number_spells : (w : List ℕ) (n : ℕ) → number_of w ≡ Some n → Spells w n

@@ -17,28 +17,35 @@ pub parts_cut : (at : ℕ) (text : List ℕ) (k : ℕ) → position (λ b. b == 
     parts at text ≡ take k text ∷ parts at (take (length text - (k + 1)) (drop (k + 1) text))
 parts_cut at text k h =
     let p : ℕ → Bool = λ b. b == at in
-    let found = cond_some (ltb (position_or_len p text) (length text)) (position_or_len p text) k h in
+    let found = cond_some (ltb (position_or_len p text) (length text)) (position_or_len p text) k h
+    in
     let here : position_or_len p text ≡ k = found.1 in
     let inside = ltb-true (position_or_len p text) (length text) found.0 in
     let e = slice_split_first p text 0 inside in
     rw (take_rest text (k + 1)) (rw here at e)
 
-pub split_whole : {X : Type 0} (p : X → Bool) (xs : List X) → length xs ≤ position_or_len p xs → slice_split p xs ≡ xs ∷ []
+pub split_whole : {X : Type 0} (p : X → Bool) (xs : List X) → length xs ≤ position_or_len p xs →
+    slice_split p xs ≡ xs ∷ []
 split_whole p [] h = refl
 split_whole p (x ∷ xs) h = split_step p x xs (split_whole p xs) (cases_Bool (p x)) h
   where
-    split_step : {X : Type 0} (p : X → Bool) (x : X) (xs : List X) → (length xs ≤ position_or_len p xs → slice_split p xs ≡ xs ∷ []) →
-        (p x ≡ true) ⊎ (p x ≡ false) → length (x ∷ xs) ≤ position_or_len p (x ∷ xs) → slice_split p (x ∷ xs) ≡ (x ∷ xs) ∷ []
-    split_step p x xs rest (inl here) h = absurd (let k : suc (length xs) ≤ 0 = rw here at h in omega arith)
+    split_step : {X : Type 0} (p : X → Bool) (x : X) (xs : List X) →
+        (length xs ≤ position_or_len p xs → slice_split p xs ≡ xs ∷ []) →
+        (p x ≡ true) ⊎ (p x ≡ false) → length (x ∷ xs) ≤ position_or_len p (x ∷ xs) →
+        slice_split p (x ∷ xs) ≡ (x ∷ xs) ∷ []
+    split_step p x xs rest (inl here) h = absurd (let k : suc (length xs) ≤ 0 = rw here at h in
+        omega arith)
     split_step p x xs rest (inr other) h =
         let k : suc (length xs) ≤ 1 + position_or_len p xs = rw other at h in
         rw (other, rest (omega arith)) refl
 
 -- no byte that parts
-pub parts_whole : (at : ℕ) (text : List ℕ) → position (λ b. b == at) text ≡ None → parts at text ≡ text ∷ []
+pub parts_whole : (at : ℕ) (text : List ℕ) → position (λ b. b == at) text ≡ None →
+    parts at text ≡ text ∷ []
 parts_whole at text h =
     let p : ℕ → Bool = λ b. b == at in
-    let outside = ltb-false (position_or_len p text) (length text) (cond_none (ltb (position_or_len p text) (length text)) (position_or_len p text) h) in
+    let outside = ltb-false (position_or_len p text) (length text)
+    (cond_none (ltb (position_or_len p text) (length text)) (position_or_len p text) h) in
     split_whole p text outside
 
 -- a text has a part at least
@@ -50,7 +57,8 @@ some_part at (c ∷ text) h = some_step (c == at) c (parts at text) h
     some_onto c [] h = cc
     some_onto c (p ∷ ps) h = cc
 
-    some_step : (b : Bool) (c : ℕ) (ps : List (List ℕ)) → cond b ([] ∷ ps) (onto_first c ps) ≡ [] → ⊥
+    some_step : (b : Bool) (c : ℕ) (ps : List (List ℕ)) → cond b ([] ∷ ps) (onto_first c ps) ≡ [] →
+        ⊥
     some_step true c ps h = cc
     some_step false c ps h = some_onto c ps h
 

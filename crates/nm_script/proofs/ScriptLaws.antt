@@ -32,13 +32,15 @@ are_lines text = record {
   each = parts_lack 10 text;
 }
 
-pub lines_are : (text : List ℕ) (lines : List (List ℕ)) → AreLines text lines → parts 10 text ≡ lines
+pub lines_are : (text : List ℕ) (lines : List (List ℕ)) → AreLines text lines →
+    parts 10 text ≡ lines
 lines_are text lines h = ap (parts 10) h.joined ∙ parts_joined 10 lines h.some h.each
 
 -- UTF-8
 
 not_utf8 : (line : List ℕ) → not (is_utf8 line) ≡ true → IsNotUtf8 line
-not_utf8 line h is = both_ways (is_utf8 line) (not-true (is_utf8 line) h) (is_utf8-from_IsUtf8 line is)
+not_utf8 line h is = both_ways (is_utf8 line) (not-true (is_utf8 line) h)
+    (is_utf8-from_IsUtf8 line is)
 
 utf8 : (line : List ℕ) → not (is_utf8 line) ≡ false → IsUtf8 line
 utf8 line h = IsUtf8-from_is_utf8 line (not-false (is_utf8 line) h)
@@ -51,7 +53,8 @@ not_utf8_back line h is_not = is_not (utf8 line h)
 
 -- a script is read
 
-with_mirror_ok : (m n : Mirror) (r : Result (List Step) ℕ) (ss : List Step) → with_mirror m r ≡ Ok (n, ss) → (m ≡ n) × (r ≡ Ok ss)
+with_mirror_ok : (m n : Mirror) (r : Result (List Step) ℕ) (ss : List Step) →
+    with_mirror m r ≡ Ok (n, ss) → (m ≡ n) × (r ≡ Ok ss)
 with_mirror_ok m n (Ok rest) ss h =
     let p : ◌≡◌ {A = Mirror × List Step} (m, rest) (n, ss) = cc in
     (ap (λ x. x.0) p, ap Ok (ap (λ x. x.1) p))
@@ -60,7 +63,8 @@ with_mirror_ok m n (Err k) ss h = cc
 same_bad : (a b : ℕ) → ◌≡◌ {A = Result (Mirror × List Step) ℕ} (Err a) (Err b) → a ≡ b
 same_bad a b h = cc
 
-with_mirror_err : (m : Mirror) (r : Result (List Step) ℕ) (k : ℕ) → with_mirror m r ≡ Err k → r ≡ Err k
+with_mirror_err : (m : Mirror) (r : Result (List Step) ℕ) (k : ℕ) → with_mirror m r ≡ Err k →
+    r ≡ Err k
 with_mirror_err m (Ok rest) k h = cc
 with_mirror_err m (Err j) k h = cc
 
@@ -73,38 +77,64 @@ pub record ReadLines (lines : List (List ℕ)) (m : Mirror) (ss : List Step) : T
   pub mirror : IsMirrorLine first m
   pub each_step : AllZip (IsStepLine m) others ss
 
-behind_said : (lines rest : List (List ℕ)) (n : ℕ) (line : List ℕ) (o : Option Mirror) (m : Mirror) (ss : List Step) → o ≡ mirror_of line →
-    AllByRecursion IsUtf8 lines → filter speaks lines ≡ line ∷ filter speaks rest → behind_mirror lines n rest o ≡ Ok (m, ss) → ReadLines lines m ss
+behind_said : (lines rest : List (List ℕ)) (n : ℕ) (line : List ℕ) (o : Option Mirror) (m : Mirror)
+    (ss : List Step) → o ≡ mirror_of line →
+    AllByRecursion IsUtf8 lines → filter speaks lines ≡ line ∷ filter speaks rest →
+    behind_mirror lines n rest o ≡ Ok (m, ss) → ReadLines lines m ss
 behind_said lines rest n line None m ss e u f h = cc
 behind_said lines rest n line (Some x) m ss e u f h =
     let w = with_mirror_ok x m (steps_of x (n + 1) rest) ss h in
     let is : mirror_of line ≡ Some m = sym e ∙ ap Some w.0 in
-    let steps : steps_of m (n + 1) rest ≡ Ok ss = ap (λ y. steps_of y (n + 1) rest) (sym w.0) ∙ w.1 in
-    record { first = line; others = filter speaks rest; utf8 = u; spoken = f; mirror = mirror_said line m is; each_step = steps_said m (n + 1) rest ss steps }
+    let steps : steps_of m (n + 1) rest ≡ Ok ss = ap (λ y. steps_of y (n + 1) rest) (sym w.0) ∙
+    w.1 in
+    record {
+      first = line;
+      others = filter speaks rest;
+      utf8 = u;
+      spoken = f;
+      mirror = mirror_said
+          line m is;
+      each_step = steps_said m (n + 1) rest ss steps;
+    }
 
-spoken_said : (lines : List (List ℕ)) (o : Option (ℕ × List ℕ × List (List ℕ))) (m : Mirror) (ss : List Step) → spoken_from 1 lines ≡ o →
+spoken_said : (lines : List (List ℕ)) (o : Option (ℕ × List ℕ ×
+    List (List ℕ))) (m : Mirror) (ss : List Step) → spoken_from 1 lines ≡ o →
     AllByRecursion IsUtf8 lines → from_spoken lines o ≡ Ok (m, ss) → ReadLines lines m ss
 spoken_said lines None m ss e u h = cc
 spoken_said lines (Some (n, line, rest)) m ss e u h =
     let f = spoken_found 1 lines (n, line, rest) e in
     behind_said lines rest n line (mirror_of line) m ss refl u f.spoken h
 
-utf8_said : (lines : List (List ℕ)) (o : Option ℕ) (m : Mirror) (ss : List Step) → first_where (λ line. not (is_utf8 line)) 1 lines ≡ o →
+utf8_said : (lines : List (List ℕ)) (o : Option ℕ) (m : Mirror) (ss : List Step) →
+    first_where (λ line. not (is_utf8 line)) 1 lines ≡ o →
     from_utf8 lines o ≡ Ok (m, ss) → ReadLines lines m ss
 utf8_said lines (Some k) m ss e h = cc
 utf8_said lines None m ss e h =
-    spoken_said lines (spoken_from 1 lines) m ss refl (where_none (λ line. not (is_utf8 line)) IsUtf8 utf8 1 lines e) h
+    spoken_said lines (spoken_from 1 lines) m ss refl
+    (where_none (λ line. not (is_utf8 line)) IsUtf8 utf8 1 lines e) h
 
 -- a text that is read is a script
-pub script_said : (text : List ℕ) (m : Mirror) (ss : List Step) → script_of (parts 10 text) ≡ Ok (m, ss) → IsScript text m ss
+pub script_said : (text : List ℕ) (m : Mirror) (ss : List Step) →
+    script_of (parts 10 text) ≡ Ok (m, ss) → IsScript text m ss
 unfolding script_of
 script_said text m ss h =
     let lines : List (List ℕ) = parts 10 text in
     let r = utf8_said lines (first_where (λ line. not (is_utf8 line)) 1 lines) m ss refl h in
-    record { lines = lines; first = r.first; others = r.others; are_lines = are_lines text; utf8 = r.utf8; spoken = r.spoken; mirror = r.mirror; each_step = r.each_step }
+    record {
+      lines = lines;
+      first = r.first;
+      others = r.others;
+      are_lines = are_lines text;
+      utf8 =
+          r.utf8;
+      spoken = r.spoken;
+      mirror = r.mirror;
+      each_step = r.each_step;
+    }
 
 -- a script is read as what it says
-pub script_read : (text : List ℕ) (m : Mirror) (ss : List Step) → IsScript text m ss → script_of (parts 10 text) ≡ Ok (m, ss)
+pub script_read : (text : List ℕ) (m : Mirror) (ss : List Step) → IsScript text m ss →
+    script_of (parts 10 text) ≡ Ok (m, ss)
 unfolding script_of
 script_read text m ss h =
     let e = lines_are text h.lines h.are_lines in
@@ -115,31 +145,44 @@ script_read text m ss h =
 
 -- the line that is named
 
-first_part : (line : List ℕ) → (rest : List (List ℕ)) × (parts 32 line ≡ before_first (λ b. b == 32) line ∷ rest)
+first_part : (line : List ℕ) → (rest : List (List ℕ)) ×
+    (parts 32 line ≡ before_first (λ b. b == 32) line ∷ rest)
 first_part line = elim (cases_lt (position_or_len (λ b. b == 32) line) (length line)) [
-  | inl inside ↦ (slice_split (λ b. b == 32) (after_first (λ b. b == 32) line), slice_split_first (λ b. b == 32) line 0 inside)
-  | inr outside ↦ ([], split_whole (λ b. b == 32) line outside ∙ ap (λ r. r ∷ []) (sym (take_all (position_or_len (λ b. b == 32) line) line outside)))
+  | inl inside ↦ (
+    slice_split (λ b. b == 32) (after_first (λ b. b == 32) line),
+    slice_split_first (λ b. b == 32) line 0 inside,
+  )
+  | inr outside ↦ (
+    [],
+    split_whole (λ b. b == 32) line outside ∙
+        ap (λ r. r ∷ []) (sym (take_all (position_or_len (λ b. b == 32) line) line outside)),
+  )
 ]
 
-names_test : (line : List ℕ) → names_mirror line ≡ is_word (before_first (λ b. b == 32) line) (codes "mirror")
+names_test : (line : List ℕ) →
+    names_mirror line ≡ is_word (before_first (λ b. b == 32) line) (codes "mirror")
 names_test line = let f = first_part line in rw f.1 refl
 
 names_passed : (line : List ℕ) → names_mirror line ≡ true → NamesMirror line
-names_passed line h = same_word (before_first (λ b. b == 32) line) (codes "mirror") (sym (names_test line) ∙ h)
+names_passed line h = same_word (before_first (λ b. b == 32) line) (codes "mirror")
+    (sym (names_test line) ∙ h)
 
 names_failed : (line : List ℕ) → names_mirror line ≡ false → NamesMirror line → ⊥
 names_failed line h is =
-    let t : names_mirror line ≡ true = names_test line ∙ ap (λ w. is_word w (codes "mirror")) is ∙ word_same (codes "mirror") in
+    let t : names_mirror line ≡ true = names_test line ∙ ap (λ w. is_word w (codes "mirror")) is ∙
+    word_same (codes "mirror") in
     both_ways (names_mirror line) h t
 
-none_names : (lines : List (List ℕ)) → list_any names_mirror lines ≡ false → AllByRecursion (λ line. NamesMirror line → ⊥) lines
+none_names : (lines : List (List ℕ)) → list_any names_mirror lines ≡ false →
+    AllByRecursion (λ line. NamesMirror line → ⊥) lines
 none_names [] h = tt
 none_names (line ∷ lines) h =
     let p = or_parts (names_mirror line) (list_any names_mirror lines) h in
     (names_failed line p.0, none_names lines p.1)
 
 any_names : (lines : List (List ℕ)) → list_any names_mirror lines ≡ true → Any NamesMirror lines
-any_names lines h = let a = Any-from_list_any names_mirror lines h in (a.0, a.1, a.2, a.3, names_passed a.1 a.4)
+any_names lines h = let a = Any-from_list_any names_mirror lines h in
+    (a.0, a.1, a.2, a.3, names_passed a.1 a.4)
 
 head_taken : (k b : ℕ) (bytes : List ℕ) → 0 < k → get_or (take k (b ∷ bytes)) 0 0 ≡ b
 head_taken zero b bytes h = absurd (omega arith)
@@ -150,37 +193,53 @@ silent_names : (line : List ℕ) → speaks line ≡ false → names_mirror line
 silent_names [] h = refl
 silent_names (b ∷ bytes) h =
     let hash = eqb-true b 35 (not-false (b == 35) h) in
-    false_from_ne_true (names_mirror (b ∷ bytes)) (λ t. let is = names_passed (b ∷ bytes) t in first_byte b bytes hash is)
+    false_from_ne_true (names_mirror (b ∷ bytes)) (λ t. let is = names_passed (b ∷ bytes) t in
+    first_byte b bytes hash is)
   where
     first_byte : (b : ℕ) (bytes : List ℕ) → b ≡ 35 → NamesMirror (b ∷ bytes) → ⊥
     first_byte b bytes e is =
         let P : ℕ → Type 0 = λ x. NamesMirror (x ∷ bytes) in
         let t : NamesMirror (35 ∷ bytes) = subst P e is in
         let first : ◌≡◌ {A = ℕ} 35 109 =
-        sym (head_taken (position_or_len (λ x. x == 32) (35 ∷ bytes)) 35 bytes (omega arith)) ∙ ap (λ w. get_or w 0 0) t in
+        sym (head_taken (position_or_len (λ x. x == 32) (35 ∷ bytes)) 35 bytes (omega arith)) ∙
+        ap (λ w. get_or w 0 0) t in
         omega (arith, first)
 
-silent_none : (lines : List (List ℕ)) → AllByRecursion (λ line. speaks line ≡ false) lines → AllByRecursion (λ line. NamesMirror line → ⊥) lines
+silent_none : (lines : List (List ℕ)) → AllByRecursion (λ line. speaks line ≡ false) lines →
+    AllByRecursion (λ line. NamesMirror line → ⊥) lines
 silent_none [] h = tt
 silent_none (line ∷ lines) h = (names_failed line (silent_names line h.0), silent_none lines h.1)
 
 no_mirror : (line : List ℕ) → mirror_of line ≡ None → IsBadMirror line
 no_mirror line none m is = let some = mirror_read line m is in cc
 
-abbrev one_first : (k : ℕ) (lines rest : List (List ℕ)) (line : List ℕ) → SpokenFrom 1 lines k line rest → IsFirst Speaks lines k
-one_first k lines rest line f = record { before = f.before; line = line; behind = rest; split = f.split; number = f.number; none_before = f.silent; holds = f.here }
+abbrev one_first : (k : ℕ) (lines rest : List (List ℕ)) (line : List ℕ) →
+    SpokenFrom 1 lines k line rest → IsFirst Speaks lines k
+one_first k lines rest line f = record {
+  before = f.before;
+  line = line;
+  behind = rest;
+  split = f.split;
+  number = f.number;
+  none_before
+      = f.silent;
+  holds = f.here;
+}
 
 named_at : (a n : ℕ) (lines : List (List ℕ)) → n ≡ a → Names lines a → Names lines n
 named_at a n lines e h = rw e h
 
-behind_bad : (lines rest : List (List ℕ)) (n : ℕ) (line : List ℕ) (o : Option Mirror) (k : ℕ) → o ≡ mirror_of line →
-    AllByRecursion IsUtf8 lines → SpokenFrom 1 lines n line rest → behind_mirror lines n rest o ≡ Err k → Names lines k
+behind_bad : (lines rest : List (List ℕ)) (n : ℕ) (line : List ℕ) (o : Option Mirror) (k : ℕ) →
+    o ≡ mirror_of line →
+    AllByRecursion IsUtf8 lines → SpokenFrom 1 lines n line rest →
+    behind_mirror lines n rest o ≡ Err k → Names lines k
 behind_bad lines rest n line None k e u f h =
     let is = no_mirror line (sym e) in
     elim (cases_Bool (list_any names_mirror lines)) [
       | inl some ↦
           let t : n ≡ k = same_bad n k (sym (ap (λ b. Err (cond b n 1)) some) ∙ h) in
-          named_at n k lines (sym t) (WrongMirrorLine n u (any_names lines some) (one_first n lines rest line f) is)
+          named_at n k lines (sym t)
+          (WrongMirrorLine n u (any_names lines some) (one_first n lines rest line f) is)
       | inr fails ↦
           let t : 1 ≡ k = same_bad 1 k (sym (ap (λ b. Err (cond b n 1)) fails) ∙ h) in
           named_at 1 k lines (sym t) (NoMirrorLine u (none_names lines fails))
@@ -188,23 +247,38 @@ behind_bad lines rest n line None k e u f h =
 behind_bad lines rest n line (Some m) k e u f h =
     let bad = steps_bad m (n + 1) rest k (with_mirror_err m (steps_of m (n + 1) rest) k h) in
     let first = later_first (IsBadStep m) n rest k bad in
-    named_at (n + first.0) k lines first.1 (WrongStep n first.0 m u (one_first n lines rest line f) (mirror_said line m (sym e)) first.2)
+    named_at (n + first.0) k lines first.1
+    (WrongStep n first.0 m u (one_first n lines rest line f) (mirror_said line m (sym e))
+    first.2)
 
-spoken_bad : (lines : List (List ℕ)) (o : Option (ℕ × List ℕ × List (List ℕ))) (k : ℕ) → spoken_from 1 lines ≡ o →
+spoken_bad : (lines : List (List ℕ)) (o : Option (ℕ × List ℕ × List (List ℕ))) (k : ℕ) →
+    spoken_from 1 lines ≡ o →
     AllByRecursion IsUtf8 lines → from_spoken lines o ≡ Err k → Names lines k
-spoken_bad lines None k e u h = named_at 1 k lines (sym (same_bad 1 k h)) (NoMirrorLine u (silent_none lines (spoken_none 1 lines e)))
+spoken_bad lines None k e u h = named_at 1 k lines (sym (same_bad 1 k h))
+    (NoMirrorLine u (silent_none lines (spoken_none 1 lines e)))
 spoken_bad lines (Some (n, line, rest)) k e u h =
-    behind_bad lines rest n line (mirror_of line) k refl u (spoken_found 1 lines (n, line, rest) e) h
+    behind_bad lines rest n line (mirror_of line) k refl u (spoken_found 1 lines (
+      n,
+      line,
+      rest,
+    ) e) h
 
-utf8_bad : (lines : List (List ℕ)) (o : Option ℕ) (k : ℕ) → first_where (λ line. not (is_utf8 line)) 1 lines ≡ o → from_utf8 lines o ≡ Err k → Names lines k
+utf8_bad : (lines : List (List ℕ)) (o : Option ℕ) (k : ℕ) →
+    first_where (λ line. not (is_utf8 line)) 1 lines ≡ o → from_utf8 lines o ≡ Err k → Names lines k
 utf8_bad lines (Some n) k e h =
-    named_at n k lines (sym (same_bad n k h)) (NotUtf8 n (first_of_lines IsNotUtf8 lines n (where_found (λ line. not (is_utf8 line)) IsNotUtf8 not_utf8 not_utf8_back 1 lines n e)))
+    named_at n k lines (sym (same_bad n k h))
+    (NotUtf8 n (first_of_lines IsNotUtf8 lines n
+    (where_found (λ line. not (is_utf8 line)) IsNotUtf8 not_utf8 not_utf8_back 1 lines n e)))
 utf8_bad lines None k e h =
-    spoken_bad lines (spoken_from 1 lines) k refl (where_none (λ line. not (is_utf8 line)) IsUtf8 utf8 1 lines e) h
+    spoken_bad lines (spoken_from 1 lines) k refl
+    (where_none (λ line. not (is_utf8 line)) IsUtf8 utf8 1 lines e) h
 
 -- where a text is not read, the line is the one to name
 pub line_named : (text : List ℕ) (k : ℕ) → script_of (parts 10 text) ≡ Err k → NamesLine text k
 unfolding script_of
 line_named text k h =
-    let lines : List (List ℕ) = parts 10 text in
-    (lines, are_lines text, utf8_bad lines (first_where (λ line. not (is_utf8 line)) 1 lines) k refl h)
+    let lines : List (List ℕ) = parts 10 text in (
+      lines,
+      are_lines text,
+      utf8_bad lines (first_where (λ line. not (is_utf8 line)) 1 lines) k refl h,
+    )

@@ -16,9 +16,11 @@ use Rattle.nm_script.specs.declared.steps.Step.TheVariants.{Begin, Push, Claim, 
 use Rattle.nm_script.specs.Machine.{Machine, in_memory, asked, filled_block, CanTake, HasShapeOf}
 
 same_shape : (old new : Machine) → new ≡ old → HasShapeOf old new
-same_shape old new e = record { place = ap (λ (s : Machine). s.place) e; legs = ap (λ (s : Machine). length s.parts) e }
+same_shape old new e = record
+    { place = ap (λ (s : Machine). s.place) e; legs = ap (λ (s : Machine). length s.parts) e }
 
-same_count : (place : ℕ) (old new : List (List Block)) (before after : List Block) → ChangesPart in_memory place old new before after → length new ≡ length old
+same_count : (place : ℕ) (old new : List (List Block)) (before after : List Block) →
+    ChangesPart in_memory place old new before after → length new ≡ length old
 same_count place old new before after h = ap length h.others ∙ length-set old place after
 
 push_place : (b : Bool) (old : Machine) (parts : List (List Block)) (r : Record) (leg : ℕ) →
@@ -26,13 +28,16 @@ push_place : (b : Bool) (old : Machine) (parts : List (List Block)) (r : Record)
 push_place true old parts r leg = refl
 push_place false old parts r leg = refl
 
-push_shape : (old new : Machine) (ticket leg : ℕ) → Pushes in_memory true old new ticket leg → HasShapeOf old new
+push_shape : (old new : Machine) (ticket leg : ℕ) → Pushes in_memory true old new ticket leg →
+    HasShapeOf old new
 push_shape old new ticket leg h = record {
-  place = ap (λ (s : Machine). s.place) h.after ∙ push_place (leg == old.master) old new.parts h.pushed leg;
+  place = ap (λ (s : Machine). s.place) h.after ∙
+      push_place (leg == old.master) old new.parts h.pushed leg;
   legs = same_count leg old.parts new.parts h.writes.before h.writes.after h.writes.part;
 }
 
-read_refused : (old new : Machine) (block : ℕ) (o : Option Refusal) (r : Refusal) → ReadRefused in_memory true old new block o r → HasShapeOf old new
+read_refused : (old new : Machine) (block : ℕ) (o : Option Refusal) (r : Refusal) →
+    ReadRefused in_memory true old new block o r → HasShapeOf old new
 read_refused old new block (Some cause) r h = same_shape old new h.1
 read_refused old new block None Fault h = record {
   place = ap (λ (s : Machine). s.place) h.after;
@@ -48,7 +53,8 @@ read_refused old new block None NotYet h = same_shape old new h.1
 read_refused old new block None NotOut h = same_shape old new h.1
 read_refused old new block None Memory h = same_shape old new h.1
 
-pub step_shape : (s : Step) (a : Answer (List Block)) (old new : Machine) → StepOf in_memory true (asked s) a old new → HasShapeOf old new
+pub step_shape : (s : Step) (a : Answer (List Block)) (old new : Machine) →
+    StepOf in_memory true (asked s) a old new → HasShapeOf old new
 step_shape (Begin block fill) (Begun ticket) old new h = record {
   place = ap (λ (s : Machine). s.place) h.after;
   legs = ap (λ (s : Machine). length s.parts) h.after;
@@ -70,7 +76,8 @@ step_shape (Read block) (Value receipt bytes) old new h = record {
   place = ap (λ (s : Machine). s.place) h.after;
   legs = same_count old.master old.parts new.parts h.reads.before h.reads.after h.reads.part;
 }
-step_shape (Read block) (Refused cause handed) old new h = read_refused old new block (read_cause old) cause h.0
+step_shape (Read block) (Refused cause handed) old new h = read_refused old new block
+    (read_cause old) cause h.0
 step_shape s a old new h = absurd h
 
 fills_block : (fill : ℕ) → length (filled_block fill) ≡ 512
@@ -78,7 +85,8 @@ unfolding filled_block
 fills_block fill = length-replicate 512 fill
 
 -- what a stripe can take, it may be asked for
-pub may_be_asked : (stripe : Machine) (s : Step) → CanTake stripe s → MayBeAsked in_memory stripe (asked s)
+pub may_be_asked : (stripe : Machine) (s : Step) → CanTake stripe s →
+    MayBeAsked in_memory stripe (asked s)
 may_be_asked stripe (Begin block fill) h = (h, fills_block fill)
 may_be_asked stripe (Push ticket leg) h = h
 may_be_asked stripe (Claim ticket) h = tt

@@ -13,24 +13,46 @@ use Rattle.nm_script.proofs.WordLaws.{bound, chosen, same_word, number_taken, nu
 
 -- the words of a step's line
 abbrev StepWords : Mirror → List (List ℕ) → Step → Type 0
-StepWords m ws (Begin block fill) = (b : List ℕ) × (ws ≡ codes "begin" ∷ b ∷ hex_byte fill ∷ []) × Spells b block × (block < m.blocks) × (fill < 256)
-StepWords m ws (Push ticket leg) = (t : List ℕ) × (l : List ℕ) × (ws ≡ codes "push" ∷ t ∷ l ∷ []) × Spells t ticket × Spells l leg × (leg < m.legs)
+StepWords m ws (Begin block fill) = (b : List ℕ) × (ws ≡ codes "begin" ∷ b ∷ hex_byte fill ∷ []) ×
+    Spells b block × (block < m.blocks) × (fill < 256)
+StepWords m ws (Push ticket leg) = (t : List ℕ) × (l : List ℕ) × (ws ≡ codes "push" ∷ t ∷ l ∷ []) ×
+    Spells t ticket × Spells l leg × (leg < m.legs)
 StepWords m ws (Claim ticket) = (t : List ℕ) × (ws ≡ codes "claim" ∷ t ∷ []) × Spells t ticket
-StepWords m ws (Read block) = (b : List ℕ) × (ws ≡ codes "read" ∷ b ∷ []) × Spells b block × (block < m.blocks)
+StepWords m ws (Read block) = (b : List ℕ) × (ws ≡ codes "read" ∷ b ∷ []) × Spells b block ×
+    (block < m.blocks)
 
 pub joined : (line : List ℕ) (ws : List (List ℕ)) → parts 32 line ≡ ws → line ≡ spaced ws
 joined line ws e = sym (join_with_byte-slice_split 32 line) ∙ ap (join_with_byte 32) e
 
-line_from_words : (m : Mirror) (line : List ℕ) (s : Step) → StepWords m (parts 32 line) s → IsStepLine m line s
-line_from_words m line (Begin block fill) (b, e, is, small, byte) = (b, joined line _ e, is, small, byte)
-line_from_words m line (Push ticket leg) (t, l, e, is_t, is_l, small) = (t, l, joined line _ e, is_t, is_l, small)
+line_from_words : (m : Mirror) (line : List ℕ) (s : Step) → StepWords m (parts 32 line) s →
+    IsStepLine m line s
+line_from_words m line (Begin block fill) (b, e, is, small, byte) = (
+  b,
+  joined line _ e,
+  is,
+  small,
+  byte,
+)
+line_from_words m line (Push ticket leg) (t, l, e, is_t, is_l, small) = (
+  t,
+  l,
+  joined line _ e,
+  is_t,
+  is_l,
+  small,
+)
 line_from_words m line (Claim ticket) (t, e, is) = (t, joined line _ e, is)
 line_from_words m line (Read block) (b, e, is, small) = (b, joined line _ e, is, small)
 
-begin_taken : (m : Mirror) (ws : List (List ℕ)) (x : Step × List (List ℕ)) (s : Step) → begin_at m ws ≡ Some x → ended x ≡ Some s → StepWords m (codes "begin" ∷ ws) s
+begin_taken : (m : Mirror) (ws : List (List ℕ)) (x : Step × List (List ℕ)) (s : Step) →
+    begin_at m ws ≡ Some x → ended x ≡ Some s → StepWords m (codes "begin" ∷ ws) s
 unfolding begin_at
 begin_taken m ws x s h t =
-    let b = bound (below_at m.blocks ws) (λ b. byte_at b.1 >>= λ f. Some (Begin b.0 f.0, f.1)) x h in
+    let b = bound (below_at m.blocks ws) (λ b. byte_at b.1 >>= λ f. Some (
+      Begin
+          b.0 f.0,
+      f.1,
+    )) x h in
     let f = bound (byte_at b.0.1) (λ f. Some (Begin b.0.0 f.0, f.1)) x b.2 in
     let block = below_taken m.blocks ws b.0 b.1 in
     let fill = byte_taken b.0.1 f.0 f.1 in
@@ -38,9 +60,17 @@ begin_taken m ws x s h t =
     let end = at_end_taken x s t in
     let same : Begin b.0.0 f.0.0 ≡ s = ap (λ p. p.0) whole ∙ end.0 in
     let none : f.0.1 ≡ [] = ap (λ p. p.1) whole ∙ end.1 in
-    rw (← same) (block.0.0, ap (λ r. codes "begin" ∷ r) (block.0.1 ∙ ap (λ r. block.0.0 ∷ r) (fill.0 ∙ ap (λ r. hex_byte f.0.0 ∷ r) none)), block.0.2, block.1, fill.1)
+    rw (← same) (
+      block.0.0,
+      ap (λ r. codes "begin" ∷ r) (block.0.1 ∙
+          ap (λ r. block.0.0 ∷ r) (fill.0 ∙ ap (λ r. hex_byte f.0.0 ∷ r) none)),
+      block.0.2,
+      block.1,
+      fill.1,
+    )
 
-push_taken : (m : Mirror) (ws : List (List ℕ)) (x : Step × List (List ℕ)) (s : Step) → push_at m ws ≡ Some x → ended x ≡ Some s → StepWords m (codes "push" ∷ ws) s
+push_taken : (m : Mirror) (ws : List (List ℕ)) (x : Step × List (List ℕ)) (s : Step) →
+    push_at m ws ≡ Some x → ended x ≡ Some s → StepWords m (codes "push" ∷ ws) s
 unfolding push_at
 push_taken m ws x s h t =
     let a = bound (number_at ws) (λ t. below_at m.legs t.1 >>= λ l. Some (Push t.0 l.0, l.1)) x h in
@@ -51,9 +81,18 @@ push_taken m ws x s h t =
     let end = at_end_taken x s t in
     let same : Push a.0.0 l.0.0 ≡ s = ap (λ p. p.0) whole ∙ end.0 in
     let none : l.0.1 ≡ [] = ap (λ p. p.1) whole ∙ end.1 in
-    rw (← same) (ticket.0, leg.0.0, ap (λ r. codes "push" ∷ r) (ticket.1 ∙ ap (λ r. ticket.0 ∷ r) (leg.0.1 ∙ ap (λ r. leg.0.0 ∷ r) none)), ticket.2, leg.0.2, leg.1)
+    rw (← same) (
+      ticket.0,
+      leg.0.0,
+      ap (λ r. codes "push" ∷ r) (ticket.1 ∙
+          ap (λ r. ticket.0 ∷ r) (leg.0.1 ∙ ap (λ r. leg.0.0 ∷ r) none)),
+      ticket.2,
+      leg.0.2,
+      leg.1,
+    )
 
-claim_taken : (m : Mirror) (ws : List (List ℕ)) (x : Step × List (List ℕ)) (s : Step) → claim_at ws ≡ Some x → ended x ≡ Some s → StepWords m (codes "claim" ∷ ws) s
+claim_taken : (m : Mirror) (ws : List (List ℕ)) (x : Step × List (List ℕ)) (s : Step) →
+    claim_at ws ≡ Some x → ended x ≡ Some s → StepWords m (codes "claim" ∷ ws) s
 unfolding claim_at
 claim_taken m ws x s h t =
     let a = bound (number_at ws) (λ t. Some (Claim t.0, t.1)) x h in
@@ -62,9 +101,14 @@ claim_taken m ws x s h t =
     let end = at_end_taken x s t in
     let same : Claim a.0.0 ≡ s = ap (λ p. p.0) whole ∙ end.0 in
     let none : a.0.1 ≡ [] = ap (λ p. p.1) whole ∙ end.1 in
-    rw (← same) (ticket.0, ap (λ r. codes "claim" ∷ r) (ticket.1 ∙ ap (λ r. ticket.0 ∷ r) none), ticket.2)
+    rw (← same) (
+      ticket.0,
+      ap (λ r. codes "claim" ∷ r) (ticket.1 ∙ ap (λ r. ticket.0 ∷ r) none),
+      ticket.2,
+    )
 
-read_taken : (m : Mirror) (ws : List (List ℕ)) (x : Step × List (List ℕ)) (s : Step) → read_at m ws ≡ Some x → ended x ≡ Some s → StepWords m (codes "read" ∷ ws) s
+read_taken : (m : Mirror) (ws : List (List ℕ)) (x : Step × List (List ℕ)) (s : Step) →
+    read_at m ws ≡ Some x → ended x ≡ Some s → StepWords m (codes "read" ∷ ws) s
 unfolding read_at
 read_taken m ws x s h t =
     let b = bound (below_at m.blocks ws) (λ b. Some (Read b.0, b.1)) x h in
@@ -73,12 +117,19 @@ read_taken m ws x s h t =
     let end = at_end_taken x s t in
     let same : Read b.0.0 ≡ s = ap (λ p. p.0) whole ∙ end.0 in
     let none : b.0.1 ≡ [] = ap (λ p. p.1) whole ∙ end.1 in
-    rw (← same) (block.0.0, ap (λ r. codes "read" ∷ r) (block.0.1 ∙ ap (λ r. block.0.0 ∷ r) none), block.0.2, block.1)
+    rw (← same) (
+      block.0.0,
+      ap (λ r. codes "read" ∷ r) (block.0.1 ∙ ap (λ r. block.0.0 ∷ r) none),
+      block.0.2,
+      block.1,
+    )
 
-named : (m : Mirror) (w v : List ℕ) (ws : List (List ℕ)) (s : Step) → is_word w v ≡ true → StepWords m (v ∷ ws) s → StepWords m (w ∷ ws) s
+named : (m : Mirror) (w v : List ℕ) (ws : List (List ℕ)) (s : Step) → is_word w v ≡ true →
+    StepWords m (v ∷ ws) s → StepWords m (w ∷ ws) s
 named m w v ws s e h = rw (same_word w v e) h
 
-words_taken : (m : Mirror) (ws : List (List ℕ)) (x : Step × List (List ℕ)) (s : Step) → step_at m ws ≡ Some x → ended x ≡ Some s → StepWords m ws s
+words_taken : (m : Mirror) (ws : List (List ℕ)) (x : Step × List (List ℕ)) (s : Step) →
+    step_at m ws ≡ Some x → ended x ≡ Some s → StepWords m ws s
 unfolding step_at
 words_taken m [] x s h t = cc
 words_taken m (w ∷ ws) x s h t =
@@ -96,30 +147,36 @@ words_taken m (w ∷ ws) x s h t =
       ]
     ]
 
-pub step_said : (m : Mirror) (line : List ℕ) (s : Step) → step_of m line ≡ Some s → IsStepLine m line s
+pub step_said : (m : Mirror) (line : List ℕ) (s : Step) → step_of m line ≡ Some s →
+    IsStepLine m line s
 unfolding step_of
 step_said m line s h =
     let b = bound (step_at m (parts 32 line)) ended s h in
     line_from_words m line s (words_taken m (parts 32 line) b.0 s b.1 b.2)
 
 -- a line of clean words has those words
-pub words_of : (line : List ℕ) (ws : List (List ℕ)) → line ≡ spaced ws → 0 < length ws → AllByRecursion (Lacks 32) ws → parts 32 line ≡ ws
+pub words_of : (line : List ℕ) (ws : List (List ℕ)) → line ≡ spaced ws → 0 < length ws →
+    AllByRecursion (Lacks 32) ws → parts 32 line ≡ ws
 words_of line ws e some each = ap (parts 32) e ∙ parts_joined 32 ws some each
 
-step_found : (m : Mirror) (line : List ℕ) (ws : List (List ℕ)) (s : Step) → line ≡ spaced ws → 0 < length ws → AllByRecursion (Lacks 32) ws →
+step_found : (m : Mirror) (line : List ℕ) (ws : List (List ℕ)) (s : Step) → line ≡ spaced ws →
+    0 < length ws → AllByRecursion (Lacks 32) ws →
     step_at m ws ≡ Some (s, []) → step_of m line ≡ Some s
 unfolding step_of
 step_found m line ws s e some each h = rw (words_of line ws e some each, h) refl
 
-pub step_read : (m : Mirror) (line : List ℕ) (s : Step) → IsStepLine m line s → step_of m line ≡ Some s
+pub step_read : (m : Mirror) (line : List ℕ) (s : Step) → IsStepLine m line s →
+    step_of m line ≡ Some s
 unfolding step_at begin_at push_at claim_at read_at
 step_read m line (Begin block fill) (b, e, is, small, byte) =
     step_found m line (codes "begin" ∷ b ∷ hex_byte fill ∷ []) (Begin block fill) e (omega arith)
     (lacks_from_test 32 (codes "begin") refl, (number_lacks b block is, (byte_lacks fill, tt)))
     (rw (below_given m.blocks b (hex_byte fill ∷ []) block is small, byte_given [] fill byte) refl)
 step_read m line (Push ticket leg) (t, l, e, is_t, is_l, small) =
-    step_found m line (codes "push" ∷ t ∷ l ∷ []) (Push ticket leg) e (omega arith)
-    (lacks_from_test 32 (codes "push") refl, (number_lacks t ticket is_t, (number_lacks l leg is_l, tt)))
+    step_found m line (codes "push" ∷ t ∷ l ∷ []) (Push ticket leg) e (omega arith) (
+      lacks_from_test 32 (codes "push") refl,
+      (number_lacks t ticket is_t, (number_lacks l leg is_l, tt)),
+    )
     (rw (number_given t (l ∷ []) ticket is_t, below_given m.legs l [] leg is_l small) refl)
 step_read m line (Claim ticket) (t, e, is) =
     step_found m line (codes "claim" ∷ t ∷ []) (Claim ticket) e (omega arith)

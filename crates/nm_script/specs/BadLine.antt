@@ -33,14 +33,18 @@ IsBadMirror line = (m : Mirror) → IsMirrorLine line m → ⊥
 abbrev pub IsBadStep : Mirror → List ℕ → Type 0
 IsBadStep m line = Speaks line × ((s : Step) → IsStepLine m line s → ⊥)
 
--- Line n is named. The first line that is not UTF-8 is, whatever stands before it. In a text that is UTF-8: where no
--- line's first word is `mirror`, line 1; else the first line that speaks, if it is no mirror line; else the first
--- line behind it that speaks and is no step.
+-- Line n is named. The first line that is not UTF-8 is, whatever stands before it. In a text that
+-- is UTF-8: where no line's first word is `mirror`, line 1; else the first line that speaks, if it
+-- is no mirror line; else the first line behind it that speaks and is no step.
 pub data Names (lines : List (List ℕ)) : ℕ → Type 0 where
   NotUtf8 : (n : ℕ) → IsFirst IsNotUtf8 lines n → Names lines n
-  NoMirrorLine : AllByRecursion IsUtf8 lines → AllByRecursion (λ line. NamesMirror line → ⊥) lines → Names lines 1
-  WrongMirrorLine : (n : ℕ) → AllByRecursion IsUtf8 lines → Any NamesMirror lines → (first : IsFirst Speaks lines n) → IsBadMirror first.line → Names lines n
-  WrongStep : (n k : ℕ) (m : Mirror) → AllByRecursion IsUtf8 lines → (first : IsFirst Speaks lines n) → IsMirrorLine first.line m → IsFirst (IsBadStep m) first.behind k → Names lines (n + k)
+  NoMirrorLine : AllByRecursion IsUtf8 lines
+      → AllByRecursion (λ line. NamesMirror line → ⊥) lines → Names lines 1
+  WrongMirrorLine : (n : ℕ) → AllByRecursion IsUtf8 lines → Any NamesMirror lines
+      → (first : IsFirst Speaks lines n) → IsBadMirror first.line → Names lines n
+  WrongStep : (n k : ℕ) (m : Mirror) → AllByRecursion IsUtf8 lines
+      → (first : IsFirst Speaks lines n) → IsMirrorLine first.line m
+      → IsFirst (IsBadStep m) first.behind k → Names lines (n + k)
 
 -- Line n of the text is named.
 abbrev pub NamesLine : List ℕ → ℕ → Type 0

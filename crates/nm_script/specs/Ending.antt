@@ -25,13 +25,14 @@ pub record ReadsNone (old new : Option (List ℕ)) (line : ℕ) : Type 0 where
   pub none : (m : Mirror) (steps : List Step) → IsScript text m steps → ⊥
 
 -- The input is a script, whose run has written its first lines.
-abbrev pub PartDone : Option (List ℕ) → Option (List ℕ) → Option (List ℕ) → Option (List ℕ) → Type 0
+abbrev pub PartDone : (in_old in_new out_old out_new : Option (List ℕ)) → Type 0
 PartDone in_old in_new out_old out_new =
     (m : Mirror) × (steps : List Step) × ReadsScript in_old in_new m steps
     × Writes (PartOfRun m steps) (AppendsFront out_old out_new)
 
 -- What was read and written where the script ended so.
-abbrev pub Ended : Result (Unit {0}) Stop → Option (List ℕ) → Option (List ℕ) → Option (List ℕ) → Option (List ℕ) → Type 0
+abbrev pub Ended :
+    Result (Unit {0}) Stop → (in_old in_new out_old out_new : Option (List ℕ)) → Type 0
 Ended (Ok done) in_old in_new out_old out_new =
     (m : Mirror) × (steps : List Step) × ReadsScript in_old in_new m steps
     × Writes (WholeRun m steps) (Appends out_old out_new)
@@ -53,7 +54,8 @@ IsSaid (Ok done) old new = Keeps old new
 IsSaid (Err stop) old new = AppendsFront old new (printed_stop stop)
 
 -- A script ended, with this exit status.
-pub record Ends (status : ℕ) (in_old in_new out_old out_new err_old err_new : Option (List ℕ)) : Type 0 where
+pub record Ends (status : ℕ)
+    (in_old in_new out_old out_new err_old err_new : Option (List ℕ)) : Type 0 where
   pub came_to : Result (Unit {0}) Stop
   pub exits : status ≡ exit_status came_to
   pub ended : Ended came_to in_old in_new out_old out_new

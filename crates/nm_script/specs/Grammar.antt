@@ -43,7 +43,8 @@ pub record IsMirrorLine (line : List ℕ) (m : Mirror) : Type 0 where
   pub region : List ℕ
   pub chunk : List ℕ
   pub first : List ℕ
-  pub words : line ≡ spaced (codes "mirror" ∷ legs ∷ blocks ∷ region ∷ chunk ∷ policy_word m.policy ∷ first ∷ [])
+  pub words : line ≡ spaced (codes "mirror"
+      ∷ legs ∷ blocks ∷ region ∷ chunk ∷ policy_word m.policy ∷ first ∷ [])
   pub is_legs : Spells legs m.legs
   pub is_blocks : Spells blocks m.blocks
   pub is_region : Spells region m.region
@@ -60,10 +61,16 @@ IsInside m (Read block) = block < m.blocks
 
 -- The line of a step on such a mirror: its word, and what the step is given.
 abbrev pub IsStepLine : Mirror → List ℕ → Step → Type 0
-IsStepLine m line (Begin block fill) = (b : List ℕ) × (line ≡ spaced (codes "begin" ∷ b ∷ hex_byte fill ∷ [])) × Spells b block × (block < m.blocks) × (fill < 256)
-IsStepLine m line (Push ticket leg) = (t : List ℕ) × (l : List ℕ) × (line ≡ spaced (codes "push" ∷ t ∷ l ∷ [])) × Spells t ticket × Spells l leg × (leg < m.legs)
-IsStepLine m line (Claim ticket) = (t : List ℕ) × (line ≡ spaced (codes "claim" ∷ t ∷ [])) × Spells t ticket
-IsStepLine m line (Read block) = (b : List ℕ) × (line ≡ spaced (codes "read" ∷ b ∷ [])) × Spells b block × (block < m.blocks)
+IsStepLine m line (Begin block fill) =
+    (b : List ℕ) × (line ≡ spaced (codes "begin" ∷ b ∷ hex_byte fill ∷ []))
+    × Spells b block × (block < m.blocks) × (fill < 256)
+IsStepLine m line (Push ticket leg) =
+    (t : List ℕ) × (l : List ℕ) × (line ≡ spaced (codes "push" ∷ t ∷ l ∷ []))
+    × Spells t ticket × Spells l leg × (leg < m.legs)
+IsStepLine m line (Claim ticket) =
+    (t : List ℕ) × (line ≡ spaced (codes "claim" ∷ t ∷ [])) × Spells t ticket
+IsStepLine m line (Read block) =
+    (b : List ℕ) × (line ≡ spaced (codes "read" ∷ b ∷ [])) × Spells b block × (block < m.blocks)
 
 -- An empty line and a comment, which begins with `#`, are passed over; every other line speaks.
 abbrev pub speaks : List ℕ → Bool

@@ -41,7 +41,8 @@ said (Pushed owed) = codes "pushed " ++ decimal owed
 said (Complete number) = codes "complete " ++ decimal number
 said Halted = codes "halted"
 said (Written number) = codes "written " ++ decimal number
-said (Value number fill) = codes "value " ++ decimal number ++ codes " " ++ printed_fill fill
+said (Value number fill) =
+    codes "value " ++ decimal number ++ codes " " ++ printed_fill fill
 said (Refused refusal) = codes "refused " ++ printed_refusal refusal
 
 -- The line of an outcome.
@@ -51,7 +52,8 @@ printed_outcome outcome = ended_line (said outcome)
 -- The byte that all of a block's bytes are, if there is one.
 abbrev pub fill_of : List ℕ → Fill
 fill_of bytes =
-    if list_all (λ byte. byte == slice_index bytes 0) bytes then Same (slice_index bytes 0) else Mixed
+    if list_all (λ byte. byte == slice_index bytes 0) bytes
+    then Same (slice_index bytes 0) else Mixed
 
 -- What an entry did, and to which write it belongs.
 abbrev pub said_kind : Kind → List ℕ
@@ -60,11 +62,14 @@ said_kind (Write ticket) = codes " write " ++ decimal ticket ++ codes " "
 
 -- The line of an entry.
 abbrev pub printed_entry : Entry → List ℕ
-printed_entry e = ended_line (decimal e.seq ++ said_kind e.kind ++ decimal e.block ++ codes " " ++ printed_fill (fill_of e.bytes.0))
+printed_entry e = ended_line
+    (decimal e.seq ++ said_kind e.kind ++ decimal e.block ++ codes " "
+    ++ printed_fill (fill_of e.bytes.0))
 
 -- The line that counts entries: those kept, and all.
 abbrev pub printed_counts : ℕ → ℕ → List ℕ
-printed_counts kept total = ended_line (codes "history " ++ decimal kept ++ codes " of " ++ decimal total)
+printed_counts kept total =
+    ended_line (codes "history " ++ decimal kept ++ codes " of " ++ decimal total)
 
 -- The line that says whether a history is legal.
 abbrev pub printed_legal : Bool → List ℕ
@@ -73,4 +78,6 @@ printed_legal false = ended_line (codes "legal no")
 
 -- The lines of a history.
 abbrev pub printed_history : List Entry → ℕ → Bool → List ℕ
-printed_history entries total is_legal = printed_counts (length entries) total ++ flat_map printed_entry entries ++ printed_legal is_legal
+printed_history entries total is_legal =
+    printed_counts (length entries) total ++ flat_map printed_entry entries
+    ++ printed_legal is_legal

@@ -35,14 +35,18 @@ Gives (Some x) rest read = read ≡ Some (x, rest)
 -- the number n with more digits behind it
 abbrev pub digits_on : ℕ → List ℕ → Option ℕ
 digits_on n [] = Some n
-digits_on n (c ∷ cs) = if is_ascii_digit c && nat_lt (n * 10 + (c - 48)) (2 ^ 64) then digits_on (n * 10 + (c - 48)) cs else None
+digits_on n (c ∷ cs) =
+    if is_ascii_digit c && nat_lt (n * 10 + (c - 48)) (2 ^ 64)
+    then digits_on (n * 10 + (c - 48)) cs else None
 
 abbrev pub number_of : List ℕ → Option ℕ
 number_of [] = None
 number_of (c ∷ cs) = digits_on 0 (c ∷ cs)
 
 abbrev pub hex_digit_of : ℕ → Option ℕ
-hex_digit_of c = if nat_le 48 c && nat_le c 57 then Some (c - 48) else (if nat_le 97 c && nat_le c 102 then Some (c - 87) else None)
+hex_digit_of c =
+    if nat_le 48 c && nat_le c 57 then Some (c - 48)
+    else (if nat_le 97 c && nat_le c 102 then Some (c - 87) else None)
 
 unfoldable pub byte_of : List ℕ → Option ℕ
 byte_of (high ∷ low ∷ []) = hex_digit_of high >>= λ h. hex_digit_of low >>= λ l. Some (h * 16 + l)
@@ -66,7 +70,8 @@ number_at words = word_at words >>= λ w. number_of w.0 >>= λ n. Some (n, w.1)
 
 -- a number from `least` to `most`
 unfoldable pub within_at : ℕ → ℕ → List (List ℕ) → Option (ℕ × List (List ℕ))
-within_at least most words = number_at words >>= λ n. if nat_le least n.0 && nat_le n.0 most then Some n else None
+within_at least most words =
+    number_at words >>= λ n. if nat_le least n.0 && nat_le n.0 most then Some n else None
 
 -- a number below a limit
 unfoldable pub below_at : ℕ → List (List ℕ) → Option (ℕ × List (List ℕ))
@@ -78,7 +83,9 @@ byte_at words = word_at words >>= λ w. byte_of w.0 >>= λ n. Some (n, w.1)
 
 -- the next word as a policy
 unfoldable pub policy_at : List (List ℕ) → Option (Policy × List (List ℕ))
-policy_at words = word_at words >>= λ w. if is_word w.0 (codes "rr") then Some (RoundRobin, w.1) else (if is_word w.0 (codes "st") then Some (Striped, w.1) else None)
+policy_at words = word_at words >>= λ w.
+    if is_word w.0 (codes "rr") then Some (RoundRobin, w.1)
+    else (if is_word w.0 (codes "st") then Some (Striped, w.1) else None)
 
 -- what was read, where no word is left behind it
 abbrev pub ended : {X : Type 0} → X × List (List ℕ) → Option X
@@ -116,8 +123,19 @@ unfoldable pub mirror_at : List (List ℕ) → Option (Mirror × List (List ℕ)
 mirror_at words = within_at 1 8 words >>= λ legs. within_at 1 65536 legs.1 >>= λ blocks.
     within_at 1 65536 blocks.1 >>= λ region. within_at 1 region.0 region.1 >>= λ chunk.
     policy_at chunk.1 >>= λ policy. within_at 0 (2 ^ 63) policy.1 >>= λ first.
-    Some (record { legs = legs.0; blocks = blocks.0; region = region.0; chunk = chunk.0; policy = policy.0; first = first.0 }, first.1)
+    Some (
+      record {
+        legs = legs.0;
+        blocks = blocks.0;
+        region = region.0;
+        chunk = chunk.0;
+        policy = policy.0;
+        first = first.0;
+      },
+      first.1,
+    )
 
 -- the mirror that a line says
 unfoldable pub mirror_of : List ℕ → Option Mirror
-mirror_of line = word_at (parts 32 line) >>= λ w. if is_word w.0 (codes "mirror") then mirror_at w.1 >>= ended else None
+mirror_of line = word_at (parts 32 line) >>= λ w.
+    if is_word w.0 (codes "mirror") then mirror_at w.1 >>= ended else None

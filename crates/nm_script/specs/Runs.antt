@@ -18,7 +18,8 @@ Answers steps answers old new = Runs in_memory true old (map asked steps) answer
 -- What holds of the lines of a history, in which `legal yes` stands exactly where it is consistent.
 abbrev pub JudgesHistory : List Entry → ℕ → (List ℕ → Type 0) → Type 0
 JudgesHistory entries total P =
-    (is_legal : Bool) → (IsTrue is_legal ↔ Consistent entries) → P (printed_history entries total is_legal)
+    (is_legal : Bool) → (IsTrue is_legal ↔ Consistent entries)
+    → P (printed_history entries total is_legal)
 
 -- The lines of the history that a stripe keeps, which is legal.
 abbrev pub history : Machine → List ℕ
@@ -37,18 +38,22 @@ pub record WholeRun (m : Mirror) (steps : List Step) (text : List ℕ) : Type 0 
 
 -- The lines that a run may have come to when it ends early: those of its first steps, or all.
 pub data PartOfRun (m : Mirror) (steps : List Step) : List ℕ → Type 0 where
-  FirstSteps : (front rest : List Step) (answers : List (Answer (List Block))) (left : Machine) → steps ≡ front ++ rest → Answers front answers (new_machine m) left → PartOfRun m steps (lines answers)
+  FirstSteps : (front rest : List Step) (answers : List (Answer (List Block))) (left : Machine)
+      → steps ≡ front ++ rest → Answers front answers (new_machine m) left
+      → PartOfRun m steps (lines answers)
   AllSteps : (text : List ℕ) → WholeRun m steps text → PartOfRun m steps text
 
 -- The steps were done, and their lines were written behind what was gathered, or stay gathered.
-pub record RunsSteps (steps : List Step) (before behind : Machine) (old new : Option (List ℕ)) (gathered left : List ℕ) : Type 0 where
+pub record RunsSteps (steps : List Step) (before behind : Machine)
+    (old new : Option (List ℕ)) (gathered left : List ℕ) : Type 0 where
   pub answers : List (Answer (List Block))
   pub answered : Answers steps answers before behind
   pub shape : HasShapeOf before behind
   pub passes : PassesOn old new (gathered ++ lines answers) left
 
 -- Some first steps were done, and a front of their lines was written behind what was gathered.
-pub record RunsFront (steps : List Step) (before : Machine) (old new : Option (List ℕ)) (gathered : List ℕ) : Type 0 where
+pub record RunsFront (steps : List Step) (before : Machine)
+    (old new : Option (List ℕ)) (gathered : List ℕ) : Type 0 where
   pub front : List Step
   pub rest : List Step
   pub answers : List (Answer (List Block))

@@ -17,7 +17,8 @@ first_where test n (line ∷ lines) = if test line then Some n else first_where 
 -- the first line that speaks, its number, and the lines behind it
 abbrev pub spoken_from : ℕ → List (List ℕ) → Option (ℕ × List ℕ × List (List ℕ))
 spoken_from n [] = None
-spoken_from n (line ∷ lines) = if speaks line then Some (n, line, lines) else spoken_from (n + 1) lines
+spoken_from n (line ∷ lines) =
+    if speaks line then Some (n, line, lines) else spoken_from (n + 1) lines
 
 -- a step in front of steps, or the number of the line that says none
 abbrev pub onto_steps : Option Step → ℕ → Result (List Step) ℕ → Result (List Step) ℕ
@@ -28,7 +29,9 @@ onto_steps (Some step) n (Err bad) = Err bad
 -- the steps that the lines say, or the number of the first that says none
 abbrev pub steps_of : Mirror → ℕ → List (List ℕ) → Result (List Step) ℕ
 steps_of m n [] = Ok []
-steps_of m n (line ∷ lines) = if speaks line then onto_steps (step_of m line) n (steps_of m (n + 1) lines) else steps_of m (n + 1) lines
+steps_of m n (line ∷ lines) =
+    if speaks line then onto_steps (step_of m line) n (steps_of m (n + 1) lines)
+    else steps_of m (n + 1) lines
 
 -- some steps in front of what was read
 abbrev pub with_front : List Step → Result (List Step) ℕ → Result (List Step) ℕ
@@ -55,12 +58,14 @@ with_mirror m (Ok steps) = Ok (m, steps)
 with_mirror m (Err bad) = Err bad
 
 -- what the first line that speaks and the lines behind it say, by the mirror that this line says
-abbrev pub behind_mirror : List (List ℕ) → ℕ → List (List ℕ) → Option Mirror → Result (Mirror × List Step) ℕ
+abbrev pub behind_mirror :
+    List (List ℕ) → ℕ → List (List ℕ) → Option Mirror → Result (Mirror × List Step) ℕ
 behind_mirror lines n rest None = Err (if list_any names_mirror lines then n else 1)
 behind_mirror lines n rest (Some m) = with_mirror m (steps_of m (n + 1) rest)
 
 -- what the lines say, by the first that speaks
-abbrev pub from_spoken : List (List ℕ) → Option (ℕ × List ℕ × List (List ℕ)) → Result (Mirror × List Step) ℕ
+abbrev pub from_spoken :
+    List (List ℕ) → Option (ℕ × List ℕ × List (List ℕ)) → Result (Mirror × List Step) ℕ
 from_spoken lines None = Err 1
 from_spoken lines (Some (n, line, rest)) = behind_mirror lines n rest (mirror_of line)
 

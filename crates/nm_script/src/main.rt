@@ -1,8 +1,8 @@
 //! `nm_script` runs a text of steps on one stripe of memory legs.
 //!
 //! It reads the whole script from standard input, does its steps one after the other, and prints a
-//! line for each answer, the history that the stripe keeps, and whether that history is legal. It is
-//! proved to print exactly the lines of the answers, and that the last line is `legal yes`.
+//! line for each answer, the history that the stripe keeps, and whether that history is legal. What
+//! it prints is proved to be the lines of the answers, with `legal yes` as the last line.
 #![tactic(auto)]
 
 use crate::program::run_script;

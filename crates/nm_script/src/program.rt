@@ -19,7 +19,8 @@ fn read_script<R: Read>(alloc: Global, input: &mut R) -> Result<Script, Stop>
     ensures ok { IfOk result (λ script. ReadsScript (R.remaining input.old) (R.remaining input.new)
         script.mirror script.steps.items) }
     ensures range { IfOk result (λ script. InRange script.mirror) }
-    ensures inside { IfOk result (λ script. AllByRecursion (IsInside script.mirror) script.steps.items) }
+    ensures inside { IfOk result (λ script.
+        AllByRecursion (IsInside script.mirror) script.steps.items) }
     ensures cause { IfErr result (CannotRead (R.remaining input.old) (R.remaining input.new)) }
 {
     let text = read_all(alloc, input)?;
@@ -38,7 +39,8 @@ fn script<R: Read, W: Write>(alloc: Global, input: &mut R, out: &mut W) -> Resul
 
 /// Says what stopped a script.
 fn say<E: Write>(err: &mut E, stop: Stop) -> Result<(), Unwritten>
-    ensures ok { OnOk result (Appends (E.contents err.old) (E.contents err.new) (printed_stop stop)) }
+    ensures ok { OnOk result (Appends (E.contents err.old) (E.contents err.new)
+        (printed_stop stop)) }
     ensures err { OnErr result (AppendsFront (E.contents err.old) (E.contents err.new)
         (printed_stop stop)) }
 {
@@ -65,8 +67,8 @@ fn say_line<E: Write>(err: &mut E, line: u64) -> Result<(), Unwritten>
 
 /// Runs the script that `input` holds, and returns the exit status.
 ///
-/// A line for each step goes to `out`, and then the history of the mirror. The status is 0, or it is
-/// that of what stopped the script, and `err` then gets one line: 2 for `line N: bad step`, 3 for
+/// A line for each step goes to `out`, and then the history of the mirror. The status is 0, or it
+/// is that of what stopped the script, and `err` then gets one line: 2 for `line N: bad step`, 3 for
 /// `no memory`, and 4 for `cannot read` and `cannot write`. The input may have 2^24 bytes, and has
 /// to end within 2^24 + 1 reads.
 pub fn run_script<R: Read, W: Write, E: Write>(

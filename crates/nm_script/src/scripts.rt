@@ -137,7 +137,8 @@ struct Spoken<'a> {
 
 /// The first line of a text that speaks, and what is left behind it.
 fn first_spoken(text: &[u8]) -> Option<Spoken<'_>>
-    ensures found { option_map (λ s. (s.number, s.line.now, parts_left 10 (option_copied s.behind))) result
+    ensures found { option_map
+        (λ s. (s.number, s.line.now, parts_left 10 (option_copied s.behind))) result
         ≡ spoken_from 1 (parts 10 text.now) }
     ensures room { IfSome result (λ s. s.number + bytes_left (option_copied s.behind)
         ≤ length text.now + 1) }
@@ -190,8 +191,8 @@ pub fn parse(alloc: Global, text: &[u8]) -> Result<Script, Unread>
     // What is read is what the text says.
     ensures parsed { IfOk result (λ s. IsScript text.now s.mirror s.steps.items) }
     // What the text says is read, unless memory runs out.
-    ensures script { (m : Mirror) (steps : List Step) → IsScript text.now m steps → MatchResult result
-        (λ s. (s.mirror ≡ m) × (s.steps.items ≡ steps)) (λ e. e ≡ Memory) }
+    ensures script { (m : Mirror) (steps : List Step) → IsScript text.now m steps
+        → MatchResult result (λ s. (s.mirror ≡ m) × (s.steps.items ≡ steps)) (λ e. e ≡ Memory) }
     ensures range { IfOk result (λ s. InRange s.mirror) }
     ensures inside { IfOk result (λ s. AllByRecursion (IsInside s.mirror) s.steps.items) }
     ensures named { (n : ℕ) → IsErrOf result (BadStep n) → NamesLine text.now n }

@@ -36,7 +36,8 @@ pub struct Unwritten;
 
 /// Reads an input to its end.
 pub fn read_all<R: Read>(alloc: Global, input: &mut R) -> Result<Vec<u8>, Unheard>
-    ensures { IfOk result (λ text. ReadsAll (R.remaining input.old) (R.remaining input.new) text.items) }
+    ensures { IfOk result (λ text.
+        ReadsAll (R.remaining input.old) (R.remaining input.new) text.items) }
 {
     let mut text = Vec::new(alloc);
     let mut room = [0u8; 8192];

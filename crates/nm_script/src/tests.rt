@@ -33,7 +33,8 @@ const SCRIPTS: [(&[u8], &[u8]); 7] = [
     (b"mirror 1 1 1 1 rr 0\n", b"history 0 of 0\nlegal yes\n"),
     // The largest number of an entry.
     (
-        b"mirror 1 8 4 2 rr 9223372036854775807\nbegin 0 aa\nbegin 1 bb\nread 0\npush 0 0\nclaim 0\n",
+        b"mirror 1 8 4 2 rr 9223372036854775807\nbegin 0 aa\nbegin 1 bb\nread 0\npush 0 0\n\
+          claim 0\n",
         b"begun 0\nrefused 6 Exhausted\nrefused 6 Exhausted\n\
           complete 9223372036854775807\nwritten 9223372036854775807\n\
           history 1 of 1\n9223372036854775807 write 0 0 aa\nlegal yes\n",

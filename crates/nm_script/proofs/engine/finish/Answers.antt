@@ -6,38 +6,55 @@ use Rattle.nm_script.proofs.engine.finish.Goals as goal
 
 pub returns-in_err-send-clause-err : goal.returns-in_err-send-clause-err
 returns-in_err-send-clause-err g c =
-    on_err _ _ (front_longer _ _ c.args.gathered.now.items _ (rw c.deref.ensures.value at c.in_err-send.ensures.err))
+    on_err _ _ (front_longer _ _ c.args.gathered.now.items _
+    (rw c.deref.ensures.value at c.in_err-send.ensures.err))
 
 pub returns-in_err-entries-clause-err : goal.returns-in_err-entries-clause-err
 returns-in_err-entries-clause-err g c =
-    on_err _ _ (front_longer _ _ c.args.gathered.now.items _ (front_whole _ _ _ (rw c.deref.ensures.value at c.in_ok-send.ensures.ok)))
+    on_err _ _ (front_longer _ _ c.args.gathered.now.items _
+    (front_whole _ _ _ (rw c.deref.ensures.value at c.in_ok-send.ensures.ok)))
 
 pub returns-in_err-put_history-clause-err : goal.returns-in_err-put_history-clause-err
 returns-in_err-put_history-clause-err g c =
     let copied : Copied c.args.stripe.now c.deref-2.result.now c.total.result = record {
       entries_are = c.deref-2.ensures.value ∙ c.in_ok-entries.ensures.ok;
       total_is = c.total.ensures;
-      consistent = rw (c.deref-2.ensures.value, c.in_ok-entries.ensures.ok) (c.is_stopped.ensures.sound.consistent refl);
+      consistent = rw (
+        c.deref-2.ensures.value,
+        c.in_ok-entries.ensures.ok,
+      ) (c.is_stopped.ensures.sound.consistent refl);
     } in
-    on_err _ _ (front_finished c.args.stripe.now c.deref-2.result.now c.total.result _ _ _ c.args.gathered.now.items c.clear.new.self.items
-    (rw c.deref.ensures.value at c.in_ok-send.ensures.ok) copied c.clear.ensures.items c.in_err-put_history.ensures.err)
+    on_err _ _ (front_finished c.args.stripe.now c.deref-2.result.now c.total.result _ _ _
+    c.args.gathered.now.items c.clear.new.self.items
+    (rw c.deref.ensures.value at c.in_ok-send.ensures.ok) copied c.clear.ensures.items
+    c.in_err-put_history.ensures.err)
 
 pub returns-then-is_err-clause-err : goal.returns-then-is_err-clause-err
 returns-then-is_err-clause-err g c =
     let copied : Copied c.args.stripe.now c.deref-2.result.now c.total.result = record {
       entries_are = c.deref-2.ensures.value ∙ c.in_ok-entries.ensures.ok;
       total_is = c.total.ensures;
-      consistent = rw (c.deref-2.ensures.value, c.in_ok-entries.ensures.ok) (c.is_stopped.ensures.sound.consistent refl);
+      consistent = rw (
+        c.deref-2.ensures.value,
+        c.in_ok-entries.ensures.ok,
+      ) (c.is_stopped.ensures.sound.consistent refl);
     } in
-    front_whole _ _ _ (whole_finished c.args.stripe.now c.deref-2.result.now c.total.result _ _ _ _ c.args.gathered.now.items c.clear.new.self.items
-    (rw c.deref.ensures.value at c.in_ok-send.ensures.ok) copied c.clear.ensures.items c.in_ok-put_history.ensures.ok c.flush.ensures.bytes)
+    front_whole _ _ _ (whole_finished c.args.stripe.now c.deref-2.result.now c.total.result _ _ _ _
+    c.args.gathered.now.items c.clear.new.self.items
+    (rw c.deref.ensures.value at c.in_ok-send.ensures.ok) copied c.clear.ensures.items
+    c.in_ok-put_history.ensures.ok c.flush.ensures.bytes)
 
 pub returns-clause-ok : goal.returns-clause-ok
 returns-clause-ok g c =
     let copied : Copied c.args.stripe.now c.deref-2.result.now c.total.result = record {
       entries_are = c.deref-2.ensures.value ∙ c.in_ok-entries.ensures.ok;
       total_is = c.total.ensures;
-      consistent = rw (c.deref-2.ensures.value, c.in_ok-entries.ensures.ok) (c.is_stopped.ensures.sound.consistent refl);
+      consistent = rw (
+        c.deref-2.ensures.value,
+        c.in_ok-entries.ensures.ok,
+      ) (c.is_stopped.ensures.sound.consistent refl);
     } in
-    whole_finished c.args.stripe.now c.deref-2.result.now c.total.result _ _ _ _ c.args.gathered.now.items c.clear.new.self.items
-    (rw c.deref.ensures.value at c.in_ok-send.ensures.ok) copied c.clear.ensures.items c.in_ok-put_history.ensures.ok c.flush.ensures.bytes
+    whole_finished c.args.stripe.now c.deref-2.result.now c.total.result _ _ _ _
+    c.args.gathered.now.items c.clear.new.self.items
+    (rw c.deref.ensures.value at c.in_ok-send.ensures.ok) copied c.clear.ensures.items
+    c.in_ok-put_history.ensures.ok c.flush.ensures.bytes

@@ -15,24 +15,30 @@ pub returns-in_err-put_entry-clause-err : goal.returns-in_err-put_entry-clause-e
 returns-in_err-put_entry-clause-err g c =
     let i = c.loop-entry.entry-index in
     let entries = c.args.entries.now in
-    on_err _ _ (items_front printed_entry _ _ _ entries (take i entries) (drop i entries) (sym (take-append-drop i entries))
+    on_err _ _ (items_front printed_entry _ _ _ entries (take i entries) (drop i entries)
+    (sym (take-append-drop i entries))
     (front_passed _ _ _ _ c.loop-entry.invariant))
 
 pub returns-in_err-pass_on-clause-err : goal.returns-in_err-pass_on-clause-err
 returns-in_err-pass_on-clause-err g c =
     let i = c.loop-entry.entry-index in
     let entries = c.args.entries.now in
-    let more : take (i + 1) entries ≡ take i entries ++ get_or entries i past ∷ [] = take_more entries i past (omega arith) in
+    let more : take (i + 1) entries ≡
+    take i entries ++ get_or entries i past ∷ [] = take_more entries i past (omega arith) in
     let split : entries ≡ (take i entries ++ get_or entries i past ∷ []) ++ drop (i + 1) entries =
     sym (take-append-drop (i + 1) entries) ∙ ap (λ r. r ++ drop (i + 1) entries) more in
-    on_err _ _ (items_front printed_entry _ _ _ entries (take i entries ++ get_or entries i past ∷ []) (drop (i + 1) entries) split
-    (items_front_more printed_entry _ _ _ _ _ (take i entries) (get_or entries i past) c.loop-entry.invariant
+    on_err _ _ (items_front printed_entry _ _ _ entries
+    (take i entries ++ get_or entries i past ∷ []) (drop (i + 1) entries) split
+    (items_front_more printed_entry _ _ _ _ _ (take i entries) (get_or entries i past)
+    c.loop-entry.invariant
     (rw c.in_ok-put_entry.ensures at c.in_err-pass_on.ensures.err)))
 
 pub loop-entry-preserved : goal.loop-entry-preserved
 loop-entry-preserved g c =
     let i = c.loop-entry.entry-index in
     let entries = c.args.entries.now in
-    let more : take (i + 1) entries ≡ take i entries ++ get_or entries i past ∷ [] = take_more entries i past (omega arith) in
-    rw more (items_more printed_entry _ _ _ _ _ _ (take i entries) (get_or entries i past) c.loop-entry.invariant
+    let more : take (i + 1) entries ≡
+    take i entries ++ get_or entries i past ∷ [] = take_more entries i past (omega arith) in
+    rw more (items_more printed_entry _ _ _ _ _ _ (take i entries) (get_or entries i past)
+    c.loop-entry.invariant
     (rw c.in_ok-put_entry.ensures at c.in_ok-pass_on.ensures.ok))

@@ -6,4 +6,5 @@ use Rattle.nm_script.proofs.engine.put_entries.Given as goal
 
 abbrev pub invariant-loop-entry : goal.invariant-loop-entry
 invariant-loop-entry g l = PassesOn (g.W.Write.contents l.initial.out) (g.W.Write.contents l.out)
-    (l.initial.gathered.items ++ flat_map printed_entry (take l.entry-index l.entries)) l.gathered.items
+    (l.initial.gathered.items ++ flat_map printed_entry (take l.entry-index l.entries))
+    l.gathered.items

@@ -14,25 +14,33 @@ returns-in_err-put_counts-clause-err g c =
 pub returns-in_err-put_entries-clause-err : goal.returns-in_err-put_entries-clause-err
 returns-in_err-put_entries-clause-err g c =
     on_err _ _ (front_of_entries c.args.entries.now c.args.total _ _
-    c.args.gathered.now.items c.put_counts.new.text.items c.in_ok-put_counts.ensures c.in_err-put_entries.ensures.err)
+    c.args.gathered.now.items c.put_counts.new.text.items c.in_ok-put_counts.ensures
+    c.in_err-put_entries.ensures.err)
 
 pub returns-in_err-put_legal-clause-err : goal.returns-in_err-put_legal-clause-err
 returns-in_err-put_legal-clause-err g c =
     on_err _ _ (front_of_entries c.args.entries.now c.args.total _ _
-    c.args.gathered.now.items c.put_counts.new.text.items c.in_ok-put_counts.ensures (front_passed _ _ _ _ c.in_ok-put_entries.ensures.ok))
+    c.args.gathered.now.items c.put_counts.new.text.items c.in_ok-put_counts.ensures
+    (front_passed _ _ _ _ c.in_ok-put_entries.ensures.ok))
 
 pub returns-in_err-send-clause-err : goal.returns-in_err-send-clause-err
 returns-in_err-send-clause-err g c =
     let gathered = gathers_all c.args.entries.now c.args.total c.in_ok-is_legal.is_legal _ _
-    c.args.gathered.now.items c.put_counts.new.text.items c.put_entries.new.gathered.items c.put_legal.new.text.items
+    c.args.gathered.now.items c.put_counts.new.text.items c.put_entries.new.gathered.items
+    c.put_legal.new.text.items
     c.in_ok-put_counts.ensures c.in_ok-put_entries.ensures.ok c.in_ok-put_legal.ensures in
-    on_err _ _ (front_of_all c.args.entries.now c.args.total c.in_ok-is_legal.is_legal c.in_ok-is_legal.ensures _ _ _
-    c.args.gathered.now.items c.put_legal.new.text.items gathered (rw c.deref.ensures.value at c.in_err-send.ensures.err))
+    on_err _ _ (front_of_all c.args.entries.now c.args.total c.in_ok-is_legal.is_legal
+    c.in_ok-is_legal.ensures _ _ _
+    c.args.gathered.now.items c.put_legal.new.text.items gathered
+    (rw c.deref.ensures.value at c.in_err-send.ensures.err))
 
 pub returns-clause-ok : goal.returns-clause-ok
 returns-clause-ok g c =
     let gathered = gathers_all c.args.entries.now c.args.total c.in_ok-is_legal.is_legal _ _
-    c.args.gathered.now.items c.put_counts.new.text.items c.put_entries.new.gathered.items c.put_legal.new.text.items
+    c.args.gathered.now.items c.put_counts.new.text.items c.put_entries.new.gathered.items
+    c.put_legal.new.text.items
     c.in_ok-put_counts.ensures c.in_ok-put_entries.ensures.ok c.in_ok-put_legal.ensures in
-    whole_history c.args.entries.now c.args.total c.in_ok-is_legal.is_legal c.in_ok-is_legal.ensures _ _ _
-    c.args.gathered.now.items c.put_legal.new.text.items gathered (rw c.deref.ensures.value at c.in_ok-send.ensures.ok)
+    whole_history c.args.entries.now c.args.total c.in_ok-is_legal.is_legal c.in_ok-is_legal.ensures
+    _ _ _
+    c.args.gathered.now.items c.put_legal.new.text.items gathered
+    (rw c.deref.ensures.value at c.in_ok-send.ensures.ok)

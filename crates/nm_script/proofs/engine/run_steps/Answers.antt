@@ -11,35 +11,46 @@ pub step-requires : goal.step-requires
 step-requires g c =
     let i = c.loop-asked.asked-index in
     let steps = c.args.steps.now in
-    still_takes c.args.stripe.now c.loop-asked.stripe (get_or steps i (Begin 0 0)) c.loop-asked.invariant.shape
+    still_takes c.args.stripe.now c.loop-asked.stripe (get_or steps i (Begin
+    0 0)) c.loop-asked.invariant.shape
     (at_place (CanTake c.args.stripe.now) steps i (Begin 0 0) (omega arith) c.requires)
 
 pub returns-in_err-outcome-clause-err : goal.returns-in_err-outcome-clause-err
 returns-in_err-outcome-clause-err g c =
     let i = c.loop-asked.asked-index in
     let steps = c.args.steps.now in
-    on_err _ _ (front_before (take i steps) (drop i steps) steps _ _ _ _ _ _ (sym (take-append-drop i steps)) c.loop-asked.invariant)
+    on_err _ _ (front_before (take i steps) (drop i steps) steps _ _ _ _ _ _
+    (sym (take-append-drop i steps)) c.loop-asked.invariant)
 
 pub returns-in_err-put_outcome-clause-err : goal.returns-in_err-put_outcome-clause-err
 returns-in_err-put_outcome-clause-err g c =
     let i = c.loop-asked.asked-index in
     let steps = c.args.steps.now in
-    on_err _ _ (front_before (take i steps) (drop i steps) steps _ _ _ _ _ _ (sym (take-append-drop i steps)) c.loop-asked.invariant)
+    on_err _ _ (front_before (take i steps) (drop i steps) steps _ _ _ _ _ _
+    (sym (take-append-drop i steps)) c.loop-asked.invariant)
 
 pub returns-in_err-pass_on-clause-err : goal.returns-in_err-pass_on-clause-err
 returns-in_err-pass_on-clause-err g c =
     let i = c.loop-asked.asked-index in
     let steps = c.args.steps.now in
-    let more : take (i + 1) steps ≡ take i steps ++ get_or steps i (Begin 0 0) ∷ [] = take_more steps i (Begin 0 0) (omega arith) in
+    let more : take (i + 1) steps ≡
+    take i steps ++ get_or steps i (Begin 0 0) ∷ [] = take_more steps i (Begin
+    0 0) (omega arith) in
     let split : steps ≡ (take i steps ++ get_or steps i (Begin 0 0) ∷ []) ++ drop (i + 1) steps =
     sym (take-append-drop (i + 1) steps) ∙ ap (λ r. r ++ drop (i + 1) steps) more in
-    on_err _ _ (front_behind (take i steps) (drop (i + 1) steps) steps _ _ _ (get_or steps i (Begin 0 0)) c.in_ok-outcome.outcome _ _ _ _ _
-    split c.loop-asked.invariant c.in_ok-outcome.ensures.ok (rw c.in_ok-put_outcome.ensures at c.in_err-pass_on.ensures.err))
+    on_err _ _ (front_behind (take i steps) (drop (i + 1) steps) steps _ _ _ (get_or steps i (Begin
+    0 0)) c.in_ok-outcome.outcome _ _ _ _ _
+    split c.loop-asked.invariant c.in_ok-outcome.ensures.ok
+    (rw c.in_ok-put_outcome.ensures at c.in_err-pass_on.ensures.err))
 
 pub loop-asked-preserved : goal.loop-asked-preserved
 loop-asked-preserved g c =
     let i = c.loop-asked.asked-index in
     let steps = c.args.steps.now in
-    let more : take (i + 1) steps ≡ take i steps ++ get_or steps i (Begin 0 0) ∷ [] = take_more steps i (Begin 0 0) (omega arith) in
-    rw more (steps_more (take i steps) _ _ _ (get_or steps i (Begin 0 0)) c.in_ok-outcome.outcome _ _ _ _ _ _
-    c.loop-asked.invariant c.in_ok-outcome.ensures.ok c.step.ensures.shape (rw c.in_ok-put_outcome.ensures at c.in_ok-pass_on.ensures.ok))
+    let more : take (i + 1) steps ≡
+    take i steps ++ get_or steps i (Begin 0 0) ∷ [] = take_more steps i (Begin
+    0 0) (omega arith) in
+    rw more (steps_more (take i steps) _ _ _ (get_or steps i (Begin
+    0 0)) c.in_ok-outcome.outcome _ _ _ _ _ _
+    c.loop-asked.invariant c.in_ok-outcome.ensures.ok c.step.ensures.shape
+    (rw c.in_ok-put_outcome.ensures at c.in_ok-pass_on.ensures.ok))

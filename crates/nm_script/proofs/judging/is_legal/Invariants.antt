@@ -7,5 +7,6 @@ abbrev pub invariant-loop-index : goal.invariant-loop-index
 invariant-loop-index l = record {
   consistent : Consistent (take l.index l.entries);
   within : (b : ℕ) → get_or l.places.items b 0 ≤ l.index;
-  last : (b : ℕ) → b < length l.places.items → last_on b (take l.index l.entries) ≡ bytes_at (get_or l.places.items b 0) l.entries;
+  last : (b : ℕ) → b < length l.places.items →
+      last_on b (take l.index l.entries) ≡ bytes_at (get_or l.places.items b 0) l.entries;
 }

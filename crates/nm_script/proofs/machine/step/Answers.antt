@@ -2,7 +2,8 @@ use Rattle.nm_script.proofs.Shapes.{may_be_asked, step_shape}
 use Rattle.nm_script.proofs.machine.step.Goals as goal
 
 pub step-answer-requires : goal.step-answer-requires
-step-answer-requires c = rw c.in_ok-asked.ensures (may_be_asked c.args.stripe.now c.args.step c.requires)
+step-answer-requires c = rw c.in_ok-asked.ensures
+    (may_be_asked c.args.stripe.now c.args.step c.requires)
 
 pub returns-clause-shape : goal.returns-clause-shape
 returns-clause-shape c =

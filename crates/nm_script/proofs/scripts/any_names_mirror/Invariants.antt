@@ -6,7 +6,8 @@ use Rattle.nm_script.specs.ScriptReading.{names_mirror}
 use Rattle.nm_script.proofs.scripts.any_names_mirror.Given as goal
 
 abbrev pub invariant-loop-rest : goal.invariant-loop-rest
-invariant-loop-rest l = list_any names_mirror (parts_left 10 (option_copied l.rest)) ≡ list_any names_mirror (parts 10 l.text)
+invariant-loop-rest l = list_any names_mirror (parts_left 10 (option_copied l.rest)) ≡
+    list_any names_mirror (parts 10 l.text)
 
 abbrev pub decreases-loop-rest : goal.decreases-loop-rest
 decreases-loop-rest l = bytes_left (option_copied l.rest)

@@ -8,7 +8,8 @@ use Rattle.nm_script.proofs.scripts.first_not_utf8.Given as goal
 abbrev pub invariant-loop-rest : goal.invariant-loop-rest
 invariant-loop-rest l = record {
   room : l.number + bytes_left (option_copied l.rest) ≤ length l.text + 2;
-  same : first_where (λ line. not (is_utf8 line)) l.number (parts_left 10 (option_copied l.rest)) ≡ first_where (λ line. not (is_utf8 line)) 1 (parts 10 l.text);
+  same : first_where (λ line. not (is_utf8 line)) l.number (parts_left 10 (option_copied l.rest)) ≡
+      first_where (λ line. not (is_utf8 line)) 1 (parts 10 l.text);
 }
 
 abbrev pub decreases-loop-rest : goal.decreases-loop-rest
