@@ -8,7 +8,7 @@ help:
 	@echo 'make run        build nm_script and run it on the example script'
 	@echo 'make check      the whole gate: every proof from nothing, every must-fail edit, every test'
 	@echo 'make must-fail  the must-fail edits alone'
-	@echo 'make fail-alloc each allocation of the tests failing in turn (long; no part of the gate)'
+	@echo 'make fail-alloc the first twelve allocations of the tests failing in turn (no part of the gate)'
 	@echo 'make bench      the stripe and the requests, timed beside plain Rust (about 13 minutes)'
 	@echo 'make fmt        lay out every crate'
 
