@@ -1,0 +1,2 @@
+//! Tests of the storage crates through their public surface: what no clause of theirs says.
+#![tactic(auto)]

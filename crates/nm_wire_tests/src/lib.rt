@@ -1,0 +1,2 @@
+//! Tests of the wire's crates through their public surface: what no clause of theirs says.
+#![tactic(auto)]
