@@ -1,6 +1,9 @@
 pub mod Command
 pub mod Export
+pub mod InfoKind
 pub mod Layout
 pub mod Number
 pub mod OptionKind
 pub mod ReplyKind
+pub mod Sizes
+pub mod WireFault

@@ -6,6 +6,10 @@ use Rattle.std.specs.Int.{bytes_high_first}
 unfoldable pub be : ℕ → ℕ → List ℕ
 be width number = bytes_high_first width number
 
+-- "NBDMAGIC", which begins the greeting ("Newstyle negotiation")
+abbrev pub greeting_magic : ℕ
+greeting_magic = 0x4e42444d41474943
+
 -- "IHAVEOPT", which begins each option that the client asks for ("Fixed newstyle negotiation")
 abbrev pub option_magic : ℕ
 option_magic = 0x49484156454f5054

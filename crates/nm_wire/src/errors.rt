@@ -6,7 +6,7 @@ pub const EPERM: u32 = 1;
 /// Input or output failed.
 pub const EIO: u32 = 5;
 
-/// No memory was to be had.
+/// Out of memory.
 pub const ENOMEM: u32 = 12;
 
 /// The request is not valid.

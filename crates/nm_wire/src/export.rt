@@ -3,6 +3,7 @@ ghost use Rattle.std.specs.Prelude.{◌≤◌, ◌^◌, length};
 use crate::export_flags::ExportFlags;
 use crate::name::Name;
 use bitflags::Flags;
+use std::alloc::AllocError;
 
 /// The one disk that is served.
 #[derive(Debug, Drop)]
@@ -43,5 +44,19 @@ impl Export {
                 .union(ExportFlags::SEND_TRIM)
                 .union(ExportFlags::SEND_WRITE_ZEROES)
         }
+    }
+}
+
+impl Clone for Export {
+    ghost use Rattle.std.specs.Prelude.{◌≡◌};
+
+    ghost is_clone = { λ export copy. copy ≡ export };
+
+    fn clone(&self) -> Result<Export, AllocError> {
+        Ok(Export {
+            name: self.name.clone()?,
+            blocks: self.blocks,
+            read_only: self.read_only,
+        })
     }
 }

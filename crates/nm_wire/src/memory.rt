@@ -1,14 +1,18 @@
+ghost use Rattle.std.specs.Prelude.{Some, codes};
+
 use std::alloc::AllocError;
 use std::error::Error;
 use std::fmt;
 
-/// A growth of memory was refused.
+/// Out of memory: an allocation failed.
 #[derive(Clone, Copy, Debug, PartialEq, Eq, Hash)]
 pub struct Memory;
 
 impl fmt::Display for Memory {
+    ghost output = { λ _. Some (codes "out of memory") };
+
     fn fmt<W: fmt::Write>(&self, f: &mut fmt::Formatter<W>) -> fmt::Result {
-        f.write_str("no memory")
+        f.write_str("out of memory")
     }
 }
 

@@ -1,5 +1,6 @@
 ghost use Rattle.std.specs.Prelude.{◌≡◌, ℕ, List};
 
+use std::alloc::AllocError;
 use std::marker::Model;
 
 /// The bytes of an export's name, which need not be UTF-8. Contracts see them as a list.
@@ -35,5 +36,14 @@ impl Name {
     {
         let Name { bytes } = self;
         bytes
+    }
+}
+
+impl Clone for Name {
+    ghost is_clone = { λ name copy. copy ≡ name };
+
+    fn clone(&self) -> Result<Name, AllocError> {
+        let bytes = self.bytes.clone()?;
+        Ok(Name { bytes })
     }
 }

@@ -1,14 +1,13 @@
-ghost use Rattle.std.specs.Prelude.{◌≡◌, ◌≢◌, ◌↔◌, ◌≤◌, ◌<◌, ℕ, List, ◌++◌, length, take, drop, IfOk};
+ghost use Rattle.std.specs.Prelude.{◌≡◌, ◌≢◌, ◌↔◌, ◌≤◌, ◌<◌, ℕ, List, ◌++◌};
+ghost use Rattle.std.specs.Prelude.{length, take, drop, IfOk};
 ghost use Rattle.nm_wire.specs.Number.{be, option_magic};
 ghost use Rattle.nm_wire.specs.Layout.{FitsOptionHead, option_head_bytes};
 
-use crate::fault::WireFault;
+use crate::magic::OPTION_MAGIC;
 use crate::number::{get_u32, get_u64, put_u32, put_u64};
+use crate::wire_fault::WireFault;
 
-// "IHAVEOPT"
-const OPTION_MAGIC: u64 = 0x4948_4156_454f_5054;
-
-/// The head of an option that the client asks for ("Fixed newstyle negotiation").
+/// The header of an option that the client asks for ("Fixed newstyle negotiation").
 #[derive(Clone, Copy, Debug, PartialEq, Eq)]
 pub struct OptionHead {
     /// The option's number, known or not.
@@ -18,7 +17,10 @@ pub struct OptionHead {
 }
 
 impl OptionHead {
-    /// Writes the head's 16 bytes.
+    /// How many bytes the header has.
+    pub const BYTES: usize = 16;
+
+    /// Writes the header's 16 bytes.
     pub fn put(&self, bytes: &mut [u8; 16])
         ensures { bytes.new ≡ option_head_bytes self.now }
     {
@@ -27,7 +29,7 @@ impl OptionHead {
         put_u32(bytes, 12, self.length);
     }
 
-    /// The head that begins the bytes, whatever follows it.
+    /// The header that the bytes begin with, whatever follows it.
     pub fn get(bytes: &[u8]) -> Result<OptionHead, WireFault>
         ensures ok { IfOk result
             (λ head. bytes.now ≡ option_head_bytes head ++ drop 16 bytes.now) }

@@ -1,13 +1,13 @@
-ghost use Rattle.std.specs.Prelude.{◌≡◌, ◌≢◌, ◌↔◌, ◌≤◌, ◌<◌, ℕ, List, ◌++◌, length, take, drop, IfOk};
+ghost use Rattle.std.specs.Prelude.{◌≡◌, ◌≢◌, ◌↔◌, ◌≤◌, ◌<◌, ℕ, List, ◌++◌};
+ghost use Rattle.std.specs.Prelude.{length, take, drop, IfOk};
 ghost use Rattle.nm_wire.specs.Number.{be, option_reply_magic};
 ghost use Rattle.nm_wire.specs.Layout.{FitsOptionReply, option_reply_bytes};
 
-use crate::fault::WireFault;
+use crate::magic::OPTION_REPLY_MAGIC;
 use crate::number::{get_u32, get_u64, put_u32, put_u64};
+use crate::wire_fault::WireFault;
 
-const OPTION_REPLY_MAGIC: u64 = 0x0003_e889_0455_65a9;
-
-/// The head of a reply to an option ("Fixed newstyle negotiation").
+/// The header of a reply to an option ("Fixed newstyle negotiation").
 #[derive(Clone, Copy, Debug, PartialEq, Eq)]
 pub struct OptionReply {
     /// The option's number as it was asked.
@@ -19,7 +19,10 @@ pub struct OptionReply {
 }
 
 impl OptionReply {
-    /// Writes the head's 20 bytes.
+    /// How many bytes the header has.
+    pub const BYTES: usize = 20;
+
+    /// Writes the header's 20 bytes.
     pub fn put(&self, bytes: &mut [u8; 20])
         ensures { bytes.new ≡ option_reply_bytes self.now }
     {
@@ -29,7 +32,7 @@ impl OptionReply {
         put_u32(bytes, 16, self.length);
     }
 
-    /// The head that begins the bytes, whatever follows it.
+    /// The header that the bytes begin with, whatever follows it.
     pub fn get(bytes: &[u8]) -> Result<OptionReply, WireFault>
         ensures ok { IfOk result
             (λ reply. bytes.now ≡ option_reply_bytes reply ++ drop 20 bytes.now) }

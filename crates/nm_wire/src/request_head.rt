@@ -1,14 +1,14 @@
-ghost use Rattle.std.specs.Prelude.{◌≡◌, ◌≢◌, ◌↔◌, ◌≤◌, ◌<◌, ℕ, List, ◌++◌, length, take, drop, IfOk};
+ghost use Rattle.std.specs.Prelude.{◌≡◌, ◌≢◌, ◌↔◌, ◌≤◌, ◌<◌, ℕ, List, ◌++◌};
+ghost use Rattle.std.specs.Prelude.{length, take, drop, IfOk};
 ghost use Rattle.nm_wire.specs.Number.{be, request_magic};
 ghost use Rattle.nm_wire.specs.Layout.{FitsRequestHead, request_head_bytes};
 
 use crate::command_flags::CommandFlags;
-use crate::fault::WireFault;
+use crate::magic::REQUEST_MAGIC;
 use crate::number::{get_u16, get_u32, get_u64, put_u16, put_u32, put_u64};
+use crate::wire_fault::WireFault;
 
-const REQUEST_MAGIC: u32 = 0x2560_9513;
-
-/// The head of a request ("Request message").
+/// The header of a request ("Request message").
 #[derive(Clone, Copy, Debug, PartialEq, Eq)]
 pub struct RequestHead {
     /// The command flags, every bit as sent.
@@ -24,7 +24,10 @@ pub struct RequestHead {
 }
 
 impl RequestHead {
-    /// Writes the head's 28 bytes.
+    /// How many bytes the header has.
+    pub const BYTES: usize = 28;
+
+    /// Writes the header's 28 bytes.
     pub fn put(&self, bytes: &mut [u8; 28])
         ensures { bytes.new ≡ request_head_bytes self.now }
     {
@@ -36,7 +39,7 @@ impl RequestHead {
         put_u32(bytes, 24, self.length);
     }
 
-    /// The head that begins the bytes, whatever follows it.
+    /// The header that the bytes begin with, whatever follows it.
     pub fn get(bytes: &[u8]) -> Result<RequestHead, WireFault>
         ensures ok { IfOk result
             (λ head. bytes.now ≡ request_head_bytes head ++ drop 28 bytes.now) }

@@ -1,13 +1,13 @@
-ghost use Rattle.std.specs.Prelude.{◌≡◌, ◌≢◌, ◌↔◌, ◌≤◌, ◌<◌, ℕ, List, ◌++◌, length, take, drop, IfOk};
+ghost use Rattle.std.specs.Prelude.{◌≡◌, ◌≢◌, ◌↔◌, ◌≤◌, ◌<◌, ℕ, List, ◌++◌};
+ghost use Rattle.std.specs.Prelude.{length, take, drop, IfOk};
 ghost use Rattle.nm_wire.specs.Number.{be, simple_reply_magic};
 ghost use Rattle.nm_wire.specs.Layout.{FitsSimpleReply, simple_reply_bytes};
 
-use crate::fault::WireFault;
+use crate::magic::SIMPLE_REPLY_MAGIC;
 use crate::number::{get_u32, get_u64, put_u32, put_u64};
+use crate::wire_fault::WireFault;
 
-const SIMPLE_REPLY_MAGIC: u32 = 0x6744_6698;
-
-/// The head of a simple reply ("Simple reply message").
+/// The header of a simple reply ("Simple reply message").
 #[derive(Clone, Copy, Debug, PartialEq, Eq)]
 pub struct SimpleReply {
     /// 0, or why the request was not done.
@@ -17,7 +17,10 @@ pub struct SimpleReply {
 }
 
 impl SimpleReply {
-    /// Writes the head's 16 bytes.
+    /// How many bytes the header has.
+    pub const BYTES: usize = 16;
+
+    /// Writes the header's 16 bytes.
     pub fn put(&self, bytes: &mut [u8; 16])
         ensures { bytes.new ≡ simple_reply_bytes self.now }
     {
@@ -26,7 +29,7 @@ impl SimpleReply {
         put_u64(bytes, 8, self.cookie);
     }
 
-    /// The head that begins the bytes, whatever follows it.
+    /// The header that the bytes begin with, whatever follows it.
     pub fn get(bytes: &[u8]) -> Result<SimpleReply, WireFault>
         ensures ok { IfOk result
             (λ reply. bytes.now ≡ simple_reply_bytes reply ++ drop 16 bytes.now) }

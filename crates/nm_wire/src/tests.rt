@@ -238,10 +238,10 @@ fn export_of_one_mebibyte(rt: HostRuntime) -> Result<(), Fail> {
 #[test]
 fn texts_of_refusals(rt: HostRuntime) -> Result<(), Fail> {
     let short = format!(in rt.alloc(); "{}", WireFault::Short)?;
-    assert_eq!(rt; short.as_str(), "too few bytes for the head");
+    assert_eq!(rt; short.as_str(), "too few bytes for the header");
     let magic = format!(in rt.alloc(); "{}", WireFault::Magic)?;
-    assert_eq!(rt; magic.as_str(), "the head begins with another magic number");
+    assert_eq!(rt; magic.as_str(), "wrong magic number");
     let memory = format!(in rt.alloc(); "{}", Memory)?;
-    assert_eq!(rt; memory.as_str(), "no memory");
+    assert_eq!(rt; memory.as_str(), "out of memory");
     Ok(())
 }
