@@ -2,7 +2,7 @@
 use Rattle.std.proofs.Common.{◌≡◌, ℕ, length}
 use Rattle.std.proofs.lemmas.List.{length-replicate}
 use Rattle.nm_fanout.specs.Data.{zero_block, FillsBlock}
-use Rattle.nm_fanout.specs.declared.payload.Data.TheVariants.{Zero}
+use Rattle.nm_fanout.specs.declared.block_data.Data.TheVariants.{Zero}
 
 pub length-zero_block : length zero_block ≡ 512
 unfolding zero_block

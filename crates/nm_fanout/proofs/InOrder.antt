@@ -1,7 +1,7 @@
 -- The records stay whole and in order under every change.
 use Rattle.std.proofs.Common.{◌≡◌, ℕ, ◌+◌, ◌<◌, ◌≤◌, suc, Bool, true, false, cond, ◌==◌, not, List, [], ◌∷◌, ◌++◌, length, refl, sym, ◌∙◌, subst, arith}
 use Rattle.std.proofs.lemmas.List.{length-set, length_push}
-use Rattle.nm_fanout.specs.declared.write.Record.{Record}
+use Rattle.nm_fanout.specs.declared.write_record.Record.{Record}
 use Rattle.nm_fanout.specs.Record.{IsWhole, without_leg, with_entry}
 use Rattle.nm_fanout.specs.Records.{AreInOrder, Ascends, AllAbove, AllBelow, AllWhole, changed, reached, landed, without, with_new}
 use Rattle.nm_fanout.proofs.Parts.{length-changed}

@@ -1,7 +1,7 @@
 -- How many writes have no entry yet, after each change of the records.
 use Rattle.std.proofs.Common.{◌≡◌, ℕ, ◌+◌, ◌<◌, Bool, true, false, cond, ◌==◌, List, [], ◌∷◌, ◌++◌, Option, None, Some, is_none, refl, ap, ◌∙◌, arith}
 use Rattle.std.proofs.lemmas.List.Sums.{sum_by-append, sum_by-cons, sum_by_push}
-use Rattle.nm_fanout.specs.declared.write.Record.{Record}
+use Rattle.nm_fanout.specs.declared.write_record.Record.{Record}
 use Rattle.nm_fanout.specs.Record.{without_leg, with_entry}
 use Rattle.nm_fanout.specs.Records.{Ascends, find_record, unlanded, changed, reached, landed, without, with_new}
 use Rattle.nm_fanout.proofs.Parts.{parts}

@@ -1,7 +1,7 @@
 -- The records that stand in the list, and the tickets by which they are found.
 use Rattle.std.proofs.Common.{◌≡◌, ◌⊎◌, ℕ, ◌<◌, Bool, true, false, cond, ◌==◌, List, [], ◌∷◌, Some, sym, ap, ◌∙◌, arith, eq-eqb, ne_eqb, inl, inr}
 use Rattle.std.proofs.lemmas.Bool.Decides.{eqb_tells}
-use Rattle.nm_fanout.specs.declared.write.Record.{Record}
+use Rattle.nm_fanout.specs.declared.write_record.Record.{Record}
 use Rattle.nm_fanout.specs.Record.{IsWhole, is_under_way}
 use Rattle.nm_fanout.specs.Records.{Ascends, AllAbove, AllWhole, AreInOrder, OneWriterABlock, find_record, busy_on}
 use Rattle.nm_fanout.proofs.Busy.{holds}

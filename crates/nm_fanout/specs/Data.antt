@@ -1,7 +1,7 @@
 -- What a write puts into its block.
 use Rattle.std.specs.Prelude.{◌≡◌, ℕ, List, length, replicate}
-use Rattle.nm_fanout.specs.declared.payload.Data.{Data}
-use Rattle.nm_fanout.specs.declared.payload.Data.TheVariants.{Cut, Zero}
+use Rattle.nm_fanout.specs.declared.block_data.Data.{Data}
+use Rattle.nm_fanout.specs.declared.block_data.Data.TheVariants.{Cut, Zero}
 
 -- 512 zero bytes
 unfoldable pub zero_block : List ℕ

@@ -1,9 +1,9 @@
 -- The record of one write: which legs it has still to reach.
 use Rattle.std.specs.Prelude.{◌≡◌, ℕ, length, Bool, false, List, Option, None, Some, count_by, position, slice_index_or, slice_set}
 use Rattle.std.specs.List.{list_any}
-use Rattle.nm_fanout.specs.declared.payload.Data.{Data}
+use Rattle.nm_fanout.specs.declared.block_data.Data.{Data}
 use Rattle.nm_fanout.specs.Data.{FillsBlock}
-use Rattle.nm_fanout.specs.declared.write.Record.{Record}
+use Rattle.nm_fanout.specs.declared.write_record.Record.{Record}
 
 -- whether the write has still to reach this leg
 abbrev pub owes : ℕ → Record → Bool

@@ -1,7 +1,7 @@
 -- The records of writes, by rising ticket.
 use Rattle.std.specs.Prelude.{◌≡◌, ℕ, IsTrue, None, ◌<◌, ◌≤◌, ◌&&◌, ◌==◌, not, List, [], ◌∷◌, ◌++◌, length, if◌then◌else◌, Option, find, filter, count_by, is_none}
 use Rattle.std.specs.Option.{option_map, option_and_then}
-use Rattle.nm_fanout.specs.declared.write.Record.{Record}
+use Rattle.nm_fanout.specs.declared.write_record.Record.{Record}
 use Rattle.nm_fanout.specs.Record.{is_under_way, lowest_owed, without_leg, with_entry, IsWhole}
 
 -- the records, and how many more of them fit without memory being taken

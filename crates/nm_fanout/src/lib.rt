@@ -6,12 +6,12 @@
 //! takes memory.
 #![tactic(auto)]
 
-pub use payload::Data;
+pub use block_data::Data;
 pub use records::{MOST_RECORDS, Records};
-pub use write::{LEGS, Record};
+pub use write_record::{LEGS, Record};
 
-mod payload;
+mod block_data;
 mod records;
 #[cfg(test)]
 mod tests;
-mod write;
+mod write_record;

@@ -4,8 +4,8 @@ ghost use Rattle.nm_fanout.specs.Data.{FillsBlock};
 ghost use Rattle.nm_fanout.specs.Record.{begun, is_under_way};
 ghost use Rattle.nm_fanout.specs.Records.{AreInOrder, AllBelow, find_record, busy_on, entry_of, unlanded, next_owed, first_owed, reached, landed, without, with_new};
 
-use crate::payload::Data;
-use crate::write::{LEGS, Record};
+use crate::block_data::Data;
+use crate::write_record::{LEGS, Record};
 use nm_replay::Memory;
 use std::alloc::Global;
 use std::marker::Model;

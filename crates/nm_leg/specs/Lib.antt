@@ -1,3 +1,3 @@
 pub mod Leg
-pub mod Parts
+pub mod LegCalls
 pub mod TestLegs

@@ -40,6 +40,6 @@ pub trait LegPart: Drop {
         ensures { result ≡ (model self.now).faults };
 
     /// Both arrays have one length.
-    ghost same_length: { (part : Self)
-        → length (model part).durable ≡ length (model part).contents };
+    ghost same_length: { (leg : Self)
+        → length (model leg).durable ≡ length (model leg).contents };
 }

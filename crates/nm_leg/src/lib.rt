@@ -6,18 +6,18 @@
 
 pub use cached_leg::CachedLeg;
 pub use failing_leg::FailingLeg;
+pub use leg_calls::{read_leg_at, sync_leg_at, write_leg_at};
 pub use leg_fault::LegFault;
 pub use leg_part::LegPart;
 pub use lying_leg::LyingLeg;
 pub use mem_leg::MemLeg;
-pub use parts::{read_part, sync_part, write_part};
 
 mod cached_leg;
 mod failing_leg;
+mod leg_calls;
 mod leg_fault;
 mod leg_part;
 mod lying_leg;
 mod mem_leg;
-mod parts;
 #[cfg(test)]
 mod tests;

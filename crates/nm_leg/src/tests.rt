@@ -1,5 +1,6 @@
 use crate::{
-    CachedLeg, FailingLeg, LegFault, LegPart, LyingLeg, MemLeg, read_part, sync_part, write_part,
+    CachedLeg, FailingLeg, LegFault, LegPart, LyingLeg, MemLeg, read_leg_at, sync_leg_at,
+    write_leg_at,
 };
 use nm_replay::{Block, Memory};
 use std::process::Abort;
@@ -11,14 +12,14 @@ const TOO_MANY: u64 = 1 << 60;
 // Writes block 1 of the second leg, syncs that leg and reads the block back: which calls succeeded.
 fn write_sync_read<L: LegPart>(
     rt: &impl Abort,
-    parts: &mut [L],
+    legs: &mut [L],
     found: &mut Block,
 ) -> (bool, bool, bool) {
-    assert_eq!(rt; parts.len(), 2);
-    assert!(rt; parts[1].len() > 1);
-    let written = write_part(parts, 1, 1, &[0xaa; 512]).is_ok();
-    let synced = sync_part(parts, 1).is_ok();
-    let read = read_part(parts, 1, 1, found).is_ok();
+    assert_eq!(rt; legs.len(), 2);
+    assert!(rt; legs[1].len() > 1);
+    let written = write_leg_at(legs, 1, 1, &[0xaa; 512]).is_ok();
+    let synced = sync_leg_at(legs, 1).is_ok();
+    let read = read_leg_at(legs, 1, 1, found).is_ok();
     (written, synced, read)
 }
 
@@ -57,15 +58,15 @@ fn memory_that_is_not_there_is_refused(rt: HostRuntime) {
 fn generic_code_calls_an_honest_leg(rt: HostRuntime) -> Result<(), Fail> {
     let alloc = rt.alloc();
     let mut found = Block([9; 512]);
-    let mut parts = vec![in alloc; MemLeg::new(alloc, 3)?, MemLeg::new(alloc, 3)?]?;
+    let mut legs = vec![in alloc; MemLeg::new(alloc, 3)?, MemLeg::new(alloc, 3)?]?;
     assert_eq!(rt;
-        write_sync_read(&rt, &mut parts, &mut found),
+        write_sync_read(&rt, &mut legs, &mut found),
         (true, true, true)
     );
     assert_eq!(rt; found, Block([0xaa; 512]));
-    assert_eq!(rt; parts.len(), 2);
-    assert_eq!(rt; parts[0].len(), 3);
-    assert_eq!(rt; *parts[0].block(1), Block([0; 512]));
+    assert_eq!(rt; legs.len(), 2);
+    assert_eq!(rt; legs[0].len(), 3);
+    assert_eq!(rt; *legs[0].block(1), Block([0; 512]));
     Ok(())
 }
 
@@ -81,9 +82,9 @@ fn a_cached_leg_is_durable_after_a_sync(rt: HostRuntime) -> Result<(), Fail> {
     leg.read(1, &mut found)?;
     assert_eq!(rt; found, Block([0xaa; 512]));
     assert_eq!(rt; leg.faults(), 0);
-    let mut parts = [leg, CachedLeg::new(rt.alloc(), 3)?];
+    let mut legs = [leg, CachedLeg::new(rt.alloc(), 3)?];
     assert_eq!(rt;
-        write_sync_read(&rt, &mut parts, &mut found),
+        write_sync_read(&rt, &mut legs, &mut found),
         (true, true, true)
     );
     Ok(())
@@ -91,27 +92,27 @@ fn a_cached_leg_is_durable_after_a_sync(rt: HostRuntime) -> Result<(), Fail> {
 
 #[test]
 fn generic_code_calls_a_failing_leg(rt: HostRuntime) {
-    let mut parts = [FailingLeg::new(3), FailingLeg::new(3)];
+    let mut legs = [FailingLeg::new(3), FailingLeg::new(3)];
     let mut found = Block([9; 512]);
     assert_eq!(rt;
-        write_sync_read(&rt, &mut parts, &mut found),
+        write_sync_read(&rt, &mut legs, &mut found),
         (false, false, false)
     );
     assert_eq!(rt; found, Block([9; 512]));
-    assert_eq!(rt; parts[0].faults(), 0);
-    assert_eq!(rt; parts[1].faults(), 3);
+    assert_eq!(rt; legs[0].faults(), 0);
+    assert_eq!(rt; legs[1].faults(), 3);
 }
 
 #[test]
 fn generic_code_calls_a_lying_leg(rt: HostRuntime) {
-    let mut parts = [LyingLeg::new(3), LyingLeg::new(3)];
+    let mut legs = [LyingLeg::new(3), LyingLeg::new(3)];
     let mut found = Block([9; 512]);
     assert_eq!(rt;
-        write_sync_read(&rt, &mut parts, &mut found),
+        write_sync_read(&rt, &mut legs, &mut found),
         (true, true, true)
     );
     assert_eq!(rt; found, Block([255; 512]));
-    assert_eq!(rt; parts[1].faults(), 0);
+    assert_eq!(rt; legs[1].faults(), 0);
 }
 
 #[test]

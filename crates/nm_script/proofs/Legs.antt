@@ -22,12 +22,12 @@ found_alike zero a k x h = cc
 found_alike (suc n) a zero x h = sym (same_Some a x h)
 found_alike (suc n) a (suc k) x h = found_alike n a k x h
 
-alike_contents : {L : Type 0} (held : L → Leg) (n : ℕ) (a : L) (leg other : ℕ) → leg < n →
+alike_contents : {L : Type 0} (model : L → Leg) (n : ℕ) (a : L) (leg other : ℕ) → leg < n →
     other < n →
-    contents_of held (replicate n a) leg ≡ contents_of held (replicate n a) other
-alike_contents held n a leg other h k =
-    ap (contents_at held) (get_alike n a leg h) ∙
-    sym (ap (contents_at held) (get_alike n a other k))
+    contents_of model (replicate n a) leg ≡ contents_of model (replicate n a) other
+alike_contents model n a leg other h k =
+    ap (contents_at model) (get_alike n a leg h) ∙
+    sym (ap (contents_at model) (get_alike n a other k))
 
 pub no_legs : (blocks : ℕ) → [] ≡ zero_legs 0 blocks
 unfolding zero_legs
@@ -49,10 +49,10 @@ unfolding zero_legs
 long_legs legs blocks k part h = ap length (found_alike legs (filled_array blocks 0) k part h) ∙
     length-replicate blocks _
 
-pub equal_legs : (held : List Block → Leg) (legs blocks leg other : ℕ) → leg < legs → other < legs →
-    contents_of held (zero_legs legs blocks) leg ≡ contents_of held (zero_legs legs blocks) other
+pub equal_legs : (model : List Block → Leg) (legs blocks leg other : ℕ) → leg < legs → other < legs →
+    contents_of model (zero_legs legs blocks) leg ≡ contents_of model (zero_legs legs blocks) other
 unfolding zero_legs
-equal_legs held legs blocks leg other h k = alike_contents held legs (filled_array blocks 0) leg
+equal_legs model legs blocks leg other h k = alike_contents model legs (filled_array blocks 0) leg
     other h k
 
 pub all_bits : (legs : ℕ) → 1 ≤ legs → legs ≤ 8 → 255 / 2 ^ (8 - legs) + 1 ≡ 2 ^ legs

@@ -2,7 +2,7 @@
 use Rattle.std.specs.Prelude.{◌≡◌, ℕ, true, List, ◌<◌, length, replicate}
 use Rattle.std.specs.List.{flat_map}
 use Rattle.nm_replay.specs.declared.block.Block.{Block}
-use Rattle.nm_fanout.specs.declared.payload.Data.TheVariants.{Cut}
+use Rattle.nm_fanout.specs.declared.block_data.Data.TheVariants.{Cut}
 use Rattle.nm_leg.specs.Leg.{Leg, filled_array}
 use Rattle.nm_stripe.specs.declared.answer.Answer.{Answer}
 use Rattle.nm_stripe.specs.declared.answer.Answer.TheVariants.{Begun as BegunAnswer, Pushed as PushedAnswer, Complete as CompleteAnswer, Halted as HaltedAnswer, Written as WrittenAnswer, Value as ValueAnswer, Refused as RefusedAnswer}
@@ -50,14 +50,14 @@ asked (Read block) = ReadStep block
 -- A step names a block and a leg that the stripe has.
 abbrev pub CanTake : Machine → Step → Type 0
 CanTake stripe (Begin block fill) = block < stripe.place.blocks
-CanTake stripe (Push ticket leg) = leg < length stripe.parts
+CanTake stripe (Push ticket leg) = leg < length stripe.legs
 CanTake stripe (Claim ticket) = Unit {0}
 CanTake stripe (Read block) = block < stripe.place.blocks
 
 -- A stripe stands where another does, and has as many legs.
 pub record HasShapeOf (old new : Machine) : Type 0 where
   pub place : new.place ≡ old.place
-  pub legs : length new.parts ≡ length old.parts
+  pub legs : length new.legs ≡ length old.legs
 
 -- What the answer of a step comes to.
 abbrev pub outcome_of : Answer (List Block) → Outcome

@@ -2,7 +2,7 @@
 use Rattle.std.proofs.Common.{◌≡◌, ℕ, ◌+◌, suc, Bool, true, false, not, List, [], ◌∷◌, Option, None, Some, is_some, refl, sym, ap, ◌∙◌, subst, arith, slice_get}
 use Rattle.std.proofs.lemmas.Option.{same_Some}
 use Rattle.nm_replay.specs.declared.block.Block.{Block}
-use Rattle.nm_fanout.specs.declared.write.Record.{Record}
+use Rattle.nm_fanout.specs.declared.write_record.Record.{Record}
 use Rattle.nm_fanout.specs.Record.{owes}
 use Rattle.nm_fanout.specs.Records.{busy_on}
 use Rattle.nm_leg.specs.Leg.{Leg}
@@ -32,12 +32,12 @@ pub landed_reached : (b : Bool) → true ≡ not b → b ≡ false
 landed_reached true h = cc
 landed_reached false h = refl
 
-module _ {L : Type 0} (held : L → Leg) (stripe : StripeState L) where
-  pub array_is_master : HasLegs held stripe → HasRecords stripe → LegsAgree held stripe → stripe_array held stripe ≡ contents_of held stripe.parts stripe.master
-  array_is_master legs records agrees =
-      laid-same 0 stripe.records (contents_of held stripe.parts stripe.master) (λ b x at. over-same (busy_on (0 + b) stripe.records) x (λ q on has.
+module _ {L : Type 0} (model : L → Leg) (stripe : StripeState L) where
+  pub array_is_master : HasLegs model stripe → HasRecords stripe → LegsAgree model stripe → stripe_array model stripe ≡ contents_of model stripe.legs stripe.master
+  array_is_master has_legs records agrees =
+      laid-same 0 stripe.records (contents_of model stripe.legs stripe.master) (λ b x at. over-same (busy_on (0 + b) stripe.records) x (λ q on has.
       let found = busy_found (0 + b) stripe.records q records.in_order.ascending on in
       let free : owes stripe.master q ≡ false = landed_reached (owes stripe.master q) (sym has ∙ records.landed q.ticket q found.0) in
-      let there = agrees.reached q.ticket q stripe.master found.0 found.2 free legs.master in
-      let at_block : slice_get (contents_of held stripe.parts stripe.master) q.block ≡ Some x = subst (λ (k : ℕ). slice_get (contents_of held stripe.parts stripe.master) k ≡ Some x) (let e : b ≡ q.block = omega (arith, found.1) in e) at in
+      let there = agrees.reached q.ticket q stripe.master found.0 found.2 free has_legs.master in
+      let at_block : slice_get (contents_of model stripe.legs stripe.master) q.block ≡ Some x = subst (λ (k : ℕ). slice_get (contents_of model stripe.legs stripe.master) k ≡ Some x) (let e : b ≡ q.block = omega (arith, found.1) in e) at in
       same_Some (written q) x (sym there ∙ at_block)))

@@ -1,11 +1,11 @@
--- A begin: the new write owes every leg, so nothing that is held or kept changes.
+-- A begin: the new write owes every leg, so nothing that is model or kept changes.
 use Rattle.std.proofs.Common.{◌≡◌, ◌≢◌, ⊎_elim, ℕ, ◌+◌, ◌<◌, ◌==◌, Bool, true, false, not, IsTrue, List, [], ◌∷◌, length, Some, is_some, refl, sym, ap, ◌∙◌, subst, arith, nat_lt, MatchBool, append-nil}
 use Rattle.std.proofs.lemmas.Bool.Decides.{nat_tests}
 use Rattle.nm_fanout.proofs.InOrder.{AllBelow-with_new}
 use Rattle.nm_fanout.proofs.Landing.{unlanded-with_new}
 use Rattle.nm_fanout.proofs.Finding.{find_record-with_new_other}
-use Rattle.nm_fanout.specs.declared.payload.Data.{Data}
-use Rattle.nm_fanout.specs.declared.write.Record.{Record}
+use Rattle.nm_fanout.specs.declared.block_data.Data.{Data}
+use Rattle.nm_fanout.specs.declared.write_record.Record.{Record}
 use Rattle.nm_fanout.specs.Data.{FillsBlock}
 use Rattle.nm_fanout.specs.Record.{owes, begun}
 use Rattle.nm_fanout.specs.Records.{find_record, with_new}
@@ -24,13 +24,13 @@ use Rattle.nm_stripe.proofs.CauseLemmas.{MayBegin}
 use Rattle.nm_stripe.proofs.OwedLemmas.{all_owed, owed_few}
 use Rattle.nm_stripe.proofs.RecordLemmas.{same, new_cases, find-new_same, busy_none, busy-front}
 
-module _ {L : Type 0} (held : L → Leg) (old : StripeState L) (block : ℕ) (bytes : Data) where
+module _ {L : Type 0} (model : L → Leg) (old : StripeState L) (block : ℕ) (bytes : Data) where
   -- the new write's record
   abbrev pub new_record : Record
-  new_record = begun old.tickets block bytes (all_legs (length old.parts))
+  new_record = begun old.tickets block bytes (all_legs (length old.legs))
 
-  begin-records : HasLegs held old → HasRecords old → MayBegin old block → block < old.place.blocks → FillsBlock bytes → HasRecords (after_begin old block bytes)
-  begin-records legs k may inside fills = record {
+  begin-records : HasLegs model old → HasRecords old → MayBegin old block → block < old.place.blocks → FillsBlock bytes → HasRecords (after_begin old block bytes)
+  begin-records has_legs k may inside fills = record {
     in_order = AreInOrder-with_new new_record old.records may.few k.tickets (record { filled = fills; places = refl }) k.in_order;
     tickets = AllBelow-with_new new_record old.records k.tickets;
     one_write = λ t u r q at_t at_u going_t going_u same_block.
@@ -49,11 +49,11 @@ module _ {L : Type 0} (held : L → Leg) (old : StripeState L) (block : ℕ) (by
         (λ was. k.inside t r was.1)
         (new_cases old.tickets t old.records new_record r k.tickets refl at);
     landed = λ t r at. ⊎_elim
-        (λ new. subst (λ (x : Record). is_some x.entry ≡ not (owes old.master x)) (sym new.1) (ap (λ b. not b) (sym (all_owed (length old.parts) old.master legs.few legs.master))))
+        (λ new. subst (λ (x : Record). is_some x.entry ≡ not (owes old.master x)) (sym new.1) (ap (λ b. not b) (sym (all_owed (length old.legs) old.master has_legs.few has_legs.master))))
         (λ was. k.landed t r was.1)
         (new_cases old.tickets t old.records new_record r k.tickets refl at);
     owed = λ t r leg at owes_leg. ⊎_elim
-        (λ new. owed_few (length old.parts) leg (subst (λ (x : Record). owes leg x ≡ true) new.1 owes_leg))
+        (λ new. owed_few (length old.legs) leg (subst (λ (x : Record). owes leg x ≡ true) new.1 owes_leg))
         (λ was. k.owed t r leg was.1 owes_leg)
         (new_cases old.tickets t old.records new_record r k.tickets refl at);
   }
@@ -66,17 +66,17 @@ module _ {L : Type 0} (held : L → Leg) (old : StripeState L) (block : ℕ) (by
     left = omega (arith, may.left, unlanded-with_new new_record old.records refl);
   }
 
-  begin-agrees : HasLegs held old → HasRecords old → LegsAgree held old → LegsAgree held (after_begin old block bytes)
-  begin-agrees legs records k = record {
+  begin-agrees : HasLegs model old → HasRecords old → LegsAgree model old → LegsAgree model (after_begin old block bytes)
+  begin-agrees has_legs records k = record {
     reached = λ t r leg at going free inside. ⊎_elim
-        (λ new. absurd (let owed = all_owed (length old.parts) leg legs.few inside in let not_owed : owes leg new_record ≡ false = subst (λ (x : Record). owes leg x ≡ false) new.1 free in let clash : true ≡ false = sym owed ∙ not_owed in cc))
+        (λ new. absurd (let owed = all_owed (length old.legs) leg has_legs.few inside in let not_owed : owes leg new_record ≡ false = subst (λ (x : Record). owes leg x ≡ false) new.1 free in let clash : true ≡ false = sym owed ∙ not_owed in cc))
         (λ was. k.reached t r leg was.1 going free inside)
         (new_cases old.tickets t old.records new_record r records.tickets refl at);
     alike = λ leg b inside none. k.alike leg b inside (busy-front b old.records (new_record ∷ []) none);
     last = k.last;
   }
 
-  pub begin-keeps : (honest : Bool) → Keeps held honest old → MayBegin old block → block < old.place.blocks → FillsBlock bytes → Keeps held honest (after_begin old block bytes)
+  pub begin-keeps : (honest : Bool) → Keeps model honest old → MayBegin old block → block < old.place.blocks → FillsBlock bytes → Keeps model honest (after_begin old block bytes)
   begin-keeps honest k may inside fills = record {
     legs = record { few = k.legs.few; master = k.legs.master; lengths = k.legs.lengths };
     records = begin-records k.legs k.records may inside fills;
@@ -105,13 +105,13 @@ module _ {L : Type 0} (held : L → Leg) (old : StripeState L) (block : ℕ) (by
     refl,
   )
 
-  pub begin-acts : (honest : Bool) → Keeps held honest old → IsTrue honest → MayBegin old block → block < old.place.blocks → FillsBlock bytes → Acts held old (after_begin old block bytes) (BeginsWrite old.tickets block (written new_record) ∷ [])
+  pub begin-acts : (honest : Bool) → Keeps model honest old → IsTrue honest → MayBegin old block → block < old.place.blocks → FillsBlock bytes → Acts model old (after_begin old block bytes) (BeginsWrite old.tickets block (written new_record) ∷ [])
   begin-acts honest k is_honest may inside fills =
       let agrees = k.agrees is_honest may.runs in
       let new_records = begin-records k.legs k.records may inside fills in
-      let new_legs : HasLegs held (after_begin old block bytes) = record { few = k.legs.few; master = k.legs.master; lengths = k.legs.lengths } in
-      let before = array_is_master held old k.legs k.records agrees in
-      let after = array_is_master held (after_begin old block bytes) new_legs new_records (begin-agrees k.legs k.records agrees) in
+      let new_legs : HasLegs model (after_begin old block bytes) = record { few = k.legs.few; master = k.legs.master; lengths = k.legs.lengths } in
+      let before = array_is_master model old k.legs k.records agrees in
+      let after = array_is_master model (after_begin old block bytes) new_legs new_records (begin-agrees k.legs k.records agrees) in
       record {
         explained = record {
           legal = after ∙ sym before;
@@ -124,7 +124,7 @@ module _ {L : Type 0} (held : L → Leg) (old : StripeState L) (block : ℕ) (by
       }
 
 -- the fields after a begin are those of the state after it
-pub begun-state : {L : Type 0} (place : At) (parts : List L) (master : ℕ) (table table' : RecordTable) (tickets : ℕ) (history history' : KeptHistory) (first : ℕ) (stopped : Bool) (block : ℕ) (bytes : Data)
-    → table'.list ≡ with_new (begun tickets block bytes (all_legs (length parts))) table.list → history'.entries ≡ history.entries → history'.total ≡ history.total
-    → state_of place parts master table' (tickets + 1) history' first stopped ≡ after_begin (state_of place parts master table tickets history first stopped) block bytes
-begun-state place parts master table table' tickets history history' first stopped block bytes list entries total = rw (list, entries, total) refl
+pub begun-state : {L : Type 0} (place : At) (legs : List L) (master : ℕ) (table table' : RecordTable) (tickets : ℕ) (history history' : KeptHistory) (first : ℕ) (stopped : Bool) (block : ℕ) (bytes : Data)
+    → table'.list ≡ with_new (begun tickets block bytes (all_legs (length legs))) table.list → history'.entries ≡ history.entries → history'.total ≡ history.total
+    → state_of place legs master table' (tickets + 1) history' first stopped ≡ after_begin (state_of place legs master table tickets history first stopped) block bytes
+begun-state place legs master table table' tickets history history' first stopped block bytes list entries total = rw (list, entries, total) refl

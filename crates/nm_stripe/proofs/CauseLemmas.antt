@@ -1,7 +1,7 @@
 -- What is known where no cause of refusal stands.
 use Rattle.std.proofs.Common.{◌≡◌, ℕ, ◌+◌, ◌<◌, ◌^◌, true, false, None, Some, refl, arith, length, nat_le, cond}
 use Rattle.std.proofs.lemmas.Bool.Decides.{nat_tests}
-use Rattle.nm_fanout.specs.declared.write.Record.{Record}
+use Rattle.nm_fanout.specs.declared.write_record.Record.{Record}
 use Rattle.nm_fanout.specs.Record.{is_under_way, owes}
 use Rattle.nm_fanout.specs.Records.{find_record, busy_on, unlanded}
 use Rattle.nm_stripe.specs.declared.refusal.Refusal.TheVariants.{Full, Stopped, Exhausted, NotOwed, NotYet}

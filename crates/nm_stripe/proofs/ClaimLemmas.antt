@@ -6,7 +6,7 @@ use Rattle.nm_fanout.proofs.Owed.{finished-owes}
 use Rattle.nm_fanout.proofs.InOrder.{AllBelow-without}
 use Rattle.nm_fanout.proofs.Landing.{unlanded-without}
 use Rattle.nm_fanout.proofs.Finding.{find_record-without_same, find_record-without_other, find_record-below}
-use Rattle.nm_fanout.specs.declared.write.Record.{Record}
+use Rattle.nm_fanout.specs.declared.write_record.Record.{Record}
 use Rattle.nm_fanout.specs.Record.{is_under_way}
 use Rattle.nm_fanout.specs.Records.{find_record, busy_on, without}
 use Rattle.nm_fanout.proofs.InOrder.{AreInOrder-without}
@@ -30,7 +30,7 @@ pub has_number : (e : Option ℕ) → is_some e ≡ true → (n : ℕ) × (e ≡
 has_number None h = absurd (cc)
 has_number (Some n) h = (n, refl)
 
-module _ {L : Type 0} (held : L → Leg) (honest : Bool) (old : StripeState L) (ticket : ℕ) (r : Record) (k : Keeps held honest old) (found : find_record ticket old.records ≡ Some r) (over : is_under_way r ≡ false) where
+module _ {L : Type 0} (model : L → Leg) (honest : Bool) (old : StripeState L) (ticket : ℕ) (r : Record) (k : Keeps model honest old) (found : find_record ticket old.records ≡ Some r) (over : is_under_way r ≡ false) where
   -- a finished write has landed
   pub finished_landed : (n : ℕ) × (r.entry ≡ Some n)
   finished_landed = has_number r.entry (k.records.landed ticket r found ∙ ap (λ b. not b) (finished-owes old.master r over))
@@ -62,17 +62,17 @@ module _ {L : Type 0} (held : L → Leg) (honest : Bool) (old : StripeState L) (
             (one_or_two q.ticket ticket)
       ]) refl
 
-  claim-legs : HasLegs held (after_claim old ticket)
+  claim-legs : HasLegs model (after_claim old ticket)
   claim-legs = record { few = k.legs.few; master = k.legs.master; lengths = k.legs.lengths }
 
-  claim-agrees : LegsAgree held old → LegsAgree held (after_claim old ticket)
+  claim-agrees : LegsAgree model old → LegsAgree model (after_claim old ticket)
   claim-agrees agree = record {
     reached = λ t x leg at going free inside. agree.reached t x leg (without_cases ticket t old.records x at).1 going free inside;
     alike = λ leg b inside none. agree.alike leg b inside (none_before b none);
     last = agree.last;
   }
 
-  pub claim-keeps : Keeps held honest (after_claim old ticket)
+  pub claim-keeps : Keeps model honest (after_claim old ticket)
   claim-keeps =
       let n = finished_landed in
       record {
@@ -108,11 +108,11 @@ module _ {L : Type 0} (held : L → Leg) (honest : Bool) (old : StripeState L) (
     refl,
   )
 
-  pub claim-acts : IsTrue honest → old.stopped ≡ false → (n : ℕ) → r.entry ≡ Some n → Acts held old (after_claim old ticket) (RepliesWrite ticket n ∷ [])
+  pub claim-acts : IsTrue honest → old.stopped ≡ false → (n : ℕ) → r.entry ≡ Some n → Acts model old (after_claim old ticket) (RepliesWrite ticket n ∷ [])
   claim-acts is_honest runs n number =
       let agree = k.agrees is_honest runs in
-      let before = array_is_master held old k.legs k.records agree in
-      let after = array_is_master held (after_claim old ticket) claim-legs claim-records (claim-agrees agree) in
+      let before = array_is_master model old k.legs k.records agree in
+      let after = array_is_master model (after_claim old ticket) claim-legs claim-records (claim-agrees agree) in
       record {
         explained = record {
           legal = after ∙ sym before;
@@ -125,7 +125,7 @@ module _ {L : Type 0} (held : L → Leg) (honest : Bool) (old : StripeState L) (
       }
 
 -- the fields of a stripe after a claim are the state after it
-pub claimed-state : {L : Type 0} (place : At) (parts : List L) (master : ℕ) (table table' : RecordTable) (tickets : ℕ) (history : KeptHistory) (first : ℕ) (stopped : Bool) (ticket : ℕ)
+pub claimed-state : {L : Type 0} (place : At) (legs : List L) (master : ℕ) (table table' : RecordTable) (tickets : ℕ) (history : KeptHistory) (first : ℕ) (stopped : Bool) (ticket : ℕ)
     → table'.list ≡ without ticket table.list
-    → state_of place parts master table' tickets history first stopped ≡ after_claim (state_of place parts master table tickets history first stopped) ticket
-claimed-state place parts master table table' tickets history first stopped ticket list = rw list refl
+    → state_of place legs master table' tickets history first stopped ≡ after_claim (state_of place legs master table tickets history first stopped) ticket
+claimed-state place legs master table table' tickets history first stopped ticket list = rw list refl

@@ -6,7 +6,7 @@ use Rattle.nm_replay.proofs.Arrays.{slice_get-set_same, slice_get-set_other}
 use Rattle.nm_replay.proofs.Numbering.{numbered-append}
 use Rattle.nm_fanout.proofs.Owed.{owes-without_leg_same}
 use Rattle.nm_fanout.proofs.Finding.{find_record-changed_other, find_record-below}
-use Rattle.nm_fanout.specs.declared.write.Record.{Record}
+use Rattle.nm_fanout.specs.declared.write_record.Record.{Record}
 use Rattle.nm_fanout.specs.Data.{bytes_of}
 use Rattle.nm_fanout.specs.Record.{owes, without_leg}
 use Rattle.nm_fanout.specs.Records.{AreInOrder, find_record, unlanded, changed, reached}
@@ -26,44 +26,44 @@ use Rattle.nm_stripe.proofs.RecordLemmas.{same, find-changed_same, unlanded-land
 
 -- the stripe, with one change of the record in place of two
 abbrev landed_state : {L : Type 0} → StripeState L → List L → Record → ℕ → StripeState L
-landed_state old parts r leg = moved old parts (landing (next_number old) leg) r.ticket (old.kept ++ write_entry (next_number old) r ∷ []) (old.total + 1)
+landed_state old legs r leg = moved old legs (landing (next_number old) leg) r.ticket (old.kept ++ write_entry (next_number old) r ∷ []) (old.total + 1)
 
-landed-same : {L : Type 0} (old : StripeState L) (parts : List L) (r : Record) (leg : ℕ) → landed_state old parts r leg ≡ after_landing old parts r leg
-landed-same {L} old parts r leg = ap (λ (rs : List Record). let s : StripeState L = record old { parts = parts; records = rs; kept = old.kept ++ write_entry (next_number old) r ∷ []; total = old.total + 1 } in s) (sym (changed-twice (next_number old) leg r.ticket old.records))
+landed-same : {L : Type 0} (old : StripeState L) (legs : List L) (r : Record) (leg : ℕ) → landed_state old legs r leg ≡ after_landing old legs r leg
+landed-same {L} old legs r leg = ap (λ (rs : List Record). let s : StripeState L = record old { legs = legs; records = rs; kept = old.kept ++ write_entry (next_number old) r ∷ []; total = old.total + 1 } in s) (sym (changed-twice (next_number old) leg r.ticket old.records))
 
-module _ {L : Type 0} (held : L → Leg) (honest : Bool) (old : StripeState L) (parts : List L) (r : Record) (leg : ℕ) (c : Reached held honest old parts r leg) (is : leg ≡ old.master) where
+module _ {L : Type 0} (model : L → Leg) (honest : Bool) (old : StripeState L) (legs : List L) (r : Record) (leg : ℕ) (c : Reached model honest old legs r leg) (is : leg ≡ old.master) where
   no_entry : r.entry ≡ None
   no_entry = not_landed r.entry (c.keeps.records.landed r.ticket r c.found ∙ ap (λ b. not b) (subst (λ (i : ℕ). owes i r ≡ true) is c.owed))
 
-  land-records : HasRecords (landed_state old parts r leg)
+  land-records : HasRecords (landed_state old legs r leg)
   land-records =
-      moved-records held honest old parts r leg (landing (next_number old) leg) (old.kept ++ write_entry (next_number old) r ∷ []) (old.total + 1) (landing-reaches (next_number old) leg) c.keeps.records c.writes c.found
+      moved-records model honest old legs r leg (landing (next_number old) leg) (old.kept ++ write_entry (next_number old) r ∷ []) (old.total + 1) (landing-reaches (next_number old) leg) c.keeps.records c.writes c.found
       (subst (λ (rs : List Record). AreInOrder rs) (changed-twice (next_number old) leg r.ticket old.records)
       (AreInOrder-landed r.ticket (next_number old) (reached r.ticket leg old.records) (AreInOrder-reached r.ticket leg old.records c.keeps.records.in_order)))
       (ap (λ b. not b) (sym (subst (λ (i : ℕ). owes i (without_leg leg r) ≡ false) is (owes-without_leg_same leg r))))
 
-  land-legs : HasLegs held (landed_state old parts r leg)
-  land-legs = moved-legs held honest old parts r leg (landing (next_number old) leg) (old.kept ++ write_entry (next_number old) r ∷ []) (old.total + 1) c.keeps.legs c.writes
+  land-legs : HasLegs model (landed_state old legs r leg)
+  land-legs = moved-legs model honest old legs r leg (landing (next_number old) leg) (old.kept ++ write_entry (next_number old) r ∷ []) (old.total + 1) c.keeps.legs c.writes
 
   -- an honest master's contents change at the block alone
-  land-master : IsTrue honest → contents_of held parts old.master ≡ slice_set (contents_of held old.parts old.master) r.block (written r)
-  land-master is_honest = subst (λ (i : ℕ). contents_of held parts i ≡ slice_set (contents_of held old.parts i) r.block (written r)) is (writes-contents held honest old.parts parts leg r.block (bytes_of r.data) is_honest c.writes)
+  land-master : IsTrue honest → contents_of model legs old.master ≡ slice_set (contents_of model old.legs old.master) r.block (written r)
+  land-master is_honest = subst (λ (i : ℕ). contents_of model legs i ≡ slice_set (contents_of model old.legs i) r.block (written r)) is (writes-contents model honest old.legs legs leg r.block (bytes_of r.data) is_honest c.writes)
 
-  land-inside : r.block < length (contents_of held old.parts old.master)
+  land-inside : r.block < length (contents_of model old.legs old.master)
   land-inside = omega (arith, c.keeps.legs.lengths old.master c.keeps.legs.master, c.keeps.records.inside r.ticket r c.found)
 
-  land-agrees : IsTrue honest → LegsAgree held (landed_state old parts r leg)
+  land-agrees : IsTrue honest → LegsAgree model (landed_state old legs r leg)
   land-agrees is_honest =
       let agree = c.keeps.agrees is_honest c.runs in
-      moved-agrees held honest old parts r leg (landing (next_number old) leg) (old.kept ++ write_entry (next_number old) r ∷ []) (old.total + 1) (landing-reaches (next_number old) leg) is_honest c.keeps.legs c.keeps.records agree c.writes c.found c.owed
-      (ends-push old.kept (write_entry (next_number old) r) (contents_of held old.parts old.master) (contents_of held parts old.master) agree.last
-      (ap (λ xs. slice_get xs r.block) (land-master is_honest) ∙ slice_get-set_same (contents_of held old.parts old.master) r.block (written r) land-inside)
-      (λ b off. ap (λ xs. slice_get xs b) (land-master is_honest) ∙ slice_get-set_other (contents_of held old.parts old.master) r.block b (written r) (λ e. off (sym e))))
+      moved-agrees model honest old legs r leg (landing (next_number old) leg) (old.kept ++ write_entry (next_number old) r ∷ []) (old.total + 1) (landing-reaches (next_number old) leg) is_honest c.keeps.legs c.keeps.records agree c.writes c.found c.owed
+      (ends-push old.kept (write_entry (next_number old) r) (contents_of model old.legs old.master) (contents_of model legs old.master) agree.last
+      (ap (λ xs. slice_get xs r.block) (land-master is_honest) ∙ slice_get-set_same (contents_of model old.legs old.master) r.block (written r) land-inside)
+      (λ b off. ap (λ xs. slice_get xs b) (land-master is_honest) ∙ slice_get-set_other (contents_of model old.legs old.master) r.block b (written r) (λ e. off (sym e))))
 
   one_less : unlanded (changed (landing (next_number old) leg) r.ticket old.records) + 1 ≡ unlanded old.records
   one_less = unlanded-landed (landing (next_number old) leg) r.ticket old.records r (next_number old) c.keeps.records.in_order.ascending c.found no_entry refl
 
-  land-numbers : HasNumbers (landed_state old parts r leg)
+  land-numbers : HasNumbers (landed_state old legs r leg)
   land-numbers = record {
     numbered = numbered-append old.first old.kept (write_entry (next_number old) r ∷ []) c.keeps.numbers.numbered (let n : old.first + old.total ≡ old.first + length old.kept = omega (arith, c.keeps.numbers.total) in n, tt);
     total = omega (arith, c.keeps.numbers.total, length-append old.kept (write_entry (next_number old) r ∷ []));
@@ -71,7 +71,7 @@ module _ {L : Type 0} (held : L → Leg) (honest : Bool) (old : StripeState L) (
     left = omega (arith, c.keeps.numbers.left, one_less);
   }
 
-  land-kept : Keeps held honest (landed_state old parts r leg)
+  land-kept : Keeps model honest (landed_state old legs r leg)
   land-kept = record {
     legs = land-legs;
     records = land-records;
@@ -80,14 +80,14 @@ module _ {L : Type 0} (held : L → Leg) (honest : Bool) (old : StripeState L) (
     agrees = λ is_honest runs. land-agrees is_honest;
   }
 
-  pub land-keeps : Keeps held honest (after_landing old parts r leg)
-  land-keeps = subst (λ (s : StripeState L). Keeps held honest s) (landed-same old parts r leg) land-kept
+  pub land-keeps : Keeps model honest (after_landing old legs r leg)
+  land-keeps = subst (λ (s : StripeState L). Keeps model honest s) (landed-same old legs r leg) land-kept
 
   -- the write of the ticket lands, and every other goes on as it was
-  land-writes : (t : ℕ) → WriteLives t (write_life old t) (Lands (write_entry (next_number old) r) ∷ []) (write_life (landed_state old parts r leg) t)
+  land-writes : (t : ℕ) → WriteLives t (write_life old t) (Lands (write_entry (next_number old) r) ∷ []) (write_life (landed_state old legs r leg) t)
   land-writes t = (
-    write_life (landed_state old parts r leg) t,
-    (elim (r.ticket == t) as (λ b. (r.ticket == t) ≡ b → MatchBool b ((write_life old t ≡ Begun r.block (written r)) × (write_life (landed_state old parts r leg) t ≡ Landed (next_number old))) (write_life (landed_state old parts r leg) t ≡ write_life old t)) [
+    write_life (landed_state old legs r leg) t,
+    (elim (r.ticket == t) as (λ b. (r.ticket == t) ≡ b → MatchBool b ((write_life old t ≡ Begun r.block (written r)) × (write_life (landed_state old legs r leg) t ≡ Landed (next_number old))) (write_life (landed_state old legs r leg) t ≡ write_life old t)) [
       | true ↦ λ eq.
           let at : r.ticket ≡ t = same r.ticket t eq in
           let below = find_record-below old.tickets r.ticket old.records r c.keeps.records.tickets c.found in
@@ -105,10 +105,10 @@ module _ {L : Type 0} (held : L → Leg) (honest : Bool) (old : StripeState L) (
   )
 
   -- the entry's number is no read's any more
-  land-reads : (n : ℕ) → ReadLives n (read_life old n) (Lands (write_entry (next_number old) r) ∷ []) (read_life (landed_state old parts r leg) n)
+  land-reads : (n : ℕ) → ReadLives n (read_life old n) (Lands (write_entry (next_number old) r) ∷ []) (read_life (landed_state old legs r leg) n)
   land-reads n = (
-    read_life (landed_state old parts r leg) n,
-    (elim (next_number old == n) as (λ b. (next_number old == n) ≡ b → MatchBool b ((read_life old n ≡ Unasked) × (read_life (landed_state old parts r leg) n ≡ Over)) (read_life (landed_state old parts r leg) n ≡ read_life old n)) [
+    read_life (landed_state old legs r leg) n,
+    (elim (next_number old == n) as (λ b. (next_number old == n) ≡ b → MatchBool b ((read_life old n ≡ Unasked) × (read_life (landed_state old legs r leg) n ≡ Over)) (read_life (landed_state old legs r leg) n ≡ read_life old n)) [
       | true ↦ λ eq.
           let at : next_number old ≡ n = same (next_number old) n eq in
           let not_yet : nat_lt n (next_number old) ≡ false = grind (arith, nat_tests) in
@@ -122,10 +122,10 @@ module _ {L : Type 0} (held : L → Leg) (honest : Bool) (old : StripeState L) (
     refl,
   )
 
-  land-acted : IsTrue honest → Acts held old (landed_state old parts r leg) (Lands (write_entry (next_number old) r) ∷ [])
+  land-acted : IsTrue honest → Acts model old (landed_state old legs r leg) (Lands (write_entry (next_number old) r) ∷ [])
   land-acted is_honest =
-      let before = array_is_master held old c.keeps.legs c.keeps.records (c.keeps.agrees is_honest c.runs) in
-      let after = array_is_master held (landed_state old parts r leg) land-legs land-records (land-agrees is_honest) in
+      let before = array_is_master model old c.keeps.legs c.keeps.records (c.keeps.agrees is_honest c.runs) in
+      let after = array_is_master model (landed_state old legs r leg) land-legs land-records (land-agrees is_honest) in
       record {
         explained = record {
           legal = (refl, omega (arith, land-inside, ap (λ (xs : List Block). length xs) before), after ∙ land-master is_honest ∙ ap (λ xs. slice_set xs r.block (written r)) (sym before));
@@ -137,5 +137,5 @@ module _ {L : Type 0} (held : L → Leg) (honest : Bool) (old : StripeState L) (
         first = refl;
       }
 
-  pub land-acts : IsTrue honest → Acts held old (after_landing old parts r leg) (Lands (write_entry (next_number old) r) ∷ [])
-  land-acts is_honest = subst (λ (s : StripeState L). Acts held old s (Lands (write_entry (next_number old) r) ∷ [])) (landed-same old parts r leg) (land-acted is_honest)
+  pub land-acts : IsTrue honest → Acts model old (after_landing old legs r leg) (Lands (write_entry (next_number old) r) ∷ [])
+  land-acts is_honest = subst (λ (s : StripeState L). Acts model old s (Lands (write_entry (next_number old) r) ∷ [])) (landed-same old legs r leg) (land-acted is_honest)

@@ -5,54 +5,54 @@ use Rattle.std.proofs.lemmas.Option.{slice_get_within}
 use Rattle.nm_replay.specs.declared.block.Block.{Block}
 use Rattle.nm_replay.proofs.Arrays.{slice_get-set_same, slice_get-set_other}
 use Rattle.nm_leg.specs.Leg.{Leg, CallsLeg, block_of}
-use Rattle.nm_leg.specs.Parts.{ChangesPart, ReadsPart, WritesPart}
+use Rattle.nm_leg.specs.LegCalls.{ChangesLeg, ReadsLegAt, WritesLegAt}
 use Rattle.nm_stripe.proofs.RecordLemmas.{one_or_two}
 use Rattle.nm_stripe.specs.State.{contents_of, contents_at}
 
 -- a call leaves as many legs
-pub calls-length : {L : Type 0} (held : L → Leg) (old new : List L) (k : ℕ) (before after : L) → ChangesPart held k old new before after → length new ≡ length old
-calls-length held old new k before after calls = ap (λ xs. length xs) calls.others ∙ length-set old k after
+pub calls-length : {L : Type 0} (model : L → Leg) (old new : List L) (k : ℕ) (before after : L) → ChangesLeg model k old new before after → length new ≡ length old
+calls-length model old new k before after calls = ap (λ xs. length xs) calls.others ∙ length-set old k after
 
 -- and every other leg's contents
-pub calls-other : {L : Type 0} (held : L → Leg) (old new : List L) (k j : ℕ) (before after : L) → ChangesPart held k old new before after → j ≢ k → contents_of held new j ≡ contents_of held old j
-calls-other held old new k j before after calls ne =
-    ap (λ xs. contents_of held xs j) calls.others ∙ ap (λ o. contents_at held o) (slice_get-set_other old k j after (λ e. ne (sym e)))
+pub calls-other : {L : Type 0} (model : L → Leg) (old new : List L) (k j : ℕ) (before after : L) → ChangesLeg model k old new before after → j ≢ k → contents_of model new j ≡ contents_of model old j
+calls-other model old new k j before after calls ne =
+    ap (λ xs. contents_of model xs j) calls.others ∙ ap (λ o. contents_at model o) (slice_get-set_other old k j after (λ e. ne (sym e)))
 
 -- the called leg holds what the call left
-pub calls-after : {L : Type 0} (held : L → Leg) (old new : List L) (k : ℕ) (before after : L) → ChangesPart held k old new before after → contents_of held new k ≡ (held after).contents
-calls-after held old new k before after calls =
-    ap (λ xs. contents_of held xs k) calls.others ∙ ap (λ o. contents_at held o) (slice_get-set_same old k after (slice_get_within old k before calls.was))
+pub calls-after : {L : Type 0} (model : L → Leg) (old new : List L) (k : ℕ) (before after : L) → ChangesLeg model k old new before after → contents_of model new k ≡ (model after).contents
+calls-after model old new k before after calls =
+    ap (λ xs. contents_of model xs k) calls.others ∙ ap (λ o. contents_at model o) (slice_get-set_same old k after (slice_get_within old k before calls.was))
 
-pub calls-before : {L : Type 0} (held : L → Leg) (old new : List L) (k : ℕ) (before after : L) → ChangesPart held k old new before after → contents_of held old k ≡ (held before).contents
-calls-before held old new k before after calls = ap (λ o. contents_at held o) calls.was
+pub calls-before : {L : Type 0} (model : L → Leg) (old new : List L) (k : ℕ) (before after : L) → ChangesLeg model k old new before after → contents_of model old k ≡ (model before).contents
+calls-before model old new k before after calls = ap (λ o. contents_at model o) calls.was
 
 -- no leg changes its length
-pub calls-lengths : {L : Type 0} (held : L → Leg) (succeeded : Bool) (old new : List L) (k j : ℕ) (before after : L) → ChangesPart held k old new before after → CallsLeg succeeded (held before) (held after) → length (contents_of held new j) ≡ length (contents_of held old j)
-calls-lengths held succeeded old new k j before after calls called =
-    ⊎_elim (λ is. subst (λ (i : ℕ). length (contents_of held new i) ≡ length (contents_of held old i)) (sym is) (ap (λ xs. length xs) (calls-after held old new k before after calls) ∙ called.contents_length ∙ ap (λ xs. length xs) (sym (calls-before held old new k before after calls))))
-    (λ ne. ap (λ xs. length xs) (calls-other held old new k j before after calls ne)) (one_or_two j k)
+pub calls-lengths : {L : Type 0} (model : L → Leg) (succeeded : Bool) (old new : List L) (k j : ℕ) (before after : L) → ChangesLeg model k old new before after → CallsLeg succeeded (model before) (model after) → length (contents_of model new j) ≡ length (contents_of model old j)
+calls-lengths model succeeded old new k j before after calls called =
+    ⊎_elim (λ is. subst (λ (i : ℕ). length (contents_of model new i) ≡ length (contents_of model old i)) (sym is) (ap (λ xs. length xs) (calls-after model old new k before after calls) ∙ called.contents_length ∙ ap (λ xs. length xs) (sym (calls-before model old new k before after calls))))
+    (λ ne. ap (λ xs. length xs) (calls-other model old new k j before after calls ne)) (one_or_two j k)
 
 -- an honest read changes nobody's contents
-pub reads-contents : {L : Type 0} (held : L → Leg) (honest succeeded : Bool) (old new : List L) (k at j : ℕ) (target filled : Block) → IsTrue honest → ReadsPart held honest succeeded k at old new target filled → contents_of held new j ≡ contents_of held old j
-reads-contents held honest succeeded old new k at j target filled is_honest r =
-    ⊎_elim (λ is. subst (λ (i : ℕ). contents_of held new i ≡ contents_of held old i) (sym is) (calls-after held old new k r.before r.after r.part ∙ r.reads.contents is_honest ∙ sym (calls-before held old new k r.before r.after r.part)))
-    (λ ne. calls-other held old new k j r.before r.after r.part ne) (one_or_two j k)
+pub reads-contents : {L : Type 0} (model : L → Leg) (honest succeeded : Bool) (old new : List L) (k at j : ℕ) (target filled : Block) → IsTrue honest → ReadsLegAt model honest succeeded k at old new target filled → contents_of model new j ≡ contents_of model old j
+reads-contents model honest succeeded old new k at j target filled is_honest r =
+    ⊎_elim (λ is. subst (λ (i : ℕ). contents_of model new i ≡ contents_of model old i) (sym is) (calls-after model old new k r.before r.after r.change ∙ r.reads.contents is_honest ∙ sym (calls-before model old new k r.before r.after r.change)))
+    (λ ne. calls-other model old new k j r.before r.after r.change ne) (one_or_two j k)
 
 -- and a read that succeeds finds the called leg's block
-pub reads-found : {L : Type 0} (held : L → Leg) (honest : Bool) (old new : List L) (k at : ℕ) (target filled : Block) → IsTrue honest → ReadsPart held honest true k at old new target filled → slice_get (contents_of held old k) at ≡ Some filled
-reads-found held honest old new k at target filled is_honest r =
-    ap (λ xs. slice_get xs at) (calls-before held old new k r.before r.after r.part) ∙ r.reads.found is_honest refl
+pub reads-found : {L : Type 0} (model : L → Leg) (honest : Bool) (old new : List L) (k at : ℕ) (target filled : Block) → IsTrue honest → ReadsLegAt model honest true k at old new target filled → slice_get (contents_of model old k) at ≡ Some filled
+reads-found model honest old new k at target filled is_honest r =
+    ap (λ xs. slice_get xs at) (calls-before model old new k r.before r.after r.change) ∙ r.reads.found is_honest refl
 
 -- an honest write that succeeds sets the block on the called leg
-pub writes-contents : {L : Type 0} (held : L → Leg) (honest : Bool) (old new : List L) (k at : ℕ) (bytes : List ℕ) → IsTrue honest → WritesPart held honest true k at bytes old new → contents_of held new k ≡ slice_set (contents_of held old k) at (block_of bytes)
-writes-contents held honest old new k at bytes is_honest w =
-    calls-after held old new k w.before w.after w.part ∙ w.writes.written is_honest refl ∙ ap (λ xs. slice_set xs at (block_of bytes)) (sym (calls-before held old new k w.before w.after w.part))
+pub writes-contents : {L : Type 0} (model : L → Leg) (honest : Bool) (old new : List L) (k at : ℕ) (bytes : List ℕ) → IsTrue honest → WritesLegAt model honest true k at bytes old new → contents_of model new k ≡ slice_set (contents_of model old k) at (block_of bytes)
+writes-contents model honest old new k at bytes is_honest w =
+    calls-after model old new k w.before w.after w.change ∙ w.writes.written is_honest refl ∙ ap (λ xs. slice_set xs at (block_of bytes)) (sym (calls-before model old new k w.before w.after w.change))
 
-pub writes-other : {L : Type 0} (held : L → Leg) (honest succeeded : Bool) (old new : List L) (k at j : ℕ) (bytes : List ℕ) → WritesPart held honest succeeded k at bytes old new → j ≢ k → contents_of held new j ≡ contents_of held old j
-writes-other held honest succeeded old new k at j bytes w ne = calls-other held old new k j w.before w.after w.part ne
+pub writes-other : {L : Type 0} (model : L → Leg) (honest succeeded : Bool) (old new : List L) (k at j : ℕ) (bytes : List ℕ) → WritesLegAt model honest succeeded k at bytes old new → j ≢ k → contents_of model new j ≡ contents_of model old j
+writes-other model honest succeeded old new k at j bytes w ne = calls-other model old new k j w.before w.after w.change ne
 
 -- a block that is not the one written reads as before, on every leg
-pub writes-other_block : {L : Type 0} (held : L → Leg) (honest : Bool) (old new : List L) (k at j b : ℕ) (bytes : List ℕ) → IsTrue honest → WritesPart held honest true k at bytes old new → b ≢ at → slice_get (contents_of held new j) b ≡ slice_get (contents_of held old j) b
-writes-other_block held honest old new k at j b bytes is_honest w ne =
-    ⊎_elim (λ is. subst (λ (i : ℕ). slice_get (contents_of held new i) b ≡ slice_get (contents_of held old i) b) (sym is) (ap (λ xs. slice_get xs b) (writes-contents held honest old new k at bytes is_honest w) ∙ slice_get-set_other (contents_of held old k) at b (block_of bytes) (λ e. ne (sym e))))
-    (λ other. ap (λ xs. slice_get xs b) (writes-other held honest true old new k at j bytes w other)) (one_or_two j k)
+pub writes-other_block : {L : Type 0} (model : L → Leg) (honest : Bool) (old new : List L) (k at j b : ℕ) (bytes : List ℕ) → IsTrue honest → WritesLegAt model honest true k at bytes old new → b ≢ at → slice_get (contents_of model new j) b ≡ slice_get (contents_of model old j) b
+writes-other_block model honest old new k at j b bytes is_honest w ne =
+    ⊎_elim (λ is. subst (λ (i : ℕ). slice_get (contents_of model new i) b ≡ slice_get (contents_of model old i) b) (sym is) (ap (λ xs. slice_get xs b) (writes-contents model honest old new k at bytes is_honest w) ∙ slice_get-set_other (contents_of model old k) at b (block_of bytes) (λ e. ne (sym e))))
+    (λ other. ap (λ xs. slice_get xs b) (writes-other model honest true old new k at j bytes w other)) (one_or_two j k)

@@ -3,7 +3,7 @@ use Rattle.std.proofs.Common.{◌≡◌, ◌≢◌, ◌⊎◌, ⊎_elim, inl, in
 use Rattle.std.specs.Option.{option_map}
 use Rattle.std.proofs.lemmas.Option.{same_Some}
 use Rattle.std.proofs.lemmas.Bool.Decides.{eqb_tells}
-use Rattle.nm_fanout.specs.declared.write.Record.{Record}
+use Rattle.nm_fanout.specs.declared.write_record.Record.{Record}
 use Rattle.nm_fanout.specs.Record.{is_under_way}
 use Rattle.nm_fanout.specs.Records.{Ascends, AllBelow, find_record, busy_on, changed, without, unlanded}
 use Rattle.nm_fanout.proofs.Busy.{busy_on-Some}

@@ -2,7 +2,7 @@
 use Rattle.std.proofs.Common.{◌≡◌, ℕ, Bool, IsTrue, List, [], ◌∷◌, ◌++◌, refl, sym, ap, ◌∙◌, subst, append_assoc, append-nil}
 use Rattle.std.proofs.Common.{length, reverse, true, false, cond, ◌==◌, Option, None, Some}
 use Rattle.std.proofs.lemmas.List.{reverse-append}
-use Rattle.nm_fanout.specs.declared.write.Record.{Record}
+use Rattle.nm_fanout.specs.declared.write_record.Record.{Record}
 use Rattle.nm_stripe.specs.declared.refusal.Refusal.{Refusal}
 use Rattle.nm_stripe.specs.declared.refusal.Refusal.TheVariants.{Fault}
 use Rattle.nm_stripe.specs.Causes.{read_cause}
@@ -20,13 +20,13 @@ use Rattle.nm_stripe.specs.Machine.{StepOf, MayBeAsked, AllAsked, Runs, marks, I
 use Rattle.nm_stripe.proofs.ActsLemmas.{acts-none, acts-append}
 
 -- one step more
-pub runs-push : {L : Type 0} (held : L → Leg) (honest : Bool) (old mid new : StripeState L) (steps : List (Step L)) (answers : List (Answer L)) (step : Step L) (answer : Answer L)
-    → Runs held honest old steps answers mid → StepOf held honest step answer mid new → Runs held honest old (steps ++ step ∷ []) (answers ++ answer ∷ []) new
-runs-push held honest old mid new [] [] step answer runs one = (new, subst (λ (s : StripeState _). StepOf held honest step answer s new) runs one, refl)
-runs-push held honest old mid new (s ∷ steps) (a ∷ answers) step answer runs one =
-    (runs.0, runs.1, runs-push held honest runs.0 mid new steps answers step answer runs.2 one)
-runs-push held honest old mid new [] (a ∷ answers) step answer runs one = absurd runs
-runs-push held honest old mid new (s ∷ steps) [] step answer runs one = absurd runs
+pub runs-push : {L : Type 0} (model : L → Leg) (honest : Bool) (old mid new : StripeState L) (steps : List (Step L)) (answers : List (Answer L)) (step : Step L) (answer : Answer L)
+    → Runs model honest old steps answers mid → StepOf model honest step answer mid new → Runs model honest old (steps ++ step ∷ []) (answers ++ answer ∷ []) new
+runs-push model honest old mid new [] [] step answer runs one = (new, subst (λ (s : StripeState _). StepOf model honest step answer s new) runs one, refl)
+runs-push model honest old mid new (s ∷ steps) (a ∷ answers) step answer runs one =
+    (runs.0, runs.1, runs-push model honest runs.0 mid new steps answers step answer runs.2 one)
+runs-push model honest old mid new [] (a ∷ answers) step answer runs one = absurd runs
+runs-push model honest old mid new (s ∷ steps) [] step answer runs one = absurd runs
 
 joint-push : {L : Type 0} (steps : List (Step L)) (answers : List (Answer L)) (pieces : List (List Event)) (step : Step L) (answer : Answer L) (piece : List Event)
     → IsJoint steps answers pieces → marks_of piece ≡ marks step answer → IsJoint (steps ++ step ∷ []) (answers ++ answer ∷ []) (pieces ++ piece ∷ [])
@@ -42,15 +42,15 @@ joined-push [] piece = append-nil piece
 joined-push (p ∷ pieces) piece = ap (λ es. p ++ es) (joined-push pieces piece) ∙ sym (append_assoc p (joined pieces) piece)
 
 -- no steps, and one step more
-pub none-acts : {L : Type 0} (held : L → Leg) (stripe : StripeState L) → ActOnOneArray held [] [] stripe stripe
-none-acts held stripe = record { pieces = []; joint = tt; acts = acts-none held stripe }
+pub none-acts : {L : Type 0} (model : L → Leg) (stripe : StripeState L) → ActOnOneArray model [] [] stripe stripe
+none-acts model stripe = record { pieces = []; joint = tt; acts = acts-none model stripe }
 
-pub act-push : {L : Type 0} (held : L → Leg) (old mid new : StripeState L) (steps : List (Step L)) (answers : List (Answer L)) (step : Step L) (answer : Answer L)
-    → ActOnOneArray held steps answers old mid → ShowsMarks held (marks step answer) mid new → ActOnOneArray held (steps ++ step ∷ []) (answers ++ answer ∷ []) old new
-act-push held old mid new steps answers step answer all one = record {
+pub act-push : {L : Type 0} (model : L → Leg) (old mid new : StripeState L) (steps : List (Step L)) (answers : List (Answer L)) (step : Step L) (answer : Answer L)
+    → ActOnOneArray model steps answers old mid → ShowsMarks model (marks step answer) mid new → ActOnOneArray model (steps ++ step ∷ []) (answers ++ answer ∷ []) old new
+act-push model old mid new steps answers step answer all one = record {
   pieces = all.pieces ++ one.piece ∷ [];
   joint = joint-push steps answers all.pieces step answer one.piece all.joint one.marked;
-  acts = subst (λ (es : List Event). Acts held old new es) (sym (joined-push all.pieces one.piece)) (acts-append held old mid new (joined all.pieces) one.piece all.acts one.acts);
+  acts = subst (λ (es : List Event). Acts model old new es) (sym (joined-push all.pieces one.piece)) (acts-append model old mid new (joined all.pieces) one.piece all.acts one.acts);
 }
 
 -- none halted among more answers: none among the first, and not the last
@@ -85,103 +85,103 @@ reverse-reverse (x ∷ xs) = ap (λ ys. reverse ys) (reverse-append (x ∷ []) x
 -- a step leaves the stripe's place, and as many legs
 pub record SameShape {L : Type 0} (old new : StripeState L) : Type 0 where
   pub place : new.place ≡ old.place
-  pub legs : length new.parts ≡ length old.parts
+  pub legs : length new.legs ≡ length old.legs
 
 same : {L : Type 0} (old new : StripeState L) → new ≡ old → SameShape old new
-same old new is = record { place = ap (λ s. s.place) is; legs = ap (λ s. length s.parts) is }
+same old new is = record { place = ap (λ s. s.place) is; legs = ap (λ s. length s.legs) is }
 
 -- a push leaves the place, whichever leg it reached
-push-place : {L : Type 0} (old : StripeState L) (parts : List L) (r : Record) (leg : ℕ) → (after_push old parts r leg).place ≡ old.place
-push-place old parts r leg =
-    elim (leg == old.master) as (λ b. (cond b (after_landing old parts r leg) (after_reach old parts r leg)).place ≡ old.place) [ true ↦ refl | false ↦ refl ]
+push-place : {L : Type 0} (old : StripeState L) (legs : List L) (r : Record) (leg : ℕ) → (after_push old legs r leg).place ≡ old.place
+push-place old legs r leg =
+    elim (leg == old.master) as (λ b. (cond b (after_landing old legs r leg) (after_reach old legs r leg)).place ≡ old.place) [ true ↦ refl | false ↦ refl ]
 
-push-shape : {L : Type 0} (held : L → Leg) (honest : Bool) (old new : StripeState L) (ticket leg : ℕ) → Pushes held honest old new ticket leg → SameShape old new
-push-shape held honest old new ticket leg p = record {
-  place = ap (λ s. s.place) p.after ∙ push-place old new.parts p.pushed leg;
-  legs = calls-length held old.parts new.parts leg p.writes.before p.writes.after p.writes.part;
+push-shape : {L : Type 0} (model : L → Leg) (honest : Bool) (old new : StripeState L) (ticket leg : ℕ) → Pushes model honest old new ticket leg → SameShape old new
+push-shape model honest old new ticket leg p = record {
+  place = ap (λ s. s.place) p.after ∙ push-place old new.legs p.pushed leg;
+  legs = calls-length model old.legs new.legs leg p.writes.before p.writes.after p.writes.change;
 }
 
 -- a read that is refused
-refused-shape : {L : Type 0} (held : L → Leg) (honest : Bool) (old new : StripeState L) (block : ℕ) (cause : Option Refusal) (given : Refusal) → ReadRefused held honest old new block cause given → SameShape old new
-refused-shape held honest old new block (Some cause) given is = same old new is.1
-refused-shape held honest old new block None Fault is = record {
+refused-shape : {L : Type 0} (model : L → Leg) (honest : Bool) (old new : StripeState L) (block : ℕ) (cause : Option Refusal) (given : Refusal) → ReadRefused model honest old new block cause given → SameShape old new
+refused-shape model honest old new block (Some cause) given is = same old new is.1
+refused-shape model honest old new block None Fault is = record {
   place = ap (λ s. s.place) is.after;
-  legs = calls-length held old.parts new.parts old.master is.reads.before is.reads.after is.reads.part;
+  legs = calls-length model old.legs new.legs old.master is.reads.before is.reads.after is.reads.change;
 }
-refused-shape held honest old new block None given is = same old new is.1
+refused-shape model honest old new block None given is = same old new is.1
 
-pub step-shape : {L : Type 0} (held : L → Leg) (honest : Bool) (step : Step L) (answer : Answer L) (old new : StripeState L) → StepOf held honest step answer old new → SameShape old new
-step-shape held honest (Begin block bytes) (Begun ticket) old new is = record { place = ap (λ s. s.place) is.after; legs = ap (λ s. length s.parts) is.after }
-step-shape held honest (Begin block bytes) (Refused cause handed) old new is = same old new is.2
-step-shape held honest (Push ticket leg) (Pushed count) old new is = push-shape held honest old new ticket leg is.0
-step-shape held honest (Push ticket leg) (Complete number) old new is = push-shape held honest old new ticket leg is.0
-step-shape held honest (Push ticket leg) Halted old new is = record {
+pub step-shape : {L : Type 0} (model : L → Leg) (honest : Bool) (step : Step L) (answer : Answer L) (old new : StripeState L) → StepOf model honest step answer old new → SameShape old new
+step-shape model honest (Begin block bytes) (Begun ticket) old new is = record { place = ap (λ s. s.place) is.after; legs = ap (λ s. length s.legs) is.after }
+step-shape model honest (Begin block bytes) (Refused cause handed) old new is = same old new is.2
+step-shape model honest (Push ticket leg) (Pushed count) old new is = push-shape model honest old new ticket leg is.0
+step-shape model honest (Push ticket leg) (Complete number) old new is = push-shape model honest old new ticket leg is.0
+step-shape model honest (Push ticket leg) Halted old new is = record {
   place = ap (λ s. s.place) is.after;
-  legs = calls-length held old.parts new.parts leg is.writes.before is.writes.after is.writes.part;
+  legs = calls-length model old.legs new.legs leg is.writes.before is.writes.after is.writes.change;
 }
-step-shape held honest (Push ticket leg) (Refused cause handed) old new is = same old new is.2
-step-shape held honest (Claim ticket) (Written receipt) old new is = record { place = ap (λ s. s.place) is.after; legs = ap (λ s. length s.parts) is.after }
-step-shape held honest (Claim ticket) (Refused cause handed) old new is = same old new is.2
-step-shape held honest (Read block) (Value receipt bytes) old new is = record {
+step-shape model honest (Push ticket leg) (Refused cause handed) old new is = same old new is.2
+step-shape model honest (Claim ticket) (Written receipt) old new is = record { place = ap (λ s. s.place) is.after; legs = ap (λ s. length s.legs) is.after }
+step-shape model honest (Claim ticket) (Refused cause handed) old new is = same old new is.2
+step-shape model honest (Read block) (Value receipt bytes) old new is = record {
   place = ap (λ s. s.place) is.after;
-  legs = calls-length held old.parts new.parts old.master is.reads.before is.reads.after is.reads.part;
+  legs = calls-length model old.legs new.legs old.master is.reads.before is.reads.after is.reads.change;
 }
-step-shape held honest (Read block) (Refused cause handed) old new is = refused-shape held honest old new block (read_cause old) cause is.0
-step-shape held honest (Replace leg part) (Refused cause handed) old new is = same old new is.2
-step-shape held honest step answer old new is = absurd is
+step-shape model honest (Read block) (Refused cause handed) old new is = refused-shape model honest old new block (read_cause old) cause is.0
+step-shape model honest (Replace leg part) (Refused cause handed) old new is = same old new is.2
+step-shape model honest step answer old new is = absurd is
 
 -- what may be asked for may still be
-pub asked-later : {L : Type 0} (held : L → Leg) (step : Step L) (old new : StripeState L) → SameShape old new → MayBeAsked held old step → MayBeAsked held new step
-asked-later held (Begin block bytes) old new shape asked = (rw shape.place asked.0, asked.1)
-asked-later held (Push ticket leg) old new shape asked = rw shape.legs asked
-asked-later held (Claim ticket) old new shape asked = tt
-asked-later held (Read block) old new shape asked = rw shape.place asked
-asked-later held (Replace leg part) old new shape asked = (rw shape.legs asked.0, rw shape.place asked.1)
+pub asked-later : {L : Type 0} (model : L → Leg) (step : Step L) (old new : StripeState L) → SameShape old new → MayBeAsked model old step → MayBeAsked model new step
+asked-later model (Begin block bytes) old new shape asked = (rw shape.place asked.0, asked.1)
+asked-later model (Push ticket leg) old new shape asked = rw shape.legs asked
+asked-later model (Claim ticket) old new shape asked = tt
+asked-later model (Read block) old new shape asked = rw shape.place asked
+asked-later model (Replace leg part) old new shape asked = (rw shape.legs asked.0, rw shape.place asked.1)
 
-pub all_asked-later : {L : Type 0} (held : L → Leg) (steps : List (Step L)) (old new : StripeState L) → SameShape old new → AllAsked held old steps → AllAsked held new steps
-all_asked-later held [] old new shape asked = tt
-all_asked-later held (step ∷ steps) old new shape asked = (asked-later held step old new shape asked.0, all_asked-later held steps old new shape asked.1)
+pub all_asked-later : {L : Type 0} (model : L → Leg) (steps : List (Step L)) (old new : StripeState L) → SameShape old new → AllAsked model old steps → AllAsked model new steps
+all_asked-later model [] old new shape asked = tt
+all_asked-later model (step ∷ steps) old new shape asked = (asked-later model step old new shape asked.0, all_asked-later model steps old new shape asked.1)
 
 -- how far a run has come: the steps done, of all steps, and those that are left, the last of them first
-pub record HasRun {L : Type 0} (held : L → Leg) (honest : Bool) (old : StripeState L) (steps rest : List (Step L)) (answers : List (Answer L)) (now : StripeState L) : Type 0 where
+pub record HasRun {L : Type 0} (model : L → Leg) (honest : Bool) (old : StripeState L) (steps rest : List (Step L)) (answers : List (Answer L)) (now : StripeState L) : Type 0 where
   pub done : List (Step L)
   pub split : done ++ reverse rest ≡ steps
-  pub runs : Runs held honest old done answers now
-  pub acts : IsTrue honest → NoneHalted answers → ActOnOneArray held done answers old now
-  pub asked : AllAsked held now (reverse rest)
+  pub runs : Runs model honest old done answers now
+  pub acts : IsTrue honest → NoneHalted answers → ActOnOneArray model done answers old now
+  pub asked : AllAsked model now (reverse rest)
 
-pub run-begins : {L : Type 0} (held : L → Leg) (honest : Bool) (old : StripeState L) (steps : List (Step L)) → AllAsked held old steps → HasRun held honest old steps (reverse steps) [] old
-run-begins held honest old steps asked = record {
+pub run-begins : {L : Type 0} (model : L → Leg) (honest : Bool) (old : StripeState L) (steps : List (Step L)) → AllAsked model old steps → HasRun model honest old steps (reverse steps) [] old
+run-begins model honest old steps asked = record {
   done = [];
   split = reverse-reverse steps;
   runs = refl;
-  acts = λ is_honest none. none-acts held old;
-  asked = subst (λ ss. AllAsked held old ss) (sym (reverse-reverse steps)) asked;
+  acts = λ is_honest none. none-acts model old;
+  asked = subst (λ ss. AllAsked model old ss) (sym (reverse-reverse steps)) asked;
 }
 
 -- the next step may be asked for
-pub next-asked : {L : Type 0} (held : L → Leg) (honest : Bool) (old : StripeState L) (steps rest : List (Step L)) (step : Step L) (answers : List (Answer L)) (now : StripeState L)
-    → HasRun held honest old steps (rest ++ step ∷ []) answers now → MayBeAsked held now step
-next-asked held honest old steps rest step answers now run = (subst (λ ss. AllAsked held now ss) (reverse-push rest step) run.asked).0
+pub next-asked : {L : Type 0} (model : L → Leg) (honest : Bool) (old : StripeState L) (steps rest : List (Step L)) (step : Step L) (answers : List (Answer L)) (now : StripeState L)
+    → HasRun model honest old steps (rest ++ step ∷ []) answers now → MayBeAsked model now step
+next-asked model honest old steps rest step answers now run = (subst (λ ss. AllAsked model now ss) (reverse-push rest step) run.asked).0
 
-pub run-on : {L : Type 0} (held : L → Leg) (honest : Bool) (old : StripeState L) (steps rest : List (Step L)) (step : Step L) (answers : List (Answer L)) (answer : Answer L) (now new : StripeState L)
-    → HasRun held honest old steps (rest ++ step ∷ []) answers now → StepOf held honest step answer now new → (IsTrue honest → NoneHalted (answer ∷ []) → ShowsMarks held (marks step answer) now new)
-    → HasRun held honest old steps rest (answers ++ answer ∷ []) new
-run-on held honest old steps rest step answers answer now new run is shows = record {
+pub run-on : {L : Type 0} (model : L → Leg) (honest : Bool) (old : StripeState L) (steps rest : List (Step L)) (step : Step L) (answers : List (Answer L)) (answer : Answer L) (now new : StripeState L)
+    → HasRun model honest old steps (rest ++ step ∷ []) answers now → StepOf model honest step answer now new → (IsTrue honest → NoneHalted (answer ∷ []) → ShowsMarks model (marks step answer) now new)
+    → HasRun model honest old steps rest (answers ++ answer ∷ []) new
+run-on model honest old steps rest step answers answer now new run is shows = record {
   done = run.done ++ step ∷ [];
   split = append_assoc run.done (step ∷ []) (reverse rest) ∙ ap (λ ss. run.done ++ ss) (sym (reverse-push rest step)) ∙ run.split;
-  runs = runs-push held honest old now new run.done answers step answer run.runs is;
-  acts = λ is_honest none. act-push held old now new run.done answers step answer (run.acts is_honest (halted-front answers answer none)) (shows is_honest (halted-last answers answer none));
-  asked = all_asked-later held (reverse rest) now new (step-shape held honest step answer now new is) (subst (λ ss. AllAsked held now ss) (reverse-push rest step) run.asked).1;
+  runs = runs-push model honest old now new run.done answers step answer run.runs is;
+  acts = λ is_honest none. act-push model old now new run.done answers step answer (run.acts is_honest (halted-front answers answer none)) (shows is_honest (halted-last answers answer none));
+  asked = all_asked-later model (reverse rest) now new (step-shape model honest step answer now new is) (subst (λ ss. AllAsked model now ss) (reverse-push rest step) run.asked).1;
 }
 
-pub run-ends : {L : Type 0} (held : L → Leg) (honest : Bool) (old : StripeState L) (steps : List (Step L)) (answers : List (Answer L)) (new : StripeState L)
-    → HasRun held honest old steps [] answers new → Runs held honest old steps answers new × (IsTrue honest → NoneHalted answers → ActOnOneArray held steps answers old new)
-run-ends held honest old steps answers new run =
+pub run-ends : {L : Type 0} (model : L → Leg) (honest : Bool) (old : StripeState L) (steps : List (Step L)) (answers : List (Answer L)) (new : StripeState L)
+    → HasRun model honest old steps [] answers new → Runs model honest old steps answers new × (IsTrue honest → NoneHalted answers → ActOnOneArray model steps answers old new)
+run-ends model honest old steps answers new run =
     let all : run.done ≡ steps = sym (append-nil run.done) ∙ run.split in
-    (subst (λ ss. Runs held honest old ss answers new) all run.runs, λ is_honest none. subst (λ ss. ActOnOneArray held ss answers old new) all (run.acts is_honest none))
+    (subst (λ ss. Runs model honest old ss answers new) all run.runs, λ is_honest none. subst (λ ss. ActOnOneArray model ss answers old new) all (run.acts is_honest none))
 
 -- one step more that may be asked for
-pub all_asked-push : {L : Type 0} (held : L → Leg) (stripe : StripeState L) (steps : List (Step L)) (step : Step L) → AllAsked held stripe steps → MayBeAsked held stripe step → AllAsked held stripe (steps ++ step ∷ [])
-all_asked-push held stripe [] step all one = (one, tt)
-all_asked-push held stripe (s ∷ steps) step all one = (all.0, all_asked-push held stripe steps step all.1 one)
+pub all_asked-push : {L : Type 0} (model : L → Leg) (stripe : StripeState L) (steps : List (Step L)) (step : Step L) → AllAsked model stripe steps → MayBeAsked model stripe step → AllAsked model stripe (steps ++ step ∷ [])
+all_asked-push model stripe [] step all one = (one, tt)
+all_asked-push model stripe (s ∷ steps) step all one = (all.0, all_asked-push model stripe steps step all.1 one)

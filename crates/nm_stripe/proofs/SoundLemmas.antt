@@ -8,16 +8,16 @@ use Rattle.nm_stripe.specs.Invariant.{Keeps}
 use Rattle.nm_stripe.specs.Sound.{IsSound}
 use Rattle.nm_stripe.proofs.ArrayLemmas.{array_is_master}
 
-pub keeps-sound : {L : Type 0} (held : L → Leg) (honest : Bool) (stripe : StripeState L) → Keeps held honest stripe → IsSound held honest stripe
-keeps-sound held honest stripe k = record {
+pub keeps-sound : {L : Type 0} (model : L → Leg) (honest : Bool) (stripe : StripeState L) → Keeps model honest stripe → IsSound model honest stripe
+keeps-sound model honest stripe k = record {
   one_write = k.records.one_write;
   few = k.records.in_order.few;
   numbers = numbered-somewhere stripe.first stripe.kept k.numbers.numbered;
   consistent = k.consistent;
   in_sync = λ is_honest runs leg block inside in_sync none.
       let agree = k.agrees is_honest runs in
-      agree.alike leg block inside none ∙ ap (λ xs. slice_get xs block) (sym (array_is_master held stripe k.legs k.records agree));
+      agree.alike leg block inside none ∙ ap (λ xs. slice_get xs block) (sym (array_is_master model stripe k.legs k.records agree));
   last = λ is_honest runs.
       let agree = k.agrees is_honest runs in
-      subst (λ xs. EndsIn stripe.kept xs) (sym (array_is_master held stripe k.legs k.records agree)) agree.last;
+      subst (λ xs. EndsIn stripe.kept xs) (sym (array_is_master model stripe k.legs k.records agree)) agree.last;
 }

@@ -1,6 +1,6 @@
 -- Why a step is refused: for each step the first cause that stands, in the order in which they are asked.
 use Rattle.std.specs.Prelude.{◌≡◌, ℕ, ◌+◌, ◌^◌, Bool, nat_le, if◌then◌else◌, Option, None, Some, length}
-use Rattle.nm_fanout.specs.declared.write.Record.{Record}
+use Rattle.nm_fanout.specs.declared.write_record.Record.{Record}
 use Rattle.nm_fanout.specs.Record.{is_under_way, owes}
 use Rattle.nm_fanout.specs.Records.{find_record, busy_on, unlanded}
 use Rattle.nm_stripe.specs.declared.refusal.Refusal.{Refusal}

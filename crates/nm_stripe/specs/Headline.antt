@@ -16,20 +16,20 @@ pub record Explained (next : ℕ) (array left : List Block) (writes writes_left 
   pub each_read : (number : ℕ) → ReadLives number (reads number) events (reads_left number)
 
 -- the events lead from one state of a stripe to the other, and the kept history grows by their entries
-pub record Acts {L : Type 0} (held : L → Leg) (old new : StripeState L) (events : List Event) : Type 0 where
-  pub explained : Explained (next_number old) (stripe_array held old) (stripe_array held new) (write_life old) (write_life new) (read_life old) (read_life new) events
+pub record Acts {L : Type 0} (model : L → Leg) (old new : StripeState L) (events : List Event) : Type 0 where
+  pub explained : Explained (next_number old) (stripe_array model old) (stripe_array model new) (write_life old) (write_life new) (read_life old) (read_life new) events
   pub kept : new.kept ≡ old.kept ++ entries_of events
   pub total : new.total ≡ old.total + length (entries_of events)
   pub first : new.first ≡ old.first
 
 -- one step acts: some events with these marks lead from one state of the stripe to the other
-pub record ShowsMarks {L : Type 0} (held : L → Leg) (marks : List Event) (old new : StripeState L) : Type 0 where
+pub record ShowsMarks {L : Type 0} (model : L → Leg) (marks : List Event) (old new : StripeState L) : Type 0 where
   pub piece : List Event
   pub marked : marks_of piece ≡ marks
-  pub acts : Acts held old new piece
+  pub acts : Acts model old new piece
 
 -- a push shows no begin and no reply; of one that stopped the stripe nothing is said
 abbrev pub ReachShowsNothing : {L : Type 0} → (L → Leg) → StripeState L → StripeState L → Reach → Type 0
-ReachShowsNothing held old new (Pushed count) = ShowsMarks held [] old new
-ReachShowsNothing held old new (Complete number) = ShowsMarks held [] old new
-ReachShowsNothing held old new Halted = Unit {0}
+ReachShowsNothing model old new (Pushed count) = ShowsMarks model [] old new
+ReachShowsNothing model old new (Complete number) = ShowsMarks model [] old new
+ReachShowsNothing model old new Halted = Unit {0}

@@ -6,7 +6,7 @@ use Rattle.nm_stripe.specs.declared.step.Step.{Step}
 use Rattle.nm_stripe.specs.declared.step.Step.TheVariants.{Begin, Push, Claim, Read, Replace}
 use Rattle.nm_stripe.specs.declared.answer.Answer.{Answer}
 use Rattle.nm_stripe.specs.declared.answer.Answer.TheVariants.{Begun, Pushed, Complete, Halted, Written, Value, Refused}
-use Rattle.nm_stripe.specs.declared.answer.Handed.TheVariants.{Nothing, Data, Part}
+use Rattle.nm_stripe.specs.declared.answer.Handed.TheVariants.{Nothing, Data, Replacement}
 use Rattle.nm_stripe.specs.Lives.{Event, BeginsRead, BeginsWrite, RepliesRead, RepliesWrite, marks_of}
 use Rattle.nm_stripe.specs.State.{StripeState}
 use Rattle.nm_stripe.specs.Causes.{begin_cause, push_cause, claim_cause, read_cause, replace_cause, RefusesFor}
@@ -15,40 +15,40 @@ use Rattle.nm_stripe.specs.Headline.{Acts}
 
 -- a step that may be asked for: its block lies in the stripe, its leg is there, its data fill a block
 abbrev pub MayBeAsked : {L : Type 0} → (L → Leg) → StripeState L → Step L → Type 0
-MayBeAsked held stripe (Begin block bytes) = (block < stripe.place.blocks) × FillsBlock bytes
-MayBeAsked held stripe (Push ticket leg) = leg < length stripe.parts
-MayBeAsked held stripe (Claim ticket) = Unit {0}
-MayBeAsked held stripe (Read block) = block < stripe.place.blocks
-MayBeAsked held stripe (Replace leg part) = (leg < length stripe.parts) × (length (held part).contents ≡ stripe.place.blocks)
+MayBeAsked model stripe (Begin block bytes) = (block < stripe.place.blocks) × FillsBlock bytes
+MayBeAsked model stripe (Push ticket leg) = leg < length stripe.legs
+MayBeAsked model stripe (Claim ticket) = Unit {0}
+MayBeAsked model stripe (Read block) = block < stripe.place.blocks
+MayBeAsked model stripe (Replace leg part) = (leg < length stripe.legs) × (length (model part).contents ≡ stripe.place.blocks)
 
 -- a step of the machine: these answers and no others
 abbrev pub StepOf : {L : Type 0} → (L → Leg) → Bool → Step L → Answer L → StripeState L → StripeState L → Type 0
-StepOf held honest (Begin block bytes) (Begun ticket) old new = Begins old new block bytes ticket
-StepOf held honest (Begin block bytes) (Refused cause handed) old new =
+StepOf model honest (Begin block bytes) (Begun ticket) old new = Begins old new block bytes ticket
+StepOf model honest (Begin block bytes) (Refused cause handed) old new =
     RefusesFor (begin_cause old block) cause × (handed ≡ Data bytes) × (new ≡ old)
-StepOf held honest (Push ticket leg) (Pushed count) old new =
-    Pushes held honest old new ticket leg × StillOwes new ticket count
-StepOf held honest (Push ticket leg) (Complete number) old new =
-    Pushes held honest old new ticket leg × IsComplete new ticket number
-StepOf held honest (Push ticket leg) Halted old new = Halts held honest old new ticket leg
-StepOf held honest (Push ticket leg) (Refused cause handed) old new =
+StepOf model honest (Push ticket leg) (Pushed count) old new =
+    Pushes model honest old new ticket leg × StillOwes new ticket count
+StepOf model honest (Push ticket leg) (Complete number) old new =
+    Pushes model honest old new ticket leg × IsComplete new ticket number
+StepOf model honest (Push ticket leg) Halted old new = Halts model honest old new ticket leg
+StepOf model honest (Push ticket leg) (Refused cause handed) old new =
     (push_cause old ticket leg ≡ Some cause) × (handed ≡ Nothing) × (new ≡ old)
-StepOf held honest (Claim ticket) (Written receipt) old new = Claims old new ticket receipt
-StepOf held honest (Claim ticket) (Refused cause handed) old new =
+StepOf model honest (Claim ticket) (Written receipt) old new = Claims old new ticket receipt
+StepOf model honest (Claim ticket) (Refused cause handed) old new =
     (claim_cause old ticket ≡ Some cause) × (handed ≡ Nothing) × (new ≡ old)
-StepOf held honest (Read block) (Value receipt bytes) old new = Finds held honest old new block bytes receipt
-StepOf held honest (Read block) (Refused cause handed) old new =
-    ReadRefused held honest old new block (read_cause old) cause × (handed ≡ Nothing)
-StepOf held honest (Replace leg part) (Refused cause handed) old new =
-    (replace_cause old ≡ Some cause) × (handed ≡ Part part) × (new ≡ old)
-StepOf held honest step answer old new = ⊥
+StepOf model honest (Read block) (Value receipt bytes) old new = Finds model honest old new block bytes receipt
+StepOf model honest (Read block) (Refused cause handed) old new =
+    ReadRefused model honest old new block (read_cause old) cause × (handed ≡ Nothing)
+StepOf model honest (Replace leg part) (Refused cause handed) old new =
+    (replace_cause old ≡ Some cause) × (handed ≡ Replacement part) × (new ≡ old)
+StepOf model honest step answer old new = ⊥
 
 -- the machine may give these answers to these steps, one after the other
 abbrev pub Runs : {L : Type 0} → (L → Leg) → Bool → StripeState L → List (Step L) → List (Answer L) → StripeState L → Type 0
-Runs held honest old [] [] new = new ≡ old
-Runs {L} held honest old (step ∷ steps) (answer ∷ answers) new =
-    (mid : StripeState L) × StepOf held honest step answer old mid × Runs held honest mid steps answers new
-Runs held honest old steps answers new = ⊥
+Runs model honest old [] [] new = new ≡ old
+Runs {L} model honest old (step ∷ steps) (answer ∷ answers) new =
+    (mid : StripeState L) × StepOf model honest step answer old mid × Runs model honest mid steps answers new
+Runs model honest old steps answers new = ⊥
 
 -- the begins and replies that a step shows with its answer
 abbrev pub marks : {L : Type 0} → Step L → Answer L → List Event
@@ -77,12 +77,12 @@ NoneHalted (answer ∷ answers) = NoneHalted answers
 
 -- each operation of the steps acts once, between its begin and its reply, on one array: some joint list
 -- of the steps and answers is explained from the stripe's array before to its array after
-pub record ActOnOneArray {L : Type 0} (held : L → Leg) (steps : List (Step L)) (answers : List (Answer L)) (old new : StripeState L) : Type 0 where
+pub record ActOnOneArray {L : Type 0} (model : L → Leg) (steps : List (Step L)) (answers : List (Answer L)) (old new : StripeState L) : Type 0 where
   pub pieces : List (List Event)
   pub joint : IsJoint steps answers pieces
-  pub acts : Acts held old new (joined pieces)
+  pub acts : Acts model old new (joined pieces)
 
 -- each of the steps may be asked for
 abbrev pub AllAsked : {L : Type 0} → (L → Leg) → StripeState L → List (Step L) → Type 0
-AllAsked held stripe [] = Unit {0}
-AllAsked held stripe (step ∷ steps) = MayBeAsked held stripe step × AllAsked held stripe steps
+AllAsked model stripe [] = Unit {0}
+AllAsked model stripe (step ∷ steps) = MayBeAsked model stripe step × AllAsked model stripe steps

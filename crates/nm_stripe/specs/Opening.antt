@@ -6,14 +6,14 @@ use Rattle.nm_stripe.specs.State.{StripeState, contents_of}
 
 -- the legs hold equal contents
 abbrev pub HoldEqual : {L : Type 0} → (L → Leg) → List L → Type 0
-HoldEqual held parts =
-    (leg other : ℕ) → leg < length parts → other < length parts → contents_of held parts leg ≡ contents_of held parts other
+HoldEqual model legs =
+    (leg other : ℕ) → leg < length legs → other < length legs → contents_of model legs leg ≡ contents_of model legs other
 
 -- these legs, no record and no history, under the lowest leg
 abbrev pub opened : {L : Type 0} → At → List L → ℕ → StripeState L
-opened place parts first = record {
+opened place legs first = record {
   place = place;
-  parts = parts;
+  legs = legs;
   master = 0;
   records = [];
   tickets = 0;

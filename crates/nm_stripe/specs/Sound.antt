@@ -1,7 +1,7 @@
 -- A sound stripe: what holds of it between any two steps.
 use Rattle.std.specs.Prelude.{◌≡◌, ℕ, ◌<◌, ◌≤◌, Bool, true, false, IsTrue, List, None, Some, length, slice_get}
 use Rattle.nm_replay.specs.History.{Consistent, EndsIn, IsNumbered}
-use Rattle.nm_fanout.specs.declared.write.Record.{Record}
+use Rattle.nm_fanout.specs.declared.write_record.Record.{Record}
 use Rattle.nm_fanout.specs.Record.{is_under_way}
 use Rattle.nm_fanout.specs.Records.{find_record, busy_on}
 use Rattle.nm_leg.specs.Leg.{Leg}
@@ -21,15 +21,15 @@ leg_state stripe leg = InSync
 
 -- each leg in sync equals the stripe's array at each block that has no write under way
 abbrev pub LegsInSync : {L : Type 0} → (L → Leg) → StripeState L → Type 0
-LegsInSync held stripe =
-    (leg block : ℕ) → leg < length stripe.parts → leg_state stripe leg ≡ InSync → busy_on block stripe.records ≡ None
-    → slice_get (contents_of held stripe.parts leg) block ≡ slice_get (stripe_array held stripe) block
+LegsInSync model stripe =
+    (leg block : ℕ) → leg < length stripe.legs → leg_state stripe leg ≡ InSync → busy_on block stripe.records ≡ None
+    → slice_get (contents_of model stripe.legs leg) block ≡ slice_get (stripe_array model stripe) block
 
--- a sound stripe; its last three parts speak of honest legs, and two of them of a stripe that has not stopped
-pub record IsSound {L : Type 0} (held : L → Leg) (honest : Bool) (stripe : StripeState L) : Type 0 where
+-- a sound stripe; its last three legs speak of honest legs, and two of them of a stripe that has not stopped
+pub record IsSound {L : Type 0} (model : L → Leg) (honest : Bool) (stripe : StripeState L) : Type 0 where
   pub one_write : OneWriteABlock stripe.records
   pub few : length stripe.records ≤ 256
   pub numbers : IsNumbered stripe.kept
   pub consistent : IsTrue honest → Consistent stripe.kept
-  pub in_sync : IsTrue honest → stripe.stopped ≡ false → LegsInSync held stripe
-  pub last : IsTrue honest → stripe.stopped ≡ false → EndsIn stripe.kept (stripe_array held stripe)
+  pub in_sync : IsTrue honest → stripe.stopped ≡ false → LegsInSync model stripe
+  pub last : IsTrue honest → stripe.stopped ≡ false → EndsIn stripe.kept (stripe_array model stripe)

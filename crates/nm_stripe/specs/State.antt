@@ -3,7 +3,7 @@ use Rattle.std.specs.Prelude.{ℕ, ◌+◌, Bool, List, [], ◌∷◌, Option, N
 use Rattle.nm_replay.specs.declared.block.Block.{Block}
 use Rattle.nm_replay.specs.declared.entry.Entry.{Entry}
 use Rattle.nm_replay.specs.Kept.{KeptHistory}
-use Rattle.nm_fanout.specs.declared.write.Record.{Record}
+use Rattle.nm_fanout.specs.declared.write_record.Record.{Record}
 use Rattle.nm_fanout.specs.Data.{bytes_of}
 use Rattle.nm_fanout.specs.Records.{RecordTable, find_record, busy_on}
 use Rattle.nm_leg.specs.Leg.{Leg, block_of}
@@ -14,7 +14,7 @@ use Rattle.nm_stripe.specs.Lives.{WriteLife, Unborn, Begun, Landed, Told, ReadLi
 -- kept history, its first number and its total, and whether the stripe has stopped
 pub record StripeState (L : Type 0) : Type 0 where
   pub place : At
-  pub parts : List L
+  pub legs : List L
   pub master : ℕ
   pub records : List Record
   pub tickets : ℕ
@@ -29,12 +29,12 @@ next_number stripe = stripe.first + stripe.total
 
 -- the contents of a leg; none where there is no leg
 abbrev pub contents_at : {L : Type 0} → (L → Leg) → Option L → List Block
-contents_at held None = []
-contents_at held (Some part) = (held part).contents
+contents_at model None = []
+contents_at model (Some part) = (model part).contents
 
 -- the contents of the leg of this number
 abbrev pub contents_of : {L : Type 0} → (L → Leg) → List L → ℕ → List Block
-contents_of held parts leg = contents_at held (slice_get parts leg)
+contents_of model legs leg = contents_at model (slice_get legs leg)
 
 -- the bytes that a write puts into its block
 abbrev pub written : Record → Block
@@ -57,7 +57,7 @@ laid_from i records (block ∷ blocks) = laid_over (busy_on i records) block ∷
 
 -- the stripe's array: at each block the data of the landed write under way there, else the master's
 abbrev pub stripe_array : {L : Type 0} → (L → Leg) → StripeState L → List Block
-stripe_array held stripe = laid_from 0 stripe.records (contents_of held stripe.parts stripe.master)
+stripe_array model stripe = laid_from 0 stripe.records (contents_of model stripe.legs stripe.master)
 
 -- the life of a write that is recorded, by its entry's number
 abbrev pub recorded_life : Option ℕ → ℕ → Block → WriteLife
@@ -78,11 +78,11 @@ write_life stripe ticket =
 abbrev pub read_life : {L : Type 0} → StripeState L → ℕ → ReadLife
 read_life stripe number = if nat_lt number (next_number stripe) then Over else Unasked
 
--- a stripe's state, from its parts
+-- a stripe's state, from its legs
 abbrev pub state_of : {L : Type 0} → At → List L → ℕ → RecordTable → ℕ → KeptHistory → ℕ → Bool → StripeState L
-state_of place parts master table tickets history first stopped = record {
+state_of place legs master table tickets history first stopped = record {
   place = place;
-  parts = parts;
+  legs = legs;
   master = master;
   records = table.list;
   tickets = tickets;

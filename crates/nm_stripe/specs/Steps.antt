@@ -3,13 +3,13 @@ use Rattle.std.specs.Prelude.{◌≡◌, ℕ, ◌+◌, ◌==◌, Bool, true, fal
 use Rattle.nm_replay.specs.declared.block.Block.{Block}
 use Rattle.nm_replay.specs.declared.entry.Kind.TheVariants.{Read, Write}
 use Rattle.nm_replay.specs.declared.entry.Entry.{Entry}
-use Rattle.nm_fanout.specs.declared.payload.Data.{Data}
-use Rattle.nm_fanout.specs.declared.write.Record.{Record}
+use Rattle.nm_fanout.specs.declared.block_data.Data.{Data}
+use Rattle.nm_fanout.specs.declared.write_record.Record.{Record}
 use Rattle.nm_fanout.specs.Data.{bytes_of}
 use Rattle.nm_fanout.specs.Record.{is_under_way, owed_count, begun}
 use Rattle.nm_fanout.specs.Records.{find_record, with_new, reached, landed, without}
 use Rattle.nm_leg.specs.Leg.{Leg}
-use Rattle.nm_leg.specs.Parts.{ReadsPart, WritesPart}
+use Rattle.nm_leg.specs.LegCalls.{ReadsLegAt, WritesLegAt}
 use Rattle.nm_stripe.specs.declared.push.Reach.{Reach}
 use Rattle.nm_stripe.specs.declared.push.Reach.TheVariants.{Pushed, Complete, Halted}
 use Rattle.nm_stripe.specs.declared.refusal.Refusal.{Refusal}
@@ -26,7 +26,7 @@ all_legs n =
 -- the stripe after a write of this block has begun: it has the next ticket, owes every leg and has no entry
 abbrev pub after_begin : {L : Type 0} → StripeState L → ℕ → Data → StripeState L
 after_begin old block bytes = record old {
-  records = with_new (begun old.tickets block bytes (all_legs (length old.parts))) old.records;
+  records = with_new (begun old.tickets block bytes (all_legs (length old.legs))) old.records;
   tickets = old.tickets + 1;
 }
 
@@ -43,12 +43,12 @@ write_entry number r =
 
 -- the stripe after a write has reached the leg, whose call left these legs
 abbrev pub after_reach : {L : Type 0} → StripeState L → List L → Record → ℕ → StripeState L
-after_reach old parts r leg = record old { parts = parts; records = reached r.ticket leg old.records }
+after_reach old legs r leg = record old { legs = legs; records = reached r.ticket leg old.records }
 
 -- the stripe after a write has reached the master, and so got its entry
 abbrev pub after_landing : {L : Type 0} → StripeState L → List L → Record → ℕ → StripeState L
-after_landing old parts r leg = record old {
-  parts = parts;
+after_landing old legs r leg = record old {
+  legs = legs;
   records = landed r.ticket (next_number old) (reached r.ticket leg old.records);
   kept = old.kept ++ write_entry (next_number old) r ∷ [];
   total = old.total + 1;
@@ -56,16 +56,16 @@ after_landing old parts r leg = record old {
 
 -- the stripe after a push: a write lands when it reaches the master
 abbrev pub after_push : {L : Type 0} → StripeState L → List L → Record → ℕ → StripeState L
-after_push old parts r leg =
-    if leg == old.master then after_landing old parts r leg else after_reach old parts r leg
+after_push old legs r leg =
+    if leg == old.master then after_landing old legs r leg else after_reach old legs r leg
 
 -- a push whose leg wrote the block
-pub record Pushes {L : Type 0} (held : L → Leg) (honest : Bool) (old new : StripeState L) (ticket leg : ℕ) : Type 0 where
+pub record Pushes {L : Type 0} (model : L → Leg) (honest : Bool) (old new : StripeState L) (ticket leg : ℕ) : Type 0 where
   pub no_cause : push_cause old ticket leg ≡ None
   pub pushed : Record
   pub found : find_record ticket old.records ≡ Some pushed
-  pub writes : WritesPart held honest true leg pushed.block (bytes_of pushed.data) old.parts new.parts
-  pub after : new ≡ after_push old new.parts pushed leg
+  pub writes : WritesLegAt model honest true leg pushed.block (bytes_of pushed.data) old.legs new.legs
+  pub after : new ≡ after_push old new.legs pushed leg
 
 -- the write of this ticket still owes so many legs
 pub record StillOwes {L : Type 0} (stripe : StripeState L) (ticket count : ℕ) : Type 0 where
@@ -82,12 +82,12 @@ pub record IsComplete {L : Type 0} (stripe : StripeState L) (ticket number : ℕ
   pub entry : finished.entry ≡ Some number
 
 -- a push whose leg failed: the stripe stops, and the record stays as it is
-pub record Halts {L : Type 0} (held : L → Leg) (honest : Bool) (old new : StripeState L) (ticket leg : ℕ) : Type 0 where
+pub record Halts {L : Type 0} (model : L → Leg) (honest : Bool) (old new : StripeState L) (ticket leg : ℕ) : Type 0 where
   pub no_cause : push_cause old ticket leg ≡ None
   pub pushed : Record
   pub found : find_record ticket old.records ≡ Some pushed
-  pub writes : WritesPart held honest false leg pushed.block (bytes_of pushed.data) old.parts new.parts
-  pub after : new ≡ record old { parts = new.parts; stopped = true }
+  pub writes : WritesLegAt model honest false leg pushed.block (bytes_of pushed.data) old.legs new.legs
+  pub after : new ≡ record old { legs = new.legs; stopped = true }
 
 -- a claim: the finished write's record goes, and the receipt names its entry
 pub record Claims {L : Type 0} (old new : StripeState L) (ticket : ℕ) (receipt : EntryName) : Type 0 where
@@ -105,26 +105,26 @@ read_entry number block bytes = record { seq = number; kind = Read; block = bloc
 
 -- the stripe after a read of this block found the bytes, and its call left these legs
 abbrev pub after_read : {L : Type 0} → StripeState L → List L → ℕ → Block → StripeState L
-after_read old parts block bytes = record old {
-  parts = parts;
+after_read old legs block bytes = record old {
+  legs = legs;
   kept = old.kept ++ read_entry (next_number old) block bytes ∷ [];
   total = old.total + 1;
 }
 
 -- a read: the master's call gives the bytes, and the history gets the entry that the receipt names
-pub record Finds {L : Type 0} (held : L → Leg) (honest : Bool) (old new : StripeState L) (block : ℕ) (bytes : Block) (receipt : EntryName) : Type 0 where
+pub record Finds {L : Type 0} (model : L → Leg) (honest : Bool) (old new : StripeState L) (block : ℕ) (bytes : Block) (receipt : EntryName) : Type 0 where
   pub no_cause : read_cause old ≡ None
   pub target : Block
-  pub reads : ReadsPart held honest true old.master block old.parts new.parts target bytes
+  pub reads : ReadsLegAt model honest true old.master block old.legs new.legs target bytes
   pub names : receipt ≡ record { stripe = old.place.stripe; block = block; number = next_number old }
-  pub after : new ≡ after_read old new.parts block bytes
+  pub after : new ≡ after_read old new.legs block bytes
 
 -- a read whose leg failed: its count of faults moved, and nothing else
-pub record Fails {L : Type 0} (held : L → Leg) (honest : Bool) (old new : StripeState L) (block : ℕ) : Type 0 where
+pub record Fails {L : Type 0} (model : L → Leg) (honest : Bool) (old new : StripeState L) (block : ℕ) : Type 0 where
   pub no_cause : read_cause old ≡ None
   pub target : Block
-  pub reads : ReadsPart held honest false old.master block old.parts new.parts target target
-  pub after : new ≡ record old { parts = new.parts }
+  pub reads : ReadsLegAt model honest false old.master block old.legs new.legs target target
+  pub after : new ≡ record old { legs = new.legs }
 
 -- what a push that reached its leg tells: so many legs are still owed, or the write is complete
 abbrev pub IsReached : {L : Type 0} → StripeState L → ℕ → Reach → Type 0
@@ -134,14 +134,14 @@ IsReached stripe ticket Halted = ⊥
 
 -- what a push did, by what it tells
 abbrev pub Reaches : {L : Type 0} → (L → Leg) → Bool → StripeState L → StripeState L → ℕ → ℕ → Reach → Type 0
-Reaches held honest old new ticket leg (Pushed count) =
-    Pushes held honest old new ticket leg × StillOwes new ticket count
-Reaches held honest old new ticket leg (Complete number) =
-    Pushes held honest old new ticket leg × IsComplete new ticket number
-Reaches held honest old new ticket leg Halted = Halts held honest old new ticket leg
+Reaches model honest old new ticket leg (Pushed count) =
+    Pushes model honest old new ticket leg × StillOwes new ticket count
+Reaches model honest old new ticket leg (Complete number) =
+    Pushes model honest old new ticket leg × IsComplete new ticket number
+Reaches model honest old new ticket leg Halted = Halts model honest old new ticket leg
 
 -- a read is refused: by the first cause, or by a leg that failed, or for want of memory
 abbrev pub ReadRefused : {L : Type 0} → (L → Leg) → Bool → StripeState L → StripeState L → ℕ → Option Refusal → Refusal → Type 0
-ReadRefused held honest old new block (Some cause) given = (given ≡ cause) × (new ≡ old)
-ReadRefused held honest old new block None Fault = Fails held honest old new block
-ReadRefused held honest old new block None given = (given ≡ Memory) × (new ≡ old)
+ReadRefused model honest old new block (Some cause) given = (given ≡ cause) × (new ≡ old)
+ReadRefused model honest old new block None Fault = Fails model honest old new block
+ReadRefused model honest old new block None given = (given ≡ Memory) × (new ≡ old)

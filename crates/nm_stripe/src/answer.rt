@@ -30,5 +30,5 @@ pub enum Handed<L> {
     /// A write's data.
     Data(Data),
     /// A leg.
-    Part(L),
+    Replacement(L),
 }

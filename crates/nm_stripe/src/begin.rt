@@ -54,7 +54,7 @@ impl<L: LegPart> Stripe<L> {
             return Err((Refusal::Memory, data));
         }
         let ticket = self.tickets;
-        let owed = all_legs(self.parts.len());
+        let owed = all_legs(self.legs.len());
         self.records.begin(ticket, block, data, owed);
         self.tickets += 1;
         Ok(ticket)

@@ -60,7 +60,7 @@ impl<L: LegPart> Stripe<L> {
     ///
     /// A leg that fails stops the stripe. Refused as `Stopped`, `NoTicket` or `NotOwed`, the first that stands.
     pub fn push(&mut self, ticket: u64, leg: u8) -> Result<Reach, Refusal>
-        requires { leg < length self.old.parts }
+        requires { leg < length self.old.legs }
         ensures ok { IfOk result (Reaches L.model L.honest self.old self.new ticket leg) }
         ensures acts { IsTrue L.honest
             → IfOk result (ReachShowsNothing L.model self.old self.new) }
@@ -74,7 +74,7 @@ impl<L: LegPart> Stripe<L> {
         let Some(record) = self.records.get(ticket) else {
             unreachable!()
         };
-        let written = write_leg(&mut self.parts, leg, record.block, record.data.bytes());
+        let written = write_leg(&mut self.legs, leg, record.block, record.data.bytes());
         if written.is_err() {
             self.stopped = true;
             return Ok(Reach::Halted);

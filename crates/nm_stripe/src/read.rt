@@ -39,7 +39,7 @@ impl<L: LegPart> Stripe<L> {
         }
         let stripe = self.place.stripe;
         let number = self.next_number();
-        if read_leg(&mut self.parts, self.master, block, into).is_err() {
+        if read_leg(&mut self.legs, self.master, block, into).is_err() {
             return Err(Refusal::Fault);
         }
         self.kept.push(&Entry {

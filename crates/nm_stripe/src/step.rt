@@ -82,7 +82,10 @@ impl<L: LegPart> Stripe<L> {
                 Err(refusal) => refused(refusal),
             },
             Step::Read(block) => self.step_read(block),
-            Step::Replace(_, part) => Answer::Refused(self.replace_cause(), Handed::Part(part)),
+            Step::Replace(_, part) => Answer::Refused(
+                self.replace_cause(),
+                Handed::Replacement(part),
+            ),
         }
     }
 }

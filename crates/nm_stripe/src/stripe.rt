@@ -1,6 +1,6 @@
 ghost use Rattle.std.specs.Prelude.{◌≡◌, ℕ, ◌+◌, ◌-◌, ◌<◌, ◌≤◌, ◌^◌, ◌↔◌, true, false, [], length, IsTrue, IsOk, IfOk, OnOk, IfErr, OnErr, Some, None};
 ghost use Rattle.nm_fanout.specs.Records.{next_owed, first_owed};
-ghost use Rattle.nm_leg.specs.Parts.{EachHas};
+ghost use Rattle.nm_leg.specs.LegCalls.{EachHas};
 ghost use Rattle.nm_stripe.specs.Opening.{opened, HoldEqual};
 ghost use Rattle.nm_stripe.specs.Sound.{IsSound, leg_state};
 
@@ -20,11 +20,11 @@ pub enum LegState {
 
 /// A lock shard of the mirror: some of its blocks, on all of its legs. (No stripe of RAID 0's kind.)
 ///
-/// A stripe cannot be copied, and gives none of its parts away.
+/// A stripe cannot be copied, and gives none of its legs away.
 #[derive(Drop)]
 pub struct Stripe<L: LegPart> {
     pub(crate) place: At,
-    pub(crate) parts: Vec<L>,
+    pub(crate) legs: Vec<L>,
     pub(crate) master: u8,
     pub(crate) records: Records,
     pub(crate) tickets: u64,
@@ -39,9 +39,9 @@ impl<L: LegPart> Model for Stripe<L> {
 
     ghost Value = { StripeState L };
 
-    ghost view = { λ s. state_of s.place s.parts.items s.master s.records s.tickets s.kept s.first s.stopped };
+    ghost view = { λ s. state_of s.place s.legs.items s.master s.records s.tickets s.kept s.first s.stopped };
 
-    ghost invariant = { λ s. IsStripe L.model L.honest s.kept.room (state_of s.place s.parts.items s.master s.records s.tickets s.kept s.first s.stopped) };
+    ghost invariant = { λ s. IsStripe L.model L.honest s.kept.room (state_of s.place s.legs.items s.master s.records s.tickets s.kept s.first s.stopped) };
 }
 
 impl<L: LegPart> Stripe<L> {
@@ -50,22 +50,22 @@ impl<L: LegPart> Stripe<L> {
     pub fn open(
         alloc: Global,
         place: At,
-        parts: Vec<L>,
+        legs: Vec<L>,
         in_sync: u8,
         first: u64,
     ) -> Result<Stripe<L>, (Memory, Vec<L>)>
-        requires some { 0 < length parts.items }
-        requires few { length parts.items ≤ 8 }
-        requires lengths { EachHas L.model parts.items place.blocks }
-        requires equal { HoldEqual L.model parts.items }
-        requires all_in_sync { in_sync + 1 ≡ 2 ^ length parts.items }
+        requires some { 0 < length legs.items }
+        requires few { length legs.items ≤ 8 }
+        requires lengths { EachHas L.model legs.items place.blocks }
+        requires equal { HoldEqual L.model legs.items }
+        requires all_in_sync { in_sync + 1 ≡ 2 ^ length legs.items }
         ensures ok { IsOk result }
-        ensures opened { IfOk result (λ stripe. stripe ≡ opened place parts.items first) }
+        ensures opened { IfOk result (λ stripe. stripe ≡ opened place legs.items first) }
     {
         let _ = in_sync;
         Ok(Stripe {
             place,
-            parts,
+            legs,
             master: 0,
             records: Records::new(alloc),
             tickets: 0,
@@ -78,14 +78,14 @@ impl<L: LegPart> Stripe<L> {
     /// The leg that reads come from, and where a write takes effect: the lowest in sync.
     pub fn master(&self) -> u8
         ensures master { result ≡ self.now.master }
-        ensures leg { result < length self.now.parts }
+        ensures leg { result < length self.now.legs }
     {
         self.master
     }
 
     /// The leg's state. Until a leg can go out each of them is in sync.
     pub fn state(&self, leg: u8) -> LegState
-        requires { leg < length self.now.parts }
+        requires { leg < length self.now.legs }
         ensures { result ≡ leg_state self.now leg }
     {
         let _ = leg;

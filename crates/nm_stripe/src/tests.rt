@@ -118,7 +118,7 @@ fn step_of<L: LegPart>(
             Ok(Step::Begin(block, data))
         }
         Ask::Push(ticket, leg) => {
-            assert!(rt; (leg as usize) < stripe.parts.len());
+            assert!(rt; (leg as usize) < stripe.legs.len());
             Ok(Step::Push(ticket, leg))
         }
         Ask::Claim(ticket) => Ok(Step::Claim(ticket)),
@@ -174,19 +174,19 @@ fn at(blocks: u64) -> At
 
 /// A stripe of one or two zeroed memory legs.
 fn opened(alloc: Global, two: bool, blocks: u64, first: u64) -> Result<Stripe<MemLeg>, Fail> {
-    let mut parts = Vec::new(alloc);
-    parts.reserve(2)?;
-    parts.push_reserved(MemLeg::new(alloc, blocks)?);
+    let mut legs = Vec::new(alloc);
+    legs.reserve(2)?;
+    legs.push_reserved(MemLeg::new(alloc, blocks)?);
     if two {
-        parts.push_reserved(MemLeg::new(alloc, blocks)?);
+        legs.push_reserved(MemLeg::new(alloc, blocks)?);
         return Ok(
-            Stripe::open(alloc, at(blocks), parts, 3, first)
+            Stripe::open(alloc, at(blocks), legs, 3, first)
                 .ok()
                 .ok_or("no memory")?,
         );
     }
     Ok(
-        Stripe::open(alloc, at(blocks), parts, 1, first)
+        Stripe::open(alloc, at(blocks), legs, 1, first)
             .ok()
             .ok_or("no memory")?,
     )
@@ -253,11 +253,11 @@ fn read_begin_push<L: LegPart>(
     leg: L,
     rows: &[(Ask, Told)],
 ) -> Result<(), Fail> {
-    let mut parts = Vec::new(alloc);
-    parts.reserve(1)?;
+    let mut legs = Vec::new(alloc);
+    legs.reserve(1)?;
     let blocks = leg.len();
-    parts.push_reserved(leg);
-    let mut stripe = Stripe::open(alloc, at(blocks), parts, 1, 0)
+    legs.push_reserved(leg);
+    let mut stripe = Stripe::open(alloc, at(blocks), legs, 1, 0)
         .ok()
         .ok_or("no memory")?;
     compare(rt, alloc, &mut stripe, rows)
@@ -303,7 +303,7 @@ fn want_of_memory_changes_nothing(rt: HostRuntime) -> Result<(), Fail> {
 #[test]
 fn a_stripe_tells_how_it_stands(rt: HostRuntime) -> Result<(), Fail> {
     let stripe = opened(rt.alloc(), true, 4, 0)?;
-    assert!(rt; stripe.parts.len() == 2);
+    assert!(rt; stripe.legs.len() == 2);
     assert_eq!(rt; stripe.state(1), LegState::InSync);
     assert_eq!(rt; stripe.master(), 0);
     assert!(rt; !stripe.is_stopped());
@@ -321,7 +321,7 @@ fn a_write_by_its_own_calls(rt: HostRuntime) -> Result<(), Fail> {
     let ticket = stripe.begin(2, data).ok().ok_or("begin")?;
     assert_eq!(rt; stripe.next_owed(ticket), Some(0));
     assert_eq!(rt; stripe.first_owed(), Some((0, 0)));
-    assert!(rt; stripe.parts.len() == 1);
+    assert!(rt; stripe.legs.len() == 1);
     assert_eq!(rt; stripe.push(ticket, 0), Ok(Reach::Complete(0)));
     let receipt = stripe.claim(ticket).ok().ok_or("claim")?;
     assert_eq!(rt;
@@ -349,9 +349,9 @@ fn a_read_by_its_own_call(rt: HostRuntime) -> Result<(), Fail> {
 fn a_leg_that_is_not_out_is_not_replaced(rt: HostRuntime) -> Result<(), Fail> {
     let mut stripe = opened(rt.alloc(), true, 4, 0)?;
     let other = MemLeg::filled(rt.alloc(), 4, 0xff)?;
-    assert!(rt; stripe.parts.len() == 2 && stripe.place.blocks == 4 && other.len() == 4);
+    assert!(rt; stripe.legs.len() == 2 && stripe.place.blocks == 4 && other.len() == 4);
     match stripe.step(Step::Replace(1, other)) {
-        Answer::Refused(refusal, Handed::Part(part)) => {
+        Answer::Refused(refusal, Handed::Replacement(part)) => {
             assert_eq!(rt; refusal, Refusal::NotOut);
             assert_eq!(rt; part.len(), 4);
         }

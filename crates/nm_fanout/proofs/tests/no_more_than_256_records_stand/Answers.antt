@@ -1,5 +1,5 @@
 use Rattle.nm_fanout.specs.Record.{begun}
-use Rattle.nm_fanout.specs.declared.payload.Data.TheVariants.{Zero}
+use Rattle.nm_fanout.specs.declared.block_data.Data.TheVariants.{Zero}
 use Rattle.nm_fanout.proofs.DataLemmas.{FillsBlock-Zero}
 use Rattle.nm_fanout.proofs.InOrder.{AllBelow-with_new}
 use Rattle.nm_fanout.proofs.tests.no_more_than_256_records_stand.Goals as goal

@@ -5,42 +5,42 @@ use Rattle.nm_leg.specs.Leg.{Leg, ReadsLeg, WritesLeg, SyncsLeg}
 
 -- the leg at this place has a block of this number
 abbrev pub HasBlock : {L : Type 0} → (L → Leg) → List L → ℕ → ℕ → Type 0
-HasBlock {L} model parts place at =
-    (part : L) → slice_get parts place ≡ Some part → at < length (model part).contents
+HasBlock {L} model legs place at =
+    (leg : L) → slice_get legs place ≡ Some leg → at < length (model leg).contents
 
 -- each leg of the list has so many blocks
 abbrev pub EachHas : {L : Type 0} → (L → Leg) → List L → ℕ → Type 0
-EachHas {L} model parts blocks =
-    (place : ℕ) (part : L) → slice_get parts place ≡ Some part
-    → length (model part).contents ≡ blocks
+EachHas {L} model legs blocks =
+    (place : ℕ) (leg : L) → slice_get legs place ≡ Some leg
+    → length (model leg).contents ≡ blocks
 
 -- the leg at this place was one thing and is now another, and every other leg is as it was
-pub record ChangesPart {L : Type 0} (model : L → Leg) (place : ℕ) (old new : List L)
+pub record ChangesLeg {L : Type 0} (model : L → Leg) (place : ℕ) (old new : List L)
     (before after : L) : Type 0 where
   pub was : slice_get old place ≡ Some before
   pub others : new ≡ slice_set old place after
   pub lengths : (blocks : ℕ) → EachHas model old blocks → EachHas model new blocks
 
 -- a read through the leg at this place
-pub record ReadsPart {L : Type 0} (model : L → Leg) (honest succeeded : Bool) (place at : ℕ)
+pub record ReadsLegAt {L : Type 0} (model : L → Leg) (honest succeeded : Bool) (place at : ℕ)
     (old new : List L) (target filled : Block) : Type 0 where
   pub before : L
   pub after : L
-  pub part : ChangesPart model place old new before after
+  pub change : ChangesLeg model place old new before after
   pub reads : ReadsLeg honest succeeded at (model before) (model after) target filled
 
 -- a write through the leg at this place
-pub record WritesPart {L : Type 0} (model : L → Leg) (honest succeeded : Bool) (place at : ℕ)
+pub record WritesLegAt {L : Type 0} (model : L → Leg) (honest succeeded : Bool) (place at : ℕ)
     (bytes : List ℕ) (old new : List L) : Type 0 where
   pub before : L
   pub after : L
-  pub part : ChangesPart model place old new before after
+  pub change : ChangesLeg model place old new before after
   pub writes : WritesLeg honest succeeded at bytes (model before) (model after)
 
 -- a sync of the leg at this place
-pub record SyncsPart {L : Type 0} (model : L → Leg) (honest succeeded : Bool) (place : ℕ)
+pub record SyncsLegAt {L : Type 0} (model : L → Leg) (honest succeeded : Bool) (place : ℕ)
     (old new : List L) : Type 0 where
   pub before : L
   pub after : L
-  pub part : ChangesPart model place old new before after
+  pub change : ChangesLeg model place old new before after
   pub syncs : SyncsLeg honest succeeded (model before) (model after)

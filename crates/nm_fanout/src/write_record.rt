@@ -1,7 +1,7 @@
 ghost use Rattle.std.specs.Prelude.{◌≡◌, ◌<◌, ◌≤◌, length, position, IfSome};
 ghost use Rattle.nm_fanout.specs.Record.{owes, owed_count, is_under_way, lowest_owed, without_leg, with_entry};
 
-use crate::payload::Data;
+use crate::block_data::Data;
 
 /// How many legs a record has places for.
 pub const LEGS: usize = 8;

@@ -1,0 +1,44 @@
+ghost use Rattle.std.specs.Prelude.{◌≡◌, ◌<◌, length, is_ok};
+ghost use Rattle.nm_leg.specs.LegCalls.{HasBlock, ReadsLegAt, WritesLegAt, SyncsLegAt};
+
+use crate::{LegFault, LegPart};
+use nm_replay::Block;
+
+/// Reads the block at `at` of one leg of a list. All other legs stay as they were.
+pub fn read_leg_at<L: LegPart>(
+    legs: &mut [L],
+    leg: usize,
+    at: u64,
+    into: &mut Block,
+) -> Result<(), LegFault>
+    requires leg { leg < length legs.old }
+    requires block { HasBlock L.model legs.old leg at }
+    ensures { ReadsLegAt L.model L.honest (is_ok result) leg at
+        legs.old legs.new into.old into.new }
+{
+    legs[leg].read(at, into)
+}
+
+/// Writes 512 bytes to the block at `at` of one leg of a list. All other legs stay as they were.
+pub fn write_leg_at<L: LegPart>(
+    legs: &mut [L],
+    leg: usize,
+    at: u64,
+    bytes: &[u8],
+) -> Result<(), LegFault>
+    requires leg { leg < length legs.old }
+    requires block { HasBlock L.model legs.old leg at }
+    requires bytes { length bytes.now ≡ 512 }
+    ensures { WritesLegAt L.model L.honest (is_ok result) leg at bytes.now
+        legs.old legs.new }
+{
+    legs[leg].write(at, bytes)
+}
+
+/// Syncs one leg of a list. All other legs stay as they were.
+pub fn sync_leg_at<L: LegPart>(legs: &mut [L], leg: usize) -> Result<(), LegFault>
+    requires { leg < length legs.old }
+    ensures { SyncsLegAt L.model L.honest (is_ok result) leg legs.old legs.new }
+{
+    legs[leg].sync()
+}
