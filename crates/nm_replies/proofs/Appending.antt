@@ -1,10 +1,10 @@
--- Bytes that went out one part behind the other went out as a whole.
+-- Bytes that were written one part after the other were written as a whole.
 use Rattle.std.proofs.Common.{◌≡◌, ℕ, ◌+◌, ◌-◌, List, ◌++◌, length, take, drop, Option, Some, None, sym, ap, ◌∙◌}
 use Rattle.std.proofs.Math.Seq.{take-add}
 use Rattle.std.proofs.lemmas.List.{append_assoc, take_rest}
 use Rattle.std.specs.Io.KnownBytes.{Appends}
 
--- n bytes more, of those behind the first i
+-- n bytes more, of those after the first i
 pub appends-more : (old mid new : Option (List ℕ)) (xs : List ℕ) (i n : ℕ) → Appends old mid (take i xs)
     → Appends mid new (take n (take (length xs - i) (drop i xs))) → Appends old new (take (i + n) xs)
 appends-more None mid new xs i n before now = tt

@@ -1,6 +1,7 @@
 -- What a reply says, and its bytes ("Simple reply message").
 use Rattle.std.specs.Prelude.{ℕ, List, [], ◌++◌, ◌==◌, if◌then◌else◌}
 use Rattle.nm_wire.specs.Layout.{simple_reply_bytes}
+use Rattle.nm_wire.specs.declared.simple_reply.SimpleReply.{SimpleReply}
 
 -- the error, 0 for none; the request's cookie; and the data of a READ
 pub record Answer : Type 0 where
@@ -8,7 +9,11 @@ pub record Answer : Type 0 where
   pub cookie : ℕ
   pub bytes : List ℕ
 
--- the frame of a reply: its head, and the data only where there is no error
+-- what a header says with these data
+abbrev pub answer_with : SimpleReply → List ℕ → Answer
+answer_with head bytes = record { error = head.error; cookie = head.cookie; bytes = bytes }
+
+-- the frame of a reply: its header, and the data only where there is no error
 abbrev pub frame_of : Answer → List ℕ
 frame_of answer =
     simple_reply_bytes (record { error = answer.error; cookie = answer.cookie })

@@ -1,3 +1,4 @@
 pub mod Answer
 pub mod Inside
+pub mod SendFault
 pub mod Sending

@@ -4,14 +4,14 @@
 //! A writer that is refused says how much went out, and refuses for good from then on.
 #![tactic(auto)]
 
-pub use framing::frame;
+pub use frames::{frame, put_frame};
 pub use reply::Reply;
+pub use reply_writer::ReplyWriter;
 pub use send_fault::SendFault;
-pub use writer::ReplyWriter;
 
-mod framing;
+mod frames;
 mod reply;
+mod reply_writer;
 mod send_fault;
 #[cfg(test)]
 mod tests;
-mod writer;

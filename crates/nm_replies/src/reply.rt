@@ -1,4 +1,4 @@
-ghost use Rattle.std.specs.Prelude.{◌≡◌, ◌≢◌, ◌==◌, [], if◌then◌else◌};
+ghost use Rattle.std.specs.Prelude.{◌≡◌, ◌≢◌, ◌==◌, [], if◌then◌else◌, IfSome, IfNone};
 
 use nm_wire::SimpleReply;
 use std::marker::Model;
@@ -7,11 +7,11 @@ use std::marker::Model;
 #[derive(Debug, Drop)]
 pub struct Reply {
     cookie: u64,
-    outcome: Outcome,
+    content: Content,
 }
 
 #[derive(Debug, Drop)]
-enum Outcome {
+enum Content {
     Done,
     WithData(Vec<u8>),
     Refused(u32),
@@ -28,56 +28,68 @@ impl Model for Reply {
 }
 
 impl Reply {
-    /// The request with this cookie was done, and asked for no data.
+    /// The request with this cookie is done; it asked for no data.
     pub fn done(cookie: u64) -> Reply
         ensures { result ≡ record { error = 0; cookie = cookie; bytes = [] } }
     {
         Reply {
             cookie,
-            outcome: Outcome::Done,
+            content: Content::Done,
         }
     }
 
-    /// The READ with this cookie gave these data.
+    /// The READ with this cookie is done, and these are the data.
     pub fn with_data(cookie: u64, bytes: Vec<u8>) -> Reply
         ensures { result ≡ record { error = 0; cookie = cookie; bytes = bytes.items } }
     {
         Reply {
             cookie,
-            outcome: Outcome::WithData(bytes),
+            content: Content::WithData(bytes),
         }
     }
 
-    /// The request with this cookie was not done ("Error values").
+    /// The request with this cookie failed with this error ("Error values").
     pub fn error(cookie: u64, code: u32) -> Reply
         requires { code ≢ 0 }
         ensures { result ≡ record { error = code; cookie = cookie; bytes = [] } }
     {
         Reply {
             cookie,
-            outcome: Outcome::Refused(code),
+            content: Content::Refused(code),
         }
     }
 
-    // The head of the reply.
+    /// Gives the data back, if the reply was made with some; takes no memory.
+    pub fn into_data(self) -> Option<Vec<u8>>
+        ensures some { IfSome result (λ bytes. bytes.items ≡ self.bytes) }
+        ensures none { IfNone result (self.bytes ≡ []) }
+    {
+        let Reply { cookie: _, content } = self;
+        match content {
+            Content::WithData(bytes) => Some(bytes),
+            _ => None,
+        }
+    }
+
+    // The header of the reply.
     pub(crate) fn head(&self) -> SimpleReply
         ensures { result ≡ record { error = self.now.error; cookie = self.now.cookie } }
     {
         SimpleReply {
-            error: match &self.outcome {
-                Outcome::Refused(code) => *code,
+            error: match &self.content {
+                Content::Refused(code) => *code,
                 _ => 0,
             },
             cookie: self.cookie,
         }
     }
 
-    // The data that follow the head.
+    // The data that the reply was made with.
     pub(crate) fn data(&self) -> &[u8]
-        ensures { result.now ≡ (if self.now.error == 0 then self.now.bytes else []) }
+        ensures { result.now ≡ self.now.bytes }
     {
-        match &self.outcome {
-            Outcome::WithData(bytes) => bytes.as_slice(),
+        match &self.content {
+            Content::WithData(bytes) => bytes.as_slice(),
             _ => &[],
         }
     }

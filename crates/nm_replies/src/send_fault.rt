@@ -1,14 +1,29 @@
+ghost use Rattle.std.specs.Prelude.{◌≡◌};
+ghost use Rattle.nm_replies.specs.SendFault.{fault_number};
+
 use std::error::Error;
 use std::fmt;
 
-/// Why bytes were not sent whole.
+/// Why bytes were not all sent.
 #[derive(Clone, Copy, Debug, PartialEq, Eq)]
 pub enum SendFault {
-    /// 1: a write failed, or took nothing, after this many bytes had gone out. The writer has
+    /// 1: a write failed, or took nothing, after this many bytes had been written. The writer has
     /// failed for good.
     Device(usize),
-    /// 2: an earlier write had failed, and nothing went out.
+    /// 2: an earlier write had failed; nothing was written.
     Failed,
+}
+
+impl SendFault {
+    /// The refusal's number.
+    pub fn number(self) -> u8
+        ensures { result ≡ fault_number self }
+    {
+        match self {
+            SendFault::Device(_) => 1,
+            SendFault::Failed => 2,
+        }
+    }
 }
 
 impl fmt::Display for SendFault {

@@ -1,6 +1,6 @@
 use Rattle.std.proofs.Common.{length, take, ◌-◌, ◌≤◌}
 use Rattle.std.specs.Io.KnownBytes.{Appends}
-use Rattle.nm_replies.proofs.writer.write_whole.Given as goal
+use Rattle.nm_replies.proofs.reply_writer.write_whole.Given as goal
 
 -- what went out so far is the beginning of the bytes
 abbrev pub invariant-loop-sent : goal.invariant-loop-sent

@@ -4,7 +4,7 @@ ghost use Rattle.std.specs.Io.KnownBytes.{Appends};
 use crate::send_fault::SendFault;
 use std::io::Write;
 
-/// Sends replies over a device, until a write fails.
+/// Sends replies over a device until a write fails.
 #[derive(Debug, Drop)]
 pub struct ReplyWriter<W> {
     device: W,
@@ -14,7 +14,7 @@ pub struct ReplyWriter<W> {
 impl<W: Write> ReplyWriter<W> {
     ghost use Rattle.nm_replies.specs.Sending.{Sends, device_of, has_failed};
 
-    /// A writer over a device of which no write has failed.
+    /// A writer over this device.
     pub fn new(device: W) -> ReplyWriter<W>
         ensures device { device_of result ≡ device }
         ensures whole { ¬ IsTrue (has_failed result) }
@@ -32,15 +32,25 @@ impl<W: Write> ReplyWriter<W> {
         &self.device
     }
 
-    /// Whether a write has failed, so that nothing more is sent.
+    /// Whether a write has failed, so that nothing more will be sent.
     pub fn has_failed(&self) -> bool
         ensures { result ≡ has_failed self.now }
     {
         self.failed
     }
 
-    /// Sends all the bytes. A write that fails, or that takes nothing of what is left, ends the
-    /// sending for good; it is not tried again. Takes no memory.
+    /// Gives the device back.
+    pub fn into_device(self) -> W
+        ensures { result ≡ device_of self }
+    {
+        let ReplyWriter { device, failed: _ } = self;
+        device
+    }
+
+    /// Sends all the bytes; takes no memory.
+    ///
+    /// A write that fails is not retried, whatever its error: a write that was interrupted or that
+    /// would block ends the writer for good too, as does one that takes 0 of the remaining bytes.
     pub fn send(&mut self, bytes: &[u8]) -> Result<(), SendFault>
         ensures ok { OnOk result (Sends W.contents self.old self.new bytes.now) }
         ensures device { (sent : ℕ) → result ≡ Err (SendFault.Device sent)
@@ -62,7 +72,7 @@ impl<W: Write> ReplyWriter<W> {
     }
 }
 
-// Writes all the bytes, or says how many went out before a write failed or took nothing.
+// Writes all the bytes, or returns how many were written before a write failed or took nothing.
 fn write_whole<W: Write>(device: &mut W, bytes: &[u8]) -> Result<(), usize>
     ensures ok { OnOk result (Appends (W.contents device.old) (W.contents device.new) bytes.now) }
     ensures err { IfErr result (λ sent. (sent < length bytes.now)

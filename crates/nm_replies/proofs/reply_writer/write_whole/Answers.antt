@@ -1,7 +1,7 @@
 use Rattle.std.proofs.Common.{length, ap, arith}
 use Rattle.std.proofs.lemmas.List.{length-drop, take_rest}
 use Rattle.nm_replies.proofs.Appending.{appends-more}
-use Rattle.nm_replies.proofs.writer.write_whole.Goals as goal
+use Rattle.nm_replies.proofs.reply_writer.write_whole.Goals as goal
 
 pub loop-sent-preserved : goal.loop-sent-preserved
 loop-sent-preserved g c =
