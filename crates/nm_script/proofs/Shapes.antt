@@ -67,12 +67,12 @@ step_shape (Push ticket leg) Halted old new h = record {
   legs = same_count leg old.legs new.legs h.writes.before h.writes.after h.writes.change;
 }
 step_shape (Push ticket leg) (Refused cause handed) old new h = same_shape old new h.2
-step_shape (Claim ticket) (Written receipt) old new h = record {
+step_shape (Claim ticket) (Written written) old new h = record {
   place = ap (λ (s : Machine). s.place) h.after;
   legs = ap (λ (s : Machine). length s.legs) h.after;
 }
 step_shape (Claim ticket) (Refused cause handed) old new h = same_shape old new h.2
-step_shape (Read block) (Value receipt bytes) old new h = record {
+step_shape (Read block) (Value value) old new h = record {
   place = ap (λ (s : Machine). s.place) h.after;
   legs = same_count old.master old.legs new.legs h.reads.before h.reads.after h.reads.change;
 }

@@ -65,8 +65,8 @@ outcome_of (BegunAnswer ticket) = Begun ticket
 outcome_of (PushedAnswer owed) = Pushed owed
 outcome_of (CompleteAnswer number) = Complete number
 outcome_of HaltedAnswer = Halted
-outcome_of (WrittenAnswer receipt) = Written receipt.number
-outcome_of (ValueAnswer receipt bytes) = Value receipt.number (fill_of bytes.0)
+outcome_of (WrittenAnswer written) = Written written.number
+outcome_of (ValueAnswer value) = Value value.entry.number (fill_of value.bytes.0)
 outcome_of (RefusedAnswer refusal handed) = Refused refusal
 
 -- The line of an answer.

@@ -87,8 +87,8 @@ fn outcome_of(answer: &Answer<MemLeg>) -> Outcome
         Answer::Pushed(owed) => Outcome::Pushed(*owed),
         Answer::Complete(number) => Outcome::Complete(*number),
         Answer::Halted => Outcome::Halted,
-        Answer::Written(receipt) => Outcome::Written(receipt.number()),
-        Answer::Value(receipt, bytes) => Outcome::Value(receipt.number(), fill_of(bytes)),
+        Answer::Written(written) => Outcome::Written(written.number()),
+        Answer::Value(value) => Outcome::Value(value.number(), fill_of(value.bytes())),
         Answer::Refused(refusal, _) => Outcome::Refused(*refusal),
     }
 }

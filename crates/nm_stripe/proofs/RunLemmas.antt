@@ -61,7 +61,7 @@ halted-front (Begun t ∷ answers) answer none = halted-front answers answer non
 halted-front (Pushed n ∷ answers) answer none = halted-front answers answer none
 halted-front (Complete n ∷ answers) answer none = halted-front answers answer none
 halted-front (Written r ∷ answers) answer none = halted-front answers answer none
-halted-front (Value r b ∷ answers) answer none = halted-front answers answer none
+halted-front (Value v ∷ answers) answer none = halted-front answers answer none
 halted-front (Refused c h ∷ answers) answer none = halted-front answers answer none
 
 pub halted-last : {L : Type 0} (answers : List (Answer L)) (answer : Answer L) → NoneHalted (answers ++ answer ∷ []) → NoneHalted (answer ∷ [])
@@ -71,7 +71,7 @@ halted-last (Begun t ∷ answers) answer none = halted-last answers answer none
 halted-last (Pushed n ∷ answers) answer none = halted-last answers answer none
 halted-last (Complete n ∷ answers) answer none = halted-last answers answer none
 halted-last (Written r ∷ answers) answer none = halted-last answers answer none
-halted-last (Value r b ∷ answers) answer none = halted-last answers answer none
+halted-last (Value v ∷ answers) answer none = halted-last answers answer none
 halted-last (Refused c h ∷ answers) answer none = halted-last answers answer none
 
 -- a list turned round, and turned round again
@@ -120,9 +120,9 @@ step-shape model honest (Push ticket leg) Halted old new is = record {
   legs = calls-length model old.legs new.legs leg is.writes.before is.writes.after is.writes.change;
 }
 step-shape model honest (Push ticket leg) (Refused cause handed) old new is = same old new is.2
-step-shape model honest (Claim ticket) (Written receipt) old new is = record { place = ap (λ s. s.place) is.after; legs = ap (λ s. length s.legs) is.after }
+step-shape model honest (Claim ticket) (Written written) old new is = record { place = ap (λ s. s.place) is.after; legs = ap (λ s. length s.legs) is.after }
 step-shape model honest (Claim ticket) (Refused cause handed) old new is = same old new is.2
-step-shape model honest (Read block) (Value receipt bytes) old new is = record {
+step-shape model honest (Read block) (Value value) old new is = record {
   place = ap (λ s. s.place) is.after;
   legs = calls-length model old.legs new.legs old.master is.reads.before is.reads.after is.reads.change;
 }

@@ -6,6 +6,7 @@ pub mod Lives
 pub mod Machine
 pub mod Opening
 pub mod Receipt
+pub mod Refusal
 pub mod Sound
 pub mod State
 pub mod Steps

@@ -33,10 +33,11 @@ StepOf model honest (Push ticket leg) (Complete number) old new =
 StepOf model honest (Push ticket leg) Halted old new = Halts model honest old new ticket leg
 StepOf model honest (Push ticket leg) (Refused cause handed) old new =
     (push_cause old ticket leg ≡ Some cause) × (handed ≡ Nothing) × (new ≡ old)
-StepOf model honest (Claim ticket) (Written receipt) old new = Claims old new ticket receipt
+StepOf model honest (Claim ticket) (Written written) old new = Claims old new ticket written
 StepOf model honest (Claim ticket) (Refused cause handed) old new =
     (claim_cause old ticket ≡ Some cause) × (handed ≡ Nothing) × (new ≡ old)
-StepOf model honest (Read block) (Value receipt bytes) old new = Finds model honest old new block bytes receipt
+StepOf model honest (Read block) (Value value) old new =
+    Finds model honest old new block value.bytes value.entry
 StepOf model honest (Read block) (Refused cause handed) old new =
     ReadRefused model honest old new block (read_cause old) cause × (handed ≡ Nothing)
 StepOf model honest (Replace leg part) (Refused cause handed) old new =
@@ -53,8 +54,9 @@ Runs model honest old steps answers new = ⊥
 -- the begins and replies that a step shows with its answer
 abbrev pub marks : {L : Type 0} → Step L → Answer L → List Event
 marks (Begin block bytes) (Begun ticket) = BeginsWrite ticket block (block_of (bytes_of bytes)) ∷ []
-marks (Claim ticket) (Written receipt) = RepliesWrite ticket receipt.number ∷ []
-marks (Read block) (Value receipt bytes) = BeginsRead receipt.number block ∷ RepliesRead receipt.number bytes ∷ []
+marks (Claim ticket) (Written written) = RepliesWrite ticket written.number ∷ []
+marks (Read block) (Value value) =
+    BeginsRead value.entry.number block ∷ RepliesRead value.entry.number value.bytes ∷ []
 marks step answer = []
 
 -- a joint list: one piece a step, in order, with the step's marks in order and entries anywhere among them

@@ -1,7 +1,7 @@
-use crate::receipt::Receipt;
 use crate::refusal::Refusal;
+use crate::value::Value;
+use crate::written::Written;
 use nm_fanout::Data;
-use nm_replay::Block;
 
 /// What a step answers.
 #[derive(Drop)]
@@ -15,9 +15,9 @@ pub enum Answer<L> {
     /// The leg failed, and the stripe has stopped.
     Halted,
     /// The write is done.
-    Written(Receipt<L>),
-    /// The block's bytes.
-    Value(Receipt<L>, Block),
+    Written(Written<L>),
+    /// The block's bytes, as they were read.
+    Value(Value<L>),
     /// The step was refused, and what was handed in comes back.
     Refused(Refusal, Handed<L>),
 }

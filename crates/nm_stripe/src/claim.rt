@@ -4,19 +4,19 @@ ghost use Rattle.nm_stripe.specs.Causes.{claim_cause};
 ghost use Rattle.nm_stripe.specs.Steps.{Claims};
 ghost use Rattle.nm_stripe.specs.Headline.{ShowsMarks};
 
-use crate::receipt::Receipt;
 use crate::refusal::Refusal;
 use crate::stripe::Stripe;
+use crate::written::Written;
 use nm_leg::LegPart;
 
 impl<L: LegPart> Stripe<L> {
     /// Takes a finished write's record away, and tells the number of its entry.
     ///
     /// Refused as `Stopped`, `NoTicket` or `NotYet`, the first that stands.
-    pub fn claim(&mut self, ticket: u64) -> Result<Receipt<L>, Refusal>
+    pub fn claim(&mut self, ticket: u64) -> Result<Written<L>, Refusal>
         ensures ok { IfOk result (Claims self.old self.new ticket) }
-        ensures acts { IsTrue L.honest → IfOk result (λ receipt. ShowsMarks L.model
-            (RepliesWrite ticket receipt.number ∷ []) self.old self.new) }
+        ensures acts { IsTrue L.honest → IfOk result (λ written. ShowsMarks L.model
+            (RepliesWrite ticket written.number ∷ []) self.old self.new) }
         ensures cause { IfErr result (λ refusal. claim_cause self.old ticket ≡ Some refusal) }
         ensures stays { OnErr result (self.new ≡ self.old) }
     {
@@ -29,6 +29,6 @@ impl<L: LegPart> Stripe<L> {
         let stripe = self.place.stripe;
         let block = record.block;
         let number = self.records.claim(ticket);
-        Ok(Receipt::new(stripe, block, number))
+        Ok(Written::new(stripe, block, number))
     }
 }

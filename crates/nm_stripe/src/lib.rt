@@ -11,6 +11,8 @@ pub use receipt::Receipt;
 pub use refusal::Refusal;
 pub use step::Step;
 pub use stripe::{LegState, Stripe};
+pub use value::Value;
+pub use written::Written;
 
 mod answer;
 mod at;
@@ -28,3 +30,5 @@ mod step;
 mod stripe;
 #[cfg(test)]
 mod tests;
+mod value;
+mod written;

@@ -2,9 +2,9 @@ ghost use Rattle.std.specs.Prelude.{◌≡◌};
 
 use std::marker::{Model, PhantomData};
 
-/// The receipt of one entry in a stripe's history: its number, the stripe and the block.
+/// The receipt of a read into the caller's own block: the read's entry in the stripe's history.
 ///
-/// Only a `Stripe<L>` makes one, so a receipt of one type of stripe is no receipt of another.
+/// Only a `Stripe<L>` makes one, and nothing outside makes a `Value` or a `Written` of it.
 #[derive(Drop)]
 pub struct Receipt<L> {
     stripe: u32,
@@ -47,7 +47,7 @@ impl<L> Receipt<L> {
         self.block
     }
 
-    /// The entry's number.
+    /// The number of the read's entry.
     pub fn number(&self) -> u64
         ensures { result ≡ self.now.number }
     {

@@ -7,9 +7,11 @@ use crate::answer::{Answer, Handed};
 use crate::push::Reach;
 use crate::refusal::Refusal;
 use crate::stripe::Stripe;
+use crate::value::Value;
 use nm_fanout::Data;
 use nm_leg::LegPart;
 use nm_replay::Block;
+use std::marker::PhantomData;
 
 /// One step of a stripe: one hold of its lock, with at most one call of a leg.
 #[derive(Drop)]
@@ -43,7 +45,13 @@ impl<L: LegPart> Stripe<L> {
     {
         let mut bytes = Block::ZERO;
         match self.read(block, &mut bytes) {
-            Ok(receipt) => Answer::Value(receipt, bytes),
+            Ok(receipt) => Answer::Value(Value {
+                stripe: receipt.stripe(),
+                block: receipt.block(),
+                number: receipt.number(),
+                bytes,
+                of: PhantomData,
+            }),
             Err(refusal) => refused(refusal),
         }
     }
@@ -78,7 +86,7 @@ impl<L: LegPart> Stripe<L> {
                 Err(refusal) => refused(refusal),
             },
             Step::Claim(ticket) => match self.claim(ticket) {
-                Ok(receipt) => Answer::Written(receipt),
+                Ok(written) => Answer::Written(written),
                 Err(refusal) => refused(refusal),
             },
             Step::Read(block) => self.step_read(block),

@@ -135,8 +135,8 @@ fn summary_of<L: LegPart>(answer: &Answer<L>) -> Told {
         Answer::Pushed(owed) => Told::Pushed(*owed),
         Answer::Complete(number) => Told::Complete(*number),
         Answer::Halted => Told::Halted,
-        Answer::Written(receipt) => Told::Written(receipt.number()),
-        Answer::Value(receipt, bytes) => Told::Value(receipt.number(), bytes.0[511]),
+        Answer::Written(written) => Told::Written(written.number()),
+        Answer::Value(value) => Told::Value(value.number(), value.bytes().0[511]),
         Answer::Refused(refusal, _) => Told::Refused(*refusal),
     }
 }
@@ -323,9 +323,9 @@ fn a_write_by_its_own_calls(rt: HostRuntime) -> Result<(), Fail> {
     assert_eq!(rt; stripe.first_owed(), Some((0, 0)));
     assert!(rt; stripe.legs.len() == 1);
     assert_eq!(rt; stripe.push(ticket, 0), Ok(Reach::Complete(0)));
-    let receipt = stripe.claim(ticket).ok().ok_or("claim")?;
+    let written = stripe.claim(ticket).ok().ok_or("claim")?;
     assert_eq!(rt;
-        (receipt.stripe(), receipt.block(), receipt.number()),
+        (written.stripe(), written.block(), written.number()),
         (7, 2, 0)
     );
     Ok(())
