@@ -39,7 +39,7 @@ ends-laid_after (e ∷ es) before array below ends =
     let size : length set ≡ length array = length-set array e.block e.bytes in
     let one : EndsIn (before ++ e ∷ []) set =
     ends-push_by before e array set ends (slice_get-set_same array e.block e.bytes below.0)
-    (λ block other. slice_get-set_other array e.block block e.bytes other) in
+    (λ block other. slice_get-set_other array e.block block e.bytes (λ same. other (sym same))) in
     subst (λ b. EndsIn b (laid set es)) (append_assoc before (e ∷ []) es)
     (ends-laid_after es (before ++ e ∷ []) set (subst (λ n. AllBelow n es) (sym size) below.1) one)
 

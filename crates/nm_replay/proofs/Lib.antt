@@ -6,6 +6,7 @@ pub mod Endings
 pub mod LastOn
 pub mod Layings
 pub mod Legality
+pub mod Lives
 pub mod Numbering
 pub mod Openings
 pub mod Pushing

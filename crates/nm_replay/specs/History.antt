@@ -26,12 +26,12 @@ EntryFits e array = Fits e.kind e.block e.bytes array
 abbrev pub after_entry : Entry → Array → Array
 after_entry e array = after (operation e.kind e.block e.bytes) array
 
--- the entries are legal from `array` to `left`: their numbers rise by one from `next`, and, done in
--- order, each fits the array that it meets, and `left` is what they leave
+-- the entries are legal from one array to another: their numbers rise by one from `next`, and, done
+-- in order, each fits the array that it meets, and the last array is what they leave
 abbrev pub Legal : ℕ → List Entry → Array → Array → Type 0
-Legal next [] array left = left ≡ array
-Legal next (e ∷ es) array left =
-    (e.seq ≡ next) × EntryFits e array × Legal (next + 1) es (after_entry e array) left
+Legal next [] from to = to ≡ from
+Legal next (e ∷ es) from to =
+    (e.seq ≡ next) × EntryFits e from × Legal (next + 1) es (after_entry e from) to
 
 -- the numbers of the entries rise by one, from `next`
 abbrev pub NumberedFrom : ℕ → List Entry → Type 0

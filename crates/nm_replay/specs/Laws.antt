@@ -4,33 +4,33 @@ use Rattle.nm_replay.specs.declared.entry.Entry.{Entry}
 use Rattle.nm_replay.specs.Array.{Array}
 use Rattle.nm_replay.specs.History.{Legal, Consistent, EndsIn}
 
--- some array and some first number make the entries legal up to `left`
+-- some array and some first number make the entries legal up to `to`
 abbrev pub HasOpening : List Entry → Array → Type 0
-HasOpening entries left = (next : ℕ) × (array : Array) × Legal next entries array left
+HasOpening entries to = (next : ℕ) × (from : Array) × Legal next entries from to
 
 -- some array makes entries legal up to a given one exactly if they are consistent and end in it
 abbrev pub ConsistentIsLegal : Type 0
 ConsistentIsLegal =
-    (entries : List Entry) (left : Array)
-    → HasOpening entries left ↔ (Consistent entries × EndsIn entries left)
+    (entries : List Entry) (to : Array)
+    → HasOpening entries to ↔ (Consistent entries × EndsIn entries to)
 
 -- some arrays make entries legal, from one to the other, exactly if they are consistent
 abbrev pub ConsistentIsExplained : Type 0
 ConsistentIsExplained =
-    (entries : List Entry) → ((left : Array) × HasOpening entries left) ↔ Consistent entries
+    (entries : List Entry) → ((to : Array) × HasOpening entries to) ↔ Consistent entries
 
 -- each end piece of legal entries is legal, from some array up to the same one
 abbrev pub EndPieceIsLegal : Type 0
 EndPieceIsLegal =
-    (front piece : List Entry) (next : ℕ) (array left : Array)
-    → Legal next (front ++ piece) array left
-    → (middle : Array) × Legal next front array middle
-    × Legal (next + length front) piece middle left
+    (front piece : List Entry) (next : ℕ) (from to : Array)
+    → Legal next (front ++ piece) from to
+    → (middle : Array) × Legal next front from middle
+    × Legal (next + length front) piece middle to
 
 -- legal entries followed by legal entries are legal
 abbrev pub LegalThenLegal : Type 0
 LegalThenLegal =
-    (front piece : List Entry) (next : ℕ) (array middle left : Array)
-    → Legal next front array middle
-    → Legal (next + length front) piece middle left
-    → Legal next (front ++ piece) array left
+    (front piece : List Entry) (next : ℕ) (from middle to : Array)
+    → Legal next front from middle
+    → Legal (next + length front) piece middle to
+    → Legal next (front ++ piece) from to

@@ -1,5 +1,9 @@
 pub mod Array
+pub mod Events
+pub mod Explained
 pub mod Following
 pub mod History
 pub mod Kept
 pub mod Laws
+pub mod ReadLives
+pub mod WriteLives

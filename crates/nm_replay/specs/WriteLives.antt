@@ -1,0 +1,40 @@
+-- The life of a write: it begins, lands under a number, and is replied to with that number.
+use Rattle.std.specs.Prelude.{◌≡◌, ℕ, ◌==◌, List, [], ◌∷◌, MatchBool}
+use Rattle.nm_replay.specs.declared.block.Block.{Block}
+use Rattle.nm_replay.specs.declared.entry.Kind.{Kind}
+use Rattle.nm_replay.specs.declared.entry.Kind.TheVariants.{Read, Write}
+use Rattle.nm_replay.specs.declared.entry.Entry.{Entry}
+use Rattle.nm_replay.specs.Events.{Event, BeginsRead, BeginsWrite, Lands, RepliesRead, RepliesWrite}
+
+-- How far a write is. What it will still need is kept: its block and bytes until it lands, then
+-- the number that it landed under until it is replied to.
+pub data WriteLife : Type 0 where
+  NotBegun : WriteLife
+  Begun : (block : ℕ) (bytes : Block) → WriteLife
+  Landed : (number : ℕ) → WriteLife
+  Replied : WriteLife
+
+-- an entry is this write's only if it is a write with this ticket: then the write has begun with the
+-- entry's block and bytes, and has landed
+abbrev pub WriteLands : ℕ → WriteLife → Entry → Kind → WriteLife → Type 0
+WriteLands ticket old entry Read new = new ≡ old
+WriteLands ticket old entry (Write other) new =
+    MatchBool (other == ticket)
+    ((old ≡ Begun entry.block entry.bytes) × (new ≡ Landed entry.seq))
+    (new ≡ old)
+
+-- what an event does to the write of this ticket: its own take it one stage on, all others nothing
+abbrev pub WriteStep : ℕ → WriteLife → Event → WriteLife → Type 0
+WriteStep ticket old (BeginsRead number block) new = new ≡ old
+WriteStep ticket old (BeginsWrite other block bytes) new =
+    MatchBool (other == ticket) ((old ≡ NotBegun) × (new ≡ Begun block bytes)) (new ≡ old)
+WriteStep ticket old (Lands entry) new = WriteLands ticket old entry entry.kind new
+WriteStep ticket old (RepliesRead number bytes) new = new ≡ old
+WriteStep ticket old (RepliesWrite other number) new =
+    MatchBool (other == ticket) ((old ≡ Landed number) × (new ≡ Replied)) (new ≡ old)
+
+-- the write of this ticket lives through the events, one after the other
+abbrev pub WriteLives : ℕ → WriteLife → List Event → WriteLife → Type 0
+WriteLives ticket old [] new = new ≡ old
+WriteLives ticket old (event ∷ events) new =
+    (mid : WriteLife) × WriteStep ticket old event mid × WriteLives ticket mid events new
