@@ -1,34 +1,41 @@
 # The set-up on a fresh machine is these two: `make run` and `make check`.
 RT ?= rt
+export RT
 
 .DEFAULT_GOAL := help
-.PHONY: help run check must-fail fail-alloc bench fmt
+.PHONY: help run check gate-cost must-fail wrong-bodies fail-alloc bench fmt
 
 help:
-	@echo 'make run        build nm_script and run it on the example script'
-	@echo 'make check      the whole gate: every proof from nothing, every must-fail edit, every test'
-	@echo 'make must-fail  the must-fail edits alone'
-	@echo 'make fail-alloc the first twelve allocations of the tests failing in turn (no part of the gate)'
-	@echo 'make bench      the stripe and the requests, timed beside plain Rust (about 13 minutes)'
-	@echo 'make fmt        lay out every crate'
+	@echo 'make run           build nm_script and run it on the example script'
+	@echo 'make check         the whole gate: every proof from nothing, every must-fail edit, every test'
+	@echo 'make gate-cost     the gate, with what each crate costs written into docs/ARCHITECTURE.md'
+	@echo 'make must-fail     the must-fail edits alone'
+	@echo 'make wrong-bodies  the wrong bodies that stand outside the gate'
+	@echo 'make fail-alloc    each early allocation of the tests failing in turn (no part of the gate)'
+	@echo 'make bench         the stripe and the requests, timed beside plain Rust'
+	@echo 'make fmt           lay out every crate'
 
 run:
-	@echo 'Proving and building nm_script and what it stands on; the first time this takes minutes.' >&2
-	@cd crates/nm_script && $(RT) run < stdin
+	@echo 'The first time this proves nm_script and what it stands on, which takes about 5 minutes on 4 cores.' >&2
+	@tools/build-program nm_script
+	@cd crates/nm_script && $(RT) run < stdin 2>> ../../out/build.log || { tail -n 20 ../../out/build.log >&2; exit 1; }
 
 check:
 	@echo 'Proving every crate and its tests from nothing, then the must-fail edits, the tests and the programs.'
-	@echo 'This takes many minutes; each crate gets a line as it ends.'
-	@$(RT) ci
+	@echo 'This takes 20 to 60 minutes; a line comes as each crate, edit and run ends, and out/gate.log has the rest.'
+	@tools/gate
+
+gate-cost:
+	@tools/gate-cost --write
 
 must-fail:
 	@$(RT) must-fail
 
+wrong-bodies:
+	@tools/wrong-bodies
+
 fail-alloc:
-	@for crate in crates/*/; do for n in 1 2 3 4 5 6 7 8 9 10 11 12; do \
-	  echo "$$crate, allocation $$n refused:"; \
-	  (cd $$crate && $(RT) try --test --fail-alloc $$n 2>&1 | grep -E '^test |panicked|fault') || true; \
-	done; done
+	@tools/fail-alloc
 
 bench:
 	@bench/run
