@@ -9,4 +9,7 @@ pub mod Legality
 pub mod Lives
 pub mod Numbering
 pub mod Openings
+pub mod Ordering
 pub mod Pushing
+pub mod ReadStages
+pub mod WriteStages

@@ -5,5 +5,8 @@ pub mod Following
 pub mod History
 pub mod Kept
 pub mod Laws
+pub mod OrderLaws
+pub mod ReadLaws
 pub mod ReadLives
+pub mod WriteLaws
 pub mod WriteLives

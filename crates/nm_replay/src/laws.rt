@@ -1,5 +1,9 @@
-//! Laws of histories. Each function does nothing: its contract is the law, for every history.
+//! Laws of histories and of events. Each function does nothing: its contract is the law, for every
+//! history and every list of events.
 ghost use Rattle.nm_replay.specs.Laws.{ConsistentIsExplained, ConsistentIsLegal, EndPieceIsLegal, LegalThenLegal};
+ghost use Rattle.nm_replay.specs.OrderLaws.{ReadBeforeRead, ReadBeforeWrite, WriteBeforeRead, WriteBeforeWrite};
+ghost use Rattle.nm_replay.specs.ReadLaws.{NoReadEntryBeforeItsBegin, NoReadReplyBeforeItsEntry, NoSecondReadBegin, NoSecondReadEntry, NoSecondReadReply, ReadFindsTheLastBytes, ReadLandsAsItBegan, ReadRepliedAfterItsEntry, ReadRepliedWithItsBytes};
+ghost use Rattle.nm_replay.specs.WriteLaws.{NoSecondWriteBegin, NoSecondWriteEntry, NoSecondWriteReply, NoWriteEntryBeforeItsBegin, NoWriteReplyBeforeItsEntry, WriteLandsAsItBegan, WriteRepliedAfterItsEntry, WriteRepliedWithItsNumber};
 
 /// Some array makes a list of entries legal up to a given array exactly if the list is consistent
 /// and the last entry on each block that has one is what that array has there.
@@ -21,4 +25,67 @@ pub fn end_piece_is_legal()
 /// A legal list of entries followed by a legal list of entries is legal.
 pub fn legal_then_legal()
     ensures { LegalThenLegal }
+{}
+
+/// No operation takes effect before it begins.
+pub fn no_entry_before_its_begin()
+    ensures write { NoWriteEntryBeforeItsBegin }
+    ensures read { NoReadEntryBeforeItsBegin }
+{}
+
+/// No operation is replied to before it takes effect.
+pub fn no_reply_before_its_entry()
+    ensures write { NoWriteReplyBeforeItsEntry }
+    ensures read { NoReadReplyBeforeItsEntry }
+{}
+
+/// No operation begins twice.
+pub fn no_second_begin()
+    ensures write { NoSecondWriteBegin }
+    ensures read { NoSecondReadBegin }
+{}
+
+/// No operation takes effect twice.
+pub fn no_second_entry()
+    ensures write { NoSecondWriteEntry }
+    ensures read { NoSecondReadEntry }
+{}
+
+/// No operation is replied to twice.
+pub fn no_second_reply()
+    ensures write { NoSecondWriteReply }
+    ensures read { NoSecondReadReply }
+{}
+
+/// A write's entry has the block and bytes that the write began with, a read's entry its block.
+pub fn lands_as_it_began()
+    ensures write { WriteLandsAsItBegan }
+    ensures read { ReadLandsAsItBegan }
+{}
+
+/// A write is replied to with its entry's number, a read with its entry's bytes.
+pub fn replied_with_its_entry()
+    ensures write { WriteRepliedWithItsNumber }
+    ensures read { ReadRepliedWithItsBytes }
+{}
+
+/// An operation that is replied to began before that, and took effect in between.
+pub fn replied_after_its_entry()
+    ensures write { WriteRepliedAfterItsEntry }
+    ensures read { ReadRepliedAfterItsEntry }
+{}
+
+/// A read finds the bytes of the last entry before its own on its block, or, where there is none,
+/// what the array had there at first.
+pub fn reads_find_the_last_bytes()
+    ensures { ReadFindsTheLastBytes }
+{}
+
+/// Real-time order: an operation that was replied to before another began has the lower number,
+/// whether or not the other has been replied to.
+pub fn replied_before_begun()
+    ensures write_write { WriteBeforeWrite }
+    ensures write_read { WriteBeforeRead }
+    ensures read_write { ReadBeforeWrite }
+    ensures read_read { ReadBeforeRead }
 {}

@@ -1,0 +1,19 @@
+-- What has begun keeps its block and its bytes until it lands.
+use Rattle.nm_replay.specs.Events.{BeginsRead, BeginsWrite, Lands, entry_of_read, entry_of_write}
+use Rattle.nm_replay.proofs.WriteStages.{write-between, write-begins, write-lands, write-keeps_bytes}
+use Rattle.nm_replay.proofs.ReadStages.{read-between, read-begins, read-lands, read-keeps_block}
+use Rattle.nm_replay.proofs.laws.lands_as_it_began.Goals as goal
+
+pub returns-clause-write : goal.returns-clause-write
+returns-clause-write c from to ticket number block other bytes others front between later x =
+    let two = write-between ticket (from.writes ticket) (to.writes ticket) front between later (BeginsWrite ticket block bytes) (Lands (entry_of_write number ticket other others)) (x.each_write ticket) in
+    let opens = write-begins ticket block bytes two.before two.after two.opens in
+    let closes = write-lands number ticket other others two.found two.end two.closes in
+    write-keeps_bytes ticket block other bytes others two.after two.found between two.lives opens.1 closes.0
+
+pub returns-clause-read : goal.returns-clause-read
+returns-clause-read c from to number block other bytes front between later x =
+    let two = read-between number (from.reads number) (to.reads number) front between later (BeginsRead number block) (Lands (entry_of_read number other bytes)) (x.each_read number) in
+    let opens = read-begins number block two.before two.after two.opens in
+    let closes = read-lands number other bytes two.found two.end two.closes in
+    read-keeps_block number block other two.after two.found between two.lives opens.1 closes.0

@@ -1,0 +1,75 @@
+-- What explained events say of one write: each stage comes once, in order, with the same values.
+use Rattle.std.specs.Prelude.{◌≡◌, ℕ, List, ◌∷◌, ◌++◌}
+use Rattle.nm_replay.specs.declared.block.Block.{Block}
+use Rattle.nm_replay.specs.Events.{Event, BeginsWrite, Lands, RepliesWrite, entry_of_write}
+use Rattle.nm_replay.specs.Explained.{Point, Explained, ExplainsWrite, NothingExplains}
+
+-- no entry of a write comes before its begin
+abbrev pub NoWriteEntryBeforeItsBegin : Type 0
+NoWriteEntryBeforeItsBegin =
+    (ticket number block other : ℕ) (bytes others : Block) (front between later : List Event)
+    → NothingExplains (front ++ Lands (entry_of_write number ticket block bytes)
+    ∷ (between ++ BeginsWrite ticket other others ∷ later))
+
+-- no reply to a write comes before its entry
+abbrev pub NoWriteReplyBeforeItsEntry : Type 0
+NoWriteReplyBeforeItsEntry =
+    (ticket number block other : ℕ) (bytes : Block) (front between later : List Event)
+    → NothingExplains (front ++ RepliesWrite ticket other
+    ∷ (between ++ Lands (entry_of_write number ticket block bytes) ∷ later))
+
+-- no write begins twice
+abbrev pub NoSecondWriteBegin : Type 0
+NoSecondWriteBegin =
+    (ticket block other : ℕ) (bytes others : Block) (front between later : List Event)
+    → NothingExplains (front ++ BeginsWrite ticket block bytes
+    ∷ (between ++ BeginsWrite ticket other others ∷ later))
+
+-- no write has two entries
+abbrev pub NoSecondWriteEntry : Type 0
+NoSecondWriteEntry =
+    (ticket number again block other : ℕ) (bytes others : Block) (front between later : List Event)
+    → NothingExplains (front ++ Lands (entry_of_write number ticket block bytes)
+    ∷ (between ++ Lands (entry_of_write again ticket other others) ∷ later))
+
+-- no write is replied to twice
+abbrev pub NoSecondWriteReply : Type 0
+NoSecondWriteReply =
+    (ticket number again : ℕ) (front between later : List Event)
+    → NothingExplains (front ++ RepliesWrite ticket number
+    ∷ (between ++ RepliesWrite ticket again ∷ later))
+
+-- a write lands on the block that it began with, with the bytes that it began with
+abbrev pub WriteLandsAsItBegan : Type 0
+WriteLandsAsItBegan =
+    (from to : Point) (ticket number block other : ℕ) (bytes others : Block)
+    (front between later : List Event)
+    → Explained from to (front ++ BeginsWrite ticket block bytes
+    ∷ (between ++ Lands (entry_of_write number ticket other others) ∷ later))
+    → (other ≡ block) × (others ≡ bytes)
+
+-- a write is replied to with the number of its entry
+abbrev pub WriteRepliedWithItsNumber : Type 0
+WriteRepliedWithItsNumber =
+    (from to : Point) (ticket number other block : ℕ) (bytes : Block)
+    (front between later : List Event)
+    → Explained from to (front ++ Lands (entry_of_write number ticket block bytes)
+    ∷ (between ++ RepliesWrite ticket other ∷ later))
+    → other ≡ number
+
+-- events in which a write began and then landed, under this number, with its own block and bytes
+pub record WriteTookEffect (ticket number : ℕ) (events : List Event) : Type 0 where
+  pub block : ℕ
+  pub bytes : Block
+  pub before : List Event
+  pub between : List Event
+  pub following : List Event
+  pub split : events ≡ before ++ BeginsWrite ticket block bytes
+      ∷ (between ++ Lands (entry_of_write number ticket block bytes) ∷ following)
+
+-- a write that had not begun is replied to only after it began and took effect
+abbrev pub WriteRepliedAfterItsEntry : Type 0
+WriteRepliedAfterItsEntry =
+    (ticket number : ℕ) (front later : List Event)
+    → ExplainsWrite ticket (front ++ RepliesWrite ticket number ∷ later)
+    → WriteTookEffect ticket number front
