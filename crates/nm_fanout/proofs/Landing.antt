@@ -10,6 +10,7 @@ use Rattle.nm_fanout.proofs.Parts.{parts}
 abbrev pub missing : Option ℕ → ℕ
 missing entry = cond (is_none entry) 1 0
 
+-- one for a record without an entry, and none for one with it
 abbrev pub waits : Record → ℕ
 waits r = missing r.entry
 
@@ -39,6 +40,16 @@ unlanded-changed f t rs x h found =
     let b : unlanded rs ≡ unlanded p.front + (waits x + unlanded p.back) = ap
     (λ (l : List Record). unlanded l) p.whole ∙ unlanded-parts p.front p.back x in
     omega (arith, a, b)
+
+-- a write gets a number, whether or not it had one
+pub unlanded-numbered : (t number : ℕ) (rs : List Record) (x : Record) → Ascends rs
+    → find_record t rs ≡ Some x → unlanded (landed t number rs) + waits x ≡ unlanded rs
+unlanded-numbered t number rs x h found =
+    omega (
+      arith,
+      unlanded-changed (with_entry number) t rs x h found,
+      waits-Some (with_entry number x) number refl,
+    )
 
 -- a write lands
 pub unlanded-landed : (t number : ℕ) (rs : List Record) (x : Record) → Ascends rs

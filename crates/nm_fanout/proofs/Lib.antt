@@ -1,4 +1,5 @@
 pub mod Tickets
+pub mod Places
 pub mod InOrder
 pub mod Finding
 pub mod Parts
@@ -6,6 +7,7 @@ pub mod Owed
 pub mod Busy
 pub mod Writers
 pub mod Landing
+pub mod Counted
 pub mod Members
 pub mod DataLemmas
 pub mod Owing

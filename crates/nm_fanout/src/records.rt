@@ -1,8 +1,8 @@
-ghost use Rattle.std.specs.Prelude.{◌≡◌, ℕ, ◌+◌, ◌-◌, ◌<◌, ◌≤◌, ◌↔◌, [], ◌==◌, length, find, position, IsTrue, IsSome, Some, OnOk, OnErr};
+ghost use Rattle.std.specs.Prelude.{◌≡◌, ℕ, ◌+◌, ◌-◌, ◌<◌, ◌≤◌, ◌↔◌, [], length, find, slice_get, IsTrue, IsSome, IfSome, IfNone, Some, None, OnOk, OnErr};
 ghost use Rattle.std.specs.Option.{option_map, option_copied};
 ghost use Rattle.nm_fanout.specs.Data.{FillsBlock};
 ghost use Rattle.nm_fanout.specs.Record.{begun, is_under_way};
-ghost use Rattle.nm_fanout.specs.Records.{AreInOrder, AllBelow, find_record, busy_on, entry_of, unlanded, next_owed, first_owed, reached, landed, without, with_new};
+ghost use Rattle.nm_fanout.specs.Records.{AreInOrder, AllBelow, IsAt, find_record, busy_on, entry_of, entry_at, unlanded, next_owed, first_owed, reached, landed, without, with_new};
 
 use crate::block_data::Data;
 use crate::write_record::{LEGS, Record};
@@ -17,17 +17,19 @@ pub const MOST_RECORDS: usize = 256;
 #[derive(Drop)]
 pub struct Records {
     list: Vec<Record>,
+    /// How many of them have no entry yet.
+    without_entry: u64,
 }
 
 impl Model for Records {
-    ghost use Rattle.std.specs.Prelude.{◌-◌, vec_len, vec_capacity};
-    ghost use Rattle.nm_fanout.specs.Records.{RecordTable, AreInOrder};
+    ghost use Rattle.std.specs.Prelude.{◌≡◌, ◌-◌, vec_len, vec_capacity};
+    ghost use Rattle.nm_fanout.specs.Records.{RecordTable, AreInOrder, unlanded};
 
     ghost Value = { RecordTable };
 
     ghost view = { λ r. record { list = r.list.items; room = vec_capacity r.list - vec_len r.list } };
 
-    ghost invariant = { λ r. AreInOrder r.list.items };
+    ghost invariant = { λ r. AreInOrder r.list.items × (r.without_entry ≡ unlanded r.list.items) };
 }
 
 impl Records {
@@ -37,6 +39,7 @@ impl Records {
     {
         Records {
             list: Vec::new(alloc),
+            without_entry: 0,
         }
     }
 
@@ -63,12 +66,31 @@ impl Records {
         self.len() >= MOST_RECORDS
     }
 
+    /// The place of this ticket's record. It stays the same until a record is claimed.
+    pub fn find(&self, ticket: u64) -> Option<usize>
+        ensures found { IfSome result (λ place. IsAt ticket place self.now.list) }
+        ensures absent { IfNone result (find_record ticket self.now.list ≡ None) }
+        ensures in_order { AreInOrder self.now.list }
+    {
+        self.list.binary_search_by_key(&ticket, |r| r.ticket).ok()
+    }
+
+    /// The record at this place, lent.
+    pub fn at(&self, place: usize) -> &Record
+        requires within { place < length self.now.list }
+        ensures found { slice_get self.now.list place ≡ Some result.now }
+        ensures in_order { AreInOrder self.now.list }
+    {
+        &self.list[place]
+    }
+
     /// The record of this ticket, lent.
     pub fn get(&self, ticket: u64) -> Option<&Record>
         ensures found { option_copied result ≡ find_record ticket self.now.list }
         ensures in_order { AreInOrder self.now.list }
     {
-        self.list.iter().find(|r| r.ticket == ticket)
+        let place = self.find(ticket)?;
+        Some(self.at(place))
     }
 
     /// The ticket of the record under way on this block.
@@ -89,7 +111,7 @@ impl Records {
         ensures most { result ≤ length self.now.list }
         ensures in_order { AreInOrder self.now.list }
     {
-        self.list.iter().filter(|r| r.entry.is_none()).count() as u64
+        self.without_entry
     }
 
     /// The lowest leg that this ticket's write has still to reach; none for an unknown ticket.
@@ -140,6 +162,44 @@ impl Records {
             owed,
             entry: None,
         });
+        self.without_entry += 1;
+    }
+
+    /// Takes the leg out of those that the write at this place has still to reach. Where the leg is
+    /// not owed, nothing changes.
+    pub fn reach_at(&mut self, place: usize, leg: u8)
+        requires within { place < length self.old.list }
+        ensures records { (ticket : ℕ) → IsAt ticket place self.old.list
+            → self.new.list ≡ reached ticket leg self.old.list }
+        ensures room { self.new.room ≡ self.old.room }
+    {
+        self.list[place].reach(leg);
+    }
+
+    /// Gives the write at this place the number of its entry.
+    pub fn land_at(&mut self, place: usize, number: u64)
+        requires within { place < length self.old.list }
+        ensures records { (ticket : ℕ) → IsAt ticket place self.old.list
+            → self.new.list ≡ landed ticket number self.old.list }
+        ensures room { self.new.room ≡ self.old.room }
+    {
+        if self.list[place].entry.is_none() {
+            self.without_entry -= 1;
+        }
+        self.list[place].land(number);
+    }
+
+    /// Takes the record of the landed write at this place away, and gives its entry's number. The
+    /// others keep their order.
+    pub fn claim_at(&mut self, place: usize) -> u64
+        requires landed { IsSome (entry_at place self.old.list) }
+        ensures number { entry_at place self.old.list ≡ Some result }
+        ensures records { (ticket : ℕ) → IsAt ticket place self.old.list
+            → self.new.list ≡ without ticket self.old.list }
+        ensures room { self.new.room ≡ self.old.room + 1 }
+    {
+        let record = self.list.remove(place);
+        record.into_entry().unwrap()
     }
 
     /// Takes the leg out of those that this ticket's write has still to reach. Where no record has
@@ -148,8 +208,8 @@ impl Records {
         ensures records { self.new.list ≡ reached ticket leg self.old.list }
         ensures room { self.new.room ≡ self.old.room }
     {
-        if let Some(i) = place_of(&self.list, ticket) {
-            self.list[i].reach(leg);
+        if let Some(place) = self.find(ticket) {
+            self.reach_at(place, leg);
         }
     }
 
@@ -159,8 +219,8 @@ impl Records {
         ensures records { self.new.list ≡ landed ticket number self.old.list }
         ensures room { self.new.room ≡ self.old.room }
     {
-        if let Some(i) = place_of(&self.list, ticket) {
-            self.list[i].land(number);
+        if let Some(place) = self.find(ticket) {
+            self.land_at(place, number);
         }
     }
 
@@ -172,19 +232,11 @@ impl Records {
         ensures records { self.new.list ≡ without ticket self.old.list }
         ensures room { self.new.room ≡ self.old.room + 1 }
     {
-        let Some(i) = place_of(&self.list, ticket) else {
+        let Some(place) = self.find(ticket) else {
             unreachable!()
         };
-        let record = self.list.remove(i);
-        record.into_entry().unwrap()
+        self.claim_at(place)
     }
-}
-
-/// Where the record of this ticket stands.
-fn place_of(list: &[Record], ticket: u64) -> Option<usize>
-    ensures { result ≡ position (λ r. r.ticket == ticket) list.now }
-{
-    list.iter().position(|r| r.ticket == ticket)
 }
 
 /// The oldest record under way.

@@ -1,5 +1,5 @@
-use Rattle.std.proofs.Common.{◌≡◌, ◌<◌, length, ap, rules}
-use Rattle.nm_fanout.proofs.InOrder.{AreInOrder-with_new}
+use Rattle.std.proofs.Common.{◌≡◌, ◌<◌, length, ap, refl, rules}
+use Rattle.nm_fanout.proofs.Counted.{begun-counted}
 use Rattle.nm_fanout.specs.Record.{begun}
 use Rattle.nm_fanout.specs.Records.{AllBelow, RecordTable}
 use Rattle.nm_fanout.proofs.records.Records.begin.Goals as goal
@@ -11,7 +11,6 @@ invariant_of-self c =
     let next : AllBelow c.args.ticket c.self.inside.list.items = rw
     (ap (λ (t : RecordTable). t.list) c.self.view_is) c.requires.next in
     let places : length c.args.owed ≡ 8 = search rules in
-    rw c.push_reserved.ensures.items
-    (AreInOrder-with_new (begun c.args.ticket c.args.block c.args.data c.args.owed)
-    c.self.inside.list.items few next (record { filled = c.requires.whole; places = places })
-    c.self.invariant)
+    rw c.push_reserved.ensures.items (begun-counted c.self.inside.without_entry
+    (begun c.args.ticket c.args.block c.args.data c.args.owed) c.self.inside.list.items
+    c.self.invariant few next (record { filled = c.requires.whole; places = places }) refl)
