@@ -11,6 +11,15 @@ pub record Leg : Type 0 where
   pub durable : Array
   pub faults : ℕ
 
+-- A type of legs: what one of them holds, and whether all of them are honest.
+pub record LegType (L : Type 0) : Type 0 where
+  pub model : L → Leg
+  pub honest : Bool
+
+-- the type of legs with these two members
+abbrev pub leg_type : {L : Type 0} → (L → Leg) → Bool → LegType L
+leg_type model honest = record { model = model; honest = honest }
+
 -- the block of these bytes
 abbrev pub block_of : List ℕ → Block
 block_of bytes = record { 0 = bytes }

@@ -5,6 +5,7 @@
 #![tactic(auto)]
 
 pub use cached_leg::CachedLeg;
+pub use counting_leg::CountingLeg;
 pub use failing_leg::FailingLeg;
 pub use leg_calls::{read_leg_at, sync_leg_at, write_leg_at};
 pub use leg_fault::LegFault;
@@ -13,6 +14,7 @@ pub use lying_leg::LyingLeg;
 pub use mem_leg::MemLeg;
 
 mod cached_leg;
+mod counting_leg;
 mod failing_leg;
 mod leg_calls;
 mod leg_fault;

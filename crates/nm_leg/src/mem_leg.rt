@@ -8,7 +8,7 @@ use std::marker::Model;
 
 /// An honest leg in memory, which never fails.
 ///
-/// There is nothing behind memory to sync to, so what it holds counts as durable at once.
+/// A sync does nothing: what the leg holds counts as durable at once.
 #[derive(Drop)]
 pub struct MemLeg {
     blocks: Vec<Block>,
@@ -24,7 +24,7 @@ impl Model for MemLeg {
 }
 
 impl MemLeg {
-    /// A leg of so many zero blocks. Its memory is taken here, once.
+    /// A leg of so many zero blocks. All of its memory is allocated here.
     pub fn new(alloc: Global, blocks: u64) -> Result<Self, Memory>
         ensures ok { IfOk result (λ leg. leg ≡ filled_array blocks 0) }
         ensures memory { OnErr result (0 < blocks) }
@@ -32,7 +32,7 @@ impl MemLeg {
         MemLeg::filled(alloc, blocks, 0)
     }
 
-    /// A leg of so many blocks with this byte in every place. Its memory is taken here, once.
+    /// A leg of so many blocks, each byte of them this one. All of its memory is allocated here.
     pub fn filled(alloc: Global, blocks: u64, byte: u8) -> Result<Self, Memory>
         ensures ok { IfOk result (λ leg. leg ≡ filled_array blocks byte) }
         ensures memory { OnErr result (0 < blocks) }
@@ -42,7 +42,7 @@ impl MemLeg {
         Ok(MemLeg { blocks: all })
     }
 
-    /// The block at `at`. Looking at it is no call of the leg.
+    /// The block at `at`. This does not count as a leg call.
     pub fn block(&self, at: u64) -> &Block
         requires { at < length self.now }
         ensures { slice_get self.now at ≡ Some result.now }
