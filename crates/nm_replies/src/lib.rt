@@ -13,5 +13,3 @@ mod frames;
 mod reply;
 mod reply_writer;
 mod send_fault;
-#[cfg(test)]
-mod tests;

@@ -40,6 +40,4 @@ mod request_head;
 mod server_flags;
 mod simple_reply;
 pub mod sizes;
-#[cfg(test)]
-mod tests;
 mod wire_fault;

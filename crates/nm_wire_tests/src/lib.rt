@@ -1,2 +1,7 @@
 //! Tests of the wire's crates through their public surface: what no clause of theirs says.
 #![tactic(auto)]
+
+#[cfg(test)]
+mod frames;
+#[cfg(test)]
+mod headers;

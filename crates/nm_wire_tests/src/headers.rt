@@ -1,6 +1,9 @@
-//! Heads byte for byte, as proto.md lays them out, and the numbers of the protocol.
-use super::*;
+//! Headers byte for byte, as proto.md lays them out, and the numbers of the protocol.
 use bitflags::Flags;
+use nm_wire::{
+    ClientFlags, Command, CommandFlags, Export, InfoKind, Memory, Name, OptionHead, OptionKind,
+    OptionReply, ReplyKind, RequestHead, ServerFlags, SimpleReply, WireFault, errors, magic, sizes,
+};
 use std::test::Fail;
 
 // The option GO with 10 bytes of data.
@@ -27,27 +30,24 @@ const REFUSED: [u8; 16] = [
 #[test]
 fn option_head(rt: HostRuntime) {
     let head = OptionHead {
-        option: 7,
+        option: OptionKind::Go.number(),
         length: 10,
     };
-    let mut bytes = [0xff; 17];
     let mut whole = [0; 16];
     head.put(&mut whole);
     assert_eq!(rt; whole, GO);
+    let mut bytes = [0xff; 17];
     bytes[..16].copy_from_slice(&GO);
-    assert_eq!(rt; OptionHead::get(&bytes[..15]), Err(WireFault::Short));
-    assert_eq!(rt; OptionHead::get(&bytes[..16]), Ok(head));
     assert_eq!(rt; OptionHead::get(&bytes), Ok(head));
+    assert_eq!(rt; OptionHead::get(&bytes[..16]), Ok(head));
+    assert_eq!(rt; OptionHead::get(&bytes[..15]), Err(WireFault::Short));
     assert_eq!(rt; OptionHead::get(&[]), Err(WireFault::Short));
     for at in 0..8 {
         let mut wrong = GO;
         wrong[at] ^= 0x10;
         assert_eq!(rt; OptionHead::get(&wrong), Err(WireFault::Magic), "at {at}");
-        assert_eq!(rt;
-            OptionHead::get(&wrong[..15]),
-            Err(WireFault::Short),
-            "at {at}"
-        );
+        let short = OptionHead::get(&wrong[..15]);
+        assert_eq!(rt; short, Err(WireFault::Short), "at {at}");
     }
 }
 
@@ -58,23 +58,20 @@ fn option_reply(rt: HostRuntime) {
         kind: ReplyKind::Ack.number(),
         length: 0,
     };
-    let mut bytes = [0xff; 21];
     let mut whole = [0; 20];
     reply.put(&mut whole);
     assert_eq!(rt; whole, ACK);
+    let mut bytes = [0xff; 21];
     bytes[..20].copy_from_slice(&ACK);
-    assert_eq!(rt; OptionReply::get(&bytes[..19]), Err(WireFault::Short));
-    assert_eq!(rt; OptionReply::get(&bytes[..20]), Ok(reply));
     assert_eq!(rt; OptionReply::get(&bytes), Ok(reply));
+    assert_eq!(rt; OptionReply::get(&bytes[..20]), Ok(reply));
+    assert_eq!(rt; OptionReply::get(&bytes[..19]), Err(WireFault::Short));
     for at in 0..8 {
         let mut wrong = ACK;
         wrong[at] ^= 0x10;
         assert_eq!(rt; OptionReply::get(&wrong), Err(WireFault::Magic), "at {at}");
-        assert_eq!(rt;
-            OptionReply::get(&wrong[..19]),
-            Err(WireFault::Short),
-            "at {at}"
-        );
+        let short = OptionReply::get(&wrong[..19]);
+        assert_eq!(rt; short, Err(WireFault::Short), "at {at}");
     }
 }
 
@@ -87,23 +84,20 @@ fn request_head(rt: HostRuntime) {
         offset: 512,
         length: 512,
     };
-    let mut bytes = [0xff; 29];
     let mut whole = [0; 28];
     head.put(&mut whole);
     assert_eq!(rt; whole, WRITE);
+    let mut bytes = [0xff; 29];
     bytes[..28].copy_from_slice(&WRITE);
-    assert_eq!(rt; RequestHead::get(&bytes[..27]), Err(WireFault::Short));
-    assert_eq!(rt; RequestHead::get(&bytes[..28]), Ok(head));
     assert_eq!(rt; RequestHead::get(&bytes), Ok(head));
+    assert_eq!(rt; RequestHead::get(&bytes[..28]), Ok(head));
+    assert_eq!(rt; RequestHead::get(&bytes[..27]), Err(WireFault::Short));
     for at in 0..4 {
         let mut wrong = WRITE;
         wrong[at] ^= 0x10;
         assert_eq!(rt; RequestHead::get(&wrong), Err(WireFault::Magic), "at {at}");
-        assert_eq!(rt;
-            RequestHead::get(&wrong[..27]),
-            Err(WireFault::Short),
-            "at {at}"
-        );
+        let short = RequestHead::get(&wrong[..27]);
+        assert_eq!(rt; short, Err(WireFault::Short), "at {at}");
     }
 }
 
@@ -113,29 +107,26 @@ fn simple_reply(rt: HostRuntime) {
         error: errors::EINVAL,
         cookie: 0x13,
     };
-    let mut bytes = [0xff; 17];
     let mut whole = [0; 16];
     reply.put(&mut whole);
     assert_eq!(rt; whole, REFUSED);
+    let mut bytes = [0xff; 17];
     bytes[..16].copy_from_slice(&REFUSED);
-    assert_eq!(rt; SimpleReply::get(&bytes[..15]), Err(WireFault::Short));
-    assert_eq!(rt; SimpleReply::get(&bytes[..16]), Ok(reply));
     assert_eq!(rt; SimpleReply::get(&bytes), Ok(reply));
+    assert_eq!(rt; SimpleReply::get(&bytes[..16]), Ok(reply));
+    assert_eq!(rt; SimpleReply::get(&bytes[..15]), Err(WireFault::Short));
     for at in 0..4 {
         let mut wrong = REFUSED;
         wrong[at] ^= 0x10;
         assert_eq!(rt; SimpleReply::get(&wrong), Err(WireFault::Magic), "at {at}");
-        assert_eq!(rt;
-            SimpleReply::get(&wrong[..15]),
-            Err(WireFault::Short),
-            "at {at}"
-        );
+        let short = SimpleReply::get(&wrong[..15]);
+        assert_eq!(rt; short, Err(WireFault::Short), "at {at}");
     }
 }
 
 // Every bit of the flags, each number at its largest, and a type that nobody knows.
 #[test]
-fn keeps_what_it_does_not_know(rt: HostRuntime) {
+fn unknown_bits_and_numbers_are_kept(rt: HostRuntime) {
     let mut bytes = [0xff; 28];
     bytes[..4].copy_from_slice(&[0x25, 0x60, 0x95, 0x13]);
     let head = RequestHead {
@@ -164,7 +155,7 @@ fn keeps_what_it_does_not_know(rt: HostRuntime) {
 }
 
 #[test]
-fn numbers_of_commands_options_replies_and_errors(rt: HostRuntime) {
+fn numbers_of_commands_and_options(rt: HostRuntime) {
     let commands = [
         Some(Command::Read),
         Some(Command::Write),
@@ -195,6 +186,10 @@ fn numbers_of_commands_options_replies_and_errors(rt: HostRuntime) {
         let want = options[number as usize];
         assert_eq!(rt; OptionKind::from_number(number), want, "option {number}");
     }
+}
+
+#[test]
+fn numbers_of_replies_and_information(rt: HostRuntime) {
     let replies = [
         (ReplyKind::Ack, 0x0000_0001),
         (ReplyKind::Server, 0x0000_0002),
@@ -205,17 +200,49 @@ fn numbers_of_commands_options_replies_and_errors(rt: HostRuntime) {
     ];
     for (kind, number) in replies {
         assert_eq!(rt; kind.number(), number);
+        assert_eq!(rt; ReplyKind::from_number(number), Some(kind));
     }
-    let used = [
-        (errors::EPERM, 0x01),
-        (errors::EIO, 0x05),
-        (errors::ENOMEM, 0x0c),
-        (errors::EINVAL, 0x16),
-        (errors::ENOSPC, 0x1c),
+    for number in [0, 4, 0x8000_0000, 0x8000_0002, 0xffff_ffff] {
+        assert_eq!(rt; ReplyKind::from_number(number), None, "type {number}");
+    }
+    let information = [
+        Some(InfoKind::Export),
+        None,
+        None,
+        Some(InfoKind::BlockSize),
+        None,
     ];
-    for (error, number) in used {
+    for number in 0..5u16 {
+        let want = information[number as usize];
+        assert_eq!(rt; InfoKind::from_number(number), want, "type {number}");
+    }
+    assert_eq!(rt; InfoKind::Export.number(), 0);
+    assert_eq!(rt; InfoKind::BlockSize.number(), 3);
+}
+
+#[test]
+fn constants_of_the_protocol(rt: HostRuntime) {
+    assert_eq!(rt; &magic::GREETING_MAGIC.to_be_bytes(), b"NBDMAGIC");
+    assert_eq!(rt; &magic::OPTION_MAGIC.to_be_bytes(), b"IHAVEOPT");
+    let errors = [
+        (errors::EPERM, 1),
+        (errors::EIO, 5),
+        (errors::ENOMEM, 12),
+        (errors::EINVAL, 22),
+        (errors::ENOSPC, 28),
+    ];
+    for (error, number) in errors {
         assert_eq!(rt; error, number);
     }
+    assert_eq!(rt; sizes::MIN_BLOCK, 512);
+    assert_eq!(rt; sizes::PREFERRED_BLOCK, 4_096);
+    assert_eq!(rt; sizes::MAX_PAYLOAD, 0x0200_0000);
+    assert_eq!(rt; sizes::MAX_OPTION_DATA, 65_536);
+    assert_eq!(rt; sizes::EXPORT_NAME_ZEROES, 124);
+    assert_eq!(rt; OptionHead::BYTES, GO.len());
+    assert_eq!(rt; OptionReply::BYTES, ACK.len());
+    assert_eq!(rt; RequestHead::BYTES, WRITE.len());
+    assert_eq!(rt; SimpleReply::BYTES, REFUSED.len());
 }
 
 #[test]
@@ -228,7 +255,10 @@ fn export_of_one_mebibyte(rt: HostRuntime) -> Result<(), Fail> {
         };
         assert_eq!(rt; export.size(), 0x0010_0000);
         assert_eq!(rt; export.flags().bits(), flags);
-        assert_eq!(rt; export.name.as_bytes(), b"disk".as_slice());
+        let copy = export.clone()?;
+        assert_eq!(rt; copy.size(), 0x0010_0000);
+        assert_eq!(rt; copy.read_only, read_only);
+        assert_eq!(rt; copy.name.as_bytes(), b"disk".as_slice());
         let Export { name, .. } = export;
         assert_eq!(rt; name.into_bytes().as_slice(), b"disk".as_slice());
     }
@@ -236,12 +266,21 @@ fn export_of_one_mebibyte(rt: HostRuntime) -> Result<(), Fail> {
 }
 
 #[test]
-fn texts_of_refusals(rt: HostRuntime) -> Result<(), Fail> {
+fn copy_of_the_longest_name(rt: HostRuntime) -> Result<(), Fail> {
+    let name = Name::new([0xc3; 255].to_vec(rt.alloc())?);
+    assert_eq!(rt; name.clone()?.as_bytes(), [0xc3; 255].as_slice());
+    Ok(())
+}
+
+#[test]
+fn texts_and_numbers_of_refusals(rt: HostRuntime) -> Result<(), Fail> {
     let short = format!(in rt.alloc(); "{}", WireFault::Short)?;
     assert_eq!(rt; short.as_str(), "too few bytes for the header");
     let magic = format!(in rt.alloc(); "{}", WireFault::Magic)?;
     assert_eq!(rt; magic.as_str(), "wrong magic number");
     let memory = format!(in rt.alloc(); "{}", Memory)?;
     assert_eq!(rt; memory.as_str(), "out of memory");
+    assert_eq!(rt; WireFault::Short.number(), 1);
+    assert_eq!(rt; WireFault::Magic.number(), 2);
     Ok(())
 }

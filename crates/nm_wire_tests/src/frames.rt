@@ -1,0 +1,194 @@
+//! Frames byte for byte, as proto.md lays them out, and devices that take less than they are given.
+use nm_replies::{Reply, ReplyWriter, SendFault, frame, put_frame};
+use nm_wire::{SimpleReply, errors, sizes};
+use std::alloc::Global;
+use std::io;
+use std::io::{ErrorKind, Write};
+use std::test::Fail;
+
+// Takes at most `a_call` bytes a call. Once it has taken `left` in all it refuses one call, by this
+// error or by taking nothing, and from then on takes bytes again.
+#[derive(Drop)]
+struct Narrow {
+    a_call: usize,
+    left: usize,
+    refusal: Option<ErrorKind>,
+    held: Vec<u8>,
+}
+
+fn narrow_device(alloc: Global, a_call: usize, left: usize, refusal: Option<ErrorKind>) -> Narrow {
+    Narrow {
+        a_call,
+        left,
+        refusal,
+        held: Vec::new(alloc),
+    }
+}
+
+impl Write for Narrow {
+    fn write(&mut self, buf: &[u8]) -> io::Result<usize> {
+        if self.left == 0 {
+            self.left = usize::MAX;
+            return match self.refusal {
+                Some(kind) => Err(io::Error::from(kind)),
+                None => Ok(0),
+            };
+        }
+        let taken = buf.len().min(self.a_call).min(self.left);
+        self.held.extend_from_slice(&buf[..taken])?;
+        self.left -= taken;
+        Ok(taken)
+    }
+
+    fn flush(&mut self) -> io::Result<()> {
+        Ok(())
+    }
+}
+
+// The reply without an error to the request with cookie 11 hexadecimal.
+const DONE: [u8; 16] = [
+    0x67, 0x44, 0x66, 0x98, 0, 0, 0, 0, 0, 0, 0, 0, 0, 0, 0, 0x11,
+];
+
+// The reply EINVAL to the request with cookie 13 hexadecimal.
+const REFUSED: [u8; 16] = [
+    0x67, 0x44, 0x66, 0x98, 0, 0, 0, 0x16, 0, 0, 0, 0, 0, 0, 0, 0x13,
+];
+
+#[test]
+fn frames_of_done_requests(rt: HostRuntime) -> Result<(), Fail> {
+    let written = frame(rt.alloc(), &Reply::done(0x11))?;
+    assert_eq!(rt; written.as_slice(), DONE.as_slice());
+    assert_eq!(rt; written.capacity(), 16);
+    let empty = Reply::with_data(0x11, Vec::new(rt.alloc()));
+    assert_eq!(rt; frame(rt.alloc(), &empty)?.as_slice(), DONE.as_slice());
+    let read = Reply::with_data(0x11, [0xaa; 512].to_vec(rt.alloc())?);
+    let read = frame(rt.alloc(), &read)?;
+    assert_eq!(rt; read.len(), 528);
+    assert_eq!(rt; read.capacity(), 528);
+    assert_eq!(rt; &read.as_slice()[..16], DONE.as_slice());
+    assert_eq!(rt; &read.as_slice()[16..], [0xaa; 512].as_slice());
+    Ok(())
+}
+
+#[test]
+fn frames_of_errors(rt: HostRuntime) -> Result<(), Fail> {
+    let invalid = frame(rt.alloc(), &Reply::error(0x13, errors::EINVAL))?;
+    assert_eq!(rt; invalid.as_slice(), REFUSED.as_slice());
+    let mut past_the_end = REFUSED;
+    past_the_end[7] = 0x1c;
+    past_the_end[15] = 0x14;
+    let no_space = frame(rt.alloc(), &Reply::error(0x14, errors::ENOSPC))?;
+    assert_eq!(rt; no_space.as_slice(), past_the_end.as_slice());
+    Ok(())
+}
+
+// A READ's frame, then an error's, whose data are left out.
+#[test]
+fn frames_one_after_the_other(rt: HostRuntime) -> Result<(), Fail> {
+    let mut out = Vec::new(rt.alloc());
+    let done = SimpleReply {
+        error: 0,
+        cookie: 0x11,
+    };
+    let refused = SimpleReply {
+        error: errors::EINVAL,
+        cookie: 0x13,
+    };
+    put_frame(&mut out, done, &[0xaa; 512])?;
+    put_frame(&mut out, refused, &[0xaa; 512])?;
+    assert_eq!(rt; out.len(), 544);
+    assert_eq!(rt; &out.as_slice()[..16], DONE.as_slice());
+    assert_eq!(rt; &out.as_slice()[16..528], [0xaa; 512].as_slice());
+    assert_eq!(rt; &out.as_slice()[528..], REFUSED.as_slice());
+    Ok(())
+}
+
+#[test]
+fn replies_give_their_data_back(rt: HostRuntime) -> Result<(), Fail> {
+    let reply = Reply::with_data(0x11, [0xaa; 512].to_vec(rt.alloc())?);
+    let back = reply.into_data().ok_or("no data")?;
+    assert_eq!(rt; back.as_slice(), [0xaa; 512].as_slice());
+    assert!(rt; Reply::done(0x11).into_data().is_none());
+    assert!(rt; Reply::error(0x13, errors::EIO).into_data().is_none());
+    Ok(())
+}
+
+// The largest reply, through a device that takes 64 KiB a call.
+#[test]
+fn frame_of_32_mebibytes(rt: HostRuntime) -> Result<(), Fail> {
+    let mut bytes = Vec::new(rt.alloc());
+    bytes.resize(sizes::MAX_PAYLOAD as usize, 0xaa)?;
+    let whole = frame(rt.alloc(), &Reply::with_data(0x11, bytes))?;
+    assert_eq!(rt; whole.len(), 0x0200_0010);
+    let mut writer = ReplyWriter::new(narrow_device(rt.alloc(), 0x0001_0000, usize::MAX, None));
+    assert_eq!(rt; writer.send(whole.as_slice()), Ok(()));
+    assert!(rt; writer.device().held.as_slice() == whole.as_slice());
+    Ok(())
+}
+
+// (bytes a call, bytes before the refusal, the refusal, what is answered). No write is retried,
+// also where the device would have taken more.
+#[test]
+fn refused_writes_end_the_writer(rt: HostRuntime) -> Result<(), Fail> {
+    let cases = [
+        (16, 7, Some(ErrorKind::BrokenPipe), 7),
+        (16, 7, Some(ErrorKind::Interrupted), 7),
+        (16, 7, Some(ErrorKind::WouldBlock), 7),
+        (16, 7, None, 7),
+        (16, 0, Some(ErrorKind::BrokenPipe), 0),
+        (16, 0, Some(ErrorKind::Interrupted), 0),
+        (16, 0, Some(ErrorKind::WouldBlock), 0),
+        (16, 0, None, 0),
+        (1, 15, Some(ErrorKind::Interrupted), 15),
+        (3, 15, None, 15),
+    ];
+    for (a_call, left, refusal, sent) in cases {
+        let mut writer = ReplyWriter::new(narrow_device(rt.alloc(), a_call, left, refusal));
+        assert!(rt; !writer.has_failed());
+        assert_eq!(rt; writer.send(&REFUSED), Err(SendFault::Device(sent)));
+        assert!(rt; writer.has_failed());
+        assert_eq!(rt; writer.send(&REFUSED), Err(SendFault::Failed));
+        assert_eq!(rt; writer.send(&[]), Err(SendFault::Failed));
+        assert!(rt; sent <= 16);
+        assert_eq!(rt; writer.device().held.as_slice(), &REFUSED[..sent]);
+    }
+    Ok(())
+}
+
+#[test]
+fn writes_of_less_than_all_are_continued(rt: HostRuntime) -> Result<(), Fail> {
+    for a_call in [1, 7, 16, 100] {
+        let mut writer = ReplyWriter::new(narrow_device(rt.alloc(), a_call, 32, None));
+        assert_eq!(rt; writer.send(&REFUSED), Ok(()));
+        assert_eq!(rt; writer.send(&[]), Ok(()));
+        assert_eq!(rt; writer.device().held.as_slice(), REFUSED.as_slice());
+        assert_eq!(rt; writer.send(&DONE), Ok(()));
+        assert_eq!(rt; writer.send(&DONE), Err(SendFault::Device(0)));
+        assert_eq!(rt; writer.device().held.len(), 32);
+    }
+    Ok(())
+}
+
+#[test]
+fn a_lent_device_comes_back(rt: HostRuntime) -> Result<(), Fail> {
+    let mut device = narrow_device(rt.alloc(), 16, usize::MAX, None);
+    let mut writer = ReplyWriter::new(&mut device);
+    writer.send(&DONE)?;
+    let lent = writer.into_device();
+    lent.write(&REFUSED)?;
+    assert_eq!(rt; device.held.len(), 32);
+    assert_eq!(rt; &device.held.as_slice()[..16], DONE.as_slice());
+    Ok(())
+}
+
+#[test]
+fn texts_and_numbers_of_send_faults(rt: HostRuntime) -> Result<(), Fail> {
+    let device = format!(in rt.alloc(); "{}", SendFault::Device(7))?;
+    assert_eq!(rt; device.as_str(), "a write failed after 7 bytes");
+    let failed = format!(in rt.alloc(); "{}", SendFault::Failed)?;
+    assert_eq!(rt; failed.as_str(), "an earlier write failed");
+    assert_eq!(rt; SendFault::Device(7).number(), 1);
+    assert_eq!(rt; SendFault::Failed.number(), 2);
+    Ok(())
+}
