@@ -147,6 +147,12 @@ AreInOrder-with_new r rs few next whole h = record {
   whole = AllWhole-push r rs whole h.whole;
 }
 
+-- a ticket above one that is above all is above all too
+pub AllBelow-rise : (low high : ℕ) (rs : List Record) → low ≤ high → AllBelow low rs
+    → AllBelow high rs
+AllBelow-rise low high [] le h = tt
+AllBelow-rise low high (r ∷ rs) le h = (omega (arith, h.0, le), AllBelow-rise low high rs le h.1)
+
 -- a ticket that is above all others stays so
 pub AllBelow-changed : (f : Record → Record) (k : KeepsOrder f) (high t : ℕ) (rs : List Record)
     → AllBelow high rs → AllBelow high (changed f t rs)

@@ -12,6 +12,4 @@ pub use write_record::{LEGS, Record};
 
 mod block_data;
 mod records;
-#[cfg(test)]
-mod tests;
 mod write_record;

@@ -21,5 +21,3 @@ mod leg_fault;
 mod leg_part;
 mod lying_leg;
 mod mem_leg;
-#[cfg(test)]
-mod tests;

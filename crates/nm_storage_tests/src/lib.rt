@@ -1,2 +1,7 @@
 //! Tests of the storage crates through their public surface: what no clause of theirs says.
 #![tactic(auto)]
+
+#[cfg(test)]
+mod legs;
+#[cfg(test)]
+mod records;

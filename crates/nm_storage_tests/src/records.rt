@@ -1,7 +1,8 @@
+//! The records of writes: one write from its beginning until it is claimed, and how many there may be.
 ghost use Rattle.std.specs.Prelude.{◌≡◌, length, IfOk};
 
-use crate::{Data, LEGS, MOST_RECORDS, Records};
 use bytes::{Bytes, BytesMut};
+use nm_fanout::{Data, LEGS, MOST_RECORDS, Records};
 use std::alloc::{AllocError, Global};
 use std::test::Fail;
 
@@ -37,15 +38,18 @@ fn a_write_reaches_its_legs(rt: HostRuntime) -> Result<(), Fail> {
     assert_eq!(rt; records.first_owed(), Some((7, 0)));
     assert_eq!(rt; records.next_owed(3), None);
 
-    records.reach(7, 0);
-    records.land(7, 1);
+    let place = records.find(7).ok_or("the place of ticket 7")?;
+    records.reach_at(place, 0);
+    records.land_at(place, 1);
     assert_eq!(rt; records.unlanded(), 0);
     assert_eq!(rt; records.next_owed(7), Some(1));
-    records.reach(7, 1);
+    records.reach_at(place, 1);
     assert_eq!(rt; records.busy_on(3), None);
     assert_eq!(rt; records.next_owed(7), None);
     assert_eq!(rt; records.first_owed(), None);
-    assert_eq!(rt; records.claim(7), 1);
+    assert!(rt; place < records.len());
+    assert_eq!(rt; records.at(place).entry, Some(1));
+    assert_eq!(rt; records.claim_at(place), 1);
     assert!(rt; records.is_empty());
     Ok(())
 }
@@ -77,14 +81,20 @@ fn a_write_of_zeroes_needs_no_buffer(rt: HostRuntime) -> Result<(), Fail> {
 }
 
 #[test]
-fn no_more_than_256_records_stand(rt: HostRuntime) -> Result<(), Fail> {
+fn as_many_as_256_records_stand_and_each_is_found(rt: HostRuntime) -> Result<(), Fail> {
     let mut records = Records::new(rt.alloc());
-    for ticket in 0..256 {
+    assert_eq!(rt; records.find(0), None);
+    for count in 0..256 {
         assert!(rt; !records.is_full());
         records.reserve()?;
-        records.begin(ticket, ticket, Data::Zero, owed_to(0, 0));
+        records.begin(2 * count, count, Data::Zero, owed_to(0, 0));
     }
     assert_eq!(rt; records.len(), MOST_RECORDS);
+    assert_eq!(rt; records.unlanded(), 256);
     assert!(rt; records.is_full());
+    for count in 0..256 {
+        assert_eq!(rt; records.find(2 * count), Some(count as usize));
+        assert_eq!(rt; records.find(2 * count + 1), None);
+    }
     Ok(())
 }

@@ -1,6 +1,7 @@
-use crate::{
-    CachedLeg, FailingLeg, LegFault, LegPart, LyingLeg, MemLeg, read_leg_at, sync_leg_at,
-    write_leg_at,
+//! The legs: what they answer at run time, by themselves and called by generic code.
+use nm_leg::{
+    CachedLeg, CountingLeg, FailingLeg, LegFault, LegPart, LyingLeg, MemLeg, read_leg_at,
+    sync_leg_at, write_leg_at,
 };
 use nm_replay::{Block, Memory};
 use std::process::Abort;
@@ -120,4 +121,40 @@ fn a_fault_prints_its_meaning(rt: HostRuntime) -> Result<(), Fail> {
     let text = format!(in rt.alloc(); "{LegFault}")?;
     assert_eq!(rt; text.as_str(), "a call of the leg failed");
     Ok(())
+}
+
+#[test]
+fn a_counting_leg_counts_what_generic_code_calls(rt: HostRuntime) -> Result<(), Fail> {
+    let alloc = rt.alloc();
+    let mut legs = [
+        CountingLeg::new(MemLeg::new(alloc, 3)?),
+        CountingLeg::new(MemLeg::new(alloc, 3)?),
+    ];
+    let mut found = Block([9; 512]);
+    assert_eq!(rt;
+        write_sync_read(&rt, &mut legs, &mut found),
+        (true, true, true)
+    );
+    assert_eq!(rt; found, Block([0xaa; 512]));
+    let inner = legs[1].inner();
+    assert!(rt; inner.len() > 1);
+    assert_eq!(rt; *inner.block(1), Block([0xaa; 512]));
+    assert_eq!(rt; legs[0].calls(), 0);
+    assert_eq!(rt; legs[1].calls(), 3);
+    Ok(())
+}
+
+#[test]
+fn a_counting_leg_counts_failed_calls(rt: HostRuntime) {
+    let mut legs = [
+        CountingLeg::new(FailingLeg::new(3)),
+        CountingLeg::new(FailingLeg::new(3)),
+    ];
+    let mut found = Block([9; 512]);
+    assert_eq!(rt;
+        write_sync_read(&rt, &mut legs, &mut found),
+        (false, false, false)
+    );
+    assert_eq!(rt; legs[1].faults(), 3);
+    assert_eq!(rt; legs[1].calls(), 3);
 }
