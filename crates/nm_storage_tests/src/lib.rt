@@ -5,3 +5,5 @@
 mod legs;
 #[cfg(test)]
 mod records;
+#[cfg(test)]
+mod scripts;

@@ -1,8 +1,0 @@
-use Rattle.std.proofs.Common.{take}
-use Rattle.nm_script.specs.Runs.{RunsSteps}
-use Rattle.nm_script.proofs.engine.run_steps.Given as goal
-
-abbrev pub invariant-loop-asked : goal.invariant-loop-asked
-invariant-loop-asked g l = RunsSteps (take l.asked-index l.steps) l.initial.stripe l.stripe
-    (g.W.Write.contents l.initial.out) (g.W.Write.contents l.out) l.initial.gathered.items
-    l.gathered.items

@@ -1,0 +1,16 @@
+pub mod Pieces
+pub mod Numbers
+pub mod Joined
+pub mod WordLaws
+pub mod StepLaws
+pub mod MirrorLaws
+pub mod LineLaws
+pub mod ScriptLaws
+pub mod Sent
+pub mod Legs
+pub mod Shapes
+pub mod RunLaws
+pub mod HistoryLaws
+pub mod EndLaws
+pub mod Inside
+pub mod Judged

@@ -1,0 +1,273 @@
+-- A run of steps, one step longer; and what is written of it.
+use Rattle.std.proofs.Common.{◌≡◌, ℕ, List, [], ◌∷◌, ◌++◌, Option, Some, None, Result, Ok, Err, OnOk, OnErr, map, true, refl, sym, ap, subst, ◌∙◌, append_assoc}
+use Rattle.std.specs.List.{flat_map}
+use Rattle.std.proofs.lemmas.List.{map-append, flat_map_more, append-nil}
+use Rattle.std.proofs.lemmas.Grind.{flat_map-append}
+use Rattle.std.specs.Io.KnownBytes.{Appends, Keeps}
+use Rattle.std.proofs.KnownBytes.{Appends-trans, Appends-nil}
+use Rattle.nm_replay.specs.declared.block.Block.{Block}
+use Rattle.nm_stripe.specs.declared.answer.Answer.{Answer}
+use Rattle.nm_stripe.specs.declared.step.Step.{Step as StripeStep}
+use Rattle.nm_stripe.specs.Machine.{StepOf, Runs}
+use Rattle.nm_script_lib.specs.declared.mirror_line.MirrorLine.{MirrorLine}
+use Rattle.nm_script_lib.specs.declared.outcome.Outcome.{Outcome}
+use Rattle.nm_script_lib.specs.declared.step.Step.{Step}
+use Rattle.nm_script_lib.specs.MemStripe.{MemStripe, in_memory, new_stripe, asked, answer_line, lines, HasShapeOf, Steps}
+use Rattle.nm_script_lib.specs.Printing.{printed_outcome}
+use Rattle.nm_script_lib.specs.Streams.{AppendsPrefix, FlushesPrefix}
+use Rattle.nm_script_lib.specs.Runs.{Answers, history, run_text, RunsSteps, RunsPrefix, WholeRun, PartOfRun, FirstSteps, AllSteps, Writes}
+
+pub on_err : {T E : Type 0} (r : Result T E) (P : Type 0) → P → OnErr r P
+on_err (Ok x) P p = tt
+on_err (Err e) P p = p
+
+-- one step after a run
+
+runs_more : (ss : List (StripeStep (List Block))) (xs : List (Answer (List Block)))
+    (a b c : MemStripe) (s : StripeStep (List Block)) (x : Answer (List Block)) →
+    Runs in_memory true a ss xs b → StepOf in_memory true s x b c →
+    Runs in_memory true a (ss ++ s ∷ []) (xs ++ x ∷ []) c
+runs_more [] [] a b c s x e h = (c, rw (← e) h, refl)
+runs_more [] (y ∷ xs) a b c s x e h = absurd e
+runs_more (r ∷ ss) [] a b c s x e h = absurd e
+runs_more (r ∷ ss) (y ∷ xs) a b c s x e h = (e.0, e.1, runs_more ss xs e.0 b c s x e.2 h)
+
+pub answers_more : (prefix : List Step) (xs : List (Answer (List Block))) (a b c : MemStripe)
+    (s : Step) (x : Answer (List Block)) →
+    Answers prefix xs a b → StepOf in_memory true (asked s) x b c →
+    Answers (prefix ++ s ∷ []) (xs ++ x ∷ []) a c
+answers_more prefix xs a b c s x e h =
+    rw (map-append asked prefix (s ∷ [])) (runs_more (map asked prefix) xs a b c (asked s) x e h)
+
+lines_more : (before : List ℕ) (xs : List (Answer (List Block))) (x : Answer (List Block)) →
+    before ++ lines (xs ++ x ∷ []) ≡ (before ++ lines xs) ++ answer_line x
+lines_more before xs x = sym (flat_map_more answer_line before xs x)
+
+-- what was passed on, and then more
+pub passes_more : (old cur new : Option (List ℕ)) (all some more kept : List ℕ) →
+    FlushesPrefix old cur all some → FlushesPrefix cur new (some ++ more) kept →
+    FlushesPrefix old new (all ++ more) kept
+passes_more old cur new all some more kept h k = (
+  h.0 ++ k.0,
+  ap (λ r. r ++ more) h.1 ∙ append_assoc h.0 some more ∙ ap (λ r. h.0 ++ r) k.1 ∙
+      sym (append_assoc h.0 k.0 kept),
+  Appends-trans old cur new h.0 k.0 h.2 k.2,
+)
+
+pub prefix_more : (old cur new : Option (List ℕ)) (all some more : List ℕ) →
+    FlushesPrefix old cur all some → AppendsPrefix cur new (some ++ more) →
+    AppendsPrefix old new (all ++ more)
+prefix_more old cur new all some more h k = (
+  h.0 ++ k.0,
+  k.1,
+  ap (λ r. r ++ more) h.1 ∙ append_assoc h.0 some more ∙ ap (λ r. h.0 ++ r) k.2 ∙
+      sym (append_assoc h.0 k.0 k.1),
+  Appends-trans old cur new h.0 k.0 h.2 k.3,
+)
+
+-- what was passed on is a prefix
+pub prefix_passed : (old new : Option (List ℕ)) (all kept : List ℕ) → FlushesPrefix old new all kept →
+    AppendsPrefix old new all
+prefix_passed old new all kept h = (h.0, kept, h.1, h.2)
+
+pub steps_more : (prefix : List Step) (before mid after : MemStripe) (s : Step) (o : Outcome)
+    (old cur new : Option (List ℕ)) (buffer some kept : List ℕ) →
+    RunsSteps prefix before mid old cur buffer some → Steps s o mid after → HasShapeOf mid after →
+    FlushesPrefix cur new (some ++ printed_outcome o) kept →
+    RunsSteps (prefix ++ s ∷ []) before after old new buffer kept
+steps_more prefix before mid after s o old cur new buffer some kept h step shape p =
+    let line : FlushesPrefix cur new (some ++ answer_line step.answer) kept = subst
+    (λ (x : Outcome). FlushesPrefix cur new (some ++ printed_outcome x) kept) step.comes_to p in
+    record {
+      answers = h.answers ++ step.answer ∷ [];
+      answered = answers_more prefix h.answers before mid after s step.answer h.answered step.steps;
+      shape = record { place = shape.place ∙ h.shape.place; legs = shape.legs ∙ h.shape.legs };
+      passes = rw (lines_more buffer h.answers step.answer)
+          (passes_more old cur new (buffer ++ lines h.answers) some (answer_line step.answer) kept
+          h.passes line);
+    }
+
+-- a run ends early, before or after the line of its last step
+pub stopped_before : (prefix rest steps : List Step) (before mid : MemStripe) (old cur : Option (List ℕ))
+    (buffer some : List ℕ) → steps ≡ prefix ++ rest →
+    RunsSteps prefix before mid old cur buffer some → RunsPrefix steps before old cur buffer
+stopped_before prefix rest steps before mid old cur buffer some e h = record {
+  prefix = prefix;
+  rest = rest;
+  answers = h.answers;
+  after = mid;
+  split = e;
+  answered = h.answered;
+  written = prefix_passed old cur (buffer ++ lines h.answers) some h.passes;
+}
+
+pub stopped_after : (prefix rest steps : List Step) (before mid after : MemStripe) (s : Step)
+    (o : Outcome) (old cur new : Option (List ℕ)) (buffer some : List ℕ) →
+    steps ≡ (prefix ++ s ∷ []) ++ rest → RunsSteps prefix before mid old cur buffer some →
+    Steps s o mid after →
+    AppendsPrefix cur new (some ++ printed_outcome o) → RunsPrefix steps before old new buffer
+stopped_after prefix rest steps before mid after s o old cur new buffer some e h step w =
+    let line : AppendsPrefix cur new (some ++ answer_line step.answer) = subst
+    (λ (x : Outcome). AppendsPrefix cur new (some ++ printed_outcome x)) step.comes_to w in
+    record {
+      prefix = prefix ++ s ∷ [];
+      rest = rest;
+      answers = h.answers ++ step.answer ∷ [];
+      after = after;
+      split = e;
+      answered = answers_more prefix h.answers before mid after s step.answer h.answered step.steps;
+      written = rw (lines_more buffer h.answers step.answer)
+          (prefix_more old cur new (buffer ++ lines h.answers) some (answer_line step.answer)
+          h.passes line);
+    }
+
+-- the lines of a list of things, one thing longer, or cut anywhere
+
+pub items_more : {A : Type 0} (line : A →
+    List ℕ) (old cur new : Option (List ℕ)) (buffer some kept : List ℕ) (xs : List A) (x : A) →
+    FlushesPrefix old cur (buffer ++ flat_map line xs) some → FlushesPrefix cur new (some ++ line x) kept →
+    FlushesPrefix old new (buffer ++ flat_map line (xs ++ x ∷ [])) kept
+items_more line old cur new buffer some kept xs x h p =
+    rw (sym (flat_map_more line buffer xs x))
+    (passes_more old cur new (buffer ++ flat_map line xs) some (line x) kept h p)
+
+pub items_prefix : {A : Type 0} (line : A →
+    List ℕ) (old new : Option (List ℕ)) (buffer : List ℕ) (all xs ys : List A) → all ≡ xs ++ ys →
+    AppendsPrefix old new (buffer ++ flat_map line xs) →
+    AppendsPrefix old new (buffer ++ flat_map line all)
+items_prefix line old new buffer all xs ys e h =
+    let whole : buffer ++ flat_map line all ≡ (buffer ++ flat_map line xs) ++ flat_map line ys =
+    ap (λ r. buffer ++ r) (ap (flat_map line) e ∙ flat_map-append line xs ys) ∙
+    sym (append_assoc buffer (flat_map line xs) (flat_map line ys)) in (
+      h.0,
+      h.1 ++ flat_map line ys,
+      whole ∙ ap (λ r. r ++ flat_map line ys) h.2 ∙
+          append_assoc h.0 h.1 (flat_map line ys),
+      h.3,
+    )
+
+pub items_prefix_more : {A : Type 0} (line : A →
+    List ℕ) (old cur new : Option (List ℕ)) (buffer some : List ℕ) (xs : List A) (x : A) →
+    FlushesPrefix old cur (buffer ++ flat_map line xs) some → AppendsPrefix cur new (some ++ line x) →
+    AppendsPrefix old new (buffer ++ flat_map line (xs ++ x ∷ []))
+items_prefix_more line old cur new buffer some xs x h p =
+    rw (sym (flat_map_more line buffer xs x))
+    (prefix_more old cur new (buffer ++ flat_map line xs) some (line x) h p)
+
+-- fronts and wholes
+
+pub prefix_none : (a : Option (List ℕ)) (all : List ℕ) → AppendsPrefix a a all
+prefix_none a all = ([], all, refl, Appends-nil a)
+
+pub prefix_longer : (old new : Option (List ℕ)) (all more : List ℕ) → AppendsPrefix old new all →
+    AppendsPrefix old new (all ++ more)
+prefix_longer old new all more h = (
+  h.0,
+  h.1 ++ more,
+  ap (λ r. r ++ more) h.2 ∙
+      append_assoc h.0 h.1 more,
+  h.3,
+)
+
+pub prefix_whole : (old new : Option (List ℕ)) (all : List ℕ) → Appends old new all →
+    AppendsPrefix old new all
+prefix_whole old new all h = (all, [], sym (append-nil all), h)
+
+pub passes_none : (a : Option (List ℕ)) (all kept : List ℕ) → kept ≡ all → FlushesPrefix a a all kept
+passes_none a all kept e = ([], sym e, Appends-nil a)
+
+pub all_sent : (old cur new : Option (List ℕ)) (all some : List ℕ) → FlushesPrefix old cur all some →
+    Appends cur new some → Appends old new all
+all_sent old cur new all some h k = rw h.1 (Appends-trans old cur new h.0 some h.2 k)
+
+pub prefix_sent : (old cur new : Option (List ℕ)) (all some : List ℕ) → FlushesPrefix old cur all some →
+    AppendsPrefix cur new some → AppendsPrefix old new all
+prefix_sent old cur new all some h k = (
+  h.0 ++ k.0,
+  k.1,
+  h.1 ∙ ap (λ r. h.0 ++ r) k.2 ∙
+      sym (append_assoc h.0 k.0 k.1),
+  Appends-trans old cur new h.0 k.0 h.2 k.3,
+)
+
+pub appends_kept : (old cur new : Option (List ℕ)) (all : List ℕ) → Appends old cur all →
+    Keeps cur new → Appends old new all
+appends_kept None cur new all h k = tt
+appends_kept (Some x) None new all h k = absurd h
+appends_kept (Some x) (Some y) None all h k = absurd k
+appends_kept (Some x) (Some y) (Some z) all h k = k ∙ h
+
+-- the pieces of a history after the buffer
+pub regroup : (g c l y : List ℕ) → g ++ ((c ++ l) ++ y) ≡ ((g ++ c) ++ l) ++ y
+regroup g c l y = simp append_assoc
+
+pub prefix_after : (old cur new : Option (List ℕ)) (all more : List ℕ) → Appends old cur all →
+    AppendsPrefix cur new more → AppendsPrefix old new (all ++ more)
+prefix_after old cur new all more h k = (
+  all ++ k.0,
+  k.1,
+  ap (λ r. all ++ r) k.2 ∙
+      sym (append_assoc all k.0 k.1),
+  Appends-trans old cur new all k.0 h k.3,
+)
+
+pub whole_more : (old cur new : Option (List ℕ)) (all some more : List ℕ) →
+    FlushesPrefix old cur all some → Appends cur new (some ++ more) → Appends old new (all ++ more)
+whole_more old cur new all some more h k =
+    let e : all ++ more ≡ h.0 ++ (some ++ more) = ap (λ r. r ++ more) h.1 ∙
+    append_assoc h.0 some more in
+    rw e (Appends-trans old cur new h.0 (some ++ more) h.2 k)
+
+-- a whole run, and what is written of one that ends early
+
+pub run_not_opened : (m : MirrorLine) (steps : List Step) (a : Option (List ℕ)) →
+    Writes (PartOfRun m steps) (AppendsPrefix a a)
+run_not_opened m steps a = ([], FirstSteps [] steps [] (new_stripe m) refl refl, prefix_none a [])
+
+pub run_stopped : (m : MirrorLine) (steps : List Step) (old new : Option (List ℕ)) (buffer : List ℕ) →
+    buffer ≡ [] →
+    RunsPrefix steps (new_stripe m) old new buffer →
+    Writes (PartOfRun m steps) (AppendsPrefix old new)
+run_stopped m steps old new buffer e h = (
+  lines h.answers,
+  FirstSteps h.prefix h.rest h.answers h.after h.split h.answered,
+  subst (λ (x : List ℕ). AppendsPrefix old new (x ++ lines h.answers)) e h.written,
+)
+
+abbrev done : (m : MirrorLine) (steps : List Step) (end : MemStripe) (old new : Option (List ℕ))
+    (buffer rest : List ℕ) →
+    (h : RunsSteps steps (new_stripe m) end old new buffer rest) →
+    WholeRun m steps (run_text h.answers end)
+done m steps end old new buffer rest h = record
+    { answers = h.answers; end = end; answered = h.answered; whole = refl }
+
+pub run_done : (m : MirrorLine) (steps : List Step) (end : MemStripe) (old cur new : Option (List ℕ))
+    (buffer rest : List ℕ) → buffer ≡ [] →
+    RunsSteps steps (new_stripe m) end old cur buffer rest →
+    Appends cur new (rest ++ history end) → Writes (WholeRun m steps) (Appends old new)
+run_done m steps end old cur new buffer rest e h w = (
+  run_text h.answers end,
+  done m steps end old cur buffer rest h,
+  subst (λ (x : List ℕ). Appends old new ((x ++ lines h.answers) ++ history end)) e
+      (whole_more old cur new (buffer ++ lines h.answers) rest (history end) h.passes w),
+)
+
+pub run_cut : (m : MirrorLine) (steps : List Step) (end : MemStripe) (old cur new : Option (List ℕ))
+    (buffer rest : List ℕ) → buffer ≡ [] →
+    RunsSteps steps (new_stripe m) end old cur buffer rest →
+    AppendsPrefix cur new (rest ++ history end) →
+    Writes (PartOfRun m steps) (AppendsPrefix old new)
+run_cut m steps end old cur new buffer rest e h w = (
+  run_text h.answers end,
+  AllSteps (run_text h.answers end) (done m steps end old cur buffer rest h),
+  subst (λ (x : List ℕ). AppendsPrefix old new ((x ++ lines h.answers) ++ history end)) e
+      (prefix_more old cur new (buffer ++ lines h.answers) rest (history end) h.passes w),
+)
+
+pub ok_then : {T E : Type 0} (r : Result T E) (P Q : Type 0) → (P → Q) → OnOk r P → OnOk r Q
+ok_then (Ok x) P Q f p = f p
+ok_then (Err e) P Q f p = tt
+
+pub err_then : {T E : Type 0} (r : Result T E) (P Q : Type 0) → (P → Q) → OnErr r P → OnErr r Q
+err_then (Ok x) P Q f p = tt
+err_then (Err e) P Q f p = f p

@@ -1,0 +1,12 @@
+pub mod Grammar
+pub mod Reading
+pub mod Words
+pub mod ScriptReading
+pub mod BadLine
+pub mod Printing
+pub mod Streams
+pub mod MemStripe
+pub mod RunErrors
+pub mod Runs
+pub mod Ending
+pub mod Judging

@@ -1,0 +1,153 @@
+//! Runs the steps of a script, and writes their results.
+ghost use Rattle.std.specs.Prelude.{◌≡◌, ℕ, ◌+◌, ◌<◌, ◌≤◌, List, ◌++◌, length, IfOk, IfErr, OnOk, OnErr};
+ghost use Rattle.std.specs.List.{flat_map, AllByRecursion};
+ghost use Rattle.nm_script_lib.specs.Grammar.{InRange, IsInside};
+ghost use Rattle.nm_script_lib.specs.MemStripe.{CanTake};
+ghost use Rattle.std.specs.Io.KnownBytes.{Appends};
+ghost use Rattle.nm_script_lib.specs.Streams.{AppendsPrefix, FlushesPrefix};
+ghost use Rattle.nm_script_lib.specs.Printing.{printed_entry};
+ghost use Rattle.nm_script_lib.specs.RunErrors.{EndsRun};
+ghost use Rattle.nm_script_lib.specs.Runs.{RunsSteps, RunsPrefix, WholeRun, PartOfRun, JudgesHistory, Writes, history};
+
+use crate::judging::is_legal;
+use crate::mem_stripe::{open, step};
+use crate::printing::{put_counts, put_entry, put_legal, put_outcome};
+use crate::run_error::RunError;
+use crate::scripts::Script;
+use crate::step::Step;
+use crate::streams::send;
+use crate::write_error::WriteError;
+use nm_leg::MemLeg;
+use nm_replay::Entry;
+use nm_stripe::Stripe;
+use std::alloc::Global;
+use std::io::Write;
+
+/// How many bytes are buffered before they are written.
+const BUFFER_SIZE: usize = 1 << 16;
+
+/// More bytes than a line has.
+const LINE_SIZE: usize = 128;
+
+/// Flushes the buffer once it holds 64 KiB.
+fn flush_if_full<W: Write>(out: &mut W, buffer: &mut Vec<u8>) -> Result<(), WriteError>
+    ensures ok { OnOk result (FlushesPrefix (W.contents out.old) (W.contents out.new)
+        buffer.old.items buffer.new.items) }
+    ensures err { OnErr result (AppendsPrefix (W.contents out.old) (W.contents out.new)
+        buffer.old.items) }
+{
+    if buffer.len() < BUFFER_SIZE {
+        return Ok(());
+    }
+    send(out, buffer)?;
+    buffer.clear();
+    Ok(())
+}
+
+/// Does the steps in order, and writes a line for each.
+fn run_steps<W: Write>(
+    alloc: Global,
+    stripe: &mut Stripe<MemLeg>,
+    steps: &[Step],
+    out: &mut W,
+    buffer: &mut Vec<u8>,
+) -> Result<(), RunError>
+    requires { AllByRecursion (CanTake stripe.old) steps.now }
+    ensures ok { OnOk result (RunsSteps steps.now stripe.old stripe.new
+        (W.contents out.old) (W.contents out.new) buffer.old.items buffer.new.items) }
+    ensures err { OnErr result (RunsPrefix steps.now stripe.old
+        (W.contents out.old) (W.contents out.new) buffer.old.items) }
+    ensures cause { IfErr result EndsRun }
+{
+    for asked in steps {
+        let outcome = step(alloc, stripe, *asked)?;
+        put_outcome(buffer, outcome)?;
+        flush_if_full(out, buffer)?;
+    }
+    Ok(())
+}
+
+/// Writes the lines of the entries.
+fn put_entries<W: Write>(
+    entries: &[Entry],
+    out: &mut W,
+    buffer: &mut Vec<u8>,
+) -> Result<(), RunError>
+    ensures ok { OnOk result (FlushesPrefix (W.contents out.old) (W.contents out.new)
+        (buffer.old.items ++ flat_map printed_entry entries.now) buffer.new.items) }
+    ensures err { OnErr result (AppendsPrefix (W.contents out.old) (W.contents out.new)
+        (buffer.old.items ++ flat_map printed_entry entries.now)) }
+    ensures cause { IfErr result EndsRun }
+{
+    for entry in entries {
+        put_entry(buffer, entry)?;
+        flush_if_full(out, buffer)?;
+    }
+    Ok(())
+}
+
+/// Writes a history after the buffer: its counts, its entries, and whether it is legal.
+fn put_history<W: Write>(
+    alloc: Global,
+    entries: &[Entry],
+    blocks: usize,
+    total: u64,
+    out: &mut W,
+    buffer: &mut Vec<u8>,
+) -> Result<(), RunError>
+    ensures ok { OnOk result (JudgesHistory entries.now total (λ text.
+        Appends (W.contents out.old) (W.contents out.new) (buffer.old.items ++ text))) }
+    ensures err { OnErr result (JudgesHistory entries.now total (λ text.
+        AppendsPrefix (W.contents out.old) (W.contents out.new) (buffer.old.items ++ text))) }
+    ensures cause { IfErr result EndsRun }
+{
+    let is_legal = is_legal(alloc, entries, blocks)?;
+    put_counts(buffer, entries.len() as u64, total)?;
+    put_entries(entries, out, buffer)?;
+    put_legal(buffer, is_legal)?;
+    send(out, buffer)?;
+    Ok(())
+}
+
+/// Writes the buffer, and then the history that the stripe keeps.
+fn finish<W: Write>(
+    alloc: Global,
+    stripe: &Stripe<MemLeg>,
+    blocks: usize,
+    out: &mut W,
+    buffer: &mut Vec<u8>,
+) -> Result<(), RunError>
+    ensures ok { OnOk result (Appends (W.contents out.old) (W.contents out.new)
+        (buffer.old.items ++ history stripe.now)) }
+    ensures err { OnErr result (AppendsPrefix (W.contents out.old) (W.contents out.new)
+        (buffer.old.items ++ history stripe.now)) }
+    ensures cause { IfErr result EndsRun }
+{
+    send(out, buffer)?;
+    buffer.clear();
+    // Its contract says that the stripe is sound, and so that what it keeps is legal.
+    let _ = stripe.is_stopped();
+    let entries = stripe.entries(alloc)?;
+    put_history(alloc, &entries, blocks, stripe.total(), out, buffer)?;
+    if out.flush().is_err() {
+        return Err(RunError::Output);
+    }
+    Ok(())
+}
+
+/// Runs a script on a new stripe of memory legs. It writes a line a step, and then the history.
+pub fn run<W: Write>(alloc: Global, script: &Script, out: &mut W) -> Result<(), RunError>
+    requires range { InRange script.now.mirror }
+    requires inside { AllByRecursion (IsInside script.now.mirror) script.now.steps.items }
+    ensures ok { OnOk result (Writes (WholeRun script.now.mirror script.now.steps.items)
+        (Appends (W.contents out.old) (W.contents out.new))) }
+    ensures err { OnErr result (Writes (PartOfRun script.now.mirror script.now.steps.items)
+        (AppendsPrefix (W.contents out.old) (W.contents out.new))) }
+    ensures cause { IfErr result EndsRun }
+{
+    let mut buffer = Vec::with_capacity(alloc, BUFFER_SIZE + LINE_SIZE)?;
+    let mut stripe = open(alloc, &script.mirror)?;
+    run_steps(alloc, &mut stripe, &script.steps, out, &mut buffer)?;
+    let blocks = script.mirror.blocks as usize;
+    finish(alloc, &stripe, blocks, out, &mut buffer)
+}

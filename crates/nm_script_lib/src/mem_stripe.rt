@@ -1,0 +1,105 @@
+//! The stripe that a script runs: memory legs of zero bytes, all in sync.
+ghost use Rattle.std.specs.Prelude.{◌≡◌, ℕ, ◌<◌, ◌≤◌, ◌+◌, ◌^◌, IfOk, IfErr};
+ghost use Rattle.nm_stripe.specs.Machine.{StepOf, MayBeAsked};
+ghost use Rattle.nm_script_lib.specs.Grammar.{InRange};
+ghost use Rattle.nm_script_lib.specs.RunErrors.{EndsRun};
+ghost use Rattle.nm_script_lib.specs.MemStripe.{in_memory, new_stripe, zero_legs, filled_block, asked, outcome_of, CanTake, Steps, HasShapeOf};
+
+use crate::fill::fill_of;
+use crate::mirror_line::MirrorLine;
+use crate::outcome::Outcome;
+use crate::run_error::RunError;
+use crate::step::Step;
+use bytes::Bytes;
+use nm_fanout::Data;
+use nm_leg::MemLeg;
+use nm_stripe::{Answer, At, Stripe};
+use std::alloc::{AllocError, Global};
+
+/// This many legs of this many zero blocks.
+fn zero_legs(alloc: Global, legs: u8, blocks: u64) -> Result<Vec<MemLeg>, RunError>
+    ensures legs { IfOk result (λ v. v.items ≡ zero_legs legs blocks) }
+    ensures cause { IfErr result EndsRun }
+{
+    let mut all = Vec::new(alloc);
+    for _ in 0..legs {
+        all.push(MemLeg::new(alloc, blocks)?)?;
+    }
+    Ok(all)
+}
+
+/// The bits of this many legs, from leg 0 on.
+fn all_in_sync(legs: u8) -> u8
+    requires { (1 ≤ legs) × (legs ≤ 8) }
+    ensures { result + 1 ≡ 2 ^ legs }
+{
+    u8::MAX >> (8 - legs)
+}
+
+/// A new stripe for this mirror.
+pub fn open(alloc: Global, mirror: &MirrorLine) -> Result<Stripe<MemLeg>, RunError>
+    requires { InRange mirror.now }
+    ensures opened { IfOk result (λ stripe. stripe ≡ new_stripe mirror.now) }
+    ensures cause { IfErr result EndsRun }
+{
+    let legs = zero_legs(alloc, mirror.legs, mirror.blocks)?;
+    let in_sync = all_in_sync(mirror.legs);
+    let place = At {
+        stripe: 0,
+        blocks: mirror.blocks,
+        region: mirror.region,
+        chunk: mirror.chunk,
+    };
+    match Stripe::open(alloc, place, legs, in_sync, mirror.first) {
+        Ok(stripe) => Ok(stripe),
+        Err((memory, _)) => Err(RunError::from(memory)),
+    }
+}
+
+/// A block of one byte throughout.
+#[tactic(auto, unfolding(crate::specs::MemStripe::filled_block))]
+fn filled_block(fill: u8) -> [u8; 512]
+    ensures { result ≡ filled_block fill }
+{
+    [fill; 512]
+}
+
+/// The step of the stripe for a step of the script, with its data.
+fn asked(alloc: Global, step: Step) -> Result<nm_stripe::Step<MemLeg>, AllocError>
+    ensures { IfOk result (λ s. s ≡ asked step) }
+{
+    Ok(match step {
+        Step::Begin { block, fill } => {
+            let bytes = Bytes::copy_from_slice(alloc, &filled_block(fill))?;
+            nm_stripe::Step::Begin(block, Data::Cut(bytes))
+        }
+        Step::Push { ticket, leg } => nm_stripe::Step::Push(ticket, leg),
+        Step::Claim { ticket } => nm_stripe::Step::Claim(ticket),
+        Step::Read { block } => nm_stripe::Step::Read(block),
+    })
+}
+
+/// The result of an answer.
+fn outcome_of(answer: &Answer<MemLeg>) -> Outcome
+    ensures { result ≡ outcome_of answer.now }
+{
+    match answer {
+        Answer::Begun(ticket) => Outcome::Begun(*ticket),
+        Answer::Pushed(owed) => Outcome::Pushed(*owed),
+        Answer::Complete(number) => Outcome::Complete(*number),
+        Answer::Halted => Outcome::Halted,
+        Answer::Written(written) => Outcome::Written(written.number()),
+        Answer::Value(value) => Outcome::Value(value.number(), fill_of(value.bytes())),
+        Answer::Refused(refusal, _) => Outcome::Refused(*refusal),
+    }
+}
+
+/// Does one step of a script. The data of a write are allocated before the step.
+pub fn step(alloc: Global, stripe: &mut Stripe<MemLeg>, step: Step) -> Result<Outcome, AllocError>
+    requires { CanTake stripe.old step }
+    ensures ok { IfOk result (λ outcome. Steps step outcome stripe.old stripe.new) }
+    ensures shape { HasShapeOf stripe.old stripe.new }
+{
+    let answer = stripe.step(asked(alloc, step)?);
+    Ok(outcome_of(&answer))
+}

@@ -1,0 +1,184 @@
+//! Reads a script: its mirror line, and the steps after it.
+ghost use Rattle.std.specs.Prelude.{◌≡◌, ℕ, ◌+◌, ◌<◌, ◌≤◌, ◌^◌, not, List, length, Option, Some, None, IfSome, Result, IfOk, MatchResult, IsErrOf};
+ghost use Rattle.std.specs.Option.{option_copied, option_map};
+ghost use Rattle.std.specs.List.{list_any, AllByRecursion};
+ghost use Rattle.std.specs.Str.{is_utf8};
+ghost use Rattle.nm_script_lib.specs.Grammar.{has_content, IsScript, InRange, IsInside};
+ghost use Rattle.nm_script_lib.specs.Reading.{pieces, pieces_of_rest, rest_size};
+ghost use Rattle.nm_script_lib.specs.ScriptReading.{first_where, content_from, steps_of, names_mirror, script_of, Reads};
+ghost use Rattle.nm_script_lib.specs.declared.parse_error.ParseError.TheVariants.{Memory, BadStep};
+ghost use Rattle.nm_script_lib.specs.declared.mirror_line.MirrorLine.{MirrorLine};
+ghost use Rattle.nm_script_lib.specs.declared.step.Step.{Step};
+ghost use Rattle.nm_script_lib.specs.BadLine.{NamesLine};
+
+use crate::mirror_line::{MirrorLine, mirror_of};
+use crate::parse_error::ParseError;
+use crate::step::{Step, step_of};
+use crate::words::{cut, is_word};
+use std::alloc::Global;
+
+/// A script: the mirror and the steps.
+#[derive(Drop)]
+pub struct Script {
+    /// The mirror that the steps run on.
+    pub mirror: MirrorLine,
+    /// The steps, in the order of their lines.
+    pub steps: Vec<Step>,
+}
+
+/// Whether a line is neither empty nor a comment.
+fn has_content(line: &[u8]) -> bool
+    ensures { result ≡ has_content line.now }
+{
+    match line {
+        [] => false,
+        [byte, ..] => *byte != b'#',
+    }
+}
+
+/// The steps of the lines, of which the first is line `number`.
+fn steps_of(
+    alloc: Global,
+    mirror: &MirrorLine,
+    text: Option<&[u8]>,
+    number: u64,
+) -> Result<Vec<Step>, ParseError>
+    requires { number + rest_size (option_copied text) < 2 ^ 64 }
+    ensures { Reads (λ v. v.items) result
+        (steps_of mirror.now number (pieces_of_rest 10 (option_copied text.entry))) }
+{
+    let mut steps = Vec::new(alloc);
+    let mut number = number;
+    let mut rest = text;
+    while let Some(text) = rest {
+        let (line, following) = cut(text, b'\n');
+        if has_content(line) {
+            match step_of(mirror, line) {
+                Some(step) => steps.push(step)?,
+                None => return Err(ParseError::BadStep { line: number }),
+            }
+        }
+        number += 1;
+        rest = following;
+    }
+    Ok(steps)
+}
+
+/// Whether a line's first word is `mirror`.
+fn names_mirror(line: &[u8]) -> bool
+    ensures { result ≡ names_mirror line.now }
+{
+    let (word, _) = cut(line, b' ');
+    is_word(word, b"mirror")
+}
+
+/// Whether a line is UTF-8.
+fn is_utf8(line: &[u8]) -> bool
+    ensures { result ≡ is_utf8 line.now }
+{
+    std::str::from_utf8(line).is_ok()
+}
+
+/// The number of the first line that is not UTF-8.
+fn first_not_utf8(text: &[u8]) -> Option<u64>
+    ensures { result ≡ first_where (λ line. not (is_utf8 line)) 1 (pieces 10 text.now) }
+{
+    let mut number = 1;
+    let mut rest = Some(text);
+    while let Some(text) = rest {
+        let (line, following) = cut(text, b'\n');
+        if !is_utf8(line) {
+            return Some(number);
+        }
+        number += 1;
+        rest = following;
+    }
+    None
+}
+
+/// Whether some line's first word is `mirror`.
+fn any_names_mirror(text: &[u8]) -> bool
+    ensures { result ≡ list_any names_mirror (pieces 10 text.now) }
+{
+    let mut rest = Some(text);
+    while let Some(text) = rest {
+        let (line, following) = cut(text, b'\n');
+        if names_mirror(line) {
+            return true;
+        }
+        rest = following;
+    }
+    false
+}
+
+/// A line that is neither empty nor a comment, and where it stands.
+#[derive(Clone, Copy)]
+struct ContentLine<'a> {
+    number: u64,
+    line: &'a [u8],
+    following: Option<&'a [u8]>,
+}
+
+/// The first line of a text that is neither empty nor a comment, and the text after it.
+fn first_content_line(text: &[u8]) -> Option<ContentLine<'_>>
+    ensures found { option_map
+        (λ s. (s.number, s.line.now, pieces_of_rest 10 (option_copied s.following))) result
+        ≡ content_from 1 (pieces 10 text.now) }
+    ensures room { IfSome result (λ s. s.number + rest_size (option_copied s.following)
+        ≤ length text.now + 1) }
+{
+    let mut number = 1;
+    let mut rest = Some(text);
+    while let Some(text) = rest {
+        let (line, following) = cut(text, b'\n');
+        if has_content(line) {
+            return Some(ContentLine {
+                number,
+                line,
+                following,
+            });
+        }
+        number += 1;
+        rest = following;
+    }
+    None
+}
+
+/// The script that a text is, read from its first line on.
+#[tactic(auto, unfolding(crate::specs::ScriptReading::script_of))]
+fn script_of(alloc: Global, text: &[u8]) -> Result<Script, ParseError>
+    ensures { Reads (λ s. (s.mirror, s.steps.items)) result (script_of (pieces 10 text.now)) }
+{
+    if let Some(line) = first_not_utf8(text) {
+        return Err(ParseError::BadStep { line });
+    }
+    let Some(content) = first_content_line(text) else {
+        return Err(ParseError::BadStep { line: 1 });
+    };
+    let Some(mirror) = mirror_of(content.line) else {
+        let line = if any_names_mirror(text) {
+            content.number
+        } else {
+            1
+        };
+        return Err(ParseError::BadStep { line });
+    };
+    let steps = steps_of(alloc, &mirror, content.following, content.number + 1)?;
+    Ok(Script { mirror, steps })
+}
+
+/// Reads a script: a mirror line, then a step a line.
+///
+/// Empty lines and those that begin with `#` are skipped. An error's line counts all lines, from 1.
+pub fn parse(alloc: Global, text: &[u8]) -> Result<Script, ParseError>
+    // What is read is the script that the text is.
+    ensures parsed { IfOk result (λ s. IsScript text.now s.mirror s.steps.items) }
+    // A text that is a script is read, unless memory runs out.
+    ensures script { (m : MirrorLine) (steps : List Step) → IsScript text.now m steps
+        → MatchResult result (λ s. (s.mirror ≡ m) × (s.steps.items ≡ steps)) (λ e. e ≡ Memory) }
+    ensures range { IfOk result (λ s. InRange s.mirror) }
+    ensures inside { IfOk result (λ s. AllByRecursion (IsInside s.mirror) s.steps.items) }
+    ensures named { (n : ℕ) → IsErrOf result (BadStep n) → NamesLine text.now n }
+{
+    script_of(alloc, text)
+}

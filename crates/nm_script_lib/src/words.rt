@@ -1,0 +1,164 @@
+//! Reads the words of a line, one after the other.
+ghost use Rattle.std.specs.Prelude.{◌≡◌, ℕ, ◌+◌, ◌*◌, ◌-◌, ◌<◌, ◌≤◌, ◌^◌, ◌&&◌, ◌==◌, nat_lt, nat_le, Bool, List, [], ◌∷◌, Option, length, position, MatchBool, ◌≢◌, IfSome};
+ghost use Rattle.std.specs.Option.{option_copied};
+ghost use Rattle.nm_script_lib.specs.Reading.{pieces, pieces_of_rest, rest_size, number_of, byte_of, hex_digit_of, digits_on, word_at, number_at, within_at, below_at, byte_at, policy_at, is_word, Gives};
+
+use crate::policy::Policy;
+
+/// The index of the first byte `at`.
+fn place_of(text: &[u8], at: u8) -> Option<usize>
+    ensures { result ≡ position (λ b. b == at) text.now }
+{
+    text.iter().position(|byte| *byte == at)
+}
+
+/// The bytes before the first `at`, and those after it if there is one.
+pub fn cut(text: &[u8], at: u8) -> (&[u8], Option<&[u8]>)
+    ensures pieces { pieces at text.now ≡ result.0.now ∷ pieces_of_rest at (option_copied result.1) }
+    ensures rest { rest_size (option_copied result.1) ≤ length text.now }
+{
+    match place_of(text, at) {
+        Some(place) => (&text[..place], Some(&text[place + 1..])),
+        None => (text, None),
+    }
+}
+
+/// Whether a word is this one.
+pub fn is_word(word: &[u8], name: &[u8]) -> bool
+    ensures { result ≡ is_word word.now name.now }
+{
+    word == name
+}
+
+/// The number that a word of decimal digits spells, below 2^64.
+fn number_of(word: &[u8]) -> Option<u64>
+    ensures { result ≡ number_of word.now }
+{
+    if word.is_empty() {
+        return None;
+    }
+    let mut number = 0u64;
+    for byte in word {
+        if !byte.is_ascii_digit() {
+            return None;
+        }
+        let digit = u64::from(*byte - b'0');
+        number = number.checked_mul(10)?.checked_add(digit)?;
+    }
+    Some(number)
+}
+
+/// The value of a lower-case hexadecimal digit.
+fn hex_digit_of(byte: u8) -> Option<u8>
+    ensures { result ≡ hex_digit_of byte }
+{
+    match byte {
+        b'0'..=b'9' => Some(byte - b'0'),
+        b'a'..=b'f' => Some(byte - b'a' + 10),
+        _ => None,
+    }
+}
+
+/// The byte that two lower-case hexadecimal digits spell.
+#[tactic(auto, unfolding(crate::specs::Reading::byte_of))]
+fn byte_of(word: &[u8]) -> Option<u8>
+    ensures { result ≡ byte_of word.now }
+{
+    match word {
+        [high, low] => {
+            let high = hex_digit_of(*high)?;
+            let low = hex_digit_of(*low)?;
+            Some(high * 16 + low)
+        }
+        _ => None,
+    }
+}
+
+/// The words of a line that are still to be read.
+#[derive(Clone, Copy)]
+pub struct Words<'a> {
+    rest: Option<&'a [u8]>,
+}
+
+impl<'a> Words<'a> {
+    ghost use Rattle.nm_script_lib.specs.Words.{rest_words};
+
+    /// The words of a line, between its spaces.
+    pub fn of(line: &'a [u8]) -> Words<'a>
+        ensures { rest_words result ≡ pieces 32 line.now }
+    {
+        Words { rest: Some(line) }
+    }
+
+    /// The next word.
+    pub fn next(&mut self) -> Option<&'a [u8]>
+        ensures { Gives (option_copied result) (rest_words self.new) (word_at (rest_words self.old)) }
+    {
+        let (word, rest) = cut(self.rest?, b' ');
+        self.rest = rest;
+        Some(word)
+    }
+
+    /// The next word, as a number of 64 bits.
+    #[tactic(auto, unfolding(crate::specs::Reading::number_at))]
+    pub fn number(&mut self) -> Option<u64>
+        ensures { Gives result (rest_words self.new) (number_at (rest_words self.old)) }
+    {
+        let word = self.next()?;
+        number_of(word)
+    }
+
+    /// The next word, as a number from `least` to `most`.
+    #[tactic(auto, unfolding(crate::specs::Reading::within_at))]
+    pub fn within(&mut self, least: u64, most: u64) -> Option<u64>
+        ensures read { Gives result (rest_words self.new) (within_at least most (rest_words self.old)) }
+        ensures range { IfSome result (λ n. (least ≤ n) × (n ≤ most)) }
+    {
+        let number = self.number()?;
+        if number < least || most < number {
+            return None;
+        }
+        Some(number)
+    }
+
+    /// The next word, as a number below `limit`.
+    #[tactic(auto, unfolding(crate::specs::Reading::below_at))]
+    pub fn below(&mut self, limit: u64) -> Option<u64>
+        ensures read { Gives result (rest_words self.new) (below_at limit (rest_words self.old)) }
+        ensures range { IfSome result (λ n. n < limit) }
+    {
+        let number = self.number()?;
+        if number < limit { Some(number) } else { None }
+    }
+
+    /// The next word, as a byte in two hexadecimal digits.
+    #[tactic(auto, unfolding(crate::specs::Reading::byte_at))]
+    pub fn byte(&mut self) -> Option<u8>
+        ensures { Gives result (rest_words self.new) (byte_at (rest_words self.old)) }
+    {
+        let word = self.next()?;
+        byte_of(word)
+    }
+
+    /// The next word, as a policy.
+    #[tactic(auto, unfolding(crate::specs::Reading::policy_at))]
+    pub fn policy(&mut self) -> Option<Policy>
+        ensures { Gives result (rest_words self.new) (policy_at (rest_words self.old)) }
+    {
+        let word = self.next()?;
+        if is_word(word, b"rr") {
+            Some(Policy::RoundRobin)
+        } else if is_word(word, b"st") {
+            Some(Policy::Striped)
+        } else {
+            None
+        }
+    }
+
+    /// Whether all words are read.
+    pub fn is_at_end(&self) -> bool
+        ensures { MatchBool result (rest_words self.now ≡ []) (rest_words self.now ≢ []) }
+    {
+        self.rest.is_none()
+    }
+}
