@@ -50,17 +50,17 @@ busy_on-Some b [] x h = absurd cc
 busy_on-Some b (r ∷ rs) x h = first-holds b r x (busy_on b rs) (busy_on-Some b rs x) h
 
 -- the records before one, that one, and the records after it
-pub busy_on-parts : (b : ℕ) (front back : List Record) (x : Record)
-    → busy_on b (front ++ x ∷ back) ≡ option_or (busy_on b front)
-    (cond (holds b x) (Some x) (busy_on b back))
-busy_on-parts b front back x = find-append (holds b) front (x ∷ back)
+pub busy_on-parts : (b : ℕ) (older newer : List Record) (x : Record)
+    → busy_on b (older ++ x ∷ newer) ≡ option_or (busy_on b older)
+    (cond (holds b x) (Some x) (busy_on b newer))
+busy_on-parts b older newer x = find-append (holds b) older (x ∷ newer)
 
 -- a record that does not hold the block does not count there
-pub busy_on-skips : (b : ℕ) (front back : List Record) (x : Record) → holds b x ≡ false
-    → busy_on b (front ++ x ∷ back) ≡ busy_on b (front ++ back)
-busy_on-skips b [] back x h = rw h refl
-busy_on-skips b (r ∷ front) back x h = ap (λ (o : Option Record). cond (holds b r) (Some r) o)
-    (busy_on-skips b front back x h)
+pub busy_on-skips : (b : ℕ) (older newer : List Record) (x : Record) → holds b x ≡ false
+    → busy_on b (older ++ x ∷ newer) ≡ busy_on b (older ++ newer)
+busy_on-skips b [] newer x h = rw h refl
+busy_on-skips b (r ∷ older) newer x h = ap (λ (o : Option Record). cond (holds b r) (Some r) o)
+    (busy_on-skips b older newer x h)
 
 -- a change of a record on another block, before and after
 pub busy_on-changed_other : (f : Record → Record) (keeps : (r : Record) → (f r).block ≡ r.block)
@@ -70,8 +70,8 @@ busy_on-changed_other f keeps t b rs x h found other =
     let p = parts t rs x h found in
     let new : holds b (f x) ≡ false = holds-other b (f x) (λ e. other (sym (keeps x) ∙ e)) in
     ap (λ (l : List Record). busy_on b l) (p.change f)
-    ∙ busy_on-skips b p.front p.back (f x) new
-    ∙ sym (busy_on-skips b p.front p.back x (holds-other b x other))
+    ∙ busy_on-skips b p.older p.newer (f x) new
+    ∙ sym (busy_on-skips b p.older p.newer x (holds-other b x other))
     ∙ sym (ap (λ (l : List Record). busy_on b l) p.whole)
 
 -- a write that reached a leg, seen from another block
@@ -92,7 +92,7 @@ pub busy_on-without : (t b : ℕ) (rs : List Record) (x : Record) → Ascends rs
 busy_on-without t b rs x h found idle =
     let p = parts t rs x h found in
     ap (λ (l : List Record). busy_on b l) p.rest
-    ∙ sym (busy_on-skips b p.front p.back x (holds-idle b x idle))
+    ∙ sym (busy_on-skips b p.older p.newer x (holds-idle b x idle))
     ∙ sym (ap (λ (l : List Record). busy_on b l) p.whole)
 
 -- a write that begins, seen from another block
@@ -122,20 +122,20 @@ busy_on-with_new_same r (x ∷ rs) busy none =
     rw no (busy_on-with_new_same r rs busy skip.1)
 
 -- a block with no record under way is not busy with any of them
-pub busy_on-absent : (b : ℕ) (front back : List Record) (x : Record) → x.block ≡ b
-    → is_under_way x ≡ true → busy_on b (front ++ x ∷ back) ≡ None → ⊥
-busy_on-absent b [] back x e busy h =
+pub busy_on-absent : (b : ℕ) (older newer : List Record) (x : Record) → x.block ≡ b
+    → is_under_way x ≡ true → busy_on b (older ++ x ∷ newer) ≡ None → ⊥
+busy_on-absent b [] newer x e busy h =
     let yes : holds b x ≡ true = holds-same b x e busy in
     let here : Some x ≡ None = rw yes at h in cc
-busy_on-absent b (r ∷ front) back x e busy h =
-    busy_on-absent b front back x e busy (skip-first b r (busy_on b (front ++ x ∷ back)) h).1
+busy_on-absent b (r ∷ older) newer x e busy h =
+    busy_on-absent b older newer x e busy (skip-first b r (busy_on b (older ++ x ∷ newer)) h).1
 
 pub busy_on-none : (b t : ℕ) (rs : List Record) (x : Record) → Ascends rs → busy_on b rs ≡ None
     → find_record t rs ≡ Some x → x.block ≡ b → is_under_way x ≡ false
 busy_on-none b t rs x h none found e =
     let p = parts t rs x h found in
     elim (tells (is_under_way x)) [
-      | inl w ↦ absurd (busy_on-absent b p.front p.back x e w
+      | inl w ↦ absurd (busy_on-absent b p.older p.newer x e w
           (sym (ap (λ (l : List Record). busy_on b l) p.whole) ∙ none))
       | inr w ↦ w
     ]

@@ -1,4 +1,5 @@
--- What the type keeps, the records in order and how many have no entry, after each change at a place.
+-- The type's invariant after each change at a place: the records are in order, and the count is that
+-- of the records without an entry.
 use Rattle.std.proofs.Common.{◌≡◌, ℕ, ◌+◌, ◌-◌, ◌<◌, Bool, true, false, cond, List, length, get_or, set, Option, None, Some, not, refl, sym, ap, ◌∙◌, arith, inl, inr}
 use Rattle.std.specs.Option.{IsSome, is_some, option_and_then}
 use Rattle.std.specs.List.{remove, slice_get}
@@ -73,7 +74,8 @@ claimed-counted n i rs x k lt read landed =
     let entry = entry-some x.entry landed in
     rw (remove-at t i rs x k.0.ascending own) (
       AreInOrder-without t rs k.0,
-      k.1 ∙ sym (unlanded-without t entry.0 rs x k.0.ascending (found-own i rs x lt read own) entry.1),
+      k.1 ∙ sym (unlanded-without t entry.0 rs x k.0.ascending
+          (found-own i rs x lt read own) entry.1),
     )
 
 -- the entry at a place is that of the record read there
@@ -82,7 +84,7 @@ pub entry_at-read : (i : ℕ) (rs : List Record) (x : Record) → i < length rs 
 entry_at-read i rs x lt read = ap (λ (o : Option Record). option_and_then (λ (r : Record). r.entry)
     o) (read-at i rs x lt read)
 
--- where an entry stands, a record does
+-- a place with an entry has a record
 pub entry_at-within : (i : ℕ) (rs : List Record) → IsSome (entry_at i rs) → i < length rs
 entry_at-within i rs h =
     elim (slice_get_cases rs i).1 [

@@ -23,7 +23,7 @@ with_entry-keeps number = record {
   whole = λ r w. record { filled = w.filled; places = w.places };
 }
 
--- the ticket of the record that stands in a record's place after a change
+-- the ticket at a record's place after a change
 pub ticket-changed : (f : Record → Record) (k : KeepsOrder f) (b : Bool) (r : Record)
     → (cond b (f r) r).ticket ≡ r.ticket
 ticket-changed f k true r = k.ticket r

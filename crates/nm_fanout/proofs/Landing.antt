@@ -20,10 +20,10 @@ waits-None r h = ap (λ (entry : Option ℕ). missing entry) h
 waits-Some : (r : Record) (n : ℕ) → r.entry ≡ Some n → waits r ≡ 0
 waits-Some r n h = ap (λ (entry : Option ℕ). missing entry) h
 
-unlanded-parts : (front back : List Record) (x : Record)
-    → unlanded (front ++ x ∷ back) ≡ unlanded front + (waits x + unlanded back)
-unlanded-parts front back x = sum_by-append waits front (x ∷ back)
-    ∙ ap (λ n. unlanded front + n) (sum_by-cons waits x back)
+unlanded-parts : (older newer : List Record) (x : Record)
+    → unlanded (older ++ x ∷ newer) ≡ unlanded older + (waits x + unlanded newer)
+unlanded-parts older newer x = sum_by-append waits older (x ∷ newer)
+    ∙ ap (λ n. unlanded older + n) (sum_by-cons waits x newer)
 
 -- a write begins
 pub unlanded-with_new : (r : Record) (rs : List Record) → r.entry ≡ None
@@ -35,10 +35,10 @@ pub unlanded-changed : (f : Record → Record) (t : ℕ) (rs : List Record) (x :
     → find_record t rs ≡ Some x → unlanded (changed f t rs) + waits x ≡ unlanded rs + waits (f x)
 unlanded-changed f t rs x h found =
     let p = parts t rs x h found in
-    let a : unlanded (changed f t rs) ≡ unlanded p.front + (waits (f x) + unlanded p.back) = ap
-    (λ (l : List Record). unlanded l) (p.change f) ∙ unlanded-parts p.front p.back (f x) in
-    let b : unlanded rs ≡ unlanded p.front + (waits x + unlanded p.back) = ap
-    (λ (l : List Record). unlanded l) p.whole ∙ unlanded-parts p.front p.back x in
+    let a : unlanded (changed f t rs) ≡ unlanded p.older + (waits (f x) + unlanded p.newer) = ap
+    (λ (l : List Record). unlanded l) (p.change f) ∙ unlanded-parts p.older p.newer (f x) in
+    let b : unlanded rs ≡ unlanded p.older + (waits x + unlanded p.newer) = ap
+    (λ (l : List Record). unlanded l) p.whole ∙ unlanded-parts p.older p.newer x in
     omega (arith, a, b)
 
 -- a write gets a number, whether or not it had one
@@ -82,10 +82,10 @@ pub unlanded-removed : (t : ℕ) (rs : List Record) (x : Record) → Ascends rs
     → find_record t rs ≡ Some x → unlanded (without t rs) + waits x ≡ unlanded rs
 unlanded-removed t rs x h found =
     let p = parts t rs x h found in
-    let a : unlanded (without t rs) ≡ unlanded p.front + unlanded p.back = ap
-    (λ (l : List Record). unlanded l) p.rest ∙ sum_by-append waits p.front p.back in
-    let b : unlanded rs ≡ unlanded p.front + (waits x + unlanded p.back) = ap
-    (λ (l : List Record). unlanded l) p.whole ∙ unlanded-parts p.front p.back x in
+    let a : unlanded (without t rs) ≡ unlanded p.older + unlanded p.newer = ap
+    (λ (l : List Record). unlanded l) p.rest ∙ sum_by-append waits p.older p.newer in
+    let b : unlanded rs ≡ unlanded p.older + (waits x + unlanded p.newer) = ap
+    (λ (l : List Record). unlanded l) p.whole ∙ unlanded-parts p.older p.newer x in
     omega (arith, a, b)
 
 -- a landed write is claimed
@@ -99,6 +99,6 @@ pub unlanded-positive : (t : ℕ) (rs : List Record) (x : Record) → Ascends rs
     → find_record t rs ≡ Some x → x.entry ≡ None → 0 < unlanded rs
 unlanded-positive t rs x h found none =
     let p = parts t rs x h found in
-    let b : unlanded rs ≡ unlanded p.front + (waits x + unlanded p.back) = ap
-    (λ (l : List Record). unlanded l) p.whole ∙ unlanded-parts p.front p.back x in
+    let b : unlanded rs ≡ unlanded p.older + (waits x + unlanded p.newer) = ap
+    (λ (l : List Record). unlanded l) p.whole ∙ unlanded-parts p.older p.newer x in
     omega (arith, b, waits-None x none)

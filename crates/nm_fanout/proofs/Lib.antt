@@ -10,4 +10,3 @@ pub mod Landing
 pub mod Counted
 pub mod Members
 pub mod DataLemmas
-pub mod Owing

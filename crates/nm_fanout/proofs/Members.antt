@@ -1,4 +1,4 @@
--- The records that stand in the list, and the tickets by which they are found.
+-- The records in the list, and the tickets by which they are found.
 use Rattle.std.proofs.Common.{◌≡◌, ◌⊎◌, ℕ, ◌<◌, Bool, true, false, cond, ◌==◌, List, [], ◌∷◌, Some, sym, ap, ◌∙◌, arith, eq-eqb, ne_eqb, inl, inr}
 use Rattle.std.proofs.lemmas.Bool.Decides.{eqb_tells}
 use Rattle.nm_fanout.specs.declared.write_record.Record.{Record}
@@ -7,7 +7,7 @@ use Rattle.nm_fanout.specs.Records.{Ascends, AllAbove, AllWhole, AreInOrder, One
 use Rattle.nm_fanout.proofs.Busy.{holds}
 use Rattle.nm_fanout.proofs.Writers.{busy_on-here}
 
--- the record stands in the list
+-- the record is in the list
 abbrev pub Member : Record → List Record → Type 0
 Member x [] = ⊥
 Member x (r ∷ rs) = (x ≡ r) ⊎ Member x rs
@@ -20,7 +20,7 @@ first-member t r x rs later h =
       | inr w ↦ inr (later (rw w.0 at h))
     ]
 
--- what is found stands there
+-- what is found is in the list
 pub find_record-Member : (t : ℕ) (rs : List Record) (x : Record) → find_record t rs ≡ Some x
     → Member x rs
 find_record-Member t [] x h = absurd cc
@@ -35,7 +35,7 @@ AllAbove-Member low (r ∷ rs) x h m =
       | inr k ↦ AllAbove-Member low rs x h.1 k
     ]
 
--- what stands there is found by its ticket
+-- what is in the list is found by its ticket
 pub Member-find_record : (rs : List Record) (x : Record) → Ascends rs → Member x rs
     → find_record x.ticket rs ≡ Some x
 Member-find_record [] x h m = absurd m
@@ -52,7 +52,7 @@ Member-find_record (r ∷ rs) x h m =
           rw other (Member-find_record rs x h.1 k)
     ]
 
--- two that stand there under one ticket are one
+-- two in the list with one ticket are one
 pub Member-same : (rs : List Record) (x y : Record) → Ascends rs → Member x rs → Member y rs
     → x.ticket ≡ y.ticket → x ≡ y
 Member-same rs x y h mx my e =
@@ -92,7 +92,7 @@ first-busy : (b : ℕ) (r x : Record) (rs : List Record) (v : Bool)
 first-busy b r x rs true later h = inl cc
 first-busy b r x rs false later h = inr (later h)
 
--- what a block is busy with stands there
+-- what a block is busy with is in the list
 pub busy_on-Member : (b : ℕ) (rs : List Record) (x : Record) → busy_on b rs ≡ Some x → Member x rs
 busy_on-Member b [] x h = absurd cc
 busy_on-Member b (r ∷ rs) x h = first-busy b r x rs (holds b r) (busy_on-Member b rs x) h

@@ -99,7 +99,7 @@ count-some (false ∷ owed) h = omega (
   count-some owed h,
 )
 
--- a finished write has no leg left
+-- a finished write owes no leg
 pub owed_count-finished : (r : Record) → is_under_way r ≡ false → owed_count r ≡ 0
 owed_count-finished r h = count-none r.owed h
 
@@ -107,7 +107,7 @@ owed_count-finished r h = count-none r.owed h
 pub owed_count-under_way : (r : Record) → is_under_way r ≡ true → 0 < owed_count r
 owed_count-under_way r h = count-some r.owed h
 
--- a write with none left is finished
+-- a write that owes none is finished
 pub finished-owed_count : (r : Record) → owed_count r ≡ 0 → is_under_way r ≡ false
 finished-owed_count r h =
     elim (tells (is_under_way r)) [

@@ -1,5 +1,5 @@
--- A record that is found parts the list in what stands before it and what stands after it. Every
--- change of that record leaves both parts, so facts on the whole are facts on three parts.
+-- A record that is found splits the list into the records before it and those after it. Every change
+-- of that record leaves both, so a fact about the list is a fact about three parts.
 use Rattle.std.proofs.Common.{◌≡◌, ℕ, ◌+◌, suc, List, [], ◌∷◌, ◌++◌, length, Some, refl, ap, ◌∙◌, subst, arith, inl, inr}
 use Rattle.std.proofs.lemmas.Bool.Decides.{eqb_tells}
 use Rattle.std.proofs.lemmas.List.{length-append}
@@ -9,11 +9,11 @@ use Rattle.nm_fanout.proofs.Tickets.{changed-above, without-above}
 
 -- the records before that of this ticket, and those after it
 pub record Parts (t : ℕ) (rs : List Record) (x : Record) : Type 0 where
-  pub front : List Record
-  pub back : List Record
-  pub whole : rs ≡ front ++ x ∷ back
-  pub change : (f : Record → Record) → changed f t rs ≡ front ++ f x ∷ back
-  pub rest : without t rs ≡ front ++ back
+  pub older : List Record
+  pub newer : List Record
+  pub whole : rs ≡ older ++ x ∷ newer
+  pub change : (f : Record → Record) → changed f t rs ≡ older ++ f x ∷ newer
+  pub rest : without t rs ≡ older ++ newer
 
 pub parts : (t : ℕ) (rs : List Record) (x : Record) → Ascends rs → find_record t rs ≡ Some x
     → Parts t rs x
@@ -25,8 +25,8 @@ parts t (r ∷ rs) x h found =
           let e : r ≡ x = cc in
           let above : AllAbove t rs = subst (λ (k : ℕ). AllAbove k rs) w.1 h.0 in
           record {
-            front = [];
-            back = rs;
+            older = [];
+            newer = rs;
             whole = ap (λ (y : Record). y ∷ rs) e;
             change = λ f. rw w.0 (ap (λ (l : List Record). f r ∷ l) (changed-above f t rs above)
                 ∙ ap (λ (y : Record). f y ∷ rs) e);
@@ -36,8 +36,8 @@ parts t (r ∷ rs) x h found =
           let later : find_record t rs ≡ Some x = rw w.0 at found in
           let p = parts t rs x h.1 later in
           record {
-            front = r ∷ p.front;
-            back = p.back;
+            older = r ∷ p.older;
+            newer = p.newer;
             whole = ap (λ (l : List Record). r ∷ l) p.whole;
             change = λ f. rw w.0 (ap (λ (l : List Record). r ∷ l) (p.change f));
             rest = rw w.0 (ap (λ (l : List Record). r ∷ l) p.rest);
@@ -55,8 +55,8 @@ pub length-without : (t : ℕ) (rs : List Record) (x : Record) → Ascends rs
     → find_record t rs ≡ Some x → length (without t rs) + 1 ≡ length rs
 length-without t rs x h found =
     let p = parts t rs x h found in
-    let a : length (without t rs) ≡ length p.front + length p.back = ap
-    (λ (l : List Record). length l) p.rest ∙ length-append p.front p.back in
-    let b : length rs ≡ length p.front + length (x ∷ p.back) = ap (λ (l : List Record). length l)
-    p.whole ∙ length-append p.front (x ∷ p.back) in
+    let a : length (without t rs) ≡ length p.older + length p.newer = ap
+    (λ (l : List Record). length l) p.rest ∙ length-append p.older p.newer in
+    let b : length rs ≡ length p.older + length (x ∷ p.newer) = ap (λ (l : List Record). length l)
+    p.whole ∙ length-append p.older (x ∷ p.newer) in
     omega (arith, a, b)

@@ -1,5 +1,5 @@
--- Tickets rise along the list, so each place has a ticket of its own: what is done at a place is what
--- is done to the record of that ticket.
+-- Tickets rise along the list, so each place has a ticket of its own: what is done at a place is
+-- what is done to the record of that ticket.
 use Rattle.std.proofs.Common.{◌≡◌, ℕ, ◌<◌, ◌≤◌, zero, suc, false, ◌==◌, List, [], ◌∷◌, length, get_or, set, Option, None, Some, Result, Ok, Err, refl, sym, ap, ◌∙◌, arith, ne_eqb, inl, inr}
 use Rattle.std.specs.Option.{option_and_then, option_map, IfSome, IfNone}
 use Rattle.std.specs.Result.{result_ok}
@@ -81,7 +81,7 @@ no-place t (r ∷ rs) d h =
     let other : (r.ticket == t) ≡ false = ne_eqb r.ticket t (h zero (omega arith)) in
     rw other (no-place t rs d (λ k lt. h (suc k) (omega arith)))
 
--- a binary search that ended at a place: the ticket's record stands there
+-- a binary search that ended at a place: the ticket's record is there
 pub searched-found : (t i : ℕ) (rs : List Record) → Ascends rs → i < length rs
     → IsBinarySearchResult (λ y. nat_cmp y.ticket t) rs (Ok i) → IsAt t i rs
 searched-found t i [] h lt equal = absurd (omega arith)

@@ -1,5 +1,5 @@
--- Tickets rise along the list, so a ticket stands at one place at most: what is done at that place
--- is what is done to the record of that ticket.
+-- Tickets rise along the list, so a ticket has one place at most: what is done at that place is
+-- what is done to the record of that ticket.
 use Rattle.std.proofs.Common.{◌≡◌, ℕ, ◌<◌, zero, suc, Bool, true, false, cond, ◌==◌, List, [], ◌∷◌, length, get_or, set, Option, None, Some, refl, sym, ap, subst, arith, eq-eqb, ne_eqb}
 use Rattle.std.specs.Option.{IsSome}
 use Rattle.std.specs.List.{remove}

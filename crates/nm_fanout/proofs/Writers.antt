@@ -9,37 +9,37 @@ use Rattle.nm_fanout.proofs.Owed.{tells, is_under_way-without_leg}
 use Rattle.nm_fanout.proofs.Parts.{parts}
 use Rattle.nm_fanout.proofs.Busy.{holds, holds-idle, holds-same, busy_on-parts, busy_on-absent, busy_on-with_new_other, skip-first}
 
-front-free : (front back : List Record) (x : Record) → OneWriterABlock (front ++ x ∷ back)
-    → is_under_way x ≡ true → busy_on x.block front ≡ None
-front-free [] back x one busy = refl
-front-free (y ∷ front) back x one busy =
+older-free : (older newer : List Record) (x : Record) → OneWriterABlock (older ++ x ∷ newer)
+    → is_under_way x ≡ true → busy_on x.block older ≡ None
+older-free [] newer x one busy = refl
+older-free (y ∷ older) newer x one busy =
     elim (eqb_tells y.block x.block) [
       | inl w ↦ elim (tells (is_under_way y)) [
-        | inl v ↦ absurd (busy_on-absent y.block front back x (sym w.1) busy (one.0 v))
-        | inr v ↦ rw (w.0, v) (front-free front back x one.1 busy)
+        | inl v ↦ absurd (busy_on-absent y.block older newer x (sym w.1) busy (one.0 v))
+        | inr v ↦ rw (w.0, v) (older-free older newer x one.1 busy)
       ]
-      | inr w ↦ rw w.0 (front-free front back x one.1 busy)
+      | inr w ↦ rw w.0 (older-free older newer x one.1 busy)
     ]
 
-back-free : (front back : List Record) (x : Record) → OneWriterABlock (front ++ x ∷ back)
-    → is_under_way x ≡ true → busy_on x.block back ≡ None
-back-free [] back x one busy = one.0 busy
-back-free (y ∷ front) back x one busy = back-free front back x one.1 busy
+newer-free : (older newer : List Record) (x : Record) → OneWriterABlock (older ++ x ∷ newer)
+    → is_under_way x ≡ true → busy_on x.block newer ≡ None
+newer-free [] newer x one busy = one.0 busy
+newer-free (y ∷ older) newer x one busy = newer-free older newer x one.1 busy
 
-stays-first : (b : ℕ) (front back : List Record) (x : Record) → busy_on b front ≡ None → x.block ≡ b
-    → is_under_way x ≡ true → busy_on b (front ++ x ∷ back) ≡ Some x
-stays-first b front back x free e busy =
+stays-first : (b : ℕ) (older newer : List Record) (x : Record) → busy_on b older ≡ None → x.block ≡ b
+    → is_under_way x ≡ true → busy_on b (older ++ x ∷ newer) ≡ Some x
+stays-first b older newer x free e busy =
     let yes : holds b x ≡ true = holds-same b x e busy in
-    busy_on-parts b front back x ∙ ap (λ (o : Option Record). option_or o
-    (cond (holds b x) (Some x) (busy_on b back))) free
-    ∙ ap (λ (v : Bool). cond v (Some x) (busy_on b back)) yes
+    busy_on-parts b older newer x ∙ ap (λ (o : Option Record). option_or o
+    (cond (holds b x) (Some x) (busy_on b newer))) free
+    ∙ ap (λ (v : Bool). cond v (Some x) (busy_on b newer)) yes
 
-falls-free : (b : ℕ) (front back : List Record) (x : Record) → busy_on b front ≡ None
-    → busy_on b back ≡ None → is_under_way x ≡ false → busy_on b (front ++ x ∷ back) ≡ None
-falls-free b front back x before behind idle =
-    busy_on-parts b front back x ∙ ap (λ (o : Option Record). option_or o
-    (cond (holds b x) (Some x) (busy_on b back))) before
-    ∙ ap (λ (v : Bool). cond v (Some x) (busy_on b back)) (holds-idle b x idle) ∙ behind
+falls-free : (b : ℕ) (older newer : List Record) (x : Record) → busy_on b older ≡ None
+    → busy_on b newer ≡ None → is_under_way x ≡ false → busy_on b (older ++ x ∷ newer) ≡ None
+falls-free b older newer x free_older free_newer idle =
+    busy_on-parts b older newer x ∙ ap (λ (o : Option Record). option_or o
+    (cond (holds b x) (Some x) (busy_on b newer))) free_older
+    ∙ ap (λ (v : Bool). cond v (Some x) (busy_on b newer)) (holds-idle b x idle) ∙ free_newer
 
 -- the record under way on a block is the one that the block is busy with
 pub busy_on-here : (t : ℕ) (rs : List Record) (x : Record) → Ascends rs → OneWriterABlock rs
@@ -48,7 +48,7 @@ busy_on-here t rs x h one found busy =
     let p = parts t rs x h found in
     let one' = subst (λ (l : List Record). OneWriterABlock l) p.whole one in
     ap (λ (l : List Record). busy_on x.block l) p.whole
-    ∙ stays-first x.block p.front p.back x (front-free p.front p.back x one' busy) refl busy
+    ∙ stays-first x.block p.older p.newer x (older-free p.older p.newer x one' busy) refl busy
 
 -- a change of it that leaves it under way
 pub busy_on-changed_here : (f : Record → Record) (keeps : (r : Record) → (f r).block ≡ r.block)
@@ -59,7 +59,7 @@ busy_on-changed_here f keeps t rs x h one found busy still =
     let p = parts t rs x h found in
     let one' = subst (λ (l : List Record). OneWriterABlock l) p.whole one in
     ap (λ (l : List Record). busy_on x.block l) (p.change f)
-    ∙ stays-first x.block p.front p.back (f x) (front-free p.front p.back x one' busy) (keeps x)
+    ∙ stays-first x.block p.older p.newer (f x) (older-free p.older p.newer x one' busy) (keeps x)
     still
 
 -- a change that finishes it
@@ -70,8 +70,8 @@ busy_on-changed_done f t rs x h one found busy done =
     let p = parts t rs x h found in
     let one' = subst (λ (l : List Record). OneWriterABlock l) p.whole one in
     ap (λ (l : List Record). busy_on x.block l) (p.change f)
-    ∙ falls-free x.block p.front p.back (f x) (front-free p.front p.back x one' busy)
-    (back-free p.front p.back x one' busy) done
+    ∙ falls-free x.block p.older p.newer (f x) (older-free p.older p.newer x one' busy)
+    (newer-free p.older p.newer x one' busy) done
 
 -- a write that reached a leg and has still others to reach
 pub busy_on-reached_here : (t leg : ℕ) (rs : List Record) (x : Record) → Ascends rs

@@ -1,5 +1,6 @@
 -- The record of one write: which legs it has still to reach.
-use Rattle.std.specs.Prelude.{◌≡◌, ℕ, length, Bool, false, List, Option, None, Some, count_by, position, slice_index_or, slice_set}
+use Rattle.std.specs.Prelude.{◌≡◌, ℕ, length, Bool, false, Option, None, Some}
+use Rattle.std.specs.Prelude.{List, count_by, position, slice_index_or, slice_set}
 use Rattle.std.specs.List.{list_any}
 use Rattle.nm_fanout.specs.declared.block_data.Data.{Data}
 use Rattle.nm_fanout.specs.Data.{FillsBlock}

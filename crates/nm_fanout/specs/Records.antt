@@ -1,5 +1,7 @@
 -- The records of writes, by rising ticket.
-use Rattle.std.specs.Prelude.{◌≡◌, ℕ, IsTrue, None, ◌<◌, ◌≤◌, ◌&&◌, ◌==◌, not, List, [], ◌∷◌, ◌++◌, length, if◌then◌else◌, Option, find, filter, count_by, is_none, slice_get}
+use Rattle.std.specs.Prelude.{◌≡◌, ℕ, IsTrue, None, ◌<◌, ◌≤◌, ◌&&◌, ◌==◌, not, if◌then◌else◌}
+use Rattle.std.specs.Prelude.{List, [], ◌∷◌, ◌++◌, length, slice_get, find, filter, count_by}
+use Rattle.std.specs.Prelude.{Option, is_none}
 use Rattle.std.specs.Option.{option_map, option_and_then}
 use Rattle.nm_fanout.specs.declared.write_record.Record.{Record}
 use Rattle.nm_fanout.specs.Record.{is_under_way, lowest_owed, without_leg, with_entry, IsWhole}
@@ -21,7 +23,7 @@ busy_on block list = find (λ r. (r.block == block) && is_under_way r) list
 abbrev pub entry_of : ℕ → List Record → Option ℕ
 entry_of ticket list = option_and_then (λ r. r.entry) (find_record ticket list)
 
--- the record of this ticket stands at this place
+-- the record of this ticket is at this place
 pub record IsAt (ticket place : ℕ) (list : List Record) : Type 0 where
   pub within : place < length list
   pub found : find_record ticket list ≡ slice_get list place

@@ -1,7 +1,8 @@
 //! The records of writes under way: which legs each write has still to reach.
 //!
-//! A record stands from a write's beginning until it is claimed. It keeps the block, the data and
-//! the legs that are owed the write, and the number of the write's entry once it took effect.
+//! A record exists from the beginning of a write until it is claimed. It keeps the block, the data,
+//! the legs that the write has still to reach, and the number of the write's entry once it took
+//! effect.
 //! Every call on `Records` answers exactly what its list of records says, and only `reserve`
 //! takes memory.
 #![tactic(auto)]

@@ -10,7 +10,7 @@ use nm_replay::Memory;
 use std::alloc::Global;
 use std::marker::Model;
 
-/// How many records there may be, finished ones that are not yet claimed included.
+/// How many records there may be, counting finished ones that are not yet claimed.
 pub const MOST_RECORDS: usize = 256;
 
 /// The records of writes, by rising ticket.
@@ -27,13 +27,16 @@ impl Model for Records {
 
     ghost Value = { RecordTable };
 
-    ghost view = { λ r. record { list = r.list.items; room = vec_capacity r.list - vec_len r.list } };
+    ghost view = { λ r. record {
+      list = r.list.items;
+      room = vec_capacity r.list - vec_len r.list;
+    } };
 
     ghost invariant = { λ r. AreInOrder r.list.items × (r.without_entry ≡ unlanded r.list.items) };
 }
 
 impl Records {
-    /// No records, with no room taken yet.
+    /// No records, and no memory allocated yet.
     pub fn new(alloc: Global) -> Records
         ensures { result.list ≡ [] }
     {
@@ -66,7 +69,8 @@ impl Records {
         self.len() >= MOST_RECORDS
     }
 
-    /// The place of this ticket's record. It stays the same until a record is claimed.
+    /// The place of this ticket's record in the list, counted from 0. It stays the same until an
+    /// older record is claimed.
     pub fn find(&self, ticket: u64) -> Option<usize>
         ensures found { IfSome result (λ place. IsAt ticket place self.now.list) }
         ensures absent { IfNone result (find_record ticket self.now.list ≡ None) }
@@ -130,8 +134,8 @@ impl Records {
         Some((record.ticket, leg))
     }
 
-    /// Makes room for one more record. It is refused only where the room was used up and a growth
-    /// was refused, and then nothing changes.
+    /// Makes room for one more record. It is refused only where there is no room and an allocation
+    /// fails, and then nothing changes.
     pub fn reserve(&mut self) -> Result<(), Memory>
         ensures ok { OnOk result (0 < self.new.room) }
         ensures no_room { OnErr result (self.old.room ≡ 0) }
@@ -143,9 +147,11 @@ impl Records {
         Ok(())
     }
 
-    /// Begins a write: the last record is now its own, with these legs owed and no entry. Room comes
-    /// from `reserve`, `is_full` tells whether one more record may stand, `Data::fills_block` whether
-    /// the data are a block's worth, and tickets rise.
+    /// Begins a write: adds its record, with these legs owed and no entry. The ticket is above all
+    /// earlier ones.
+    ///
+    /// `reserve` makes the room, `is_full` tells whether one more record is allowed, and
+    /// `Data::fills_block` whether the data are a block's worth.
     pub fn begin(&mut self, ticket: u64, block: u64, data: Data, owed: [bool; LEGS])
         requires room { 0 < self.old.room }
         requires few { length self.old.list < 256 }
@@ -165,8 +171,8 @@ impl Records {
         self.without_entry += 1;
     }
 
-    /// Takes the leg out of those that the write at this place has still to reach. Where the leg is
-    /// not owed, nothing changes.
+    /// Records that the write at this place has reached the leg. Where the leg is not owed, nothing
+    /// changes.
     pub fn reach_at(&mut self, place: usize, leg: u8)
         requires within { place < length self.old.list }
         ensures records { (ticket : ℕ) → IsAt ticket place self.old.list
@@ -189,7 +195,7 @@ impl Records {
         self.list[place].land(number);
     }
 
-    /// Takes the record of the landed write at this place away, and gives its entry's number. The
+    /// Removes the record of the landed write at this place, and gives its entry's number. The
     /// others keep their order.
     pub fn claim_at(&mut self, place: usize) -> u64
         requires landed { IsSome (entry_at place self.old.list) }
@@ -202,8 +208,8 @@ impl Records {
         record.into_entry().unwrap()
     }
 
-    /// Takes the leg out of those that this ticket's write has still to reach. Where no record has
-    /// the ticket, or the leg is not owed, nothing changes.
+    /// Records that this ticket's write has reached the leg. Where no record has the ticket, or the
+    /// leg is not owed, nothing changes.
     pub fn reach(&mut self, ticket: u64, leg: u8)
         ensures records { self.new.list ≡ reached ticket leg self.old.list }
         ensures room { self.new.room ≡ self.old.room }
@@ -224,7 +230,7 @@ impl Records {
         }
     }
 
-    /// Takes the record of a landed write away, and gives its entry's number. The others keep their
+    /// Removes the record of a landed write, and gives its entry's number. The others keep their
     /// order.
     pub fn claim(&mut self, ticket: u64) -> u64
         requires landed { IsSome (entry_of ticket self.old.list) }

@@ -7,13 +7,16 @@ use crate::block_data::Data;
 pub const LEGS: usize = 8;
 
 /// The record of one write, from its beginning until it is claimed.
+///
+/// It is under way while it owes a leg, and finished once it owes none. It lands, and so gets its
+/// entry's number, as it reaches the master.
 #[derive(Drop)]
 pub struct Record {
     /// The write's ticket. Tickets rise in the order in which writes begin.
     pub ticket: u64,
     /// The block that is written.
     pub block: u64,
-    /// What it gets.
+    /// The block's new bytes.
     pub data: Data,
     /// For each leg, by its number, whether the write has still to reach it.
     pub owed: [bool; LEGS],
@@ -52,7 +55,7 @@ impl Record {
         Some(leg as u8)
     }
 
-    /// Takes the leg out of those that the write has still to reach.
+    /// Records that the write has reached the leg.
     pub(crate) fn reach(&mut self, leg: u8)
         ensures { self.new ≡ without_leg leg self.old }
     {
@@ -68,7 +71,7 @@ impl Record {
         self.entry = Some(number);
     }
 
-    /// Ends the record, and gives its entry's number.
+    /// Drops the record, and gives its entry's number.
     pub(crate) fn into_entry(self) -> Option<u64>
         ensures { result ≡ self.entry }
     {

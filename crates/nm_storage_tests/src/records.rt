@@ -1,4 +1,4 @@
-//! The records of writes: one write from its beginning until it is claimed, and how many there may be.
+//! The records of writes: one write from its beginning until it is claimed, and a full list.
 ghost use Rattle.std.specs.Prelude.{◌≡◌, length, IfOk};
 
 use bytes::{Bytes, BytesMut};

@@ -11,17 +11,22 @@ within c =
     (ap (λ (t : RecordTable). t.list) c.self.view_is) c.requires.landed in
     entry_at-within c.args.place c.self.inside.list.items landed
 
-entry : (c : goal.After-unwrap) → entry_at c.args.place c.self.inside.list.items ≡ c.remove-record.result.entry
-entry c = entry_at-read c.args.place c.self.inside.list.items c.remove-record.result (within c) c.remove-record.ensures.value
+entry : (c : goal.After-unwrap)
+    → entry_at c.args.place c.self.inside.list.items ≡ c.remove-record.result.entry
+entry c = entry_at-read c.args.place c.self.inside.list.items c.remove-record.result (within c)
+    c.remove-record.ensures.value
 
 pub returns-clause-number : goal.returns-clause-number
-returns-clause-number c = rw (← c.self.view_is) (entry c ∙ sym c.into_entry.ensures ∙ c.unwrap.ensures)
+returns-clause-number c = rw (← c.self.view_is) (entry c ∙ sym c.into_entry.ensures
+    ∙ c.unwrap.ensures)
 
 pub returns-clause-records : goal.returns-clause-records
 returns-clause-records c = λ ticket s.
     let here : IsAt ticket c.args.place c.self.inside.list.items = rw
     (ap (λ (t : RecordTable). t.list) c.self.view_is) s in
-    rw (← c.self.view_is) (c.remove-record.ensures.items ∙ remove-at ticket c.args.place c.self.inside.list.items c.remove-record.result c.self.invariant.0.ascending here)
+    rw (← c.self.view_is) (c.remove-record.ensures.items
+    ∙ remove-at ticket c.args.place c.self.inside.list.items c.remove-record.result
+    c.self.invariant.0.ascending here)
 
 pub invariant_of-self : goal.invariant_of-self
 invariant_of-self c =

@@ -7,7 +7,8 @@ use Rattle.nm_fanout.proofs.records.Records.find.Goals as goal
 finds : (c : goal.After-ok) → FindsPlace c.args.ticket c.args.self.now.list c.ok.result
 finds c =
     let facts = c.binary_search_by_key.ensures in
-    let by_ticket = facts.position (λ r. r.ticket) (answers_always _ _ _ (λ f a r g called. search rules)) in
+    let by_ticket = facts.position (λ r. r.ticket)
+    (answers_always _ _ _ (λ f a r g called. search rules)) in
     rw (← c.self.view_is, ← c.deref.ensures.value, c.ok.ensures.value)
     (searched c.args.ticket _ _ (rw c.deref.ensures.value c.self.invariant.0.ascending)
     facts.bound by_ticket)

@@ -15,7 +15,9 @@ same-list c =
       | else-is_none w ↦ ap (λ r. r.list) w.self-inside-is
     ]
 
-read : (c : goal.After-self-2-1) → c.index_mut.result.now ≡ get_or c.self.inside.list.items c.args.place c.index_mut.result.now
+-- what is written is the record at the place
+read : (c : goal.After-self-2-1) → c.index_mut.result.now
+    ≡ get_or c.self.inside.list.items c.args.place c.index_mut.result.now
 read c = rw (← same-list c) c.index_mut.ensures.value
 
 within : (c : goal.After-self-2-1) → c.args.place < length c.self.inside.list.items
@@ -26,12 +28,15 @@ same-record : (c : goal.After-self-2-1) → c.index.result.now ≡ c.index_mut.r
 same-record c = same-read c.args.place c.self.inside.list.items c.index.result.now
     c.index_mut.result.now (within c) c.index.ensures (read c)
 
+-- what the test says of the count of that record
 counted : (c : goal.After-self-2-1) (b : Bool) → c.is_none.result ≡ b
     → waits c.index_mut.result.now ≡ cond b 1 0
 counted c b test = waits-test c.index.result.now c.index_mut.result.now b
     (c.is_none.ensures ∙ ap (λ (v : Bool). not v) test) (same-record c)
 
-less : (c : goal.After-self-2-1) → c.if-is_none.self-inside.without_entry ≡ c.self.inside.without_entry - waits c.index_mut.result.now
+-- so the count falls by one where the record had no entry
+less : (c : goal.After-self-2-1) → c.if-is_none.self-inside.without_entry
+    ≡ c.self.inside.without_entry - waits c.index_mut.result.now
 less c =
     elim c.if-is_none.branch [
       | then-is_none w ↦ ap (λ r. r.without_entry) w.self-inside-is
