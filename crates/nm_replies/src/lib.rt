@@ -1,7 +1,7 @@
 //! The server's replies to NBD requests: their frames, and the writer that sends them.
 //!
-//! A frame is the reply's head and, where the request was a READ that met no error, its data.
-//! A writer that is refused says how much went out, and refuses for good from then on.
+//! A frame is the reply's header, followed by the data if the request was a READ that succeeded.
+//! A writer whose device refuses a write reports how much was written, and then refuses for good.
 #![tactic(auto)]
 
 pub use frames::{frame, put_frame};

@@ -12,12 +12,12 @@ use Rattle.byteorder.specs.Endian.{big_from, big_number}
 use Rattle.byteorder.specs.Numbers.{big_from-cons, big_from-take, big_from-lt, big_number-reads_back, length-bytes_high_first}
 use Rattle.nm_wire.specs.Number.{be}
 
--- a number stands in as many bytes as asked for
+-- a number takes as many bytes as asked for
 pub length-be : (width number : ℕ) → length (be width number) ≡ width
 unfolding be
 length-be width number = length-bytes_high_first width number
 
--- a number that fits is told by its bytes, whatever follows
+-- a number that fits is determined by its bytes, whatever follows
 pub be-unique : (width x y : ℕ) (r s : List ℕ) → x < 256 ^ width → y < 256 ^ width
     → be width x ++ r ≡ be width y ++ s → (x ≡ y) × (r ≡ s)
 unfolding be
@@ -26,7 +26,7 @@ be-unique width x y r s x_fits y_fits same = (
   sym (drop_at (be width x) r width (length-be width x)) ∙ ap (drop width) same ∙ drop_at (be width y) s width (length-be width y),
 )
 
--- a number that fits is told by its bytes
+-- a number that fits is determined by its bytes
 pub be-injective : (width x y : ℕ) → x < 256 ^ width → y < 256 ^ width → be width x ≡ be width y → x ≡ y
 be-injective width x y x_fits y_fits same =
     (be-unique width x y [] [] x_fits y_fits (ap (λ (bytes : List ℕ). bytes ++ []) same)).0
@@ -129,7 +129,7 @@ part-written width at number xs part room written =
     ∙ ap (λ (end : List ℕ). be width number ++ end) (drop_all width (place_of width at xs) (omega arith))
     ∙ append-nil (be width number)
 
--- what stands before the end of a number that was written
+-- the bytes up to the end of a number that was written
 pub take-written : (width at number : ℕ) (xs part : List ℕ) → at + width ≤ length xs
     → part ≡ be width number ++ drop width (place_of width at xs)
     → take (at + width) (put_mid at (at + width - at) xs part) ≡ take at xs ++ be width number
@@ -139,7 +139,7 @@ take-written width at number xs part room written =
     take-put_mid at (at + width - at) xs part (at + width) (omega arith) (omega arith)
     ∙ ap (λ (new : List ℕ). take at xs ++ new) whole
 
--- what stands behind a number that was written
+-- the bytes after a number that was written
 pub drop-written : (width at number : ℕ) (xs part : List ℕ) → at + width ≤ length xs
     → part ≡ be width number ++ drop width (place_of width at xs)
     → drop (at + width) (put_mid at (at + width - at) xs part) ≡ drop (at + width) xs

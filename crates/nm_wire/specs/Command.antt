@@ -1,7 +1,8 @@
--- The types of requests ("Request types").
+-- The commands that are served ("Request types").
 use Rattle.std.specs.Prelude.{ℕ}
 use Rattle.nm_wire.specs.declared.command.Command.{Command}
-use Rattle.nm_wire.specs.declared.command.Command.TheVariants.{Read, Write, Disconnect, Flush, Trim, WriteZeroes}
+use Rattle.nm_wire.specs.declared.command.Command.TheVariants.{Read, Write, Disconnect}
+use Rattle.nm_wire.specs.declared.command.Command.TheVariants.{Flush, Trim, WriteZeroes}
 
 -- the number of a command
 abbrev pub command_number : Command → ℕ

@@ -1,4 +1,4 @@
--- An export's size and what it tells of itself.
+-- The size and the flags that an export announces.
 use Rattle.std.specs.Prelude.{ℕ, ◌+◌, ◌*◌, ◌^◌, if◌then◌else◌}
 use Rattle.nm_wire.specs.declared.export.Export.{Export}
 

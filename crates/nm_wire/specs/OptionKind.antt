@@ -1,7 +1,8 @@
 -- The options of the fixed newstyle negotiation that are served ("Option types").
 use Rattle.std.specs.Prelude.{ℕ}
 use Rattle.nm_wire.specs.declared.option_kind.OptionKind.{OptionKind}
-use Rattle.nm_wire.specs.declared.option_kind.OptionKind.TheVariants.{ExportName, Abort, List, Info, Go}
+use Rattle.nm_wire.specs.declared.option_kind.OptionKind.TheVariants.{ExportName, Abort}
+use Rattle.nm_wire.specs.declared.option_kind.OptionKind.TheVariants.{List, Info, Go}
 
 -- the number of an option
 abbrev pub option_number : OptionKind → ℕ

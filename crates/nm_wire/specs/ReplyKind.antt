@@ -1,7 +1,8 @@
 -- The types of replies to options that are sent ("Option reply types").
 use Rattle.std.specs.Prelude.{ℕ, ◌+◌, ◌^◌}
 use Rattle.nm_wire.specs.declared.reply_kind.ReplyKind.{ReplyKind}
-use Rattle.nm_wire.specs.declared.reply_kind.ReplyKind.TheVariants.{Ack, Server, Info, Unsupported, Invalid, Unknown}
+use Rattle.nm_wire.specs.declared.reply_kind.ReplyKind.TheVariants.{Ack, Server, Info}
+use Rattle.nm_wire.specs.declared.reply_kind.ReplyKind.TheVariants.{Unsupported, Invalid, Unknown}
 
 -- the number of a reply type, whose bit 31 marks an error
 abbrev pub reply_number : ReplyKind → ℕ

@@ -1,4 +1,4 @@
--- Sizes in bytes that the protocol fixes, or asks a server to choose.
+-- Sizes in bytes that the protocol fixes or leaves to the server.
 use Rattle.std.specs.Prelude.{ℕ}
 
 -- the minimum block size ("Block size constraints")

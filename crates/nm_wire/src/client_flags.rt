@@ -2,15 +2,15 @@ ghost use Rattle.std.specs.Prelude.{⊤, [], ◌∷◌, codes};
 
 use bitflags::{Flag, Flags, bitflag_items};
 
-/// What the client answers to the greeting, 32 bits ("Client flags"). Every bit is kept as read.
+/// The client's answer to the greeting, 32 bits ("Client flags"). Unknown bits are kept.
 #[derive(Clone, Copy, PartialEq, Eq, Debug)]
 pub struct ClientFlags(pub u32);
 
 bitflag_items! {
     impl ClientFlags: u32 {
-        /// The client knows the fixed newstyle negotiation.
+        /// The client speaks the fixed newstyle negotiation.
         const FIXED_NEWSTYLE = 1;
-        /// The client wants no zeroes at the end of an EXPORT_NAME reply.
+        /// The client wants no zeroes at the end of the reply to EXPORT_NAME.
         const NO_ZEROES = 2;
     }
 }

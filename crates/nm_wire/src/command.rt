@@ -1,20 +1,20 @@
 ghost use Rattle.std.specs.Prelude.{◌≡◌, ◌≢◌, IfSome, IfNone};
 ghost use Rattle.nm_wire.specs.Command.{command_number};
 
-/// What a request asks for ("Request types").
+/// The commands that are served ("Request types").
 #[derive(Clone, Copy, Debug, PartialEq, Eq, Hash)]
 pub enum Command {
-    /// NBD_CMD_READ: send data.
+    /// NBD_CMD_READ: send the data back.
     Read,
-    /// NBD_CMD_WRITE: keep the data that follow.
+    /// NBD_CMD_WRITE: store the data that follow the request's header.
     Write,
     /// NBD_CMD_DISC: end the session.
     Disconnect,
-    /// NBD_CMD_FLUSH: make what was answered durable.
+    /// NBD_CMD_FLUSH: make every write that was replied to durable.
     Flush,
     /// NBD_CMD_TRIM: the data are no longer needed.
     Trim,
-    /// NBD_CMD_WRITE_ZEROES: keep zeroes.
+    /// NBD_CMD_WRITE_ZEROES: store zeroes.
     WriteZeroes,
 }
 

@@ -2,17 +2,17 @@ ghost use Rattle.std.specs.Prelude.{⊤, [], ◌∷◌, codes};
 
 use bitflags::{Flag, Flags, bitflag_items};
 
-/// The flags of one request, 16 bits ("Command flags"). Every bit is kept as read.
+/// The flags of one request, 16 bits ("Command flags"). Unknown bits are kept.
 #[derive(Clone, Copy, PartialEq, Eq, Debug)]
 pub struct CommandFlags(pub u16);
 
 bitflag_items! {
     impl CommandFlags: u16 {
-        /// Force unit access: the data are durable before the reply.
+        /// Force unit access: the data are durable before the reply is sent.
         const FUA = 1;
-        /// Zeroes are to be written and no hole made.
+        /// WRITE_ZEROES allocates the range; it makes no hole.
         const NO_HOLE = 2;
-        /// The reply to a READ is not to be fragmented.
+        /// The reply to a READ is not fragmented.
         const DF = 4;
     }
 }

@@ -1,16 +1,16 @@
-//! The error numbers that replies carry ("Error values").
+//! Error codes in replies ("Error values").
 
-/// The operation is not permitted: a write to a read-only export.
+/// Operation not permitted: the export is read-only.
 pub const EPERM: u32 = 1;
 
-/// Input or output failed.
+/// I/O error.
 pub const EIO: u32 = 5;
 
 /// Out of memory.
 pub const ENOMEM: u32 = 12;
 
-/// The request is not valid.
+/// Invalid request.
 pub const EINVAL: u32 = 22;
 
-/// The write lies past the end of the export.
+/// No space: the write reaches past the end of the export.
 pub const ENOSPC: u32 = 28;

@@ -8,11 +8,11 @@ use std::alloc::AllocError;
 /// The one disk that is served.
 #[derive(Debug, Drop)]
 pub struct Export {
-    /// What clients ask for; at most 255 bytes.
+    /// The name that clients ask for, at most 255 bytes.
     pub name: Name,
-    /// The length in blocks of 512 bytes; at most 2^31.
+    /// The length in blocks of 512 bytes, at most 2^31.
     pub blocks: u64,
-    /// No request may change the data.
+    /// Whether writes are refused.
     pub read_only: bool,
     pub ghost short_name: { length name ≤ 255 },
     pub ghost bounded: { blocks ≤ 2 ^ 31 },
@@ -29,7 +29,7 @@ impl Export {
         self.blocks * 512
     }
 
-    /// The transmission flags that clients are told ("Transmission flags").
+    /// The transmission flags that the export announces ("Transmission flags").
     pub fn flags(&self) -> ExportFlags
         ensures { result.0 ≡ flags_of self.now }
     {

@@ -2,13 +2,13 @@ ghost use Rattle.std.specs.Prelude.{⊤, [], ◌∷◌, codes};
 
 use bitflags::{Flag, Flags, bitflag_items};
 
-/// What an export can do, 16 bits ("Transmission flags").
+/// What an export supports, 16 bits ("Transmission flags").
 #[derive(Clone, Copy, PartialEq, Eq, Debug)]
 pub struct ExportFlags(pub u16);
 
 bitflag_items! {
     impl ExportFlags: u16 {
-        /// The other bits mean something.
+        /// The other bits are valid; always set.
         const HAS_FLAGS = 1;
         /// The export takes no writes.
         const READ_ONLY = 2;
@@ -16,7 +16,7 @@ bitflag_items! {
         const SEND_FLUSH = 4;
         /// The flag FUA is served.
         const SEND_FUA = 8;
-        /// The export lies on a rotating disk.
+        /// The export is on a rotating disk.
         const ROTATIONAL = 16;
         /// TRIM is served.
         const SEND_TRIM = 32;
@@ -24,7 +24,7 @@ bitflag_items! {
         const SEND_WRITE_ZEROES = 64;
         /// The flag DF is served.
         const SEND_DF = 128;
-        /// Several connections see one another's flushed writes.
+        /// A FLUSH on one connection also covers the writes of the others.
         const CAN_MULTI_CONN = 256;
     }
 }

@@ -1,7 +1,7 @@
-//! The numbers, flags and heads that the NBD protocol puts on the wire.
+//! The NBD protocol's numbers, flags and headers as they appear on the wire.
 //!
-//! Each head has a layout, a row of big-endian numbers. `put` writes exactly that layout, and
-//! `get` reads a head exactly where its layout begins the bytes.
+//! A header's layout is a sequence of big-endian numbers. `put` writes exactly that layout, and
+//! `get` parses a header exactly where the bytes begin with its layout.
 #![tactic(auto)]
 
 pub use client_flags::ClientFlags;

@@ -3,7 +3,7 @@ ghost use Rattle.std.specs.Prelude.{◌≡◌, ℕ, List};
 use std::alloc::AllocError;
 use std::marker::Model;
 
-/// The bytes of an export's name, which need not be UTF-8. Contracts see them as a list.
+/// An export's name: bytes, which need not be UTF-8. Contracts see it as their list.
 #[derive(Debug, Drop)]
 pub struct Name {
     bytes: Vec<u8>,

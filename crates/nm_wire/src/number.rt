@@ -1,10 +1,10 @@
-//! Numbers in network byte order, the highest byte first, at places of a buffer.
+//! Big-endian numbers at a given offset of a buffer.
 ghost use Rattle.std.specs.Prelude.{◌≡◌, ◌+◌, ◌≤◌, ◌++◌, length, take, drop};
 ghost use Rattle.nm_wire.specs.Number.{be};
 
 use byteorder::{BigEndian, ByteOrder};
 
-/// Writes a number as 2 bytes from the place `at`.
+/// Writes the number as 2 bytes at offset `at`.
 pub fn put_u16(bytes: &mut [u8], at: usize, number: u16)
     requires { at + 2 ≤ length bytes.old }
     ensures written { take (at + 2) bytes.new ≡ take at bytes.old ++ be 2 number }
@@ -13,7 +13,7 @@ pub fn put_u16(bytes: &mut [u8], at: usize, number: u16)
     BigEndian::write_u16(&mut bytes[at..at + 2], number);
 }
 
-/// Writes a number as 4 bytes from the place `at`.
+/// Writes the number as 4 bytes at offset `at`.
 pub fn put_u32(bytes: &mut [u8], at: usize, number: u32)
     requires { at + 4 ≤ length bytes.old }
     ensures written { take (at + 4) bytes.new ≡ take at bytes.old ++ be 4 number }
@@ -22,7 +22,7 @@ pub fn put_u32(bytes: &mut [u8], at: usize, number: u32)
     BigEndian::write_u32(&mut bytes[at..at + 4], number);
 }
 
-/// Writes a number as 8 bytes from the place `at`.
+/// Writes the number as 8 bytes at offset `at`.
 pub fn put_u64(bytes: &mut [u8], at: usize, number: u64)
     requires { at + 8 ≤ length bytes.old }
     ensures written { take (at + 8) bytes.new ≡ take at bytes.old ++ be 8 number }
@@ -31,7 +31,7 @@ pub fn put_u64(bytes: &mut [u8], at: usize, number: u64)
     BigEndian::write_u64(&mut bytes[at..at + 8], number);
 }
 
-/// The number in the 2 bytes from the place `at`.
+/// The number in the 2 bytes at offset `at`.
 pub fn get_u16(bytes: &[u8], at: usize) -> u16
     requires { at + 2 ≤ length bytes.now }
     ensures { take (at + 2) bytes.now ≡ take at bytes.now ++ be 2 result }
@@ -39,7 +39,7 @@ pub fn get_u16(bytes: &[u8], at: usize) -> u16
     BigEndian::read_u16(&bytes[at..])
 }
 
-/// The number in the 4 bytes from the place `at`.
+/// The number in the 4 bytes at offset `at`.
 pub fn get_u32(bytes: &[u8], at: usize) -> u32
     requires { at + 4 ≤ length bytes.now }
     ensures { take (at + 4) bytes.now ≡ take at bytes.now ++ be 4 result }
@@ -47,7 +47,7 @@ pub fn get_u32(bytes: &[u8], at: usize) -> u32
     BigEndian::read_u32(&bytes[at..])
 }
 
-/// The number in the 8 bytes from the place `at`.
+/// The number in the 8 bytes at offset `at`.
 pub fn get_u64(bytes: &[u8], at: usize) -> u64
     requires { at + 8 ≤ length bytes.now }
     ensures { take (at + 8) bytes.now ≡ take at bytes.now ++ be 8 result }

@@ -4,15 +4,15 @@ ghost use Rattle.nm_wire.specs.OptionKind.{option_number};
 /// The options that are served ("Option types").
 #[derive(Clone, Copy, Debug, PartialEq, Eq, Hash)]
 pub enum OptionKind {
-    /// NBD_OPT_EXPORT_NAME: begin transmission, without a reply's head.
+    /// NBD_OPT_EXPORT_NAME: begin transmission; its reply has no header.
     ExportName,
-    /// NBD_OPT_ABORT: end the session.
+    /// NBD_OPT_ABORT: end the negotiation and the session.
     Abort,
-    /// NBD_OPT_LIST: name the exports.
+    /// NBD_OPT_LIST: list the exports' names.
     List,
-    /// NBD_OPT_INFO: tell of an export.
+    /// NBD_OPT_INFO: describe the export.
     Info,
-    /// NBD_OPT_GO: tell of an export, and begin transmission.
+    /// NBD_OPT_GO: describe the export, then begin transmission.
     Go,
 }
 

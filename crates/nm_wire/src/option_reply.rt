@@ -10,7 +10,7 @@ use crate::wire_fault::WireFault;
 /// The header of a reply to an option ("Fixed newstyle negotiation").
 #[derive(Clone, Copy, Debug, PartialEq, Eq)]
 pub struct OptionReply {
-    /// The option's number as it was asked.
+    /// The number of the option that is replied to.
     pub option: u32,
     /// The reply type's number.
     pub kind: u32,

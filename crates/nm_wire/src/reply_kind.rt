@@ -8,11 +8,11 @@ pub enum ReplyKind {
     Ack,
     /// NBD_REP_SERVER: an export's name.
     Server,
-    /// NBD_REP_INFO: a piece of information on an export.
+    /// NBD_REP_INFO: information on the export.
     Info,
-    /// NBD_REP_ERR_UNSUP: an option that is not served.
+    /// NBD_REP_ERR_UNSUP: the option is not supported.
     Unsupported,
-    /// NBD_REP_ERR_INVALID: an option with data that are not of its form.
+    /// NBD_REP_ERR_INVALID: the option's data are malformed.
     Invalid,
     /// NBD_REP_ERR_UNKNOWN: there is no export of that name.
     Unknown,

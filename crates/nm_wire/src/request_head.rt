@@ -11,15 +11,15 @@ use crate::wire_fault::WireFault;
 /// The header of a request ("Request message").
 #[derive(Clone, Copy, Debug, PartialEq, Eq)]
 pub struct RequestHead {
-    /// The command flags, every bit as sent.
+    /// The command flags, unknown bits included.
     pub flags: CommandFlags,
     /// The request's type, known or not.
     pub kind: u16,
-    /// What ties the reply to the request.
+    /// What the reply repeats, so that the client can match it to the request.
     pub cookie: u64,
-    /// The first byte of the export that is meant.
+    /// Where the range begins, in bytes.
     pub offset: u64,
-    /// How many bytes are meant.
+    /// How long the range is, in bytes.
     pub length: u32,
 }
 

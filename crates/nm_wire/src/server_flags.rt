@@ -8,9 +8,9 @@ pub struct ServerFlags(pub u16);
 
 bitflag_items! {
     impl ServerFlags: u16 {
-        /// The fixed newstyle negotiation is spoken.
+        /// The server speaks the fixed newstyle negotiation.
         const FIXED_NEWSTYLE = 1;
-        /// The zeroes at the end of an EXPORT_NAME reply may be left out.
+        /// The zeroes at the end of the reply to EXPORT_NAME can be left out.
         const NO_ZEROES = 2;
     }
 }

@@ -10,7 +10,7 @@ use crate::wire_fault::WireFault;
 /// The header of a simple reply ("Simple reply message").
 #[derive(Clone, Copy, Debug, PartialEq, Eq)]
 pub struct SimpleReply {
-    /// 0, or why the request was not done.
+    /// 0, or the error code of a request that failed ("Error values").
     pub error: u32,
     /// The request's cookie.
     pub cookie: u64,

@@ -1,4 +1,4 @@
--- The numbers were written one behind the other, and the last one ends the bytes.
+-- The numbers were written one after the other, and the last one ends the bytes.
 use Rattle.std.proofs.Common.{refl, sym, ◌∙◌, arith}
 use Rattle.std.proofs.lemmas.List.{take_all}
 use Rattle.nm_wire.specs.Layout.{option_head_bytes}

@@ -1,4 +1,4 @@
--- The numbers that were read stand one behind the other; what else begins the bytes is the same head.
+-- The numbers that were read follow one another; any header that the bytes begin with is this one.
 use Rattle.std.proofs.Common.{◌++◌, length, take, drop, Ok, refl, sym, ap, ◌∙◌, arith, length-append, lit<}
 use Rattle.std.proofs.lemmas.List.{take-append-drop}
 use Rattle.nm_wire.specs.Layout.{FitsRequestHead, request_head_bytes}
