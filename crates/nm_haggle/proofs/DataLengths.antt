@@ -10,6 +10,7 @@ use Rattle.nm_wire.specs.Number.{be}
 use Rattle.nm_haggle.specs.Answer.{information_bytes, asked_name, name_length, type_count}
 use Rattle.nm_haggle.specs.Laws.{InformationAddsUp, OnlyInformationAddsUp}
 use Rattle.nm_haggle.proofs.Heads.{length-be}
+use Rattle.nm_haggle.proofs.Bytes.{bytes_of_take, bytes_of_drop, written_2, written_4, below_16, below_32}
 
 true_of : (m n : ℕ) → m ≡ n → eqb m n ≡ true
 true_of m n e = ⊎_elim (λ t. t.0) (λ f. absurd (f.1 e)) (eqb_tells m n)
@@ -71,30 +72,6 @@ information_adds_up name types count h =
 
 -- ---- and only there
 
-taken_bytes : (xs : List ℕ) (n : ℕ) → n ≤ length xs → ((k : ℕ) → get_or xs k 0 < 256) → (k : ℕ) → get_or (take n xs) k 0 < 256
-taken_bytes xs n l f k =
-    ⊎_elim (λ below. subst (λ b. b < 256) (sym (get_or-take n xs k 0 below)) (f k))
-    (λ above. let past : length (take n xs) ≤ k = omega (arith, above, length-take-le n xs l) in
-    subst (λ b. b < 256) (sym (get_or_past (take n xs) k 0 past)) (omega arith))
-    (cases_lt k n)
-
-dropped_bytes : (xs : List ℕ) (n : ℕ) → ((k : ℕ) → get_or xs k 0 < 256) → (k : ℕ) → get_or (drop n xs) k 0 < 256
-dropped_bytes xs n f k = subst (λ b. b < 256) (sym (get_or-drop n xs k 0)) (f (n + k))
-
-written_4 : (bs : List ℕ) → length bs ≡ 4 → ((k : ℕ) → get_or bs k 0 < 256) → be 4 (from_be_bytes w32 bs) ≡ bs
-unfolding be
-written_4 bs l f = be_bytes_4 bs (from_be_bytes w32 bs) l f refl
-
-written_2 : (bs : List ℕ) → length bs ≡ 2 → ((k : ℕ) → get_or bs k 0 < 256) → be 2 (from_be_bytes w16 bs) ≡ bs
-unfolding be
-written_2 bs l f = be_bytes_2 bs (from_be_bytes w16 bs) l f refl
-
-below_32 : (bs : List ℕ) → ((k : ℕ) → get_or bs k 0 < 256) → from_be_bytes w32 bs < 2 ^ 32
-below_32 bs f = omega (arith, f 0, f 1, f 2, f 3)
-
-below_16 : (bs : List ℕ) → ((k : ℕ) → get_or bs k 0 < 256) → from_be_bytes w16 bs < 2 ^ 16
-below_16 bs f = omega (arith, f 0, f 1)
-
 pub only_information_adds_up : OnlyInformationAddsUp
 only_information_adds_up payload f e =
     let n = name_length payload in
@@ -107,9 +84,9 @@ only_information_adds_up payload f e =
     let named : length (asked_name payload) ≡ n =
     length-take-le n (drop 4 payload) (omega (arith, counted, length-drop 4 payload)) in
     let first : be 4 n ≡ take 4 payload =
-    written_4 (take 4 payload) (length-take-le 4 payload four) (taken_bytes payload 4 four f) in
+    written_4 (take 4 payload) (length-take-le 4 payload four) (bytes_of_take payload 4 four f) in
     let second : be 2 count ≡ take 2 rest =
-    written_2 (take 2 rest) (length-take-le 2 rest two) (taken_bytes rest 2 two (dropped_bytes payload (4 + n) f)) in
+    written_2 (take 2 rest) (length-take-le 2 rest two) (bytes_of_take rest 2 two (bytes_of_drop payload (4 + n) f)) in
     let parts : payload ≡ be 4 n ++ (asked_name payload ++ (be 2 count ++ types)) =
     sym (take-append-drop 4 payload)
     ∙ ap (λ xs. xs ++ drop 4 payload) (sym first)
@@ -119,8 +96,8 @@ only_information_adds_up payload f e =
       types,
       count,
       record {
-        name_fits = subst (λ m. m < 2 ^ 32) (sym named) (below_32 (take 4 payload) (taken_bytes payload 4 four f));
-        count_fits = below_16 (take 2 rest) (taken_bytes rest 2 two (dropped_bytes payload (4 + n) f));
+        name_fits = subst (λ m. m < 2 ^ 32) (sym named) (below_32 (take 4 payload) (bytes_of_take payload 4 four f));
+        count_fits = below_16 (take 2 rest) (bytes_of_take rest 2 two (bytes_of_drop payload (4 + n) f));
         counted = omega (arith, counted, length-drop (4 + n) payload, length-drop 2 rest);
       },
       parts

@@ -4,37 +4,37 @@ use Rattle.std.proofs.lemmas.List.{append_assoc, take-append-le, take_all}
 use Rattle.nm_wire.specs.Number.{be, option_magic}
 use Rattle.nm_wire.specs.Layout.{FitsOptionHead, option_head_bytes}
 use Rattle.nm_wire.specs.declared.option_head.OptionHead.{OptionHead}
-use Rattle.nm_haggle.specs.Asked.{Asked, option_bytes, head_of, IsTaken, IsUnfinished, IsRefused, IsTooLong, most_data}
-use Rattle.nm_haggle.proofs.Heads.{heads_one, length-head, length-be, same_fronts}
+use Rattle.nm_haggle.specs.ClientOption.{ClientOption, option_bytes, head_of, IsAccepted, IsUnfinished, IsRefused, IsTooLong, most_data}
+use Rattle.nm_haggle.proofs.Heads.{heads_one, length-head, length-be, same_prefixes}
 
-pub fits_head : (o : Asked) → IsTaken o → FitsOptionHead (head_of o)
+pub fits_head : (o : ClientOption) → IsAccepted o → FitsOptionHead (head_of o)
 fits_head o t = record { option = t.number; length = omega (arith, t.payload) }
 
-pub length-option : (o : Asked) → length (option_bytes o) ≡ 16 + length o.payload
+pub length-option : (o : ClientOption) → length (option_bytes o) ≡ 16 + length o.payload
 length-option o = length-append (option_head_bytes (head_of o)) o.payload ∙ ap (λ n. n + length o.payload) (length-head (head_of o))
 
 -- an option is its head and its data
-same_option : (o p : Asked) → o.number ≡ p.number → o.payload ≡ p.payload → o ≡ p
+same_option : (o p : ClientOption) → o.number ≡ p.number → o.payload ≡ p.payload → o ≡ p
 same_option o p e f =
-    let with_number : ℕ → Asked = λ n. record { number = n; payload = o.payload } in
-    let with_payload : List ℕ → Asked = λ xs. record { number = p.number; payload = xs } in
+    let with_number : ℕ → ClientOption = λ n. record { number = n; payload = o.payload } in
+    let with_payload : List ℕ → ClientOption = λ xs. record { number = p.number; payload = xs } in
     ap with_number e ∙ ap with_payload f
 
-pub options_one : (o p : Asked) (x y : List ℕ) → IsTaken o → IsTaken p
+pub options_one : (o p : ClientOption) (x y : List ℕ) → IsAccepted o → IsAccepted p
     → option_bytes o ++ x ≡ option_bytes p ++ y → (o ≡ p) × (x ≡ y)
 options_one o p x y t u e =
     let both = heads_one (head_of o) (head_of p) (o.payload ++ x) (p.payload ++ y) (fits_head o t) (fits_head p u)
     (sym (append_assoc (option_head_bytes (head_of o)) o.payload x) ∙ e ∙ append_assoc (option_head_bytes (head_of p)) p.payload y) in
     let number : o.number ≡ p.number = ap (λ (h : OptionHead). h.option) both.0 in
     let lengths : length o.payload ≡ length p.payload = ap (λ (h : OptionHead). h.length) both.0 in
-    let data_too = same_fronts o.payload p.payload x y lengths both.1 in
+    let data_too = same_prefixes o.payload p.payload x y lengths both.1 in
     (same_option o p number data_too.0, data_too.1)
 
 -- what goes on to an option with an unfinished rest is shorter than the option
-pub part_is_short : (o : Asked) (rest more x : List ℕ) → IsTaken o → IsUnfinished rest
+pub unfinished_is_short : (o : ClientOption) (rest more x : List ℕ) → IsAccepted o → IsUnfinished rest
     → rest ++ more ≡ option_bytes o ++ x → length rest < length (option_bytes o)
-part_is_short o rest more x t (inl short) e = omega (arith, length-option o, short)
-part_is_short o rest more x t (inr p) e =
+unfinished_is_short o rest more x t (inl short) e = omega (arith, length-option o, short)
+unfinished_is_short o rest more x t (inr p) e =
     let both = heads_one p.head (head_of o) (p.begun ++ more) (o.payload ++ x) p.fits (fits_head o t)
     (sym (append_assoc (option_head_bytes p.head) p.begun more) ∙ ap (λ xs. xs ++ more) (sym p.bytes) ∙ e
     ∙ append_assoc (option_head_bytes (head_of o)) o.payload x) in
@@ -63,10 +63,10 @@ taken_cause h f l (inr long) =
 taken_head : (h : OptionHead) → FitsOptionHead h → h.length ≤ most_data → IsRefused (option_head_bytes h) → ⊥
 taken_head h f l r = taken_cause h f l r.cause
 
-pub taken_not_refused : (o : Asked) (head x y : List ℕ) → IsTaken o → IsRefused head
+pub accepted_not_refused : (o : ClientOption) (head x y : List ℕ) → IsAccepted o → IsRefused head
     → option_bytes o ++ x ≡ head ++ y → ⊥
-taken_not_refused o head x y t r e =
-    let fronts = same_fronts (option_head_bytes (head_of o)) head (o.payload ++ x) y (length-head (head_of o) ∙ sym r.whole)
+accepted_not_refused o head x y t r e =
+    let fronts = same_prefixes (option_head_bytes (head_of o)) head (o.payload ++ x) y (length-head (head_of o) ∙ sym r.whole)
     (sym (append_assoc (option_head_bytes (head_of o)) o.payload x) ∙ e) in
     taken_head (head_of o) (fits_head o t) t.payload (subst (λ bs. IsRefused bs) (sym fronts.0) r)
 
@@ -75,6 +75,6 @@ pub unfinished_not_refused : (rest more head y : List ℕ) → IsUnfinished rest
     → rest ++ more ≡ head ++ y → length rest < 16
 unfinished_not_refused rest more head y (inl short) r e = short
 unfinished_not_refused rest more head y (inr p) r e =
-    let fronts = same_fronts (option_head_bytes p.head) head (p.begun ++ more) y (length-head p.head ∙ sym r.whole)
+    let fronts = same_prefixes (option_head_bytes p.head) head (p.begun ++ more) y (length-head p.head ∙ sym r.whole)
     (sym (append_assoc (option_head_bytes p.head) p.begun more) ∙ ap (λ xs. xs ++ more) (sym p.bytes) ∙ e) in
-    absurd (taken_head p.head p.fits p.taken (subst (λ bs. IsRefused bs) (sym fronts.0) r))
+    absurd (taken_head p.head p.fits p.accepted (subst (λ bs. IsRefused bs) (sym fronts.0) r))

@@ -8,15 +8,15 @@ use Rattle.nm_wire.specs.Layout.{FitsOptionHead, option_head_bytes}
 use Rattle.nm_wire.specs.declared.option_head.OptionHead.{OptionHead}
 
 -- a front of one length, and what follows it
-pub same_fronts : {A : Type 0} (a b x y : List A) → length a ≡ length b → a ++ x ≡ b ++ y → (a ≡ b) × (x ≡ y)
-same_fronts [] [] x y l e = (refl, e)
-same_fronts [] (b ∷ bs) x y l e = absurd (omega (arith, l))
-same_fronts (a ∷ cs) [] x y l e = absurd (omega (arith, l))
-same_fronts (a ∷ cs) (b ∷ bs) x y l e =
+pub same_prefixes : {A : Type 0} (a b x y : List A) → length a ≡ length b → a ++ x ≡ b ++ y → (a ≡ b) × (x ≡ y)
+same_prefixes [] [] x y l e = (refl, e)
+same_prefixes [] (b ∷ bs) x y l e = absurd (omega (arith, l))
+same_prefixes (a ∷ cs) [] x y l e = absurd (omega (arith, l))
+same_prefixes (a ∷ cs) (b ∷ bs) x y l e =
     let heads : a ≡ b = cc in
     let tails : cs ++ x ≡ bs ++ y = cc in
     let lengths : length cs ≡ length bs = omega (arith, l) in
-    let rest = same_fronts cs bs x y lengths tails in
+    let rest = same_prefixes cs bs x y lengths tails in
     let t : cs ≡ bs = rest.0 in
     (cc, rest.1)
 
@@ -50,7 +50,7 @@ unfolding option_head_bytes
 head_one h k f g e =
     let numbers = append_cancel_left (be 8 option_magic) (be 4 h.option ++ be 4 h.length) (be 4 k.option ++ be 4 k.length)
     (sym (append_assoc (be 8 option_magic) (be 4 h.option) (be 4 h.length)) ∙ e ∙ append_assoc (be 8 option_magic) (be 4 k.option) (be 4 k.length)) in
-    let both = same_fronts (be 4 h.option) (be 4 k.option) (be 4 h.length) (be 4 k.length)
+    let both = same_prefixes (be 4 h.option) (be 4 k.option) (be 4 h.length) (be 4 k.length)
     (length-be 4 h.option ∙ sym (length-be 4 k.option)) numbers in
     let option : h.option ≡ k.option = be_4_one h.option k.option f.option g.option both.0 in
     let length : h.length ≡ k.length = be_4_one h.length k.length f.length g.length both.1 in
@@ -59,5 +59,5 @@ head_one h k f g e =
 pub heads_one : (h k : OptionHead) (x y : List ℕ) → FitsOptionHead h → FitsOptionHead k
     → option_head_bytes h ++ x ≡ option_head_bytes k ++ y → (h ≡ k) × (x ≡ y)
 heads_one h k x y f g e =
-    let both = same_fronts (option_head_bytes h) (option_head_bytes k) x y (length-head h ∙ sym (length-head k)) e in
+    let both = same_prefixes (option_head_bytes h) (option_head_bytes k) x y (length-head h ∙ sym (length-head k)) e in
     (head_one h k f g both.0, both.1)

@@ -5,8 +5,10 @@ pub mod Pieces
 pub mod Cuts
 pub mod States
 pub mod ReplyBytes
-pub mod Fronts
+pub mod FirstOptions
 pub mod Passings
 pub mod Flagged
 pub mod Joins
+pub mod Bytes
 pub mod DataLengths
+pub mod Existence

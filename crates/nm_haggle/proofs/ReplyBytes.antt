@@ -13,7 +13,7 @@ use Rattle.nm_wire.specs.declared.option_kind.OptionKind.TheVariants as option
 use Rattle.nm_wire.specs.declared.option_reply.OptionReply.{OptionReply}
 use Rattle.nm_wire.specs.declared.reply_kind.ReplyKind.{ReplyKind}
 use Rattle.nm_wire.specs.declared.reply_kind.ReplyKind.TheVariants as kind
-use Rattle.nm_haggle.specs.Asked.{Asked}
+use Rattle.nm_haggle.specs.ClientOption.{ClientOption}
 use Rattle.nm_haggle.specs.Answer.{reply, refusal, answer_to, export_information, block_sizes}
 use Rattle.nm_haggle.proofs.Heads.{length-be}
 
@@ -43,7 +43,7 @@ not_number : (m n : ℕ) → m ≢ n → eqb n m ≡ false
 not_number m n h = ⊎_elim (λ t. absurd (h (sym t.1))) (λ t. t.0) (eqb_tells n m)
 
 -- an option that is not served is answered as such
-pub answer_to_others : (export : Export) (nz : Bool) (o : Asked) → ((k : OptionKind) → option_number k ≢ o.number)
+pub answer_to_others : (export : Export) (nz : Bool) (o : ClientOption) → ((k : OptionKind) → option_number k ≢ o.number)
     → answer_to export nz o ≡ refusal o.number kind.Unsupported
 answer_to_others export nz o h =
     let a = not_number 1 o.number (h option.ExportName) in

@@ -4,30 +4,30 @@ use Rattle.std.proofs.lemmas.List.{append_assoc, append-nil}
 use Rattle.std.specs.List.{flat_map, AllByRecursion}
 use Rattle.nm_wire.specs.Number.{be}
 use Rattle.nm_wire.specs.declared.export.Export.{Export}
-use Rattle.nm_haggle.specs.Asked.{Asked, option_bytes, IsTaken, IsUnfinished, IsRefused}
+use Rattle.nm_haggle.specs.ClientOption.{ClientOption, option_bytes, IsAccepted, IsUnfinished, IsRefused}
 use Rattle.nm_haggle.specs.Handshake.{Ending, Waits, Settles, Breaks, Options, Handshake, NoFlags, BadFlags, GoodFlags, ending_bytes, options_bytes, handshake_bytes, IsPassed, IsEnding, IsOptions, IsHandshake, has_no_zeroes}
-use Rattle.nm_haggle.proofs.Heads.{length-be, same_fronts, be_4_one}
-use Rattle.nm_haggle.proofs.Elements.{options_one, part_is_short, taken_not_refused, unfinished_not_refused}
+use Rattle.nm_haggle.proofs.Heads.{length-be, same_prefixes, be_4_one}
+use Rattle.nm_haggle.proofs.Elements.{options_one, unfinished_is_short, accepted_not_refused, unfinished_not_refused}
 
 -- a rest that is unfinished is not as long as an option or a refused head that it begins
-rest_no_option : (o : Asked) (rest x : List ℕ) → IsTaken o → IsUnfinished rest → rest ≡ option_bytes o ++ x → ⊥
+rest_no_option : (o : ClientOption) (rest x : List ℕ) → IsAccepted o → IsUnfinished rest → rest ≡ option_bytes o ++ x → ⊥
 rest_no_option o rest x t u e =
-    omega (arith, part_is_short o rest [] x t u (append-nil rest ∙ e), ap length e, length-append (option_bytes o) x)
+    omega (arith, unfinished_is_short o rest [] x t u (append-nil rest ∙ e), ap length e, length-append (option_bytes o) x)
 
 rest_no_refused : (rest head y : List ℕ) → IsUnfinished rest → IsRefused head → rest ≡ head ++ y → ⊥
 rest_no_refused rest head y u r e =
     omega (arith, unfinished_not_refused rest [] head y u r (append-nil rest ∙ e), ap length e, length-append head y, r.whole)
 
 -- an ending begins with no option after which the haggling goes on
-pub ending_no_passed : (export : Export) (nz : Bool) (e : Ending) (p : Asked) (x : List ℕ)
+pub ending_no_passed : (export : Export) (nz : Bool) (e : Ending) (p : ClientOption) (x : List ℕ)
     → IsEnding export nz e → IsPassed export nz p → ending_bytes e ≡ option_bytes p ++ x → ⊥
-ending_no_passed export nz (Waits rest) p x u t h = rest_no_option p rest x t.taken u h
-ending_no_passed export nz (Settles o behind) p x l t h =
-    let same = (options_one o p behind x l.taken t.taken h).0 in
+ending_no_passed export nz (Waits rest) p x u t h = rest_no_option p rest x t.accepted u h
+ending_no_passed export nz (Settles o remaining) p x l t h =
+    let same = (options_one o p remaining x l.accepted t.accepted h).0 in
     l.next (subst (λ q. (Rattle.nm_haggle.specs.Answer.answer_to export nz q).next ≡ Rattle.nm_haggle.specs.declared.next.Next.TheVariants.More) (sym same) t.next)
-ending_no_passed export nz (Breaks head behind) p x r t h = taken_not_refused p head x behind t.taken r (sym h)
+ending_no_passed export nz (Breaks head remaining) p x r t h = accepted_not_refused p head x remaining t.accepted r (sym h)
 
-same_settles : {o p : Asked} {x y : List ℕ} → o ≡ p → x ≡ y → Settles o x ≡ Settles p y
+same_settles : {o p : ClientOption} {x y : List ℕ} → o ≡ p → x ≡ y → Settles o x ≡ Settles p y
 same_settles {o} {p} {x} {y} e f = ap (λ q. Settles q x) e ∙ ap (λ xs. Settles p xs) f
 
 same_breaks : {a b x y : List ℕ} → a ≡ b → x ≡ y → Breaks a x ≡ Breaks b y
@@ -36,41 +36,41 @@ same_breaks {a} {b} {x} {y} e f = ap (λ q. Breaks q x) e ∙ ap (λ xs. Breaks 
 pub ending_one : (export : Export) (nz : Bool) (d e : Ending) → IsEnding export nz d → IsEnding export nz e
     → ending_bytes d ≡ ending_bytes e → d ≡ e
 ending_one export nz (Waits r) (Waits s) u v h = ap (λ xs. Waits xs) h
-ending_one export nz (Waits r) (Settles o x) u l h = absurd (rest_no_option o r x l.taken u h)
+ending_one export nz (Waits r) (Settles o x) u l h = absurd (rest_no_option o r x l.accepted u h)
 ending_one export nz (Waits r) (Breaks b x) u f h = absurd (rest_no_refused r b x u f h)
-ending_one export nz (Settles o x) (Waits s) l v h = absurd (rest_no_option o s x l.taken v (sym h))
+ending_one export nz (Settles o x) (Waits s) l v h = absurd (rest_no_option o s x l.accepted v (sym h))
 ending_one export nz (Settles o x) (Settles p y) l m h =
-    let both = options_one o p x y l.taken m.taken h in same_settles both.0 both.1
-ending_one export nz (Settles o x) (Breaks b y) l f h = absurd (taken_not_refused o b x y l.taken f h)
+    let both = options_one o p x y l.accepted m.accepted h in same_settles both.0 both.1
+ending_one export nz (Settles o x) (Breaks b y) l f h = absurd (accepted_not_refused o b x y l.accepted f h)
 ending_one export nz (Breaks a x) (Waits s) r v h = absurd (rest_no_refused s a x v r (sym h))
-ending_one export nz (Breaks a x) (Settles o y) r m h = absurd (taken_not_refused o a y x m.taken r (sym h))
+ending_one export nz (Breaks a x) (Settles o y) r m h = absurd (accepted_not_refused o a y x m.accepted r (sym h))
 ending_one export nz (Breaks a x) (Breaks b y) r f h =
-    let both = same_fronts a b x y (r.whole ∙ sym f.whole) h in same_breaks both.0 both.1
+    let both = same_prefixes a b x y (r.whole ∙ sym f.whole) h in same_breaks both.0 both.1
 
 -- options that were passed begin every other reading of the text that they begin
-pub passed_begin : (export : Export) (nz : Bool) (passed others : List Asked) (z : List ℕ) (e : Ending)
+pub passed_begin : (export : Export) (nz : Bool) (passed others : List ClientOption) (z : List ℕ) (e : Ending)
     → AllByRecursion (IsPassed export nz) passed → AllByRecursion (IsPassed export nz) others → IsEnding export nz e
     → flat_map option_bytes passed ++ z ≡ flat_map option_bytes others ++ ending_bytes e
-    → (more : List Asked) × AllByRecursion (IsPassed export nz) more × (others ≡ passed ++ more)
+    → (more : List ClientOption) × AllByRecursion (IsPassed export nz) more × (others ≡ passed ++ more)
     × (z ≡ flat_map option_bytes more ++ ending_bytes e)
 passed_begin export nz [] others z e p q f h = (others, q, refl, h)
 passed_begin export nz (o ∷ os) [] z e p q f h =
     absurd (ending_no_passed export nz e o (flat_map option_bytes os ++ z) f p.0
     (sym h ∙ append_assoc (option_bytes o) (flat_map option_bytes os) z))
 passed_begin export nz (o ∷ os) (b ∷ bs) z e p q f h =
-    let both = options_one o b (flat_map option_bytes os ++ z) (flat_map option_bytes bs ++ ending_bytes e) p.0.taken q.0.taken
+    let both = options_one o b (flat_map option_bytes os ++ z) (flat_map option_bytes bs ++ ending_bytes e) p.0.accepted q.0.accepted
     (sym (append_assoc (option_bytes o) (flat_map option_bytes os) z) ∙ h
     ∙ append_assoc (option_bytes b) (flat_map option_bytes bs) (ending_bytes e)) in
     let rest = passed_begin export nz os bs z e p.1 q.1 f both.1 in
-    (rest.0, rest.1, ap (λ (q : Asked). q ∷ bs) (sym both.0) ∙ ap (λ (qs : List Asked). o ∷ qs) rest.2, rest.3)
+    (rest.0, rest.1, ap (λ (q : ClientOption). q ∷ bs) (sym both.0) ∙ ap (λ (qs : List ClientOption). o ∷ qs) rest.2, rest.3)
 
 same_options : {t u : Options} → t.answered ≡ u.answered → t.ending ≡ u.ending → t ≡ u
 same_options {t} {u} e f =
-    let with_answered : List Asked → Options = λ os. record { answered = os; ending = t.ending } in
+    let with_answered : List ClientOption → Options = λ os. record { answered = os; ending = t.ending } in
     let with_ending : Ending → Options = λ d. record { answered = u.answered; ending = d } in
     ap with_answered e ∙ ap with_ending f
 
-lists_one : (export : Export) (nz : Bool) (as_read others : List Asked) (d e : Ending)
+lists_one : (export : Export) (nz : Bool) (as_read others : List ClientOption) (d e : Ending)
     → AllByRecursion (IsPassed export nz) as_read → IsEnding export nz d
     → AllByRecursion (IsPassed export nz) others → IsEnding export nz e
     → flat_map option_bytes as_read ++ ending_bytes d ≡ flat_map option_bytes others ++ ending_bytes e
@@ -83,11 +83,11 @@ lists_one export nz (o ∷ os) [] d e p f q g h =
     absurd (ending_no_passed export nz e o (flat_map option_bytes os ++ ending_bytes d) g p.0
     (sym h ∙ append_assoc (option_bytes o) (flat_map option_bytes os) (ending_bytes d)))
 lists_one export nz (o ∷ os) (b ∷ bs) d e p f q g h =
-    let both = options_one o b (flat_map option_bytes os ++ ending_bytes d) (flat_map option_bytes bs ++ ending_bytes e) p.0.taken q.0.taken
+    let both = options_one o b (flat_map option_bytes os ++ ending_bytes d) (flat_map option_bytes bs ++ ending_bytes e) p.0.accepted q.0.accepted
     (sym (append_assoc (option_bytes o) (flat_map option_bytes os) (ending_bytes d)) ∙ h
     ∙ append_assoc (option_bytes b) (flat_map option_bytes bs) (ending_bytes e)) in
     let rest = lists_one export nz os bs d e p.1 f q.1 g both.1 in
-    (ap (λ (q : Asked). q ∷ os) both.0 ∙ ap (λ (qs : List Asked). b ∷ qs) rest.0, rest.1)
+    (ap (λ (q : ClientOption). q ∷ os) both.0 ∙ ap (λ (qs : List ClientOption). b ∷ qs) rest.0, rest.1)
 
 -- a text of options has one tree
 pub options_tree_one : (export : Export) (nz : Bool) (t u : Options) → IsOptions export nz t → IsOptions export nz u
@@ -99,7 +99,7 @@ options_tree_one export nz t u p q h =
 -- bytes of flags that are one
 pub flags_one : (f g : ℕ) (x y : List ℕ) → f < 2 ^ 32 → g < 2 ^ 32 → be 4 f ++ x ≡ be 4 g ++ y → (f ≡ g) × (x ≡ y)
 flags_one f g x y l k h =
-    let both = same_fronts (be 4 f) (be 4 g) x y (length-be 4 f ∙ sym (length-be 4 g)) h in
+    let both = same_prefixes (be 4 f) (be 4 g) x y (length-be 4 f ∙ sym (length-be 4 g)) h in
     (be_4_one f g l k both.0, both.1)
 
 no_flags : (rest : List ℕ) (f : ℕ) (x : List ℕ) → length rest < 4 → rest ≡ be 4 f ++ x → ⊥

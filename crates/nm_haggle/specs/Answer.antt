@@ -14,19 +14,19 @@ use Rattle.nm_wire.specs.declared.reply_kind.ReplyKind.{ReplyKind}
 use Rattle.nm_wire.specs.declared.reply_kind.ReplyKind.TheVariants as kind
 use Rattle.nm_haggle.specs.declared.next.Next.{Next}
 use Rattle.nm_haggle.specs.declared.next.Next.TheVariants.{More, Transmit, Close}
-use Rattle.nm_haggle.specs.Asked.{Asked}
+use Rattle.nm_haggle.specs.ClientOption.{ClientOption}
 
 -- the bytes that answer an option, and what comes after it
 pub record Answer : Type 0 where
   pub out : List ℕ
   pub next : Next
 
--- the bytes went out behind those before, and what comes next is told
+-- the answer's bytes were appended to the output, and what comes next is what it says
 pub record IsAnswered (answer : Answer) (old new : List ℕ) (next : Next) : Type 0 where
   pub out : new ≡ old ++ answer.out
   pub next_is : next ≡ answer.next
 
--- one reply to an option: its head, then its data
+-- one reply to an option: its header, then its data
 abbrev pub reply : ℕ → ReplyKind → List ℕ → List ℕ
 reply number kind payload =
     option_reply_bytes (record {
@@ -56,14 +56,14 @@ export_information export = be 2 0 ++ size_and_flags export
 abbrev pub block_sizes : List ℕ
 block_sizes = be 2 3 ++ be 4 512 ++ be 4 4096 ++ be 4 33554432
 
--- the replies that tell of the export, whatever types of information were asked for
+-- the replies that describe the export, whatever types of information were asked for
 abbrev pub information_replies : ℕ → Export → List ℕ
 information_replies number export =
     reply number kind.Info (export_information export)
     ++ reply number kind.Info block_sizes
     ++ reply number kind.Ack []
 
--- the length of the name at the front of the data of INFO and GO
+-- the length of the name that the data of INFO and GO begin with
 abbrev pub name_length : List ℕ → ℕ
 name_length payload = from_be_bytes w32 (take 4 payload)
 
@@ -71,11 +71,11 @@ name_length payload = from_be_bytes w32 (take 4 payload)
 abbrev pub asked_name : List ℕ → List ℕ
 asked_name payload = take (name_length payload) (drop 4 payload)
 
--- the count of the information types behind the name
+-- the count of the information types after the name
 abbrev pub type_count : List ℕ → ℕ
 type_count payload = from_be_bytes w16 (take 2 (drop (4 + name_length payload) payload))
 
--- the data are the name behind its length, and the information types behind their count
+-- the data are a name after its length, and information types after their count
 abbrev pub adds_up : List ℕ → Bool
 adds_up payload = 6 + name_length payload + 2 * type_count payload == length payload
 
@@ -84,13 +84,13 @@ adds_up payload = 6 + name_length payload + 2 * type_count payload == length pay
 abbrev pub information_bytes : List ℕ → ℕ → List ℕ → List ℕ
 information_bytes name count types = be 4 (length name) ++ name ++ be 2 count ++ types
 
--- what can be put together so
+-- the name and the count fit their places, and the types are as many as counted
 pub record IsInformation (name : List ℕ) (count : ℕ) (types : List ℕ) : Type 0 where
   pub name_fits : length name < 2 ^ 32
   pub count_fits : count < 2 ^ 16
   pub counted : length types ≡ 2 * count
 
--- INFO and GO tell of the export; after GO transmission begins
+-- INFO and GO describe the export; after GO transmission begins
 abbrev pub answer_to_information : ℕ → Next → Export → List ℕ → Answer
 answer_to_information number next export payload =
     if adds_up payload
@@ -110,7 +110,7 @@ answer_to_list export payload =
     }
     else refusal (option_number option.List) kind.Invalid
 
--- EXPORT_NAME begins transmission without a reply's head, or closes the session without a byte
+-- EXPORT_NAME begins transmission without a reply's header, or closes the session without a byte
 abbrev pub answer_to_export_name : Export → Bool → List ℕ → Answer
 answer_to_export_name export no_zeroes payload =
     if is_known export payload
@@ -125,7 +125,7 @@ abbrev pub answer_to_abort : Answer
 answer_to_abort = record { out = reply (option_number option.Abort) kind.Ack []; next = Close true }
 
 -- each option by its number; one that is not served is skipped
-abbrev pub answer_to : Export → Bool → Asked → Answer
+abbrev pub answer_to : Export → Bool → ClientOption → Answer
 answer_to export no_zeroes o =
     if o.number == option_number option.ExportName
     then answer_to_export_name export no_zeroes o.payload

@@ -4,107 +4,125 @@ use Rattle.std.specs.List.{flat_map}
 use Rattle.nm_wire.specs.declared.export.Export.{Export}
 use Rattle.nm_haggle.specs.declared.next.Next.{Next}
 use Rattle.nm_haggle.specs.declared.next.Next.TheVariants.{More}
-use Rattle.nm_haggle.specs.Asked.{Asked, option_bytes, IsTaken}
+use Rattle.nm_haggle.specs.ClientOption.{ClientOption, option_bytes, IsAccepted}
 use Rattle.nm_haggle.specs.Answer.{information_bytes, IsInformation, adds_up, asked_name}
-use Rattle.nm_haggle.specs.Haggling.{Haggling, HagglesFrom, Haggles, IsOver, End, end_at, opened}
+use Rattle.nm_haggle.specs.Haggling.{Haggling, Response, HagglesFrom, Haggles, IsOver, IsAwaited, End, end_at, initial_state}
 
--- no option begins another one: bytes that begin with an option begin with no other, and go on
--- alike
+-- each item is a byte
+abbrev pub AreBytes : List ℕ → Type 0
+AreBytes text = (k : ℕ) → slice_index text k < 256
+
+-- no option begins another one: bytes that begin with an option begin with no other, and the bytes
+-- after it are the same
 abbrev pub NoOptionBeginsAnother : Type 0
 NoOptionBeginsAnother =
-    (o p : Asked) (behind after : List ℕ) → IsTaken o → IsTaken p
-    → option_bytes o ++ behind ≡ option_bytes p ++ after → (o ≡ p) × (behind ≡ after)
+    (o p : ClientOption) (rest after : List ℕ) → IsAccepted o → IsAccepted p
+    → option_bytes o ++ rest ≡ option_bytes p ++ after → (o ≡ p) × (rest ≡ after)
 
--- from each state a text has one answer, one use, one that comes next, and one state that is left
-abbrev pub LeadsOneWay : Type 0
-LeadsOneWay =
-    (old : Haggling) (text out other_out : List ℕ) (used other_used : ℕ) (next other_next : Next)
-    (new other_new : Haggling)
-    → HagglesFrom old text out used next new
-    → HagglesFrom old text other_out other_used other_next other_new
-    → (out ≡ other_out) × (used ≡ other_used) × (next ≡ other_next) × (new ≡ other_new)
+-- in each state a text has at most one response, and one state that follows
+abbrev pub OneResponse : Type 0
+OneResponse =
+    (old : Haggling) (text : List ℕ) (response other : Response) (new other_new : Haggling)
+    → HagglesFrom old text response new → HagglesFrom old text other other_new
+    → (response ≡ other) × (new ≡ other_new)
 
--- a whole text has one answer and one end
-abbrev pub HagglesOneWay : Type 0
-HagglesOneWay =
+-- a whole text has at most one answer and one end
+abbrev pub OneAnswer : Type 0
+OneAnswer =
     (export : Export) (text out other_out : List ℕ) (end other_end : End)
     → Haggles export text out end → Haggles export text other_out other_end
     → (out ≡ other_out) × (end ≡ other_end)
 
--- the haggling is over behind a text exactly where the text does not ask for more
-abbrev pub OverBehindAnEnd : Type 0
-OverBehindAnEnd =
-    (old new : Haggling) (text out : List ℕ) (used : ℕ) (next : Next)
-    → HagglesFrom old text out used next new
-    → (next ≡ More → ¬ IsOver new) × (next ≢ More → IsOver new)
+-- a text of bytes has a response in each state in which the haggling is not over
+abbrev pub SomeResponse : Type 0
+SomeResponse =
+    (old : Haggling) (text : List ℕ) → ¬ IsOver old → IsAwaited old.phase old.rest
+    → AreBytes (old.rest ++ text)
+    → (response : Response) × (new : Haggling) × HagglesFrom old text response new
 
--- where a text asks for more, what follows is answered from the state that is left
+-- a whole text of bytes has an answer and an end
+abbrev pub SomeAnswer : Type 0
+SomeAnswer =
+    (export : Export) (text : List ℕ) → AreBytes text
+    → (out : List ℕ) × (end : End) × Haggles export text out end
+
+-- the haggling is over after a text exactly where the text does not ask for more
+abbrev pub OverAfterAnEnd : Type 0
+OverAfterAnEnd =
+    (old new : Haggling) (text : List ℕ) (response : Response)
+    → HagglesFrom old text response new
+    → (response.next ≡ More → ¬ IsOver new) × (response.next ≢ More → IsOver new)
+
+-- the response to a text that asks for more and to what follows it, as one
+abbrev pub sequence : List ℕ → Response → Response → Response
+sequence text first second = record {
+  out = first.out ++ second.out;
+  used = length text + second.used;
+  next = second.next;
+}
+
+-- where a text asks for more, what follows it is answered from the state that it led to
 abbrev pub GoesOn : Type 0
 GoesOn =
-    (old between new : Haggling) (text more out rest_out : List ℕ) (used rest_used : ℕ)
-    (next : Next)
-    → HagglesFrom old text out used More between
-    → HagglesFrom between more rest_out rest_used next new
-    → HagglesFrom old (text ++ more) (out ++ rest_out) (length text + rest_used) next new
+    (old between new : Haggling) (text more : List ℕ) (first second : Response)
+    → first.next ≡ More → HagglesFrom old text first between
+    → HagglesFrom between more second new
+    → HagglesFrom old (text ++ more) (sequence text first second) new
 
--- and no other way
+-- and in no other way
 abbrev pub GoesOnOnlySo : Type 0
 GoesOnOnlySo =
-    (old between new : Haggling) (text more out whole_out : List ℕ) (used whole_used : ℕ)
-    (next : Next)
-    → HagglesFrom old text out used More between
-    → HagglesFrom old (text ++ more) whole_out whole_used next new
-    → (rest_out : List ℕ) × (rest_used : ℕ)
-    × HagglesFrom between more rest_out rest_used next new
-    × (whole_out ≡ out ++ rest_out) × (whole_used ≡ length text + rest_used)
+    (old between new : Haggling) (text more : List ℕ) (first whole : Response)
+    → first.next ≡ More → HagglesFrom old text first between
+    → HagglesFrom old (text ++ more) whole new
+    → (second : Response) × HagglesFrom between more second new
+    × (whole ≡ sequence text first second)
 
 -- where a text does not ask for more, what follows it changes nothing
 abbrev pub EndsThere : Type 0
 EndsThere =
-    (old new : Haggling) (text more out : List ℕ) (used : ℕ) (next : Next) → next ≢ More
-    → HagglesFrom old text out used next new → HagglesFrom old (text ++ more) out used next new
+    (old new : Haggling) (text more : List ℕ) (response : Response) → response.next ≢ More
+    → HagglesFrom old text response new → HagglesFrom old (text ++ more) response new
 
--- a piece that was fed, and what it was answered by
-pub record Fed : Type 0 where
+-- a piece of the client's text, and the response to it
+pub record Exchange : Type 0 where
   pub piece : List ℕ
-  pub out : List ℕ
-  pub used : ℕ
-  pub next : Next
+  pub response : Response
 
--- pieces fed one after the other, each from the state that the one before left, all but the last
+-- pieces fed one after the other, each in the state that the one before led to, all but the last
 -- asking for more
-abbrev pub Feeds : Haggling → List Fed → Fed → Haggling → Type 0
-Feeds old [] last new = HagglesFrom old last.piece last.out last.used last.next new
+abbrev pub Feeds : Haggling → List Exchange → Exchange → Haggling → Type 0
+Feeds old [] last new = HagglesFrom old last.piece last.response new
 Feeds old (fed ∷ more) last new =
-    (between : Haggling)
-    × HagglesFrom old fed.piece fed.out fed.used More between × Feeds between more last new
+    (between : Haggling) × (fed.response.next ≡ More)
+    × HagglesFrom old fed.piece fed.response between × Feeds between more last new
 
 -- the pieces before the last one
-abbrev pub pieces : List Fed → List ℕ
-pieces feds = flat_map (λ fed. fed.piece) feds
+abbrev pub pieces : List Exchange → List ℕ
+pieces exchanges = flat_map (λ fed. fed.piece) exchanges
 
--- what they were answered by
-abbrev pub answers : List Fed → List ℕ
-answers feds = flat_map (λ fed. fed.out) feds
+-- what they were answered with
+abbrev pub answers : List Exchange → List ℕ
+answers exchanges = flat_map (λ fed. fed.response.out) exchanges
 
 -- however a text is cut into pieces, their answers are that of the whole, and it ends with the last
 abbrev pub HoweverCut : Type 0
 HoweverCut =
-    (export : Export) (feds : List Fed) (last : Fed) (new : Haggling)
-    → Feeds (opened export) feds last new
-    → Haggles export (pieces feds ++ last.piece) (answers feds ++ last.out)
-    (end_at (length (pieces feds) + last.used) last.next)
+    (export : Export) (exchanges : List Exchange) (last : Exchange) (new : Haggling)
+    → Feeds (initial_state export) exchanges last new
+    → Haggles export (pieces exchanges ++ last.piece) (answers exchanges ++ last.response.out)
+    (end_at (length (pieces exchanges) + last.response.used) last.response.next)
 
--- data of INFO and GO add up where they are a name and a list of types, and ask for that name
+-- the data of INFO and GO add up where they are a name and a list of types, and ask for that name
 abbrev pub InformationAddsUp : Type 0
 InformationAddsUp =
     (name types : List ℕ) (count : ℕ) → IsInformation name count types
     → (adds_up (information_bytes name count types) ≡ true)
     × (asked_name (information_bytes name count types) ≡ name)
 
--- and only there, where each is a byte
+-- and only there
 abbrev pub OnlyInformationAddsUp : Type 0
 OnlyInformationAddsUp =
-    (payload : List ℕ) → ((k : ℕ) → slice_index payload k < 256) → adds_up payload ≡ true
+    (payload : List ℕ) → AreBytes payload → adds_up payload ≡ true
     → (types : List ℕ) × (count : ℕ) × IsInformation (asked_name payload) count types
     × (payload ≡ information_bytes (asked_name payload) count types)

@@ -1,8 +1,9 @@
-pub mod Asked
+pub mod ClientOption
 pub mod Answer
 pub mod Handshake
 pub mod Haggling
 pub mod Laws
-pub mod Front
+pub mod Output
+pub mod FirstOption
 pub mod Progress
 pub mod Refused

@@ -4,40 +4,39 @@ use Rattle.std.specs.List.{flat_map, AllByRecursion}
 use Rattle.nm_wire.specs.declared.export.Export.{Export}
 use Rattle.nm_haggle.specs.declared.phase.Phase.{Phase}
 use Rattle.nm_haggle.specs.declared.progress.Progress.{Progress}
-use Rattle.nm_haggle.specs.Asked.{Asked, option_bytes}
-use Rattle.nm_haggle.specs.Handshake.{IsPassed, Outcome, replies}
-use Rattle.nm_haggle.specs.Haggling.{Leads, IsUsed, kept}
+use Rattle.nm_haggle.specs.ClientOption.{ClientOption, option_bytes}
+use Rattle.nm_haggle.specs.Handshake.{IsPassed, Destination, replies}
+use Rattle.nm_haggle.specs.Haggling.{Haggling, Leads, IsUsed, waiting_bytes}
 
--- a text was answered, behind what went out before, as far as it leads from this phase on
+-- from this phase on a text was answered with these replies, as far as it leads
 pub record Advances
-    (export : Export) (phase : Phase) (text old new : List ℕ) (p : Progress) : Type 0 where
-  pub outcome : Outcome
-  pub leads : Leads export phase text outcome
-  pub out_is : new ≡ old ++ outcome.out
-  pub next_is : p.next ≡ outcome.next
-  pub phase_is : p.phase ≡ outcome.phase
+    (export : Export) (phase : Phase) (text out : List ℕ) (p : Progress) : Type 0 where
+  pub destination : Destination
+  pub leads : Leads export phase text destination
+  pub out_is : out ≡ destination.out
+  pub next_is : p.next ≡ destination.next
+  pub phase_is : p.phase ≡ destination.phase
   pub within : p.used ≤ length text
-  pub behind_is : drop p.used text ≡ outcome.behind
+  pub rest_is : drop p.used text ≡ destination.rest
 
--- so many bytes of a text are options that were answered, the haggling going on
+-- so many bytes of a text are options that got these replies, and the haggling goes on
 pub record Passes
-    (export : Export) (no_zeroes : Bool) (text : List ℕ) (used : ℕ) (old new : List ℕ)
+    (export : Export) (no_zeroes : Bool) (text : List ℕ) (used : ℕ) (out : List ℕ)
     : Type 0 where
-  pub answered : List Asked
+  pub answered : List ClientOption
   pub each : AllByRecursion (IsPassed export no_zeroes) answered
   pub within : used ≤ length text
   pub bytes : text ≡ flat_map option_bytes answered ++ drop used text
-  pub out_is : new ≡ old ++ replies export no_zeroes answered
+  pub out_is : out ≡ replies export no_zeroes answered
 
--- a text was answered from this phase on, behind the bytes held of its first element; so much of it
--- is used, and that is held now
+-- in the old state a piece was answered with these replies, so much of it is used, and these bytes
+-- are held now
 pub record Reads
-    (export : Export) (phase : Phase) (held text old new : List ℕ) (p : Progress) (now : List ℕ)
-    : Type 0 where
-  pub outcome : Outcome
-  pub leads : Leads export phase (held ++ text) outcome
-  pub out_is : new ≡ old ++ outcome.out
-  pub next_is : p.next ≡ outcome.next
-  pub phase_is : p.phase ≡ outcome.phase
-  pub used_is : IsUsed outcome.next text outcome.behind p.used
-  pub now_is : now ≡ kept outcome.next outcome.behind
+    (old : Haggling) (piece out : List ℕ) (p : Progress) (held : List ℕ) : Type 0 where
+  pub destination : Destination
+  pub leads : Leads old.export old.phase (old.rest ++ piece) destination
+  pub out_is : out ≡ destination.out
+  pub next_is : p.next ≡ destination.next
+  pub phase_is : p.phase ≡ destination.phase
+  pub used_is : IsUsed destination.next piece destination.rest p.used
+  pub held_is : held ≡ waiting_bytes destination.next destination.rest

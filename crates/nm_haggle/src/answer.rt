@@ -1,6 +1,7 @@
 //! What each option is answered with.
-ghost use Rattle.std.specs.Prelude.{◌≡◌, ◌≢◌, true, false, IfOk, MatchOption};
+ghost use Rattle.std.specs.Prelude.{◌≡◌, ◌≢◌, true, false, IfOk, OnErr, MatchOption};
 ghost use Rattle.nm_haggle.specs.Answer.{IsAnswered, answer_to, answer_to_export_name, answer_to_list, answer_to_information, refusal, is_known, adds_up, asked_name};
+ghost use Rattle.nm_haggle.specs.Output.{BeginsWith};
 
 use crate::next::Next;
 use crate::replies::{put_empty, put_information, put_name, put_size_and_flags};
@@ -36,7 +37,8 @@ fn asked_name(payload: &[u8]) -> Option<&[u8]>
 
 /// Answers an option without data, and goes on.
 fn refuse(out: &mut Vec<u8>, option: u32, kind: ReplyKind) -> Result<Next, AllocError>
-    ensures { IfOk result (IsAnswered (refusal option kind) out.old.items out.new.items) }
+    ensures ok { IfOk result (IsAnswered (refusal option kind) out.old.items out.new.items) }
+    ensures err { OnErr result (BeginsWith out.new.items out.old.items) }
 {
     put_empty(out, option, kind)?;
     Ok(Next::More)
@@ -49,8 +51,9 @@ fn answer_export_name(
     no_zeroes: bool,
     name: &[u8],
 ) -> Result<Next, AllocError>
-    ensures { IfOk result (IsAnswered (answer_to_export_name export.now no_zeroes name.now)
+    ensures ok { IfOk result (IsAnswered (answer_to_export_name export.now no_zeroes name.now)
         out.old.items out.new.items) }
+    ensures err { OnErr result (BeginsWith out.new.items out.old.items) }
 {
     if !is_known(export, name) {
         return Ok(Next::Close { aborted: false });
@@ -64,8 +67,9 @@ fn answer_export_name(
 
 /// Answers LIST.
 fn answer_list(out: &mut Vec<u8>, export: &Export, payload: &[u8]) -> Result<Next, AllocError>
-    ensures { IfOk result (IsAnswered (answer_to_list export.now payload.now)
+    ensures ok { IfOk result (IsAnswered (answer_to_list export.now payload.now)
         out.old.items out.new.items) }
+    ensures err { OnErr result (BeginsWith out.new.items out.old.items) }
 {
     let option = OptionKind::List.number();
     if !payload.is_empty() {
@@ -76,7 +80,7 @@ fn answer_list(out: &mut Vec<u8>, export: &Export, payload: &[u8]) -> Result<Nex
     Ok(Next::More)
 }
 
-/// Answers INFO or GO, behind which that comes next.
+/// Answers INFO or GO; where it names the export, this comes next.
 fn answer_information(
     out: &mut Vec<u8>,
     option: u32,
@@ -84,8 +88,9 @@ fn answer_information(
     export: &Export,
     payload: &[u8],
 ) -> Result<Next, AllocError>
-    ensures { IfOk result (IsAnswered (answer_to_information option next export.now payload.now)
+    ensures ok { IfOk result (IsAnswered (answer_to_information option next export.now payload.now)
         out.old.items out.new.items) }
+    ensures err { OnErr result (BeginsWith out.new.items out.old.items) }
 {
     match asked_name(payload) {
         None => refuse(out, option, ReplyKind::Invalid),
@@ -97,7 +102,7 @@ fn answer_information(
     }
 }
 
-/// Answers an option, and tells what comes after it.
+/// Answers an option, and says what comes after it.
 pub(crate) fn answer(
     out: &mut Vec<u8>,
     export: &Export,
@@ -105,9 +110,10 @@ pub(crate) fn answer(
     number: u32,
     payload: &[u8],
 ) -> Result<Next, AllocError>
-    ensures { IfOk result (IsAnswered
+    ensures ok { IfOk result (IsAnswered
         (answer_to export.now no_zeroes (record { number = number; payload = payload.now }))
         out.old.items out.new.items) }
+    ensures err { OnErr result (BeginsWith out.new.items out.old.items) }
 {
     match OptionKind::from_number(number) {
         Some(OptionKind::ExportName) => answer_export_name(out, export, no_zeroes, payload),

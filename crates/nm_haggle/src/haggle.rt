@@ -1,9 +1,11 @@
-ghost use Rattle.std.specs.Prelude.{◌≡◌, ◌↔◌, length, IfOk, OnErr, IsErrOf};
-ghost use Rattle.nm_haggle.specs.Haggling.{opened, greeting_bytes, HagglesFrom, IsOver};
+ghost use Rattle.std.specs.Prelude.{◌≡◌, ◌↔◌, ◌≤◌, length, IfOk, OnErr, IsErrOf};
+ghost use Rattle.nm_haggle.specs.Haggling.{initial_state, greeting_bytes, HagglesFrom, IsOver};
+ghost use Rattle.nm_haggle.specs.Output.{Appends};
 
 use crate::phase::Phase;
 use crate::piece::take_in;
 use crate::refused::Refused;
+use crate::step::Step;
 use crate::turn::Turn;
 use nm_wire::number::{put_u16, put_u64};
 use nm_wire::{Export, ServerFlags};
@@ -16,8 +18,8 @@ const GREETING_MAGIC: u64 = 0x4e42_444d_4147_4943;
 // "IHAVEOPT"
 const OPTION_MAGIC: u64 = 0x4948_4156_454f_5054;
 
-/// The server's side of the fixed newstyle handshake behind its greeting: takes the client's flags
-/// and options in pieces as they come, and tells what goes out for each piece.
+/// The server's side of the fixed newstyle handshake after its greeting: takes the client's flags
+/// and options in pieces as they come, and answers each piece.
 #[derive(Debug, Drop)]
 pub struct Haggle {
     export: Export,
@@ -40,7 +42,7 @@ impl Model for Haggle {
 impl Haggle {
     /// The haggling over an export, before the client's first byte; takes no memory.
     pub fn new(export: Export) -> Haggle
-        ensures { result ≡ opened export }
+        ensures { result ≡ initial_state export }
     {
         Haggle {
             export,
@@ -68,13 +70,45 @@ impl Haggle {
         bytes
     }
 
-    /// Takes the next piece of what the client sends, and answers each option that is whole now.
+    /// Takes the next piece of what the client sends, and answers each option that is complete now.
     pub fn feed(&mut self, alloc: Global, bytes: &[u8]) -> Result<Turn, Refused>
         // However the client's text is cut, the pieces' answers are those of the whole.
-        ensures ok { IfOk result (λ turn. HagglesFrom self.old bytes.now turn.out.items turn.used
-            turn.next self.new) }
+        ensures ok { IfOk result (λ turn. HagglesFrom self.old bytes.now (record {
+          out = turn.out.items;
+          used = turn.used;
+          next = turn.next;
+        }) self.new) }
+        ensures used { IfOk result (λ turn. turn.used ≤ length bytes.now) }
         ensures closed { IsErrOf result Refused.Closed ↔ IsOver self.old }
         ensures err { OnErr result (self.new ≡ self.old) }
+    {
+        let mut out = Vec::new(alloc);
+        let step = self.feed_into(alloc, &mut out, bytes)?;
+        Ok(Turn {
+            used: step.used,
+            out,
+            next: step.next,
+        })
+    }
+
+    /// Takes the next piece of what the client sends, and appends the reply to each option that is
+    /// complete now to `out`. Refused, it changes nothing, of `out` either.
+    pub fn feed_into(
+        &mut self,
+        alloc: Global,
+        out: &mut Vec<u8>,
+        bytes: &[u8],
+    ) -> Result<Step, Refused>
+        ensures ok { IfOk result (λ step. Appends out.old.items out.new.items (λ replies.
+            HagglesFrom self.old bytes.now (record {
+              out = replies;
+              used = step.used;
+              next = step.next;
+            }) self.new)) }
+        ensures used { IfOk result (λ step. step.used ≤ length bytes.now) }
+        ensures closed { IsErrOf result Refused.Closed ↔ IsOver self.old }
+        ensures err { OnErr result (self.new ≡ self.old) }
+        ensures out_stays { OnErr result (out.new.items ≡ out.old.items) }
     {
         if let Phase::Over = self.phase {
             return Err(Refused::Closed);
@@ -83,22 +117,21 @@ impl Haggle {
             Some(held) => held,
             None => Vec::new(alloc),
         };
-        let mut replies = Vec::new(alloc);
-        let answer = take_in(
-            alloc,
-            &mut held,
-            &mut replies,
-            &self.export,
-            self.phase,
-            bytes,
-        );
+        let before = out.len();
+        let answer = take_in(alloc, &mut held, out, &self.export, self.phase, bytes);
         self.held = Some(held);
-        let progress = answer?;
-        self.phase = progress.phase;
-        Ok(Turn {
-            used: progress.used,
-            out: replies,
-            next: progress.next,
-        })
+        match answer {
+            Ok(progress) => {
+                self.phase = progress.phase;
+                Ok(Step {
+                    used: progress.used,
+                    next: progress.next,
+                })
+            }
+            Err(refused) => {
+                out.truncate(before);
+                Err(Refused::from(refused))
+            }
+        }
     }
 }

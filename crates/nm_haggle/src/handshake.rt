@@ -1,5 +1,6 @@
 //! Answers a text of the handshake, from either of its phases on.
-ghost use Rattle.std.specs.Prelude.{◌≡◌, ◌≢◌, IfOk};
+ghost use Rattle.std.specs.Prelude.{◌≡◌, ◌≢◌, IfOk, OnErr};
+ghost use Rattle.nm_haggle.specs.Output.{Appends, BeginsWith};
 ghost use Rattle.nm_haggle.specs.Progress.{Advances};
 
 use crate::next::Next;
@@ -15,7 +16,9 @@ const FLAGS: usize = 4;
 
 /// Answers a text that begins with the client's flags.
 fn answer_flags(out: &mut Vec<u8>, export: &Export, text: &[u8]) -> Result<Progress, AllocError>
-    ensures { IfOk result (Advances export.now Phase.Flags text.now out.old.items out.new.items) }
+    ensures ok { IfOk result (λ p. Appends out.old.items out.new.items
+        (λ replies. Advances export.now Phase.Flags text.now replies p)) }
+    ensures err { OnErr result (BeginsWith out.new.items out.old.items) }
 {
     if text.len() < FLAGS {
         return Ok(Progress {
@@ -50,7 +53,9 @@ pub(crate) fn answer_text(
     text: &[u8],
 ) -> Result<Progress, AllocError>
     requires { phase ≢ Phase.Over }
-    ensures { IfOk result (Advances export.now phase text.now out.old.items out.new.items) }
+    ensures ok { IfOk result (λ p. Appends out.old.items out.new.items
+        (λ replies. Advances export.now phase text.now replies p)) }
+    ensures err { OnErr result (BeginsWith out.new.items out.old.items) }
 {
     match phase {
         Phase::Flags => answer_flags(out, export, text),

@@ -1,26 +1,32 @@
 //! What the definitions of the haggling say, as contracts of functions without a body.
-ghost use Rattle.nm_haggle.specs.Laws.{NoOptionBeginsAnother, LeadsOneWay, HagglesOneWay, GoesOn, GoesOnOnlySo, EndsThere, HoweverCut, OverBehindAnEnd, InformationAddsUp, OnlyInformationAddsUp};
+ghost use Rattle.nm_haggle.specs.Laws.{NoOptionBeginsAnother, OneResponse, OneAnswer, SomeResponse, SomeAnswer, GoesOn, GoesOnOnlySo, EndsThere, HoweverCut, OverAfterAnEnd, InformationAddsUp, OnlyInformationAddsUp};
 
-/// No option's bytes begin another's: bytes begin with at most one option, and go on one way.
+/// Bytes begin with at most one option, and the bytes after it are the same.
 pub fn no_option_begins_another()
     ensures { NoOptionBeginsAnother }
 {}
 
-/// A text has one answer and one end, from the start and from each state on.
+/// A text has at most one answer and one end, from the start and in each state.
 pub fn one_answer()
-    ensures from_each_state { LeadsOneWay }
-    ensures of_a_whole_text { HagglesOneWay }
+    ensures in_each_state { OneResponse }
+    ensures of_a_whole_text { OneAnswer }
 {}
 
-/// Where a text asks for more, what follows it is answered from the state that is left.
+/// A text of bytes has an answer and an end, from the start and in each state that is not over.
+pub fn some_answer()
+    ensures in_each_state { SomeResponse }
+    ensures of_a_whole_text { SomeAnswer }
+{}
+
+/// Where a text asks for more, what follows it is answered from the state that it led to.
 pub fn goes_on()
     ensures so { GoesOn }
     ensures only_so { GoesOnOnlySo }
 {}
 
-/// The haggling is over behind a text exactly where the text does not ask for more.
-pub fn over_behind_an_end()
-    ensures { OverBehindAnEnd }
+/// The haggling is over after a text exactly where the text does not ask for more.
+pub fn over_after_an_end()
+    ensures { OverAfterAnEnd }
 {}
 
 /// Where a text begins transmission or closes the session, what follows it changes nothing.
@@ -34,8 +40,8 @@ pub fn however_cut()
     ensures { HoweverCut }
 {}
 
-/// The lengths in the data of INFO and GO add up exactly where the data are a name behind its
-/// length and information types behind their count.
+/// The lengths in the data of INFO and GO add up exactly where the data are a name after its length
+/// and information types after their count.
 pub fn lengths_add_up()
     ensures so { InformationAddsUp }
     ensures only_so { OnlyInformationAddsUp }

@@ -4,10 +4,11 @@
 pub use haggle::Haggle;
 pub use next::Next;
 pub use refused::Refused;
+pub use step::Step;
 pub use turn::Turn;
 
 mod answer;
-mod front;
+mod first_option;
 mod haggle;
 mod handshake;
 pub mod laws;
@@ -18,6 +19,5 @@ mod piece;
 mod progress;
 mod refused;
 mod replies;
-#[cfg(test)]
-mod tests;
+mod step;
 mod turn;

@@ -1,4 +1,4 @@
-/// What comes after the bytes of a turn.
+/// What comes after a piece.
 #[derive(Clone, Copy, Debug, PartialEq, Eq)]
 pub enum Next {
     /// The haggling goes on.

@@ -5,7 +5,7 @@ pub(crate) enum Phase {
     Flags,
     /// Options.
     Options {
-        /// No zeroes go out behind the reply to EXPORT_NAME.
+        /// No zeroes follow the reply to EXPORT_NAME.
         no_zeroes: bool,
     },
     /// Nothing: transmission began, or the session closed.

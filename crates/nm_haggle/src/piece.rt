@@ -1,9 +1,10 @@
-//! Answers a piece of the client's text behind the bytes that are held of its first element.
+//! Answers a piece of the client's text after the bytes that are held of its first element.
 ghost use Rattle.std.specs.Prelude.{◌≡◌, ◌≢◌, ◌≤◌, ◌-◌, [], ◌++◌, length, take, IfOk, OnOk, OnErr};
-ghost use Rattle.nm_haggle.specs.Haggling.{IsAwaited};
+ghost use Rattle.nm_haggle.specs.Haggling.{state, IsAwaited};
+ghost use Rattle.nm_haggle.specs.Output.{Appends, BeginsWith};
 ghost use Rattle.nm_haggle.specs.Progress.{Advances, Reads};
 
-use crate::front::MOST_HELD;
+use crate::first_option::MOST_HELD;
 use crate::handshake::answer_text;
 use crate::next::Next;
 use crate::phase::Phase;
@@ -21,9 +22,10 @@ fn read_piece(
     piece: &[u8],
 ) -> Result<Progress, AllocError>
     requires { phase ≢ Phase.Over }
-    ensures ok { IfOk result (λ p. Reads export.now phase [] piece.now out.old.items out.new.items
-        p held.new.items) }
-    ensures err { OnErr result (held.new.items ≡ held.old.items) }
+    ensures ok { IfOk result (λ p. Appends out.old.items out.new.items
+        (λ replies. Reads (state export.now phase []) piece.now replies p held.new.items)) }
+    ensures err { OnErr result (BeginsWith out.new.items out.old.items) }
+    ensures held_stays { OnErr result (held.new.items ≡ held.old.items) }
 {
     let read = answer_text(out, export, phase, piece)?;
     match read.next {
@@ -42,7 +44,7 @@ fn read_piece(
     }
 }
 
-/// Joins as much of a piece to what is held as one option may need, and answers that.
+/// Appends as much of a piece to what is held as one option may need, and answers that.
 fn join(
     held: &mut Vec<u8>,
     out: &mut Vec<u8>,
@@ -54,9 +56,10 @@ fn join(
     requires room { length held.old.items ≤ MOST_HELD }
     ensures joined { OnOk result (held.new.items
         ≡ held.old.items ++ take (MOST_HELD - length held.old.items) piece.now) }
-    ensures ok { IfOk result (Advances export.now phase held.new.items
-        out.old.items out.new.items) }
-    ensures err { OnErr result (held.new.items ≡ held.old.items) }
+    ensures ok { IfOk result (λ p. Appends out.old.items out.new.items
+        (λ replies. Advances export.now phase held.new.items replies p)) }
+    ensures err { OnErr result (BeginsWith out.new.items out.old.items) }
+    ensures held_stays { OnErr result (held.new.items ≡ held.old.items) }
 {
     let known = held.len();
     let part = piece.len().min(MOST_HELD - known);
@@ -70,7 +73,7 @@ fn join(
     }
 }
 
-/// Answers a piece behind what is held, and holds what waits for more.
+/// Answers a piece after what is held, and holds what waits for more.
 pub(crate) fn take_in(
     alloc: Global,
     held: &mut Vec<u8>,
@@ -81,9 +84,11 @@ pub(crate) fn take_in(
 ) -> Result<Progress, AllocError>
     requires open { phase ≢ Phase.Over }
     requires awaited { IsAwaited phase held.old.items }
-    ensures ok { IfOk result (λ p. Reads export.now phase held.old.items piece.now
-        out.old.items out.new.items p held.new.items) }
-    ensures err { OnErr result (held.new.items ≡ held.old.items) }
+    ensures ok { IfOk result (λ p. Appends out.old.items out.new.items
+        (λ replies. Reads (state export.now phase held.old.items) piece.now replies p
+        held.new.items)) }
+    ensures err { OnErr result (BeginsWith out.new.items out.old.items) }
+    ensures held_stays { OnErr result (held.new.items ≡ held.old.items) }
 {
     if held.is_empty() {
         return read_piece(alloc, held, out, export, phase, piece);

@@ -1,18 +1,27 @@
 ghost use Rattle.nm_haggle.specs.declared.refused.Refused.TheVariants.{Memory};
 ghost use Rattle.std.specs.Prelude.{◌≡◌, Some};
-ghost use Rattle.nm_haggle.specs.Refused.{refused_text};
+ghost use Rattle.nm_haggle.specs.Refused.{number_of, refused_text};
 
 use std::alloc::AllocError;
 use std::error::Error;
 use std::fmt;
 
-/// Why a piece was not taken. The first cause in this order that stands is answered.
+/// Why a piece was not taken. Nothing changed.
 #[derive(Clone, Copy, Debug, PartialEq, Eq, Hash)]
 pub enum Refused {
-    /// 1: a growth of memory was refused; nothing changed, and the piece may be fed again.
+    /// Out of memory; the piece may be fed again.
     Memory = 1,
-    /// 2: the haggling is over: transmission began or the session closed.
+    /// The haggling is over: transmission began or the session closed.
     Closed = 2,
+}
+
+impl Refused {
+    /// The refusal's number: 1 for `Memory`, 2 for `Closed`.
+    pub fn number(&self) -> u8
+        ensures { result ≡ number_of self.now }
+    {
+        *self as u8
+    }
 }
 
 impl fmt::Display for Refused {
@@ -20,7 +29,7 @@ impl fmt::Display for Refused {
 
     fn fmt<W: fmt::Write>(&self, f: &mut fmt::Formatter<W>) -> fmt::Result {
         f.write_str(match self {
-            Refused::Memory => "no memory",
+            Refused::Memory => "out of memory",
             Refused::Closed => "the option haggling is over",
         })
     }

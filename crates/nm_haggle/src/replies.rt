@@ -1,9 +1,11 @@
-//! The bytes of the replies to options, each put behind what goes out already.
-ghost use Rattle.std.specs.Prelude.{◌≡◌, ◌<◌, ◌≤◌, ◌^◌, ◌++◌, [], length, OnOk};
+//! The bytes of the replies to options, each appended to the output. At an error part of a reply may
+//! stand there.
+ghost use Rattle.std.specs.Prelude.{◌≡◌, ◌<◌, ◌≤◌, ◌^◌, ◌++◌, [], length, OnOk, OnErr};
 ghost use Rattle.nm_haggle.specs.Answer.{reply, size_and_flags, export_information, block_sizes, information_replies};
 ghost use Rattle.nm_wire.specs.Number.{be};
 ghost use Rattle.nm_wire.specs.Layout.{option_reply_bytes};
 ghost use Rattle.nm_wire.specs.ReplyKind.{reply_number};
+ghost use Rattle.nm_haggle.specs.Output.{BeginsWith};
 
 use nm_wire::{Export, OptionReply, ReplyKind};
 use std::alloc::AllocError;
@@ -11,7 +13,8 @@ use std::alloc::AllocError;
 /// A number in 2 bytes.
 #[tactic(auto, unfolding(nm_wire::specs::Number::be))]
 fn put_u16(out: &mut Vec<u8>, number: u16) -> Result<(), AllocError>
-    ensures { OnOk result (out.new.items ≡ out.old.items ++ be 2 number) }
+    ensures ok { OnOk result (out.new.items ≡ out.old.items ++ be 2 number) }
+    ensures err { OnErr result (BeginsWith out.new.items out.old.items) }
 {
     out.extend_from_slice(&number.to_be_bytes())
 }
@@ -19,7 +22,8 @@ fn put_u16(out: &mut Vec<u8>, number: u16) -> Result<(), AllocError>
 /// A number in 4 bytes.
 #[tactic(auto, unfolding(nm_wire::specs::Number::be))]
 fn put_u32(out: &mut Vec<u8>, number: u32) -> Result<(), AllocError>
-    ensures { OnOk result (out.new.items ≡ out.old.items ++ be 4 number) }
+    ensures ok { OnOk result (out.new.items ≡ out.old.items ++ be 4 number) }
+    ensures err { OnErr result (BeginsWith out.new.items out.old.items) }
 {
     out.extend_from_slice(&number.to_be_bytes())
 }
@@ -27,15 +31,17 @@ fn put_u32(out: &mut Vec<u8>, number: u32) -> Result<(), AllocError>
 /// A number in 8 bytes.
 #[tactic(auto, unfolding(nm_wire::specs::Number::be))]
 fn put_u64(out: &mut Vec<u8>, number: u64) -> Result<(), AllocError>
-    ensures { OnOk result (out.new.items ≡ out.old.items ++ be 8 number) }
+    ensures ok { OnOk result (out.new.items ≡ out.old.items ++ be 8 number) }
+    ensures err { OnErr result (BeginsWith out.new.items out.old.items) }
 {
     out.extend_from_slice(&number.to_be_bytes())
 }
 
-/// The head of a reply with so many bytes of data.
+/// The header of a reply with so many bytes of data.
 fn put_head(out: &mut Vec<u8>, option: u32, kind: ReplyKind, length: u32) -> Result<(), AllocError>
-    ensures { OnOk result (out.new.items ≡ out.old.items ++ option_reply_bytes
+    ensures ok { OnOk result (out.new.items ≡ out.old.items ++ option_reply_bytes
         (record { option = option; kind = reply_number kind; length = length })) }
+    ensures err { OnErr result (BeginsWith out.new.items out.old.items) }
 {
     let head = OptionReply {
         option,
@@ -49,24 +55,27 @@ fn put_head(out: &mut Vec<u8>, option: u32, kind: ReplyKind, length: u32) -> Res
 
 /// A reply without data.
 pub(crate) fn put_empty(out: &mut Vec<u8>, option: u32, kind: ReplyKind) -> Result<(), AllocError>
-    ensures { OnOk result (out.new.items ≡ out.old.items ++ reply option kind []) }
+    ensures ok { OnOk result (out.new.items ≡ out.old.items ++ reply option kind []) }
+    ensures err { OnErr result (BeginsWith out.new.items out.old.items) }
 {
     put_head(out, option, kind, 0)
 }
 
 /// The size and the flags of the export.
 pub(crate) fn put_size_and_flags(out: &mut Vec<u8>, export: &Export) -> Result<(), AllocError>
-    ensures { OnOk result (out.new.items ≡ out.old.items ++ size_and_flags export.now) }
+    ensures ok { OnOk result (out.new.items ≡ out.old.items ++ size_and_flags export.now) }
+    ensures err { OnErr result (BeginsWith out.new.items out.old.items) }
 {
     put_u64(out, export.size())?;
     put_u16(out, export.flags().0)?;
     Ok(())
 }
 
-/// A reply that tells the export's name.
+/// A reply with the export's name.
 pub(crate) fn put_name(out: &mut Vec<u8>, option: u32, export: &Export) -> Result<(), AllocError>
-    ensures { OnOk result (out.new.items ≡ out.old.items
+    ensures ok { OnOk result (out.new.items ≡ out.old.items
         ++ reply option ReplyKind.Server (be 4 (length export.now.name) ++ export.now.name)) }
+    ensures err { OnErr result (BeginsWith out.new.items out.old.items) }
 {
     let name = export.name.as_bytes();
     let length = name.len() as u32;
@@ -76,10 +85,11 @@ pub(crate) fn put_name(out: &mut Vec<u8>, option: u32, export: &Export) -> Resul
     Ok(())
 }
 
-/// A reply that tells the export's size and flags.
+/// A reply with the export's size and flags.
 fn put_export_information(out: &mut Vec<u8>, option: u32, export: &Export) -> Result<(), AllocError>
-    ensures { OnOk result (out.new.items ≡ out.old.items
+    ensures ok { OnOk result (out.new.items ≡ out.old.items
         ++ reply option ReplyKind.Info (export_information export.now)) }
+    ensures err { OnErr result (BeginsWith out.new.items out.old.items) }
 {
     put_head(out, option, ReplyKind::Info, 12)?;
     put_u16(out, 0)?;
@@ -87,10 +97,11 @@ fn put_export_information(out: &mut Vec<u8>, option: u32, export: &Export) -> Re
     Ok(())
 }
 
-/// A reply that tells the smallest, the preferred and the largest block of a request.
+/// A reply with the smallest, the preferred and the largest block of a request.
 fn put_block_sizes(out: &mut Vec<u8>, option: u32) -> Result<(), AllocError>
-    ensures { OnOk result (out.new.items ≡ out.old.items
+    ensures ok { OnOk result (out.new.items ≡ out.old.items
         ++ reply option ReplyKind.Info block_sizes) }
+    ensures err { OnErr result (BeginsWith out.new.items out.old.items) }
 {
     put_head(out, option, ReplyKind::Info, 14)?;
     put_u16(out, 3)?;
@@ -100,13 +111,14 @@ fn put_block_sizes(out: &mut Vec<u8>, option: u32) -> Result<(), AllocError>
     Ok(())
 }
 
-/// All replies that tell of the export.
+/// All replies that describe the export.
 pub(crate) fn put_information(
     out: &mut Vec<u8>,
     option: u32,
     export: &Export,
 ) -> Result<(), AllocError>
-    ensures { OnOk result (out.new.items ≡ out.old.items ++ information_replies option export.now) }
+    ensures ok { OnOk result (out.new.items ≡ out.old.items ++ information_replies option export.now) }
+    ensures err { OnErr result (BeginsWith out.new.items out.old.items) }
 {
     put_export_information(out, option, export)?;
     put_block_sizes(out, option)?;

@@ -1,6 +1,6 @@
 use crate::next::Next;
 
-/// What a piece was answered by.
+/// What a piece was answered with.
 #[derive(Debug, Drop)]
 pub struct Turn {
     /// How many bytes of the piece were used. The others are not the haggling's.

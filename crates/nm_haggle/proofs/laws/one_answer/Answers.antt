@@ -1,8 +1,8 @@
-use Rattle.nm_haggle.proofs.States.{leads_one_way, haggles_one_way}
+use Rattle.nm_haggle.proofs.States.{one_response, one_answer}
 use Rattle.nm_haggle.proofs.laws.one_answer.Goals as goal
 
-pub returns-clause-from_each_state : goal.returns-clause-from_each_state
-returns-clause-from_each_state c = leads_one_way
+pub returns-clause-in_each_state : goal.returns-clause-in_each_state
+returns-clause-in_each_state c = one_response
 
 pub returns-clause-of_a_whole_text : goal.returns-clause-of_a_whole_text
-returns-clause-of_a_whole_text c = haggles_one_way
+returns-clause-of_a_whole_text c = one_answer

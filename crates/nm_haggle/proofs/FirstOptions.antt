@@ -3,8 +3,8 @@ use Rattle.std.proofs.Common.{◌≡◌, ℕ, ◌-◌, ◌<◌, ◌≤◌, inr, 
 use Rattle.std.proofs.lemmas.List.{append_assoc, take-append-drop, take_at, length-take, length-drop, drop-drop}
 use Rattle.nm_wire.specs.Layout.{FitsOptionHead, option_head_bytes}
 use Rattle.nm_wire.specs.declared.option_head.OptionHead.{OptionHead}
-use Rattle.nm_haggle.specs.Asked.{option_bytes, head_of, most_data}
-use Rattle.nm_haggle.specs.Front.{option_at, BeginsRefused, BeginsTaken}
+use Rattle.nm_haggle.specs.ClientOption.{option_bytes, head_of, most_data}
+use Rattle.nm_haggle.specs.FirstOption.{option_at, BeginsRefused, BeginsAccepted}
 use Rattle.nm_haggle.proofs.Heads.{length-head, same_head}
 
 -- a head with too many data breaks the haggling off
@@ -23,14 +23,14 @@ too_long text head e f l =
 
 -- a head and all of its data are an option
 pub all_there : (text : List ℕ) (head : OptionHead) → text ≡ option_head_bytes head ++ drop 16 text → FitsOptionHead head
-    → head.length ≤ most_data → head.length ≤ length text - 16 → BeginsTaken text head
+    → head.length ≤ most_data → head.length ≤ length text - 16 → BeginsAccepted text head
 all_there text head e f l k =
     let front_long : 16 ≤ length text = omega (arith, ap length e, length-append (option_head_bytes head) (drop 16 text), length-head head) in
     let told : length (take head.length (drop 16 text)) ≡ head.length =
     omega (arith, length-take head.length (drop 16 text), length-drop 16 text, k) in
     let same : head_of (option_at head text) ≡ head = same_head refl told in
     record {
-      taken = record { number = f.option; payload = omega (arith, told, l) };
+      accepted = record { number = f.option; payload = omega (arith, told, l) };
       within = omega (arith, front_long, k);
       bytes = e ∙ ap (λ xs. option_head_bytes head ++ xs) (sym (take-append-drop head.length (drop 16 text)))
           ∙ sym (append_assoc (option_head_bytes head) (take head.length (drop 16 text)) (drop head.length (drop 16 text)))

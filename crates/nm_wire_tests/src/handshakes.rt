@@ -1,7 +1,7 @@
 //! Handshakes byte for byte, in every cutting, and what comes at the edges of each length.
 ghost use Rattle.std.specs.Prelude.{◌≤◌, length, IfOk};
 
-use super::*;
+use nm_haggle::{Haggle, Next, Refused, Turn};
 use nm_wire::{Export, Name};
 use std::alloc::{AllocError, Global};
 use std::process::Abort;
@@ -29,8 +29,8 @@ const GO_TOO_SHORT: [u8; 26] = [
     0x69, 0x73, 0x6b, 0, 0,
 ];
 
-// What GO is answered by: size and flags, block sizes, and ACK.
-const TOLD: [u8; 86] = [
+// What GO is answered with: size and flags, block sizes, and ACK.
+const DESCRIBED: [u8; 86] = [
     0x00, 0x03, 0xe8, 0x89, 0x04, 0x55, 0x65, 0xa9, 0, 0, 0, 7, 0, 0, 0, 3, 0, 0, 0, 0x0c, 0, 0, 0,
     0, 0, 0, 0, 0x10, 0, 0, 0x01, 0x6d, 0x00, 0x03, 0xe8, 0x89, 0x04, 0x55, 0x65, 0xa9, 0, 0, 0, 7,
     0, 0, 0, 3, 0, 0, 0, 0x0e, 0, 3, 0, 0, 2, 0, 0, 0, 0x10, 0, 2, 0, 0, 0, 0x00, 0x03, 0xe8, 0x89,
@@ -69,12 +69,12 @@ const ABORT: [u8; 16] = [
     0x49, 0x48, 0x41, 0x56, 0x45, 0x4f, 0x50, 0x54, 0, 0, 0, 2, 0, 0, 0, 0,
 ];
 
-// The head of an option with one byte of data too many.
+// The header of an option with one byte of data too many.
 const TOO_LONG: [u8; 16] = [
     0x49, 0x48, 0x41, 0x56, 0x45, 0x4f, 0x50, 0x54, 0, 0, 0, 2, 0, 1, 0, 1,
 ];
 
-// The head of an option whose magic's last bit is wrong.
+// The header of an option whose magic's last bit is wrong.
 const WRONG_MAGIC: [u8; 16] = [
     0x49, 0x48, 0x41, 0x56, 0x45, 0x4f, 0x50, 0x55, 0, 0, 0, 2, 0, 0, 0, 0,
 ];
@@ -115,7 +115,7 @@ fn export(alloc: Global, name: &[u8]) -> Result<Export, AllocError>
 }
 
 /// These parts in a row.
-fn joined(alloc: Global, parts: &[&[u8]]) -> Result<Vec<u8>, AllocError> {
+fn concat(alloc: Global, parts: &[&[u8]]) -> Result<Vec<u8>, AllocError> {
     let mut whole = Vec::new(alloc);
     for part in parts {
         whole.extend_from_slice(part)?;
@@ -123,7 +123,7 @@ fn joined(alloc: Global, parts: &[&[u8]]) -> Result<Vec<u8>, AllocError> {
     Ok(whole)
 }
 
-/// A client of "disk": what it was answered by, how many of its bytes were used, what came last.
+/// A client of "disk": what it was answered with, how many of its bytes were used, what came last.
 #[derive(Drop)]
 struct Client {
     haggle: Haggle,
@@ -154,17 +154,17 @@ impl Client {
         Ok(())
     }
 
-    /// That is what the client was answered by.
-    fn got(&self, rt: &impl Abort, out: &[u8], used: usize, next: Next, place: usize) {
+    /// The client was answered with this.
+    fn expect(&self, rt: &impl Abort, out: &[u8], used: usize, next: Next, place: usize) {
         assert_eq!(rt; self.out.as_slice(), out, "cut at {place}");
         assert_eq!(rt; self.used, used, "cut at {place}");
         assert_eq!(rt; self.next, next, "cut at {place}");
     }
 }
 
-/// A text is answered by these bytes, so many of it are used and that comes next: whole, cut in two
-/// at every byte, and byte by byte.
-fn meets(
+/// A text is answered with these bytes, so many of it are used and that comes next: whole, cut in
+/// two at every byte, and byte by byte.
+fn expect_cut(
     rt: &impl Abort,
     alloc: Global,
     text: &[u8],
@@ -177,13 +177,13 @@ fn meets(
         let mut client = Client::new(alloc)?;
         client.send(alloc, front)?;
         client.send(alloc, back)?;
-        client.got(rt, out, used, next, at);
+        client.expect(rt, out, used, next, at);
     }
     let mut client = Client::new(alloc)?;
     for byte in text.chunks(1) {
         client.send(alloc, byte)?;
     }
-    client.got(rt, out, used, next, text.len());
+    client.expect(rt, out, used, next, text.len());
     Ok(())
 }
 
@@ -199,71 +199,71 @@ fn greets(rt: HostRuntime) {
 #[test]
 fn answers_go(rt: HostRuntime) -> Result<(), Fail> {
     let alloc = rt.alloc();
-    let plain = joined(alloc, &[&FIXED_NO_ZEROES, &GO])?;
-    meets(&rt, alloc, &plain, &TOLD, 30, Next::Transmit)?;
-    let asking = joined(alloc, &[&FIXED_NO_ZEROES, &GO_ASKING])?;
-    meets(&rt, alloc, &asking, &TOLD, 32, Next::Transmit)?;
-    let followed = joined(alloc, &[&FIXED, &GO, &REQUEST])?;
-    meets(&rt, alloc, &followed, &TOLD, 30, Next::Transmit)
+    let plain = concat(alloc, &[&FIXED_NO_ZEROES, &GO])?;
+    expect_cut(&rt, alloc, &plain, &DESCRIBED, 30, Next::Transmit)?;
+    let asking = concat(alloc, &[&FIXED_NO_ZEROES, &GO_ASKING])?;
+    expect_cut(&rt, alloc, &asking, &DESCRIBED, 32, Next::Transmit)?;
+    let followed = concat(alloc, &[&FIXED, &GO, &REQUEST])?;
+    expect_cut(&rt, alloc, &followed, &DESCRIBED, 30, Next::Transmit)
 }
 
 #[test]
 fn answers_export_name(rt: HostRuntime) -> Result<(), Fail> {
     let alloc = rt.alloc();
-    let filled = joined(alloc, &[&SIZE_AND_FLAGS, &[0; 124]])?;
-    let with_zeroes = joined(alloc, &[&FIXED, &EXPORT_NAME_DISK])?;
-    meets(&rt, alloc, &with_zeroes, &filled, 24, Next::Transmit)?;
-    let without = joined(alloc, &[&FIXED_NO_ZEROES, &EXPORT_NAME_DISK, &REQUEST])?;
-    meets(&rt, alloc, &without, &SIZE_AND_FLAGS, 24, Next::Transmit)?;
-    let unknown = joined(alloc, &[&FIXED, &EXPORT_NAME_DISC])?;
-    meets(&rt, alloc, &unknown, &[], 24, CLOSED)
+    let filled = concat(alloc, &[&SIZE_AND_FLAGS, &[0; 124]])?;
+    let with_zeroes = concat(alloc, &[&FIXED, &EXPORT_NAME_DISK])?;
+    expect_cut(&rt, alloc, &with_zeroes, &filled, 24, Next::Transmit)?;
+    let without = concat(alloc, &[&FIXED_NO_ZEROES, &EXPORT_NAME_DISK, &REQUEST])?;
+    expect_cut(&rt, alloc, &without, &SIZE_AND_FLAGS, 24, Next::Transmit)?;
+    let unknown = concat(alloc, &[&FIXED, &EXPORT_NAME_DISC])?;
+    expect_cut(&rt, alloc, &unknown, &[], 24, CLOSED)
 }
 
 #[test]
-fn goes_on_behind_refused_options(rt: HostRuntime) -> Result<(), Fail> {
+fn goes_on_after_refused_options(rt: HostRuntime) -> Result<(), Fail> {
     let alloc = rt.alloc();
-    let text = joined(
+    let text = concat(
         alloc,
         &[&FIXED_NO_ZEROES, &LIST_WITH_DATA, &STRUCTURED_REPLY, &GO],
     )?;
-    let out = joined(
+    let out = concat(
         alloc,
-        &[&empty_reply(3, INVALID), &empty_reply(8, UNSUP), &TOLD],
+        &[&empty_reply(3, INVALID), &empty_reply(8, UNSUP), &DESCRIBED],
     )?;
-    meets(&rt, alloc, &text, &out, 63, Next::Transmit)?;
-    let short = joined(alloc, &[&FIXED_NO_ZEROES, &GO_TOO_SHORT])?;
-    meets(&rt, alloc, &short, &empty_reply(7, INVALID), 30, Next::More)
+    expect_cut(&rt, alloc, &text, &out, 63, Next::Transmit)?;
+    let short = concat(alloc, &[&FIXED_NO_ZEROES, &GO_TOO_SHORT])?;
+    expect_cut(&rt, alloc, &short, &empty_reply(7, INVALID), 30, Next::More)
 }
 
 #[test]
 fn answers_list_and_abort(rt: HostRuntime) -> Result<(), Fail> {
     let alloc = rt.alloc();
-    let list = joined(alloc, &[&FIXED_NO_ZEROES, &LIST])?;
-    meets(&rt, alloc, &list, &LISTED, 20, Next::More)?;
-    let abort = joined(alloc, &[&FIXED_NO_ZEROES, &ABORT, &REQUEST])?;
+    let list = concat(alloc, &[&FIXED_NO_ZEROES, &LIST])?;
+    expect_cut(&rt, alloc, &list, &LISTED, 20, Next::More)?;
+    let abort = concat(alloc, &[&FIXED_NO_ZEROES, &ABORT, &REQUEST])?;
     let acknowledged = empty_reply(2, ACK);
-    meets(&rt, alloc, &abort, &acknowledged, 20, ABORTED)
+    expect_cut(&rt, alloc, &abort, &acknowledged, 20, ABORTED)
 }
 
 #[test]
-fn breaks_off(rt: HostRuntime) -> Result<(), Fail> {
+fn closes_on_bad_flags_and_headers(rt: HostRuntime) -> Result<(), Fail> {
     let alloc = rt.alloc();
     for bit in 2..32u32 {
         let flags = 1u32.wrapping_shl(bit).to_be_bytes();
-        let text = joined(alloc, &[&flags, &GO])?;
-        meets(&rt, alloc, &text, &[], 4, CLOSED)?;
+        let text = concat(alloc, &[&flags, &GO])?;
+        expect_cut(&rt, alloc, &text, &[], 4, CLOSED)?;
     }
     for head in [&TOO_LONG, &WRONG_MAGIC] {
-        let text = joined(alloc, &[&FIXED, head, &REQUEST])?;
-        meets(&rt, alloc, &text, &[], 20, CLOSED)?;
-        let part = joined(alloc, &[&FIXED, &head[..15]])?;
-        meets(&rt, alloc, &part, &[], 19, Next::More)?;
+        let text = concat(alloc, &[&FIXED, head, &REQUEST])?;
+        expect_cut(&rt, alloc, &text, &[], 20, CLOSED)?;
+        let part = concat(alloc, &[&FIXED, &head[..15]])?;
+        expect_cut(&rt, alloc, &part, &[], 19, Next::More)?;
     }
     Ok(())
 }
 
 #[test]
-fn takes_nothing_behind_the_end(rt: HostRuntime) -> Result<(), Fail> {
+fn takes_nothing_after_the_end(rt: HostRuntime) -> Result<(), Fail> {
     let alloc = rt.alloc();
     for last in [&GO[..], &ABORT, &TOO_LONG] {
         let mut client = Client::new(alloc)?;
@@ -278,11 +278,11 @@ fn takes_nothing_behind_the_end(rt: HostRuntime) -> Result<(), Fail> {
     Ok(())
 }
 
-/// The bytes of an option behind the client's flags.
-fn asking(alloc: Global, number: u8, payload: &[u8]) -> Result<Vec<u8>, AllocError> {
+/// The bytes of an option after the client's flags.
+fn option_text(alloc: Global, number: u8, payload: &[u8]) -> Result<Vec<u8>, AllocError> {
     let length = u32::try_from(payload.len()).unwrap_or(0).to_be_bytes();
     let magic = [0x49, 0x48, 0x41, 0x56, 0x45, 0x4f, 0x50, 0x54];
-    joined(
+    concat(
         alloc,
         &[
             &FIXED_NO_ZEROES,
@@ -294,8 +294,8 @@ fn asking(alloc: Global, number: u8, payload: &[u8]) -> Result<Vec<u8>, AllocErr
     )
 }
 
-/// An option with these data is answered so: whole, and cut at its head's and its data's edges.
-fn answers(
+/// An option with these data is answered so: whole, and cut at its header's and its data's edges.
+fn expect_answer(
     rt: &impl Abort,
     alloc: Global,
     number: u8,
@@ -303,7 +303,7 @@ fn answers(
     out: &[u8],
     next: Next,
 ) -> Result<(), Fail> {
-    let text = asking(alloc, number, payload)?;
+    let text = option_text(alloc, number, payload)?;
     let used = if payload.len() > 65_536 {
         20
     } else {
@@ -314,18 +314,18 @@ fn answers(
         let mut client = Client::new(alloc)?;
         client.send(alloc, front)?;
         client.send(alloc, back)?;
-        client.got(rt, out, used, next, cut);
+        client.expect(rt, out, used, next, cut);
     }
     Ok(())
 }
 
-/// What INFO is answered by.
-fn told_of_info() -> [u8; 86] {
-    let mut told = TOLD;
-    told[11] = 6;
-    told[43] = 6;
-    told[77] = 6;
-    told
+/// What INFO is answered with.
+fn described_by_info() -> [u8; 86] {
+    let mut described = DESCRIBED;
+    described[11] = 6;
+    described[43] = 6;
+    described[77] = 6;
+    described
 }
 
 #[test]
@@ -345,12 +345,12 @@ fn takes_data_of_each_length(rt: HostRuntime) -> Result<(), Fail> {
         (3, 65_536, &empty_reply(3, INVALID), Next::More),
         (6, 0, &empty_reply(6, INVALID), Next::More),
         (6, 1, &empty_reply(6, INVALID), Next::More),
-        (6, 6, &told_of_info(), Next::More),
+        (6, 6, &described_by_info(), Next::More),
         (6, 7, &empty_reply(6, INVALID), Next::More),
         (6, 65_536, &empty_reply(6, INVALID), Next::More),
         (7, 0, &empty_reply(7, INVALID), Next::More),
         (7, 1, &empty_reply(7, INVALID), Next::More),
-        (7, 6, &TOLD, Next::Transmit),
+        (7, 6, &DESCRIBED, Next::Transmit),
         (7, 7, &empty_reply(7, INVALID), Next::More),
         (7, 65_536, &empty_reply(7, INVALID), Next::More),
         (8, 0, &empty_reply(8, UNSUP), Next::More),
@@ -358,10 +358,10 @@ fn takes_data_of_each_length(rt: HostRuntime) -> Result<(), Fail> {
         (8, 65_536, &empty_reply(8, UNSUP), Next::More),
     ] {
         let payload = zeroes.get(..length).ok_or("too long")?;
-        answers(&rt, alloc, number, payload, out, next)?;
+        expect_answer(&rt, alloc, number, payload, out, next)?;
     }
     for number in 1..9 {
-        answers(&rt, alloc, number, &zeroes, &[], CLOSED)?;
+        expect_answer(&rt, alloc, number, &zeroes, &[], CLOSED)?;
     }
     Ok(())
 }
@@ -381,7 +381,7 @@ fn adds_up_the_lengths_of_info_and_go(rt: HostRuntime) -> Result<(), Fail> {
         (4, 2),
         (4, u16::MAX),
     ] {
-        let payload = joined(
+        let payload = concat(
             alloc,
             &[
                 &name_length.to_be_bytes(),
@@ -390,7 +390,7 @@ fn adds_up_the_lengths_of_info_and_go(rt: HostRuntime) -> Result<(), Fail> {
                 &[0, 3],
             ],
         )?;
-        answers(
+        expect_answer(
             &rt,
             alloc,
             6,
@@ -398,7 +398,7 @@ fn adds_up_the_lengths_of_info_and_go(rt: HostRuntime) -> Result<(), Fail> {
             &empty_reply(6, INVALID),
             Next::More,
         )?;
-        answers(
+        expect_answer(
             &rt,
             alloc,
             7,
@@ -407,23 +407,23 @@ fn adds_up_the_lengths_of_info_and_go(rt: HostRuntime) -> Result<(), Fail> {
             Next::More,
         )?;
     }
-    let payload = joined(alloc, &[&[0, 0, 0, 4], b"disk", &[0, 1, 0, 3]])?;
-    answers(&rt, alloc, 6, &payload, &told_of_info(), Next::More)?;
-    answers(&rt, alloc, 7, &payload, &TOLD, Next::Transmit)
+    let payload = concat(alloc, &[&[0, 0, 0, 4], b"disk", &[0, 1, 0, 3]])?;
+    expect_answer(&rt, alloc, 6, &payload, &described_by_info(), Next::More)?;
+    expect_answer(&rt, alloc, 7, &payload, &DESCRIBED, Next::Transmit)
 }
 
 /// The data of GO for this name, asking for nothing.
-fn naming(alloc: Global, name: &[u8]) -> Result<Vec<u8>, AllocError> {
+fn name_data(alloc: Global, name: &[u8]) -> Result<Vec<u8>, AllocError> {
     let length = u32::try_from(name.len()).unwrap_or(0).to_be_bytes();
-    joined(alloc, &[&length, name, &[0, 0]])
+    concat(alloc, &[&length, name, &[0, 0]])
 }
 
 #[test]
 fn knows_names_byte_for_byte(rt: HostRuntime) -> Result<(), Fail> {
     let alloc = rt.alloc();
     for name in [&b""[..], b"disk"] {
-        let payload = naming(alloc, name)?;
-        answers(&rt, alloc, 7, &payload, &TOLD, Next::Transmit)?;
+        let payload = name_data(alloc, name)?;
+        expect_answer(&rt, alloc, 7, &payload, &DESCRIBED, Next::Transmit)?;
     }
     let unknown = empty_reply(7, UNKNOWN);
     for name in [
@@ -433,8 +433,8 @@ fn knows_names_byte_for_byte(rt: HostRuntime) -> Result<(), Fail> {
         b"disk0",
         &[0xff, 0xfe, 0xfd, 0xfc],
     ] {
-        let payload = naming(alloc, name)?;
-        answers(&rt, alloc, 7, &payload, &unknown, Next::More)?;
+        let payload = name_data(alloc, name)?;
+        expect_answer(&rt, alloc, 7, &payload, &unknown, Next::More)?;
     }
     Ok(())
 }
@@ -443,7 +443,7 @@ fn knows_names_byte_for_byte(rt: HostRuntime) -> Result<(), Fail> {
 fn serves_a_name_that_is_no_text(rt: HostRuntime) -> Result<(), Fail> {
     let alloc = rt.alloc();
     let mut haggle = Haggle::new(export(alloc, &[0xff, 0xfe])?);
-    let text = asking(alloc, 1, &[0xff, 0xfe])?;
+    let text = option_text(alloc, 1, &[0xff, 0xfe])?;
     let turn = haggle.feed(alloc, &text)?;
     assert_eq!(rt; turn.out.as_slice(), &SIZE_AND_FLAGS[..]);
     assert_eq!(rt; turn.next, Next::Transmit);
@@ -451,12 +451,12 @@ fn serves_a_name_that_is_no_text(rt: HostRuntime) -> Result<(), Fail> {
 }
 
 #[test]
-fn tells_a_read_only_export(rt: HostRuntime) -> Result<(), Fail> {
+fn describes_a_read_only_export(rt: HostRuntime) -> Result<(), Fail> {
     let alloc = rt.alloc();
     let mut disk = export(alloc, b"disk")?;
     disk.read_only = true;
     let mut haggle = Haggle::new(disk);
-    let text = joined(alloc, &[&FIXED_NO_ZEROES, &EXPORT_NAME_DISK])?;
+    let text = concat(alloc, &[&FIXED_NO_ZEROES, &EXPORT_NAME_DISK])?;
     let turn = haggle.feed(alloc, &text)?;
     assert_eq!(rt;
         turn.out.as_slice(),
@@ -467,27 +467,143 @@ fn tells_a_read_only_export(rt: HostRuntime) -> Result<(), Fail> {
 
 // Copying what is held again at each byte would take some thousand million copies here.
 #[test]
-fn takes_the_longest_option_byte_by_byte(rt: HostRuntime) -> Result<(), Fail> {
+fn takes_the_longest_option_in_pieces(rt: HostRuntime) -> Result<(), Fail> {
     let alloc = rt.alloc();
     let zeroes = vec![in alloc; 0u8; 65_536]?;
-    let text = asking(alloc, 8, &zeroes)?;
-    let mut client = Client::new(alloc)?;
-    for byte in text.chunks(1) {
-        client.send(alloc, byte)?;
+    let text = option_text(alloc, 8, &zeroes)?;
+    for size in [1, 16, 1000, 4096, 65_535, 65_536] {
+        let mut client = Client::new(alloc)?;
+        for piece in text.chunks(size) {
+            client.send(alloc, piece)?;
+        }
+        client.expect(&rt, &empty_reply(8, UNSUP), 65_556, Next::More, size);
     }
-    client.got(&rt, &empty_reply(8, UNSUP), 65_556, Next::More, 0);
     Ok(())
 }
 
-/// Feeds a piece, and once more where memory was refused.
-fn fed_again(haggle: &mut Haggle, alloc: Global, piece: &[u8]) -> Result<Turn, Refused> {
+#[test]
+fn lists_the_longest_name(rt: HostRuntime) -> Result<(), Fail> {
+    let alloc = rt.alloc();
+    let name = [0x6e; 255];
+    let mut haggle = Haggle::new(export(alloc, &name)?);
+    let text = concat(alloc, &[&FIXED_NO_ZEROES, &LIST])?;
+    let turn = haggle.feed(alloc, &text)?;
+    let head = [
+        0x00, 0x03, 0xe8, 0x89, 0x04, 0x55, 0x65, 0xa9, 0, 0, 0, 3, 0, 0, 0, 2, 0, 0, 0x01, 0x03,
+        0, 0, 0, 0xff,
+    ];
+    let expected = concat(alloc, &[&head, &name, &empty_reply(3, ACK)])?;
+    assert_eq!(rt; turn.out.as_slice(), expected.as_slice());
+    assert_eq!(rt; turn.next, Next::More);
+    let go = option_text(alloc, 7, &name_data(alloc, &name)?)?;
+    let turn = haggle.feed(alloc, go.get(4..).ok_or("too short")?)?;
+    assert_eq!(rt; turn.out.as_slice(), &DESCRIBED[..]);
+    assert_eq!(rt; turn.next, Next::Transmit);
+    Ok(())
+}
+
+/// The same option so many times in one piece is answered so, each time.
+fn expect_repeated(
+    rt: &impl Abort,
+    alloc: Global,
+    option: &[u8],
+    count: usize,
+    reply: &[u8],
+) -> Result<(), Fail> {
+    let mut haggle = Haggle::new(export(alloc, b"disk")?);
+    let flags = haggle.feed(alloc, &FIXED_NO_ZEROES)?;
+    assert_eq!(rt; flags.used, 4);
+    let mut piece = Vec::new(alloc);
+    for _ in 0..count {
+        piece.extend_from_slice(option)?;
+    }
+    let turn = haggle.feed(alloc, piece.as_slice())?;
+    assert_eq!(rt; turn.used, piece.len());
+    assert_eq!(rt; turn.next, Next::More);
+    let mut expected = Vec::new(alloc);
+    for _ in 0..count {
+        expected.extend_from_slice(reply)?;
+    }
+    assert!(rt; turn.out.as_slice() == expected.as_slice());
+    Ok(())
+}
+
+#[test]
+fn answers_200_kib_of_options_in_one_piece(rt: HostRuntime) -> Result<(), Fail> {
+    expect_repeated(&rt, rt.alloc(), &LIST, 12_800, &LISTED)
+}
+
+#[test]
+fn answers_2_mib_of_options_in_one_piece(rt: HostRuntime) -> Result<(), Fail> {
+    let alloc = rt.alloc();
+    expect_repeated(&rt, alloc, &LIST, 131_072, &LISTED)?;
+    // Each with its header is 64 KiB.
+    let zeroes = vec![in alloc; 0u8; 65_520]?;
+    let text = option_text(alloc, 8, &zeroes)?;
+    let option = text.get(4..).ok_or("too short")?;
+    expect_repeated(&rt, alloc, option, 32, &empty_reply(8, UNSUP))
+}
+
+#[test]
+fn holds_its_bytes_over_an_empty_piece(rt: HostRuntime) -> Result<(), Fail> {
+    let alloc = rt.alloc();
+    let text = concat(alloc, &[&FIXED_NO_ZEROES, &GO])?;
+    for at in 0..=text.len() {
+        let (front, back) = text.split_at(at);
+        let mut client = Client::new(alloc)?;
+        client.send(alloc, front)?;
+        client.send(alloc, &[])?;
+        client.send(alloc, back)?;
+        client.expect(&rt, &DESCRIBED, 30, Next::Transmit, at);
+    }
+    Ok(())
+}
+
+// Run with each allocation refused in turn: a refused piece leaves the output as it was.
+#[test]
+fn appends_to_what_the_output_holds(rt: HostRuntime) -> Result<(), Fail> {
+    let alloc = rt.alloc();
+    let text = concat(alloc, &[&FIXED_NO_ZEROES, &LIST, &GO, &REQUEST])?;
+    let expected = concat(alloc, &[&Haggle::greeting(), &LISTED, &DESCRIBED])?;
+    for size in [1, 7, 25, 51] {
+        let mut haggle = Haggle::new(export(alloc, b"disk")?);
+        let mut out = concat(alloc, &[&Haggle::greeting()])?;
+        let mut used = 0usize;
+        let mut next = Next::More;
+        for piece in text.chunks(size) {
+            if next != Next::More {
+                continue;
+            }
+            let before = out.len();
+            let step = match haggle.feed_into(alloc, &mut out, piece) {
+                Err(Refused::Memory) => {
+                    assert_eq!(rt; out.len(), before);
+                    haggle.feed_into(alloc, &mut out, piece)?
+                }
+                answer => answer?,
+            };
+            used = used.wrapping_add(step.used);
+            next = step.next;
+        }
+        assert_eq!(rt; out.as_slice(), expected.as_slice());
+        assert_eq!(rt; used, 46);
+        assert_eq!(rt; next, Next::Transmit);
+        let refused = haggle.feed_into(alloc, &mut out, &REQUEST);
+        assert_eq!(rt; refused, Err(Refused::Closed));
+        assert_eq!(rt; out.as_slice(), expected.as_slice());
+    }
+    Ok(())
+}
+
+/// Feeds a piece, and once more where it ran out of memory.
+fn feed_again(haggle: &mut Haggle, alloc: Global, piece: &[u8]) -> Result<Turn, Refused> {
     match haggle.feed(alloc, piece) {
         Err(Refused::Memory) => haggle.feed(alloc, piece),
         answer => answer,
     }
 }
 
-/// The bytes of the name, and once more where memory was refused.
+/// The bytes of the name, and once more where it ran out of memory.
 fn name_again(alloc: Global) -> Result<Vec<u8>, AllocError>
     ensures { IfOk result (λ name. length name.items ≤ 255) }
 {
@@ -515,14 +631,14 @@ fn forgets_a_piece_that_memory_refused(rt: HostRuntime) -> Result<(), Fail> {
         let mut sent = 0usize;
         let mut next = Next::More;
         for piece in text.chunks(size) {
-            let turn = fed_again(&mut haggle, alloc, piece)?;
+            let turn = feed_again(&mut haggle, alloc, piece)?;
             let end = sent.wrapping_add(turn.out.len());
-            assert_eq!(rt; TOLD.get(sent..end), Some(turn.out.as_slice()));
+            assert_eq!(rt; DESCRIBED.get(sent..end), Some(turn.out.as_slice()));
             assert_eq!(rt; turn.used, piece.len());
             sent = end;
             next = turn.next;
         }
-        assert_eq!(rt; sent, TOLD.len());
+        assert_eq!(rt; sent, DESCRIBED.len());
         assert_eq!(rt; next, Next::Transmit);
     }
     Ok(())

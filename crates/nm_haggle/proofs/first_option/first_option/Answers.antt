@@ -1,5 +1,5 @@
-use Rattle.nm_haggle.proofs.Fronts.{too_long, all_there}
-use Rattle.nm_haggle.proofs.front.front_of.Goals as goal
+use Rattle.nm_haggle.proofs.FirstOptions.{too_long, all_there}
+use Rattle.nm_haggle.proofs.first_option.first_option.Goals as goal
 
 pub returns-then-head-gt-MOST_DATA : goal.returns-then-head-gt-MOST_DATA
 returns-then-head-gt-MOST_DATA c =

@@ -1,5 +1,0 @@
-use Rattle.nm_haggle.proofs.States.{over_behind_an_end}
-use Rattle.nm_haggle.proofs.laws.over_behind_an_end.Goals as goal
-
-pub returns : goal.returns
-returns c = over_behind_an_end
