@@ -10,7 +10,7 @@ use Rattle.nm_haggle.specs.declared.phase.Phase.TheVariants as phase
 use Rattle.nm_haggle.specs.ClientOption.{ClientOption, option_bytes, IsUnfinished}
 use Rattle.nm_haggle.specs.Handshake.{Ending, Waits, Settles, Breaks, Handshake, NoFlags, BadFlags, GoodFlags, ending_bytes, options_bytes, handshake_bytes, IsPassed, IsEnding, IsHandshake, has_no_zeroes, Destination, ending_destination, replies, handshake_destination}
 use Rattle.nm_haggle.specs.Haggling.{OptionsLead, HandshakeLeads, Leads, IsAwaited}
-use Rattle.nm_haggle.proofs.Heads.{length-be}
+use Rattle.nm_wire.proofs.Numbers.{length-be}
 use Rattle.nm_haggle.proofs.Elements.{unfinished_is_short, unfinished_not_refused}
 use Rattle.nm_haggle.proofs.Trees.{passed_begin, flags_one}
 use Rattle.nm_haggle.proofs.Pieces.{concat, asks_more, ending_concat, replies-append}

@@ -9,7 +9,7 @@ use Rattle.std.specs.Int.{w16, w32, from_be_bytes}
 use Rattle.nm_wire.specs.Number.{be}
 use Rattle.nm_haggle.specs.Answer.{information_bytes, asked_name, name_length, type_count}
 use Rattle.nm_haggle.specs.Laws.{InformationAddsUp, OnlyInformationAddsUp}
-use Rattle.nm_haggle.proofs.Heads.{length-be}
+use Rattle.nm_wire.proofs.Numbers.{length-be}
 use Rattle.nm_haggle.proofs.Bytes.{bytes_of_take, bytes_of_drop, written_2, written_4, below_16, below_32}
 
 true_of : (m n : ℕ) → m ≡ n → eqb m n ≡ true

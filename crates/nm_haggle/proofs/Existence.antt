@@ -7,6 +7,7 @@ use Rattle.std.proofs.lemmas.Slice.Eq.{bytes_eq-Decides}
 use Rattle.std.specs.Str.{bytes_eq}
 use Rattle.std.specs.Int.{w32, from_be_bytes}
 use Rattle.std.specs.List.{flat_map}
+use Rattle.nm_wire.specs.Sizes.{max_option_data}
 use Rattle.nm_wire.specs.Number.{be, option_magic}
 use Rattle.nm_wire.specs.Layout.{FitsOptionHead, option_head_bytes}
 use Rattle.nm_wire.specs.declared.export.Export.{Export}
@@ -15,7 +16,7 @@ use Rattle.nm_haggle.specs.declared.next.Next.{Next}
 use Rattle.nm_haggle.specs.declared.next.Next.TheVariants.{More, Transmit, Close}
 use Rattle.nm_haggle.specs.declared.phase.Phase.{Phase}
 use Rattle.nm_haggle.specs.declared.phase.Phase.TheVariants as phase
-use Rattle.nm_haggle.specs.ClientOption.{ClientOption, option_bytes, IsUnfinished, most_data}
+use Rattle.nm_haggle.specs.ClientOption.{ClientOption, option_bytes, IsUnfinished}
 use Rattle.nm_haggle.specs.Answer.{answer_to}
 use Rattle.nm_haggle.specs.FirstOption.{option_at, BeginsRefused, BeginsAccepted}
 use Rattle.nm_haggle.specs.Handshake.{Ending, Waits, Settles, Breaks, Options, Handshake, NoFlags, BadFlags, GoodFlags, ending_bytes, options_bytes, handshake_bytes, ending_destination, options_destination, handshake_destination, Destination, replies, has_no_zeroes}
@@ -86,7 +87,7 @@ with_head text head e f =
     })))
     (λ all. inr (inr (head, all_there text head e f few all)))
     (cases_lt (length text - 16) head.length))
-    (cases_lt most_data head.length)
+    (cases_lt max_option_data head.length)
 
 other_magic : (text : List ℕ) → 16 ≤ length text → take 8 text ≢ be 8 option_magic → BeginsRefused text
 other_magic text l n =

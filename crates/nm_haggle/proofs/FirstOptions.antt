@@ -1,31 +1,38 @@
--- What a head tells of the option behind it.
+-- What a header says of the option that it begins.
 use Rattle.std.proofs.Common.{◌≡◌, ℕ, ◌-◌, ◌<◌, ◌≤◌, inr, List, ◌++◌, length, take, drop, refl, sym, ap, ◌∙◌, arith, length-append}
 use Rattle.std.proofs.lemmas.List.{append_assoc, take-append-drop, take_at, length-take, length-drop, drop-drop}
+use Rattle.nm_wire.specs.Sizes.{max_option_data}
 use Rattle.nm_wire.specs.Layout.{FitsOptionHead, option_head_bytes}
 use Rattle.nm_wire.specs.declared.option_head.OptionHead.{OptionHead}
-use Rattle.nm_haggle.specs.ClientOption.{option_bytes, head_of, most_data}
+use Rattle.nm_haggle.specs.ClientOption.{option_bytes, head_of}
 use Rattle.nm_haggle.specs.FirstOption.{option_at, BeginsRefused, BeginsAccepted}
-use Rattle.nm_haggle.proofs.Heads.{length-head, same_head}
+use Rattle.nm_wire.proofs.Heads.{length-option_head_bytes}
 
--- a head with too many data breaks the haggling off
+same_head : {h k : OptionHead} → h.option ≡ k.option → h.length ≡ k.length → h ≡ k
+same_head {h} {k} e f =
+    let with_option : ℕ → OptionHead = λ n. record { option = n; length = h.length } in
+    let with_length : ℕ → OptionHead = λ n. record { option = k.option; length = n } in
+    ap with_option e ∙ ap with_length f
+
+-- a header with too many data closes the session
 pub too_long : (text : List ℕ) (head : OptionHead) → text ≡ option_head_bytes head ++ drop 16 text → FitsOptionHead head
-    → most_data < head.length → BeginsRefused text
+    → max_option_data < head.length → BeginsRefused text
 too_long text head e f l =
     let fronted : take 16 text ≡ option_head_bytes head =
-    ap (λ xs. take 16 xs) e ∙ take_at (option_head_bytes head) (drop 16 text) 16 (length-head head) in
+    ap (λ xs. take 16 xs) e ∙ take_at (option_head_bytes head) (drop 16 text) 16 (length-option_head_bytes head) in
     record {
-      within = omega (arith, ap length e, length-append (option_head_bytes head) (drop 16 text), length-head head);
+      within = omega (arith, ap length e, length-append (option_head_bytes head) (drop 16 text), length-option_head_bytes head);
       refused = record {
-        whole = ap length fronted ∙ length-head head;
+        whole = ap length fronted ∙ length-option_head_bytes head;
         cause = inr (record { head = head; whole = fronted; fits = f; long = l });
       };
     }
 
--- a head and all of its data are an option
+-- a header and all of its data are an option
 pub all_there : (text : List ℕ) (head : OptionHead) → text ≡ option_head_bytes head ++ drop 16 text → FitsOptionHead head
-    → head.length ≤ most_data → head.length ≤ length text - 16 → BeginsAccepted text head
+    → head.length ≤ max_option_data → head.length ≤ length text - 16 → BeginsAccepted text head
 all_there text head e f l k =
-    let front_long : 16 ≤ length text = omega (arith, ap length e, length-append (option_head_bytes head) (drop 16 text), length-head head) in
+    let front_long : 16 ≤ length text = omega (arith, ap length e, length-append (option_head_bytes head) (drop 16 text), length-option_head_bytes head) in
     let told : length (take head.length (drop 16 text)) ≡ head.length =
     omega (arith, length-take head.length (drop 16 text), length-drop 16 text, k) in
     let same : head_of (option_at head text) ≡ head = same_head refl told in

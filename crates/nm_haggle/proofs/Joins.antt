@@ -3,6 +3,7 @@ use Rattle.std.proofs.Common.{◌≡◌, ◌≢◌, ℕ, ◌+◌, ◌-◌, ◌<�
 use Rattle.std.proofs.lemmas.List.{append_assoc, take-append-drop, take_all, length-drop, length-take, drop-drop, drop-append-le}
 use Rattle.std.proofs.Math.Seq.{drop-append-add}
 use Rattle.std.specs.List.{flat_map, AllByRecursion}
+use Rattle.nm_wire.specs.Sizes.{max_option_data}
 use Rattle.nm_wire.specs.Number.{be}
 use Rattle.nm_wire.specs.declared.export.Export.{Export}
 use Rattle.nm_haggle.specs.declared.next.Next.{Next}
@@ -10,11 +11,12 @@ use Rattle.nm_haggle.specs.declared.next.Next.TheVariants.{More, Transmit, Close
 use Rattle.nm_haggle.specs.declared.phase.Phase.{Phase}
 use Rattle.nm_haggle.specs.declared.phase.Phase.TheVariants as phase
 use Rattle.nm_haggle.specs.declared.progress.Progress.{Progress}
-use Rattle.nm_haggle.specs.ClientOption.{ClientOption, option_bytes, IsUnfinished, most_data}
+use Rattle.nm_haggle.specs.ClientOption.{ClientOption, option_bytes, IsUnfinished}
 use Rattle.nm_haggle.specs.Handshake.{Ending, Waits, Settles, Breaks, Handshake, NoFlags, BadFlags, GoodFlags, ending_bytes, options_bytes, handshake_bytes, IsPassed, IsEnding, IsHandshake, has_no_zeroes, Destination, ending_destination, replies, handshake_destination}
 use Rattle.nm_haggle.specs.Haggling.{OptionsLead, HandshakeLeads, Leads, IsAwaited, IsUsed, state, waiting_bytes}
 use Rattle.nm_haggle.specs.Progress.{Advances, Reads}
-use Rattle.nm_haggle.proofs.Heads.{length-be, length-head}
+use Rattle.nm_wire.proofs.Heads.{length-option_head_bytes}
+use Rattle.nm_wire.proofs.Numbers.{length-be}
 use Rattle.nm_haggle.proofs.Elements.{unfinished_is_short}
 use Rattle.nm_haggle.proofs.Pieces.{concat, leads_join, awaited_after, asks_more}
 use Rattle.nm_haggle.proofs.Cuts.{leads_within, longer_prefix}
@@ -84,12 +86,12 @@ leads_extend export phase.Over text more a p n = absurd p
 
 -- ---- what is held is short, and comes before what was answered
 
-rest_short : (rest : List ℕ) → IsUnfinished rest → length rest < 16 + most_data
+rest_short : (rest : List ℕ) → IsUnfinished rest → length rest < 16 + max_option_data
 rest_short rest (inl l) = omega (arith, l)
 rest_short rest (inr p) =
-    omega (arith, ap length p.bytes, length-append (Rattle.nm_wire.specs.Layout.option_head_bytes p.head) p.begun, length-head p.head, p.accepted, p.short)
+    omega (arith, ap length p.bytes, length-append (Rattle.nm_wire.specs.Layout.option_head_bytes p.head) p.begun, length-option_head_bytes p.head, p.accepted, p.short)
 
-pub awaited_short : (ph : Phase) (rest : List ℕ) → IsAwaited ph rest → length rest < 16 + most_data
+pub awaited_short : (ph : Phase) (rest : List ℕ) → IsAwaited ph rest → length rest < 16 + max_option_data
 awaited_short phase.Flags rest u = omega (arith, u)
 awaited_short (phase.Options nz) rest u = rest_short rest u
 awaited_short phase.Over rest u = omega (arith, ap length u)
@@ -222,7 +224,7 @@ ended_in_joined export ph held text out n p u a m =
 
 -- nothing was complete yet: then all of the piece was joined
 pub nothing_whole : (export : Export) (ph : Phase) (held text out : List ℕ) (n : ℕ) (p : Progress)
-    → 16 + most_data ≤ length held + n → Advances export ph (held ++ take n text) out p → p.next ≡ More → p.used ≡ 0
+    → 16 + max_option_data ≤ length held + n → Advances export ph (held ++ take n text) out p → p.next ≡ More → p.used ≡ 0
     → Reads (state export ph held) text out (record { used = length text; next = p.next; phase = p.phase }) (held ++ take n text)
 nothing_whole export ph held text out n p room a h z =
     let asks : a.destination.next ≡ More = sym a.next_is ∙ h in

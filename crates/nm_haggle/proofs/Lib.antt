@@ -1,4 +1,3 @@
-pub mod Heads
 pub mod Elements
 pub mod Trees
 pub mod Pieces

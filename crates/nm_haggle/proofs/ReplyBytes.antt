@@ -5,7 +5,10 @@ use Rattle.std.proofs.lemmas.Bool.Decides.{eqb_tells}
 use Rattle.nm_wire.specs.Number.{be}
 use Rattle.nm_wire.specs.Layout.{option_reply_bytes}
 use Rattle.nm_wire.specs.Export.{size_of, flags_of}
+use Rattle.nm_wire.specs.InfoKind.{info_number}
+use Rattle.nm_wire.specs.Sizes.{min_block, preferred_block, max_payload}
 use Rattle.nm_wire.specs.ReplyKind.{reply_number}
+use Rattle.nm_wire.specs.declared.info_kind.InfoKind.TheVariants as info
 use Rattle.nm_wire.specs.OptionKind.{option_number}
 use Rattle.nm_wire.specs.declared.export.Export.{Export}
 use Rattle.nm_wire.specs.declared.option_kind.OptionKind.{OptionKind}
@@ -15,7 +18,7 @@ use Rattle.nm_wire.specs.declared.reply_kind.ReplyKind.{ReplyKind}
 use Rattle.nm_wire.specs.declared.reply_kind.ReplyKind.TheVariants as kind
 use Rattle.nm_haggle.specs.ClientOption.{ClientOption}
 use Rattle.nm_haggle.specs.Answer.{reply, refusal, answer_to, export_information, block_sizes}
-use Rattle.nm_haggle.proofs.Heads.{length-be}
+use Rattle.nm_wire.proofs.Numbers.{length-be}
 
 -- the head of a reply with n bytes of data
 abbrev pub head_for : ℕ → ReplyKind → ℕ → OptionReply
@@ -30,11 +33,11 @@ reply_from number kind n out payload l =
 
 pub length-export_information : (export : Export) → length (export_information export) ≡ 12
 length-export_information export =
-    simp length-append (omega (arith, length-be 2 0, length-be 8 (size_of export), length-be 2 (flags_of export)))
+    simp length-append (omega (arith, length-be 2 (info_number info.Export), length-be 8 (size_of export), length-be 2 (flags_of export)))
 
 pub length-block_sizes : length block_sizes ≡ 14
 length-block_sizes =
-    simp length-append (omega (arith, length-be 2 3, length-be 4 512, length-be 4 4096, length-be 4 33554432))
+    simp length-append (omega (arith, length-be 2 (info_number info.BlockSize), length-be 4 min_block, length-be 4 preferred_block, length-be 4 max_payload))
 
 pub length-name : (name : List ℕ) → length (be 4 (length name) ++ name) ≡ 4 + length name
 length-name name = length-append (be 4 (length name)) name ∙ ap (λ n. n + length name) (length-be 4 (length name))

@@ -6,7 +6,8 @@ use Rattle.nm_wire.specs.Number.{be}
 use Rattle.nm_wire.specs.declared.export.Export.{Export}
 use Rattle.nm_haggle.specs.ClientOption.{ClientOption, option_bytes, IsAccepted, IsUnfinished, IsRefused}
 use Rattle.nm_haggle.specs.Handshake.{Ending, Waits, Settles, Breaks, Options, Handshake, NoFlags, BadFlags, GoodFlags, ending_bytes, options_bytes, handshake_bytes, IsPassed, IsEnding, IsOptions, IsHandshake, has_no_zeroes}
-use Rattle.nm_haggle.proofs.Heads.{length-be, same_prefixes, be_4_one}
+use Rattle.nm_wire.proofs.Numbers.{length-be, be-unique}
+use Rattle.nm_haggle.proofs.Elements.{same_prefixes}
 use Rattle.nm_haggle.proofs.Elements.{options_one, unfinished_is_short, accepted_not_refused, unfinished_not_refused}
 
 -- a rest that is unfinished is not as long as an option or a refused head that it begins
@@ -98,9 +99,7 @@ options_tree_one export nz t u p q h =
 
 -- bytes of flags that are one
 pub flags_one : (f g : ℕ) (x y : List ℕ) → f < 2 ^ 32 → g < 2 ^ 32 → be 4 f ++ x ≡ be 4 g ++ y → (f ≡ g) × (x ≡ y)
-flags_one f g x y l k h =
-    let both = same_prefixes (be 4 f) (be 4 g) x y (length-be 4 f ∙ sym (length-be 4 g)) h in
-    (be_4_one f g l k both.0, both.1)
+flags_one f g x y l k h = be-unique 4 f g x y l k h
 
 no_flags : (rest : List ℕ) (f : ℕ) (x : List ℕ) → length rest < 4 → rest ≡ be 4 f ++ x → ⊥
 no_flags rest f x l h = omega (arith, l, ap length h, length-append (be 4 f) x, length-be 4 f)

@@ -6,9 +6,12 @@ use Rattle.std.specs.Int.{w16, w32, from_be_bytes}
 use Rattle.nm_wire.specs.Number.{be}
 use Rattle.nm_wire.specs.Layout.{option_reply_bytes}
 use Rattle.nm_wire.specs.Export.{size_of, flags_of}
+use Rattle.nm_wire.specs.InfoKind.{info_number}
 use Rattle.nm_wire.specs.OptionKind.{option_number}
 use Rattle.nm_wire.specs.ReplyKind.{reply_number}
+use Rattle.nm_wire.specs.Sizes.{min_block, preferred_block, max_payload, export_name_zeroes}
 use Rattle.nm_wire.specs.declared.export.Export.{Export}
+use Rattle.nm_wire.specs.declared.info_kind.InfoKind.TheVariants as info
 use Rattle.nm_wire.specs.declared.option_kind.OptionKind.TheVariants as option
 use Rattle.nm_wire.specs.declared.reply_kind.ReplyKind.{ReplyKind}
 use Rattle.nm_wire.specs.declared.reply_kind.ReplyKind.TheVariants as kind
@@ -48,13 +51,15 @@ is_known export name = (length name == 0) || bytes_eq name export.name
 abbrev pub size_and_flags : Export → List ℕ
 size_and_flags export = be 8 (size_of export) ++ be 2 (flags_of export)
 
--- information of type 0: the size and the flags
+-- information on the export: its size and flags
 abbrev pub export_information : Export → List ℕ
-export_information export = be 2 0 ++ size_and_flags export
+export_information export = be 2 (info_number info.Export) ++ size_and_flags export
 
--- information of type 3: the smallest, the preferred and the largest block of a request
+-- information on block sizes: the minimum, the preferred and the maximum
 abbrev pub block_sizes : List ℕ
-block_sizes = be 2 3 ++ be 4 512 ++ be 4 4096 ++ be 4 33554432
+block_sizes =
+    be 2 (info_number info.BlockSize)
+    ++ be 4 min_block ++ be 4 preferred_block ++ be 4 max_payload
 
 -- the replies that describe the export, whatever types of information were asked for
 abbrev pub information_replies : ℕ → Export → List ℕ
@@ -115,7 +120,7 @@ abbrev pub answer_to_export_name : Export → Bool → List ℕ → Answer
 answer_to_export_name export no_zeroes payload =
     if is_known export payload
     then record {
-      out = size_and_flags export ++ (if no_zeroes then [] else replicate 124 0);
+      out = size_and_flags export ++ (if no_zeroes then [] else replicate export_name_zeroes 0);
       next = Transmit;
     }
     else record { out = []; next = Close false }

@@ -1,12 +1,9 @@
 -- An option as a client sends it, and its bytes ("Fixed newstyle negotiation").
 use Rattle.std.specs.Prelude.{◌≡◌, ◌≢◌, ℕ, ◌<◌, ◌≤◌, ◌^◌, ◌⊎◌, List, ◌++◌, length, take}
 use Rattle.nm_wire.specs.Number.{be, option_magic}
+use Rattle.nm_wire.specs.Sizes.{max_option_data}
 use Rattle.nm_wire.specs.Layout.{FitsOptionHead, option_head_bytes}
 use Rattle.nm_wire.specs.declared.option_head.OptionHead.{OptionHead}
-
--- the most bytes of data that an option may have
-abbrev pub most_data : ℕ
-most_data = 65536
 
 -- an option: its number and its data
 pub record ClientOption : Type 0 where
@@ -24,7 +21,7 @@ option_bytes o = option_head_bytes (head_of o) ++ o.payload
 -- an option that is accepted: its number has 32 bits, and its data are not too long
 pub record IsAccepted (o : ClientOption) : Type 0 where
   pub number : o.number < 2 ^ 32
-  pub payload : length o.payload ≤ most_data
+  pub payload : length o.payload ≤ max_option_data
 
 -- the header of an option that is accepted, followed by fewer bytes of data than it states
 pub record LacksData (rest : List ℕ) : Type 0 where
@@ -32,7 +29,7 @@ pub record LacksData (rest : List ℕ) : Type 0 where
   pub begun : List ℕ
   pub bytes : rest ≡ option_head_bytes head ++ begun
   pub fits : FitsOptionHead head
-  pub accepted : head.length ≤ most_data
+  pub accepted : head.length ≤ max_option_data
   pub short : length begun < head.length
 
 -- an incomplete option: less than a header, or a header and less data than it states
@@ -44,7 +41,7 @@ pub record IsTooLong (bytes : List ℕ) : Type 0 where
   pub head : OptionHead
   pub whole : bytes ≡ option_head_bytes head
   pub fits : FitsOptionHead head
-  pub long : most_data < head.length
+  pub long : max_option_data < head.length
 
 -- a 16-byte header that closes the session: its magic is wrong, or its data would be too long
 pub record IsRefused (bytes : List ℕ) : Type 0 where

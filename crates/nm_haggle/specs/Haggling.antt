@@ -1,6 +1,6 @@
 -- The haggling from any of its states on, and of a whole text.
 use Rattle.std.specs.Prelude.{◌≡◌, ℕ, ◌+◌, ◌^◌, ◌<◌, ◌≤◌, Bool, List, [], ◌++◌, length, drop}
-use Rattle.nm_wire.specs.Number.{be, option_magic}
+use Rattle.nm_wire.specs.Number.{be, greeting_magic, option_magic}
 use Rattle.nm_wire.specs.declared.export.Export.{Export}
 use Rattle.nm_haggle.specs.declared.next.Next.{Next}
 use Rattle.nm_haggle.specs.declared.next.Next.TheVariants as next
@@ -8,10 +8,6 @@ use Rattle.nm_haggle.specs.declared.phase.Phase.{Phase}
 use Rattle.nm_haggle.specs.declared.phase.Phase.TheVariants as phase
 use Rattle.nm_haggle.specs.ClientOption.{IsUnfinished}
 use Rattle.nm_haggle.specs.Handshake.{Options, Handshake, Destination, IsOptions, IsHandshake, options_bytes, handshake_bytes, options_destination, handshake_destination}
-
--- "NBDMAGIC", which begins the greeting ("Newstyle negotiation")
-abbrev pub greeting_magic : ℕ
-greeting_magic = 0x4e42444d41474943
 
 -- the greeting: two magic numbers, and the flags FIXED_NEWSTYLE and NO_ZEROES ("Handshake flags")
 abbrev pub greeting_bytes : List ℕ

@@ -5,11 +5,12 @@ ghost use Rattle.nm_haggle.specs.Output.{BeginsWith};
 
 use crate::next::Next;
 use crate::replies::{put_empty, put_information, put_name, put_size_and_flags};
+use nm_wire::sizes::EXPORT_NAME_ZEROES;
 use nm_wire::{Export, OptionKind, ReplyKind};
 use std::alloc::AllocError;
 
 /// The zeroes at the end of the reply to EXPORT_NAME.
-const ZEROES: [u8; 124] = [0; 124];
+const ZEROES: [u8; EXPORT_NAME_ZEROES] = [0; EXPORT_NAME_ZEROES];
 
 /// Whether a client may name the export so.
 fn is_known(export: &Export, name: &[u8]) -> bool

@@ -1,16 +1,14 @@
 //! What a text of options begins with.
 ghost use Rattle.nm_haggle.specs.FirstOption.{IsFirstOption};
 
+use nm_wire::sizes::MAX_OPTION_DATA;
 use nm_wire::{OptionHead, WireFault};
 
 /// How many bytes the header of an option has.
 pub(crate) const HEAD: usize = 16;
 
-/// The most bytes of data that an option may have.
-const MOST_DATA: u32 = 65_536;
-
 /// The most bytes that are held: one option with its data.
-pub(crate) const MOST_HELD: usize = 65_552;
+pub(crate) const MOST_HELD: usize = HEAD + MAX_OPTION_DATA as usize;
 
 /// What a text of options begins with.
 #[derive(Clone, Copy, Debug, PartialEq, Eq)]
@@ -31,7 +29,7 @@ pub(crate) fn first_option(text: &[u8]) -> FirstOption
         Err(WireFault::Short) => FirstOption::Unfinished,
         Err(WireFault::Magic) => FirstOption::Refused,
         Ok(head) => {
-            if head.length > MOST_DATA {
+            if head.length > MAX_OPTION_DATA {
                 FirstOption::Refused
             } else if text.len() - HEAD < head.length as usize {
                 FirstOption::Unfinished

@@ -7,16 +7,11 @@ use crate::piece::take_in;
 use crate::refused::Refused;
 use crate::step::Step;
 use crate::turn::Turn;
+use nm_wire::magic::{GREETING_MAGIC, OPTION_MAGIC};
 use nm_wire::number::{put_u16, put_u64};
 use nm_wire::{Export, ServerFlags};
 use std::alloc::Global;
 use std::marker::Model;
-
-// "NBDMAGIC"
-const GREETING_MAGIC: u64 = 0x4e42_444d_4147_4943;
-
-// "IHAVEOPT"
-const OPTION_MAGIC: u64 = 0x4948_4156_454f_5054;
 
 /// The server's side of the fixed newstyle handshake after its greeting: takes the client's flags
 /// and options in pieces as they come, and answers each piece.

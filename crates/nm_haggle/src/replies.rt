@@ -7,7 +7,8 @@ ghost use Rattle.nm_wire.specs.Layout.{option_reply_bytes};
 ghost use Rattle.nm_wire.specs.ReplyKind.{reply_number};
 ghost use Rattle.nm_haggle.specs.Output.{BeginsWith};
 
-use nm_wire::{Export, OptionReply, ReplyKind};
+use nm_wire::sizes::{MAX_PAYLOAD, MIN_BLOCK, PREFERRED_BLOCK};
+use nm_wire::{Export, InfoKind, OptionReply, ReplyKind};
 use std::alloc::AllocError;
 
 /// A number in 2 bytes.
@@ -92,22 +93,22 @@ fn put_export_information(out: &mut Vec<u8>, option: u32, export: &Export) -> Re
     ensures err { OnErr result (BeginsWith out.new.items out.old.items) }
 {
     put_head(out, option, ReplyKind::Info, 12)?;
-    put_u16(out, 0)?;
+    put_u16(out, InfoKind::Export.number())?;
     put_size_and_flags(out, export)?;
     Ok(())
 }
 
-/// A reply with the smallest, the preferred and the largest block of a request.
+/// A reply with the minimum, the preferred and the maximum block size.
 fn put_block_sizes(out: &mut Vec<u8>, option: u32) -> Result<(), AllocError>
     ensures ok { OnOk result (out.new.items ≡ out.old.items
         ++ reply option ReplyKind.Info block_sizes) }
     ensures err { OnErr result (BeginsWith out.new.items out.old.items) }
 {
     put_head(out, option, ReplyKind::Info, 14)?;
-    put_u16(out, 3)?;
-    put_u32(out, 512)?;
-    put_u32(out, 4096)?;
-    put_u32(out, 33_554_432)?;
+    put_u16(out, InfoKind::BlockSize.number())?;
+    put_u32(out, MIN_BLOCK)?;
+    put_u32(out, PREFERRED_BLOCK)?;
+    put_u32(out, MAX_PAYLOAD)?;
     Ok(())
 }
 
