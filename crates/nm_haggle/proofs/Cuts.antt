@@ -15,11 +15,11 @@ use Rattle.nm_haggle.proofs.Elements.{unfinished_is_short, unfinished_not_refuse
 use Rattle.nm_haggle.proofs.Trees.{passed_begin, flags_one}
 use Rattle.nm_haggle.proofs.Pieces.{concat, asks_more, ending_concat, replies-append}
 
--- two texts that are one, the first piece of the left one shorter than that of the right one
+-- of two ways to cut one text, the shorter first piece has the longer second one
 pub longer_prefix : (a x b y : List ℕ) → a ++ x ≡ b ++ y → length a ≤ length b → length y ≤ length x
 longer_prefix a x b y e l = omega (arith, ap length e, length-append a x, length-append b y, l)
 
--- bytes are left of what follows an unfinished rest alone
+-- the rest after an end lies in what follows an unfinished rest
 ending_within : (export : Export) (nz : Bool) (rest more out : List ℕ) (e : Ending) → IsUnfinished rest → IsEnding export nz e
     → rest ++ more ≡ ending_bytes e → ((ending_destination export nz out e).next ≢ More)
     → length (ending_destination export nz out e).rest ≤ length more
@@ -31,11 +31,11 @@ ending_within export nz rest more out (Breaks b x) u r h n =
     let short = unfinished_not_refused rest more b x u r h in
     longer_prefix rest more b x h (omega (arith, short, r.whole))
 
-behind_shorter : (export : Export) (nz : Bool) (out : List ℕ) (e : Ending) → (ending_destination export nz out e).next ≢ More
+rest_shorter : (export : Export) (nz : Bool) (out : List ℕ) (e : Ending) → (ending_destination export nz out e).next ≢ More
     → length (ending_destination export nz out e).rest ≤ length (ending_bytes e)
-behind_shorter export nz out (Waits r) n = absurd (n refl)
-behind_shorter export nz out (Settles o x) n = omega (arith, length-append (option_bytes o) x)
-behind_shorter export nz out (Breaks b x) n = omega (arith, length-append b x)
+rest_shorter export nz out (Waits r) n = absurd (n refl)
+rest_shorter export nz out (Settles o x) n = omega (arith, length-append (option_bytes o) x)
+rest_shorter export nz out (Breaks b x) n = omega (arith, length-append b x)
 
 lists_within : (export : Export) (nz : Bool) (os : List ClientOption) (rest more out : List ℕ) (e : Ending) → IsUnfinished rest
     → AllByRecursion (IsPassed export nz) os → IsEnding export nz e
@@ -46,7 +46,7 @@ lists_within export nz (o ∷ os) rest more out e u p v h n =
     let split = h ∙ append_assoc (option_bytes o) (flat_map option_bytes os) (ending_bytes e) in
     let short = unfinished_is_short o rest more (flat_map option_bytes os ++ ending_bytes e) p.0.accepted u split in
     let within = longer_prefix rest more (option_bytes o) (flat_map option_bytes os ++ ending_bytes e) split (omega (arith, short)) in
-    omega (arith, within, behind_shorter export nz out e n, length-append (flat_map option_bytes os) (ending_bytes e))
+    omega (arith, within, rest_shorter export nz out e n, length-append (flat_map option_bytes os) (ending_bytes e))
 
 options_within : (export : Export) (nz : Bool) (rest more : List ℕ) (b : Destination) → IsUnfinished rest
     → OptionsLead export nz (rest ++ more) b → b.next ≢ More → length b.rest ≤ length more
@@ -55,11 +55,11 @@ options_within export nz rest more b u p n =
     (lists_within export nz p.tree.answered rest more (replies export nz p.tree.answered) p.tree.ending u
     p.valid.answered p.valid.ending p.bytes (λ h. n (ap (λ (o : Destination). o.next) p.destination ∙ h)))
 
--- what is left of a text of options is no more than the text
-options_behind : (export : Export) (nz : Bool) (text : List ℕ) (b : Destination) → OptionsLead export nz text b
+-- the rest of a text of options is no longer than the text
+options_rest_shorter : (export : Export) (nz : Bool) (text : List ℕ) (b : Destination) → OptionsLead export nz text b
     → b.next ≢ More → length b.rest ≤ length text
-options_behind export nz text b p n =
-    let shorter = behind_shorter export nz (replies export nz p.tree.answered) p.tree.ending
+options_rest_shorter export nz text b p n =
+    let shorter = rest_shorter export nz (replies export nz p.tree.answered) p.tree.ending
     (λ h. n (ap (λ (o : Destination). o.next) p.destination ∙ h)) in
     subst (λ (o : Destination). length o.rest ≤ length text) (sym p.destination)
     (omega (arith, shorter, ap length p.bytes, length-append (flat_map option_bytes p.tree.answered) (ending_bytes p.tree.ending)))
@@ -72,10 +72,10 @@ flags_within export rest more (BadFlags f x) b l v e h n =
     (longer_prefix rest more (be 4 f) x h (omega (arith, l, length-be 4 f)))
 flags_within export rest more (GoodFlags f os) b l v e h n =
     let within = longer_prefix rest more (be 4 f) (options_bytes os) h (omega (arith, l, length-be 4 f)) in
-    let left = options_behind export (has_no_zeroes f) (options_bytes os) b (record { tree = os; valid = v.1; bytes = refl; destination = e }) n in
+    let left = options_rest_shorter export (has_no_zeroes f) (options_bytes os) b (record { tree = os; valid = v.1; bytes = refl; destination = e }) n in
     omega (arith, within, left)
 
--- bytes are left of what follows alone, from each phase on
+-- the rest after an end lies in what follows, from each phase on
 pub leads_within : (export : Export) (ph : Phase) (rest more : List ℕ) (b : Destination) → IsAwaited ph rest
     → Leads export ph (rest ++ more) b → b.next ≢ More → length b.rest ≤ length more
 leads_within export phase.Flags rest more b u p n = flags_within export rest more p.tree b u p.valid p.destination p.bytes n

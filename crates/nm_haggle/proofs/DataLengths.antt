@@ -36,11 +36,11 @@ name_length_is name types count l =
 type_count_is : (name types : List ℕ) (count : ℕ) → length name < 2 ^ 32 → count < 2 ^ 16
     → type_count (information_bytes name count types) ≡ count
 type_count_is name types count l k =
-    let fronted : length (be 4 (length name) ++ name) ≡ 4 + length name =
+    let prefix_is : length (be 4 (length name) ++ name) ≡ 4 + length name =
     length-append (be 4 (length name)) name ∙ ap (λ n. n + length name) (length-be 4 (length name)) in
     ap (λ n. from_be_bytes w16 (take 2 (drop (4 + n) (information_bytes name count types)))) (name_length_is name types count l)
     ∙ ap (λ xs. from_be_bytes w16 (take 2 (drop (4 + length name) xs))) (append_assoc (be 4 (length name) ++ name) (be 2 count) types)
-    ∙ ap (λ xs. from_be_bytes w16 (take 2 xs)) (drop_at (be 4 (length name) ++ name) (be 2 count ++ types) (4 + length name) fronted)
+    ∙ ap (λ xs. from_be_bytes w16 (take 2 xs)) (drop_at (be 4 (length name) ++ name) (be 2 count ++ types) (4 + length name) prefix_is)
     ∙ ap (λ xs. from_be_bytes w16 xs) (take_at (be 2 count) types 2 (length-be 2 count))
     ∙ read_2 count k
 

@@ -28,7 +28,7 @@ fits_head o t = record { option = t.number; length = omega (arith, t.payload) }
 pub length-option : (o : ClientOption) → length (option_bytes o) ≡ 16 + length o.payload
 length-option o = length-append (option_head_bytes (head_of o)) o.payload ∙ ap (λ n. n + length o.payload) (length-option_head_bytes (head_of o))
 
--- an option is its head and its data
+-- an option is its number and its data
 same_option : (o p : ClientOption) → o.number ≡ p.number → o.payload ≡ p.payload → o ≡ p
 same_option o p e f =
     let with_number : ℕ → ClientOption = λ n. record { number = n; payload = o.payload } in
@@ -76,15 +76,15 @@ accepted_head h f l r = accepted_cause h f l r.cause
 pub accepted_not_refused : (o : ClientOption) (head x y : List ℕ) → IsAccepted o → IsRefused head
     → option_bytes o ++ x ≡ head ++ y → ⊥
 accepted_not_refused o head x y t r e =
-    let fronts = same_prefixes (option_head_bytes (head_of o)) head (o.payload ++ x) y (length-option_head_bytes (head_of o) ∙ sym r.whole)
+    let prefixes = same_prefixes (option_head_bytes (head_of o)) head (o.payload ++ x) y (length-option_head_bytes (head_of o) ∙ sym r.whole)
     (sym (append_assoc (option_head_bytes (head_of o)) o.payload x) ∙ e) in
-    accepted_head (head_of o) (fits_head o t) t.payload (subst (λ bs. IsRefused bs) (sym fronts.0) r)
+    accepted_head (head_of o) (fits_head o t) t.payload (subst (λ bs. IsRefused bs) (sym prefixes.0) r)
 
--- what goes on to a refused head is shorter than a head
+-- an unfinished rest that goes on to a refused header is shorter than a header
 pub unfinished_not_refused : (rest more head y : List ℕ) → IsUnfinished rest → IsRefused head
     → rest ++ more ≡ head ++ y → length rest < 16
 unfinished_not_refused rest more head y (inl short) r e = short
 unfinished_not_refused rest more head y (inr p) r e =
-    let fronts = same_prefixes (option_head_bytes p.head) head (p.begun ++ more) y (length-option_head_bytes p.head ∙ sym r.whole)
+    let prefixes = same_prefixes (option_head_bytes p.head) head (p.begun ++ more) y (length-option_head_bytes p.head ∙ sym r.whole)
     (sym (append_assoc (option_head_bytes p.head) p.begun more) ∙ ap (λ xs. xs ++ more) (sym p.bytes) ∙ e) in
-    absurd (accepted_head p.head p.fits p.accepted (subst (λ bs. IsRefused bs) (sym fronts.0) r))
+    absurd (accepted_head p.head p.fits p.accepted (subst (λ bs. IsRefused bs) (sym prefixes.0) r))

@@ -18,13 +18,13 @@ same_head {h} {k} e f =
 pub too_long : (text : List ℕ) (head : OptionHead) → text ≡ option_head_bytes head ++ drop 16 text → FitsOptionHead head
     → max_option_data < head.length → BeginsRefused text
 too_long text head e f l =
-    let fronted : take 16 text ≡ option_head_bytes head =
+    let prefix_is : take 16 text ≡ option_head_bytes head =
     ap (λ xs. take 16 xs) e ∙ take_at (option_head_bytes head) (drop 16 text) 16 (length-option_head_bytes head) in
     record {
       within = omega (arith, ap length e, length-append (option_head_bytes head) (drop 16 text), length-option_head_bytes head);
       refused = record {
-        whole = ap length fronted ∙ length-option_head_bytes head;
-        cause = inr (record { head = head; whole = fronted; fits = f; long = l });
+        whole = ap length prefix_is ∙ length-option_head_bytes head;
+        cause = inr (record { head = head; whole = prefix_is; fits = f; long = l });
       };
     }
 
@@ -32,13 +32,13 @@ too_long text head e f l =
 pub all_there : (text : List ℕ) (head : OptionHead) → text ≡ option_head_bytes head ++ drop 16 text → FitsOptionHead head
     → head.length ≤ max_option_data → head.length ≤ length text - 16 → BeginsAccepted text head
 all_there text head e f l k =
-    let front_long : 16 ≤ length text = omega (arith, ap length e, length-append (option_head_bytes head) (drop 16 text), length-option_head_bytes head) in
+    let long_enough : 16 ≤ length text = omega (arith, ap length e, length-append (option_head_bytes head) (drop 16 text), length-option_head_bytes head) in
     let told : length (take head.length (drop 16 text)) ≡ head.length =
     omega (arith, length-take head.length (drop 16 text), length-drop 16 text, k) in
     let same : head_of (option_at head text) ≡ head = same_head refl told in
     record {
       accepted = record { number = f.option; payload = omega (arith, told, l) };
-      within = omega (arith, front_long, k);
+      within = omega (arith, long_enough, k);
       bytes = e ∙ ap (λ xs. option_head_bytes head ++ xs) (sym (take-append-drop head.length (drop 16 text)))
           ∙ sym (append_assoc (option_head_bytes head) (take head.length (drop 16 text)) (drop head.length (drop 16 text)))
           ∙ ap (λ h. (option_head_bytes h ++ take head.length (drop 16 text)) ++ drop head.length (drop 16 text)) (sym same)

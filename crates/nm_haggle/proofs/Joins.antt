@@ -47,11 +47,11 @@ options_extend : (export : Export) (nz : Bool) (text more : List ℕ) (a : Desti
 options_extend export nz text more a p n =
     let out = replies export nz p.tree.answered in
     let e = ends_so export nz out p.tree.ending more p.valid.ending (λ h. n (ap (λ (o : Destination). o.next) p.destination ∙ h)) in
-    let front = flat_map option_bytes p.tree.answered in
+    let start = flat_map option_bytes p.tree.answered in
     record {
       tree = record { answered = p.tree.answered; ending = e.ending };
       valid = record { answered = p.valid.answered; ending = e.valid };
-      bytes = ap (λ xs. xs ++ more) p.bytes ∙ append_assoc front (ending_bytes p.tree.ending) more ∙ ap (λ xs. front ++ xs) e.bytes;
+      bytes = ap (λ xs. xs ++ more) p.bytes ∙ append_assoc start (ending_bytes p.tree.ending) more ∙ ap (λ xs. start ++ xs) e.bytes;
       destination = ap (λ o. with_more o more) p.destination ∙ e.destination;
     }
 

@@ -147,7 +147,7 @@ leads_one export (phase.Options nz) text a b p q =
     ∙ sym q.destination
 leads_one export phase.Over text a b p q = absurd p
 
--- what is left of a text that asks for more is awaited still
+-- the rest of a text that asks for more is still awaited
 pub awaited_after : (export : Export) (ph : Phase) (text : List ℕ) (a : Destination) → Leads export ph text a → a.next ≡ More
     → IsAwaited a.phase a.rest
 awaited_after export phase.Flags text a p h = awaited_flags export p.tree a p.valid p.destination h

@@ -20,11 +20,11 @@ use Rattle.nm_haggle.specs.ClientOption.{ClientOption}
 use Rattle.nm_haggle.specs.Answer.{reply, refusal, answer_to, export_information, block_sizes}
 use Rattle.nm_wire.proofs.Numbers.{length-be}
 
--- the head of a reply with n bytes of data
+-- the header of a reply with n bytes of data
 abbrev pub head_for : ℕ → ReplyKind → ℕ → OptionReply
 head_for number kind n = record { option = number; kind = reply_number kind; length = n }
 
--- a head for so many bytes, and that many bytes
+-- a header for so many bytes, and that many bytes
 pub reply_from : (number : ℕ) (kind : ReplyKind) (n : ℕ) (out payload : List ℕ) → length payload ≡ n
     → (out ++ option_reply_bytes (head_for number kind n)) ++ payload ≡ out ++ reply number kind payload
 reply_from number kind n out payload l =

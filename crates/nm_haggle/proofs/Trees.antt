@@ -1,4 +1,4 @@
--- A text has one tree: its options are found one after the other, and one ending behind them.
+-- A text has one tree: its options are found one after the other, and one ending after them.
 use Rattle.std.proofs.Common.{◌≡◌, ℕ, ◌<◌, ◌≤◌, ◌^◌, Bool, List, [], ◌∷◌, ◌++◌, length, refl, sym, ap, ◌∙◌, subst, arith, length-append}
 use Rattle.std.proofs.lemmas.List.{append_assoc, append-nil}
 use Rattle.std.specs.List.{flat_map, AllByRecursion}
@@ -10,7 +10,7 @@ use Rattle.nm_wire.proofs.Numbers.{length-be, be-unique}
 use Rattle.nm_haggle.proofs.Elements.{same_prefixes}
 use Rattle.nm_haggle.proofs.Elements.{options_one, unfinished_is_short, accepted_not_refused, unfinished_not_refused}
 
--- a rest that is unfinished is not as long as an option or a refused head that it begins
+-- a rest that is unfinished is not as long as an option or a refused header that it begins
 rest_no_option : (o : ClientOption) (rest x : List ℕ) → IsAccepted o → IsUnfinished rest → rest ≡ option_bytes o ++ x → ⊥
 rest_no_option o rest x t u e =
     omega (arith, unfinished_is_short o rest [] x t u (append-nil rest ∙ e), ap length e, length-append (option_bytes o) x)

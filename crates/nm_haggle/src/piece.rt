@@ -62,8 +62,8 @@ fn join(
     ensures held_stays { OnErr result (held.new.items ≡ held.old.items) }
 {
     let known = held.len();
-    let part = piece.len().min(MOST_HELD - known);
-    held.extend_from_slice(&piece[..part])?;
+    let count = piece.len().min(MOST_HELD - known);
+    held.extend_from_slice(&piece[..count])?;
     match answer_text(out, export, phase, held.as_slice()) {
         Ok(progress) => Ok(progress),
         Err(refused) => {

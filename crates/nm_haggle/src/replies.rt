@@ -1,5 +1,5 @@
-//! The bytes of the replies to options, each appended to the output. At an error part of a reply may
-//! stand there.
+//! The bytes of the replies to options, each appended to the output. At an error a part
+//! of a reply may follow it.
 ghost use Rattle.std.specs.Prelude.{◌≡◌, ◌<◌, ◌≤◌, ◌^◌, ◌++◌, [], length, OnOk, OnErr};
 ghost use Rattle.nm_haggle.specs.Answer.{reply, size_and_flags, export_information, block_sizes, information_replies};
 ghost use Rattle.nm_wire.specs.Number.{be};

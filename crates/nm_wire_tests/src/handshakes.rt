@@ -465,12 +465,17 @@ fn describes_a_read_only_export(rt: HostRuntime) -> Result<(), Fail> {
     Ok(())
 }
 
+/// Flags, and an option that is not served, with the most data.
+fn longest_option(alloc: Global) -> Result<Vec<u8>, AllocError> {
+    let zeroes = vec![in alloc; 0u8; 65_536]?;
+    option_text(alloc, 8, &zeroes)
+}
+
 // Copying what is held again at each byte would take some thousand million copies here.
 #[test]
 fn takes_the_longest_option_in_pieces(rt: HostRuntime) -> Result<(), Fail> {
     let alloc = rt.alloc();
-    let zeroes = vec![in alloc; 0u8; 65_536]?;
-    let text = option_text(alloc, 8, &zeroes)?;
+    let text = longest_option(alloc)?;
     for size in [1, 16, 1000, 4096, 65_535, 65_536] {
         let mut client = Client::new(alloc)?;
         for piece in text.chunks(size) {

@@ -4,4 +4,6 @@
 #[cfg(test)]
 mod frames;
 #[cfg(test)]
+mod handshakes;
+#[cfg(test)]
 mod headers;

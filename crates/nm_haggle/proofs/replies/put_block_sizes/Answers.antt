@@ -22,6 +22,6 @@ returns-clause-ok c =
     ∙ ap (λ xs. xs ++ be 4 min_block) (c.in_ok-put_u16.ensures.ok
     ∙ ap (λ n. c.put_head.new.out.items ++ be 2 n) c.number.ensures
     ∙ ap (λ xs. xs ++ be 2 (info_number BlockSize)) c.in_ok-put_head.ensures.ok)))
-    ∙ regroup (c.args.out.now.items ++ option_reply_bytes (head_for c.args.option Info 14)) 
+    ∙ regroup (c.args.out.now.items ++ option_reply_bytes (head_for c.args.option Info 14))
     (be 2 (info_number BlockSize)) (be 4 min_block) (be 4 preferred_block) (be 4 max_payload)
     ∙ reply_from c.args.option Info 14 c.args.out.now.items block_sizes length-block_sizes
