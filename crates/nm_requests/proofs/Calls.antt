@@ -1,16 +1,16 @@
--- What a run of calls handed out is the beginning of what it fed.
+-- What a run of calls handed out is the beginning of what it bytes_fed.
 use Rattle.std.proofs.Common.{◌≡◌, ℕ, ◌+◌, ◌≤◌, List, [], ◌∷◌, ◌++◌, length, refl, ap, sym, subst, ◌∙◌, arith, append_assoc, Option, Some, None}
 use Rattle.std.proofs.lemmas.List.{append-nil}
 use Rattle.nm_requests.specs.declared.fault.Fault.{Fault}
 use Rattle.nm_requests.specs.Message.{Message, message_bytes}
-use Rattle.nm_requests.specs.Stream.{Begins, EndsAs, IsStreamBehind, IsStream, most_requests}
-use Rattle.nm_requests.specs.Reader.{Unread, IsUnchanged, Call, Fed, HandedOut, Starved, Stopped, Refused, Runs, fed, handed_out, IsNew, Stops, Step}
-use Rattle.nm_requests.proofs.Streams.{begins_more, front_is_first, one_end}
+use Rattle.nm_requests.specs.Stream.{Begins, EndsAs, IsStreamAfter, IsStream, most_requests}
+use Rattle.nm_requests.specs.Reader.{Unread, IsUnchanged, Call, Fed, HandedOut, Starved, Stopped, Refused, Runs, bytes_fed, requests_out, IsNew, Stops, Step}
+use Rattle.nm_requests.proofs.Streams.{begins_more, taken_is_first, one_end}
 
--- from any state: what was unread and what was fed begin with what was handed out
+-- from any state: what was unread and what was bytes_fed begin with what was handed out
 pub record Keeps (old : Unread) (calls : List Call) (new : Unread) : Type 0 where
-  pub begins : Begins old.count (old.rest ++ fed calls) (handed_out calls) new.rest
-  pub count : new.count ≡ old.count + length (handed_out calls)
+  pub begins : Begins old.count (old.rest ++ bytes_fed calls) (requests_out calls) new.rest
+  pub count : new.count ≡ old.count + length (requests_out calls)
 
 begins_at : (m n : ℕ) (bytes other : List ℕ) (messages : List Message) (rest : List ℕ) → m ≡ n
     → bytes ≡ other → Begins m bytes messages rest → Begins n other messages rest
@@ -20,19 +20,19 @@ begins_at m n bytes other messages rest same e begins =
 -- a call that hands out nothing and feeds these bytes
 keeps_quiet : (old mid new : Unread) (piece : List ℕ) (calls : List Call)
     → mid.count ≡ old.count → mid.rest ≡ old.rest ++ piece → Keeps mid calls new
-    → Begins old.count (old.rest ++ (piece ++ fed calls)) (handed_out calls) new.rest ×
-    (new.count ≡ old.count + length (handed_out calls))
+    → Begins old.count (old.rest ++ (piece ++ bytes_fed calls)) (requests_out calls) new.rest ×
+    (new.count ≡ old.count + length (requests_out calls))
 keeps_quiet old mid new piece calls count rest keeps = (
-  begins_at mid.count old.count (mid.rest ++ fed calls) (old.rest ++ (piece ++ fed calls))
-      (handed_out calls) new.rest count
-      (ap (λ l. l ++ fed calls) rest ∙ append_assoc old.rest piece (fed calls)) keeps.begins,
-  keeps.count ∙ ap (λ n. n + length (handed_out calls)) count,
+  begins_at mid.count old.count (mid.rest ++ bytes_fed calls) (old.rest ++ (piece ++ bytes_fed calls))
+      (requests_out calls) new.rest count
+      (ap (λ l. l ++ bytes_fed calls) rest ∙ append_assoc old.rest piece (bytes_fed calls)) keeps.begins,
+  keeps.count ∙ ap (λ n. n + length (requests_out calls)) count,
 )
 
 keeps_unchanged : (old mid new : Unread) (calls : List Call) → IsUnchanged old mid
     → Keeps mid calls new
-    → Begins old.count (old.rest ++ fed calls) (handed_out calls) new.rest ×
-    (new.count ≡ old.count + length (handed_out calls))
+    → Begins old.count (old.rest ++ bytes_fed calls) (requests_out calls) new.rest ×
+    (new.count ≡ old.count + length (requests_out calls))
 keeps_unchanged old mid new calls same keeps =
     keeps_quiet old mid new [] calls same.count (same.rest ∙ sym (append-nil old.rest)) keeps
 
@@ -49,16 +49,16 @@ runs_keep old (Fed piece ∷ calls) new small run =
 runs_keep old (HandedOut message ∷ calls) new small run =
     let later = runs_keep run.0 calls new (omega (arith, run.1.count, run.1.first.few)) run.2 in
     record {
-      begins = begins_more old.count (old.rest ++ fed calls) (run.0.rest ++ fed calls) message
-          (handed_out calls) new.rest
+      begins = begins_more old.count (old.rest ++ bytes_fed calls) (run.0.rest ++ bytes_fed calls) message
+          (requests_out calls) new.rest
           (record {
-            whole = ap (λ l. l ++ fed calls) run.1.first.whole
-                ∙ append_assoc (message_bytes message) run.0.rest (fed calls);
+            whole = ap (λ l. l ++ bytes_fed calls) run.1.first.whole
+                ∙ append_assoc (message_bytes message) run.0.rest (bytes_fed calls);
             valid = run.1.first.valid;
             few = run.1.first.few;
           })
           (begins_at run.0.count (old.count + 1) _ _
-          (handed_out calls) new.rest run.1.count refl later.begins);
+          (requests_out calls) new.rest run.1.count refl later.begins);
       count = omega (arith, later.count, run.1.count);
     }
 runs_keep old (Starved ∷ calls) new small run =
@@ -78,33 +78,33 @@ runs_keep old (Refused ∷ calls) new small run =
 -- from a new reader
 pub so_far : (reader : Unread) (calls : List Call) (new : Unread) → IsNew reader
     → Runs reader calls new
-    → Begins 0 (fed calls) (handed_out calls) new.rest × (new.count ≡ length (handed_out calls))
+    → Begins 0 (bytes_fed calls) (requests_out calls) new.rest × (new.count ≡ length (requests_out calls))
 so_far reader calls new fresh run =
     let kept = runs_keep reader calls new (omega (arith, fresh.count)) run in (
-      begins_at reader.count 0 (reader.rest ++ fed calls) (fed calls)
-          (handed_out calls) new.rest fresh.count (ap (λ l. l ++ fed calls) fresh.rest) kept.begins,
+      begins_at reader.count 0 (reader.rest ++ bytes_fed calls) (bytes_fed calls)
+          (requests_out calls) new.rest fresh.count (ap (λ l. l ++ bytes_fed calls) fresh.rest) kept.begins,
       omega (arith, kept.count, fresh.count),
     )
 
-pub handed_out_first : (reader : Unread) (calls : List Call) (new : Unread)
+pub requests_out_first : (reader : Unread) (calls : List Call) (new : Unread)
     (messages : List Message) (end : Option Fault)
-    → IsNew reader → Runs reader calls new → IsStream (fed calls) messages end
-    → (later : List Message) × (messages ≡ handed_out calls ++ later) × IsStreamBehind new.count
+    → IsNew reader → Runs reader calls new → IsStream (bytes_fed calls) messages end
+    → (later : List Message) × (messages ≡ requests_out calls ++ later) × IsStreamAfter new.count
     new.rest later end
-handed_out_first reader calls new messages end fresh run stream =
+requests_out_first reader calls new messages end fresh run stream =
     let far = so_far reader calls new fresh run in
-    let first = front_is_first 0 (fed calls) (handed_out calls) messages new.rest end far.0 stream
+    let first = taken_is_first 0 (bytes_fed calls) (requests_out calls) messages new.rest end far.0 stream
     in (
       first.0,
       first.1,
-      subst (λ n. IsStreamBehind n new.rest first.0 end) (omega
+      subst (λ n. IsStreamAfter n new.rest first.0 end) (omega
           (arith, far.1)) first.2,
     )
 
-pub handed_out_all : (reader : Unread) (calls : List Call) (new : Unread) (end : Option Fault)
+pub requests_out_all : (reader : Unread) (calls : List Call) (new : Unread) (end : Option Fault)
     → IsNew reader → Runs reader calls new → EndsAs new.count new.rest end
-    → IsStream (fed calls) (handed_out calls) end
-handed_out_all reader calls new end fresh run ends =
+    → IsStream (bytes_fed calls) (requests_out calls) end
+requests_out_all reader calls new end fresh run ends =
     let far = so_far reader calls new fresh run in
     record {
       rest = new.rest;
@@ -115,7 +115,7 @@ handed_out_all reader calls new end fresh run ends =
 apart : (reader : Unread) (fault : Fault) → reader.fault ≡ Some fault → reader.fault ≡ None → ⊥
 apart reader fault stopped going = cc
 
--- behind a fault each call answers it again
+-- after a fault each call answers it again
 pub stays_stopped : (old mid new : Unread) (fault : Fault) (call : Call)
     → Stops old fault mid → Step mid call new → call ≡ Stopped fault
 stays_stopped old mid new fault (Fed piece) stops step =

@@ -1,4 +1,4 @@
--- Any bytes are a stream: what stands at their front is read off its first 28 bytes.
+-- Any bytes are a stream: what they begin with is read off the first 28 bytes.
 use Rattle.std.proofs.Common.{◌≡◌, ◌≢◌, ℕ, zero, suc, ◌+◌, ◌^◌, ◌<◌, ◌≤◌, ◌⊎◌, List, [], ◌∷◌, ◌++◌, length, take, drop, slice_index, refl, ap, sym, subst, ◌∙◌, arith, inl, inr, Option, Some, None, length-append}
 use Rattle.std.specs.Int.{w16, w32, w64, from_be_bytes}
 use Rattle.std.proofs.Math.Seq.{take-add}
@@ -11,9 +11,10 @@ use Rattle.nm_wire.specs.Layout.{request_head_bytes, FitsRequestHead}
 use Rattle.nm_wire.specs.Number.{be, request_magic}
 use Rattle.nm_requests.specs.declared.fault.Fault.{Fault}
 use Rattle.nm_requests.specs.declared.fault.Fault.TheVariants.{Magic, TooLong}
-use Rattle.nm_requests.specs.Message.{Message, message_bytes, payload_length, longest_payload}
-use Rattle.nm_requests.specs.Stream.{StartsWith, EndsAs, IsStreamBehind, most_requests}
-use Rattle.nm_requests.proofs.Fronts.{unfinished_from_short, unfinished_from_payload, starts_from_whole}
+use Rattle.nm_wire.specs.Sizes.{max_payload}
+use Rattle.nm_requests.specs.Message.{Message, message_bytes, payload_length}
+use Rattle.nm_requests.specs.Stream.{StartsWith, EndsAs, IsStreamAfter, most_requests}
+use Rattle.nm_requests.proofs.FirstRequest.{unfinished_from_short, unfinished_from_payload, starts_from_whole}
 use Rattle.nm_requests.proofs.Messages.{length-message_bytes}
 use Rattle.nm_requests.proofs.Streams.{stream_more, stream_ends}
 
@@ -81,7 +82,7 @@ part_8 bytes fits eight = (
   be_bytes_8 bytes (from_be_bytes w64 bytes) eight fits refl,
 )
 
--- the head that the first 28 bytes are, behind the magic number
+-- the header that the first 28 bytes are, after the magic number
 head_of : List ℕ → RequestHead
 head_of bytes = record {
   flags = record { 0 = from_be_bytes w16 (part 4 2 bytes) };
@@ -116,10 +117,10 @@ head_reads bytes fits long magic =
     (omega arith)) in
     let len = part_4 (part 24 4 bytes) (part_fits 24 4 bytes fits) (length-part 24 4 bytes
     (omega arith)) in
-    let front : take 28 bytes ≡ request_head_bytes (head_of bytes) =
+    let prefix : take 28 bytes ≡ request_head_bytes (head_of bytes) =
     first_28 bytes ∙ (λ i. magic i ++ sym flags.1 i ++ sym kind.1 i ++ sym cookie.1 i ++ sym
     offset.1 i ++ sym len.1 i) in (
-      sym (take-append-drop 28 bytes) ∙ ap (λ l. l ++ drop 28 bytes) front,
+      sym (take-append-drop 28 bytes) ∙ ap (λ l. l ++ drop 28 bytes) prefix,
       record {
         flags = flags.0;
         kind = kind.0;
@@ -140,17 +141,17 @@ magic_or_not bytes fits four =
     ]
 
 -- a request, or an end
-Front : ℕ → List ℕ → Type 0
-Front before bytes =
+First : ℕ → List ℕ → Type 0
+First before bytes =
     ((message : Message) × (after : List ℕ) × StartsWith before bytes message after)
     ⊎ ((end : Option Fault) × EndsAs before bytes end)
 
-front_behind_head : (before : ℕ) (bytes : List ℕ) (head : RequestHead)
+first_after_head : (before : ℕ) (bytes : List ℕ) (head : RequestHead)
     → bytes ≡ request_head_bytes head ++ drop 28 bytes
-    → FitsRequestHead head → before < most_requests → Front before bytes
-unfolding Front
-front_behind_head before bytes head whole fits few =
-    elim (cases_lt longest_payload (payload_length head)) [
+    → FitsRequestHead head → before < most_requests → First before bytes
+unfolding First
+first_after_head before bytes head whole fits few =
+    elim (cases_lt max_payload (payload_length head)) [
       | inl long ↦ inr (
         Some TooLong,
         record {
@@ -184,10 +185,10 @@ front_behind_head before bytes head whole fits few =
       ]
     ]
 
-front_of : (before : ℕ) (bytes : List ℕ) → AreBytes bytes → before ≤ most_requests
-    → Front before bytes
-unfolding Front
-front_of before bytes fits most =
+first_of : (before : ℕ) (bytes : List ℕ) → AreBytes bytes → before ≤ most_requests
+    → First before bytes
+unfolding First
+first_of before bytes fits most =
     elim (cases_lt (length bytes) 28) [
       | inl short ↦ inr (None, unfinished_from_short before bytes short)
       | inr long ↦ elim (cases_lt before most_requests) [
@@ -195,7 +196,7 @@ front_of before bytes fits most =
             (length-take-le 4 bytes (omega arith))) [
               | inl magic ↦
                   let reads = head_reads bytes fits long magic in
-                  front_behind_head before bytes (head_of bytes) reads.0 reads.1 few
+                  first_after_head before bytes (head_of bytes) reads.0 reads.1 few
               | inr other ↦ inr (Some Magic, (long, inl other))
             ]
         | inr full ↦ inr (Some Magic, (long, inr (omega arith)))
@@ -225,14 +226,14 @@ after_shorter before bytes message after starts =
 -- some requests and an end
 Some_stream : ℕ → List ℕ → Type 0
 Some_stream before bytes = (messages : List Message) ×
-    (end : Option Fault) × IsStreamBehind before bytes messages end
+    (end : Option Fault) × IsStreamAfter before bytes messages end
 
 stream_within : (fuel before : ℕ) (bytes : List ℕ) → length bytes < fuel → AreBytes bytes
     → before ≤ most_requests → Some_stream before bytes
-unfolding Some_stream Front
+unfolding Some_stream First
 stream_within zero before bytes small fits most = absurd (omega arith)
 stream_within (suc fuel) before bytes small fits most =
-    elim (front_of before bytes fits most) [
+    elim (first_of before bytes fits most) [
       | inl request ↦
           let later = stream_within fuel (before + 1) request.1 (omega
           (arith, after_shorter before bytes request.0 request.1 request.2))
@@ -247,6 +248,6 @@ stream_within (suc fuel) before bytes small fits most =
     ]
 
 pub some_stream : (bytes : List ℕ) → AreBytes bytes
-    → (messages : List Message) × (end : Option Fault) × IsStreamBehind 0 bytes messages end
+    → (messages : List Message) × (end : Option Fault) × IsStreamAfter 0 bytes messages end
 unfolding Some_stream
 some_stream bytes fits = stream_within (length bytes + 1) 0 bytes (omega arith) fits (omega arith)

@@ -1,6 +1,6 @@
 pub mod Messages
 pub mod Streams
 pub mod Calls
-pub mod Fronts
+pub mod FirstRequest
 pub mod Rows
 pub mod Existence

@@ -6,17 +6,17 @@ use Rattle.nm_wire.specs.declared.export.Export.{Export}
 use Rattle.nm_requests.specs.declared.request.Request.{Request}
 use Rattle.nm_requests.specs.declared.task.Task.{Task}
 use Rattle.nm_requests.specs.Judging.{Row, row, IsFirst, table, is_read, is_write, is_disconnect, is_flush, is_trim, is_write_zeroes, contains, fua, no_hole, is_change, is_aligned, is_past_end}
-use Rattle.nm_requests.specs.Message.{longest_payload}
+use Rattle.nm_wire.specs.Sizes.{max_payload}
 
 -- one of the tests is true
 abbrev pub SomeTrue : List Bool → Type 0
 SomeTrue [] = ⊥
 SomeTrue (test ∷ tests) = MatchBool test (Unit {0}) (SomeTrue tests)
 
-some_behind : (front tests : List Bool) → SomeTrue tests → SomeTrue (front ++ tests)
-some_behind [] tests some = some
-some_behind (true ∷ front) tests some = tt
-some_behind (false ∷ front) tests some = some_behind front tests some
+some_after : (prefix tests : List Bool) → SomeTrue tests → SomeTrue (prefix ++ tests)
+some_after [] tests some = some
+some_after (true ∷ prefix) tests some = tt
+some_after (false ∷ prefix) tests some = some_after prefix tests some
 
 -- a known type has its row among the last, and an unknown one the second
 each_type : (disconnect read write flush trim zeroes a c d e f g h : Bool)
@@ -25,15 +25,15 @@ each_type : (disconnect read write flush trim zeroes a c d e f g h : Bool)
     (trim || zeroes) ∷ [])
 each_type true read write flush trim zeroes a c d e f g h = tt
 each_type false true write flush trim zeroes a c d e f g h =
-    some_behind (a ∷ flush ∷ c ∷ d ∷ e ∷ f ∷ g ∷ h ∷ []) (true ∷ write ∷ (trim || zeroes) ∷ []) tt
+    some_after (a ∷ flush ∷ c ∷ d ∷ e ∷ f ∷ g ∷ h ∷ []) (true ∷ write ∷ (trim || zeroes) ∷ []) tt
 each_type false false true flush trim zeroes a c d e f g h =
-    some_behind (a ∷ flush ∷ c ∷ d ∷ e ∷ f ∷ g ∷ h ∷ []) (false ∷ true ∷ (trim || zeroes) ∷ []) tt
+    some_after (a ∷ flush ∷ c ∷ d ∷ e ∷ f ∷ g ∷ h ∷ []) (false ∷ true ∷ (trim || zeroes) ∷ []) tt
 each_type false false false true trim zeroes a c d e f g h =
-    some_behind (a ∷ []) (true ∷ c ∷ d ∷ e ∷ f ∷ g ∷ h ∷ false ∷ false ∷ (trim || zeroes) ∷ []) tt
+    some_after (a ∷ []) (true ∷ c ∷ d ∷ e ∷ f ∷ g ∷ h ∷ false ∷ false ∷ (trim || zeroes) ∷ []) tt
 each_type false false false false true zeroes a c d e f g h =
-    some_behind (a ∷ false ∷ c ∷ d ∷ e ∷ f ∷ g ∷ h ∷ []) (false ∷ false ∷ true ∷ []) tt
+    some_after (a ∷ false ∷ c ∷ d ∷ e ∷ f ∷ g ∷ h ∷ []) (false ∷ false ∷ true ∷ []) tt
 each_type false false false false false true a c d e f g h =
-    some_behind (a ∷ false ∷ c ∷ d ∷ e ∷ f ∷ g ∷ h ∷ []) (false ∷ false ∷ true ∷ []) tt
+    some_after (a ∷ false ∷ c ∷ d ∷ e ∷ f ∷ g ∷ h ∷ []) (false ∷ false ∷ true ∷ []) tt
 each_type false false false false false false a c d e f g h = tt
 
 tests_of : List Row → List Bool
@@ -49,7 +49,7 @@ some_row request export =
     (not (is_aligned request))
     ((is_read request || is_trim request) && is_past_end request export)
     ((is_write request || is_write_zeroes request) && is_past_end request export)
-    (is_read request && nat_lt longest_payload request.length)
+    (is_read request && nat_lt max_payload request.length)
     (request.length == 0)
 
 -- the one result of the first row that applies

@@ -1,16 +1,17 @@
--- A stream is read in one way: at its front stands a request or an end, and only one of these.
+-- A stream is read in one way: it begins with a request or an end, and with only one of these.
 use Rattle.std.proofs.Common.{◌≡◌, ℕ, ◌+◌, ◌<◌, ◌≤◌, List, [], ◌∷◌, ◌++◌, length, take, refl, ap, sym, subst, ◌∙◌, arith, append_assoc, length-append, inl, inr, Option, Some, None}
 use Rattle.std.proofs.lemmas.List.{append-nil, take-append-le}
 use Rattle.std.specs.List.{flat_map}
 use Rattle.nm_wire.specs.Layout.{request_head_bytes}
 use Rattle.nm_requests.specs.declared.fault.Fault.{Fault}
 use Rattle.nm_requests.specs.declared.fault.Fault.TheVariants.{Magic, TooLong, Memory}
-use Rattle.nm_requests.specs.Message.{Message, message_bytes, payload_length, longest_payload}
-use Rattle.nm_requests.specs.Stream.{StartsWith, Begins, IsWrongMagic, EndsAs, IsStreamBehind, most_requests}
+use Rattle.nm_wire.specs.Sizes.{max_payload}
+use Rattle.nm_requests.specs.Message.{Message, message_bytes, payload_length}
+use Rattle.nm_requests.specs.Stream.{StartsWith, Begins, IsWrongMagic, EndsAs, IsStreamAfter, most_requests}
 use Rattle.nm_wire.proofs.Heads.{request_head_bytes-unique, request_head_bytes-magic}
 use Rattle.nm_requests.proofs.Messages.{one_message}
 
--- ---- what stands at the front
+-- ---- what the bytes begin with
 
 pub head_is_no_wrong_magic : (before : ℕ) (bytes after : List ℕ) (head : _)
     → bytes ≡ request_head_bytes head ++ after → before < most_requests
@@ -36,8 +37,8 @@ request_is_no_end before bytes after message (Some TooLong) starts ends =
     (request_head_bytes-unique message.head ends.head (message.payload ++ after) ends.after
     starts.valid.fits ends.fits
     (sym (request_whole message after) ∙ sym starts.whole ∙ ends.whole)).0 in
-    let short : payload_length ends.head ≤ longest_payload =
-    subst (λ head. payload_length head ≤ longest_payload) heads starts.valid.short in
+    let short : payload_length ends.head ≤ max_payload =
+    subst (λ head. payload_length head ≤ max_payload) heads starts.valid.short in
     absurd (omega (arith, ends.long, short))
 request_is_no_end before bytes after message (Some Memory) starts ends = ends
 
@@ -94,8 +95,8 @@ ends_at m n rest end same ends = subst (λ k. EndsAs k rest end) same ends
 
 pub stream_first : (before : ℕ) (bytes : List ℕ) (message : Message) (messages : List Message)
     (end : Option Fault)
-    → IsStreamBehind before bytes (message ∷ messages) end
-    → (after : List ℕ) × StartsWith before bytes message after × IsStreamBehind
+    → IsStreamAfter before bytes (message ∷ messages) end
+    → (after : List ℕ) × StartsWith before bytes message after × IsStreamAfter
     (before + 1) after messages end
 stream_first before bytes message messages end stream =
     let first = begins_first before bytes message messages stream.rest stream.begins in (
@@ -110,8 +111,8 @@ stream_first before bytes message messages end stream =
 
 pub stream_more : (before : ℕ) (bytes after : List ℕ) (message : Message)
     (messages : List Message) (end : Option Fault)
-    → StartsWith before bytes message after → IsStreamBehind (before + 1) after messages end
-    → IsStreamBehind before bytes (message ∷ messages) end
+    → StartsWith before bytes message after → IsStreamAfter (before + 1) after messages end
+    → IsStreamAfter before bytes (message ∷ messages) end
 stream_more before bytes after message messages end starts stream = record {
   rest = stream.rest;
   begins = begins_more before bytes after message messages stream.rest starts stream.begins;
@@ -119,74 +120,74 @@ stream_more before bytes after message messages end starts stream = record {
 }
 
 pub stream_ends : (before : ℕ) (bytes : List ℕ) (end : Option Fault) → before ≤ most_requests
-    → EndsAs before bytes end → IsStreamBehind before bytes [] end
+    → EndsAs before bytes end → IsStreamAfter before bytes [] end
 stream_ends before bytes end few ends = record {
   rest = bytes;
   begins = record { whole = refl; valid = tt; few = omega arith };
   ends = ends_at before (before + 0) bytes end (omega arith) ends;
 }
 
--- ---- the requests that stand in front are the first of the stream
+-- ---- requests that the bytes begin with are the first of the stream
 
 stream_along : (before k : ℕ) (bytes other : List ℕ) (messages : List Message)
-    (end : Option Fault) → before ≡ k → bytes ≡ other → IsStreamBehind before bytes messages end
-    → IsStreamBehind k other messages end
+    (end : Option Fault) → before ≡ k → bytes ≡ other → IsStreamAfter before bytes messages end
+    → IsStreamAfter k other messages end
 stream_along before k bytes other messages end same e stream =
-    subst (λ n. IsStreamBehind n other messages end) same (subst
-    (λ l. IsStreamBehind before l messages end) e stream)
+    subst (λ n. IsStreamAfter n other messages end) same (subst
+    (λ l. IsStreamAfter before l messages end) e stream)
 
-pub front_is_first : (before : ℕ) (bytes : List ℕ) (front messages : List Message)
+pub taken_is_first : (before : ℕ) (bytes : List ℕ) (taken messages : List Message)
     (rest : List ℕ) (end : Option Fault)
-    → Begins before bytes front rest → IsStreamBehind before bytes messages end
-    → (later : List Message) × (messages ≡ front ++ later) × IsStreamBehind
-    (before + length front) rest later end
-front_is_first before bytes [] messages rest end begins stream = (
+    → Begins before bytes taken rest → IsStreamAfter before bytes messages end
+    → (later : List Message) × (messages ≡ taken ++ later) × IsStreamAfter
+    (before + length taken) rest later end
+taken_is_first before bytes [] messages rest end begins stream = (
   messages,
   refl,
   stream_along before (before + 0) bytes rest messages end
       (omega arith) begins.whole stream,
 )
-front_is_first before bytes (m ∷ front) [] rest end begins stream =
-    let first = begins_first before bytes m front rest begins in
+taken_is_first before bytes (m ∷ taken) [] rest end begins stream =
+    let first = begins_first before bytes m taken rest begins in
     let here : EndsAs before bytes end =
     subst (λ l. EndsAs before l end) (sym stream.begins.whole) (ends_at _ _ stream.rest end
     (omega arith) stream.ends) in
-    absurd (request_is_no_end before bytes (flat_map message_bytes front ++ rest) m end first.0
+    absurd (request_is_no_end before bytes (flat_map message_bytes taken ++ rest) m end first.0
     here)
-front_is_first before bytes (m ∷ front) (n ∷ messages) rest end begins stream =
-    let first = begins_first before bytes m front rest begins in
+taken_is_first before bytes (m ∷ taken) (n ∷ messages) rest end begins stream =
+    let first = begins_first before bytes m taken rest begins in
     let next = stream_first before bytes n messages end stream in
-    let same = one_message n m next.0 (flat_map message_bytes front ++ rest) next.1.valid
+    let same = one_message n m next.0 (flat_map message_bytes taken ++ rest) next.1.valid
     first.0.valid (sym next.1.whole ∙ first.0.whole) in
-    let others = front_is_first (before + 1) (flat_map message_bytes front ++ rest) front messages
+    let others = taken_is_first (before + 1) (flat_map message_bytes taken ++ rest) taken messages
     rest end first.1
     (stream_along (before + 1) (before + 1) next.0
-    (flat_map message_bytes front ++ rest) messages end refl same.1 next.2) in (
+    (flat_map message_bytes taken ++ rest) messages end refl same.1 next.2) in (
       others.0,
       (λ i. same.0 i ∷ others.1 i),
-      stream_along (before + 1 + length front) (before + length
-          (m ∷ front)) rest rest others.0 end (omega arith) refl others.2,
+      stream_along (before + 1 + length taken) (before + length
+          (m ∷ taken)) rest rest others.0 end (omega arith) refl others.2,
     )
 
--- behind an end nothing is read
-pub nothing_behind : (before : ℕ) (rest : List ℕ) (later : List Message) (end other : Option Fault)
-    → EndsAs before rest end → IsStreamBehind before rest later other → (later ≡ []) × (end ≡ other)
-nothing_behind before rest [] end other ends stream = (
+-- after an end nothing is read
+pub nothing_after : (before : ℕ) (rest : List ℕ) (later : List Message) (end other : Option Fault)
+    → EndsAs before rest end → IsStreamAfter before rest later other → (later ≡ []) × (end ≡ other)
+nothing_after before rest [] end other ends stream = (
   refl,
   one_end before rest end other ends (subst (λ l. EndsAs before l other)
       (sym stream.begins.whole) (ends_at _ _ stream.rest other (omega arith) stream.ends)),
 )
-nothing_behind before rest (m ∷ later) end other ends stream =
+nothing_after before rest (m ∷ later) end other ends stream =
     let first = stream_first before rest m later other stream in
     absurd (request_is_no_end before rest first.0 m end first.1 ends)
 
 pub one_stream : (before : ℕ) (bytes : List ℕ) (messages others : List Message)
     (end other : Option Fault)
-    → IsStreamBehind before bytes messages end → IsStreamBehind before bytes others other
+    → IsStreamAfter before bytes messages end → IsStreamAfter before bytes others other
     → (messages ≡ others) × (end ≡ other)
 one_stream before bytes messages others end other a b =
-    let more = front_is_first before bytes messages others a.rest other a.begins b in
-    let none = nothing_behind (before + length messages) a.rest more.0 end other a.ends more.2 in
+    let more = taken_is_first before bytes messages others a.rest other a.begins b in
+    let none = nothing_after (before + length messages) a.rest more.0 end other a.ends more.2 in
     (sym (append-nil messages) ∙ ap (λ l. messages ++ l) (sym none.0) ∙ sym more.1, none.1)
 
 -- ---- more bytes
@@ -197,13 +198,13 @@ end_stays before rest more Magic ends =
     let long : 28 ≤ length (rest ++ more) = omega (arith, ends.0, length-append rest more) in (
       long,
       elim ends.1 [
-        | inl other ↦ inl (λ e. other (sym (take_front rest more ends.0) ∙ e))
+        | inl other ↦ inl (λ e. other (sym (take_long rest more ends.0) ∙ e))
         | inr full ↦ inr full
       ],
     )
   where
-    take_front : (xs ys : List ℕ) → 28 ≤ length xs → take 4 (xs ++ ys) ≡ take 4 xs
-    take_front xs ys h = take-append-le 4 xs ys (omega arith)
+    take_long : (xs ys : List ℕ) → 28 ≤ length xs → take 4 (xs ++ ys) ≡ take 4 xs
+    take_long xs ys h = take-append-le 4 xs ys (omega arith)
 end_stays before rest more TooLong ends = record {
   head = ends.head;
   after = ends.after ++ more;
@@ -226,16 +227,16 @@ begins_append before bytes more messages rest begins = record {
 
 pub stream_goes_on : (before : ℕ) (bytes more : List ℕ) (messages others : List Message)
     (end other : Option Fault)
-    → IsStreamBehind before bytes messages end → IsStreamBehind before (bytes ++ more) others other
+    → IsStreamAfter before bytes messages end → IsStreamAfter before (bytes ++ more) others other
     → (later : List Message) × (others ≡ messages ++ later)
 stream_goes_on before bytes more messages others end other a b =
-    let more_of = front_is_first before (bytes ++ more) messages others (a.rest ++ more) other
+    let more_of = taken_is_first before (bytes ++ more) messages others (a.rest ++ more) other
     (begins_append before bytes more messages a.rest a.begins) b in
     (more_of.0, more_of.1)
 
 pub fault_stays : (before : ℕ) (bytes more : List ℕ) (messages : List Message) (fault : Fault)
-    → IsStreamBehind before bytes messages (Some fault)
-    → IsStreamBehind before (bytes ++ more) messages (Some fault)
+    → IsStreamAfter before bytes messages (Some fault)
+    → IsStreamAfter before (bytes ++ more) messages (Some fault)
 fault_stays before bytes more messages fault stream = record {
   rest = stream.rest ++ more;
   begins = begins_append before bytes more messages stream.rest stream.begins;

@@ -1,17 +1,17 @@
 -- How a request is judged against an export: by a table whose first row that applies decides.
-use Rattle.std.specs.Prelude.{◌≡◌, ℕ, ◌+◌, ◌*◌, ◌/◌, ◌%◌, ◌^◌, ◌<◌, ◌≤◌, Bool, not, ◌&&◌, ◌||◌, List, [], ◌∷◌, ◌==◌, nat_lt, bit_and, Result, Ok, Err}
+use Rattle.std.specs.Prelude.{◌≡◌, ℕ, ◌+◌, ◌*◌, ◌/◌, ◌%◌, ◌^◌, ◌<◌, ◌≤◌, Bool, true, not, ◌&&◌, ◌||◌, List, [], ◌∷◌, ◌==◌, nat_lt, bit_and, Result, Ok, Err}
 use Rattle.std.specs.Bool.{MatchBool}
 use Rattle.nm_wire.specs.declared.command.Command.TheVariants as command
 use Rattle.nm_wire.specs.declared.command.Command.{Command}
 use Rattle.nm_wire.specs.declared.export.Export.{Export}
 use Rattle.nm_wire.specs.Command.{command_number}
 use Rattle.nm_wire.specs.Export.{size_of}
+use Rattle.nm_wire.specs.Sizes.{max_payload, min_block}
 use Rattle.nm_requests.specs.declared.request.Request.{Request}
 use Rattle.nm_requests.specs.declared.task.Task.TheVariants as task
 use Rattle.nm_requests.specs.declared.task.Task.{Task}
-use Rattle.nm_requests.specs.Message.{longest_payload}
 
--- the error values ("Error values"): not permitted, not valid, no space left
+-- the error values ("Error values"): not permitted, not valid, no space
 abbrev pub not_permitted : ℕ
 not_permitted = 1
 
@@ -79,14 +79,14 @@ no_hole = 2 ^ 1
 
 -- whether it begins and ends between blocks
 abbrev pub is_aligned : Request → Bool
-is_aligned request = (request.offset % 512 == 0) && (request.length % 512 == 0)
+is_aligned request = (request.offset % min_block == 0) && (request.length % min_block == 0)
 
 -- the block that it begins with, and how many it names
 abbrev pub first_block : Request → ℕ
-first_block request = request.offset / 512
+first_block request = request.offset / min_block
 
 abbrev pub blocks : Request → ℕ
-blocks request = request.length / 512
+blocks request = request.length / min_block
 
 -- whether its data are to be durable before the reply
 abbrev pub has_fua : Request → Bool
@@ -106,8 +106,9 @@ table request export =
     ∷ row (is_change request && export.read_only) (Err not_permitted)
     ∷ row (not (is_aligned request)) (Err not_valid)
     ∷ row ((is_read request || is_trim request) && is_past_end request export) (Err not_valid)
-    ∷ row ((is_write request || is_write_zeroes request) && is_past_end request export) (Err no_space)
-    ∷ row (is_read request && nat_lt longest_payload request.length) (Err not_valid)
+    ∷ row ((is_write request || is_write_zeroes request) && is_past_end request export)
+    (Err no_space)
+    ∷ row (is_read request && nat_lt max_payload request.length) (Err not_valid)
     ∷ row (request.length == 0) (Ok task.Nothing)
     ∷ row (is_read request) (Ok (task.Read (first_block request) (blocks request)))
     ∷ row (is_write request)
@@ -118,16 +119,18 @@ table request export =
 
 -- the blocks are those that the request names, at least one, and lie inside the export
 pub record AreBlocksOf (request : Request) (export : Export) (block count : ℕ) : Type 0 where
-  pub offset : request.offset ≡ 512 * block
-  pub length : request.length ≡ 512 * count
+  pub offset : request.offset ≡ min_block * block
+  pub length : request.length ≡ min_block * count
   pub some : 0 < count
   pub inside : block + count ≤ export.blocks
 
--- the task's blocks are the request's, and no READ is longer than 32 MiB
+-- the task's blocks are the request's; no READ is longer than 32 MiB, and only a WRITE writes, so
+-- that its payload fills the blocks
 abbrev pub LiesInside : Request → Export → Task → Type 0
 LiesInside request export (task.Read block count) =
-    AreBlocksOf request export block count × (512 * count ≤ longest_payload)
-LiesInside request export (task.Write block count _) = AreBlocksOf request export block count
+    AreBlocksOf request export block count × (min_block * count ≤ max_payload)
+LiesInside request export (task.Write block count _) =
+    AreBlocksOf request export block count × (is_write request ≡ true)
 LiesInside request export (task.Zero block count _) = AreBlocksOf request export block count
 LiesInside request export task.Flush = Unit {0}
 LiesInside request export task.Nothing = Unit {0}

@@ -1,7 +1,7 @@
 pub mod Message
 pub mod Stream
 pub mod Reader
-pub mod Front
-pub mod Kept
+pub mod First
+pub mod ReaderFields
 pub mod Judging
-pub mod FaultText
+pub mod Faults

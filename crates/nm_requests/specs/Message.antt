@@ -1,24 +1,21 @@
--- A request on the wire ("Request message"): a head and, behind the head of a WRITE, its payload.
+-- A request on the wire ("Request message"): its header and, after that of a WRITE, its payload.
 use Rattle.std.specs.Prelude.{◌≡◌, ℕ, ◌≤◌, List, ◌++◌, length, ◌==◌, if◌then◌else◌}
 use Rattle.nm_wire.specs.declared.command.Command.TheVariants.{Write}
 use Rattle.nm_wire.specs.declared.request_head.RequestHead.{RequestHead}
 use Rattle.nm_wire.specs.Command.{command_number}
 use Rattle.nm_wire.specs.Layout.{FitsRequestHead, request_head_bytes}
+use Rattle.nm_wire.specs.Sizes.{max_payload}
 
--- a request as it stands in the stream
+-- a request as the stream has it
 pub record Message : Type 0 where
   pub head : RequestHead
   pub payload : List ℕ
 
--- the longest payload that is taken: 32 MiB
-abbrev pub longest_payload : ℕ
-longest_payload = 33554432
-
--- how many bytes follow the head: as many as a WRITE's length says, none behind another command
+-- how many bytes follow the header: as many as a WRITE's length says, none after other commands
 abbrev pub payload_length : RequestHead → ℕ
 payload_length head = if head.kind == command_number Write then head.length else 0
 
--- the bytes of a request: its head, then its payload
+-- the bytes of a request: its header, then its payload
 abbrev pub message_bytes : Message → List ℕ
 message_bytes message = request_head_bytes message.head ++ message.payload
 
@@ -26,4 +23,4 @@ message_bytes message = request_head_bytes message.head ++ message.payload
 pub record IsMessage (message : Message) : Type 0 where
   pub fits : FitsRequestHead message.head
   pub whole : length message.payload ≡ payload_length message.head
-  pub short : payload_length message.head ≤ longest_payload
+  pub short : payload_length message.head ≤ max_payload

@@ -12,13 +12,13 @@ pub record Unread : Type 0 where
   pub fault : Option Fault
   pub room : ℕ
 
--- nothing but the room is another
+-- at most the room changed
 pub record IsUnchanged (old new : Unread) : Type 0 where
   pub rest : new.rest ≡ old.rest
   pub count : new.count ≡ old.count
   pub fault : new.fault ≡ old.fault
 
--- the piece stands behind what was unread
+-- the piece follows what was unread
 pub record Feeds (old : Unread) (piece : List ℕ) (new : Unread) : Type 0 where
   pub was_open : old.fault ≡ None
   pub rest : new.rest ≡ old.rest ++ piece
@@ -32,20 +32,20 @@ pub record HandsOut (old : Unread) (message : Message) (new : Unread) : Type 0 w
   pub count : new.count ≡ old.count + 1
   pub fault : new.fault ≡ None
 
--- no whole request is unread, and nothing changes
+-- no complete request is buffered; nothing changes
 pub record Starves (old new : Unread) : Type 0 where
   pub was_open : old.fault ≡ None
   pub unfinished : EndsAs old.count old.rest None
   pub unchanged : IsUnchanged old new
 
--- the unread bytes begin with a head that ends the stream, and the reader keeps the fault
+-- the unread bytes begin with a header that ends the stream, and the reader keeps the fault
 pub record Stops (old : Unread) (found : Fault) (new : Unread) : Type 0 where
   pub ends : EndsAs old.count old.rest (Some found)
   pub rest : new.rest ≡ old.rest
   pub count : new.count ≡ old.count
   pub fault : new.fault ≡ Some found
 
--- want of memory: nothing changes
+-- out of memory: nothing changes
 pub record Refuses (old new : Unread) : Type 0 where
   pub was_open : old.fault ≡ None
   pub unchanged : IsUnchanged old new
@@ -72,16 +72,16 @@ Runs old [] new = IsUnchanged old new
 Runs old (call ∷ calls) new = (mid : Unread) × Step old call mid × Runs mid calls new
 
 -- the bytes that the calls fed
-abbrev pub fed : List Call → List ℕ
-fed [] = []
-fed (Fed piece ∷ calls) = piece ++ fed calls
-fed (_ ∷ calls) = fed calls
+abbrev pub bytes_fed : List Call → List ℕ
+bytes_fed [] = []
+bytes_fed (Fed piece ∷ calls) = piece ++ bytes_fed calls
+bytes_fed (_ ∷ calls) = bytes_fed calls
 
 -- the requests that the calls handed out
-abbrev pub handed_out : List Call → List Message
-handed_out [] = []
-handed_out (HandedOut message ∷ calls) = message ∷ handed_out calls
-handed_out (_ ∷ calls) = handed_out calls
+abbrev pub requests_out : List Call → List Message
+requests_out [] = []
+requests_out (HandedOut message ∷ calls) = message ∷ requests_out calls
+requests_out (_ ∷ calls) = requests_out calls
 
 -- a new reader
 pub record IsNew (reader : Unread) : Type 0 where

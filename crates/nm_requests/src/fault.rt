@@ -1,5 +1,5 @@
 ghost use Rattle.std.specs.Prelude.{◌≡◌, Some};
-ghost use Rattle.nm_requests.specs.FaultText.{fault_text};
+ghost use Rattle.nm_requests.specs.Faults.{number_of, text_of};
 ghost use Rattle.nm_requests.specs.declared.fault.Fault.TheVariants.{Memory};
 
 use std::alloc::AllocError;
@@ -9,22 +9,35 @@ use std::fmt;
 /// Why a reader hands out no request.
 #[derive(Clone, Copy, Debug, PartialEq, Eq, Hash)]
 pub enum Fault {
-    /// 1: a head begins with another magic number, or stands behind 2^63 requests. For good.
-    Magic = 1,
-    /// 2: a WRITE is longer than 32 MiB. For good.
-    TooLong = 2,
-    /// 3: a growth of memory was refused. Nothing changed, and the call may be made again.
-    Memory = 3,
+    /// A header begins with another magic number, or follows 2^63 requests. Permanent.
+    Magic,
+    /// A WRITE is longer than 32 MiB. Permanent.
+    TooLong,
+    /// Out of memory. Nothing changed, and the call may be made again.
+    Memory,
+}
+
+impl Fault {
+    /// The fault's number: 1 Magic, 2 TooLong, 3 Memory.
+    pub fn number(&self) -> u8
+        ensures { result ≡ number_of self.now }
+    {
+        match self {
+            Fault::Magic => 1,
+            Fault::TooLong => 2,
+            Fault::Memory => 3,
+        }
+    }
 }
 
 impl fmt::Display for Fault {
-    ghost output = { λ fault. Some (fault_text fault) };
+    ghost output = { λ fault. Some (text_of fault) };
 
     fn fmt<W: fmt::Write>(&self, f: &mut fmt::Formatter<W>) -> fmt::Result {
         f.write_str(match self {
             Fault::Magic => "a request begins with another magic number",
             Fault::TooLong => "a WRITE is longer than 32 MiB",
-            Fault::Memory => "no memory",
+            Fault::Memory => "out of memory",
         })
     }
 }

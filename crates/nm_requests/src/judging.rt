@@ -3,18 +3,16 @@ ghost use Rattle.nm_wire.specs.Command.{command_number};
 ghost use Rattle.nm_requests.specs.Judging.{table, IsFirst, LiesInside};
 ghost use Rattle.nm_requests.specs.Judging as judging;
 
-use crate::request::{MAX_PAYLOAD, Request};
+use crate::request::Request;
 use crate::task::Task;
 use nm_wire::errors::{EINVAL, ENOSPC, EPERM};
+use nm_wire::sizes::{MAX_PAYLOAD, MIN_BLOCK};
 use nm_wire::{Command, CommandFlags, Export};
-
-const BLOCK_BYTES: u32 = 512;
 
 // The flags that a request may have.
 const SERVED: CommandFlags = CommandFlags(CommandFlags::FUA.0 | CommandFlags::NO_HOLE.0);
 
-/// What is to be done for the request, or the error number of its reply ("Error values"). Takes
-/// no memory.
+/// What the request asks for, or the error number of its reply ("Error values"). Takes no memory.
 pub fn judge(request: &Request, export: &Export) -> Result<Task, u32>
     ensures table { IsFirst (table request.now export.now) result }
     ensures inside { IfOk result (LiesInside request.now export.now) }
@@ -31,7 +29,7 @@ pub fn judge(request: &Request, export: &Export) -> Result<Task, u32>
     }
 }
 
-// Judges where a READ, WRITE, TRIM or WRITE_ZEROES lies, by the rows behind the first five.
+// Judges where a READ, WRITE, TRIM or WRITE_ZEROES lies, by the rows after the first five.
 fn judge_extent(command: Command, request: &Request, export: &Export) -> Result<Task, u32>
     requires kind { request.now.kind ≡ command_number command }
     requires not_disconnect { command ≢ Command.Disconnect }
@@ -41,7 +39,7 @@ fn judge_extent(command: Command, request: &Request, export: &Export) -> Result<
 {
     let size = export.size();
     let length = u64::from(request.length);
-    if request.offset % u64::from(BLOCK_BYTES) != 0 || request.length % BLOCK_BYTES != 0 {
+    if request.offset % u64::from(MIN_BLOCK) != 0 || request.length % MIN_BLOCK != 0 {
         return Err(EINVAL);
     }
     // The sum of offset and length may not fit.
@@ -57,8 +55,8 @@ fn judge_extent(command: Command, request: &Request, export: &Export) -> Result<
     if request.length == 0 {
         return Ok(Task::Nothing);
     }
-    let block = request.offset / u64::from(BLOCK_BYTES);
-    let count = request.length / BLOCK_BYTES;
+    let block = request.offset / u64::from(MIN_BLOCK);
+    let count = request.length / MIN_BLOCK;
     let fua = contains(request.flags, CommandFlags::FUA);
     Ok(match command {
         Command::Read => Task::Read { block, count },

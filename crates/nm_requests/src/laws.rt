@@ -1,23 +1,26 @@
 //! Laws of the definitions: what the contracts of single calls say, they say of whole streams.
-ghost use Rattle.std.specs.Prelude.{◌≡◌, ◌<◌, ◌++◌, ℕ, slice_index, List, length, Option, Some, Result};
+ghost use Rattle.std.specs.Prelude.{◌≡◌, ◌<◌, ◌*◌, ◌++◌, ℕ, Bool, slice_index, List, length, Option, Some, Result};
+ghost use Rattle.nm_wire.specs.Sizes.{min_block};
 ghost use Rattle.nm_wire.specs.declared.export.Export.{Export};
 ghost use Rattle.nm_requests.specs.declared.fault.Fault.{Fault};
 ghost use Rattle.nm_requests.specs.declared.request.Request.{Request};
 ghost use Rattle.nm_requests.specs.declared.task.Task.{Task};
-ghost use Rattle.nm_requests.specs.Judging.{IsFirst, table};
+ghost use Rattle.nm_requests.specs.declared.task.Task.TheVariants.{Write};
+ghost use Rattle.nm_requests.specs.First.{message_of};
+ghost use Rattle.nm_requests.specs.Judging.{IsFirst, LiesInside, table};
 ghost use Rattle.nm_requests.specs.Message.{Message, IsMessage, message_bytes};
-ghost use Rattle.nm_requests.specs.Reader.{Unread, Call, Stopped, IsNew, Stops, Step, Runs, fed, handed_out};
-ghost use Rattle.nm_requests.specs.Stream.{StartsWith, Begins, EndsAs, IsStream, IsStreamBehind};
+ghost use Rattle.nm_requests.specs.Reader.{Unread, Call, Stopped, IsNew, Stops, Step, Runs, bytes_fed, requests_out};
+ghost use Rattle.nm_requests.specs.Stream.{StartsWith, Begins, EndsAs, IsStream, IsStreamAfter};
 
-/// No request begins another: of what stands in front of the rest of a stream there is one reading.
+/// No request begins another: bytes that begin with a request begin with no other.
 pub fn no_request_begins_another()
     ensures { (a b : Message) (x y : List ℕ) → IsMessage a → IsMessage b
         → message_bytes a ++ x ≡ message_bytes b ++ y → (a ≡ b) × (x ≡ y) }
 {}
 
-/// A request, a wrong magic number, a WRITE that is too long and no whole request: of these at
-/// most one stands at a place of the stream.
-pub fn one_thing_stands_there()
+/// A request, a wrong magic number, a WRITE that is too long, or no whole request: bytes begin with
+/// at most one of these.
+pub fn one_beginning()
     ensures request { (before : ℕ) (bytes after : List ℕ) (message : Message) (end : Option Fault)
         → StartsWith before bytes message after → EndsAs before bytes end → ⊥ }
     ensures end { (before : ℕ) (bytes : List ℕ) (end other : Option Fault)
@@ -33,7 +36,7 @@ pub fn one_stream()
         → (messages ≡ others) × (end ≡ other) }
 {}
 
-/// More bytes add requests behind those that are there, and none behind a fault.
+/// More bytes add requests after those that are there, and none after a fault.
 pub fn stream_goes_on()
     ensures later { (text more : List ℕ) (messages others : List Message) (end other : Option Fault)
         → IsStream text messages end → IsStream (text ++ more) others other
@@ -44,22 +47,22 @@ pub fn stream_goes_on()
 
 /// However a stream was cut into pieces and whatever calls of a new reader were made: what was
 /// handed out is the beginning of what was fed, and the reader's state says how that goes on.
-pub fn handed_out_so_far()
+pub fn requests_so_far()
     ensures begins { (reader new : Unread) (calls : List Call) → IsNew reader
-        → Runs reader calls new → Begins 0 (fed calls) (handed_out calls) new.rest }
+        → Runs reader calls new → Begins 0 (bytes_fed calls) (requests_out calls) new.rest }
     ensures count { (reader new : Unread) (calls : List Call) → IsNew reader
-        → Runs reader calls new → new.count ≡ length (handed_out calls) }
+        → Runs reader calls new → new.count ≡ length (requests_out calls) }
     ensures first { (reader new : Unread) (calls : List Call) (messages : List Message)
         (end : Option Fault) → IsNew reader → Runs reader calls new
-        → IsStream (fed calls) messages end
-        → (later : List Message) × (messages ≡ handed_out calls ++ later)
-        × IsStreamBehind new.count new.rest later end }
+        → IsStream (bytes_fed calls) messages end
+        → (later : List Message) × (messages ≡ requests_out calls ++ later)
+        × IsStreamAfter new.count new.rest later end }
     ensures all { (reader new : Unread) (calls : List Call) (end : Option Fault) → IsNew reader
         → Runs reader calls new → EndsAs new.count new.rest end
-        → IsStream (fed calls) (handed_out calls) end }
+        → IsStream (bytes_fed calls) (requests_out calls) end }
 {}
 
-/// Behind a fault a reader answers nothing else.
+/// After a fault a reader answers nothing else.
 pub fn stays_stopped()
     ensures { (old mid new : Unread) (fault : Fault) (call : Call) → Stops old fault mid
         → Step mid call new → call ≡ Stopped fault }
@@ -70,4 +73,12 @@ pub fn one_result()
     ensures { (request : Request) (export : Export) → (result : Result Task ℕ)
         × IsFirst (table request export) result
         × ((other : Result Task ℕ) → IsFirst (table request export) other → other ≡ result) }
+{}
+
+/// A WRITE that is judged a task has a payload that fills its blocks.
+pub fn payload_fills_the_blocks()
+    ensures { (before : ℕ) (bytes after : List ℕ) (request : Request) (export : Export)
+        (block count : ℕ) (fua : Bool) → StartsWith before bytes (message_of request) after
+        → LiesInside request export (Write block count fua)
+        → length request.payload ≡ min_block * count }
 {}

@@ -1,23 +1,21 @@
-ghost use Rattle.std.specs.Prelude.{◌≡◌, ◌<◌, ◌≤◌, length, None, IfSome, IfNone, IfOk, OnOk, OnErr};
-ghost use Rattle.nm_requests.specs.Front.{HasPayload, message_of};
+ghost use Rattle.std.specs.Prelude.{◌≡◌, ◌+◌, ◌<◌, ◌≤◌, length, None, IfSome, IfNone, IfOk, OnOk, OnErr};
+ghost use Rattle.nm_requests.specs.First.{HasPayload, message_of};
 
+use crate::blocks::append;
+use crate::cutting::cut_first;
 use crate::fault::Fault;
-use crate::front::{cut_first, missing_len};
 use crate::request::Request;
 use bytes::BytesMut;
-use std::alloc::Global;
+use std::alloc::{AllocError, Global};
 use std::marker::Model;
-
-// What is fed behind a long request finds room, in pieces of up to this.
-const PIECE_BYTES: usize = 128 * 1024;
 
 /// Cuts a stream of bytes into requests, however it comes in pieces.
 ///
 /// Contracts see the bytes that are not handed out yet, how many requests were, the fault at which
-/// the reader stopped, and the room that it has left.
+/// the reader stopped, and its room: how many more bytes it takes with no allocation.
 #[derive(Debug, Drop)]
 pub struct RequestReader {
-    // None until the first piece comes: a new reader takes no memory.
+    // None until memory is first needed: a new reader takes none.
     buffer: Option<BytesMut>,
     count: u64,
     fault: Option<Fault>,
@@ -28,7 +26,7 @@ impl Model for RequestReader {
 
     ghost Value = { Unread };
 
-    ghost use Rattle.nm_requests.specs.Kept.{unread_of, IsSound};
+    ghost use Rattle.nm_requests.specs.ReaderFields.{unread_of, IsSound};
 
     ghost view = { unread_of };
 
@@ -49,10 +47,45 @@ impl RequestReader {
         }
     }
 
-    /// Takes the next piece of the stream. Faults are found by `next` alone; once it has found one,
-    /// this answers it too, for good.
+    /// How many requests were handed out: the index that the next one gets.
+    pub fn count(&self) -> u64
+        ensures { result ≡ self.now.count }
+    {
+        self.count
+    }
+
+    /// How many bytes can be fed before memory is needed.
+    pub fn room(&self) -> usize
+        ensures { result ≡ self.now.room }
+    {
+        match &self.buffer {
+            Some(buffer) => buffer.capacity() - buffer.len(),
+            None => 0,
+        }
+    }
+
+    /// Makes room for this many bytes, so that feeding no more than them is not refused for memory
+    /// before the next call of `next`. The error is out of memory.
+    pub fn reserve(&mut self, alloc: Global, n: usize) -> Result<(), AllocError>
+        ensures ok { OnOk result (n ≤ self.new.room) }
+        ensures full { OnErr result (self.old.room < n) }
+        ensures room { self.old.room ≤ self.new.room }
+        ensures kept { IsUnchanged self.old self.new }
+    {
+        if self.buffer.is_none() {
+            self.buffer = Some(BytesMut::new(alloc));
+        }
+        if let Some(buffer) = &mut self.buffer {
+            buffer.reserve(n)?;
+        }
+        Ok(())
+    }
+
+    /// Takes the next piece of the stream. Only `next` finds a fault in the stream; from then on
+    /// this answers it too.
     pub fn feed(&mut self, alloc: Global, piece: &[u8]) -> Result<(), Fault>
         ensures ok { OnOk result (Feeds self.old piece.now self.new) }
+        ensures room { OnOk result (self.old.room ≤ self.new.room + length piece.now) }
         ensures for_good { IfSome self.old.fault (λ fault. (result ≡ Err fault)
             × Stops self.old fault self.new) }
         ensures memory { IfNone self.old.fault (OnErr result (result ≡ Err Fault.Memory)) }
@@ -66,14 +99,14 @@ impl RequestReader {
             self.buffer = Some(BytesMut::new(alloc));
         }
         if let Some(buffer) = &mut self.buffer {
-            make_room(buffer, piece.len());
-            buffer.extend_from_slice(piece)?;
+            append(buffer, piece)?;
         }
         Ok(())
     }
 
-    /// The next request, if all of it has come. Its payload shares the receive buffer's memory, so
-    /// that only the count of its owners may have to be allocated, by the buffer's own allocator.
+    /// The next request, if all of it has come. Its payload shares the receive buffer's memory or,
+    /// where it is a small part of a large block, is a copy. Only a payload needs memory, which is
+    /// taken from the buffer's own allocator.
     pub fn next(&mut self, _alloc: Global) -> Result<Option<Request>, Fault>
         ensures request { IfOk result (λ found. IfSome found (λ request.
             HandsOut self.old (message_of request) self.new)) }
@@ -105,21 +138,5 @@ impl RequestReader {
             }
             other => other,
         }
-    }
-}
-
-// Makes room for the piece, and for all of the first request once its head is there, so that its
-// bytes are copied once, when they are fed. Where that is refused the piece may still find room.
-// New room is at least as large as what is unread: what moves to it is no more than what was fed
-// since the last time, so all copying together is linear.
-fn make_room(buffer: &mut BytesMut, piece: usize)
-    ensures items { buffer.new.items ≡ buffer.old.items }
-    ensures room { buffer.old.spare ≤ buffer.new.spare }
-{
-    let missing = missing_len(buffer.as_slice());
-    if buffer.capacity() - buffer.len() < missing.max(piece) {
-        let behind = piece.max(PIECE_BYTES);
-        let room = missing.saturating_add(behind).max(buffer.len());
-        let _ = buffer.reserve(room);
     }
 }

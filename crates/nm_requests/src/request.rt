@@ -1,9 +1,6 @@
 use bytes::Bytes;
 use nm_wire::CommandFlags;
 
-/// The longest payload that a WRITE may have, and the most that a READ may ask for: 32 MiB.
-pub const MAX_PAYLOAD: u32 = 0x0200_0000;
-
 /// A request that was read ("Request message").
 #[derive(Debug, Drop)]
 pub struct Request {
@@ -15,11 +12,10 @@ pub struct Request {
     pub flags: CommandFlags,
     /// What ties the reply to the request.
     pub cookie: u64,
-    /// The first byte of the export that is meant.
+    /// Where in the export the request begins, in bytes.
     pub offset: u64,
-    /// How many bytes are meant.
+    /// How many bytes of the export it is about.
     pub length: u32,
-    /// What stands behind a WRITE's head, as many bytes as its length says: a cut of the receive
-    /// buffer. Empty for any other type.
+    /// What follows a WRITE's header, as many bytes as its length says; empty for any other type.
     pub payload: Bytes,
 }

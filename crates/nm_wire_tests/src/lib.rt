@@ -7,3 +7,5 @@ mod frames;
 mod handshakes;
 #[cfg(test)]
 mod headers;
+#[cfg(test)]
+mod streams;

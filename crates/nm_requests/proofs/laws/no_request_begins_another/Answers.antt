@@ -1,4 +1,4 @@
--- The heads are one, and so tell one length of the payload.
+-- The headers are equal, and so is the payloads' length.
 use Rattle.nm_requests.proofs.Messages.{one_message}
 use Rattle.nm_requests.proofs.laws.no_request_begins_another.Goals as goal
 

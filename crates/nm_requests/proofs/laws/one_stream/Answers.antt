@@ -1,4 +1,4 @@
--- Some: what stands at the front is read off the first 28 bytes. Only: it is read in one way.
+-- Some: what the bytes begin with is read off the first 28. Only: it is read in one way.
 use Rattle.nm_requests.proofs.Existence.{some_stream}
 use Rattle.nm_requests.proofs.Streams.{one_stream as unique}
 use Rattle.nm_requests.proofs.laws.one_stream.Goals as goal

@@ -1,4 +1,4 @@
--- What stands in front of more bytes stands there still.
+-- What the bytes begin with stays when more follow.
 use Rattle.nm_requests.proofs.Streams.{stream_goes_on as goes_on, fault_stays}
 use Rattle.nm_requests.proofs.laws.stream_goes_on.Goals as goal
 

@@ -1,16 +1,16 @@
 -- With no buffer nothing is unread.
 use Rattle.std.proofs.Common.{◌≡◌, [], refl, arith, None}
 use Rattle.nm_requests.specs.declared.reader.RequestReader.TheInside.{Inside}
-use Rattle.nm_requests.specs.Kept.{held, unread_of}
+use Rattle.nm_requests.specs.ReaderFields.{unread_bytes, unread_of}
 use Rattle.nm_requests.specs.Reader.{Starves}
-use Rattle.nm_requests.proofs.Fronts.{unfinished_from_short}
+use Rattle.nm_requests.proofs.FirstRequest.{unfinished_from_short}
 use Rattle.nm_requests.proofs.reader.RequestReader.next.Goals as goal
 
 starves_without_buffer : (reader : Inside) → reader.fault ≡ None → reader.buffer ≡ None
     → Starves (unread_of reader) (unread_of reader)
 starves_without_buffer reader going none = record {
   was_open = going;
-  unfinished = let empty : held reader.buffer ≡ [] =
+  unfinished = let empty : unread_bytes reader.buffer ≡ [] =
       rw none refl in rw empty (unfinished_from_short reader.count [] (omega arith));
   unchanged = record { rest = refl; count = refl; fault = refl };
 }

@@ -1,6 +1,6 @@
--- By cases of the end: a head is told by its bytes.
+-- By cases of the end: the bytes determine the header.
 use Rattle.nm_requests.proofs.Streams.{request_is_no_end, one_end}
-use Rattle.nm_requests.proofs.laws.one_thing_stands_there.Goals as goal
+use Rattle.nm_requests.proofs.laws.one_beginning.Goals as goal
 
 pub returns-clause-request : goal.returns-clause-request
 returns-clause-request c before bytes after message end starts ends =

@@ -1,9 +1,10 @@
--- What stands at the front of the unread bytes.
+-- The request that the unread bytes begin with.
 use Rattle.std.specs.Prelude.{◌≡◌, ℕ, ◌+◌, ◌<◌, ◌≤◌, List, ◌++◌, length, drop}
 use Rattle.nm_wire.specs.declared.request_head.RequestHead.{RequestHead}
 use Rattle.nm_wire.specs.Layout.{FitsRequestHead, request_head_bytes}
+use Rattle.nm_wire.specs.Sizes.{max_payload}
 use Rattle.nm_requests.specs.declared.request.Request.{Request}
-use Rattle.nm_requests.specs.Message.{Message, payload_length, longest_payload}
+use Rattle.nm_requests.specs.Message.{Message, payload_length}
 use Rattle.nm_requests.specs.Stream.{StartsWith, most_requests}
 
 -- a request's message, without its number and where it lies in memory
@@ -19,15 +20,15 @@ message_of request = record {
   payload = request.payload;
 }
 
--- the bytes begin with this head, and the whole request is there
+-- the bytes begin with this header, and the whole request is there
 pub record HasWhole (before : ℕ) (bytes : List ℕ) (head : RequestHead) : Type 0 where
   pub whole : bytes ≡ request_head_bytes head ++ drop 28 bytes
   pub fits : FitsRequestHead head
-  pub short : payload_length head ≤ longest_payload
+  pub short : payload_length head ≤ max_payload
   pub payload : 28 + payload_length head ≤ length bytes
   pub few : before < most_requests
 
--- the first request is a WRITE with a payload, which is to be cut out
+-- the first request is a WRITE with a payload, which has to be cut out
 pub record HasPayload (before : ℕ) (bytes : List ℕ) : Type 0 where
   pub message : Message
   pub after : List ℕ

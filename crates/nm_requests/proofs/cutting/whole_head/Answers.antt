@@ -1,7 +1,7 @@
--- The head is there, and fewer bytes behind it than it says.
+-- The header is there, and fewer bytes after it than it says.
 use Rattle.std.proofs.Common.{arith}
-use Rattle.nm_requests.proofs.Fronts.{unfinished_from_payload}
-use Rattle.nm_requests.proofs.front.whole_head.Goals as goal
+use Rattle.nm_requests.proofs.FirstRequest.{unfinished_from_payload}
+use Rattle.nm_requests.proofs.cutting.whole_head.Goals as goal
 
 pub returns-then-bytes-length-clause-none : goal.returns-then-bytes-length-clause-none
 returns-then-bytes-length-clause-none c =

@@ -1,17 +1,24 @@
 ghost use Rattle.std.specs.Prelude.{◌≡◌, ℕ, List, [], ◌+◌, ◌≤◌, ◌++◌, length, take, drop, None, Some, IfSome, IfNone, IfOk, IfErr, OnErr, IsOk};
-ghost use Rattle.nm_requests.specs.Message.{Message, payload_length, longest_payload};
+ghost use Rattle.nm_wire.specs.Sizes.{max_payload};
+ghost use Rattle.nm_requests.specs.Message.{Message, payload_length};
 ghost use Rattle.nm_requests.specs.Stream.{StartsWith, EndsAs, most_requests};
-ghost use Rattle.nm_requests.specs.Front.{HasWhole, HasPayload, message_of};
+ghost use Rattle.nm_requests.specs.First.{HasWhole, HasPayload, message_of};
 
+use crate::blocks::leave_long_block;
 use crate::fault::Fault;
-use crate::request::{MAX_PAYLOAD, Request};
+use crate::request::Request;
 use bytes::{Bytes, BytesMut};
+use nm_wire::sizes::MAX_PAYLOAD;
 use nm_wire::{Command, RequestHead, WireFault};
 use std::alloc::AllocError;
 
-const HEAD_BYTES: usize = 28;
-
 const MAX_REQUESTS: u64 = 0x8000_0000_0000_0000;
+
+// Every payload may share a block up to this size.
+const SMALL_BLOCK: usize = 1024 * 1024;
+
+// A larger block is shared by payloads of at least a sixteenth of it.
+const LEAST_PART: usize = 16;
 
 // Cuts the first request out of the buffer, if all of it is there. It gets this index.
 pub(crate) fn cut_first(buffer: &mut BytesMut, index: u64) -> Result<Option<Request>, Fault>
@@ -31,6 +38,7 @@ pub(crate) fn cut_first(buffer: &mut BytesMut, index: u64) -> Result<Option<Requ
         return Ok(None);
     };
     let payload = cut_payload(buffer, payload_len(&head))?;
+    leave_long_block(buffer, payload.len());
     Ok(Some(Request {
         index,
         kind: head.kind,
@@ -42,7 +50,7 @@ pub(crate) fn cut_first(buffer: &mut BytesMut, index: u64) -> Result<Option<Requ
     }))
 }
 
-// The head of the first request, if all of the request is there.
+// The header of the first request, if all of the request is there.
 pub(crate) fn whole_head(bytes: &[u8], index: u64) -> Result<Option<RequestHead>, Fault>
     requires { index ≤ most_requests }
     ensures whole { IfOk result (λ found. IfSome found (HasWhole index bytes.now)) }
@@ -58,15 +66,15 @@ pub(crate) fn whole_head(bytes: &[u8], index: u64) -> Result<Option<RequestHead>
     if length > MAX_PAYLOAD {
         return Err(Fault::TooLong);
     }
-    if bytes.len() - HEAD_BYTES < length as usize {
+    if bytes.len() - RequestHead::BYTES < length as usize {
         return Ok(None);
     }
     Ok(Some(head))
 }
 
-// How many bytes of the first request have not come, where its head is there.
+// How many bytes of the first request have not come, where its header is there.
 pub(crate) fn missing_len(bytes: &[u8]) -> usize
-    ensures capped { result ≤ 28 + longest_payload }
+    ensures capped { result ≤ 28 + max_payload }
     ensures missing { (message : Message) (more : List ℕ) → 28 ≤ length bytes.now
         → StartsWith 0 (bytes.now ++ more) message [] → result ≡ length more }
 {
@@ -77,10 +85,10 @@ pub(crate) fn missing_len(bytes: &[u8]) -> usize
     if length > MAX_PAYLOAD {
         return 0;
     }
-    (HEAD_BYTES + length as usize).saturating_sub(bytes.len())
+    (RequestHead::BYTES + length as usize).saturating_sub(bytes.len())
 }
 
-// How many bytes follow the head.
+// How many bytes follow the header.
 fn payload_len(head: &RequestHead) -> u32
     ensures { result ≡ payload_length head.now }
 {
@@ -91,7 +99,8 @@ fn payload_len(head: &RequestHead) -> u32
     }
 }
 
-// Takes a head and this many bytes behind it off the buffer, and returns the latter.
+// Takes a header and this many bytes after it off the buffer, and returns the latter: a cut of the
+// buffer's block, but a copy where the block is large and the payload a small part of it.
 fn cut_payload(buffer: &mut BytesMut, len: u32) -> Result<Bytes, AllocError>
     requires { 28 + len ≤ length buffer.old.items }
     ensures payload { IfOk result (λ payload. payload ≡ take len (drop 28 buffer.old.items)) }
@@ -101,10 +110,17 @@ fn cut_payload(buffer: &mut BytesMut, len: u32) -> Result<Bytes, AllocError>
     ensures err { OnErr result (buffer.new ≡ buffer.old) }
 {
     if len == 0 {
-        buffer.advance(HEAD_BYTES);
+        buffer.advance(RequestHead::BYTES);
         return Ok(Bytes::new());
     }
-    let mut request = buffer.freeze_to(HEAD_BYTES + len as usize)?;
-    request.advance(HEAD_BYTES);
+    let end = RequestHead::BYTES + len as usize;
+    if buffer.capacity() > SMALL_BLOCK && (len as usize) < buffer.capacity() / LEAST_PART {
+        let alloc = *buffer.allocator();
+        let payload = Bytes::copy_from_slice(alloc, &buffer.as_slice()[RequestHead::BYTES..end])?;
+        buffer.advance(end);
+        return Ok(payload);
+    }
+    let mut request = buffer.freeze_to(end)?;
+    request.advance(RequestHead::BYTES);
     Ok(request)
 }

@@ -1,16 +1,17 @@
--- What a whole head tells of the first request: it stands there, or its payload is not whole.
+-- What a whole header says of the first request: it is there, or its payload is not whole.
 use Rattle.std.proofs.Common.{◌≡◌, ℕ, ◌+◌, ◌<◌, ◌≤◌, List, [], ◌++◌, length, take, drop, ap, sym, subst, ◌∙◌, arith, append_assoc, length-append}
 use Rattle.std.proofs.lemmas.List.{take-append-drop, take-append-le, take_at, drop-drop, length-take-le, length-drop}
 use Rattle.nm_wire.specs.declared.request_head.RequestHead.{RequestHead}
 use Rattle.nm_wire.specs.Layout.{request_head_bytes, FitsRequestHead}
-use Rattle.nm_requests.specs.Message.{Message, message_bytes, payload_length, longest_payload}
+use Rattle.nm_wire.specs.Sizes.{max_payload}
+use Rattle.nm_requests.specs.Message.{Message, message_bytes, payload_length}
 use Rattle.nm_requests.specs.Stream.{StartsWith, IsUnfinished, most_requests}
-use Rattle.nm_requests.specs.Front.{HasWhole, HasPayload}
+use Rattle.nm_requests.specs.First.{HasWhole, HasPayload}
 use Rattle.nm_wire.proofs.Heads.{request_head_bytes-unique, length-request_head_bytes}
 use Rattle.nm_requests.proofs.Messages.{length-message_bytes}
 use Rattle.nm_requests.proofs.Streams.{head_is_no_wrong_magic, request_whole}
 
--- a request that stands there has come whole
+-- the first request has come whole
 starts_length : (before : ℕ) (bytes : List ℕ) (message : Message) (after : List ℕ)
     → StartsWith before bytes message after
     → 28 + payload_length message.head ≤ length bytes
@@ -23,7 +24,7 @@ starts_length before bytes message after starts =
       length-message_bytes message starts.valid,
     )
 
--- its head is the one that begins the bytes
+-- its header is the one that the bytes begin with
 starts_head : (before : ℕ) (bytes : List ℕ) (message : Message) (after : List ℕ)
     (head : RequestHead) (rest : List ℕ)
     → StartsWith before bytes message after → bytes ≡ request_head_bytes head ++ rest
@@ -51,7 +52,7 @@ unfinished_from_short before bytes short = record {
 pub unfinished_from_payload : (before : ℕ) (bytes : List ℕ) (head : RequestHead)
     → bytes ≡ request_head_bytes head ++ drop 28 bytes → FitsRequestHead head
     → before < most_requests
-    → payload_length head ≤ longest_payload → length bytes < 28 + payload_length head
+    → payload_length head ≤ max_payload → length bytes < 28 + payload_length head
     → IsUnfinished before bytes
 unfinished_from_payload before bytes head whole fits few short missing = record {
   no_request = λ message after starts.
@@ -97,19 +98,19 @@ starts_from_whole before bytes head has =
       few = has.few;
     }
 
--- where the payload is what was cut and the rest is what was left
+-- where the payload is what was cut and the rest is what follows it
 pub starts_from_cut : (before : ℕ) (bytes payload after : List ℕ) (head : RequestHead)
     → HasWhole before bytes head
     → payload ≡ take (payload_length head) (drop 28 bytes)
     → after ≡ drop (28 + payload_length head) bytes
     → StartsWith before bytes (record { head = head; payload = payload }) after
-starts_from_cut before bytes payload after head has cut left =
+starts_from_cut before bytes payload after head has cut rest =
     subst (λ l. StartsWith before bytes (record { head = head; payload = l }) after) (sym cut)
     (subst (λ l. StartsWith before bytes (record {
       head = head;
       payload =
           take (payload_length head) (drop 28 bytes);
-    }) l) (sym left)
+    }) l) (sym rest)
     (starts_from_whole before bytes head has))
 
 pub payload_from_whole : (before : ℕ) (bytes : List ℕ) (head : RequestHead)
@@ -123,12 +124,12 @@ payload_from_whole before bytes head has some =
       payload = omega (arith, starts.valid.whole);
     }
 
--- the bytes that complete the first request are those that its head tells
+-- as many bytes complete the first request as its header says
 pub missing_from_head : (before : ℕ) (bytes more : List ℕ) (message : Message) (head : RequestHead)
     → bytes ≡ request_head_bytes head ++ drop 28 bytes → FitsRequestHead head
     → StartsWith before (bytes ++ more) message []
     → (length bytes + length more ≡ 28 + payload_length head) ×
-    (payload_length head ≤ longest_payload)
+    (payload_length head ≤ max_payload)
 missing_from_head before bytes more message head whole fits starts =
     let same : message.head ≡ head =
     starts_head before (bytes ++ more) message [] head (drop 28 bytes ++ more) starts
@@ -151,9 +152,9 @@ pub head_from_more : (before : ℕ) (bytes more : List ℕ) (message : Message) 
     → 28 ≤ length bytes → StartsWith before (bytes ++ more) message after
     → bytes ≡ request_head_bytes message.head ++ drop 28 bytes
 head_from_more before bytes more message after long starts =
-    let front : take 28 bytes ≡ request_head_bytes message.head =
+    let prefix : take 28 bytes ≡ request_head_bytes message.head =
     sym (take-append-le 28 bytes more long) ∙ ap (take 28) (starts.whole
     ∙ request_whole message after)
     ∙ take_at (request_head_bytes message.head) (message.payload ++ after) 28
     (length-request_head_bytes message.head) in
-    sym (take-append-drop 28 bytes) ∙ ap (λ l. l ++ drop 28 bytes) front
+    sym (take-append-drop 28 bytes) ∙ ap (λ l. l ++ drop 28 bytes) prefix

@@ -1,8 +1,8 @@
-//! The rows of the table of judging at each edge. What is expected was read off the table by hand.
+//! The table of judging at the edges of each row. What is expected was read off the table by hand.
 ghost use Rattle.std.specs.Prelude.{◌≤◌, ◌^◌};
 
-use crate::{Request, Task, judge};
 use bytes::Bytes;
+use nm_requests::{Request, Task, judge};
 use nm_wire::{CommandFlags, Export, Name};
 use std::alloc::Global;
 
@@ -174,7 +174,7 @@ fn export(alloc: Global, blocks: u64, read_only: bool) -> Export
 }
 
 // What one of the four gets: the task, or the error where there is one.
-fn outcome(kind: u16, block: u64, count: u32, fua: bool, error: u32) -> Result<Task, u32> {
+fn expected(kind: u16, block: u64, count: u32, fua: bool, error: u32) -> Result<Task, u32> {
     match (error, kind) {
         (0, 0) => Ok(Task::Read { block, count }),
         (0, 1) => Ok(Task::Write { block, count, fua }),
@@ -191,7 +191,7 @@ fn judges_each_offset(rt: HostRuntime) {
             let got = judge(&request(*kind, 0, offset, 512), &disk);
             assert_eq!(rt;
                 got,
-                outcome(*kind, block, 1, false, *error),
+                expected(*kind, block, 1, false, *error),
                 "{kind} at {offset}"
             );
         }
@@ -206,7 +206,7 @@ fn judges_each_length(rt: HostRuntime) {
             let got = judge(&request(*kind, 0, 0, length), &disk);
             assert_eq!(rt;
                 got,
-                outcome(*kind, 0, count, false, *error),
+                expected(*kind, 0, count, false, *error),
                 "{kind} of {length}"
             );
         }
@@ -221,7 +221,7 @@ fn judges_each_long_length(rt: HostRuntime) {
             let got = judge(&request(*kind, 0, 0, length), &disk);
             assert_eq!(rt;
                 got,
-                outcome(*kind, 0, count, false, *error),
+                expected(*kind, 0, count, false, *error),
                 "{kind} of {length}"
             );
         }
@@ -233,13 +233,13 @@ fn judges_the_end_before_length_0(rt: HostRuntime) {
     let disk = export(rt.alloc(), SMALL, false);
     for (offset, length, errors) in EXTENTS {
         for (kind, error) in COMMANDS.iter().zip(&errors) {
-            let expected = if *error == 0 {
+            let result = if *error == 0 {
                 Ok(Task::Nothing)
             } else {
                 Err(*error)
             };
             let got = judge(&request(*kind, 0, offset, length), &disk);
-            assert_eq!(rt; got, expected, "{kind} at {offset} of {length}");
+            assert_eq!(rt; got, result, "{kind} at {offset} of {length}");
         }
     }
 }
@@ -249,7 +249,11 @@ fn refuses_each_change_of_a_read_only_export(rt: HostRuntime) {
     let disk = export(rt.alloc(), SMALL, true);
     for (offset, block, errors) in OFFSETS {
         let read = judge(&request(0, 0, offset, 512), &disk);
-        assert_eq!(rt; read, outcome(0, block, 1, false, errors[0]), "at {offset}");
+        assert_eq!(rt;
+            read,
+            expected(0, block, 1, false, errors[0]),
+            "at {offset}"
+        );
         for kind in [1, 4, 6] {
             assert_eq!(rt;
                 judge(&request(kind, 0, offset, 512), &disk),
@@ -277,7 +281,7 @@ fn judges_each_flag(rt: HostRuntime) {
     for kind in COMMANDS {
         for (flags, fua) in [(0, false), (1, true), (2, false), (3, true)] {
             let got = judge(&request(kind, flags, 512, 512), &disk);
-            assert_eq!(rt; got, outcome(kind, 1, 1, fua, 0), "{kind} with {flags}");
+            assert_eq!(rt; got, expected(kind, 1, 1, fua, 0), "{kind} with {flags}");
         }
         for flags in OTHER_FLAGS {
             assert_eq!(rt;

@@ -1,8 +1,8 @@
 -- What was cut is the first request.
 use Rattle.std.proofs.Common.{◌≡◌, ℕ, ◌<◌, arith, ap, ◌∙◌, ◌+◌, take, drop}
 use Rattle.std.proofs.lemmas.Bool.{false≢true}
-use Rattle.nm_requests.proofs.Fronts.{starts_from_cut, payload_from_whole}
-use Rattle.nm_requests.proofs.front.cut_first.Goals as goal
+use Rattle.nm_requests.proofs.FirstRequest.{starts_from_cut, payload_from_whole}
+use Rattle.nm_requests.proofs.cutting.cut_first.Goals as goal
 
 some_from : (n m : ℕ) → n ≡ m → (n ≡ 0 → ⊥) → 0 < m
 some_from n m same some = omega arith
@@ -20,8 +20,8 @@ returns-clause-request c =
     let there = rw c.in-Some.is at c.in_ok-head.ensures.whole in
     let has = rw c.as_slice.ensures at there in
     starts_from_cut c.args.index c.args.buffer.now.items c.in_ok-payload.payload
-    c.cut_payload.new.buffer.items c.in-Some.head has
+    c.leave_long_block.new.buffer.items c.in-Some.head has
     (c.in_ok-payload.ensures.payload ∙ ap (λ n. take n
     (drop 28 c.args.buffer.now.items)) c.payload_len.ensures)
-    (c.in_ok-payload.ensures.rest ∙ ap (λ n. drop
+    (c.leave_long_block.ensures ∙ c.in_ok-payload.ensures.rest ∙ ap (λ n. drop
     (28 + n) c.args.buffer.now.items) c.payload_len.ensures)

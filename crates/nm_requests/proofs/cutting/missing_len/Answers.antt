@@ -1,7 +1,7 @@
--- The head that completes the bytes is the one that begins them.
+-- The header of the request that more bytes complete is the one that they begin with.
 use Rattle.std.proofs.Common.{drop, arith}
-use Rattle.nm_requests.proofs.Fronts.{missing_from_head, head_from_more}
-use Rattle.nm_requests.proofs.front.missing_len.Goals as goal
+use Rattle.nm_requests.proofs.FirstRequest.{missing_from_head, head_from_more}
+use Rattle.nm_requests.proofs.cutting.missing_len.Goals as goal
 
 pub returns-in_default-clause-missing : goal.returns-in_default-clause-missing
 returns-in_default-clause-missing c message more long starts =

@@ -1,5 +1,6 @@
-//! Byte strings of the wire, in pieces. The expected requests were read off the bytes by hand.
-use crate::{Fault, Request, RequestReader};
+//! Requests cut out of byte strings of the wire, which come in pieces. The expected requests were
+//! read off the bytes by hand.
+use nm_requests::{Fault, Request, RequestReader};
 use std::alloc::Global;
 use std::process::Abort;
 use std::test::Fail;
@@ -64,12 +65,12 @@ fn session(alloc: Global) -> Result<Vec<u8>, Fail> {
     Ok(stream)
 }
 
-// A feed that is made again while memory is refused, as often as a test may refuse it.
+// Feeds, again where memory is refused, as often as a test may refuse it.
 fn feed(reader: &mut RequestReader, alloc: Global, piece: &[u8]) -> Result<(), Fault> {
     for _ in 0..4 {
         match reader.feed(alloc, piece) {
             Err(Fault::Memory) => {}
-            fed => return fed,
+            other => return other,
         }
     }
     Err(Fault::Memory)
@@ -79,7 +80,7 @@ fn next(reader: &mut RequestReader, alloc: Global) -> Result<Option<Request>, Fa
     for _ in 0..4 {
         match reader.next(alloc) {
             Err(Fault::Memory) => {}
-            found => return found,
+            other => return other,
         }
     }
     Err(Fault::Memory)
@@ -211,8 +212,8 @@ fn stops_at_the_28th_byte_for_good(rt: HostRuntime) -> Result<(), Fail> {
     Ok(())
 }
 
-// The same requests, in pieces of 100 bytes, where a growth of memory is refused: it is tried for
-// each one in turn. Nothing here takes memory but the reader.
+// The same requests, in pieces of 100 bytes, where memory is refused: the call is made again.
+// Nothing here takes memory but the reader.
 #[test]
 fn reads_on_after_memory_was_refused(rt: HostRuntime) {
     let mut reader = RequestReader::new();

@@ -1,2 +1,0 @@
-mod judging;
-mod reading;
