@@ -10,6 +10,7 @@ pub mod Lives
 pub mod Numbering
 pub mod Openings
 pub mod Ordering
+pub mod Places
 pub mod Pushing
 pub mod ReadStages
 pub mod WriteStages

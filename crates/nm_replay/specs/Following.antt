@@ -1,5 +1,7 @@
--- What `check` asks of each entry, given those before it.
-use Rattle.std.specs.Prelude.{◌≡◌, ◌+◌, ◌-◌, List, length, IfSome, slice_get}
+-- What a check of a history asks of each entry, given those before it.
+use Rattle.std.specs.Prelude.{◌≡◌, ℕ, zero, suc, ◌+◌, ◌-◌, List, length, Option, None, IfSome, slice_get}
+use Rattle.std.specs.Option.{option_map}
+use Rattle.nm_replay.specs.declared.block.Block.{Block}
 use Rattle.nm_replay.specs.declared.entry.Entry.{Entry}
 use Rattle.nm_replay.specs.History.{Agrees}
 
@@ -12,3 +14,8 @@ IsNext before e =
 pub record MayFollow (before : List Entry) (e : Entry) : Type 0 where
   pub number : IsNext before e
   pub agrees : Agrees before e
+
+-- the bytes of the entry at this place, counted from 1; place 0 is that of no entry
+abbrev pub bytes_at : ℕ → List Entry → Option Block
+bytes_at zero entries = None
+bytes_at (suc k) entries = option_map (λ e. e.bytes) (slice_get entries k)
