@@ -1,13 +1,9 @@
 -- Entries that agree with those before them, one after the other: the form for inductions.
 use Rattle.std.proofs.Common.{◌≡◌, List, [], ◌∷◌, ◌++◌, append_assoc, append-nil, refl, sym, ap, ◌∙◌, subst}
-use Rattle.std.specs.Prelude.{Option, None, Some, IfSome}
-use Rattle.std.specs.Option.{option_or}
-use Rattle.nm_replay.specs.declared.block.Block.{Block}
 use Rattle.nm_replay.specs.declared.entry.Entry.{Entry}
-use Rattle.nm_replay.specs.History.{last_on, Agrees, IsNumbered, Consistent}
-use Rattle.nm_replay.proofs.LastOn.{last_on-append}
+use Rattle.nm_replay.specs.History.{Agrees, IsNumbered, Consistent}
 
--- behind `before`, each of the entries agrees with all that stand before it
+-- after `before`, each of the entries agrees with all that stand before it
 abbrev pub AgreeAfter : List Entry → List Entry → Type 0
 AgreeAfter before [] = Unit {0}
 AgreeAfter before (e ∷ es) = Agrees before e × AgreeAfter (before ++ e ∷ []) es
@@ -46,22 +42,6 @@ agree-rest [] ys before all = subst (λ b. AgreeAfter b ys) (sym (append-nil bef
 agree-rest (x ∷ xs) ys before all =
     subst (λ b. AgreeAfter b ys) (append_assoc before (x ∷ []) xs) (agree-rest xs ys (before ++ x ∷ []) all.1)
 
--- what agrees behind more entries agrees behind fewer
-fewer : (latest earlier : Option Block) (bytes : Block) → IfSome (option_or latest earlier) (λ last. bytes ≡ last) → IfSome latest (λ last. bytes ≡ last)
-fewer None earlier bytes agrees = tt
-fewer (Some last) earlier bytes agrees = agrees
-
-pub agrees-behind_fewer : (front before : List Entry) (e : Entry) → Agrees (front ++ before) e → Agrees before e
-agrees-behind_fewer front before e agrees = λ read.
-    fewer (last_on e.block before) (last_on e.block front) e.bytes
-    (subst (λ o. IfSome o (λ last. e.bytes ≡ last)) (last_on-append e.block front before) (agrees read))
-
-pub agree-behind_fewer : (es front before : List Entry) → AgreeAfter (front ++ before) es → AgreeAfter before es
-agree-behind_fewer [] front before all = tt
-agree-behind_fewer (x ∷ xs) front before all = (
-  agrees-behind_fewer front before x all.0,
-  agree-behind_fewer xs front (before ++ x ∷ []) (subst (λ b. AgreeAfter b xs) (append_assoc front before (x ∷ [])) all.1),
-)
 
 -- the two forms of consistency
 pub consistent-agree : (es : List Entry) → Consistent es → AgreeAfter [] es

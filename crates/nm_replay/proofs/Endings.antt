@@ -36,14 +36,14 @@ ends-empty array = λ block. tt
 -- entries that end in an array, and one more that fits it, end in what it leaves
 pub ends-push : (es : List Entry) (e : Entry) (array : Array) → EndsIn es array → EntryFits e array → EndsIn (es ++ e ∷ []) (after_entry e array)
 ends-push es e array ends fits = λ block.
-    let left : Array = after_entry e array in
-    let P : Option Block → Type 0 = λ o. IfSome o (λ bytes. slice_get left block ≡ Some bytes) in
+    let to : Array = after_entry e array in
+    let P : Option Block → Type 0 = λ o. IfSome o (λ bytes. slice_get to block ≡ Some bytes) in
     elim (cases_eq e.block block) [
       | inl here ↦ (
-          let found : slice_get left block ≡ Some e.bytes = ap (slice_get left) (sym here) ∙ after-same e.kind e.block e.bytes array fits in
+          let found : slice_get to block ≡ Some e.bytes = ap (slice_get to) (sym here) ∙ after-same e.kind e.block e.bytes array fits in
           subst P (sym (last_on-push_same block es e here)) found)
       | inr other ↦ (
-          let stays : slice_get left block ≡ slice_get array block = after-other e.kind e.block e.bytes array block other in
+          let stays : slice_get to block ≡ slice_get array block = after-other e.kind e.block e.bytes array block other in
           subst P (sym (last_on-push_other block es e other)) (IfSome_then (last_on block es) (ends block) (λ bytes was. stays ∙ was)))
     ]
 
@@ -53,26 +53,26 @@ agrees-fitting es e array ends fits = λ read.
     IfSome_then (last_on e.block es) (ends e.block) (λ last there. same_Some e.bytes last (sym (read-fits e array fits read) ∙ there))
 
 -- legal entries end in what they leave
-pub legal-ends_after : (es : List Entry) (next : ℕ) (array left : Array) (before : List Entry) → Legal next es array left → EndsIn before array → EndsIn (before ++ es) left
-legal-ends_after [] next array left before legal ends =
+pub legal-ends_after : (es : List Entry) (next : ℕ) (array to : Array) (before : List Entry) → Legal next es array to → EndsIn before array → EndsIn (before ++ es) to
+legal-ends_after [] next array to before legal ends =
     subst (λ a. EndsIn (before ++ []) a) (sym legal) (subst (λ b. EndsIn b array) (sym (append-nil before)) ends)
-legal-ends_after (e ∷ es) next array left before legal ends =
-    subst (λ b. EndsIn b left) (append_assoc before (e ∷ []) es)
-    (legal-ends_after es (next + 1) (after_entry e array) left (before ++ e ∷ []) legal.2 (ends-push before e array ends legal.1))
+legal-ends_after (e ∷ es) next array to before legal ends =
+    subst (λ b. EndsIn b to) (append_assoc before (e ∷ []) es)
+    (legal-ends_after es (next + 1) (after_entry e array) to (before ++ e ∷ []) legal.2 (ends-push before e array ends legal.1))
 
-pub legal-ends : (es : List Entry) (next : ℕ) (array left : Array) → Legal next es array left → EndsIn es left
-legal-ends es next array left legal = legal-ends_after es next array left [] legal (ends-empty array)
+pub legal-ends : (es : List Entry) (next : ℕ) (array to : Array) → Legal next es array to → EndsIn es to
+legal-ends es next array to legal = legal-ends_after es next array to [] legal (ends-empty array)
 
 -- and each of them agrees with those before it
-pub legal-agree : (es : List Entry) (next : ℕ) (array left : Array) (before : List Entry) → Legal next es array left → EndsIn before array → AgreeAfter before es
-legal-agree [] next array left before legal ends = tt
-legal-agree (e ∷ es) next array left before legal ends = (
+pub legal-agree : (es : List Entry) (next : ℕ) (array to : Array) (before : List Entry) → Legal next es array to → EndsIn before array → AgreeAfter before es
+legal-agree [] next array to before legal ends = tt
+legal-agree (e ∷ es) next array to before legal ends = (
   agrees-fitting before e array ends legal.1,
-  legal-agree es (next + 1) (after_entry e array) left (before ++ e ∷ []) legal.2 (ends-push before e array ends legal.1),
+  legal-agree es (next + 1) (after_entry e array) to (before ++ e ∷ []) legal.2 (ends-push before e array ends legal.1),
 )
 
 -- so legal entries are consistent
-pub legal-consistent : (es : List Entry) (next : ℕ) (array left : Array) → Legal next es array left → Consistent es
-legal-consistent es next array left legal =
-    agree-consistent es (numbered-somewhere next es (legal-numbered es next array left legal))
-    (legal-agree es next array left [] legal (ends-empty array))
+pub legal-consistent : (es : List Entry) (next : ℕ) (array to : Array) → Legal next es array to → Consistent es
+legal-consistent es next array to legal =
+    agree-consistent es (numbered-somewhere next es (legal-numbered es next array to legal))
+    (legal-agree es next array to [] legal (ends-empty array))

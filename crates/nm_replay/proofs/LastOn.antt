@@ -41,11 +41,7 @@ pub last_on-front_same : (block : ℕ) (e : Entry) (es : List Entry) → last_on
 last_on-front_same block e es none here =
     ap (λ o. option_or o (if e.block == block then Some e.bytes else None)) none ∙ cond-true (e.block == block) (Some e.bytes) None (eq-eqb e.block block here)
 
-pub last_on-front_other : (block : ℕ) (e : Entry) (es : List Entry) → last_on block es ≡ None → (e.block ≡ block → ⊥) → last_on block (e ∷ es) ≡ None
-last_on-front_other block e es none other =
-    ap (λ o. option_or o (if e.block == block then Some e.bytes else None)) none ∙ cond-false (e.block == block) (Some e.bytes) None (ne_eqb e.block block other)
-
--- an entry on the block, with none on it behind, is the last one
+-- an entry on the block, with none on it after, is the last one
 pub last_on-found : (block i : ℕ) (xs : List Entry) (d : Entry) → i < length xs → last_on block (drop (i + 1) xs) ≡ None → (get_or xs i d).block ≡ block → last_on block xs ≡ Some (get_or xs i d).bytes
 last_on-found block i xs d inside none here =
     let rest : last_on block (drop i xs) ≡ Some (get_or xs i d).bytes = ap (last_on block) (drop_more xs i d inside) ∙ last_on-front_same block (get_or xs i d) (drop (i + 1) xs) none here in

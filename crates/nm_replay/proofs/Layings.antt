@@ -1,6 +1,7 @@
 -- Consistent entries end in some array: one that is long enough, on which each entry's bytes were laid.
 use Rattle.std.proofs.Common.{◌≡◌, ℕ, ◌+◌, ◌<◌, ◌≤◌, List, [], ◌∷◌, ◌++◌, append_assoc, append-nil, length, length-set, replicate, arith, sym, subst, slice_set}
 use Rattle.std.proofs.lemmas.List.{length-replicate}
+use Rattle.nm_replay.specs.declared.block.TheConstants.{BLOCK_BYTES}
 use Rattle.nm_replay.specs.declared.block.Block.{Block}
 use Rattle.nm_replay.specs.declared.entry.Entry.{Entry}
 use Rattle.nm_replay.specs.Array.{Array}
@@ -44,9 +45,9 @@ ends-laid_after (e ∷ es) before array below ends =
     (ends-laid_after es (before ++ e ∷ []) set (subst (λ n. AllBelow n es) (sym size) below.1) one)
 
 -- an array in which the entries end
-pub some_ending : (es : List Entry) → (left : Array) × EndsIn es left
+pub some_ending : (es : List Entry) → (to : Array) × EndsIn es to
 some_ending es =
-    let blank : Block = record { 0 = replicate 512 0 } in
+    let blank : Block = record { 0 = replicate BLOCK_BYTES 0 } in
     let array : Array = replicate (bound_of es) blank in
     let below : AllBelow (length array) es = subst (λ n. AllBelow n es) (sym (length-replicate (bound_of es) blank)) (below-bound es) in
     (laid array es, ends-laid_after es [] array below (ends-empty array))

@@ -27,7 +27,7 @@ numbered-somewhere next [] from = tt
 numbered-somewhere next (x ∷ xs) from =
     let same : next + 1 ≡ x.seq + 1 = omega (arith, from.0) in subst (λ n. NumberedFrom n xs) same from.1
 
--- an entry's number is told by its place
+-- an entry's number follows from its place
 pub numbered-at : (next : ℕ) (xs : List Entry) (i : ℕ) (e : Entry) → NumberedFrom next xs → slice_get xs i ≡ Some e → e.seq ≡ next + i
 numbered-at next [] i e numbers found = absurd (cc)
 numbered-at next (x ∷ xs) zero e numbers found =

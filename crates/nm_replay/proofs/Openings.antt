@@ -21,12 +21,12 @@ use Rattle.nm_replay.proofs.Legality.{length-after}
 
 -- the last array, overwritten from the last entry to the first with each entry's bytes
 abbrev pub opening : List Entry → Array → Array
-opening [] left = left
-opening (e ∷ es) left = slice_set (opening es left) e.block e.bytes
+opening [] to = to
+opening (e ∷ es) to = slice_set (opening es to) e.block e.bytes
 
-pub length-opening : (es : List Entry) (left : Array) → length (opening es left) ≡ length left
-length-opening [] left = refl
-length-opening (e ∷ es) left = length-set (opening es left) e.block e.bytes ∙ length-opening es left
+pub length-opening : (es : List Entry) (to : Array) → length (opening es to) ≡ length to
+length-opening [] to = refl
+length-opening (e ∷ es) to = length-set (opening es to) e.block e.bytes ∙ length-opening es to
 
 -- some entry is the last on the block of one
 pub last_on-some : (es : List Entry) (e : Entry) → (bytes : Block) × (last_on e.block (e ∷ es) ≡ Some bytes)
@@ -36,11 +36,11 @@ last_on-some es e = found (last_on e.block es) refl where
   found (Some bytes) later = (bytes, last_on-front_later e.block e es bytes later)
 
 -- the block of an entry lies in the array that the entries end in
-pub inside : (before : List Entry) (e : Entry) (es : List Entry) (left : Array) → EndsIn (before ++ e ∷ es) left → e.block < length left
-inside before e es left ends =
+pub inside : (before : List Entry) (e : Entry) (es : List Entry) (to : Array) → EndsIn (before ++ e ∷ es) to → e.block < length to
+inside before e es to ends =
     let last = last_on-some es e in
     let whole : last_on e.block (before ++ e ∷ es) ≡ Some last.0 = last_on-append e.block before (e ∷ es) ∙ ap (λ o. option_or o (last_on e.block before)) last.1 in
-    slice_get_within left e.block last.0 (MatchOption-at_some ⊤ (λ bytes. slice_get left e.block ≡ Some bytes) last.0 whole (ends e.block))
+    slice_get_within to e.block last.0 (MatchOption-at_some ⊤ (λ bytes. slice_get to e.block ≡ Some bytes) last.0 whole (ends e.block))
 
 over_same : (o : Option Block) (bytes : Block) → IfSome o (λ last. bytes ≡ last) → option_or o (Some bytes) ≡ Some bytes
 over_same None bytes same = refl
@@ -54,37 +54,37 @@ fits_by_kind : (kind : Kind) (block : ℕ) (bytes : Block) (array : Array) → b
 fits_by_kind Read block bytes array within read = read refl
 fits_by_kind (Write ticket) block bytes array within read = within
 
--- behind `before`, the array that has the last entries of `before` over the opening of the others
+-- after `before`, the array that has the last entries of `before` over the opening of the others
 -- makes the others legal
-pub replays : (es before : List Entry) (next : ℕ) (array left : Array) → NumberedFrom next es → AgreeAfter before es → EndsIn (before ++ es) left → length array ≡ length left → ((block : ℕ) → slice_get array block ≡ option_or (last_on block before) (slice_get (opening es left) block)) → Legal next es array left
-replays [] before next array left numbers agree ends size state =
-    let ended : EndsIn before left = subst (λ b. EndsIn b left) (append-nil before) ends in
-    same_by_slice_get left array (λ block. sym (state block ∙ over_there (last_on block before) (slice_get left block) (ended block)))
-replays (e ∷ es) before next array left numbers agree ends size state =
-    let within : e.block < length left = inside before e es left ends in
-    let opened : slice_get (opening (e ∷ es) left) e.block ≡ Some e.bytes =
-    slice_get-set_same (opening es left) e.block e.bytes (omega (arith, within, length-opening es left)) in
+pub replays : (es before : List Entry) (next : ℕ) (array to : Array) → NumberedFrom next es → AgreeAfter before es → EndsIn (before ++ es) to → length array ≡ length to → ((block : ℕ) → slice_get array block ≡ option_or (last_on block before) (slice_get (opening es to) block)) → Legal next es array to
+replays [] before next array to numbers agree ends size state =
+    let ended : EndsIn before to = subst (λ b. EndsIn b to) (append-nil before) ends in
+    same_by_slice_get to array (λ block. sym (state block ∙ over_there (last_on block before) (slice_get to block) (ended block)))
+replays (e ∷ es) before next array to numbers agree ends size state =
+    let within : e.block < length to = inside before e es to ends in
+    let opened : slice_get (opening (e ∷ es) to) e.block ≡ Some e.bytes =
+    slice_get-set_same (opening es to) e.block e.bytes (omega (arith, within, length-opening es to)) in
     let fits : EntryFits e array = fits_by_kind e.kind e.block e.bytes array (omega (arith, within, size))
     (λ read. state e.block ∙ (ap (λ o. option_or (last_on e.block before) o) opened ∙ over_same (last_on e.block before) e.bytes (agree.0 read))) in
-    let ended : EndsIn (before ++ e ∷ [] ++ es) left = subst (λ b. EndsIn b left) (sym (append_assoc before (e ∷ []) es)) ends in
-    (numbers.0, fits, replays es (before ++ e ∷ []) (next + 1) (after_entry e array) left numbers.1 agree.1 ended (length-after e.kind e.block e.bytes array ∙ size) (stepped e es before array left fits state))
+    let ended : EndsIn (before ++ e ∷ [] ++ es) to = subst (λ b. EndsIn b to) (sym (append_assoc before (e ∷ []) es)) ends in
+    (numbers.0, fits, replays es (before ++ e ∷ []) (next + 1) (after_entry e array) to numbers.1 agree.1 ended (length-after e.kind e.block e.bytes array ∙ size) (stepped e es before array to fits state))
   where
-    stepped : (e : Entry) (es before : List Entry) (array left : Array) → EntryFits e array → ((block : ℕ) → slice_get array block ≡ option_or (last_on block before) (slice_get (opening (e ∷ es) left) block)) → (block : ℕ) → slice_get (after_entry e array) block ≡ option_or (last_on block (before ++ e ∷ [])) (slice_get (opening es left) block)
-    stepped e es before array left fits state block = elim (cases_eq e.block block) [
+    stepped : (e : Entry) (es before : List Entry) (array to : Array) → EntryFits e array → ((block : ℕ) → slice_get array block ≡ option_or (last_on block before) (slice_get (opening (e ∷ es) to) block)) → (block : ℕ) → slice_get (after_entry e array) block ≡ option_or (last_on block (before ++ e ∷ [])) (slice_get (opening es to) block)
+    stepped e es before array to fits state block = elim (cases_eq e.block block) [
       | inl here ↦ (
           ap (slice_get (after_entry e array)) (sym here) ∙ (after-same e.kind e.block e.bytes array fits
-          ∙ sym (ap (λ o. option_or o (slice_get (opening es left) block)) (last_on-push_same block before e here))))
+          ∙ sym (ap (λ o. option_or o (slice_get (opening es to) block)) (last_on-push_same block before e here))))
       | inr other ↦ (
           after-other e.kind e.block e.bytes array block other ∙ (state block
-          ∙ (ap (λ o. option_or (last_on block before) o) (slice_get-set_other (opening es left) e.block block e.bytes other)
-          ∙ sym (ap (λ o. option_or o (slice_get (opening es left) block)) (last_on-push_other block before e other)))))
+          ∙ (ap (λ o. option_or (last_on block before) o) (slice_get-set_other (opening es to) e.block block e.bytes other)
+          ∙ sym (ap (λ o. option_or o (slice_get (opening es to) block)) (last_on-push_other block before e other)))))
     ]
 
 -- consistent entries that end in an array are legal up to it
-pub consistent-opens : (es : List Entry) (left : Array) → Consistent es → EndsIn es left → HasOpening es left
-consistent-opens es left consistent ends =
+pub consistent-opens : (es : List Entry) (to : Array) → Consistent es → EndsIn es to → HasOpening es to
+consistent-opens es to consistent ends =
     let first = first_number es consistent.numbers in
-    (first.0, opening es left, replays es [] first.0 (opening es left) left first.1 (consistent-agree es consistent) ends (length-opening es left) (λ block. refl))
+    (first.0, opening es to, replays es [] first.0 (opening es to) to first.1 (consistent-agree es consistent) ends (length-opening es to) (λ block. refl))
   where
     first_number : (xs : List Entry) → IsNumbered xs → (next : ℕ) × NumberedFrom next xs
     first_number [] numbers = (0, tt)

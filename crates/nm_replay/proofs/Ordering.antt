@@ -16,7 +16,7 @@ use Rattle.nm_replay.proofs.Legality.{legal-numbered, legal-split}
 use Rattle.nm_replay.proofs.Lives.{entries_of-append}
 use Rattle.nm_replay.proofs.Numbering.{numbered-rest}
 
--- the number of an entry is told by how many entries stand before it
+-- the number of an entry follows from how many entries stand before it
 pub lands-number : (from to : Point) (front later : List Event) (e : Entry) → Explained from to (front ++ Lands e ∷ later) → e.seq ≡ from.next + length (entries_of front)
 lands-number from to front later e explained =
     let split : entries_of (front ++ Lands e ∷ later) ≡ entries_of front ++ e ∷ entries_of later = entries_of-append front (Lands e ∷ later) in

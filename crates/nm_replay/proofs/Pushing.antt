@@ -1,5 +1,5 @@
--- One more entry, in the forms that a keeper of a history meets: numbers told by a first number, and
--- arrays told block by block.
+-- One more entry, in the forms that a keeper of a history meets: numbers that rise from a first one,
+-- and arrays that are compared block by block.
 use Rattle.std.proofs.Common.{◌≡◌, ◌≢◌, ℕ, ◌+◌, inl, inr, List, [], ◌∷◌, ◌++◌, length, sym, ap, ◌∙◌, subst, slice_get}
 use Rattle.std.specs.Prelude.{Option, Some, IfSome}
 use Rattle.std.proofs.lemmas.Bool.{cases_eq}

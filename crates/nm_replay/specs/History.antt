@@ -12,8 +12,8 @@ abbrev pub operation : Kind → ℕ → Block → Operation
 operation Read block bytes = Reads block
 operation (Write ticket) block bytes = Writes block bytes
 
--- such an entry can stand where the array is this: a read finds its bytes at its block, and a write's
--- block lies in it
+-- an entry of this kind fits an array: a read finds its bytes at its block, and the block of a write
+-- lies in it
 abbrev pub Fits : Kind → ℕ → Block → Array → Type 0
 Fits Read block bytes array = slice_get array block ≡ Some bytes
 Fits (Write ticket) block bytes array = block < length array

@@ -5,7 +5,7 @@
 //! says when one array explains a list of begins, entries and replies, and `laws` what follows.
 #![tactic(auto)]
 
-pub use block::Block;
+pub use block::{BLOCK_BYTES, Block};
 pub use entry::{Entry, Kind};
 pub use history::{check, check_indexed};
 pub use kept::Kept;
@@ -19,5 +19,3 @@ mod kept;
 pub mod laws;
 mod memory;
 mod plain_array;
-#[cfg(test)]
-mod tests;

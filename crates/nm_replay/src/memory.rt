@@ -4,15 +4,15 @@ use std::alloc::AllocError;
 use std::error::Error;
 use std::fmt;
 
-/// Memory was wanting: a growth was refused, and nothing was changed.
+/// Out of memory: an allocation failed and nothing changed.
 #[derive(Clone, Copy, Debug, PartialEq, Eq)]
 pub struct Memory;
 
 impl fmt::Display for Memory {
-    ghost output = { λ _. Some (codes "no memory") };
+    ghost output = { λ _. Some (codes "out of memory") };
 
     fn fmt<W: fmt::Write>(&self, f: &mut fmt::Formatter<W>) -> fmt::Result {
-        f.write_str("no memory")
+        f.write_str("out of memory")
     }
 }
 

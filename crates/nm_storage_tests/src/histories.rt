@@ -1,0 +1,253 @@
+use nm_replay::Kind::{Read, Write};
+use nm_replay::{BLOCK_BYTES, Block, Entry, Kept, Kind, PlainArray, check, check_indexed};
+use std::alloc::{AllocError, Global};
+use std::test::Fail;
+
+/// An entry's number, kind and block, and the byte that all bytes of its block are.
+type Row = (u64, Kind, u64, u8);
+
+fn entry(row: Row) -> Entry {
+    let (seq, kind, block, byte) = row;
+    Entry {
+        seq,
+        kind,
+        block,
+        bytes: Block([byte; BLOCK_BYTES]),
+    }
+}
+
+fn entries(alloc: Global, rows: &[Row]) -> Result<Vec<Entry>, AllocError> {
+    rows.iter().copied().map(entry).collect(alloc)
+}
+
+// Lists that were judged by hand: what the block holds when an entry comes, and so what it must say.
+const CONSISTENT: [(&str, &[Row]); 10] = [
+    ("no entry", &[]),
+    ("one read of anything", &[(0, Read, 3, 0x5a)]),
+    (
+        "a write between reads",
+        &[
+            (0, Read, 3, 0),
+            (1, Write(0), 3, 0xaa),
+            (2, Read, 3, 0xaa),
+            (3, Read, 3, 0xaa),
+        ],
+    ),
+    (
+        "three writes and a read",
+        &[
+            (0, Write(0), 1, 0xa1),
+            (1, Write(1), 2, 0xb2),
+            (2, Write(2), 9, 0xc3),
+            (3, Read, 9, 0xc3),
+        ],
+    ),
+    (
+        "a write that was read twice",
+        &[
+            (0, Write(0), 3, 0xaa),
+            (1, Read, 3, 0xaa),
+            (2, Read, 3, 0xaa),
+        ],
+    ),
+    (
+        "an end piece, from number 1",
+        &[(1, Write(0), 3, 0xaa), (2, Read, 3, 0xaa)],
+    ),
+    (
+        "the largest number of an entry",
+        &[(9_223_372_036_854_775_807, Write(0), 0, 0xaa)],
+    ),
+    (
+        "tickets in another order than numbers",
+        &[
+            (0, Write(7), 1, 0xaa),
+            (1, Write(2), 1, 0xbb),
+            (2, Read, 1, 0xbb),
+        ],
+    ),
+    (
+        "a block that only another entry wrote beside",
+        &[(0, Write(0), 3, 0xaa), (1, Read, 4, 0xbb)],
+    ),
+    (
+        "the last of two writes",
+        &[
+            (0, Write(0), 3, 0xaa),
+            (1, Write(1), 3, 0xbb),
+            (2, Read, 3, 0xbb),
+        ],
+    ),
+];
+
+const INCONSISTENT: [(&str, &[Row]); 10] = [
+    (
+        "the first of two writes, read again",
+        &[
+            (0, Write(0), 3, 0xaa),
+            (1, Write(1), 3, 0xbb),
+            (2, Read, 3, 0xaa),
+        ],
+    ),
+    (
+        "zeroes after a write",
+        &[(0, Write(0), 3, 0xaa), (1, Read, 3, 0)],
+    ),
+    (
+        "two reads that differ",
+        &[(0, Read, 3, 0), (1, Read, 4, 7), (2, Read, 3, 1)],
+    ),
+    (
+        "block 0 read wrong, after a good block",
+        &[
+            (0, Write(0), 0, 0xaa),
+            (1, Write(1), 1, 0xbb),
+            (2, Read, 1, 0xbb),
+            (3, Read, 0, 0xbb),
+        ],
+    ),
+    (
+        "a wrong read before a block that is far off",
+        &[
+            (0, Write(0), 3, 0xaa),
+            (1, Read, 3, 0xbb),
+            (2, Read, 9, 0xcc),
+        ],
+    ),
+    (
+        "a wrong read of a block that is far off",
+        &[
+            (0, Write(0), 3, 0xaa),
+            (1, Write(1), 9, 0xbb),
+            (2, Read, 9, 0xaa),
+        ],
+    ),
+    ("a number left out", &[(0, Read, 3, 0), (2, Read, 3, 0)]),
+    ("a number twice", &[(0, Read, 3, 0), (0, Read, 3, 0)]),
+    ("numbers that fall", &[(1, Read, 3, 0), (0, Read, 3, 0)]),
+    (
+        "a number that wraps",
+        &[(18_446_744_073_709_551_615, Read, 3, 0), (0, Read, 3, 0)],
+    ),
+];
+
+// Places for no block, for some of the lists' blocks, and for all of them.
+const PLACES: [usize; 3] = [0, 4, 16];
+
+#[test]
+fn judges_lists_as_by_hand(rt: HostRuntime) -> Result<(), Fail> {
+    for (name, rows) in CONSISTENT {
+        let list = entries(rt.alloc(), rows)?;
+        assert!(rt; check(&list), "{name}");
+        for blocks in PLACES {
+            let consistent = check_indexed(rt.alloc(), &list, blocks)?;
+            assert!(rt; consistent, "{name}, {blocks} places");
+        }
+    }
+    for (name, rows) in INCONSISTENT {
+        let list = entries(rt.alloc(), rows)?;
+        assert!(rt; !check(&list), "{name}");
+        for blocks in PLACES {
+            let consistent = check_indexed(rt.alloc(), &list, blocks)?;
+            assert!(rt; !consistent, "{name}, {blocks} places");
+        }
+    }
+    Ok(())
+}
+
+// A block of which one byte alone differs, the last, is another block.
+#[test]
+fn tells_blocks_apart_by_their_last_byte(rt: HostRuntime) -> Result<(), Fail> {
+    let mut list = entries(rt.alloc(), &[(0, Write(0), 3, 0xaa), (1, Read, 3, 0xaa)])?;
+    assert_eq!(rt; list.len(), 2);
+    assert!(rt; check(&list));
+    list[1].bytes.0[511] = 0xab;
+    assert!(rt; !check(&list));
+    assert!(rt; !check_indexed(rt.alloc(), &list, 4)?);
+    Ok(())
+}
+
+// 20,000 writes, each to the next of 64 blocks: more than a bound for a small history would allow.
+const MANY: usize = 20_000;
+
+fn nth_write(index: usize) -> Entry {
+    entry((
+        index as u64,
+        Write(index as u64),
+        index as u64 % 64,
+        (index % 251) as u8,
+    ))
+}
+
+// A long history is kept, copied and judged; one wrong byte at its end is found.
+#[test]
+fn keeps_and_judges_a_long_history(rt: HostRuntime) -> Result<(), Fail> {
+    let mut kept = Kept::new(rt.alloc());
+    kept.reserve(MANY)?;
+    for index in 0..MANY {
+        kept.reserve(1)?;
+        kept.push(&nth_write(index));
+    }
+    kept.reserve(1)?;
+    kept.push(&Entry {
+        seq: MANY as u64,
+        kind: Read,
+        ..nth_write(MANY - 1)
+    });
+    assert_eq!(rt; kept.total(), MANY as u64 + 1);
+    let mut copy = kept.entries(rt.alloc())?;
+    assert_eq!(rt; copy.as_slice(), kept.as_slice());
+    assert!(rt; check(&copy));
+    assert!(rt; check_indexed(rt.alloc(), &copy, 65_536)?);
+    if let Some(last) = copy.last_mut() {
+        last.bytes.0[511] ^= 1;
+    }
+    assert!(rt; !check(&copy));
+    assert!(rt; !check_indexed(rt.alloc(), &copy, 65_536)?);
+    Ok(())
+}
+
+// What is pushed comes back in order, copied or lent, and is counted.
+#[test]
+fn keeps_what_is_pushed(rt: HostRuntime) -> Result<(), Fail> {
+    let list = entries(rt.alloc(), &[(5, Read, 3, 0), (6, Write(0), 3, 0xaa)])?;
+    assert_eq!(rt; list.len(), 2);
+    let mut kept = Kept::new(rt.alloc());
+    assert_eq!(rt; kept.total(), 0);
+    assert!(rt; kept.entries(rt.alloc())?.is_empty());
+    kept.reserve(2)?;
+    kept.push(&list[0]);
+    kept.push(&list[1]);
+    assert_eq!(rt; kept.total(), 2);
+    assert_eq!(rt; kept.as_slice(), list.as_slice());
+    let copy = kept.entries(rt.alloc())?;
+    assert_eq!(rt; copy.as_slice(), list.as_slice());
+    Ok(())
+}
+
+// An array of zeroes on which four operations are done in order; then what does not fit it.
+#[test]
+fn does_operations_in_order(rt: HostRuntime) -> Result<(), Fail> {
+    let mut array = PlainArray::new(rt.alloc(), 4)?;
+    let cases = [
+        ((0, Read, 3, 0), true),
+        ((1, Write(0), 3, 0xaa), true),
+        ((2, Read, 3, 0xaa), true),
+        ((3, Read, 2, 0), true),
+        ((4, Read, 3, 0), false),
+        ((4, Read, 4, 0), false),
+        ((4, Write(1), 4, 0xbb), false),
+        ((4, Write(1), 18_446_744_073_709_551_615, 0xbb), false),
+    ];
+    for (row, fits) in cases {
+        assert_eq!(rt; array.apply(&entry(row)), fits, "{row:?}");
+    }
+    let end = [
+        Block::ZERO,
+        Block::ZERO,
+        Block::ZERO,
+        Block([0xaa; BLOCK_BYTES]),
+    ];
+    assert_eq!(rt; array.as_slice(), end.as_slice());
+    Ok(())
+}
