@@ -1,10 +1,10 @@
 -- What a run of calls handed out is the beginning of what it bytes_fed.
-use Rattle.std.proofs.Common.{◌≡◌, ℕ, ◌+◌, ◌≤◌, List, [], ◌∷◌, ◌++◌, length, refl, ap, sym, subst, ◌∙◌, arith, append_assoc, Option, Some, None}
+use Rattle.std.proofs.Common.{◌≡◌, ℕ, ◌+◌, ◌≤◌, ◌⊎◌, List, [], ◌∷◌, ◌++◌, length, refl, ap, sym, subst, ◌∙◌, arith, append_assoc, inl, inr, Option, Some, None}
 use Rattle.std.proofs.lemmas.List.{append-nil}
 use Rattle.nm_requests.specs.declared.fault.Fault.{Fault}
 use Rattle.nm_requests.specs.Message.{Message, message_bytes}
 use Rattle.nm_requests.specs.Stream.{Begins, EndsAs, IsStreamAfter, IsStream, most_requests}
-use Rattle.nm_requests.specs.Reader.{Unread, IsUnchanged, Call, Fed, HandedOut, Starved, Stopped, Refused, Runs, bytes_fed, requests_out, IsNew, Stops, Step}
+use Rattle.nm_requests.specs.Reader.{Unread, IsUnchanged, Call, Fed, HandedOut, Starved, Stopped, Refused, Reserved, Runs, bytes_fed, requests_out, IsNew, Stops, Step}
 use Rattle.nm_requests.proofs.Streams.{begins_more, taken_is_first, one_end}
 
 -- from any state: what was unread and what was bytes_fed begin with what was handed out
@@ -70,6 +70,10 @@ runs_keep old (Stopped fault ∷ calls) new small run =
     ∙ sym (append-nil old.rest)) (runs_keep run.0 calls new (omega
     (arith, run.1.count)) run.2) in
     record { begins = kept.0; count = kept.1 }
+runs_keep old (Reserved ∷ calls) new small run =
+    let kept = keeps_unchanged old run.0 new calls run.1 (runs_keep run.0 calls new (omega
+    (arith, run.1.count)) run.2) in
+    record { begins = kept.0; count = kept.1 }
 runs_keep old (Refused ∷ calls) new small run =
     let kept = keeps_unchanged old run.0 new calls run.1.unchanged (runs_keep run.0 calls new (omega
     (arith, run.1.unchanged.count)) run.2) in
@@ -115,9 +119,10 @@ requests_out_all reader calls new end fresh run ends =
 apart : (reader : Unread) (fault : Fault) → reader.fault ≡ Some fault → reader.fault ≡ None → ⊥
 apart reader fault stopped going = cc
 
--- after a fault each call answers it again
+-- after a fault each call answers it again, but for one that makes room
 pub stays_stopped : (old mid new : Unread) (fault : Fault) (call : Call)
-    → Stops old fault mid → Step mid call new → call ≡ Stopped fault
+    → Stops old fault mid → Step mid call new → (call ≡ Stopped fault) ⊎ (call ≡ Reserved)
+stays_stopped old mid new fault Reserved stops step = inr refl
 stays_stopped old mid new fault (Fed piece) stops step =
     absurd (apart mid fault stops.fault step.was_open)
 stays_stopped old mid new fault (HandedOut message) stops step =
@@ -133,4 +138,4 @@ stays_stopped old mid new fault (Stopped other) stops step =
     let same : Some fault ≡ Some other = one_end mid.count mid.rest (Some fault)
     (Some other) here step.ends in
     let faults : fault ≡ other = cc in
-    ap Stopped (sym faults)
+    inl (ap Stopped (sym faults))

@@ -50,13 +50,15 @@ pub record Refuses (old new : Unread) : Type 0 where
   pub was_open : old.fault ≡ None
   pub unchanged : IsUnchanged old new
 
--- a call of a reader, with its answer
+-- a call of a reader, with its answer; `Refused` is out of memory, and `Reserved` any call that at
+-- most makes room
 pub data Call : Type 0 where
   Fed : (piece : List ℕ) → Call
   HandedOut : (message : Message) → Call
   Starved : Call
   Stopped : (fault : Fault) → Call
   Refused : Call
+  Reserved : Call
 
 -- the call leads from one state to the other
 abbrev pub Step : Unread → Call → Unread → Type 0
@@ -65,6 +67,7 @@ Step old (HandedOut message) new = HandsOut old message new
 Step old Starved new = Starves old new
 Step old (Stopped fault) new = Stops old fault new
 Step old Refused new = Refuses old new
+Step old Reserved new = IsUnchanged old new
 
 -- the calls lead from one state to the other
 abbrev pub Runs : Unread → List Call → Unread → Type 0

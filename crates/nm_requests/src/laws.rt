@@ -1,5 +1,5 @@
 //! Laws of the definitions: what the contracts of single calls say, they say of whole streams.
-ghost use Rattle.std.specs.Prelude.{◌≡◌, ◌<◌, ◌*◌, ◌++◌, ℕ, Bool, slice_index, List, length, Option, Some, Result};
+ghost use Rattle.std.specs.Prelude.{◌≡◌, ◌<◌, ◌*◌, ◌++◌, ◌⊎◌, ℕ, Bool, slice_index, List, length, Option, Some, Result};
 ghost use Rattle.nm_wire.specs.Sizes.{min_block};
 ghost use Rattle.nm_wire.specs.declared.export.Export.{Export};
 ghost use Rattle.nm_requests.specs.declared.fault.Fault.{Fault};
@@ -9,7 +9,7 @@ ghost use Rattle.nm_requests.specs.declared.task.Task.TheVariants.{Write};
 ghost use Rattle.nm_requests.specs.First.{message_of};
 ghost use Rattle.nm_requests.specs.Judging.{IsFirst, LiesInside, table};
 ghost use Rattle.nm_requests.specs.Message.{Message, IsMessage, message_bytes};
-ghost use Rattle.nm_requests.specs.Reader.{Unread, Call, Stopped, IsNew, Stops, Step, Runs, bytes_fed, requests_out};
+ghost use Rattle.nm_requests.specs.Reader.{Unread, Call, Stopped, Reserved, IsNew, Stops, Step, Runs, bytes_fed, requests_out};
 ghost use Rattle.nm_requests.specs.Stream.{StartsWith, Begins, EndsAs, IsStream, IsStreamAfter};
 
 /// No request begins another: bytes that begin with a request begin with no other.
@@ -62,10 +62,10 @@ pub fn requests_so_far()
         → IsStream (bytes_fed calls) (requests_out calls) end }
 {}
 
-/// After a fault a reader answers nothing else.
+/// After a fault a reader answers nothing else, but still makes room.
 pub fn stays_stopped()
     ensures { (old mid new : Unread) (fault : Fault) (call : Call) → Stops old fault mid
-        → Step mid call new → call ≡ Stopped fault }
+        → Step mid call new → (call ≡ Stopped fault) ⊎ (call ≡ Reserved) }
 {}
 
 /// Each request has exactly one result by the table, over each export.
