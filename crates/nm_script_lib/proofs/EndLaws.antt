@@ -1,4 +1,4 @@
--- How a script ends, from what its pieces say.
+-- How a run ends, from how its parts end.
 use Rattle.std.proofs.Common.{◌≡◌, ℕ, List, [], ◌∷◌, ◌++◌, Option, Result, Ok, Err, OnOk, OnErr, IfErr, IsErrAnd, codes, decimal, refl, sym, subst, append_assoc}
 use Rattle.std.specs.Io.KnownBytes.{Appends}
 use Rattle.std.proofs.KnownBytes.{Appends-trans}
@@ -14,7 +14,7 @@ use Rattle.nm_script_lib.specs.RunErrors.{error_of_parse, bad_step_line}
 use Rattle.nm_script_lib.specs.Ending.{ReadsNone, CannotRead}
 use Rattle.nm_script_lib.proofs.RunLaws.{prefix_longer, prefix_after, prefix_whole}
 
--- the line that names a line, in the pieces that are written
+-- the message that names a line, written in three calls
 
 line_parts : (line : ℕ) →
     bad_step_line line ≡ (codes "line " ++ decimal line) ++ codes ": bad step\n"
@@ -58,7 +58,7 @@ cannot_read old new text (BadStep line) s is read named script =
     } in
     subst (CannotRead old new) (sym is) none
 
--- what was said, whether all of it was taken or not
+-- what was reported, whether all of it was written or not
 
 pub reported_prefix : {E : Type 0} (r : Result (Unit {0}) E) (old new : Option (List ℕ)) (line : List ℕ)
     →

@@ -1,9 +1,7 @@
 pub mod Pieces
 pub mod Numbers
 pub mod Joined
-pub mod WordLaws
-pub mod StepLaws
-pub mod MirrorLaws
+pub mod FormLaws
 pub mod LineLaws
 pub mod ScriptLaws
 pub mod Sent

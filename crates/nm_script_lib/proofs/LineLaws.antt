@@ -1,16 +1,32 @@
--- Reading a text's lines in order finds the first of each kind, and reads those that speak.
-use Rattle.std.proofs.Common.{◌≡◌, ℕ, ◌+◌, Bool, true, false, List, [], ◌∷◌, ◌++◌, length, filter, Some, None, Option, Result, Ok, Err, IsTrue, refl, ap, arith, ◌⊎◌, inl, inr}
+-- Reading a text's lines in order finds the first of each kind, and reads those with content.
+use Rattle.std.proofs.Common.{◌≡◌, ℕ, ◌+◌, Bool, true, false, cond, List, [], ◌∷◌, ◌++◌, length, filter, Some, None, Option, Result, Ok, Err, IsTrue, refl, ap, arith, ◌⊎◌, inl, inr}
 use Rattle.std.specs.List.{AllByRecursion, AllZip}
 use Rattle.std.proofs.lemmas.Bool.{cases_Bool, both_ways}
 use Rattle.std.proofs.lemmas.Option.{same_Some}
 use Rattle.nm_script_lib.specs.declared.mirror_line.MirrorLine.{MirrorLine}
 use Rattle.nm_script_lib.specs.declared.step.Step.{Step}
-use Rattle.nm_script_lib.specs.Grammar.{IsStepLine, has_content}
+use Rattle.nm_script_lib.specs.Grammar.{IsStepLine, steps_on, has_content}
 use Rattle.nm_script_lib.specs.BadLine.{IsFirst, IsBadStep}
-use Rattle.nm_script_lib.specs.Reading.{step_of}
+use Rattle.nm_script_lib.specs.Forms.{keywords}
+use Rattle.nm_script_lib.specs.Reading.{read_line}
 use Rattle.nm_script_lib.specs.ScriptReading.{first_where, content_from, onto_steps, steps_of}
-use Rattle.nm_script_lib.proofs.WordLaws.{chosen}
-use Rattle.nm_script_lib.proofs.StepLaws.{step_sound, step_read}
+use Rattle.nm_script_lib.proofs.FormLaws.{line_sound, line_complete}
+
+pub chosen : {A : Type 0} (b : Bool) (x y z : A) → cond b x y ≡ z →
+    ((b ≡ true) × (x ≡ z)) ⊎ ((b ≡ false) × (y ≡ z))
+chosen true x y z h = inl (refl, h)
+chosen false x y z h = inr (refl, h)
+
+abbrev read_step : MirrorLine → List ℕ → Option Step
+read_step m line = read_line (keywords (steps_on m)) line
+
+step_sound : (m : MirrorLine) (line : List ℕ) (s : Step) → read_step m line ≡ Some s →
+    IsStepLine m line s
+step_sound m line s h = line_sound (keywords (steps_on m)) line s h
+
+step_read : (m : MirrorLine) (line : List ℕ) (s : Step) → IsStepLine m line s →
+    read_step m line ≡ Some s
+step_read m line s h = line_complete (keywords (steps_on m)) line s h
 
 -- the same as the first line of which a fact holds, where the first line here is the n-th
 pub record FirstFrom (Holds : List ℕ →
@@ -64,7 +80,7 @@ first_of_lines Holds lines k f = record {
   holds = f.holds;
 }
 
--- counted from after line n
+-- the same, counted from line n
 pub later_first : (Holds : List ℕ → Type 0) (n : ℕ) (lines : List (List ℕ)) (k : ℕ) →
     FirstFrom Holds (n + 1) lines k →
     (j : ℕ) × (k ≡ n + j) × IsFirst Holds lines j
@@ -112,7 +128,7 @@ none_where test Fails fails n [] h = refl
 none_where test Fails fails n (line ∷ lines) h = rw (fails line h.0)
     (none_where test Fails fails (n + 1) lines h.1)
 
--- the first line that has_content
+-- the first line with content
 
 pub record ContentFrom (n : ℕ) (lines : List (List ℕ)) (k : ℕ) (line : List ℕ) (rest : List (List ℕ))
     : Type 0 where
@@ -202,15 +218,15 @@ pub steps_sound : (m : MirrorLine) (n : ℕ) (lines : List (List ℕ)) (ss : Lis
     steps_of m n lines ≡ Ok ss → AllZip (IsStepLine m) (filter has_content lines) ss
 steps_sound m n [] ss h = let e : [] ≡ ss = cc in rw (← e) tt
 steps_sound m n (line ∷ lines) ss h =
-    elim (chosen (has_content line) (onto_steps (step_of m line) n (steps_of m (n + 1) lines))
+    elim (chosen (has_content line) (onto_steps (read_step m line) n (steps_of m (n + 1) lines))
     (steps_of m (n + 1) lines) (Ok ss) h) [
       | inl p ↦
-          let o = onto_ok (step_of m line) n (steps_of m (n + 1) lines) ss p.1 in
+          let o = onto_ok (read_step m line) n (steps_of m (n + 1) lines) ss p.1 in
           rw (p.0, o.4) (step_sound m line o.0 o.2, steps_sound m (n + 1) lines o.1 o.3)
       | inr p ↦ rw p.0 (steps_sound m (n + 1) lines ss p.1)
     ]
 
-no_step : (m : MirrorLine) (line : List ℕ) → step_of m line ≡ None → (s : Step) → IsStepLine m line s →
+no_step : (m : MirrorLine) (line : List ℕ) → read_step m line ≡ None → (s : Step) → IsStepLine m line s →
     ⊥
 no_step m line none s is = let some = step_read m line s is in cc
 
@@ -218,9 +234,9 @@ pub steps_bad : (m : MirrorLine) (n : ℕ) (lines : List (List ℕ)) (k : ℕ) �
     FirstFrom (IsBadStep m) n lines k
 steps_bad m n [] k h = cc
 steps_bad m n (line ∷ lines) k h =
-    elim (chosen (has_content line) (onto_steps (step_of m line) n (steps_of m (n + 1) lines))
+    elim (chosen (has_content line) (onto_steps (read_step m line) n (steps_of m (n + 1) lines))
     (steps_of m (n + 1) lines) (Err k) h) [
-      | inl p ↦ elim (onto_err (step_of m line) n (steps_of m (n + 1) lines) k p.1) [
+      | inl p ↦ elim (onto_err (read_step m line) n (steps_of m (n + 1) lines) k p.1) [
         | inl q ↦ first_here (IsBadStep m) n line lines k q.1 (p.0, no_step m line q.0)
         | inr q ↦ first_later (IsBadStep m) n line lines k
             (λ bad. bad.1 q.0 (step_sound m line q.0 q.1)) (steps_bad m (n + 1) lines k q.2)
@@ -240,7 +256,7 @@ steps_read m n (line ∷ lines) ss h = step m n line lines ss (steps_read m (n +
         ((rest : List Step) → AllZip (IsStepLine m) (filter has_content lines) rest →
         steps_of m (n + 1) lines ≡ Ok rest) →
         AllZip (IsStepLine m) (line ∷ filter has_content lines) ss →
-        onto_steps (step_of m line) n (steps_of m (n + 1) lines) ≡ Ok ss
+        onto_steps (read_step m line) n (steps_of m (n + 1) lines) ≡ Ok ss
     there m n line lines [] rest h = absurd h
     there m n line lines (s ∷ ss) rest h = rw (step_read m line s h.0, rest ss h.1) refl
 

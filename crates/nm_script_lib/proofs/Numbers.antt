@@ -7,7 +7,7 @@ use Rattle.std.proofs.lemmas.Str.{digit_value_digit}
 use Rattle.std.proofs.lemmas.Str.Parse.{digit_from_value}
 use Rattle.std.proofs.lemmas.Bool.{and_parts, and_from, ltb-true, lt-ltb, leb-true, le-leb}
 use Rattle.std.proofs.lemmas.Option.{same_Some}
-use Rattle.nm_script_lib.specs.Grammar.{Spells, hex_byte}
+use Rattle.nm_script_lib.specs.Forms.{IsDecimal, hex_byte}
 use Rattle.nm_script_lib.specs.Reading.{digits_on, number_of, hex_digit_of, byte_of, ◌>>=◌}
 
 pub guarded : {A : Type 0} (b : Bool) (x : Option A) (y : A) → cond b x None ≡ Some y →
@@ -56,13 +56,13 @@ read_back (c ∷ cs) n all small =
     (lt-ltb next (2 ^ 64) fits) in
     rw (t, e) (read_back cs next all.1 more)
 
-pub number_spells : (w : List ℕ) (n : ℕ) → number_of w ≡ Some n → Spells w n
+pub number_spells : (w : List ℕ) (n : ℕ) → number_of w ≡ Some n → IsDecimal w n
 number_spells [] n h = cc
 number_spells (c ∷ cs) n h =
     let r = read_digits (c ∷ cs) 0 n (omega arith) h in
     record { digits = (omega arith, r.0); value = r.1; fits = r.2 }
 
-pub spells_number : (w : List ℕ) (n : ℕ) → Spells w n → number_of w ≡ Some n
+pub spells_number : (w : List ℕ) (n : ℕ) → IsDecimal w n → number_of w ≡ Some n
 spells_number [] n s = absurd (omega (arith, s.digits.0))
 spells_number (c ∷ cs) n s =
     let e : digits_value_after 10 0 (c ∷ cs) ≡ n = s.value in

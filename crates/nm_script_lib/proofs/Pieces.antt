@@ -1,4 +1,4 @@
--- A text is cut at the first byte that pieces it.
+-- A text is cut at its first separator.
 use Rattle.std.proofs.Common.{◌≡◌, ℕ, ◌+◌, ◌-◌, ◌≤◌, Bool, true, false, cond, not, ltb, List, [], ◌∷◌, length, take, drop, Some, None, Option, ◌==◌, refl, arith, position, suc, ◌⊎◌, inl, inr, Bor, MatchBool, ◌≢◌, is_some}
 use Rattle.std.specs.List.{slice_split, onto_first, position_or_len}
 use Rattle.std.specs.Option.{option_copied}
@@ -12,7 +12,7 @@ cond_none : {A : Type 0} (b : Bool) (x : A) → cond b (Some x) None ≡ None �
 cond_none true x h = cc
 cond_none false x h = refl
 
--- the first byte that pieces
+-- a text with a separator
 pub pieces_cut : (at : ℕ) (text : List ℕ) (k : ℕ) → position (λ b. b == at) text ≡ Some k →
     pieces at text ≡ take k text ∷ pieces at (take (length text - (k + 1)) (drop (k + 1) text))
 pieces_cut at text k h =
@@ -39,7 +39,7 @@ split_whole p (x ∷ xs) h = split_step p x xs (split_whole p xs) (cases_Bool (p
         let k : suc (length xs) ≤ 1 + position_or_len p xs = rw other at h in
         rw (other, rest (omega arith)) refl
 
--- no byte that pieces
+-- a text with no separator
 pub pieces_whole : (at : ℕ) (text : List ℕ) → position (λ b. b == at) text ≡ None →
     pieces at text ≡ text ∷ []
 pieces_whole at text h =
@@ -48,7 +48,7 @@ pieces_whole at text h =
     (cond_none (ltb (position_or_len p text) (length text)) (position_or_len p text) h) in
     split_whole p text outside
 
--- a text has a part at least
+-- a text has at least one piece
 pub some_piece : (at : ℕ) (text : List ℕ) → pieces at text ≡ [] → ⊥
 some_piece at [] h = cc
 some_piece at (c ∷ text) h = some_step (c == at) c (pieces at text) h

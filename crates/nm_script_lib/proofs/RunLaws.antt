@@ -10,10 +10,9 @@ use Rattle.nm_stripe.specs.declared.answer.Answer.{Answer}
 use Rattle.nm_stripe.specs.declared.step.Step.{Step as StripeStep}
 use Rattle.nm_stripe.specs.Machine.{StepOf, Runs}
 use Rattle.nm_script_lib.specs.declared.mirror_line.MirrorLine.{MirrorLine}
-use Rattle.nm_script_lib.specs.declared.outcome.Outcome.{Outcome}
 use Rattle.nm_script_lib.specs.declared.step.Step.{Step}
-use Rattle.nm_script_lib.specs.MemStripe.{MemStripe, in_memory, new_stripe, asked, answer_line, lines, HasShapeOf, Steps}
-use Rattle.nm_script_lib.specs.Printing.{printed_outcome}
+use Rattle.nm_script_lib.specs.MemStripe.{MemStripe, in_memory, new_stripe, asked, HasShapeOf}
+use Rattle.nm_script_lib.specs.Printing.{answer_line, answer_lines}
 use Rattle.nm_script_lib.specs.Streams.{AppendsPrefix, FlushesPrefix}
 use Rattle.nm_script_lib.specs.Runs.{Answers, history, run_text, RunsSteps, RunsPrefix, WholeRun, PartOfRun, FirstSteps, AllSteps, Writes}
 
@@ -21,7 +20,7 @@ pub on_err : {T E : Type 0} (r : Result T E) (P : Type 0) → P → OnErr r P
 on_err (Ok x) P p = tt
 on_err (Err e) P p = p
 
--- one step after a run
+-- one more step of a run
 
 runs_more : (ss : List (StripeStep (List Block))) (xs : List (Answer (List Block)))
     (a b c : MemStripe) (s : StripeStep (List Block)) (x : Answer (List Block)) →
@@ -40,10 +39,10 @@ answers_more prefix xs a b c s x e h =
     rw (map-append asked prefix (s ∷ [])) (runs_more (map asked prefix) xs a b c (asked s) x e h)
 
 lines_more : (before : List ℕ) (xs : List (Answer (List Block))) (x : Answer (List Block)) →
-    before ++ lines (xs ++ x ∷ []) ≡ (before ++ lines xs) ++ answer_line x
+    before ++ answer_lines (xs ++ x ∷ []) ≡ (before ++ answer_lines xs) ++ answer_line x
 lines_more before xs x = sym (flat_map_more answer_line before xs x)
 
--- what was passed on, and then more
+-- what was flushed, and then more
 pub passes_more : (old cur new : Option (List ℕ)) (all some more kept : List ℕ) →
     FlushesPrefix old cur all some → FlushesPrefix cur new (some ++ more) kept →
     FlushesPrefix old new (all ++ more) kept
@@ -65,32 +64,30 @@ prefix_more old cur new all some more h k = (
   Appends-trans old cur new h.0 k.0 h.2 k.3,
 )
 
--- what was passed on is a prefix
+-- what was flushed is a prefix
 pub prefix_passed : (old new : Option (List ℕ)) (all kept : List ℕ) → FlushesPrefix old new all kept →
     AppendsPrefix old new all
 prefix_passed old new all kept h = (h.0, kept, h.1, h.2)
 
-pub steps_more : (prefix : List Step) (before mid after : MemStripe) (s : Step) (o : Outcome)
-    (old cur new : Option (List ℕ)) (buffer some kept : List ℕ) →
-    RunsSteps prefix before mid old cur buffer some → Steps s o mid after → HasShapeOf mid after →
-    FlushesPrefix cur new (some ++ printed_outcome o) kept →
-    RunsSteps (prefix ++ s ∷ []) before after old new buffer kept
-steps_more prefix before mid after s o old cur new buffer some kept h step shape p =
-    let line : FlushesPrefix cur new (some ++ answer_line step.answer) kept = subst
-    (λ (x : Outcome). FlushesPrefix cur new (some ++ printed_outcome x) kept) step.comes_to p in
-    record {
-      answers = h.answers ++ step.answer ∷ [];
-      answered = answers_more prefix h.answers before mid after s step.answer h.answered step.steps;
-      shape = record { place = shape.place ∙ h.shape.place; legs = shape.legs ∙ h.shape.legs };
-      passes = rw (lines_more buffer h.answers step.answer)
-          (passes_more old cur new (buffer ++ lines h.answers) some (answer_line step.answer) kept
-          h.passes line);
-    }
+pub steps_more : (prefix : List Step) (before mid after : MemStripe) (s : Step)
+    (a : Answer (List Block)) (old cur new : Option (List ℕ)) (buffer some kept : List ℕ) →
+    RunsSteps prefix before mid (λ text. FlushesPrefix old cur (buffer ++ text) some) →
+    StepOf in_memory true (asked s) a mid after → HasShapeOf mid after →
+    FlushesPrefix cur new (some ++ answer_line a) kept →
+    RunsSteps (prefix ++ s ∷ []) before after (λ text. FlushesPrefix old new (buffer ++ text) kept)
+steps_more prefix before mid after s a old cur new buffer some kept h step shape p = record {
+  answers = h.answers ++ a ∷ [];
+  answered = answers_more prefix h.answers before mid after s a h.answered step;
+  shape = record { place = shape.place ∙ h.shape.place; legs = shape.legs ∙ h.shape.legs };
+  written = rw (lines_more buffer h.answers a)
+      (passes_more old cur new (buffer ++ answer_lines h.answers) some (answer_line a) kept
+      h.written p);
+}
 
 -- a run ends early, before or after the line of its last step
 pub stopped_before : (prefix rest steps : List Step) (before mid : MemStripe) (old cur : Option (List ℕ))
     (buffer some : List ℕ) → steps ≡ prefix ++ rest →
-    RunsSteps prefix before mid old cur buffer some → RunsPrefix steps before old cur buffer
+    RunsSteps prefix before mid (λ text. FlushesPrefix old cur (buffer ++ text) some) → RunsPrefix steps before (λ text. AppendsPrefix old cur (buffer ++ text))
 stopped_before prefix rest steps before mid old cur buffer some e h = record {
   prefix = prefix;
   rest = rest;
@@ -98,28 +95,25 @@ stopped_before prefix rest steps before mid old cur buffer some e h = record {
   after = mid;
   split = e;
   answered = h.answered;
-  written = prefix_passed old cur (buffer ++ lines h.answers) some h.passes;
+  written = prefix_passed old cur (buffer ++ answer_lines h.answers) some h.written;
 }
 
 pub stopped_after : (prefix rest steps : List Step) (before mid after : MemStripe) (s : Step)
-    (o : Outcome) (old cur new : Option (List ℕ)) (buffer some : List ℕ) →
-    steps ≡ (prefix ++ s ∷ []) ++ rest → RunsSteps prefix before mid old cur buffer some →
-    Steps s o mid after →
-    AppendsPrefix cur new (some ++ printed_outcome o) → RunsPrefix steps before old new buffer
-stopped_after prefix rest steps before mid after s o old cur new buffer some e h step w =
-    let line : AppendsPrefix cur new (some ++ answer_line step.answer) = subst
-    (λ (x : Outcome). AppendsPrefix cur new (some ++ printed_outcome x)) step.comes_to w in
-    record {
-      prefix = prefix ++ s ∷ [];
-      rest = rest;
-      answers = h.answers ++ step.answer ∷ [];
-      after = after;
-      split = e;
-      answered = answers_more prefix h.answers before mid after s step.answer h.answered step.steps;
-      written = rw (lines_more buffer h.answers step.answer)
-          (prefix_more old cur new (buffer ++ lines h.answers) some (answer_line step.answer)
-          h.passes line);
-    }
+    (a : Answer (List Block)) (old cur new : Option (List ℕ)) (buffer some : List ℕ) →
+    steps ≡ (prefix ++ s ∷ []) ++ rest → RunsSteps prefix before mid (λ text. FlushesPrefix old cur (buffer ++ text) some) →
+    StepOf in_memory true (asked s) a mid after →
+    AppendsPrefix cur new (some ++ answer_line a) → RunsPrefix steps before (λ text. AppendsPrefix old new (buffer ++ text))
+stopped_after prefix rest steps before mid after s a old cur new buffer some e h step w = record {
+  prefix = prefix ++ s ∷ [];
+  rest = rest;
+  answers = h.answers ++ a ∷ [];
+  after = after;
+  split = e;
+  answered = answers_more prefix h.answers before mid after s a h.answered step;
+  written = rw (lines_more buffer h.answers a)
+      (prefix_more old cur new (buffer ++ answer_lines h.answers) some (answer_line a)
+      h.written w);
+}
 
 -- the lines of a list of things, one thing longer, or cut anywhere
 
@@ -154,7 +148,7 @@ items_prefix_more line old cur new buffer some xs x h p =
     rw (sym (flat_map_more line buffer xs x))
     (prefix_more old cur new (buffer ++ flat_map line xs) some (line x) h p)
 
--- fronts and wholes
+-- prefixes and wholes
 
 pub prefix_none : (a : Option (List ℕ)) (all : List ℕ) → AppendsPrefix a a all
 prefix_none a all = ([], all, refl, Appends-nil a)
@@ -226,42 +220,42 @@ run_not_opened m steps a = ([], FirstSteps [] steps [] (new_stripe m) refl refl,
 
 pub run_stopped : (m : MirrorLine) (steps : List Step) (old new : Option (List ℕ)) (buffer : List ℕ) →
     buffer ≡ [] →
-    RunsPrefix steps (new_stripe m) old new buffer →
+    RunsPrefix steps (new_stripe m) (λ text. AppendsPrefix old new (buffer ++ text)) →
     Writes (PartOfRun m steps) (AppendsPrefix old new)
 run_stopped m steps old new buffer e h = (
-  lines h.answers,
+  answer_lines h.answers,
   FirstSteps h.prefix h.rest h.answers h.after h.split h.answered,
-  subst (λ (x : List ℕ). AppendsPrefix old new (x ++ lines h.answers)) e h.written,
+  subst (λ (x : List ℕ). AppendsPrefix old new (x ++ answer_lines h.answers)) e h.written,
 )
 
 abbrev done : (m : MirrorLine) (steps : List Step) (end : MemStripe) (old new : Option (List ℕ))
     (buffer rest : List ℕ) →
-    (h : RunsSteps steps (new_stripe m) end old new buffer rest) →
+    (h : RunsSteps steps (new_stripe m) end (λ text. FlushesPrefix old new (buffer ++ text) rest)) →
     WholeRun m steps (run_text h.answers end)
 done m steps end old new buffer rest h = record
     { answers = h.answers; end = end; answered = h.answered; whole = refl }
 
 pub run_done : (m : MirrorLine) (steps : List Step) (end : MemStripe) (old cur new : Option (List ℕ))
     (buffer rest : List ℕ) → buffer ≡ [] →
-    RunsSteps steps (new_stripe m) end old cur buffer rest →
+    RunsSteps steps (new_stripe m) end (λ text. FlushesPrefix old cur (buffer ++ text) rest) →
     Appends cur new (rest ++ history end) → Writes (WholeRun m steps) (Appends old new)
 run_done m steps end old cur new buffer rest e h w = (
   run_text h.answers end,
   done m steps end old cur buffer rest h,
-  subst (λ (x : List ℕ). Appends old new ((x ++ lines h.answers) ++ history end)) e
-      (whole_more old cur new (buffer ++ lines h.answers) rest (history end) h.passes w),
+  subst (λ (x : List ℕ). Appends old new ((x ++ answer_lines h.answers) ++ history end)) e
+      (whole_more old cur new (buffer ++ answer_lines h.answers) rest (history end) h.written w),
 )
 
 pub run_cut : (m : MirrorLine) (steps : List Step) (end : MemStripe) (old cur new : Option (List ℕ))
     (buffer rest : List ℕ) → buffer ≡ [] →
-    RunsSteps steps (new_stripe m) end old cur buffer rest →
+    RunsSteps steps (new_stripe m) end (λ text. FlushesPrefix old cur (buffer ++ text) rest) →
     AppendsPrefix cur new (rest ++ history end) →
     Writes (PartOfRun m steps) (AppendsPrefix old new)
 run_cut m steps end old cur new buffer rest e h w = (
   run_text h.answers end,
   AllSteps (run_text h.answers end) (done m steps end old cur buffer rest h),
-  subst (λ (x : List ℕ). AppendsPrefix old new ((x ++ lines h.answers) ++ history end)) e
-      (prefix_more old cur new (buffer ++ lines h.answers) rest (history end) h.passes w),
+  subst (λ (x : List ℕ). AppendsPrefix old new ((x ++ answer_lines h.answers) ++ history end)) e
+      (prefix_more old cur new (buffer ++ answer_lines h.answers) rest (history end) h.written w),
 )
 
 pub ok_then : {T E : Type 0} (r : Result T E) (P Q : Type 0) → (P → Q) → OnOk r P → OnOk r Q

@@ -9,32 +9,14 @@ use Rattle.std.proofs.lemmas.List.Folds.{Any-from_list_any}
 use Rattle.std.proofs.lemmas.List.Splits.{join_with_byte-slice_split, slice_split_first}
 use Rattle.nm_script_lib.specs.declared.mirror_line.MirrorLine.{MirrorLine}
 use Rattle.nm_script_lib.specs.declared.step.Step.{Step}
-use Rattle.nm_script_lib.specs.Grammar.{IsMirrorLine, IsStepLine, AreLines, IsScript, has_content}
+use Rattle.nm_script_lib.specs.Grammar.{IsMirrorLine, IsStepLine, mirror_form, AreLines, IsScript, has_content}
 use Rattle.nm_script_lib.specs.BadLine.{IsFirst, IsNotUtf8, HasContent, NamesMirror, IsBadMirror, IsBadStep, Names, NotUtf8, NoMirrorLine, WrongMirrorLine, WrongStep, NamesLine}
-use Rattle.nm_script_lib.specs.Reading.{pieces, is_word, mirror_of}
+use Rattle.nm_script_lib.specs.Reading.{pieces, is_word, read_line}
 use Rattle.nm_script_lib.specs.ScriptReading.{first_where, content_from, steps_of, names_mirror, with_mirror, after_mirror, from_content, from_utf8, script_of}
-use Rattle.nm_script_lib.proofs.Pieces.{some_piece, split_whole}
-use Rattle.nm_script_lib.proofs.Joined.{pieces_joined, pieces_lack}
-use Rattle.nm_script_lib.proofs.WordLaws.{same_word, word_same}
-use Rattle.nm_script_lib.proofs.MirrorLaws.{mirror_sound, mirror_read}
+use Rattle.nm_script_lib.proofs.Pieces.{split_whole}
+use Rattle.nm_script_lib.proofs.Joined.{are_separated, pieces_are}
+use Rattle.nm_script_lib.proofs.FormLaws.{same_word, word_same, line_sound, line_complete}
 use Rattle.nm_script_lib.proofs.LineLaws.{first_of_lines, later_first, where_found, where_none, none_where, ContentFrom, content_found, content_none, content_back, steps_sound, steps_bad, steps_read}
-
--- the lines of a text
-
-some_length : (ps : List (List ℕ)) → (ps ≡ [] → ⊥) → 0 < length ps
-some_length [] h = absurd (h refl)
-some_length (p ∷ ps) h = omega arith
-
-pub are_lines : (text : List ℕ) → AreLines text (pieces 10 text)
-are_lines text = record {
-  joined = sym (join_with_byte-slice_split 10 text);
-  some = some_length (pieces 10 text) (some_piece 10 text);
-  each = pieces_lack 10 text;
-}
-
-pub lines_are : (text : List ℕ) (lines : List (List ℕ)) → AreLines text lines →
-    pieces 10 text ≡ lines
-lines_are text lines h = ap (pieces 10) h.joined ∙ pieces_joined 10 lines h.some h.each
 
 -- UTF-8
 
@@ -78,13 +60,13 @@ pub record ReadLines (lines : List (List ℕ)) (m : MirrorLine) (ss : List Step)
   pub each_step : AllZip (IsStepLine m) others ss
 
 after_sound : (lines rest : List (List ℕ)) (n : ℕ) (line : List ℕ) (o : Option MirrorLine) (m : MirrorLine)
-    (ss : List Step) → o ≡ mirror_of line →
+    (ss : List Step) → o ≡ read_line mirror_form line →
     AllByRecursion IsUtf8 lines → filter has_content lines ≡ line ∷ filter has_content rest →
     after_mirror lines n rest o ≡ Ok (m, ss) → ReadLines lines m ss
 after_sound lines rest n line None m ss e u f h = cc
 after_sound lines rest n line (Some x) m ss e u f h =
     let w = with_mirror_ok x m (steps_of x (n + 1) rest) ss h in
-    let is : mirror_of line ≡ Some m = sym e ∙ ap Some w.0 in
+    let is : read_line mirror_form line ≡ Some m = sym e ∙ ap Some w.0 in
     let steps : steps_of m (n + 1) rest ≡ Ok ss = ap (λ y. steps_of y (n + 1) rest) (sym w.0) ∙
     w.1 in
     record {
@@ -92,8 +74,7 @@ after_sound lines rest n line (Some x) m ss e u f h =
       others = filter has_content rest;
       utf8 = u;
       content = f;
-      mirror = mirror_sound
-          line m is;
+      mirror = line_sound mirror_form line m is;
       each_step = steps_sound m (n + 1) rest ss steps;
     }
 
@@ -103,7 +84,7 @@ content_sound : (lines : List (List ℕ)) (o : Option (ℕ × List ℕ ×
 content_sound lines None m ss e u h = cc
 content_sound lines (Some (n, line, rest)) m ss e u h =
     let f = content_found 1 lines (n, line, rest) e in
-    after_sound lines rest n line (mirror_of line) m ss refl u f.content h
+    after_sound lines rest n line (read_line mirror_form line) m ss refl u f.content h
 
 utf8_sound : (lines : List (List ℕ)) (o : Option ℕ) (m : MirrorLine) (ss : List Step) →
     first_where (λ line. not (is_utf8 line)) 1 lines ≡ o →
@@ -124,7 +105,7 @@ script_sound text m ss h =
       lines = lines;
       first = r.first;
       others = r.others;
-      are_lines = are_lines text;
+      are_lines = are_separated 10 text;
       utf8 =
           r.utf8;
       content = r.content;
@@ -132,16 +113,16 @@ script_sound text m ss h =
       each_step = r.each_step;
     }
 
--- a script is read as what it says
+-- a script is read as it is
 pub script_read : (text : List ℕ) (m : MirrorLine) (ss : List Step) → IsScript text m ss →
     script_of (pieces 10 text) ≡ Ok (m, ss)
 unfolding script_of
 script_read text m ss h =
-    let e = lines_are text h.lines h.are_lines in
+    let e = pieces_are 10 text h.lines h.are_lines in
     let u = none_where (λ line. not (is_utf8 line)) IsUtf8 utf8_back 1 h.lines h.utf8 in
     let b = content_back 1 h.lines h.others h.first h.content in
     let steps : AllZip (IsStepLine m) (filter has_content b.1) ss = rw b.3 h.each_step in
-    rw (e, u, b.2, mirror_read h.first m h.mirror, steps_read m (b.0 + 1) b.1 ss steps) refl
+    rw (e, u, b.2, line_complete mirror_form h.first m h.mirror, steps_read m (b.0 + 1) b.1 ss steps) refl
 
 -- the line that is named
 
@@ -188,7 +169,7 @@ head_taken : (k b : ℕ) (bytes : List ℕ) → 0 < k → get_or (take k (b ∷ 
 head_taken zero b bytes h = absurd (omega arith)
 head_taken (suc k) b bytes h = refl
 
--- a line that does not speak is empty or begins with another byte
+-- a line that is skipped is empty or begins with another byte
 skipped_names : (line : List ℕ) → has_content line ≡ false → names_mirror line ≡ false
 skipped_names [] h = refl
 skipped_names (b ∷ bytes) h =
@@ -210,8 +191,8 @@ skipped_none : (lines : List (List ℕ)) → AllByRecursion (λ line. has_conten
 skipped_none [] h = tt
 skipped_none (line ∷ lines) h = (names_failed line (skipped_names line h.0), skipped_none lines h.1)
 
-no_mirror : (line : List ℕ) → mirror_of line ≡ None → IsBadMirror line
-no_mirror line none m is = let some = mirror_read line m is in cc
+no_mirror : (line : List ℕ) → read_line mirror_form line ≡ None → IsBadMirror line
+no_mirror line none m is = let some = line_complete mirror_form line m is in cc
 
 abbrev one_first : (k : ℕ) (lines rest : List (List ℕ)) (line : List ℕ) →
     ContentFrom 1 lines k line rest → IsFirst HasContent lines k
@@ -230,7 +211,7 @@ named_at : (a n : ℕ) (lines : List (List ℕ)) → n ≡ a → Names lines a �
 named_at a n lines e h = rw e h
 
 after_bad : (lines rest : List (List ℕ)) (n : ℕ) (line : List ℕ) (o : Option MirrorLine) (k : ℕ) →
-    o ≡ mirror_of line →
+    o ≡ read_line mirror_form line →
     AllByRecursion IsUtf8 lines → ContentFrom 1 lines n line rest →
     after_mirror lines n rest o ≡ Err k → Names lines k
 after_bad lines rest n line None k e u f h =
@@ -248,7 +229,7 @@ after_bad lines rest n line (Some m) k e u f h =
     let bad = steps_bad m (n + 1) rest k (with_mirror_err m (steps_of m (n + 1) rest) k h) in
     let first = later_first (IsBadStep m) n rest k bad in
     named_at (n + first.0) k lines first.1
-    (WrongStep n first.0 m u (one_first n lines rest line f) (mirror_sound line m (sym e))
+    (WrongStep n first.0 m u (one_first n lines rest line f) (line_sound mirror_form line m (sym e))
     first.2)
 
 content_bad : (lines : List (List ℕ)) (o : Option (ℕ × List ℕ × List (List ℕ))) (k : ℕ) →
@@ -257,7 +238,7 @@ content_bad : (lines : List (List ℕ)) (o : Option (ℕ × List ℕ × List (Li
 content_bad lines None k e u h = named_at 1 k lines (sym (same_bad 1 k h))
     (NoMirrorLine u (skipped_none lines (content_none 1 lines e)))
 content_bad lines (Some (n, line, rest)) k e u h =
-    after_bad lines rest n line (mirror_of line) k refl u (content_found 1 lines (
+    after_bad lines rest n line (read_line mirror_form line) k refl u (content_found 1 lines (
       n,
       line,
       rest,
@@ -279,6 +260,6 @@ unfolding script_of
 line_named text k h =
     let lines : List (List ℕ) = pieces 10 text in (
       lines,
-      are_lines text,
+      are_separated 10 text,
       utf8_bad lines (first_where (λ line. not (is_utf8 line)) 1 lines) k refl h,
     )

@@ -1,10 +1,10 @@
--- Fronts of a text that are written one after the other make a longer prefix.
+-- Pieces of a text that are written one after the other make a longer prefix.
 use Rattle.std.proofs.Common.{◌≡◌, ℕ, ◌-◌, List, ◌++◌, length, take, drop, Option, sym, ap, ◌∙◌, append_assoc, take-append-drop}
 use Rattle.std.proofs.lemmas.List.{take_rest}
 use Rattle.std.specs.Io.KnownBytes.{Appends}
 use Rattle.std.proofs.KnownBytes.{Appends-trans}
 
--- a prefix, and after it a piece of what was left
+-- a prefix, and then a piece of the rest
 pub sent_more : (old mid new : Option (List ℕ)) (bytes prefix rest : List ℕ) (n : ℕ) →
     bytes ≡ prefix ++ rest →
     Appends old mid prefix → Appends mid new (take n rest) →

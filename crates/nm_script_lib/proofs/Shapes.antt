@@ -1,4 +1,4 @@
--- No step changes where a stripe stands, or how many legs it has.
+-- No step changes a stripe's place, or how many legs it has.
 use Rattle.std.proofs.Common.{◌≡◌, ℕ, Bool, true, false, cond, List, length, Option, Some, None, refl, ap, ◌∙◌, ◌==◌}
 use Rattle.std.proofs.lemmas.List.{length-set, length-replicate}
 use Rattle.nm_replay.specs.declared.block.Block.{Block}
@@ -9,11 +9,11 @@ use Rattle.nm_stripe.specs.declared.answer.Answer.TheVariants.{Begun, Pushed, Co
 use Rattle.nm_stripe.specs.declared.refusal.Refusal.{Refusal}
 use Rattle.nm_stripe.specs.declared.refusal.Refusal.TheVariants.{Busy, Full, Stopped, Exhausted, NoTicket, NotOwed, NotYet, Fault, NotOut, Memory}
 use Rattle.nm_stripe.specs.Causes.{read_cause}
-use Rattle.nm_stripe.specs.Machine.{StepOf, MayBeAsked}
+use Rattle.nm_stripe.specs.Machine.{StepOf}
 use Rattle.nm_stripe.specs.Steps.{after_landing, after_reach, Pushes, ReadRefused}
 use Rattle.nm_script_lib.specs.declared.step.Step.{Step}
 use Rattle.nm_script_lib.specs.declared.step.Step.TheVariants.{Begin, Push, Claim, Read}
-use Rattle.nm_script_lib.specs.MemStripe.{MemStripe, in_memory, asked, filled_block, CanTake, HasShapeOf}
+use Rattle.nm_script_lib.specs.MemStripe.{MemStripe, in_memory, asked, filled_block, HasShapeOf}
 
 same_shape : (old new : MemStripe) → new ≡ old → HasShapeOf old new
 same_shape old new e = record
@@ -80,14 +80,6 @@ step_shape (Read block) (Refused cause handed) old new h = read_refused old new 
     (read_cause old) cause h.0
 step_shape s a old new h = absurd h
 
-fills_block : (fill : ℕ) → length (filled_block fill) ≡ 512
+pub fills_block : (fill : ℕ) → length (filled_block fill) ≡ 512
 unfolding filled_block
 fills_block fill = length-replicate 512 fill
-
--- what a stripe can take, it may be asked for
-pub may_be_asked : (stripe : MemStripe) (s : Step) → CanTake stripe s →
-    MayBeAsked in_memory stripe (asked s)
-may_be_asked stripe (Begin block fill) h = (h, fills_block fill)
-may_be_asked stripe (Push ticket leg) h = h
-may_be_asked stripe (Claim ticket) h = tt
-may_be_asked stripe (Read block) h = h

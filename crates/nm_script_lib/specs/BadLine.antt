@@ -1,11 +1,11 @@
--- The line that is named where a text is no script.
+-- Which line is named where a text is no script.
 use Rattle.std.specs.Prelude.{◌≡◌, ℕ, ◌+◌, List, ◌∷◌, ◌++◌, length, ◌==◌, IsTrue, IsUtf8, codes}
 use Rattle.std.specs.List.{before_first, AllByRecursion, Any}
 use Rattle.nm_script_lib.specs.declared.mirror_line.MirrorLine.{MirrorLine}
 use Rattle.nm_script_lib.specs.declared.step.Step.{Step}
 use Rattle.nm_script_lib.specs.Grammar.{IsMirrorLine, IsStepLine, AreLines, has_content}
 
--- The number, counted from 1, of the first line of which a fact holds.
+-- The number, counted from 1, of the first line for which a fact holds.
 pub record IsFirst (Holds : List ℕ → Type 0) (lines : List (List ℕ)) (n : ℕ) : Type 0 where
   pub before : List (List ℕ)
   pub line : List ℕ
@@ -25,17 +25,17 @@ HasContent line = IsTrue (has_content line)
 abbrev pub NamesMirror : List ℕ → Type 0
 NamesMirror line = before_first (λ b. b == 32) line ≡ codes "mirror"
 
--- The line has_content, and is no mirror line.
+-- The line is no mirror line.
 abbrev pub IsBadMirror : List ℕ → Type 0
 IsBadMirror line = (m : MirrorLine) → IsMirrorLine line m → ⊥
 
--- The line has_content, and is no step on this mirror.
+-- The line has content, and is no step on this mirror.
 abbrev pub IsBadStep : MirrorLine → List ℕ → Type 0
 IsBadStep m line = HasContent line × ((s : Step) → IsStepLine m line s → ⊥)
 
 -- Line n is named. The first line that is not UTF-8 is, whatever stands before it. In a text that
--- is UTF-8: where no line's first word is `mirror`, line 1; else the first line that has_content, if it
--- is no mirror line; else the first line after it that has_content and is no step.
+-- is UTF-8: where no line's first word is `mirror`, line 1; else the first line with content, if it
+-- is no mirror line; else the first line after it that has content and is no step.
 pub data Names (lines : List (List ℕ)) : ℕ → Type 0 where
   NotUtf8 : (n : ℕ) → IsFirst IsNotUtf8 lines n → Names lines n
   NoMirrorLine : AllByRecursion IsUtf8 lines

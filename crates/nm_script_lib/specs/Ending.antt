@@ -1,4 +1,4 @@
--- How a script ends: what was read, what was written, and what is said of it.
+-- How a run ends: what was read, what was written, and what is reported.
 use Rattle.std.specs.Prelude.{◌≡◌, ℕ, List, Option, Result, Ok, Err, ◌⊎◌}
 use Rattle.std.specs.Io.KnownBytes.{Appends, Keeps}
 use Rattle.nm_script_lib.specs.declared.mirror_line.MirrorLine.{MirrorLine}
@@ -7,12 +7,13 @@ use Rattle.nm_script_lib.specs.declared.run_error.RunError.{RunError}
 use Rattle.nm_script_lib.specs.declared.run_error.RunError.TheVariants.{BadStep, Memory, Input, Output}
 use Rattle.nm_script_lib.specs.Grammar.{IsScript}
 use Rattle.nm_script_lib.specs.BadLine.{NamesLine}
-use Rattle.nm_script_lib.specs.Streams.{AppendsPrefix, ReadsAll}
+use Rattle.nm_script_lib.specs.Streams.{Change, AppendsPrefix, ReadsAll}
 use Rattle.nm_script_lib.specs.RunErrors.{status_of, error_line}
 use Rattle.nm_script_lib.specs.Runs.{WholeRun, PartOfRun, Writes}
 
 -- The whole input is this script.
-pub record ReadsScript (old new : Option (List ℕ)) (m : MirrorLine) (steps : List Step) : Type 0 where
+pub record ReadsScript (old new : Option (List ℕ)) (m : MirrorLine) (steps : List Step)
+    : Type 0 where
   pub text : List ℕ
   pub read : ReadsAll old new text
   pub script : IsScript text m steps
@@ -24,13 +25,13 @@ pub record ReadsNone (old new : Option (List ℕ)) (line : ℕ) : Type 0 where
   pub named : NamesLine text line
   pub none : (m : MirrorLine) (steps : List Step) → IsScript text m steps → ⊥
 
--- The input is a script, whose run has written its first lines.
+-- The input is a script, and a part of its run's lines was written.
 abbrev pub PartDone : (in_old in_new out_old out_new : Option (List ℕ)) → Type 0
 PartDone in_old in_new out_old out_new =
     (m : MirrorLine) × (steps : List Step) × ReadsScript in_old in_new m steps
     × Writes (PartOfRun m steps) (AppendsPrefix out_old out_new)
 
--- What was read and written where the script ended so.
+-- What was read and written, by how the run ended.
 abbrev pub Ended :
     Result (Unit {0}) RunError → (in_old in_new out_old out_new : Option (List ℕ)) → Type 0
 Ended (Ok done) in_old in_new out_old out_new =
@@ -46,20 +47,19 @@ Ended (Err Output) in_old in_new out_old out_new = PartDone in_old in_new out_ol
 -- The exit status.
 abbrev pub exit_status : Result (Unit {0}) RunError → ℕ
 exit_status (Ok done) = 0
-exit_status (Err stop) = status_of stop
+exit_status (Err error) = status_of error
 
--- What standard error gets: nothing, or the line of what stopped the script, as far as it is taken.
+-- What standard error gets: nothing, or the error's line, as far as it can be written.
 abbrev pub IsReported : Result (Unit {0}) RunError → Option (List ℕ) → Option (List ℕ) → Type 0
 IsReported (Ok done) old new = Keeps old new
-IsReported (Err stop) old new = AppendsPrefix old new (error_line stop)
+IsReported (Err error) old new = AppendsPrefix old new (error_line error)
 
--- A script ended, with this exit status.
-pub record Ends (status : ℕ)
-    (in_old in_new out_old out_new err_old err_new : Option (List ℕ)) : Type 0 where
+-- A run ended, with this exit status.
+pub record Ends (status : ℕ) (input out err : Change) : Type 0 where
   pub run_result : Result (Unit {0}) RunError
   pub exits : status ≡ exit_status run_result
-  pub ended : Ended run_result in_old in_new out_old out_new
-  pub reported : IsReported run_result err_old err_new
+  pub ended : Ended run_result input.old input.new out.old out.new
+  pub reported : IsReported run_result err.old err.new
 
 -- Why the input was not read as a script.
 abbrev pub CannotRead : Option (List ℕ) → Option (List ℕ) → RunError → Type 0

@@ -1,6 +1,6 @@
+pub mod Forms
 pub mod Grammar
 pub mod Reading
-pub mod Words
 pub mod ScriptReading
 pub mod BadLine
 pub mod Printing

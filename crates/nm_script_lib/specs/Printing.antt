@@ -1,53 +1,20 @@
 -- The lines that are printed.
 use Rattle.std.specs.Prelude.{ℕ, List, [], ◌∷◌, ◌++◌, ◌==◌, Bool, true, false, if◌then◌else◌, length, slice_index, codes, decimal}
 use Rattle.std.specs.List.{flat_map, list_all}
+use Rattle.nm_replay.specs.declared.block.Block.{Block}
 use Rattle.nm_replay.specs.declared.entry.Kind.{Kind}
 use Rattle.nm_replay.specs.declared.entry.Kind.TheVariants.{Read, Write}
 use Rattle.nm_replay.specs.declared.entry.Entry.{Entry}
+use Rattle.nm_stripe.specs.declared.answer.Answer.{Answer}
+use Rattle.nm_stripe.specs.declared.answer.Answer.TheVariants.{Begun, Pushed, Complete, Halted, Written, Value, Refused}
+use Rattle.nm_stripe.specs.Refusal.{text_of}
 use Rattle.nm_script_lib.specs.declared.fill.Fill.{Fill}
 use Rattle.nm_script_lib.specs.declared.fill.Fill.TheVariants.{Same, Mixed}
-use Rattle.nm_script_lib.specs.declared.outcome.Outcome.{Outcome}
-use Rattle.nm_script_lib.specs.declared.outcome.Outcome.TheVariants.{Begun, Pushed, Complete, Halted, Written, Value, Refused}
-use Rattle.nm_stripe.specs.declared.refusal.Refusal.{Refusal}
-use Rattle.nm_stripe.specs.declared.refusal.Refusal.TheVariants.{Busy, Full, Stopped, Exhausted, NoTicket, NotOwed, NotYet, Fault, NotOut, Memory}
-use Rattle.nm_script_lib.specs.Grammar.{hex_byte}
+use Rattle.nm_script_lib.specs.Forms.{hex_byte}
 
 -- A line ends with LF.
 abbrev pub ended_line : List ℕ → List ℕ
 ended_line words = words ++ (10 ∷ [])
-
--- A block's bytes: two digits where all are one, else a word.
-abbrev pub printed_fill : Fill → List ℕ
-printed_fill (Same byte) = hex_byte byte
-printed_fill Mixed = codes "mixed"
-
--- A refusal: its number, its name, and the number that it carries.
-abbrev pub printed_refusal : Refusal → List ℕ
-printed_refusal (Busy ticket) = codes "1 Busy " ++ decimal ticket
-printed_refusal Full = codes "4 Full"
-printed_refusal Stopped = codes "5 Stopped"
-printed_refusal Exhausted = codes "6 Exhausted"
-printed_refusal NoTicket = codes "7 NoTicket"
-printed_refusal NotOwed = codes "8 NotOwed"
-printed_refusal NotYet = codes "9 NotYet"
-printed_refusal Fault = codes "10 Fault"
-printed_refusal NotOut = codes "13 NotOut"
-printed_refusal Memory = codes "16 Memory"
-
--- The text of an outcome, without its line end.
-abbrev pub outcome_text : Outcome → List ℕ
-outcome_text (Begun ticket) = codes "begun " ++ decimal ticket
-outcome_text (Pushed owed) = codes "pushed " ++ decimal owed
-outcome_text (Complete number) = codes "complete " ++ decimal number
-outcome_text Halted = codes "halted"
-outcome_text (Written number) = codes "written " ++ decimal number
-outcome_text (Value number fill) =
-    codes "value " ++ decimal number ++ codes " " ++ printed_fill fill
-outcome_text (Refused refusal) = codes "refused " ++ printed_refusal refusal
-
--- The line of an outcome.
-abbrev pub printed_outcome : Outcome → List ℕ
-printed_outcome outcome = ended_line (outcome_text outcome)
 
 -- The byte that all of a block's bytes are, if there is one.
 abbrev pub fill_of : List ℕ → Fill
@@ -55,29 +22,52 @@ fill_of bytes =
     if list_all (λ byte. byte == slice_index bytes 0) bytes
     then Same (slice_index bytes 0) else Mixed
 
--- What an entry did, and to which write it belongs.
+-- A block's bytes: two digits where all are the same, else a word.
+abbrev pub fill_text : Fill → List ℕ
+fill_text (Same byte) = hex_byte byte
+fill_text Mixed = codes "mixed"
+
+-- A step's answer, without the end of its line.
+abbrev pub answer_text : Answer (List Block) → List ℕ
+answer_text (Begun ticket) = codes "begun " ++ decimal ticket
+answer_text (Pushed owed) = codes "pushed " ++ decimal owed
+answer_text (Complete number) = codes "complete " ++ decimal number
+answer_text Halted = codes "halted"
+answer_text (Written written) = codes "written " ++ decimal written.number
+answer_text (Value value) =
+    codes "value " ++ decimal value.entry.number ++ codes " " ++ fill_text (fill_of value.bytes.0)
+answer_text (Refused refusal handed) = codes "refused " ++ text_of refusal
+
+-- The line of an answer.
+abbrev pub answer_line : Answer (List Block) → List ℕ
+answer_line answer = ended_line (answer_text answer)
+
+-- The lines of answers.
+abbrev pub answer_lines : List (Answer (List Block)) → List ℕ
+answer_lines answers = flat_map answer_line answers
+
+-- What an entry did, and of which write it is.
 abbrev pub kind_text : Kind → List ℕ
 kind_text Read = codes " read "
 kind_text (Write ticket) = codes " write " ++ decimal ticket ++ codes " "
 
 -- The line of an entry.
-abbrev pub printed_entry : Entry → List ℕ
-printed_entry e = ended_line
+abbrev pub entry_line : Entry → List ℕ
+entry_line e = ended_line
     (decimal e.seq ++ kind_text e.kind ++ decimal e.block ++ codes " "
-    ++ printed_fill (fill_of e.bytes.0))
+    ++ fill_text (fill_of e.bytes.0))
 
 -- The line that counts entries: those kept, and all.
-abbrev pub printed_counts : ℕ → ℕ → List ℕ
-printed_counts kept total =
+abbrev pub counts_line : ℕ → ℕ → List ℕ
+counts_line kept total =
     ended_line (codes "history " ++ decimal kept ++ codes " of " ++ decimal total)
 
 -- The line that says whether a history is legal.
-abbrev pub printed_legal : Bool → List ℕ
-printed_legal true = ended_line (codes "legal yes")
-printed_legal false = ended_line (codes "legal no")
+abbrev pub legal_line : Bool → List ℕ
+legal_line true = ended_line (codes "legal yes")
+legal_line false = ended_line (codes "legal no")
 
 -- The lines of a history.
-abbrev pub printed_history : List Entry → ℕ → Bool → List ℕ
-printed_history entries total is_legal =
-    printed_counts (length entries) total ++ flat_map printed_entry entries
-    ++ printed_legal is_legal
+abbrev pub history_lines : List Entry → ℕ → Bool → List ℕ
+history_lines entries total is_legal =
+    counts_line (length entries) total ++ flat_map entry_line entries ++ legal_line is_legal

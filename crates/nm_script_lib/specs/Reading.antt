@@ -1,38 +1,42 @@
--- What reading a line from its left gives, step by step; the laws in proofs/ tie it to the grammar.
+-- What the private readers of words give. The laws in proofs/ tie it to the grammar.
 use Rattle.std.specs.Prelude.{◌≡◌, ℕ, ◌+◌, ◌*◌, ◌-◌, ◌^◌, Bool, true, false, List, [], ◌∷◌, ◌==◌, ◌&&◌, length, Option, Some, None, nat_lt, nat_le, if◌then◌else◌, codes}
 use Rattle.std.specs.List.{slice_split}
+use Rattle.std.specs.Option.{option_copied}
 use Rattle.std.specs.Char.{is_ascii_digit}
 use Rattle.nm_script_lib.specs.declared.policy.Policy.{Policy}
 use Rattle.nm_script_lib.specs.declared.policy.Policy.TheVariants.{RoundRobin, Striped}
-use Rattle.nm_script_lib.specs.declared.mirror_line.MirrorLine.{MirrorLine}
-use Rattle.nm_script_lib.specs.declared.step.Step.{Step}
-use Rattle.nm_script_lib.specs.declared.step.Step.TheVariants.{Begin, Push, Claim, Read}
+use Rattle.nm_script_lib.specs.declared.words.Words.{Words}
+use Rattle.nm_script_lib.specs.Forms.{Kind, Number, Below, Within, Byte, Form, Makes, Then, ThenPolicy, Keyword, NoForm}
 
 -- the pieces of a text between the bytes `at`
 abbrev pub pieces : ℕ → List ℕ → List (List ℕ)
 pieces at text = slice_split (λ b. b == at) text
 
--- the pieces that are left, of what is left of a text
+-- the pieces of the rest of a text, if there is one
 abbrev pub pieces_of_rest : ℕ → Option (List ℕ) → List (List ℕ)
 pieces_of_rest at None = []
 pieces_of_rest at (Some text) = pieces at text
 
--- how many bytes are left, and one for the part itself
+-- how many bytes the rest has, and one for its being there
 abbrev pub rest_size : Option (List ℕ) → ℕ
 rest_size None = 0
 rest_size (Some text) = length text + 1
+
+-- the words that are still to be read
+abbrev pub rest_words : Words → List (List ℕ)
+rest_words w = pieces_of_rest 32 (option_copied w.rest)
 
 infixl 10 ◌>>=◌
 abbrev pub ◌>>=◌ : {A B : Type 0} → Option A → (A → Option B) → Option B
 None >>= f = None
 (Some x) >>= f = f x
 
--- a reader gave x, and these words are left, or it gave nothing
+-- a reader gave x, and these words are still to be read, or it gave nothing
 abbrev pub Gives : {X : Type 0} → Option X → List (List ℕ) → Option (X × List (List ℕ)) → Type 0
 Gives None rest read = read ≡ None
 Gives (Some x) rest read = read ≡ Some (x, rest)
 
--- the number n with more digits after it
+-- the number n, with more digits after it
 abbrev pub digits_on : ℕ → List ℕ → Option ℕ
 digits_on n [] = Some n
 digits_on n (c ∷ cs) =
@@ -52,34 +56,29 @@ unfoldable pub byte_of : List ℕ → Option ℕ
 byte_of (high ∷ low ∷ []) = hex_digit_of high >>= λ h. hex_digit_of low >>= λ l. Some (h * 16 + l)
 byte_of _ = None
 
--- the next word
-abbrev pub word_at : List (List ℕ) → Option (List ℕ × List (List ℕ))
-word_at [] = None
-word_at (word ∷ words) = Some (word, words)
-
--- two words are one
+-- two words are the same
 abbrev pub is_word : List ℕ → List ℕ → Bool
 is_word [] [] = true
 is_word [] (c ∷ cs) = false
 is_word (b ∷ bs) [] = false
 is_word (b ∷ bs) (c ∷ cs) = b == c && is_word bs cs
 
--- the next word as a number
-unfoldable pub number_at : List (List ℕ) → Option (ℕ × List (List ℕ))
-number_at words = word_at words >>= λ w. number_of w.0 >>= λ n. Some (n, w.1)
+-- the number of this kind that a word spells
+abbrev pub value_of : Kind → List ℕ → Option ℕ
+value_of Number word = number_of word
+value_of (Below limit) word = number_of word >>= λ n. if nat_lt n limit then Some n else None
+value_of (Within least most) word =
+    number_of word >>= λ n. if nat_le least n && nat_le n most then Some n else None
+value_of Byte word = byte_of word
 
--- a number from `least` to `most`
-unfoldable pub within_at : ℕ → ℕ → List (List ℕ) → Option (ℕ × List (List ℕ))
-within_at least most words =
-    number_at words >>= λ n. if nat_le least n.0 && nat_le n.0 most then Some n else None
+-- the next word
+abbrev pub word_at : List (List ℕ) → Option (List ℕ × List (List ℕ))
+word_at [] = None
+word_at (word ∷ words) = Some (word, words)
 
--- a number below a limit
-unfoldable pub below_at : ℕ → List (List ℕ) → Option (ℕ × List (List ℕ))
-below_at limit words = number_at words >>= λ n. if nat_lt n.0 limit then Some n else None
-
--- the next word as a byte
-unfoldable pub byte_at : List (List ℕ) → Option (ℕ × List (List ℕ))
-byte_at words = word_at words >>= λ w. byte_of w.0 >>= λ n. Some (n, w.1)
+-- the next word as a number of this kind
+unfoldable pub value_at : Kind → List (List ℕ) → Option (ℕ × List (List ℕ))
+value_at kind words = word_at words >>= λ w. value_of kind w.0 >>= λ n. Some (n, w.1)
 
 -- the next word as a policy
 unfoldable pub policy_at : List (List ℕ) → Option (Policy × List (List ℕ))
@@ -87,55 +86,20 @@ policy_at words = word_at words >>= λ w.
     if is_word w.0 (codes "rr") then Some (RoundRobin, w.1)
     else (if is_word w.0 (codes "st") then Some (Striped, w.1) else None)
 
--- what was read, where no word is left after it
-abbrev pub ended : {X : Type 0} → X × List (List ℕ) → Option X
-ended (x, []) = Some x
-ended (x, word ∷ words) = None
+-- what words of this form make, and the words after them
+abbrev pub read : {A : Type 0} → Form A → List (List ℕ) → Option (A × List (List ℕ))
+read (Makes made) words = Some (made, words)
+read (Then kind rest) words = value_at kind words >>= λ n. read (rest n.0) n.1
+read (ThenPolicy rest) words = policy_at words >>= λ p. read (rest p.0) p.1
+read (Keyword name rest other) words = word_at words >>= λ w.
+    if is_word w.0 name then read rest w.1 else read other words
+read NoForm words = None
 
--- what stands after the word of a step
-unfoldable pub begin_at : MirrorLine → List (List ℕ) → Option (Step × List (List ℕ))
-begin_at m words = below_at m.blocks words >>= λ b. byte_at b.1 >>= λ f. Some (Begin b.0 f.0, f.1)
+-- what was read, if no word is left
+abbrev pub if_at_end : {X : Type 0} → X × List (List ℕ) → Option X
+if_at_end (x, []) = Some x
+if_at_end (x, word ∷ words) = None
 
-unfoldable pub push_at : MirrorLine → List (List ℕ) → Option (Step × List (List ℕ))
-push_at m words = number_at words >>= λ t. below_at m.legs t.1 >>= λ l. Some (Push t.0 l.0, l.1)
-
-unfoldable pub claim_at : List (List ℕ) → Option (Step × List (List ℕ))
-claim_at words = number_at words >>= λ t. Some (Claim t.0, t.1)
-
-unfoldable pub read_at : MirrorLine → List (List ℕ) → Option (Step × List (List ℕ))
-read_at m words = below_at m.blocks words >>= λ b. Some (Read b.0, b.1)
-
--- a step, by its first word
-unfoldable pub step_at : MirrorLine → List (List ℕ) → Option (Step × List (List ℕ))
-step_at m words = word_at words >>= λ w.
-    if is_word w.0 (codes "begin") then begin_at m w.1
-    else (if is_word w.0 (codes "push") then push_at m w.1
-    else (if is_word w.0 (codes "claim") then claim_at w.1
-    else (if is_word w.0 (codes "read") then read_at m w.1
-    else None)))
-
--- the step that a line says
-unfoldable pub step_of : MirrorLine → List ℕ → Option Step
-step_of m line = step_at m (pieces 32 line) >>= ended
-
--- what the words after `mirror` say
-unfoldable pub mirror_at : List (List ℕ) → Option (MirrorLine × List (List ℕ))
-mirror_at words = within_at 1 8 words >>= λ legs. within_at 1 65536 legs.1 >>= λ blocks.
-    within_at 1 65536 blocks.1 >>= λ region. within_at 1 region.0 region.1 >>= λ chunk.
-    policy_at chunk.1 >>= λ policy. within_at 0 (2 ^ 63) policy.1 >>= λ first.
-    Some (
-      record {
-        legs = legs.0;
-        blocks = blocks.0;
-        region = region.0;
-        chunk = chunk.0;
-        policy = policy.0;
-        first = first.0;
-      },
-      first.1,
-    )
-
--- the mirror that a line says
-unfoldable pub mirror_of : List ℕ → Option MirrorLine
-mirror_of line = word_at (pieces 32 line) >>= λ w.
-    if is_word w.0 (codes "mirror") then mirror_at w.1 >>= ended else None
+-- what a line of this form makes
+unfoldable pub read_line : {A : Type 0} → Form A → List ℕ → Option A
+read_line form line = read form (pieces 32 line) >>= if_at_end

@@ -1,4 +1,4 @@
--- Why a script does not run to its end: the exit status, and what is said.
+-- The exit status and the message of each error that ends a run early.
 use Rattle.std.specs.Prelude.{ℕ, List, ◌++◌, codes, decimal}
 use Rattle.nm_script_lib.specs.declared.run_error.RunError.{RunError}
 use Rattle.nm_script_lib.specs.declared.run_error.RunError.TheVariants.{BadStep, Memory, Input, Output}
@@ -15,28 +15,28 @@ status_of Memory = 3
 status_of Input = 4
 status_of Output = 4
 
--- What names a line that is no step.
+-- The message that names a line.
 abbrev pub bad_step_line : ℕ → List ℕ
 bad_step_line line = ended_line (codes "line " ++ decimal line ++ codes ": bad step")
 
--- The line on standard error.
+-- The message of each error, on standard error.
 abbrev pub error_line : RunError → List ℕ
 error_line (BadStep line) = bad_step_line line
 error_line Memory = ended_line (codes "no memory")
 error_line Input = ended_line (codes "cannot read")
 error_line Output = ended_line (codes "cannot write")
 
--- An input that was not read whole stops the script.
+-- The error where the input was not read whole.
 abbrev pub error_of_input : InputError → RunError
 error_of_input UnheardMemory = Memory
 error_of_input UnheardInput = Input
 
--- So does a text that was not read as a script.
+-- The error where the text was not read as a script.
 abbrev pub error_of_parse : ParseError → RunError
 error_of_parse UnreadMemory = Memory
 error_of_parse (UnreadStep line) = BadStep line
 
--- What can stop a script that is read: want of memory, and its output.
+-- What can end the run of a script: out of memory, and a failed output.
 abbrev pub EndsRun : RunError → Type 0
 EndsRun (BadStep line) = ⊥
 EndsRun Memory = Unit {0}

@@ -7,27 +7,26 @@ use Rattle.nm_stripe.specs.declared.answer.Answer.{Answer}
 use Rattle.nm_stripe.specs.Machine.{Runs}
 use Rattle.nm_script_lib.specs.declared.mirror_line.MirrorLine.{MirrorLine}
 use Rattle.nm_script_lib.specs.declared.step.Step.{Step}
-use Rattle.nm_script_lib.specs.MemStripe.{MemStripe, in_memory, new_stripe, asked, lines, HasShapeOf}
-use Rattle.nm_script_lib.specs.Printing.{printed_history}
-use Rattle.nm_script_lib.specs.Streams.{AppendsPrefix, FlushesPrefix}
+use Rattle.nm_script_lib.specs.MemStripe.{MemStripe, in_memory, new_stripe, asked, HasShapeOf}
+use Rattle.nm_script_lib.specs.Printing.{answer_lines, history_lines}
 
 -- The script's steps had these answers, one a step, one after the other.
 abbrev pub Answers : List Step → List (Answer (List Block)) → MemStripe → MemStripe → Type 0
 Answers steps answers old new = Runs in_memory true old (map asked steps) answers new
 
--- What holds of the lines of a history, in which `legal yes` stands exactly where it is consistent.
+-- A fact about a history's lines, which have `legal yes` exactly where it is consistent.
 abbrev pub JudgesHistory : List Entry → ℕ → (List ℕ → Type 0) → Type 0
 JudgesHistory entries total P =
     (is_legal : Bool) → (IsTrue is_legal ↔ Consistent entries)
-    → P (printed_history entries total is_legal)
+    → P (history_lines entries total is_legal)
 
 -- The lines of the history that a stripe keeps, which is legal.
 abbrev pub history : MemStripe → List ℕ
-history stripe = printed_history stripe.kept stripe.total true
+history stripe = history_lines stripe.kept stripe.total true
 
 -- All that a run writes: a line for each answer, then the history.
 abbrev pub run_text : List (Answer (List Block)) → MemStripe → List ℕ
-run_text answers end = lines answers ++ history end
+run_text answers end = answer_lines answers ++ history end
 
 -- The whole of a run on a new stripe.
 pub record WholeRun (m : MirrorLine) (steps : List Step) (text : List ℕ) : Type 0 where
@@ -36,31 +35,31 @@ pub record WholeRun (m : MirrorLine) (steps : List Step) (text : List ℕ) : Typ
   pub answered : Answers steps answers (new_stripe m) end
   pub whole : text ≡ run_text answers end
 
--- The lines that a run may have come to when it ends early: those of its first steps, or all.
+-- The lines of a run that ends early: those of its first steps, or all lines.
 pub data PartOfRun (m : MirrorLine) (steps : List Step) : List ℕ → Type 0 where
   FirstSteps : (prefix rest : List Step) (answers : List (Answer (List Block))) (end : MemStripe)
       → steps ≡ prefix ++ rest → Answers prefix answers (new_stripe m) end
-      → PartOfRun m steps (lines answers)
+      → PartOfRun m steps (answer_lines answers)
   AllSteps : (text : List ℕ) → WholeRun m steps text → PartOfRun m steps text
 
--- The steps were done, and their lines were written after the buffer, or stay in it.
-pub record RunsSteps (steps : List Step) (before after : MemStripe)
-    (old new : Option (List ℕ)) (buffer kept : List ℕ) : Type 0 where
+-- The steps were done, and their lines were written so.
+pub record RunsSteps (steps : List Step) (before after : MemStripe) (Written : List ℕ → Type 0)
+    : Type 0 where
   pub answers : List (Answer (List Block))
   pub answered : Answers steps answers before after
   pub shape : HasShapeOf before after
-  pub passes : FlushesPrefix old new (buffer ++ lines answers) kept
+  pub written : Written (answer_lines answers)
 
--- Some first steps were done, and a prefix of their lines was written after the buffer.
-pub record RunsPrefix (steps : List Step) (before : MemStripe)
-    (old new : Option (List ℕ)) (buffer : List ℕ) : Type 0 where
+-- Some first steps were done, and their lines were written so.
+pub record RunsPrefix (steps : List Step) (before : MemStripe) (Written : List ℕ → Type 0)
+    : Type 0 where
   pub prefix : List Step
   pub rest : List Step
   pub answers : List (Answer (List Block))
   pub after : MemStripe
   pub split : steps ≡ prefix ++ rest
   pub answered : Answers prefix answers before after
-  pub written : AppendsPrefix old new (buffer ++ lines answers)
+  pub written : Written (answer_lines answers)
 
 -- Some text of this kind was written, whole or in part.
 abbrev pub Writes : (List ℕ → Type 0) → (List ℕ → Type 0) → Type 0

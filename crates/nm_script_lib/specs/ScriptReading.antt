@@ -6,34 +6,36 @@ use Rattle.nm_script_lib.specs.declared.mirror_line.MirrorLine.{MirrorLine}
 use Rattle.nm_script_lib.specs.declared.step.Step.{Step}
 use Rattle.nm_script_lib.specs.declared.parse_error.ParseError.{ParseError}
 use Rattle.nm_script_lib.specs.declared.parse_error.ParseError.TheVariants.{Memory, BadStep}
-use Rattle.nm_script_lib.specs.Grammar.{has_content}
-use Rattle.nm_script_lib.specs.Reading.{pieces, is_word, mirror_of, step_of}
+use Rattle.nm_script_lib.specs.Forms.{keywords}
+use Rattle.nm_script_lib.specs.Grammar.{has_content, mirror_form, steps_on}
+use Rattle.nm_script_lib.specs.Reading.{pieces, is_word, read_line}
 
 -- the number of the first line that passes a test, where the first line here is the n-th
 abbrev pub first_where : (List ℕ → Bool) → ℕ → List (List ℕ) → Option ℕ
 first_where test n [] = None
 first_where test n (line ∷ lines) = if test line then Some n else first_where test (n + 1) lines
 
--- the first line that has_content, its number, and the lines after it
+-- the first line with content, its number, and the lines after it
 abbrev pub content_from : ℕ → List (List ℕ) → Option (ℕ × List ℕ × List (List ℕ))
 content_from n [] = None
 content_from n (line ∷ lines) =
     if has_content line then Some (n, line, lines) else content_from (n + 1) lines
 
--- a step in prefix of steps, or the number of the line that says none
+-- a step before others, or the number of the line that is none
 abbrev pub onto_steps : Option Step → ℕ → Result (List Step) ℕ → Result (List Step) ℕ
 onto_steps None n read = Err n
 onto_steps (Some step) n (Ok steps) = Ok (step ∷ steps)
 onto_steps (Some step) n (Err bad) = Err bad
 
--- the steps that the lines say, or the number of the first that says none
+-- the steps of the lines, or the number of the first that is none
 abbrev pub steps_of : MirrorLine → ℕ → List (List ℕ) → Result (List Step) ℕ
 steps_of m n [] = Ok []
 steps_of m n (line ∷ lines) =
-    if has_content line then onto_steps (step_of m line) n (steps_of m (n + 1) lines)
+    if has_content line
+    then onto_steps (read_line (keywords (steps_on m)) line) n (steps_of m (n + 1) lines)
     else steps_of m (n + 1) lines
 
--- some steps in prefix of what was read
+-- some steps before those that were read
 abbrev pub with_prefix : List Step → Result (List Step) ℕ → Result (List Step) ℕ
 with_prefix prefix (Ok steps) = Ok (prefix ++ steps)
 with_prefix prefix (Err bad) = Err bad
@@ -57,17 +59,17 @@ abbrev pub with_mirror : MirrorLine → Result (List Step) ℕ → Result (Mirro
 with_mirror m (Ok steps) = Ok (m, steps)
 with_mirror m (Err bad) = Err bad
 
--- what the first line that has_content and the lines after it say, by the mirror that this line says
+-- the script of the first line with content and the lines after it, by the mirror of that line
 abbrev pub after_mirror :
     List (List ℕ) → ℕ → List (List ℕ) → Option MirrorLine → Result (MirrorLine × List Step) ℕ
 after_mirror lines n rest None = Err (if list_any names_mirror lines then n else 1)
 after_mirror lines n rest (Some m) = with_mirror m (steps_of m (n + 1) rest)
 
--- what the lines say, by the first that has_content
+-- the script of the lines, by the first with content
 abbrev pub from_content :
     List (List ℕ) → Option (ℕ × List ℕ × List (List ℕ)) → Result (MirrorLine × List Step) ℕ
 from_content lines None = Err 1
-from_content lines (Some (n, line, rest)) = after_mirror lines n rest (mirror_of line)
+from_content lines (Some (n, line, rest)) = after_mirror lines n rest (read_line mirror_form line)
 
 -- the same, by the first line that is not UTF-8
 abbrev pub from_utf8 : List (List ℕ) → Option ℕ → Result (MirrorLine × List Step) ℕ

@@ -2,12 +2,20 @@
 use Rattle.std.specs.Prelude.{◌≡◌, ℕ, ◌≤◌, ◌^◌, List, ◌++◌, length, Option}
 use Rattle.std.specs.Io.KnownBytes.{Appends, Consumes, IsAtEnd}
 
+-- The bytes of a stream before and after a call, where they are known.
+pub record Change : Type 0 where
+  pub old : Option (List ℕ)
+  pub new : Option (List ℕ)
+
+abbrev pub change : Option (List ℕ) → Option (List ℕ) → Change
+change old new = record { old = old; new = new }
+
 -- A prefix of the bytes was written, and no other byte.
 abbrev pub AppendsPrefix : Option (List ℕ) → Option (List ℕ) → List ℕ → Type 0
 AppendsPrefix old new bytes =
     (prefix : List ℕ) × (rest : List ℕ) × (bytes ≡ prefix ++ rest) × Appends old new prefix
 
--- All that there was was read: it is these bytes, and the reader has come to its end.
+-- The whole input was read: it is these bytes, and the reader is at its end.
 pub record ReadsAll (old new : Option (List ℕ)) (bytes : List ℕ) : Type 0 where
   pub taken : Consumes old new bytes
   pub ended : IsAtEnd new

@@ -1,17 +1,16 @@
 //! Runs the steps of a script, and writes their results.
 ghost use Rattle.std.specs.Prelude.{◌≡◌, ℕ, ◌+◌, ◌<◌, ◌≤◌, List, ◌++◌, length, IfOk, IfErr, OnOk, OnErr};
 ghost use Rattle.std.specs.List.{flat_map, AllByRecursion};
-ghost use Rattle.nm_script_lib.specs.Grammar.{InRange, IsInside};
-ghost use Rattle.nm_script_lib.specs.MemStripe.{CanTake};
+ghost use Rattle.nm_script_lib.specs.MemStripe.{InRange, CanTake, new_stripe};
 ghost use Rattle.std.specs.Io.KnownBytes.{Appends};
 ghost use Rattle.nm_script_lib.specs.Streams.{AppendsPrefix, FlushesPrefix};
-ghost use Rattle.nm_script_lib.specs.Printing.{printed_entry};
+ghost use Rattle.nm_script_lib.specs.Printing.{entry_line};
 ghost use Rattle.nm_script_lib.specs.RunErrors.{EndsRun};
 ghost use Rattle.nm_script_lib.specs.Runs.{RunsSteps, RunsPrefix, WholeRun, PartOfRun, JudgesHistory, Writes, history};
 
 use crate::judging::is_legal;
 use crate::mem_stripe::{open, step};
-use crate::printing::{put_counts, put_entry, put_legal, put_outcome};
+use crate::printing::{put_answer, put_counts, put_entry, put_legal};
 use crate::run_error::RunError;
 use crate::scripts::Script;
 use crate::step::Step;
@@ -53,15 +52,16 @@ fn run_steps<W: Write>(
     buffer: &mut Vec<u8>,
 ) -> Result<(), RunError>
     requires { AllByRecursion (CanTake stripe.old) steps.now }
-    ensures ok { OnOk result (RunsSteps steps.now stripe.old stripe.new
-        (W.contents out.old) (W.contents out.new) buffer.old.items buffer.new.items) }
-    ensures err { OnErr result (RunsPrefix steps.now stripe.old
-        (W.contents out.old) (W.contents out.new) buffer.old.items) }
+    ensures ok { OnOk result (RunsSteps steps.now stripe.old stripe.new (λ text.
+        FlushesPrefix (W.contents out.old) (W.contents out.new)
+        (buffer.old.items ++ text) buffer.new.items)) }
+    ensures err { OnErr result (RunsPrefix steps.now stripe.old (λ text.
+        AppendsPrefix (W.contents out.old) (W.contents out.new) (buffer.old.items ++ text))) }
     ensures cause { IfErr result EndsRun }
 {
     for asked in steps {
-        let outcome = step(alloc, stripe, *asked)?;
-        put_outcome(buffer, outcome)?;
+        let answer = step(alloc, stripe, *asked)?;
+        put_answer(buffer, &answer)?;
         flush_if_full(out, buffer)?;
     }
     Ok(())
@@ -74,9 +74,9 @@ fn put_entries<W: Write>(
     buffer: &mut Vec<u8>,
 ) -> Result<(), RunError>
     ensures ok { OnOk result (FlushesPrefix (W.contents out.old) (W.contents out.new)
-        (buffer.old.items ++ flat_map printed_entry entries.now) buffer.new.items) }
+        (buffer.old.items ++ flat_map entry_line entries.now) buffer.new.items) }
     ensures err { OnErr result (AppendsPrefix (W.contents out.old) (W.contents out.new)
-        (buffer.old.items ++ flat_map printed_entry entries.now)) }
+        (buffer.old.items ++ flat_map entry_line entries.now)) }
     ensures cause { IfErr result EndsRun }
 {
     for entry in entries {
@@ -135,10 +135,10 @@ fn finish<W: Write>(
     Ok(())
 }
 
-/// Runs a script on a new stripe of memory legs. It writes a line a step, and then the history.
+/// Runs a script on a new stripe of memory legs: writes a line a step, and then the history.
 pub fn run<W: Write>(alloc: Global, script: &Script, out: &mut W) -> Result<(), RunError>
     requires range { InRange script.now.mirror }
-    requires inside { AllByRecursion (IsInside script.now.mirror) script.now.steps.items }
+    requires inside { AllByRecursion (CanTake (new_stripe script.now.mirror)) script.now.steps.items }
     ensures ok { OnOk result (Writes (WholeRun script.now.mirror script.now.steps.items)
         (Appends (W.contents out.old) (W.contents out.new))) }
     ensures err { OnErr result (Writes (PartOfRun script.now.mirror script.now.steps.items)

@@ -1,13 +1,11 @@
 //! The stripe that a script runs: memory legs of zero bytes, all in sync.
-ghost use Rattle.std.specs.Prelude.{◌≡◌, ℕ, ◌<◌, ◌≤◌, ◌+◌, ◌^◌, IfOk, IfErr};
+ghost use Rattle.std.specs.Prelude.{◌≡◌, ℕ, ◌<◌, ◌≤◌, ◌+◌, ◌^◌, true, IfOk, IfErr};
 ghost use Rattle.nm_stripe.specs.Machine.{StepOf, MayBeAsked};
-ghost use Rattle.nm_script_lib.specs.Grammar.{InRange};
+ghost use Rattle.nm_script_lib.specs.MemStripe.{InRange};
 ghost use Rattle.nm_script_lib.specs.RunErrors.{EndsRun};
-ghost use Rattle.nm_script_lib.specs.MemStripe.{in_memory, new_stripe, zero_legs, filled_block, asked, outcome_of, CanTake, Steps, HasShapeOf};
+ghost use Rattle.nm_script_lib.specs.MemStripe.{in_memory, new_stripe, zero_legs, filled_block, asked, CanTake, HasShapeOf};
 
-use crate::fill::fill_of;
 use crate::mirror_line::MirrorLine;
-use crate::outcome::Outcome;
 use crate::run_error::RunError;
 use crate::step::Step;
 use bytes::Bytes;
@@ -79,27 +77,18 @@ fn asked(alloc: Global, step: Step) -> Result<nm_stripe::Step<MemLeg>, AllocErro
     })
 }
 
-/// The result of an answer.
-fn outcome_of(answer: &Answer<MemLeg>) -> Outcome
-    ensures { result ≡ outcome_of answer.now }
-{
-    match answer {
-        Answer::Begun(ticket) => Outcome::Begun(*ticket),
-        Answer::Pushed(owed) => Outcome::Pushed(*owed),
-        Answer::Complete(number) => Outcome::Complete(*number),
-        Answer::Halted => Outcome::Halted,
-        Answer::Written(written) => Outcome::Written(written.number()),
-        Answer::Value(value) => Outcome::Value(value.number(), fill_of(value.bytes())),
-        Answer::Refused(refusal, _) => Outcome::Refused(*refusal),
-    }
-}
-
 /// Does one step of a script. The data of a write are allocated before the step.
-pub fn step(alloc: Global, stripe: &mut Stripe<MemLeg>, step: Step) -> Result<Outcome, AllocError>
+pub fn step(
+    alloc: Global,
+    stripe: &mut Stripe<MemLeg>,
+    step: Step,
+) -> Result<Answer<MemLeg>, AllocError>
     requires { CanTake stripe.old step }
-    ensures ok { IfOk result (λ outcome. Steps step outcome stripe.old stripe.new) }
+    ensures ok { IfOk result (λ answer.
+        StepOf in_memory true (asked step) answer stripe.old stripe.new) }
     ensures shape { HasShapeOf stripe.old stripe.new }
 {
-    let answer = stripe.step(asked(alloc, step)?);
-    Ok(outcome_of(&answer))
+    let step = asked(alloc, step)?;
+    let answer = stripe.step(step);
+    Ok(answer)
 }

@@ -1,6 +1,6 @@
 ghost use Rattle.std.specs.Prelude.{◌≡◌, ℕ, ◌<◌, List, Option};
-ghost use Rattle.nm_script_lib.specs.Reading.{Gives, mirror_at, mirror_of};
-ghost use Rattle.nm_script_lib.specs.Words.{rest_words};
+ghost use Rattle.nm_script_lib.specs.Grammar.{mirror_form};
+ghost use Rattle.nm_script_lib.specs.Reading.{Gives, read, read_line, rest_words};
 
 use crate::policy::Policy;
 use crate::words::{Words, is_word};
@@ -22,11 +22,13 @@ pub struct MirrorLine {
     pub first: u64,
 }
 
-/// The words after `mirror`.
-#[tactic(auto, unfolding(crate::specs::Reading::mirror_at))]
-fn mirror_at(words: &mut Words<'_>) -> Option<MirrorLine>
-    ensures { Gives result (rest_words words.new) (mirror_at (rest_words words.old)) }
+/// The next words, as a mirror line.
+fn next_mirror(words: &mut Words<'_>) -> Option<MirrorLine>
+    ensures { Gives result (rest_words words.new) (read mirror_form (rest_words words.old)) }
 {
+    if !is_word(words.next()?, b"mirror") {
+        return None;
+    }
     let legs = words.within(1, 8)?;
     let blocks = words.within(1, 65_536)?;
     let region = words.within(1, 65_536)?;
@@ -45,15 +47,12 @@ fn mirror_at(words: &mut Words<'_>) -> Option<MirrorLine>
 }
 
 /// The mirror of a line.
-#[tactic(auto, unfolding(crate::specs::Reading::mirror_of))]
+#[tactic(auto, unfolding(crate::specs::Reading::read_line))]
 pub fn mirror_of(line: &[u8]) -> Option<MirrorLine>
-    ensures { result ≡ mirror_of line.now }
+    ensures { result ≡ read_line mirror_form line.now }
 {
     let mut words = Words::of(line);
-    if !is_word(words.next()?, b"mirror") {
-        return None;
-    }
-    let mirror = mirror_at(&mut words)?;
+    let mirror = next_mirror(&mut words)?;
     if words.is_at_end() {
         Some(mirror)
     } else {

@@ -1,13 +1,14 @@
 //! The lines that a run prints.
 ghost use Rattle.std.specs.Prelude.{◌≡◌, ℕ, ◌+◌, ◌<◌, List, [], ◌∷◌, ◌++◌, false, codes, decimal, OnOk};
 ghost use Rattle.std.specs.Fmt.{digit_glyph};
-ghost use Rattle.nm_script_lib.specs.Grammar.{hex_byte};
-ghost use Rattle.nm_script_lib.specs.Printing.{printed_fill, printed_refusal, printed_outcome, kind_text, printed_entry, printed_counts, printed_legal};
+ghost use Rattle.nm_script_lib.specs.Forms.{hex_byte};
+ghost use Rattle.nm_stripe.specs.Refusal.{text_of};
+ghost use Rattle.nm_script_lib.specs.Printing.{fill_text, answer_line, kind_text, entry_line, counts_line, legal_line};
 
 use crate::fill::{Fill, fill_of};
-use crate::outcome::Outcome;
+use nm_leg::MemLeg;
 use nm_replay::{Entry, Kind};
-use nm_stripe::Refusal;
+use nm_stripe::{Answer, Refusal};
 use std::alloc::AllocError;
 
 /// Adds bytes to a text.
@@ -27,7 +28,7 @@ fn put_number(text: &mut Vec<u8>, number: u64) -> Result<(), AllocError>
 
 /// Adds a fill to a text: two hexadecimal digits, or `mixed`.
 fn put_fill(text: &mut Vec<u8>, fill: Fill) -> Result<(), AllocError>
-    ensures { OnOk result (text.new.items ≡ text.old.items ++ printed_fill fill) }
+    ensures { OnOk result (text.new.items ≡ text.old.items ++ fill_text fill) }
 {
     match fill {
         Fill::Same(byte) => put(text, &hex_digits(byte)),
@@ -56,56 +57,43 @@ fn hex_digits(byte: u8) -> [u8; 2]
 
 /// Adds a refusal to a text: its number, its name, and the number that it carries.
 fn put_refusal(text: &mut Vec<u8>, refusal: Refusal) -> Result<(), AllocError>
-    ensures { OnOk result (text.new.items ≡ text.old.items ++ printed_refusal refusal) }
+    ensures { OnOk result (text.new.items ≡ text.old.items ++ text_of refusal) }
 {
-    match refusal {
-        Refusal::Busy(ticket) => {
-            put(text, b"1 Busy ")?;
-            put_number(text, ticket)
-        }
-        Refusal::Full => put(text, b"4 Full"),
-        Refusal::Stopped => put(text, b"5 Stopped"),
-        Refusal::Exhausted => put(text, b"6 Exhausted"),
-        Refusal::NoTicket => put(text, b"7 NoTicket"),
-        Refusal::NotOwed => put(text, b"8 NotOwed"),
-        Refusal::NotYet => put(text, b"9 NotYet"),
-        Refusal::Fault => put(text, b"10 Fault"),
-        Refusal::NotOut => put(text, b"13 NotOut"),
-        Refusal::Memory => put(text, b"16 Memory"),
-    }
+    let printed = refusal.to_string(*text.allocator())?;
+    put(text, printed.as_bytes())
 }
 
-/// Adds the line of an outcome to a text.
-pub fn put_outcome(text: &mut Vec<u8>, outcome: Outcome) -> Result<(), AllocError>
-    ensures { OnOk result (text.new.items ≡ text.old.items ++ printed_outcome outcome) }
+/// Adds the line of an answer to a text.
+pub fn put_answer(text: &mut Vec<u8>, answer: &Answer<MemLeg>) -> Result<(), AllocError>
+    ensures { OnOk result (text.new.items ≡ text.old.items ++ answer_line answer.now) }
 {
-    match outcome {
-        Outcome::Begun(ticket) => {
+    match answer {
+        Answer::Begun(ticket) => {
             put(text, b"begun ")?;
-            put_number(text, ticket)?;
+            put_number(text, *ticket)?;
         }
-        Outcome::Pushed(owed) => {
+        Answer::Pushed(owed) => {
             put(text, b"pushed ")?;
-            put_number(text, owed)?;
+            put_number(text, *owed)?;
         }
-        Outcome::Complete(number) => {
+        Answer::Complete(number) => {
             put(text, b"complete ")?;
-            put_number(text, number)?;
+            put_number(text, *number)?;
         }
-        Outcome::Halted => put(text, b"halted")?,
-        Outcome::Written(number) => {
+        Answer::Halted => put(text, b"halted")?,
+        Answer::Written(written) => {
             put(text, b"written ")?;
-            put_number(text, number)?;
+            put_number(text, written.number())?;
         }
-        Outcome::Value(number, fill) => {
+        Answer::Value(value) => {
             put(text, b"value ")?;
-            put_number(text, number)?;
+            put_number(text, value.number())?;
             put(text, b" ")?;
-            put_fill(text, fill)?;
+            put_fill(text, fill_of(value.bytes()))?;
         }
-        Outcome::Refused(refusal) => {
+        Answer::Refused(refusal, _) => {
             put(text, b"refused ")?;
-            put_refusal(text, refusal)?;
+            put_refusal(text, *refusal)?;
         }
     }
     put(text, b"\n")
@@ -127,7 +115,7 @@ fn put_kind(text: &mut Vec<u8>, kind: Kind) -> Result<(), AllocError>
 
 /// Adds the line of an entry to a text.
 pub fn put_entry(text: &mut Vec<u8>, entry: &Entry) -> Result<(), AllocError>
-    ensures { OnOk result (text.new.items ≡ text.old.items ++ printed_entry entry.now) }
+    ensures { OnOk result (text.new.items ≡ text.old.items ++ entry_line entry.now) }
 {
     put_number(text, entry.seq)?;
     put_kind(text, entry.kind)?;
@@ -139,7 +127,7 @@ pub fn put_entry(text: &mut Vec<u8>, entry: &Entry) -> Result<(), AllocError>
 
 /// Adds the line that counts the entries to a text: those kept, and all.
 pub fn put_counts(text: &mut Vec<u8>, kept: u64, total: u64) -> Result<(), AllocError>
-    ensures { OnOk result (text.new.items ≡ text.old.items ++ printed_counts kept total) }
+    ensures { OnOk result (text.new.items ≡ text.old.items ++ counts_line kept total) }
 {
     put(text, b"history ")?;
     put_number(text, kept)?;
@@ -150,7 +138,7 @@ pub fn put_counts(text: &mut Vec<u8>, kept: u64, total: u64) -> Result<(), Alloc
 
 /// Adds the line that says whether the history is legal to a text.
 pub fn put_legal(text: &mut Vec<u8>, is_legal: bool) -> Result<(), AllocError>
-    ensures { OnOk result (text.new.items ≡ text.old.items ++ printed_legal is_legal) }
+    ensures { OnOk result (text.new.items ≡ text.old.items ++ legal_line is_legal) }
 {
     if is_legal {
         put(text, b"legal yes\n")

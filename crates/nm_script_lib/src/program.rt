@@ -2,8 +2,7 @@
 ghost use Rattle.std.specs.Prelude.{◌≡◌, ℕ, List, ◌++◌, length, IfOk, IfErr, OnOk, OnErr, MatchResult, codes, decimal};
 ghost use Rattle.std.specs.Io.KnownBytes.{Appends, Keeps};
 ghost use Rattle.std.specs.List.{AllByRecursion};
-ghost use Rattle.nm_script_lib.specs.Grammar.{InRange, IsInside};
-ghost use Rattle.nm_script_lib.specs.Streams.{AppendsPrefix, ReadsAll};
+ghost use Rattle.nm_script_lib.specs.Streams.{AppendsPrefix, ReadsAll, change};
 ghost use Rattle.nm_script_lib.specs.RunErrors.{error_line, bad_step_line};
 ghost use Rattle.nm_script_lib.specs.Ending.{ReadsScript, CannotRead, Ended, Ends};
 
@@ -19,9 +18,6 @@ use std::io::{Read, Write};
 fn read_script<R: Read>(alloc: Global, input: &mut R) -> Result<Script, RunError>
     ensures ok { IfOk result (λ script. ReadsScript (R.remaining input.old) (R.remaining input.new)
         script.mirror script.steps.items) }
-    ensures range { IfOk result (λ script. InRange script.mirror) }
-    ensures inside { IfOk result (λ script.
-        AllByRecursion (IsInside script.mirror) script.steps.items) }
     ensures cause { IfErr result (CannotRead (R.remaining input.old) (R.remaining input.new)) }
 {
     let text = read_all(alloc, input)?;
@@ -82,8 +78,9 @@ pub fn run_script<R: Read, W: Write, E: Write>(
     out: &mut W,
     err: &mut E,
 ) -> u8
-    ensures { Ends result (R.remaining input.old) (R.remaining input.new)
-        (W.contents out.old) (W.contents out.new) (E.contents err.old) (E.contents err.new) }
+    ensures { Ends result (change (R.remaining input.old) (R.remaining input.new))
+        (change (W.contents out.old) (W.contents out.new))
+        (change (E.contents err.old) (E.contents err.new)) }
 {
     match read_and_run(alloc, input, out) {
         Ok(()) => 0,

@@ -3,7 +3,7 @@ ghost use Rattle.std.specs.Prelude.{◌≡◌, ℕ, ◌+◌, ◌<◌, ◌≤◌,
 ghost use Rattle.std.specs.Option.{option_copied, option_map};
 ghost use Rattle.std.specs.List.{list_any, AllByRecursion};
 ghost use Rattle.std.specs.Str.{is_utf8};
-ghost use Rattle.nm_script_lib.specs.Grammar.{has_content, IsScript, InRange, IsInside};
+ghost use Rattle.nm_script_lib.specs.Grammar.{has_content, IsScript};
 ghost use Rattle.nm_script_lib.specs.Reading.{pieces, pieces_of_rest, rest_size};
 ghost use Rattle.nm_script_lib.specs.ScriptReading.{first_where, content_from, steps_of, names_mirror, script_of, Reads};
 ghost use Rattle.nm_script_lib.specs.declared.parse_error.ParseError.TheVariants.{Memory, BadStep};
@@ -176,8 +176,6 @@ pub fn parse(alloc: Global, text: &[u8]) -> Result<Script, ParseError>
     // A text that is a script is read, unless memory runs out.
     ensures script { (m : MirrorLine) (steps : List Step) → IsScript text.now m steps
         → MatchResult result (λ s. (s.mirror ≡ m) × (s.steps.items ≡ steps)) (λ e. e ≡ Memory) }
-    ensures range { IfOk result (λ s. InRange s.mirror) }
-    ensures inside { IfOk result (λ s. AllByRecursion (IsInside s.mirror) s.steps.items) }
     ensures named { (n : ℕ) → IsErrOf result (BadStep n) → NamesLine text.now n }
 {
     script_of(alloc, text)

@@ -1,7 +1,8 @@
 //! Reads the words of a line, one after the other.
 ghost use Rattle.std.specs.Prelude.{◌≡◌, ℕ, ◌+◌, ◌*◌, ◌-◌, ◌<◌, ◌≤◌, ◌^◌, ◌&&◌, ◌==◌, nat_lt, nat_le, Bool, List, [], ◌∷◌, Option, length, position, MatchBool, ◌≢◌, IfSome};
 ghost use Rattle.std.specs.Option.{option_copied};
-ghost use Rattle.nm_script_lib.specs.Reading.{pieces, pieces_of_rest, rest_size, number_of, byte_of, hex_digit_of, digits_on, word_at, number_at, within_at, below_at, byte_at, policy_at, is_word, Gives};
+ghost use Rattle.nm_script_lib.specs.Forms.{Number, Below, Within, Byte};
+ghost use Rattle.nm_script_lib.specs.Reading.{pieces, pieces_of_rest, rest_size, number_of, byte_of, hex_digit_of, digits_on, word_at, value_at, policy_at, is_word, Gives, rest_words};
 
 use crate::policy::Policy;
 
@@ -14,7 +15,8 @@ fn place_of(text: &[u8], at: u8) -> Option<usize>
 
 /// The bytes before the first `at`, and those after it if there is one.
 pub fn cut(text: &[u8], at: u8) -> (&[u8], Option<&[u8]>)
-    ensures pieces { pieces at text.now ≡ result.0.now ∷ pieces_of_rest at (option_copied result.1) }
+    ensures pieces { pieces at text.now
+        ≡ result.0.now ∷ pieces_of_rest at (option_copied result.1) }
     ensures rest { rest_size (option_copied result.1) ≤ length text.now }
 {
     match place_of(text, at) {
@@ -81,8 +83,6 @@ pub struct Words<'a> {
 }
 
 impl<'a> Words<'a> {
-    ghost use Rattle.nm_script_lib.specs.Words.{rest_words};
-
     /// The words of a line, between its spaces.
     pub fn of(line: &'a [u8]) -> Words<'a>
         ensures { rest_words result ≡ pieces 32 line.now }
@@ -92,7 +92,8 @@ impl<'a> Words<'a> {
 
     /// The next word.
     pub fn next(&mut self) -> Option<&'a [u8]>
-        ensures { Gives (option_copied result) (rest_words self.new) (word_at (rest_words self.old)) }
+        ensures { Gives (option_copied result) (rest_words self.new)
+            (word_at (rest_words self.old)) }
     {
         let (word, rest) = cut(self.rest?, b' ');
         self.rest = rest;
@@ -100,21 +101,23 @@ impl<'a> Words<'a> {
     }
 
     /// The next word, as a number of 64 bits.
-    #[tactic(auto, unfolding(crate::specs::Reading::number_at))]
+    #[tactic(auto, unfolding(crate::specs::Reading::value_at))]
     pub fn number(&mut self) -> Option<u64>
-        ensures { Gives result (rest_words self.new) (number_at (rest_words self.old)) }
+        ensures { Gives result (rest_words self.new) (value_at Number (rest_words self.old)) }
     {
         let word = self.next()?;
         number_of(word)
     }
 
     /// The next word, as a number from `least` to `most`.
-    #[tactic(auto, unfolding(crate::specs::Reading::within_at))]
+    #[tactic(auto, unfolding(crate::specs::Reading::value_at))]
     pub fn within(&mut self, least: u64, most: u64) -> Option<u64>
-        ensures read { Gives result (rest_words self.new) (within_at least most (rest_words self.old)) }
+        ensures read { Gives result (rest_words self.new)
+            (value_at (Within least most) (rest_words self.old)) }
         ensures range { IfSome result (λ n. (least ≤ n) × (n ≤ most)) }
     {
-        let number = self.number()?;
+        let word = self.next()?;
+        let number = number_of(word)?;
         if number < least || most < number {
             return None;
         }
@@ -122,19 +125,30 @@ impl<'a> Words<'a> {
     }
 
     /// The next word, as a number below `limit`.
-    #[tactic(auto, unfolding(crate::specs::Reading::below_at))]
+    #[tactic(auto, unfolding(crate::specs::Reading::value_at))]
     pub fn below(&mut self, limit: u64) -> Option<u64>
-        ensures read { Gives result (rest_words self.new) (below_at limit (rest_words self.old)) }
+        ensures read { Gives result (rest_words self.new)
+            (value_at (Below limit) (rest_words self.old)) }
         ensures range { IfSome result (λ n. n < limit) }
     {
-        let number = self.number()?;
+        let word = self.next()?;
+        let number = number_of(word)?;
         if number < limit { Some(number) } else { None }
     }
 
+    /// The next word, as a number below a limit of 8 bits.
+    pub fn below_u8(&mut self, limit: u8) -> Option<u8>
+        ensures { Gives result (rest_words self.new)
+            (value_at (Below limit) (rest_words self.old)) }
+    {
+        let number = self.below(u64::from(limit))?;
+        Some(number as u8)
+    }
+
     /// The next word, as a byte in two hexadecimal digits.
-    #[tactic(auto, unfolding(crate::specs::Reading::byte_at))]
+    #[tactic(auto, unfolding(crate::specs::Reading::value_at))]
     pub fn byte(&mut self) -> Option<u8>
-        ensures { Gives result (rest_words self.new) (byte_at (rest_words self.old)) }
+        ensures { Gives result (rest_words self.new) (value_at Byte (rest_words self.old)) }
     {
         let word = self.next()?;
         byte_of(word)

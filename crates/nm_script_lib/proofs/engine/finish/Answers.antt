@@ -1,4 +1,4 @@
--- What was buffer goes out first, and the history after it.
+-- The buffer goes out first, and the history after it.
 use Rattle.std.proofs.Common.{◌∙◌, refl}
 use Rattle.nm_script_lib.proofs.RunLaws.{on_err, prefix_longer, prefix_whole}
 use Rattle.nm_script_lib.proofs.HistoryLaws.{Copied, prefix_finished, whole_finished}

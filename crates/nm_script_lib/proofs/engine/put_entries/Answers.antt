@@ -3,7 +3,7 @@ use Rattle.std.proofs.Common.{◌≡◌, ◌+◌, ◌++◌, ◌∷◌, [], get_o
 use Rattle.std.proofs.lemmas.List.{take_more}
 use Rattle.nm_replay.specs.declared.entry.Kind.TheVariants.{Read}
 use Rattle.nm_replay.specs.declared.entry.Entry.{Entry}
-use Rattle.nm_script_lib.specs.Printing.{printed_entry}
+use Rattle.nm_script_lib.specs.Printing.{entry_line}
 use Rattle.nm_script_lib.proofs.RunLaws.{on_err, items_more, items_prefix, items_prefix_more, prefix_passed}
 use Rattle.nm_script_lib.proofs.engine.put_entries.Goals as goal
 
@@ -15,7 +15,7 @@ pub returns-in_err-put_entry-clause-err : goal.returns-in_err-put_entry-clause-e
 returns-in_err-put_entry-clause-err g c =
     let i = c.loop-entry.entry-index in
     let entries = c.args.entries.now in
-    on_err _ _ (items_prefix printed_entry _ _ _ entries (take i entries) (drop i entries)
+    on_err _ _ (items_prefix entry_line _ _ _ entries (take i entries) (drop i entries)
     (sym (take-append-drop i entries))
     (prefix_passed _ _ _ _ c.loop-entry.invariant))
 
@@ -27,9 +27,9 @@ returns-in_err-flush_if_full-clause-err g c =
     take i entries ++ get_or entries i past ∷ [] = take_more entries i past (omega arith) in
     let split : entries ≡ (take i entries ++ get_or entries i past ∷ []) ++ drop (i + 1) entries =
     sym (take-append-drop (i + 1) entries) ∙ ap (λ r. r ++ drop (i + 1) entries) more in
-    on_err _ _ (items_prefix printed_entry _ _ _ entries
+    on_err _ _ (items_prefix entry_line _ _ _ entries
     (take i entries ++ get_or entries i past ∷ []) (drop (i + 1) entries) split
-    (items_prefix_more printed_entry _ _ _ _ _ (take i entries) (get_or entries i past)
+    (items_prefix_more entry_line _ _ _ _ _ (take i entries) (get_or entries i past)
     c.loop-entry.invariant
     (rw c.in_ok-put_entry.ensures at c.in_err-flush_if_full.ensures.err)))
 
@@ -39,6 +39,6 @@ loop-entry-preserved g c =
     let entries = c.args.entries.now in
     let more : take (i + 1) entries ≡
     take i entries ++ get_or entries i past ∷ [] = take_more entries i past (omega arith) in
-    rw more (items_more printed_entry _ _ _ _ _ _ (take i entries) (get_or entries i past)
+    rw more (items_more entry_line _ _ _ _ _ _ (take i entries) (get_or entries i past)
     c.loop-entry.invariant
     (rw c.in_ok-put_entry.ensures at c.in_ok-flush_if_full.ensures.ok))

@@ -1,5 +1,4 @@
 -- A run is its steps, and then its history.
-use Rattle.nm_script_lib.proofs.Inside.{all_taken}
 use Rattle.nm_script_lib.proofs.RunLaws.{on_err, run_not_opened, run_stopped, run_done, run_cut, ok_then, err_then}
 use Rattle.nm_script_lib.proofs.engine.run.Goals as goal
 
@@ -11,11 +10,7 @@ returns-in_err-stripe-clause-err g c = on_err _ _ (run_not_opened _ _ _)
 
 pub run_steps-requires : goal.run_steps-requires
 run_steps-requires g c =
-    rw (
-      c.in_ok-stripe.ensures.opened,
-      c.deref.ensures.value,
-    )
-    (all_taken c.args.script.now.mirror c.args.script.now.steps.items c.requires.inside)
+    rw (c.in_ok-stripe.ensures.opened, c.deref.ensures.value) c.requires.inside
 
 pub returns-in_err-run_steps-clause-err : goal.returns-in_err-run_steps-clause-err
 returns-in_err-run_steps-clause-err g c =

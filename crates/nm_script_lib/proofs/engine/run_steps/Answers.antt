@@ -15,15 +15,15 @@ step-requires g c =
     0 0)) c.loop-asked.invariant.shape
     (at_place (CanTake c.args.stripe.now) steps i (Begin 0 0) (omega arith) c.requires)
 
-pub returns-in_err-outcome-clause-err : goal.returns-in_err-outcome-clause-err
-returns-in_err-outcome-clause-err g c =
+pub returns-in_err-answer-clause-err : goal.returns-in_err-answer-clause-err
+returns-in_err-answer-clause-err g c =
     let i = c.loop-asked.asked-index in
     let steps = c.args.steps.now in
     on_err _ _ (stopped_before (take i steps) (drop i steps) steps _ _ _ _ _ _
     (sym (take-append-drop i steps)) c.loop-asked.invariant)
 
-pub returns-in_err-put_outcome-clause-err : goal.returns-in_err-put_outcome-clause-err
-returns-in_err-put_outcome-clause-err g c =
+pub returns-in_err-put_answer-clause-err : goal.returns-in_err-put_answer-clause-err
+returns-in_err-put_answer-clause-err g c =
     let i = c.loop-asked.asked-index in
     let steps = c.args.steps.now in
     on_err _ _ (stopped_before (take i steps) (drop i steps) steps _ _ _ _ _ _
@@ -39,9 +39,9 @@ returns-in_err-flush_if_full-clause-err g c =
     let split : steps ≡ (take i steps ++ get_or steps i (Begin 0 0) ∷ []) ++ drop (i + 1) steps =
     sym (take-append-drop (i + 1) steps) ∙ ap (λ r. r ++ drop (i + 1) steps) more in
     on_err _ _ (stopped_after (take i steps) (drop (i + 1) steps) steps _ _ _ (get_or steps i (Begin
-    0 0)) c.in_ok-outcome.outcome _ _ _ _ _
-    split c.loop-asked.invariant c.in_ok-outcome.ensures.ok
-    (rw c.in_ok-put_outcome.ensures at c.in_err-flush_if_full.ensures.err))
+    0 0)) c.in_ok-answer.answer _ _ _ _ _
+    split c.loop-asked.invariant c.in_ok-answer.ensures.ok
+    (rw c.in_ok-put_answer.ensures at c.in_err-flush_if_full.ensures.err))
 
 pub loop-asked-preserved : goal.loop-asked-preserved
 loop-asked-preserved g c =
@@ -51,6 +51,6 @@ loop-asked-preserved g c =
     take i steps ++ get_or steps i (Begin 0 0) ∷ [] = take_more steps i (Begin
     0 0) (omega arith) in
     rw more (steps_more (take i steps) _ _ _ (get_or steps i (Begin
-    0 0)) c.in_ok-outcome.outcome _ _ _ _ _ _
-    c.loop-asked.invariant c.in_ok-outcome.ensures.ok c.step.ensures.shape
-    (rw c.in_ok-put_outcome.ensures at c.in_ok-flush_if_full.ensures.ok))
+    0 0)) c.in_ok-answer.answer _ _ _ _ _ _
+    c.loop-asked.invariant c.in_ok-answer.ensures.ok c.step.ensures.shape
+    (rw c.in_ok-put_answer.ensures at c.in_ok-flush_if_full.ensures.ok))

@@ -1,4 +1,4 @@
--- All legs are alike: as many zero blocks as the mirror has.
+-- All legs are the same: as many zero blocks as the mirror has.
 use Rattle.std.proofs.Common.{◌≡◌, length, ap, ◌∙◌, arith}
 use Rattle.nm_script_lib.specs.MemStripe.{in_memory}
 use Rattle.nm_script_lib.proofs.Legs.{count_legs, long_legs, equal_legs}

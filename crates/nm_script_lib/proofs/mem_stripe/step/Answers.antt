@@ -1,11 +1,11 @@
-use Rattle.nm_script_lib.proofs.Shapes.{may_be_asked, step_shape}
+use Rattle.nm_script_lib.proofs.Shapes.{step_shape}
 use Rattle.nm_script_lib.proofs.mem_stripe.step.Goals as goal
 
 pub step-answer-requires : goal.step-answer-requires
-step-answer-requires c = rw c.in_ok-asked.ensures
-    (may_be_asked c.args.stripe.now c.args.step c.requires)
+step-answer-requires c = rw c.in_ok-step.ensures
+    c.requires
 
 pub returns-clause-shape : goal.returns-clause-shape
 returns-clause-shape c =
     step_shape c.args.step c.step-answer.result c.args.stripe.now c.step-answer.new.self
-    (rw c.in_ok-asked.ensures at c.step-answer.ensures.step)
+    (rw c.in_ok-step.ensures at c.step-answer.ensures.step)

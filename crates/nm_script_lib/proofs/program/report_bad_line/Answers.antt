@@ -1,4 +1,4 @@
--- The line goes out in three pieces.
+-- The message is written in three calls.
 use Rattle.std.proofs.Common.{◌≡◌, ◌∙◌, decimal}
 use Rattle.nm_script_lib.proofs.RunLaws.{on_err, err_then}
 use Rattle.nm_script_lib.proofs.EndLaws.{line_first, line_second, line_third}

@@ -5,12 +5,10 @@ use Rattle.nm_script_lib.specs.declared.step.Step.{Step}
 use Rattle.nm_script_lib.specs.declared.scripts.Script.{Script}
 use Rattle.nm_script_lib.specs.declared.parse_error.ParseError.{ParseError}
 use Rattle.nm_script_lib.specs.declared.parse_error.ParseError.TheVariants.{Memory, BadStep}
-use Rattle.nm_script_lib.specs.Grammar.{IsScript, InRange, IsInside}
+use Rattle.nm_script_lib.specs.Grammar.{IsScript}
 use Rattle.nm_script_lib.specs.BadLine.{NamesLine}
 use Rattle.nm_script_lib.specs.Reading.{pieces}
 use Rattle.nm_script_lib.specs.ScriptReading.{script_of, Reads}
-use Rattle.std.specs.List.{AllByRecursion}
-use Rattle.nm_script_lib.proofs.Inside.{all_inside}
 use Rattle.nm_script_lib.proofs.ScriptLaws.{script_sound, script_read, line_named}
 use Rattle.nm_script_lib.proofs.scripts.parse.Goals as goal
 
@@ -22,18 +20,6 @@ is_parsed : (text : List ℕ) (r : Result Script ParseError) → Read text r →
     IfOk r (λ s. IsScript text s.mirror s.steps.items)
 is_parsed text (Ok s) h = script_sound text s.mirror s.steps.items h
 is_parsed text (Err e) h = tt
-
-of_parsed : (text : List ℕ) (P : MirrorLine → Type 0) (r : Result Script ParseError) → Read text r →
-    ((m : MirrorLine) (ss : List Step) → IsScript text m ss → P m) →
-    IfOk r (λ s. P s.mirror)
-of_parsed text P (Ok s) h f = f s.mirror s.steps.items (script_sound text s.mirror s.steps.items h)
-of_parsed text P (Err e) h f = tt
-
-of_steps : (text : List ℕ) (r : Result Script ParseError) → Read text r →
-    IfOk r (λ s. AllByRecursion (IsInside s.mirror) s.steps.items)
-of_steps text (Ok s) h = let is = script_sound text s.mirror s.steps.items h in
-    all_inside s.mirror is.others s.steps.items is.each_step
-of_steps text (Err e) h = tt
 
 same_pair : (m n : MirrorLine) (ss ts : List Step) →
     ◌≡◌ {A = Result (MirrorLine × List Step) ℕ} (Ok (m, ss)) (Ok (n, ts)) → (m ≡ n) × (ss ≡ ts)
@@ -65,10 +51,3 @@ returns-clause-script c = λ m ss is. is_script c.args.text.now m ss c.script_of
 
 pub returns-clause-named : goal.returns-clause-named
 returns-clause-named c = λ n e. is_named c.args.text.now n c.script_of.result c.script_of.ensures e
-
-pub returns-clause-range : goal.returns-clause-range
-returns-clause-range c = of_parsed c.args.text.now InRange c.script_of.result c.script_of.ensures
-    (λ m ss is. is.mirror.in_range)
-
-pub returns-clause-inside : goal.returns-clause-inside
-returns-clause-inside c = of_steps c.args.text.now c.script_of.result c.script_of.ensures
