@@ -11,4 +11,3 @@ pub mod RunLaws
 pub mod HistoryLaws
 pub mod EndLaws
 pub mod Inside
-pub mod Judged

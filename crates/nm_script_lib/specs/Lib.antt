@@ -9,4 +9,3 @@ pub mod MemStripe
 pub mod RunErrors
 pub mod Runs
 pub mod Ending
-pub mod Judging

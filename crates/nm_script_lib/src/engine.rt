@@ -8,7 +8,6 @@ ghost use Rattle.nm_script_lib.specs.Printing.{entry_line};
 ghost use Rattle.nm_script_lib.specs.RunErrors.{EndsRun};
 ghost use Rattle.nm_script_lib.specs.Runs.{RunsSteps, RunsPrefix, WholeRun, PartOfRun, JudgesHistory, Writes, history};
 
-use crate::judging::is_legal;
 use crate::mem_stripe::{open, step};
 use crate::printing::{put_answer, put_counts, put_entry, put_legal};
 use crate::run_error::RunError;
@@ -17,7 +16,7 @@ use crate::step::Step;
 use crate::streams::send;
 use crate::write_error::WriteError;
 use nm_leg::MemLeg;
-use nm_replay::Entry;
+use nm_replay::{Entry, check_indexed};
 use nm_stripe::Stripe;
 use std::alloc::Global;
 use std::io::Write;
@@ -101,7 +100,7 @@ fn put_history<W: Write>(
         AppendsPrefix (W.contents out.old) (W.contents out.new) (buffer.old.items ++ text))) }
     ensures cause { IfErr result EndsRun }
 {
-    let is_legal = is_legal(alloc, entries, blocks)?;
+    let is_legal = check_indexed(alloc, entries, blocks)?;
     put_counts(buffer, entries.len() as u64, total)?;
     put_entries(entries, out, buffer)?;
     put_legal(buffer, is_legal)?;

@@ -8,7 +8,6 @@
 mod engine;
 mod fill;
 mod input_error;
-mod judging;
 mod mem_stripe;
 mod mirror_line;
 mod parse_error;

@@ -30,7 +30,7 @@ returns-in_err-send-clause-err g c =
     c.put_legal.new.text.items
     c.in_ok-put_counts.ensures c.in_ok-put_entries.ensures.ok c.in_ok-put_legal.ensures in
     on_err _ _ (prefix_of_all c.args.entries.now c.args.total c.in_ok-is_legal.is_legal
-    c.in_ok-is_legal.ensures _ _ _
+    c.in_ok-is_legal.ensures.ok _ _ _
     c.args.buffer.now.items c.put_legal.new.text.items buffer
     (rw c.deref.ensures.value at c.in_err-send.ensures.err))
 
@@ -40,7 +40,7 @@ returns-clause-ok g c =
     c.args.buffer.now.items c.put_counts.new.text.items c.put_entries.new.buffer.items
     c.put_legal.new.text.items
     c.in_ok-put_counts.ensures c.in_ok-put_entries.ensures.ok c.in_ok-put_legal.ensures in
-    whole_history c.args.entries.now c.args.total c.in_ok-is_legal.is_legal c.in_ok-is_legal.ensures
+    whole_history c.args.entries.now c.args.total c.in_ok-is_legal.is_legal c.in_ok-is_legal.ensures.ok
     _ _ _
     c.args.buffer.now.items c.put_legal.new.text.items buffer
     (rw c.deref.ensures.value at c.in_ok-send.ensures.ok)
