@@ -1,15 +1,20 @@
 -- The steps of a script name blocks and legs of its stripe, before and after each step.
-use Rattle.std.proofs.Common.{ℕ, ◌<◌, zero, suc, List, [], ◌∷◌, length, get_or, ap, arith}
+use Rattle.std.proofs.Common.{◌≡◌, ℕ, ◌<◌, true, zero, suc, List, [], ◌∷◌, length, map, get_or, ap, ◌∙◌, arith}
 use Rattle.std.specs.List.{AllByRecursion, AllZip}
+use Rattle.std.proofs.lemmas.List.{length-replicate}
+use Rattle.nm_replay.specs.declared.block.Block.{Block}
+use Rattle.nm_stripe.specs.declared.answer.Answer.{Answer}
+use Rattle.nm_stripe.specs.declared.step.Step.{Step as StripeStep}
+use Rattle.nm_stripe.specs.Machine.{Runs}
+use Rattle.nm_stripe.proofs.RunLemmas.{SameShape, step-shape, asked-later}
 use Rattle.nm_script_lib.specs.declared.mirror_line.MirrorLine.{MirrorLine}
 use Rattle.nm_script_lib.specs.declared.step.Step.{Step}
-use Rattle.nm_script_lib.specs.declared.step.Step.TheVariants.{Begin, Push, Claim, Read}
 use Rattle.nm_script_lib.specs.Forms.{keywords}
 use Rattle.nm_script_lib.specs.Grammar.{IsStepLine, IsScript, mirror_form, steps_on}
-use Rattle.nm_script_lib.specs.MemStripe.{MemStripe, InRange, new_stripe, CanTake, HasShapeOf}
+use Rattle.nm_script_lib.specs.MemStripe.{MemStripe, InRange, in_memory, new_stripe, filled_block, asked, CanTake}
+use Rattle.nm_script_lib.specs.Runs.{Answers}
 use Rattle.nm_script_lib.proofs.FormLaws.{Always, line_always}
 use Rattle.nm_script_lib.proofs.Legs.{count_legs}
-use Rattle.nm_script_lib.proofs.Shapes.{fills_block}
 
 pub at_place : {A : Type 0} (P : A → Type 0) (xs : List A) (k : ℕ) (d : A) → k < length xs →
     AllByRecursion P xs → P (get_or xs k d)
@@ -17,15 +22,27 @@ at_place P [] k d h all = absurd (omega arith)
 at_place P (x ∷ xs) zero d h all = all.0
 at_place P (x ∷ xs) (suc k) d h all = at_place P xs k d (omega arith) all.1
 
--- what one stripe can take, one of its shape can
-pub still_takes : (old new : MemStripe) (s : Step) → HasShapeOf old new → CanTake old s →
-    CanTake new s
-still_takes old new (Begin block fill) shape h = let e = ap (λ p. p.blocks) shape.place in
-    (omega (arith, e, h.0), h.1)
-still_takes old new (Push ticket leg) shape h = omega (arith, shape.legs)
-still_takes old new (Claim ticket) shape h = tt
-still_takes old new (Read block) shape h = let e = ap (λ p. p.blocks) shape.place in
-    omega (arith, e)
+-- a run changes neither the stripe's place nor how many legs it has
+runs_shape : (ss : List (StripeStep (List Block))) (xs : List (Answer (List Block)))
+    (old new : MemStripe) → Runs in_memory true old ss xs new → SameShape old new
+runs_shape [] [] old new h = record
+    { place = ap (λ (s : MemStripe). s.place) h; legs = ap (λ (s : MemStripe). length s.legs) h }
+runs_shape [] (x ∷ xs) old new h = absurd h
+runs_shape (s ∷ ss) [] old new h = absurd h
+runs_shape (s ∷ ss) (x ∷ xs) old new (mid, step, rest) =
+    let first = step-shape in_memory true s x old mid step in
+    let later = runs_shape ss xs mid new rest in
+    record { place = later.place ∙ first.place; legs = later.legs ∙ first.legs }
+
+-- what a stripe can take, it can take after a run
+pub still_takes : (steps : List Step) (xs : List (Answer (List Block))) (old new : MemStripe)
+    (s : Step) → Answers steps xs old new → CanTake old s → CanTake new s
+still_takes steps xs old new s h can =
+    asked-later in_memory (asked s) old new (runs_shape (map asked steps) xs old new h) can
+
+fills_block : (fill : ℕ) → length (filled_block fill) ≡ 512
+unfolding filled_block
+fills_block fill = length-replicate 512 fill
 
 -- each step that a line can say on a mirror, a new stripe of that mirror can take
 steps_fit : (m : MirrorLine) → Always (CanTake (new_stripe m)) (keywords (steps_on m))

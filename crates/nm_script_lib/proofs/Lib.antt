@@ -6,7 +6,6 @@ pub mod LineLaws
 pub mod ScriptLaws
 pub mod Sent
 pub mod Legs
-pub mod Shapes
 pub mod RunLaws
 pub mod HistoryLaws
 pub mod EndLaws

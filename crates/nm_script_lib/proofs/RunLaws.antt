@@ -11,7 +11,7 @@ use Rattle.nm_stripe.specs.declared.step.Step.{Step as StripeStep}
 use Rattle.nm_stripe.specs.Machine.{StepOf, Runs}
 use Rattle.nm_script_lib.specs.declared.mirror_line.MirrorLine.{MirrorLine}
 use Rattle.nm_script_lib.specs.declared.step.Step.{Step}
-use Rattle.nm_script_lib.specs.MemStripe.{MemStripe, in_memory, new_stripe, asked, HasShapeOf}
+use Rattle.nm_script_lib.specs.MemStripe.{MemStripe, in_memory, new_stripe, asked}
 use Rattle.nm_script_lib.specs.Printing.{answer_line, answer_lines}
 use Rattle.nm_script_lib.specs.Streams.{AppendsPrefix, FlushesPrefix}
 use Rattle.nm_script_lib.specs.Runs.{Answers, history, run_text, RunsSteps, RunsPrefix, WholeRun, PartOfRun, FirstSteps, AllSteps, Writes}
@@ -43,10 +43,10 @@ lines_more : (before : List ℕ) (xs : List (Answer (List Block))) (x : Answer (
 lines_more before xs x = sym (flat_map_more answer_line before xs x)
 
 -- what was flushed, and then more
-pub passes_more : (old cur new : Option (List ℕ)) (all some more kept : List ℕ) →
+pub flushes_more : (old cur new : Option (List ℕ)) (all some more kept : List ℕ) →
     FlushesPrefix old cur all some → FlushesPrefix cur new (some ++ more) kept →
     FlushesPrefix old new (all ++ more) kept
-passes_more old cur new all some more kept h k = (
+flushes_more old cur new all some more kept h k = (
   h.0 ++ k.0,
   ap (λ r. r ++ more) h.1 ∙ append_assoc h.0 some more ∙ ap (λ r. h.0 ++ r) k.1 ∙
       sym (append_assoc h.0 k.0 kept),
@@ -65,22 +65,21 @@ prefix_more old cur new all some more h k = (
 )
 
 -- what was flushed is a prefix
-pub prefix_passed : (old new : Option (List ℕ)) (all kept : List ℕ) → FlushesPrefix old new all kept →
+pub prefix_flushed : (old new : Option (List ℕ)) (all kept : List ℕ) → FlushesPrefix old new all kept →
     AppendsPrefix old new all
-prefix_passed old new all kept h = (h.0, kept, h.1, h.2)
+prefix_flushed old new all kept h = (h.0, kept, h.1, h.2)
 
 pub steps_more : (prefix : List Step) (before mid after : MemStripe) (s : Step)
     (a : Answer (List Block)) (old cur new : Option (List ℕ)) (buffer some kept : List ℕ) →
     RunsSteps prefix before mid (λ text. FlushesPrefix old cur (buffer ++ text) some) →
-    StepOf in_memory true (asked s) a mid after → HasShapeOf mid after →
+    StepOf in_memory true (asked s) a mid after →
     FlushesPrefix cur new (some ++ answer_line a) kept →
     RunsSteps (prefix ++ s ∷ []) before after (λ text. FlushesPrefix old new (buffer ++ text) kept)
-steps_more prefix before mid after s a old cur new buffer some kept h step shape p = record {
+steps_more prefix before mid after s a old cur new buffer some kept h step p = record {
   answers = h.answers ++ a ∷ [];
   answered = answers_more prefix h.answers before mid after s a h.answered step;
-  shape = record { place = shape.place ∙ h.shape.place; legs = shape.legs ∙ h.shape.legs };
   written = rw (lines_more buffer h.answers a)
-      (passes_more old cur new (buffer ++ answer_lines h.answers) some (answer_line a) kept
+      (flushes_more old cur new (buffer ++ answer_lines h.answers) some (answer_line a) kept
       h.written p);
 }
 
@@ -95,7 +94,7 @@ stopped_before prefix rest steps before mid old cur buffer some e h = record {
   after = mid;
   split = e;
   answered = h.answered;
-  written = prefix_passed old cur (buffer ++ answer_lines h.answers) some h.written;
+  written = prefix_flushed old cur (buffer ++ answer_lines h.answers) some h.written;
 }
 
 pub stopped_after : (prefix rest steps : List Step) (before mid after : MemStripe) (s : Step)
@@ -123,7 +122,7 @@ pub items_more : {A : Type 0} (line : A →
     FlushesPrefix old new (buffer ++ flat_map line (xs ++ x ∷ [])) kept
 items_more line old cur new buffer some kept xs x h p =
     rw (sym (flat_map_more line buffer xs x))
-    (passes_more old cur new (buffer ++ flat_map line xs) some (line x) kept h p)
+    (flushes_more old cur new (buffer ++ flat_map line xs) some (line x) kept h p)
 
 pub items_prefix : {A : Type 0} (line : A →
     List ℕ) (old new : Option (List ℕ)) (buffer : List ℕ) (all xs ys : List A) → all ≡ xs ++ ys →
@@ -166,9 +165,6 @@ prefix_longer old new all more h = (
 pub prefix_whole : (old new : Option (List ℕ)) (all : List ℕ) → Appends old new all →
     AppendsPrefix old new all
 prefix_whole old new all h = (all, [], sym (append-nil all), h)
-
-pub passes_none : (a : Option (List ℕ)) (all kept : List ℕ) → kept ≡ all → FlushesPrefix a a all kept
-passes_none a all kept e = ([], sym e, Appends-nil a)
 
 pub all_sent : (old cur new : Option (List ℕ)) (all some : List ℕ) → FlushesPrefix old cur all some →
     Appends cur new some → Appends old new all

@@ -6,10 +6,10 @@ use Rattle.std.proofs.lemmas.Bool.{cases_Bool, both_ways, not-true, not-false, n
 use Rattle.std.proofs.lemmas.Str.{IsUtf8-from_is_utf8, is_utf8-from_IsUtf8}
 use Rattle.std.proofs.lemmas.List.{take_all}
 use Rattle.std.proofs.lemmas.List.Folds.{Any-from_list_any}
-use Rattle.std.proofs.lemmas.List.Splits.{join_with_byte-slice_split, slice_split_first}
+use Rattle.std.proofs.lemmas.List.Splits.{slice_split_first}
 use Rattle.nm_script_lib.specs.declared.mirror_line.MirrorLine.{MirrorLine}
 use Rattle.nm_script_lib.specs.declared.step.Step.{Step}
-use Rattle.nm_script_lib.specs.Grammar.{IsMirrorLine, IsStepLine, mirror_form, AreLines, IsScript, has_content}
+use Rattle.nm_script_lib.specs.Grammar.{IsMirrorLine, IsStepLine, mirror_form, IsScript, has_content}
 use Rattle.nm_script_lib.specs.BadLine.{IsFirst, IsNotUtf8, HasContent, NamesMirror, IsBadMirror, IsBadStep, Names, NotUtf8, NoMirrorLine, WrongMirrorLine, WrongStep, NamesLine}
 use Rattle.nm_script_lib.specs.Reading.{pieces, is_word, read_line}
 use Rattle.nm_script_lib.specs.ScriptReading.{first_where, content_from, steps_of, names_mirror, with_mirror, after_mirror, from_content, from_utf8, script_of}

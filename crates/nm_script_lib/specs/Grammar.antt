@@ -1,7 +1,6 @@
 -- The script language: which bytes are a script, and what it says.
 use Rattle.std.specs.Prelude.{◌≡◌, ℕ, ◌^◌, Bool, false, List, [], ◌∷◌, ◌==◌, not, IsUtf8, codes, filter}
 use Rattle.std.specs.List.{AllZip, AllByRecursion}
-use Rattle.nm_script_lib.specs.declared.policy.Policy.{Policy}
 use Rattle.nm_script_lib.specs.declared.mirror_line.MirrorLine.{MirrorLine}
 use Rattle.nm_script_lib.specs.declared.step.Step.{Step}
 use Rattle.nm_script_lib.specs.declared.step.Step.TheVariants.{Begin, Push, Claim, Read}

@@ -1,5 +1,5 @@
 -- The stripe that a script runs: memory legs of zero bytes, all in sync.
-use Rattle.std.specs.Prelude.{◌≡◌, ℕ, ◌≤◌, ◌^◌, List, length, replicate}
+use Rattle.std.specs.Prelude.{ℕ, ◌≤◌, ◌^◌, List, replicate}
 use Rattle.nm_replay.specs.declared.block.Block.{Block}
 use Rattle.nm_fanout.specs.declared.block_data.Data.TheVariants.{Cut}
 use Rattle.nm_leg.specs.Leg.{Leg, filled_array}
@@ -52,8 +52,3 @@ asked (Read block) = ReadStep block
 -- The stripe may be asked for this step: it has the step's block and leg.
 abbrev pub CanTake : MemStripe → Step → Type 0
 CanTake stripe step = MayBeAsked in_memory stripe (asked step)
-
--- A stripe is at the same place as another, and has as many legs.
-pub record HasShapeOf (old new : MemStripe) : Type 0 where
-  pub place : new.place ≡ old.place
-  pub legs : length new.legs ≡ length old.legs

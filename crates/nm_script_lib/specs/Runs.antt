@@ -1,5 +1,5 @@
 -- What a run of a script writes.
-use Rattle.std.specs.Prelude.{◌≡◌, ℕ, List, ◌++◌, ◌↔◌, Bool, true, IsTrue, Option, map}
+use Rattle.std.specs.Prelude.{◌≡◌, ℕ, List, ◌++◌, ◌↔◌, Bool, true, IsTrue, map}
 use Rattle.nm_replay.specs.History.{Consistent}
 use Rattle.nm_replay.specs.declared.entry.Entry.{Entry}
 use Rattle.nm_replay.specs.declared.block.Block.{Block}
@@ -7,7 +7,7 @@ use Rattle.nm_stripe.specs.declared.answer.Answer.{Answer}
 use Rattle.nm_stripe.specs.Machine.{Runs}
 use Rattle.nm_script_lib.specs.declared.mirror_line.MirrorLine.{MirrorLine}
 use Rattle.nm_script_lib.specs.declared.step.Step.{Step}
-use Rattle.nm_script_lib.specs.MemStripe.{MemStripe, in_memory, new_stripe, asked, HasShapeOf}
+use Rattle.nm_script_lib.specs.MemStripe.{MemStripe, in_memory, new_stripe, asked}
 use Rattle.nm_script_lib.specs.Printing.{answer_lines, history_lines}
 
 -- The script's steps had these answers, one a step, one after the other.
@@ -47,7 +47,6 @@ pub record RunsSteps (steps : List Step) (before after : MemStripe) (Written : L
     : Type 0 where
   pub answers : List (Answer (List Block))
   pub answered : Answers steps answers before after
-  pub shape : HasShapeOf before after
   pub written : Written (answer_lines answers)
 
 -- Some first steps were done, and their lines were written so.

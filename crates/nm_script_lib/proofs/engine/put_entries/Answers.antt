@@ -4,7 +4,7 @@ use Rattle.std.proofs.lemmas.List.{take_more}
 use Rattle.nm_replay.specs.declared.entry.Kind.TheVariants.{Read}
 use Rattle.nm_replay.specs.declared.entry.Entry.{Entry}
 use Rattle.nm_script_lib.specs.Printing.{entry_line}
-use Rattle.nm_script_lib.proofs.RunLaws.{on_err, items_more, items_prefix, items_prefix_more, prefix_passed}
+use Rattle.nm_script_lib.proofs.RunLaws.{on_err, items_more, items_prefix, items_prefix_more, prefix_flushed}
 use Rattle.nm_script_lib.proofs.engine.put_entries.Goals as goal
 
 -- what stands past the end of a list of entries
@@ -17,7 +17,7 @@ returns-in_err-put_entry-clause-err g c =
     let entries = c.args.entries.now in
     on_err _ _ (items_prefix entry_line _ _ _ entries (take i entries) (drop i entries)
     (sym (take-append-drop i entries))
-    (prefix_passed _ _ _ _ c.loop-entry.invariant))
+    (prefix_flushed _ _ _ _ c.loop-entry.invariant))
 
 pub returns-in_err-flush_if_full-clause-err : goal.returns-in_err-flush_if_full-clause-err
 returns-in_err-flush_if_full-clause-err g c =

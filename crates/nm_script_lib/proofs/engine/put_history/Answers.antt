@@ -1,5 +1,5 @@
 -- What is written is a prefix of the counts, the entries and the verdict, in this order.
-use Rattle.nm_script_lib.proofs.RunLaws.{on_err, prefix_passed}
+use Rattle.nm_script_lib.proofs.RunLaws.{on_err, prefix_flushed}
 use Rattle.nm_script_lib.proofs.HistoryLaws.{nothing_yet, prefix_of_entries, buffers_all, prefix_of_all, whole_history}
 use Rattle.nm_script_lib.proofs.engine.put_history.Goals as goal
 
@@ -21,7 +21,7 @@ pub returns-in_err-put_legal-clause-err : goal.returns-in_err-put_legal-clause-e
 returns-in_err-put_legal-clause-err g c =
     on_err _ _ (prefix_of_entries c.args.entries.now c.args.total _ _
     c.args.buffer.now.items c.put_counts.new.text.items c.in_ok-put_counts.ensures
-    (prefix_passed _ _ _ _ c.in_ok-put_entries.ensures.ok))
+    (prefix_flushed _ _ _ _ c.in_ok-put_entries.ensures.ok))
 
 pub returns-in_err-send-clause-err : goal.returns-in_err-send-clause-err
 returns-in_err-send-clause-err g c =

@@ -11,8 +11,8 @@ pub step-requires : goal.step-requires
 step-requires g c =
     let i = c.loop-asked.asked-index in
     let steps = c.args.steps.now in
-    still_takes c.args.stripe.now c.loop-asked.stripe (get_or steps i (Begin
-    0 0)) c.loop-asked.invariant.shape
+    still_takes (take i steps) c.loop-asked.invariant.answers c.args.stripe.now c.loop-asked.stripe
+    (get_or steps i (Begin 0 0)) c.loop-asked.invariant.answered
     (at_place (CanTake c.args.stripe.now) steps i (Begin 0 0) (omega arith) c.requires)
 
 pub returns-in_err-answer-clause-err : goal.returns-in_err-answer-clause-err
@@ -40,7 +40,7 @@ returns-in_err-flush_if_full-clause-err g c =
     sym (take-append-drop (i + 1) steps) ∙ ap (λ r. r ++ drop (i + 1) steps) more in
     on_err _ _ (stopped_after (take i steps) (drop (i + 1) steps) steps _ _ _ (get_or steps i (Begin
     0 0)) c.in_ok-answer.answer _ _ _ _ _
-    split c.loop-asked.invariant c.in_ok-answer.ensures.ok
+    split c.loop-asked.invariant c.in_ok-answer.ensures
     (rw c.in_ok-put_answer.ensures at c.in_err-flush_if_full.ensures.err))
 
 pub loop-asked-preserved : goal.loop-asked-preserved
@@ -52,5 +52,5 @@ loop-asked-preserved g c =
     0 0) (omega arith) in
     rw more (steps_more (take i steps) _ _ _ (get_or steps i (Begin
     0 0)) c.in_ok-answer.answer _ _ _ _ _ _
-    c.loop-asked.invariant c.in_ok-answer.ensures.ok c.step.ensures.shape
+    c.loop-asked.invariant c.in_ok-answer.ensures
     (rw c.in_ok-put_answer.ensures at c.in_ok-flush_if_full.ensures.ok))
