@@ -21,19 +21,19 @@ pub fn frame(alloc: Global, reply: &Reply) -> Result<Vec<u8>, Memory>
 /// reply message").
 ///
 /// The whole frame's room is asked for at once, and none where `out` has it already.
-pub fn put_frame(out: &mut Vec<u8>, head: SimpleReply, data: &[u8]) -> Result<(), Memory>
+pub fn put_frame(out: &mut Vec<u8>, head: SimpleReply, bytes: &[u8]) -> Result<(), Memory>
     ensures ok { OnOk result
-        (out.new.items ≡ out.old.items ++ frame_of (answer_with head data.now)) }
-    ensures room { let size = length (frame_of (answer_with head data.now)) in
+        (out.new.items ≡ out.old.items ++ frame_of (answer_with head bytes.now)) }
+    ensures room { let size = length (frame_of (answer_with head bytes.now)) in
         vec_len out.old + size ≤ vec_capacity out.old → IsOk result }
     ensures err { OnErr result (out.new.items ≡ out.old.items) }
     ensures capacity { vec_capacity out.old ≤ vec_capacity out.new }
 {
-    let data = if head.error == 0 { data } else { &[] };
-    let mut bytes = [0; 16];
-    head.put(&mut bytes);
-    out.reserve(bytes.len() + data.len())?;
-    out.extend_from_slice(&bytes).unwrap();
-    out.extend_from_slice(data).unwrap();
+    let bytes = if head.error == 0 { bytes } else { &[] };
+    let mut header = [0; SimpleReply::BYTES];
+    head.put(&mut header);
+    out.reserve(header.len() + bytes.len())?;
+    out.extend_from_slice(&header).unwrap();
+    out.extend_from_slice(bytes).unwrap();
     Ok(())
 }

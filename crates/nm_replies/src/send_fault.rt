@@ -1,5 +1,5 @@
-ghost use Rattle.std.specs.Prelude.{◌≡◌};
-ghost use Rattle.nm_replies.specs.SendFault.{fault_number};
+ghost use Rattle.std.specs.Prelude.{◌≡◌, Some};
+ghost use Rattle.nm_replies.specs.SendFault.{fault_number, fault_text};
 
 use std::error::Error;
 use std::fmt;
@@ -27,6 +27,8 @@ impl SendFault {
 }
 
 impl fmt::Display for SendFault {
+    ghost output = { λ fault. Some (fault_text fault) };
+
     fn fmt<W: fmt::Write>(&self, f: &mut fmt::Formatter<W>) -> fmt::Result {
         match self {
             SendFault::Device(sent) => write!(f, "a write failed after {sent} bytes"),
