@@ -42,7 +42,6 @@ agree-rest [] ys before all = subst (λ b. AgreeAfter b ys) (sym (append-nil bef
 agree-rest (x ∷ xs) ys before all =
     subst (λ b. AgreeAfter b ys) (append_assoc before (x ∷ []) xs) (agree-rest xs ys (before ++ x ∷ []) all.1)
 
-
 -- the two forms of consistency
 pub consistent-agree : (es : List Entry) → Consistent es → AgreeAfter [] es
 consistent-agree es consistent = agree-from es [] es consistent.reads refl

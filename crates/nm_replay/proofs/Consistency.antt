@@ -41,7 +41,6 @@ pub is_numbered-front : (xs ys : List Entry) → IsNumbered (xs ++ ys) → IsNum
 is_numbered-front [] ys numbers = tt
 is_numbered-front (x ∷ xs) ys numbers = numbered-front (x.seq + 1) xs ys numbers
 
-
 -- no entries at all are consistent
 pub consistent-empty : Consistent []
 consistent-empty = agree-consistent [] tt tt
@@ -63,7 +62,6 @@ pub consistent-front : (xs ys : List Entry) → Consistent (xs ++ ys) → Consis
 consistent-front xs ys consistent =
     agree-consistent xs (is_numbered-front xs ys consistent.numbers)
     (agree-front xs ys [] (consistent-agree (xs ++ ys) consistent))
-
 
 -- one entry further along consistent entries
 pub consistent-more : (es : List Entry) (i : ℕ) (d : Entry) → i < length es → Consistent (take i es) → MayFollow (take i es) (get_or es i d) → Consistent (take (i + 1) es)

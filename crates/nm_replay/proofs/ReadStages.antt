@@ -158,6 +158,16 @@ read-took_effect number bytes old new events none lives is =
     (read-begun number landed.block old (Begun landed.block) landed.before landed.begun refl))
     (read-landed number bytes old new events lives is)
 
+-- a read that lands, and had not begun, began before the entry
+pub read-begin : (number block : ℕ) (bytes : Block) (old new : ReadLife) (front later : List Event) → old ≡ NotBegun → ReadLives number old (front ++ Lands (entry_of_read number block bytes) ∷ later) new → BegunAmong number block front
+read-begin number block bytes old new front later none lives =
+    let cut = read-cut number old new front (Lands (entry_of_read number block bytes) ∷ later) lives in
+    let lands = read-lands number block bytes cut.0 (cut.2).0 (cut.2).1 in
+    ⊎_elim
+    (λ was. absurd (let clash : NotBegun ≡ Begun block = sym none ∙ was in cc))
+    (λ begun. begun)
+    (read-begun number block old cut.0 front cut.1 lands.0)
+
 -- what has landed with bytes keeps them until it is replied to
 pub read-keeps_bytes : (number : ℕ) (bytes others : Block) (old new : ReadLife) (events : List Event) → ReadLives number old events new → old ≡ Landed bytes → new ≡ Landed others → others ≡ bytes
 read-keeps_bytes number bytes others old new [] lives from to =

@@ -156,6 +156,16 @@ write-took_effect ticket number old new events none lives is =
     (write-begun ticket landed.block landed.bytes old (Begun landed.block landed.bytes) landed.before landed.begun refl))
     (write-landed ticket number old new events lives is)
 
+-- a write that lands, and had not begun, began before the entry
+pub write-begin : (ticket number block : ℕ) (bytes : Block) (old new : WriteLife) (front later : List Event) → old ≡ NotBegun → WriteLives ticket old (front ++ Lands (entry_of_write number ticket block bytes) ∷ later) new → BegunAmong ticket block bytes front
+write-begin ticket number block bytes old new front later none lives =
+    let cut = write-cut ticket old new front (Lands (entry_of_write number ticket block bytes) ∷ later) lives in
+    let lands = write-lands number ticket block bytes cut.0 (cut.2).0 (cut.2).1 in
+    ⊎_elim
+    (λ was. absurd (let clash : NotBegun ≡ Begun block bytes = sym none ∙ was in cc))
+    (λ begun. begun)
+    (write-begun ticket block bytes old cut.0 front cut.1 lands.0)
+
 -- what has landed under a number stays so until it is replied to
 pub write-keeps_number : (ticket number other : ℕ) (old new : WriteLife) (events : List Event) → WriteLives ticket old events new → old ≡ Landed number → new ≡ Landed other → other ≡ number
 write-keeps_number ticket number other old new [] lives from to =

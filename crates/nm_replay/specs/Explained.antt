@@ -1,4 +1,4 @@
--- Events that one array explains: each operation takes effect once, between its begin and its reply.
+-- Events that one array explains: each operation acts once, between its begin and its reply.
 use Rattle.std.specs.Prelude.{◌≡◌, ℕ, ◌+◌, List, length}
 use Rattle.nm_replay.specs.Array.{Array}
 use Rattle.nm_replay.specs.History.{Legal}

@@ -1,14 +1,20 @@
 -- What a check of a history asks of each entry, given those before it.
-use Rattle.std.specs.Prelude.{◌≡◌, ℕ, zero, suc, ◌+◌, ◌-◌, List, length, Option, None, IfSome, slice_get}
+use Rattle.std.specs.Prelude.{◌≡◌, ℕ, zero, suc, ◌+◌, ◌-◌, List, length, slice_get}
+use Rattle.std.specs.Prelude.{Option, None, IfSome}
 use Rattle.std.specs.Option.{option_map}
 use Rattle.nm_replay.specs.declared.block.Block.{Block}
+use Rattle.nm_replay.specs.declared.entry.Kind.TheVariants.{Read}
 use Rattle.nm_replay.specs.declared.entry.Entry.{Entry}
-use Rattle.nm_replay.specs.History.{Agrees}
+use Rattle.nm_replay.specs.History.{Agrees, last_on}
 
 -- an entry's number is one more than that of the last before it, if there is one
 abbrev pub IsNext : List Entry → Entry → Type 0
 IsNext before e =
     IfSome (slice_get before (length before - 1)) (λ last. e.seq ≡ last.seq + 1)
+
+-- where an entry is a read, these are the bytes of the last entry before it on its block
+abbrev pub IsLastFor : List Entry → Entry → Option Block → Type 0
+IsLastFor before e last = e.kind ≡ Read → last ≡ last_on e.block before
 
 -- an entry may follow others: it has the next number, and it agrees with them
 pub record MayFollow (before : List Entry) (e : Entry) : Type 0 where

@@ -1,5 +1,6 @@
 -- Histories: lists of numbered entries, each one operation done on an array.
-use Rattle.std.specs.Prelude.{◌≡◌, ℕ, ◌+◌, ◌<◌, ◌==◌, if◌then◌else◌, List, [], ◌∷◌, ◌++◌, length, Option, None, Some, IfSome, slice_get}
+use Rattle.std.specs.Prelude.{◌≡◌, ℕ, ◌+◌, ◌<◌, ◌==◌, if◌then◌else◌}
+use Rattle.std.specs.Prelude.{List, [], ◌∷◌, ◌++◌, length, slice_get, Option, None, Some, IfSome}
 use Rattle.std.specs.Option.{option_or}
 use Rattle.nm_replay.specs.declared.block.Block.{Block}
 use Rattle.nm_replay.specs.declared.entry.Kind.{Kind}
@@ -12,7 +13,7 @@ abbrev pub operation : Kind → ℕ → Block → Operation
 operation Read block bytes = Reads block
 operation (Write ticket) block bytes = Writes block bytes
 
--- an entry of this kind fits an array: a read finds its bytes at its block, and the block of a write
+-- an entry of this kind fits an array: a read finds its bytes at its block, and a write's block
 -- lies in it
 abbrev pub Fits : Kind → ℕ → Block → Array → Type 0
 Fits Read block bytes array = slice_get array block ≡ Some bytes

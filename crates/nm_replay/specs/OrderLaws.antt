@@ -1,11 +1,14 @@
--- Real-time order: an operation that was replied to before another began takes effect before it.
--- The other may still be without a reply: its entry is enough.
-use Rattle.std.specs.Prelude.{ℕ, ◌<◌, List, ◌∷◌, ◌++◌}
+-- What explained events say of several operations: real-time order, and what a read finds.
+use Rattle.std.specs.Prelude.{◌≡◌, ℕ, ◌<◌, List, ◌∷◌, ◌++◌, Some, slice_get}
+use Rattle.std.specs.Option.{option_or}
 use Rattle.nm_replay.specs.declared.block.Block.{Block}
-use Rattle.nm_replay.specs.Events.{Event, BeginsRead, BeginsWrite, Lands, RepliesRead, RepliesWrite, entry_of_read, entry_of_write}
-use Rattle.nm_replay.specs.Explained.{ExplainsWrite, ExplainsRead}
+use Rattle.nm_replay.specs.History.{last_on}
+use Rattle.nm_replay.specs.Events.{Event, BeginsRead, BeginsWrite, Lands, RepliesRead, RepliesWrite}
+use Rattle.nm_replay.specs.Events.{entry_of_read, entry_of_write, entries_of}
+use Rattle.nm_replay.specs.Explained.{Point, Explained, ExplainsWrite, ExplainsRead}
 
--- a write that was replied to before another write began has the lower number
+-- a write that was replied to before another write began has the lower number, whether or not the
+-- other has a reply
 abbrev pub WriteBeforeWrite : Type 0
 WriteBeforeWrite =
     (ticket number other above block : ℕ) (bytes : Block)
@@ -42,3 +45,11 @@ ReadBeforeRead =
     ∷ (between ++ BeginsRead above block
     ∷ (following ++ Lands (entry_of_read above block bytes) ∷ later)))
     → number < above
+
+-- the entry of a read has the bytes of the last entry before it on its block, or, where there is
+-- none, those that the array had there at first
+abbrev pub ReadFindsTheLastBytes : Type 0
+ReadFindsTheLastBytes =
+    (from to : Point) (number block : ℕ) (bytes : Block) (front later : List Event)
+    → Explained from to (front ++ Lands (entry_of_read number block bytes) ∷ later)
+    → option_or (last_on block (entries_of front)) (slice_get from.array block) ≡ Some bytes

@@ -1,9 +1,7 @@
 -- What explained events say of one read: each stage comes once, in order, with the same values.
-use Rattle.std.specs.Prelude.{◌≡◌, ℕ, List, ◌∷◌, ◌++◌, Some, slice_get}
-use Rattle.std.specs.Option.{option_or}
+use Rattle.std.specs.Prelude.{◌≡◌, ℕ, List, ◌∷◌, ◌++◌}
 use Rattle.nm_replay.specs.declared.block.Block.{Block}
-use Rattle.nm_replay.specs.History.{last_on}
-use Rattle.nm_replay.specs.Events.{Event, BeginsRead, Lands, RepliesRead, entry_of_read, entries_of}
+use Rattle.nm_replay.specs.Events.{Event, BeginsRead, Lands, RepliesRead, entry_of_read}
 use Rattle.nm_replay.specs.Explained.{Point, Explained, ExplainsRead, NothingExplains}
 
 -- no entry of a read comes before its begin
@@ -57,13 +55,12 @@ ReadRepliedWithItsBytes =
     ∷ (between ++ RepliesRead number others ∷ later))
     → others ≡ bytes
 
--- the entry of a read has the bytes of the last entry before it on its block, or, where there is
--- none, those that the array had there at first
-abbrev pub ReadFindsTheLastBytes : Type 0
-ReadFindsTheLastBytes =
-    (from to : Point) (number block : ℕ) (bytes : Block) (front later : List Event)
-    → Explained from to (front ++ Lands (entry_of_read number block bytes) ∷ later)
-    → option_or (last_on block (entries_of front)) (slice_get from.array block) ≡ Some bytes
+-- a read that had not begun lands only after it began, on its block
+abbrev pub ReadLandsAfterItsBegin : Type 0
+ReadLandsAfterItsBegin =
+    (number block : ℕ) (bytes : Block) (front later : List Event)
+    → ExplainsRead number (front ++ Lands (entry_of_read number block bytes) ∷ later)
+    → (before following : List Event) × (front ≡ before ++ BeginsRead number block ∷ following)
 
 -- events in which a read began and then landed, with its own block and these bytes
 pub record ReadTookEffect (number : ℕ) (bytes : Block) (events : List Event) : Type 0 where

@@ -57,6 +57,14 @@ WriteRepliedWithItsNumber =
     ∷ (between ++ RepliesWrite ticket other ∷ later))
     → other ≡ number
 
+-- a write that had not begun lands only after it began, with its block and bytes
+abbrev pub WriteLandsAfterItsBegin : Type 0
+WriteLandsAfterItsBegin =
+    (ticket number block : ℕ) (bytes : Block) (front later : List Event)
+    → ExplainsWrite ticket (front ++ Lands (entry_of_write number ticket block bytes) ∷ later)
+    → (before following : List Event)
+    × (front ≡ before ++ BeginsWrite ticket block bytes ∷ following)
+
 -- events in which a write began and then landed, under this number, with its own block and bytes
 pub record WriteTookEffect (ticket number : ℕ) (events : List Event) : Type 0 where
   pub block : ℕ

@@ -14,8 +14,8 @@ pub data WriteLife : Type 0 where
   Landed : (number : ℕ) → WriteLife
   Replied : WriteLife
 
--- an entry is this write's only if it is a write with this ticket: then the write has begun with the
--- entry's block and bytes, and has landed
+-- an entry is this write's only if it is a write with this ticket: then the write began with the
+-- entry's block and bytes, and has landed now
 abbrev pub WriteLands : ℕ → WriteLife → Entry → Kind → WriteLife → Type 0
 WriteLands ticket old entry Read new = new ≡ old
 WriteLands ticket old entry (Write other) new =

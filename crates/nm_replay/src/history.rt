@@ -1,5 +1,6 @@
-ghost use Rattle.std.specs.Prelude.{◌≡◌, ◌≤◌, ◌↔◌, length, replicate, IsTrue, IsOk, IfOk, option_copied};
-ghost use Rattle.nm_replay.specs.Following.{IsNext, MayFollow, bytes_at};
+ghost use Rattle.std.specs.Prelude.{◌≡◌, ◌≤◌, ◌↔◌, length, replicate};
+ghost use Rattle.std.specs.Prelude.{IsTrue, IsOk, IfOk, option_copied};
+ghost use Rattle.nm_replay.specs.Following.{IsLastFor, IsNext, MayFollow, bytes_at};
 ghost use Rattle.nm_replay.specs.History.{Agrees, Consistent, last_on};
 
 use crate::block::Block;
@@ -34,7 +35,7 @@ fn bytes_at(entries: &[Entry], place: usize) -> Option<&Block>
 
 /// Where an entry is a read, the bytes of the last of the entries before it on its block.
 fn latest_for<'a>(before: &'a [Entry], entry: &Entry) -> Option<&'a Block>
-    ensures { entry.now.kind ≡ Kind.Read → option_copied result ≡ last_on entry.now.block before.now }
+    ensures { IsLastFor before.now entry.now (option_copied result) }
 {
     match entry.kind {
         Kind::Read => latest(before, entry.block),
@@ -42,9 +43,9 @@ fn latest_for<'a>(before: &'a [Entry], entry: &Entry) -> Option<&'a Block>
     }
 }
 
-/// Whether an entry is a write, or a read of these bytes, if there are any.
+/// Whether an entry is a write, or a read of `last`, if that is there.
 fn agrees(before: &[Entry], entry: &Entry, last: Option<&Block>) -> bool
-    requires { entry.now.kind ≡ Kind.Read → option_copied last ≡ last_on entry.now.block before.now }
+    requires { IsLastFor before.now entry.now (option_copied last) }
     ensures { IsTrue result ↔ Agrees before.now entry.now }
 {
     match entry.kind {
@@ -66,10 +67,10 @@ fn is_next(before: &[Entry], entry: &Entry) -> bool
     }
 }
 
-/// Whether an entry may follow those before it. If it is a read, `last` is what the last of them
-/// on its block has.
+/// Whether an entry may follow those before it. If it is a read, `last` has the bytes of the last
+/// of them on its block.
 fn may_follow(before: &[Entry], entry: &Entry, last: Option<&Block>) -> bool
-    requires { entry.now.kind ≡ Kind.Read → option_copied last ≡ last_on entry.now.block before.now }
+    requires { IsLastFor before.now entry.now (option_copied last) }
     ensures { IsTrue result ↔ MayFollow before.now entry.now }
 {
     is_next(before, entry) && agrees(before, entry, last)

@@ -1,4 +1,5 @@
-ghost use Rattle.std.specs.Prelude.{◌≡◌, ℕ, ◌+◌, ◌<◌, ◌≤◌, [], ◌∷◌, ◌++◌, length, IsOk, IfOk, OnOk, OnErr};
+ghost use Rattle.std.specs.Prelude.{◌≡◌, ℕ, ◌+◌, ◌<◌, ◌≤◌, [], ◌∷◌, ◌++◌, length};
+ghost use Rattle.std.specs.Prelude.{IsOk, IfOk, OnOk, OnErr};
 
 use crate::entry::Entry;
 use crate::memory::Memory;
@@ -42,7 +43,7 @@ impl Kept {
         }
     }
 
-    /// Makes room for so many more entries, beside those that are kept.
+    /// Makes room for this many more entries, beside those that are kept.
     pub fn reserve(&mut self, additional: usize) -> Result<(), Memory>
         ensures ok { OnOk result (additional ≤ self.new.room) }
         ensures entries { self.new.entries ≡ self.old.entries }
@@ -55,7 +56,7 @@ impl Kept {
         Ok(())
     }
 
-    /// Adds an entry at the end. There is room, as `reserve` makes it, so no memory is taken.
+    /// Adds an entry at the end. `reserve` made room for it, so no memory is taken.
     pub fn push(&mut self, entry: &Entry)
         requires { 0 < self.old.room }
         ensures entries { self.new.entries ≡ self.old.entries ++ entry.now ∷ [] }

@@ -1,9 +1,18 @@
 //! Laws of histories and of events. Each function does nothing: its contract is the law, for every
 //! history and every list of events.
-ghost use Rattle.nm_replay.specs.Laws.{ConsistentIsExplained, ConsistentIsLegal, EndPieceIsLegal, LegalThenLegal};
-ghost use Rattle.nm_replay.specs.OrderLaws.{ReadBeforeRead, ReadBeforeWrite, WriteBeforeRead, WriteBeforeWrite};
-ghost use Rattle.nm_replay.specs.ReadLaws.{NoReadEntryBeforeItsBegin, NoReadReplyBeforeItsEntry, NoSecondReadBegin, NoSecondReadEntry, NoSecondReadReply, ReadFindsTheLastBytes, ReadLandsAsItBegan, ReadRepliedAfterItsEntry, ReadRepliedWithItsBytes};
-ghost use Rattle.nm_replay.specs.WriteLaws.{NoSecondWriteBegin, NoSecondWriteEntry, NoSecondWriteReply, NoWriteEntryBeforeItsBegin, NoWriteReplyBeforeItsEntry, WriteLandsAsItBegan, WriteRepliedAfterItsEntry, WriteRepliedWithItsNumber};
+ghost use Rattle.nm_replay.specs.Laws.{ConsistentIsExplained, ConsistentIsLegal};
+ghost use Rattle.nm_replay.specs.Laws.{EndPieceIsLegal, LegalThenLegal};
+ghost use Rattle.nm_replay.specs.OrderLaws.{ReadBeforeRead, ReadBeforeWrite, ReadFindsTheLastBytes};
+ghost use Rattle.nm_replay.specs.OrderLaws.{WriteBeforeRead, WriteBeforeWrite};
+ghost use Rattle.nm_replay.specs.ReadLaws.{NoReadEntryBeforeItsBegin, NoReadReplyBeforeItsEntry};
+ghost use Rattle.nm_replay.specs.ReadLaws.{NoSecondReadBegin, NoSecondReadEntry, NoSecondReadReply};
+ghost use Rattle.nm_replay.specs.ReadLaws.{ReadLandsAfterItsBegin, ReadLandsAsItBegan};
+ghost use Rattle.nm_replay.specs.ReadLaws.{ReadRepliedAfterItsEntry, ReadRepliedWithItsBytes};
+ghost use Rattle.nm_replay.specs.WriteLaws.{NoSecondWriteBegin, NoSecondWriteEntry};
+ghost use Rattle.nm_replay.specs.WriteLaws.{NoSecondWriteReply};
+ghost use Rattle.nm_replay.specs.WriteLaws.{NoWriteEntryBeforeItsBegin, NoWriteReplyBeforeItsEntry};
+ghost use Rattle.nm_replay.specs.WriteLaws.{WriteLandsAfterItsBegin, WriteLandsAsItBegan};
+ghost use Rattle.nm_replay.specs.WriteLaws.{WriteRepliedAfterItsEntry, WriteRepliedWithItsNumber};
 
 /// Some array makes a list of entries legal up to a given array exactly if the list is consistent
 /// and the last entry on each block that has one is what that array has there.
@@ -67,6 +76,12 @@ pub fn lands_as_it_began()
 pub fn replied_with_its_entry()
     ensures write { WriteRepliedWithItsNumber }
     ensures read { ReadRepliedWithItsBytes }
+{}
+
+/// An operation that takes effect began before that.
+pub fn lands_after_its_begin()
+    ensures write { WriteLandsAfterItsBegin }
+    ensures read { ReadLandsAfterItsBegin }
 {}
 
 /// An operation that is replied to began before that, and took effect in between.

@@ -1,8 +1,9 @@
 //! Blocks, arrays of blocks, the legal histories of an array, and the life of each operation on it.
 //!
 //! A history is a list of numbered entries, each one operation on one block. `Kept` keeps one, and
-//! `check` and `check_indexed` answer exactly whether some array explains it. `specs/Explained.antt`
-//! says when one array explains a list of begins, entries and replies, and `laws` what follows.
+//! `check` and `check_indexed` answer exactly whether some array explains it.
+//! `specs/Explained.antt` says when one array explains a list of begins, entries and replies, and
+//! `laws` what follows.
 #![tactic(auto)]
 
 pub use block::{BLOCK_BYTES, Block};

@@ -7,7 +7,7 @@ use crate::memory::Memory;
 use std::alloc::Global;
 use std::marker::Model;
 
-/// The plain, slow array, for tests: a block after the other, and each operation as it is defined.
+/// A plain, slow array, for tests: one block after the other, and each operation as it is defined.
 #[derive(Debug, Drop)]
 pub struct PlainArray {
     blocks: Vec<Block>,
@@ -39,7 +39,7 @@ impl PlainArray {
         self.blocks.as_slice()
     }
 
-    /// Does an entry's operation, if the entry fits; else the array stays as it is.
+    /// Does an entry's operation if the entry fits; otherwise the array stays as it is.
     pub fn apply(&mut self, entry: &Entry) -> bool
         ensures fits { IsTrue result ↔ EntryFits entry.now self.old }
         ensures array { self.new ≡ (if result then after_entry entry.now self.old else self.old) }
