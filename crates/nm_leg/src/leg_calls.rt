@@ -7,7 +7,7 @@ use nm_replay::Block;
 /// Reads the block at `at` of one leg of a list. All other legs stay as they were.
 pub fn read_leg_at<L: LegPart>(
     legs: &mut [L],
-    leg: usize,
+    leg: u8,
     at: u64,
     into: &mut Block,
 ) -> Result<(), LegFault>
@@ -16,13 +16,13 @@ pub fn read_leg_at<L: LegPart>(
     ensures { ReadsLegAt L.model L.honest (is_ok result) leg at
         legs.old legs.new into.old into.new }
 {
-    legs[leg].read(at, into)
+    legs[leg as usize].read(at, into)
 }
 
 /// Writes 512 bytes to the block at `at` of one leg of a list. All other legs stay as they were.
 pub fn write_leg_at<L: LegPart>(
     legs: &mut [L],
-    leg: usize,
+    leg: u8,
     at: u64,
     bytes: &[u8],
 ) -> Result<(), LegFault>
@@ -32,13 +32,14 @@ pub fn write_leg_at<L: LegPart>(
     ensures { WritesLegAt L.model L.honest (is_ok result) leg at bytes.now
         legs.old legs.new }
 {
-    legs[leg].write(at, bytes)
+    legs[leg as usize].write(at, bytes)
 }
 
 /// Syncs one leg of a list. All other legs stay as they were.
-pub fn sync_leg_at<L: LegPart>(legs: &mut [L], leg: usize) -> Result<(), LegFault>
+pub fn sync_leg_at<L: LegPart>(legs: &mut [L], leg: u8) -> Result<(), LegFault>
     requires { leg < length legs.old }
-    ensures { SyncsLegAt L.model L.honest (is_ok result) leg legs.old legs.new }
+    ensures { SyncsLegAt L.model L.honest (is_ok result) leg
+        legs.old legs.new }
 {
-    legs[leg].sync()
+    legs[leg as usize].sync()
 }

@@ -5,7 +5,7 @@ use Rattle.std.proofs.lemmas.List.{length-replicate}
 use Rattle.nm_replay.specs.declared.block.Block.{Block}
 use Rattle.nm_stripe.specs.declared.answer.Answer.{Answer}
 use Rattle.nm_stripe.specs.declared.step.Step.{Step as StripeStep}
-use Rattle.nm_stripe.specs.Machine.{Runs}
+use Rattle.nm_stripe.specs.Run.{Runs}
 use Rattle.nm_stripe.proofs.RunLemmas.{SameShape, step-shape, asked-later}
 use Rattle.nm_script_lib.specs.declared.mirror_line.MirrorLine.{MirrorLine}
 use Rattle.nm_script_lib.specs.declared.step.Step.{Step}

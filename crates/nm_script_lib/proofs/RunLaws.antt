@@ -8,7 +8,7 @@ use Rattle.std.proofs.KnownBytes.{Appends-trans, Appends-nil}
 use Rattle.nm_replay.specs.declared.block.Block.{Block}
 use Rattle.nm_stripe.specs.declared.answer.Answer.{Answer}
 use Rattle.nm_stripe.specs.declared.step.Step.{Step as StripeStep}
-use Rattle.nm_stripe.specs.Machine.{StepOf, Runs}
+use Rattle.nm_stripe.specs.Run.{StepOf, Runs}
 use Rattle.nm_script_lib.specs.declared.mirror_line.MirrorLine.{MirrorLine}
 use Rattle.nm_script_lib.specs.declared.step.Step.{Step}
 use Rattle.nm_script_lib.specs.MemStripe.{MemStripe, in_memory, new_stripe, asked}

@@ -6,7 +6,7 @@ use Rattle.nm_leg.specs.Leg.{Leg, filled_array}
 use Rattle.nm_stripe.specs.declared.step.Step.{Step as StripeStep}
 use Rattle.nm_stripe.specs.declared.step.Step.TheVariants.{Begin as BeginStep, Push as PushStep, Claim as ClaimStep, Read as ReadStep}
 use Rattle.nm_stripe.specs.State.{StripeState}
-use Rattle.nm_stripe.specs.Machine.{MayBeAsked}
+use Rattle.nm_stripe.specs.Run.{MayBeAsked}
 use Rattle.nm_stripe.specs.Opening.{opened}
 use Rattle.nm_script_lib.specs.declared.mirror_line.MirrorLine.{MirrorLine}
 use Rattle.nm_script_lib.specs.declared.step.Step.{Step}

@@ -4,7 +4,7 @@ use Rattle.nm_replay.specs.History.{Consistent}
 use Rattle.nm_replay.specs.declared.entry.Entry.{Entry}
 use Rattle.nm_replay.specs.declared.block.Block.{Block}
 use Rattle.nm_stripe.specs.declared.answer.Answer.{Answer}
-use Rattle.nm_stripe.specs.Machine.{Runs}
+use Rattle.nm_stripe.specs.Run.{Runs}
 use Rattle.nm_script_lib.specs.declared.mirror_line.MirrorLine.{MirrorLine}
 use Rattle.nm_script_lib.specs.declared.step.Step.{Step}
 use Rattle.nm_script_lib.specs.MemStripe.{MemStripe, in_memory, new_stripe, asked}

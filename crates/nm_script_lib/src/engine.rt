@@ -124,8 +124,8 @@ fn finish<W: Write>(
 {
     send(out, buffer)?;
     buffer.clear();
-    // Its contract says that the stripe is sound, and so that what it keeps is legal.
-    let _ = stripe.is_stopped();
+    // A sound stripe keeps a legal history.
+    stripe.sound();
     let entries = stripe.entries(alloc)?;
     put_history(alloc, &entries, blocks, stripe.total(), out, buffer)?;
     if out.flush().is_err() {

@@ -1,6 +1,6 @@
 //! The stripe that a script runs: memory legs of zero bytes, all in sync.
 ghost use Rattle.std.specs.Prelude.{◌≡◌, ℕ, ◌<◌, ◌≤◌, ◌+◌, ◌^◌, true, IfOk, IfErr};
-ghost use Rattle.nm_stripe.specs.Machine.{StepOf, MayBeAsked};
+ghost use Rattle.nm_stripe.specs.Run.{StepOf, MayBeAsked};
 ghost use Rattle.nm_script_lib.specs.MemStripe.{InRange};
 ghost use Rattle.nm_script_lib.specs.RunErrors.{EndsRun};
 ghost use Rattle.nm_script_lib.specs.MemStripe.{in_memory, new_stripe, zero_legs, filled_block, asked, CanTake};

@@ -9,3 +9,5 @@ mod legs;
 mod records;
 #[cfg(test)]
 mod scripts;
+#[cfg(test)]
+mod stripes;

@@ -1,9 +1,12 @@
--- A claim takes a finished write's record away: the write is told its number, and nothing else changes.
-use Rattle.std.proofs.Common.{◌≡◌, ◌≢◌, ⊎_elim, ℕ, ◌==◌, Bool, true, false, not, IsTrue, List, [], ◌∷◌, Option, None, Some, is_some, refl, sym, ap, ◌∙◌, subst, arith, nat_lt, cond, MatchBool, append-nil}
+-- A claim: it takes a finished write's record away and answers with the write's number, and nothing
+-- else changes.
+use Rattle.std.proofs.Common.{◌≡◌, ◌≢◌, ⊎_elim, ℕ, ◌==◌, Bool, true, false, not, IsTrue, List, [], ◌∷◌, Option, None, Some, is_some, is_none, refl, sym, ap, ◌∙◌, subst, arith, nat_lt, cond, MatchBool, append-nil}
+use Rattle.std.specs.Option.{option_and_then}
 use Rattle.std.proofs.lemmas.Option.{same_Some}
 use Rattle.std.proofs.lemmas.Bool.Decides.{nat_tests}
 use Rattle.nm_fanout.proofs.Owed.{finished-owes}
 use Rattle.nm_fanout.proofs.InOrder.{AllBelow-without}
+use Rattle.nm_fanout.proofs.Writers.{OneWriterABlock-without}
 use Rattle.nm_fanout.proofs.Landing.{unlanded-without}
 use Rattle.nm_fanout.proofs.Finding.{find_record-without_same, find_record-without_other, find_record-below}
 use Rattle.nm_fanout.specs.declared.write_record.Record.{Record}
@@ -11,15 +14,38 @@ use Rattle.nm_fanout.specs.Record.{is_under_way}
 use Rattle.nm_fanout.specs.Records.{find_record, busy_on, without}
 use Rattle.nm_fanout.proofs.InOrder.{AreInOrder-without}
 use Rattle.nm_leg.specs.Leg.{Leg}
-use Rattle.nm_stripe.specs.Lives.{Unborn, Landed, Told, WriteLives, RepliesWrite}
+use Rattle.nm_replay.specs.WriteLives.{NotBegun, Landed, Replied, WriteLives}
+use Rattle.nm_replay.specs.Events.{RepliesWrite}
 use Rattle.nm_replay.specs.Kept.{KeptHistory}
 use Rattle.nm_fanout.specs.Records.{RecordTable}
 use Rattle.nm_stripe.specs.declared.at.At.{At}
 use Rattle.nm_stripe.specs.State.{StripeState, state_of, write_life, read_life, life_of, recorded_life, written}
 use Rattle.nm_stripe.specs.Invariant.{HasLegs, HasRecords, LegsAgree, Keeps}
-use Rattle.nm_stripe.specs.Headline.{Acts}
+use Rattle.nm_stripe.specs.Acts.{Acts}
+use Rattle.nm_stripe.specs.declared.refusal.Refusal.TheVariants.{Stopped, NoTicket, NotYet}
+use Rattle.nm_stripe.specs.Cause.{when}
+use Rattle.nm_stripe.specs.Claim.{claim_cause, claim_rows}
 use Rattle.nm_stripe.proofs.ArrayLemmas.{array_is_master}
+use Rattle.nm_stripe.proofs.CauseLemmas.{NoneHolds, none_holds, when_off, is_there}
 use Rattle.nm_stripe.proofs.RecordLemmas.{same, one_or_two, without_cases, busy_found, busy_none}
+
+-- the write of this ticket may be claimed
+pub record MayClaim {L : Type 0} (stripe : StripeState L) (ticket : ℕ) : Type 0 where
+  pub runs : stripe.stopped ≡ false
+  pub finished : Record
+  pub found : find_record ticket stripe.records ≡ Some finished
+  pub over : is_under_way finished ≡ false
+
+pub may_claim : {L : Type 0} (stripe : StripeState L) (ticket : ℕ) → claim_cause stripe ticket ≡ None → MayClaim stripe ticket
+may_claim stripe ticket none =
+    let rows = none_holds (claim_rows stripe ticket) none in
+    let at = is_there (find_record ticket stripe.records) (when_off (is_none (find_record ticket stripe.records)) NoTicket rows.1.0) in
+    record {
+      runs = when_off stripe.stopped Stopped rows.0;
+      finished = at.0;
+      found = at.1;
+      over = when_off (is_under_way at.0) NotYet (sym (ap (λ (o : Option Record). option_and_then (λ (r : Record). when (is_under_way r) NotYet) o) at.1) ∙ rows.1.1.0);
+    }
 
 -- the stripe without the record of this ticket
 abbrev pub after_claim : {L : Type 0} → StripeState L → ℕ → StripeState L
@@ -39,7 +65,7 @@ module _ {L : Type 0} (model : L → Leg) (honest : Bool) (old : StripeState L) 
   claim-records = record {
     in_order = AreInOrder-without ticket old.records k.records.in_order;
     tickets = AllBelow-without old.tickets ticket old.records k.records.tickets;
-    one_write = λ t u x y at_t at_u going_t going_u same_block. k.records.one_write t u x y (without_cases ticket t old.records x at_t).1 (without_cases ticket u old.records y at_u).1 going_t going_u same_block;
+    one_writer = OneWriterABlock-without ticket old.records k.records.one_writer;
     inside = λ t x at. k.records.inside t x (without_cases ticket t old.records x at).1;
     landed = λ t x at. k.records.landed t x (without_cases ticket t old.records x at).1;
     owed = λ t x leg at owes_leg. k.records.owed t x leg (without_cases ticket t old.records x at).1 owes_leg;
@@ -82,7 +108,7 @@ module _ {L : Type 0} (model : L → Leg) (honest : Bool) (old : StripeState L) 
           numbered = k.numbers.numbered;
           total = k.numbers.total;
           given = omega (arith, k.numbers.given, unlanded-without ticket n.0 old.records r k.records.in_order.ascending found n.1);
-          left = omega (arith, k.numbers.left, unlanded-without ticket n.0 old.records r k.records.in_order.ascending found n.1);
+          below = omega (arith, k.numbers.below, unlanded-without ticket n.0 old.records r k.records.in_order.ascending found n.1);
         };
         consistent = k.consistent;
         agrees = λ is_honest runs. claim-agrees (k.agrees is_honest runs);
@@ -91,19 +117,19 @@ module _ {L : Type 0} (model : L → Leg) (honest : Bool) (old : StripeState L) 
   claim-lives : (n : ℕ) → r.entry ≡ Some n → (t : ℕ) → WriteLives t (write_life old t) (RepliesWrite ticket n ∷ []) (write_life (after_claim old ticket) t)
   claim-lives n number t = (
     write_life (after_claim old ticket) t,
-    (elim (ticket == t) as (λ b. (ticket == t) ≡ b → MatchBool b ((write_life old t ≡ Landed n) × (write_life (after_claim old ticket) t ≡ Told)) (write_life (after_claim old ticket) t ≡ write_life old t)) [
+    (elim (ticket == t) as (λ b. (ticket == t) ≡ b → MatchBool b ((write_life old t ≡ Landed n) × (write_life (after_claim old ticket) t ≡ Replied)) (write_life (after_claim old ticket) t ≡ write_life old t)) [
       | true ↦ λ eq.
           let at : ticket ≡ t = same ticket t eq in
           let below = find_record-below old.tickets ticket old.records r k.records.tickets found in
           let given : nat_lt t old.tickets ≡ true = grind (arith, nat_tests) in
           let was : find_record t old.records ≡ Some r = subst (λ (u : ℕ). find_record u old.records ≡ Some r) at found in
           let now : find_record t (without ticket old.records) ≡ None = subst (λ (u : ℕ). find_record u (without ticket old.records) ≡ None) at (find_record-without_same ticket old.records) in (
-            ap (λ b. cond b (life_of (find_record t old.records)) Unborn) given ∙ ap (λ o. life_of o) was ∙ ap (λ e. recorded_life e r.block (written r)) number,
-            ap (λ b. cond b (life_of (find_record t (without ticket old.records))) Unborn) given ∙ ap (λ o. life_of o) now,
+            ap (λ b. cond b (life_of (find_record t old.records)) NotBegun) given ∙ ap (λ o. life_of o) was ∙ ap (λ e. recorded_life e r.block (written r)) number,
+            ap (λ b. cond b (life_of (find_record t (without ticket old.records))) NotBegun) given ∙ ap (λ o. life_of o) now,
           )
       | false ↦ λ ne.
           let other : t ≢ ticket = λ e. let yes : (ticket == t) ≡ true = grind (arith, nat_tests) in let clash : true ≡ false = sym yes ∙ ne in cc in
-          ap (λ o. cond (nat_lt t old.tickets) (life_of o) Unborn) (find_record-without_other ticket t old.records other)
+          ap (λ o. cond (nat_lt t old.tickets) (life_of o) NotBegun) (find_record-without_other ticket t old.records other)
     ]) refl,
     refl,
   )
@@ -116,6 +142,7 @@ module _ {L : Type 0} (model : L → Leg) (honest : Bool) (old : StripeState L) 
       record {
         explained = record {
           legal = after ∙ sym before;
+          next = omega arith;
           each_write = claim-lives n number;
           each_read = λ m. (read_life old m, refl, refl);
         };

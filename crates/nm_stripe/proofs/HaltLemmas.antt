@@ -1,4 +1,4 @@
--- A push whose leg fails stops the stripe: what is left is what needs no leg to be trusted.
+-- A push whose leg fails stops the stripe: what still holds needs no trust in a leg.
 use Rattle.std.proofs.Common.{◌≡◌, ℕ, Bool, true, false, List, length, ◌∙◌, arith}
 use Rattle.nm_leg.specs.Leg.{Leg}
 use Rattle.nm_leg.specs.LegCalls.{WritesLegAt}
@@ -18,12 +18,12 @@ halt-keeps model honest old legs leg at bytes k w =
       records = record {
         in_order = k.records.in_order;
         tickets = k.records.tickets;
-        one_write = k.records.one_write;
+        one_writer = k.records.one_writer;
         inside = k.records.inside;
         landed = k.records.landed;
         owed = λ t x j found owes_j. omega (arith, k.records.owed t x j found owes_j, same_count);
       };
-      numbers = record { numbered = k.numbers.numbered; total = k.numbers.total; given = k.numbers.given; left = k.numbers.left };
+      numbers = record { numbered = k.numbers.numbered; total = k.numbers.total; given = k.numbers.given; below = k.numbers.below };
       consistent = k.consistent;
       agrees = λ is_honest runs. absurd (cc);
     }

@@ -12,13 +12,15 @@ use Rattle.nm_fanout.specs.Record.{owes, without_leg}
 use Rattle.nm_fanout.specs.Records.{AreInOrder, find_record, unlanded, changed, reached}
 use Rattle.nm_fanout.proofs.InOrder.{AreInOrder-reached, AreInOrder-landed}
 use Rattle.nm_leg.specs.Leg.{Leg}
-use Rattle.nm_stripe.specs.Lives.{Unborn, Begun, Landed, WriteLives, Unasked, Over, ReadLives, Lands}
+use Rattle.nm_replay.specs.WriteLives.{NotBegun, Begun, Landed, WriteLives}
+use Rattle.nm_replay.specs.ReadLives.{NotBegun as NoReadBegun, Closed, ReadLives}
+use Rattle.nm_replay.specs.Events.{Lands}
 use Rattle.nm_stripe.specs.State.{StripeState, next_number, contents_of, write_life, read_life, life_of, recorded_life, written}
-use Rattle.nm_stripe.specs.Steps.{after_landing, write_entry}
+use Rattle.nm_stripe.specs.Push.{after_landing, write_entry}
 use Rattle.nm_stripe.specs.Invariant.{HasLegs, HasRecords, HasNumbers, LegsAgree, Keeps}
-use Rattle.nm_stripe.specs.Headline.{Acts}
+use Rattle.nm_stripe.specs.Acts.{Acts}
 use Rattle.nm_stripe.proofs.ArrayLemmas.{array_is_master}
-use Rattle.nm_stripe.proofs.HistoryLemmas.{consistent-write, ends-push}
+use Rattle.nm_replay.proofs.Pushing.{consistent-write, ends-push_by}
 use Rattle.nm_stripe.proofs.LegLemmas.{writes-contents}
 use Rattle.nm_stripe.proofs.ReachLemmas.{moved, moved-legs, moved-records, moved-agrees}
 use Rattle.nm_stripe.proofs.PushLemmas.{Reached, landing, landing-reaches, changed-twice, not_landed}
@@ -56,7 +58,7 @@ module _ {L : Type 0} (model : L → Leg) (honest : Bool) (old : StripeState L) 
   land-agrees is_honest =
       let agree = c.keeps.agrees is_honest c.runs in
       moved-agrees model honest old legs r leg (landing (next_number old) leg) (old.kept ++ write_entry (next_number old) r ∷ []) (old.total + 1) (landing-reaches (next_number old) leg) is_honest c.keeps.legs c.keeps.records agree c.writes c.found c.owed
-      (ends-push old.kept (write_entry (next_number old) r) (contents_of model old.legs old.master) (contents_of model legs old.master) agree.last
+      (ends-push_by old.kept (write_entry (next_number old) r) (contents_of model old.legs old.master) (contents_of model legs old.master) agree.last
       (ap (λ xs. slice_get xs r.block) (land-master is_honest) ∙ slice_get-set_same (contents_of model old.legs old.master) r.block (written r) land-inside)
       (λ b off. ap (λ xs. slice_get xs b) (land-master is_honest) ∙ slice_get-set_other (contents_of model old.legs old.master) r.block b (written r) (λ e. off (sym e))))
 
@@ -68,7 +70,7 @@ module _ {L : Type 0} (model : L → Leg) (honest : Bool) (old : StripeState L) 
     numbered = numbered-append old.first old.kept (write_entry (next_number old) r ∷ []) c.keeps.numbers.numbered (let n : old.first + old.total ≡ old.first + length old.kept = omega (arith, c.keeps.numbers.total) in n, tt);
     total = omega (arith, c.keeps.numbers.total, length-append old.kept (write_entry (next_number old) r ∷ []));
     given = omega (arith, c.keeps.numbers.given, one_less);
-    left = omega (arith, c.keeps.numbers.left, one_less);
+    below = omega (arith, c.keeps.numbers.below, one_less);
   }
 
   land-kept : Keeps model honest (landed_state old legs r leg)
@@ -94,12 +96,12 @@ module _ {L : Type 0} (model : L → Leg) (honest : Bool) (old : StripeState L) 
           let given : nat_lt t old.tickets ≡ true = grind (arith, nat_tests) in
           let was : find_record t old.records ≡ Some r = subst (λ (u : ℕ). find_record u old.records ≡ Some r) at c.found in
           let now : find_record t (changed (landing (next_number old) leg) r.ticket old.records) ≡ Some (landing (next_number old) leg r) = subst (λ (u : ℕ). find_record u (changed (landing (next_number old) leg) r.ticket old.records) ≡ Some (landing (next_number old) leg r)) at (find-changed_same (landing (next_number old) leg) (λ x. refl) r.ticket old.records r c.found) in (
-            ap (λ b. cond b (life_of (find_record t old.records)) Unborn) given ∙ ap (λ o. life_of o) was ∙ ap (λ e. recorded_life e r.block (written r)) no_entry,
-            ap (λ b. cond b (life_of (find_record t (changed (landing (next_number old) leg) r.ticket old.records))) Unborn) given ∙ ap (λ o. life_of o) now,
+            ap (λ b. cond b (life_of (find_record t old.records)) NotBegun) given ∙ ap (λ o. life_of o) was ∙ ap (λ e. recorded_life e r.block (written r)) no_entry,
+            ap (λ b. cond b (life_of (find_record t (changed (landing (next_number old) leg) r.ticket old.records))) NotBegun) given ∙ ap (λ o. life_of o) now,
           )
       | false ↦ λ ne.
           let other : t ≢ r.ticket = λ e. let yes : (r.ticket == t) ≡ true = grind (arith, nat_tests) in let clash : true ≡ false = sym yes ∙ ne in cc in
-          ap (λ o. cond (nat_lt t old.tickets) (life_of o) Unborn) (find_record-changed_other (landing (next_number old) leg) (λ x. refl) r.ticket t old.records other)
+          ap (λ o. cond (nat_lt t old.tickets) (life_of o) NotBegun) (find_record-changed_other (landing (next_number old) leg) (λ x. refl) r.ticket t old.records other)
     ]) refl,
     refl,
   )
@@ -108,16 +110,16 @@ module _ {L : Type 0} (model : L → Leg) (honest : Bool) (old : StripeState L) 
   land-reads : (n : ℕ) → ReadLives n (read_life old n) (Lands (write_entry (next_number old) r) ∷ []) (read_life (landed_state old legs r leg) n)
   land-reads n = (
     read_life (landed_state old legs r leg) n,
-    (elim (next_number old == n) as (λ b. (next_number old == n) ≡ b → MatchBool b ((read_life old n ≡ Unasked) × (read_life (landed_state old legs r leg) n ≡ Over)) (read_life (landed_state old legs r leg) n ≡ read_life old n)) [
+    (elim (next_number old == n) as (λ b. (next_number old == n) ≡ b → MatchBool b ((read_life old n ≡ NoReadBegun) × (read_life (landed_state old legs r leg) n ≡ Closed)) (read_life (landed_state old legs r leg) n ≡ read_life old n)) [
       | true ↦ λ eq.
           let at : next_number old ≡ n = same (next_number old) n eq in
           let not_yet : nat_lt n (next_number old) ≡ false = grind (arith, nat_tests) in
           let now : nat_lt n (old.first + (old.total + 1)) ≡ true = grind (arith, nat_tests) in
-          (ap (λ b. cond b Over Unasked) not_yet, ap (λ b. cond b Over Unasked) now)
+          (ap (λ b. cond b Closed NoReadBegun) not_yet, ap (λ b. cond b Closed NoReadBegun) now)
       | false ↦ λ ne.
           let other : n ≢ old.first + old.total = λ e. let yes : (next_number old == n) ≡ true = grind (arith, nat_tests) in let clash : true ≡ false = sym yes ∙ ne in cc in
           let alike : nat_lt n (old.first + (old.total + 1)) ≡ nat_lt n (next_number old) = grind (arith, nat_tests) in
-          ap (λ b. cond b Over Unasked) alike
+          ap (λ b. cond b Closed NoReadBegun) alike
     ]) refl,
     refl,
   )
@@ -128,6 +130,7 @@ module _ {L : Type 0} (model : L → Leg) (honest : Bool) (old : StripeState L) 
       let after = array_is_master model (landed_state old legs r leg) land-legs land-records (land-agrees is_honest) in
       record {
         explained = record {
+          next = omega arith;
           legal = (refl, omega (arith, land-inside, ap (λ (xs : List Block). length xs) before), after ∙ land-master is_honest ∙ ap (λ xs. slice_set xs r.block (written r)) (sym before));
           each_write = land-writes;
           each_read = land-reads;

@@ -4,12 +4,10 @@ pub mod BeginLemmas
 pub mod CauseLemmas
 pub mod ClaimLemmas
 pub mod HaltLemmas
-pub mod HistoryLemmas
 pub mod LandLemmas
 pub mod LegLemmas
-pub mod LivesLemmas
+pub mod OpenLemmas
 pub mod OwedLemmas
-pub mod OrderLemmas
 pub mod PushLemmas
 pub mod PushedLemmas
 pub mod ReachLemmas

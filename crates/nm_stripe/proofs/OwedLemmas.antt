@@ -1,11 +1,11 @@
 -- Which legs a record owes.
-use Rattle.std.proofs.Common.{◌≡◌, ℕ, ◌<◌, ◌≤◌, zero, suc, true, false, refl, sym, ◌∙◌, arith}
+use Rattle.std.proofs.Common.{◌≡◌, ℕ, ◌<◌, ◌≤◌, zero, suc, Bool, true, false, List, [], ◌∷◌, refl, sym, ◌∙◌, arith, nat_lt}
 use Rattle.std.proofs.lemmas.Bool.Decides.{nat_tests}
 use Rattle.std.specs.List.{slice_index_or}
 use Rattle.nm_fanout.specs.declared.write_record.Record.{Record}
 use Rattle.nm_fanout.specs.Record.{is_under_way, without_leg}
 use Rattle.nm_fanout.proofs.Owed.{is_under_way-without_leg}
-use Rattle.nm_stripe.specs.Steps.{all_legs}
+use Rattle.nm_stripe.specs.Begin.{OwesFirst}
 
 -- a write that reached a leg and goes on was under way
 pub still_under_way : (leg : ℕ) (r : Record) → is_under_way (without_leg leg r) ≡ true → is_under_way r ≡ true
@@ -15,26 +15,35 @@ still_under_way leg r h =
       | false ↦ λ is. let clash : true ≡ false = sym h ∙ is_under_way-without_leg leg r is in cc
     ]) refl
 
+lt_true : (a b : ℕ) → a < b → nat_lt a b ≡ true
+lt_true a b h = grind (arith, nat_tests)
+
+true_lt : (a b : ℕ) → nat_lt a b ≡ true → a < b
+true_lt a b h = grind (arith, nat_tests)
+
 -- a new write owes each leg
-pub all_owed : (n leg : ℕ) → n ≤ 8 → leg < n → slice_index_or (all_legs n) leg false ≡ true
-all_owed n zero few h = grind (arith, nat_tests)
-all_owed n (suc zero) few h = grind (arith, nat_tests)
-all_owed n (suc (suc zero)) few h = grind (arith, nat_tests)
-all_owed n (suc (suc (suc zero))) few h = grind (arith, nat_tests)
-all_owed n (suc (suc (suc (suc zero)))) few h = grind (arith, nat_tests)
-all_owed n (suc (suc (suc (suc (suc zero))))) few h = grind (arith, nat_tests)
-all_owed n (suc (suc (suc (suc (suc (suc zero)))))) few h = grind (arith, nat_tests)
-all_owed n (suc (suc (suc (suc (suc (suc (suc zero))))))) few h = grind (arith, nat_tests)
-all_owed n (suc (suc (suc (suc (suc (suc (suc (suc leg)))))))) few h = absurd (omega arith)
+pub owed_each : (n : ℕ) (owed : List Bool) (leg : ℕ) → OwesFirst n owed → leg < n → slice_index_or owed leg false ≡ true
+owed_each n owed leg first inside = first.each leg ∙ lt_true leg n inside
 
 -- and no other
-pub owed_few : (n leg : ℕ) → slice_index_or (all_legs n) leg false ≡ true → leg < n
-owed_few n zero h = grind (arith, nat_tests)
-owed_few n (suc zero) h = grind (arith, nat_tests)
-owed_few n (suc (suc zero)) h = grind (arith, nat_tests)
-owed_few n (suc (suc (suc zero))) h = grind (arith, nat_tests)
-owed_few n (suc (suc (suc (suc zero)))) h = grind (arith, nat_tests)
-owed_few n (suc (suc (suc (suc (suc zero))))) h = grind (arith, nat_tests)
-owed_few n (suc (suc (suc (suc (suc (suc zero)))))) h = grind (arith, nat_tests)
-owed_few n (suc (suc (suc (suc (suc (suc (suc zero))))))) h = grind (arith, nat_tests)
-owed_few n (suc (suc (suc (suc (suc (suc (suc (suc leg)))))))) h = absurd (cc)
+pub owed_within : (n : ℕ) (owed : List Bool) (leg : ℕ) → OwesFirst n owed → slice_index_or owed leg false ≡ true → leg < n
+owed_within n owed leg first owes = true_lt leg n (sym (first.each leg) ∙ owes)
+
+-- past the eighth place nothing is owed
+pub none_past : (n leg : ℕ) → n ≤ 8 → false ≡ nat_lt (suc (suc (suc (suc (suc (suc (suc (suc leg)))))))) n
+none_past n leg few = grind (arith, nat_tests)
+
+-- the first so many places of eight
+pub owes-first : (n : ℕ) → n ≤ 8 → OwesFirst n (nat_lt 0 n ∷ nat_lt 1 n ∷ nat_lt 2 n ∷ nat_lt 3 n ∷ nat_lt 4 n ∷ nat_lt 5 n ∷ nat_lt 6 n ∷ nat_lt 7 n ∷ [])
+owes-first n few = record { places = refl; each = each }
+  where
+    each : (leg : ℕ) → slice_index_or (nat_lt 0 n ∷ nat_lt 1 n ∷ nat_lt 2 n ∷ nat_lt 3 n ∷ nat_lt 4 n ∷ nat_lt 5 n ∷ nat_lt 6 n ∷ nat_lt 7 n ∷ []) leg false ≡ nat_lt leg n
+    each zero = refl
+    each (suc zero) = refl
+    each (suc (suc zero)) = refl
+    each (suc (suc (suc zero))) = refl
+    each (suc (suc (suc (suc zero)))) = refl
+    each (suc (suc (suc (suc (suc zero))))) = refl
+    each (suc (suc (suc (suc (suc (suc zero)))))) = refl
+    each (suc (suc (suc (suc (suc (suc (suc zero))))))) = refl
+    each (suc (suc (suc (suc (suc (suc (suc (suc leg)))))))) = none_past n leg few

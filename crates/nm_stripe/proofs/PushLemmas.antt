@@ -1,4 +1,4 @@
--- A push: at the master the write takes effect, at every other leg nothing is seen of it.
+-- A push: at the master the write takes effect, at every other leg nothing is observable.
 use Rattle.std.proofs.Common.{◌≡◌, ◌≢◌, ⊎_elim, ℕ, ◌==◌, Bool, true, false, not, IsTrue, List, [], ◌∷◌, Option, None, Some, is_some, refl, sym, ap, ◌∙◌, subst, arith, nat_lt, cond, append-nil}
 use Rattle.nm_replay.specs.History.{EndsIn}
 use Rattle.nm_fanout.proofs.Owed.{owes-without_leg_other}
@@ -11,11 +11,11 @@ use Rattle.nm_fanout.specs.Records.{find_record, changed, reached, landed}
 use Rattle.nm_fanout.proofs.InOrder.{AreInOrder-reached}
 use Rattle.nm_leg.specs.Leg.{Leg}
 use Rattle.nm_leg.specs.LegCalls.{WritesLegAt}
-use Rattle.nm_stripe.specs.Lives.{WriteLife, Unborn}
+use Rattle.nm_replay.specs.WriteLives.{WriteLife, NotBegun}
 use Rattle.nm_stripe.specs.State.{StripeState, contents_of, write_life, life_of}
-use Rattle.nm_stripe.specs.Steps.{after_reach}
+use Rattle.nm_stripe.specs.Push.{after_reach}
 use Rattle.nm_stripe.specs.Invariant.{HasLegs, HasRecords, LegsAgree, Keeps}
-use Rattle.nm_stripe.specs.Headline.{Acts}
+use Rattle.nm_stripe.specs.Acts.{Acts}
 use Rattle.nm_stripe.proofs.ArrayLemmas.{array_is_master}
 use Rattle.nm_stripe.proofs.LegLemmas.{writes-other}
 use Rattle.nm_stripe.proofs.ReachLemmas.{Reaches, moved-legs, moved-records, moved-agrees}
@@ -82,7 +82,7 @@ module _ {L : Type 0} (model : L → Leg) (honest : Bool) (old : StripeState L) 
         numbered = c.keeps.numbers.numbered;
         total = c.keeps.numbers.total;
         given = omega (arith, c.keeps.numbers.given, unlanded-reached r.ticket leg old.records);
-        left = omega (arith, c.keeps.numbers.left, unlanded-reached r.ticket leg old.records);
+        below = omega (arith, c.keeps.numbers.below, unlanded-reached r.ticket leg old.records);
       };
       consistent = c.keeps.consistent;
       agrees = λ is_honest runs. reach-agrees is_honest;
@@ -90,7 +90,7 @@ module _ {L : Type 0} (model : L → Leg) (honest : Bool) (old : StripeState L) 
 
     reach-lives : (t : ℕ) → write_life (after_reach old legs r leg) t ≡ write_life old t
     reach-lives t =
-        ap (λ (w : WriteLife). cond (nat_lt t old.tickets) w Unborn)
+        ap (λ (w : WriteLife). cond (nat_lt t old.tickets) w NotBegun)
         (⊎_elim
         (λ is.
         let at : find_record t (reached r.ticket leg old.records) ≡ Some (without_leg leg r) = subst (λ (u : ℕ). find_record u (reached r.ticket leg old.records) ≡ Some (without_leg leg r)) (sym is) (find-changed_same (without_leg leg) (λ x. refl) r.ticket old.records r c.found) in
@@ -106,6 +106,7 @@ module _ {L : Type 0} (model : L → Leg) (honest : Bool) (old : StripeState L) 
         record {
           explained = record {
             legal = after ∙ reach-master ∙ sym before;
+            next = omega arith;
             each_write = reach-lives;
             each_read = λ n. refl;
           };

@@ -1,44 +1,92 @@
 -- A push, from the fields of a stripe to the state after it.
-use Rattle.std.proofs.Common.{◌≡◌, ◌≢◌, ℕ, ◌+◌, ◌<◌, Bool, true, not, List, [], ◌∷◌, ◌++◌, length, None, Some, refl, sym, ap, ◌∙◌, subst, arith, cond, eq-eqb, ne_eqb}
-use Rattle.std.proofs.lemmas.Option.{same_Some}
+use Rattle.std.proofs.Common.{◌≡◌, ◌≢◌, ℕ, ◌+◌, ◌<◌, Bool, true, false, not, List, [], ◌∷◌, ◌++◌, length, Option, None, Some, is_none, refl, sym, ap, ◌∙◌, subst, arith, cond, slice_get, get_or, eq-eqb, ne_eqb}
+use Rattle.std.specs.Option.{option_and_then}
+use Rattle.std.proofs.lemmas.Option.{same_Some, slice_get-get_or}
 use Rattle.nm_replay.specs.Kept.{KeptHistory}
 use Rattle.nm_fanout.proofs.Finding.{find_record-ticket}
+use Rattle.nm_fanout.proofs.InOrder.{AreInOrder-reached}
+use Rattle.nm_fanout.proofs.Places.{IsAt-own, IsAt-reached, IsAt-landed}
 use Rattle.nm_fanout.specs.declared.write_record.Record.{Record}
 use Rattle.nm_fanout.specs.Data.{bytes_of}
-use Rattle.nm_fanout.specs.Record.{owes, without_leg, with_entry}
-use Rattle.nm_fanout.specs.Records.{RecordTable, find_record, unlanded, reached, landed}
+use Rattle.nm_fanout.specs.Record.{owes}
+use Rattle.nm_fanout.specs.Records.{RecordTable, Ascends, IsAt, find_record, unlanded, reached, landed}
 use Rattle.nm_leg.specs.Leg.{Leg}
 use Rattle.nm_leg.specs.LegCalls.{HasBlock, WritesLegAt}
 use Rattle.nm_stripe.specs.declared.at.At.{At}
 use Rattle.nm_stripe.specs.State.{StripeState, next_number, contents_at, state_of}
-use Rattle.nm_stripe.specs.Causes.{push_cause}
-use Rattle.nm_stripe.specs.Steps.{after_reach, after_landing, write_entry, Pushes, IsReached, Reaches}
+use Rattle.nm_stripe.specs.Push.{push_cause}
+use Rattle.nm_stripe.specs.Push.{after_reach, after_landing, write_entry, Pushes, IsReached, Reaches}
 use Rattle.nm_stripe.specs.declared.push.Reach.{Reach}
 use Rattle.nm_stripe.specs.declared.push.Reach.TheVariants.{Pushed, Complete, Halted}
 use Rattle.nm_stripe.specs.Invariant.{HasLegs, Keeps}
-use Rattle.nm_stripe.specs.Headline.{ShowsMarks, ReachShowsNothing}
-use Rattle.nm_stripe.proofs.CauseLemmas.{may_push}
+use Rattle.nm_stripe.specs.Acts.{IsExplainedStep}
+use Rattle.nm_stripe.specs.Push.{IsExplainedReach}
+use Rattle.nm_stripe.specs.declared.refusal.Refusal.TheVariants.{Stopped, NoTicket, NotOwed}
+use Rattle.nm_stripe.specs.Cause.{when}
+use Rattle.nm_stripe.specs.Push.{push_rows}
+use Rattle.nm_stripe.proofs.CauseLemmas.{NoneHolds, none_holds, when_off, unless_on, is_there}
 use Rattle.nm_stripe.proofs.PushLemmas.{Reached, landing, changed-twice, not_landed}
-use Rattle.nm_stripe.proofs.RecordLemmas.{find-changed_same, unlanded-landed}
+use Rattle.nm_stripe.proofs.RecordLemmas.{unlanded-landed}
+
+-- the write of this ticket may be pushed to the leg
+pub record MayPush {L : Type 0} (stripe : StripeState L) (ticket leg : ℕ) : Type 0 where
+  pub runs : stripe.stopped ≡ false
+  pub pushed : Record
+  pub found : find_record ticket stripe.records ≡ Some pushed
+  pub owed : owes leg pushed ≡ true
+
+pub may_push : {L : Type 0} (stripe : StripeState L) (ticket leg : ℕ) → push_cause stripe ticket leg ≡ None → MayPush stripe ticket leg
+may_push stripe ticket leg none =
+    let rows = none_holds (push_rows stripe ticket leg) none in
+    let at = is_there (find_record ticket stripe.records) (when_off (is_none (find_record ticket stripe.records)) NoTicket rows.1.0) in
+    record {
+      runs = when_off stripe.stopped Stopped rows.0;
+      pushed = at.0;
+      found = at.1;
+      owed = unless_on (owes leg at.0) NotOwed (sym (ap (λ (o : Option Record). option_and_then (λ (r : Record). when (not (owes leg r)) NotOwed) o) at.1) ∙ rows.1.1.0);
+    }
 
 -- each leg of a stripe has each of its blocks
 pub has-block : {L : Type 0} (model : L → Leg) (stripe : StripeState L) (leg at : ℕ) → HasLegs model stripe → leg < length stripe.legs → at < stripe.place.blocks → HasBlock model stripe.legs leg at
 has-block model stripe leg at has_legs inside low part here =
     omega (arith, has_legs.lengths leg inside, low, ap (λ o. length (contents_at model o)) here)
 
-module _ {L : Type 0} (model : L → Leg) (honest succeeded : Bool) (old : StripeState L) (ticket leg : ℕ) (legs : List L) (r : Record) where
+-- the record at a place is that of the ticket
+pub found-at : (ticket place : ℕ) (rs : List Record) (r : Record) → IsAt ticket place rs → slice_get rs place ≡ Some r → find_record ticket rs ≡ Some r
+found-at ticket place rs r at here = at.found ∙ here
+
+-- and has a ticket, whichever it is
+pub ticket-at : (place : ℕ) (rs : List Record) (r : Record) → Ascends rs → place < length rs → slice_get rs place ≡ Some r → find_record r.ticket rs ≡ Some r
+ticket-at place rs r up inside here =
+    let is : get_or rs place r ≡ r = same_Some (get_or rs place r) r (sym (slice_get-get_or rs place r inside) ∙ here) in
+    subst (λ (t : ℕ). find_record t rs ≡ Some r) (ap (λ (x : Record). x.ticket) is) ((IsAt-own place rs r up inside).found ∙ here)
+
+module _ {L : Type 0} (model : L → Leg) (honest succeeded : Bool) (old : StripeState L) (ticket leg place : ℕ) (legs : List L) (r : Record) where
   -- what is known once a push has called its leg
   pub record Called : Type 0 where
     pub keeps : Keeps model honest old
     pub no_cause : push_cause old ticket leg ≡ None
+    pub at : IsAt ticket place old.records
     pub found : find_record ticket old.records ≡ Some r
     pub writes : WritesLegAt model honest succeeded leg r.block (bytes_of r.data) old.legs legs
 
-  called_ticket : Called → r.ticket ≡ ticket
-  called_ticket c = find_record-ticket ticket old.records r c.found
+  -- from what the calls before and the leg's call say
+  pub has-called : (now : StripeState L) (before : List L) (bytes : List ℕ) (ok : Bool)
+      → old ≡ now → Keeps model honest old → IsAt ticket place now.records → push_cause now ticket leg ≡ None
+      → slice_get old.records place ≡ Some r → before ≡ old.legs → bytes ≡ bytes_of r.data → ok ≡ succeeded
+      → WritesLegAt model honest ok leg r.block bytes before legs → Called
+  has-called now before bytes ok is keeps at none here same_legs same_bytes same_ok writes =
+      let at_old : IsAt ticket place old.records = subst (λ (s : StripeState L). IsAt ticket place s.records) (sym is) at in
+      record {
+        keeps = keeps;
+        no_cause = ap (λ (s : StripeState L). push_cause s ticket leg) is ∙ none;
+        at = at_old;
+        found = found-at ticket place old.records r at_old here;
+        writes = rw (← same_ok, ← same_bytes, ← same_legs) writes;
+      }
 
-module _ {L : Type 0} (model : L → Leg) (honest : Bool) (old : StripeState L) (ticket leg : ℕ) (legs : List L) (r : Record) (c : Called model honest true old ticket leg legs r) where
-  same_ticket : r.ticket ≡ ticket
+module _ {L : Type 0} (model : L → Leg) (honest : Bool) (old : StripeState L) (ticket leg place : ℕ) (legs : List L) (r : Record) (c : Called model honest true old ticket leg place legs r) where
+  pub same_ticket : r.ticket ≡ ticket
   same_ticket = find_record-ticket ticket old.records r c.found
 
   pub was_reached : Reached model honest old legs r leg
@@ -73,11 +121,11 @@ module _ {L : Type 0} (model : L → Leg) (honest : Bool) (old : StripeState L) 
   }
 
   -- its record is still there
-  pub reach-found : find_record ticket (reached ticket leg old.records) ≡ Some (without_leg leg r)
-  reach-found = find-changed_same (without_leg leg) (λ x. refl) ticket old.records r c.found
+  pub reach-at : IsAt ticket place (reached ticket leg old.records)
+  reach-at = IsAt-reached ticket leg place old.records c.keeps.records.in_order.ascending c.at
 
-  pub land-found : find_record ticket (landed ticket (next_number old) (reached ticket leg old.records)) ≡ Some (with_entry (next_number old) (without_leg leg r))
-  land-found = find-changed_same (with_entry (next_number old)) (λ x. refl) ticket (reached ticket leg old.records) (without_leg leg r) reach-found
+  pub land-at : IsAt ticket place (landed ticket (next_number old) (reached ticket leg old.records))
+  land-at = IsAt-landed ticket (next_number old) place (reached ticket leg old.records) (AreInOrder-reached ticket leg old.records c.keeps.records.in_order).ascending reach-at
 
   -- a write that still owes the master waits for its entry
   pub still_waits : leg ≡ old.master → unlanded (landed ticket (next_number old) (reached ticket leg old.records)) + 1 ≡ unlanded old.records
@@ -100,13 +148,13 @@ landed-state place legs legs' master table table' tickets history history' first
     let same_list : table'.list ≡ landed r.ticket (first + history.total) (reached r.ticket leg table.list) = subst (λ (t : ℕ). table'.list ≡ landed t (first + history.total) (reached t leg table.list)) (sym is) list in
     rw (same_list, entries, total) refl
 
--- what a push that reached its leg tells goes with what it did
-pub told-reach : {L : Type 0} (model : L → Leg) (honest : Bool) (old new : StripeState L) (ticket leg : ℕ) (told : Reach) → Pushes model honest old new ticket leg → IsReached new ticket told → Reaches model honest old new ticket leg told
-told-reach model honest old new ticket leg (Pushed count) pushes is = (pushes, is)
-told-reach model honest old new ticket leg (Complete number) pushes is = (pushes, is)
-told-reach model honest old new ticket leg Halted pushes is = absurd is
+-- the answer of a push that reached its leg goes with what it did
+pub answer-reach : {L : Type 0} (model : L → Leg) (honest : Bool) (old new : StripeState L) (ticket leg : ℕ) (answer : Reach) → Pushes model honest old new ticket leg → IsReached new ticket answer → Reaches model honest old new ticket leg answer
+answer-reach model honest old new ticket leg (Pushed count) pushes is = (pushes, is)
+answer-reach model honest old new ticket leg (Complete number) pushes is = (pushes, is)
+answer-reach model honest old new ticket leg Halted pushes is = absurd is
 
-pub shows-reach : {L : Type 0} (model : L → Leg) (old new : StripeState L) (told : Reach) → ShowsMarks model [] old new → ReachShowsNothing model old new told
-shows-reach model old new (Pushed count) shows = shows
-shows-reach model old new (Complete number) shows = shows
-shows-reach model old new Halted shows = tt
+pub explained-reach : {L : Type 0} (model : L → Leg) (old new : StripeState L) (answer : Reach) → IsExplainedStep model [] old new → IsExplainedReach model old new answer
+explained-reach model old new (Pushed count) step = step
+explained-reach model old new (Complete number) step = step
+explained-reach model old new Halted step = tt

@@ -4,7 +4,8 @@ use Rattle.std.proofs.lemmas.Option.{same_Some}
 use Rattle.nm_replay.specs.declared.entry.Entry.{Entry}
 use Rattle.nm_replay.specs.History.{EndsIn}
 use Rattle.nm_replay.proofs.Arrays.{slice_get-set_same}
-use Rattle.nm_fanout.proofs.Owed.{owes-under_way, finished-owes, owes-without_leg_same, owes-without_leg_other}
+use Rattle.nm_fanout.proofs.Owed.{owes-under_way, finished-owes, owes-without_leg_same, owes-without_leg_other, is_under_way-without_leg}
+use Rattle.nm_fanout.proofs.Writers.{Settles, OneWriterABlock-changed}
 use Rattle.nm_fanout.proofs.Finding.{find_record-changed_other}
 use Rattle.nm_fanout.specs.declared.block_data.Data.{Data}
 use Rattle.nm_fanout.specs.declared.write_record.Record.{Record}
@@ -16,8 +17,7 @@ use Rattle.nm_leg.specs.LegCalls.{WritesLegAt}
 use Rattle.nm_stripe.specs.State.{StripeState, contents_of, written}
 use Rattle.nm_stripe.specs.Invariant.{HasLegs, HasRecords, LegsAgree}
 use Rattle.nm_stripe.proofs.LegLemmas.{calls-length, calls-lengths, writes-contents, writes-other, writes-other_block}
-use Rattle.nm_stripe.proofs.OwedLemmas.{still_under_way}
-use Rattle.nm_stripe.proofs.RecordLemmas.{one_or_two, changed_cases, find-changed_same, busy_found, busy_none, below-changed}
+use Rattle.nm_stripe.proofs.RecordLemmas.{one_or_two, one_ticket, changed_cases, find-changed_same, busy_found, busy_none, below-changed}
 
 -- a change of a record that takes a leg out of those it owes, and perhaps gives it an entry
 pub record Reaches (leg : ℕ) (f : Record → Record) : Type 0 where
@@ -41,9 +41,12 @@ module _ {L : Type 0} (model : L → Leg) (honest : Bool) (old : StripeState L) 
         lengths = λ j inside. calls-lengths model true old.legs legs leg j w.before w.after w.change w.writes.calls ∙ k.lengths j (omega (arith, inside, same_count));
       }
 
-  -- a record that the change leaves under way was under way
-  changed_going : Reaches leg f → (x : Record) → is_under_way (f x) ≡ true → is_under_way x ≡ true
-  changed_going c x going = still_under_way leg x (sym (ap (λ (xs : List Bool). is_under_way (record x { owed = xs })) (c.owed x)) ∙ going)
+  -- the change begins no write anew
+  changed_settles : Reaches leg f → Settles f
+  changed_settles c = record {
+    block = c.block;
+    idle = λ x over. ap (λ (xs : List Bool). is_under_way (record x { owed = xs })) (c.owed x) ∙ is_under_way-without_leg leg x over;
+  }
 
   changed_owes : Reaches leg f → (j : ℕ) (x : Record) → owes j (f x) ≡ owes j (without_leg leg x)
   changed_owes c j x = ap (λ (xs : List Bool). owes j (record x { owed = xs })) (c.owed x)
@@ -55,17 +58,7 @@ module _ {L : Type 0} (model : L → Leg) (honest : Bool) (old : StripeState L) 
       record {
         in_order = order;
         tickets = below-changed f c.ticket old.tickets r.ticket old.records k.tickets;
-        one_write = λ t u x y at_t at_u going_t going_u same_block.
-            ⊎_elim
-            (λ this_t. ⊎_elim
-            (λ this_u. this_t.0 ∙ sym this_u.0)
-            (λ other_u. this_t.0 ∙ k.one_write r.ticket u r y found other_u.1 (changed_going c r (subst (λ (z : Record). is_under_way z ≡ true) this_t.1 going_t)) going_u (sym (c.block r) ∙ sym (ap (λ (z : Record). z.block) this_t.1) ∙ same_block))
-            (changed_cases f c.ticket r.ticket u old.records r y found at_u))
-            (λ other_t. ⊎_elim
-            (λ this_u. k.one_write t r.ticket x r other_t.1 found going_t (changed_going c r (subst (λ (z : Record). is_under_way z ≡ true) this_u.1 going_u)) (same_block ∙ ap (λ (z : Record). z.block) this_u.1 ∙ c.block r) ∙ sym this_u.0)
-            (λ other_u. k.one_write t u x y other_t.1 other_u.1 going_t going_u same_block)
-            (changed_cases f c.ticket r.ticket u old.records r y found at_u))
-            (changed_cases f c.ticket r.ticket t old.records r x found at_t);
+        one_writer = OneWriterABlock-changed f (changed_settles c) r.ticket old.records k.one_writer;
         inside = λ t x at. ⊎_elim
             (λ this. subst (λ (z : Record). z.block < old.place.blocks) (sym this.1) (subst (λ (b : ℕ). b < old.place.blocks) (sym (c.block r)) (k.inside r.ticket r found)))
             (λ other. k.inside t x other.1)
@@ -139,7 +132,7 @@ module _ {L : Type 0} (model : L → Leg) (honest : Bool) (old : StripeState L) 
             (subst (λ (b : ℕ). slice_get (contents_of model legs j) b ≡ Some (written (f r))) (sym (c.block r))
             (here ∙ ap (λ (d : Data). Some (block_of (bytes_of d))) (sym (c.bytes r)))))
             (λ other.
-            let off : x.block ≢ r.block = λ same_block. other.0 (records.one_write t r.ticket x r other.1 found going_x going same_block) in
+            let off : x.block ≢ r.block = λ same_block. other.0 (one_ticket t r.ticket old.records x r records.in_order.ascending records.one_writer other.1 found going_x going same_block) in
             writes-other_block model honest old.legs legs leg r.block j x.block (bytes_of r.data) is_honest w off
             ∙ agree.reached t x j other.1 going_x free (omega (arith, inside, same_count)))
             (changed_cases f c.ticket r.ticket t old.records r x found at);

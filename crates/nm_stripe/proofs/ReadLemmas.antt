@@ -1,5 +1,5 @@
--- A read: it begins, finds its bytes at the entry that it gets, and is told them.
-use Rattle.std.proofs.Common.{◌≡◌, ◌≢◌, ℕ, ◌+◌, ◌==◌, Bool, true, false, IsTrue, List, [], ◌∷◌, ◌++◌, length, Some, refl, sym, ap, ◌∙◌, subst, arith, slice_get, nat_lt, cond, MatchBool, append-nil, length-append}
+-- A read: it begins, finds its bytes at the entry that it gets, and is replied to with them.
+use Rattle.std.proofs.Common.{◌≡◌, ◌≢◌, ℕ, ◌+◌, ◌<◌, ◌^◌, ◌==◌, Bool, true, false, IsTrue, List, [], ◌∷◌, ◌++◌, length, None, Some, refl, sym, ap, ◌∙◌, subst, arith, slice_get, nat_lt, cond, MatchBool, append-nil, length-append}
 use Rattle.std.proofs.lemmas.Bool.Decides.{nat_tests}
 use Rattle.nm_replay.specs.declared.block.Block.{Block}
 use Rattle.nm_replay.specs.declared.entry.Entry.{Entry}
@@ -7,24 +7,40 @@ use Rattle.nm_replay.specs.History.{EndsIn}
 use Rattle.nm_replay.proofs.Numbering.{numbered-append}
 use Rattle.nm_leg.specs.Leg.{Leg}
 use Rattle.nm_leg.specs.LegCalls.{ReadsLegAt}
-use Rattle.nm_stripe.specs.Lives.{Event, ReadLife, Unasked, Asked, Found, Over, ReadLives, BeginsRead, Lands, RepliesRead}
+use Rattle.nm_replay.specs.Events.{Event, BeginsRead, Lands, RepliesRead}
+use Rattle.nm_replay.specs.ReadLives.{ReadLife, NotBegun as NoReadBegun, Begun as ReadBegun, Landed as ReadLanded, Closed, ReadLives}
 use Rattle.nm_replay.specs.Kept.{KeptHistory}
-use Rattle.nm_fanout.specs.Records.{RecordTable}
+use Rattle.nm_fanout.specs.Records.{RecordTable, unlanded}
 use Rattle.nm_stripe.specs.declared.at.At.{At}
-use Rattle.nm_stripe.specs.State.{StripeState, state_of, next_number, contents_of, stripe_array, write_life, read_life}
-use Rattle.nm_stripe.specs.Steps.{after_read, read_entry}
+use Rattle.nm_stripe.specs.State.{StripeState, state_of, next_number, is_exhausted, contents_of, stripe_array, write_life, read_life}
+use Rattle.nm_stripe.specs.Read.{after_read, read_cause, read_rows}
+use Rattle.nm_stripe.specs.declared.refusal.Refusal.TheVariants.{Stopped, Exhausted}
+use Rattle.nm_replay.specs.Events.{entry_of_read}
 use Rattle.nm_stripe.specs.Invariant.{HasLegs, HasRecords, LegsAgree, Keeps}
-use Rattle.nm_stripe.specs.Headline.{Acts}
+use Rattle.nm_stripe.specs.Acts.{Acts}
 use Rattle.nm_stripe.proofs.ArrayLemmas.{array_is_master}
-use Rattle.nm_stripe.proofs.CauseLemmas.{MayRead}
-use Rattle.nm_stripe.proofs.HistoryLemmas.{consistent-read, ends-push}
+use Rattle.nm_stripe.proofs.CauseLemmas.{NoneHolds, none_holds, when_off, below}
+use Rattle.nm_replay.proofs.Pushing.{consistent-read, ends-push_by}
 use Rattle.nm_stripe.proofs.LegLemmas.{calls-length, calls-lengths, reads-contents, reads-found}
 use Rattle.nm_stripe.proofs.RecordLemmas.{same}
 
--- what is seen of a read: its begin, its entry and its reply
+-- a block may be read
+pub record MayRead {L : Type 0} (stripe : StripeState L) : Type 0 where
+  pub runs : stripe.stopped ≡ false
+  pub below : next_number stripe + unlanded stripe.records < 2 ^ 63
+
+pub may_read : {L : Type 0} (stripe : StripeState L) → read_cause stripe ≡ None → MayRead stripe
+may_read stripe none =
+    let rows = none_holds (read_rows stripe) none in
+    record {
+      runs = when_off stripe.stopped Stopped rows.0;
+      below = below (2 ^ 63) (next_number stripe + unlanded stripe.records) (when_off (is_exhausted stripe) Exhausted rows.1.0);
+    }
+
+-- the events of a read: its begin, its entry and its reply
 abbrev pub read_events : ℕ → ℕ → Block → List Event
 read_events number block bytes =
-    BeginsRead number block ∷ Lands (read_entry number block bytes) ∷ RepliesRead number bytes ∷ []
+    BeginsRead number block ∷ Lands (entry_of_read number block bytes) ∷ RepliesRead number bytes ∷ []
 
 -- the stripe with these legs and this history in place of its own
 abbrev pub with_read : {L : Type 0} → StripeState L → List L → List Entry → ℕ → StripeState L
@@ -46,7 +62,7 @@ module _ {L : Type 0} (model : L → Leg) (honest succeeded : Bool) (old : Strip
       record {
         in_order = k.records.in_order;
         tickets = k.records.tickets;
-        one_write = k.records.one_write;
+        one_writer = k.records.one_writer;
         inside = k.records.inside;
         landed = k.records.landed;
         owed = λ t x j at owes_j. omega (arith, k.records.owed t x j at owes_j, same_count);
@@ -69,7 +85,7 @@ module _ {L : Type 0} (model : L → Leg) (honest succeeded : Bool) (old : Strip
   fails-keeps = record {
     legs = read-legs old.kept old.total;
     records = read-records old.kept old.total;
-    numbers = record { numbered = k.numbers.numbered; total = k.numbers.total; given = k.numbers.given; left = k.numbers.left };
+    numbers = record { numbered = k.numbers.numbered; total = k.numbers.total; given = k.numbers.given; below = k.numbers.below };
     consistent = k.consistent;
     agrees = λ is_honest runs. let agree = k.agrees is_honest runs in read-agrees is_honest agree old.kept old.total agree.last;
   }
@@ -82,6 +98,7 @@ module _ {L : Type 0} (model : L → Leg) (honest succeeded : Bool) (old : Strip
       record {
         explained = record {
           legal = after ∙ read-same is_honest old.master ∙ sym before;
+          next = omega arith;
           each_write = λ t. refl;
           each_read = λ n. refl;
         };
@@ -94,52 +111,53 @@ module _ {L : Type 0} (model : L → Leg) (honest : Bool) (old : StripeState L) 
   read_at : IsTrue honest → slice_get (contents_of model old.legs old.master) block ≡ Some bytes
   read_at is_honest = reads-found model honest old.legs legs old.master block target bytes is_honest reads
 
-  read-ends : IsTrue honest → EndsIn (old.kept ++ read_entry (next_number old) block bytes ∷ []) (contents_of model old.legs old.master)
-  read-ends is_honest = ends-push old.kept (read_entry (next_number old) block bytes) (contents_of model old.legs old.master) (contents_of model old.legs old.master) (k.agrees is_honest may.runs).last (read_at is_honest) (λ b off. refl)
+  read-ends : IsTrue honest → EndsIn (old.kept ++ entry_of_read (next_number old) block bytes ∷ []) (contents_of model old.legs old.master)
+  read-ends is_honest = ends-push_by old.kept (entry_of_read (next_number old) block bytes) (contents_of model old.legs old.master) (contents_of model old.legs old.master) (k.agrees is_honest may.runs).last (read_at is_honest) (λ b off. refl)
 
   pub read-keeps : Keeps model honest (after_read old legs block bytes)
   read-keeps = record {
-    legs = read-legs model honest true old legs block target bytes k reads (old.kept ++ read_entry (next_number old) block bytes ∷ []) (old.total + 1);
-    records = read-records model honest true old legs block target bytes k reads (old.kept ++ read_entry (next_number old) block bytes ∷ []) (old.total + 1);
+    legs = read-legs model honest true old legs block target bytes k reads (old.kept ++ entry_of_read (next_number old) block bytes ∷ []) (old.total + 1);
+    records = read-records model honest true old legs block target bytes k reads (old.kept ++ entry_of_read (next_number old) block bytes ∷ []) (old.total + 1);
     numbers = record {
-      numbered = numbered-append old.first old.kept (read_entry (next_number old) block bytes ∷ []) k.numbers.numbered (let n : old.first + old.total ≡ old.first + length old.kept = omega (arith, k.numbers.total) in n, tt);
-      total = omega (arith, k.numbers.total, length-append old.kept (read_entry (next_number old) block bytes ∷ []));
+      numbered = numbered-append old.first old.kept (entry_of_read (next_number old) block bytes ∷ []) k.numbers.numbered (let n : old.first + old.total ≡ old.first + length old.kept = omega (arith, k.numbers.total) in n, tt);
+      total = omega (arith, k.numbers.total, length-append old.kept (entry_of_read (next_number old) block bytes ∷ []));
       given = omega (arith, k.numbers.given);
-      left = omega (arith, may.left);
+      below = omega (arith, may.below);
     };
     consistent = λ is_honest. consistent-read old.first old.kept (contents_of model old.legs old.master) (next_number old) block bytes k.numbers.numbered (let n : old.first + old.total ≡ old.first + length old.kept = omega (arith, k.numbers.total) in n) (k.agrees is_honest may.runs).last (read_at is_honest) (k.consistent is_honest);
-    agrees = λ is_honest runs. read-agrees model honest true old legs block target bytes k reads is_honest (k.agrees is_honest may.runs) (old.kept ++ read_entry (next_number old) block bytes ∷ []) (old.total + 1) (read-ends is_honest);
+    agrees = λ is_honest runs. read-agrees model honest true old legs block target bytes k reads is_honest (k.agrees is_honest may.runs) (old.kept ++ entry_of_read (next_number old) block bytes ∷ []) (old.total + 1) (read-ends is_honest);
   }
 
   read-lives : (n : ℕ) → ReadLives n (read_life old n) (read_events (next_number old) block bytes) (read_life (after_read old legs block bytes) n)
   read-lives n =
       (elim (next_number old == n) as (λ b. (next_number old == n) ≡ b →
-      (one : ReadLife) × MatchBool b ((read_life old n ≡ Unasked) × (one ≡ Asked block)) (one ≡ read_life old n)
-      × ((two : ReadLife) × MatchBool b ((one ≡ Asked block) × (two ≡ Found bytes)) (two ≡ one)
-      × ((three : ReadLife) × MatchBool b ((two ≡ Found bytes) × (three ≡ Over)) (three ≡ two)
+      (one : ReadLife) × MatchBool b ((read_life old n ≡ NoReadBegun) × (one ≡ ReadBegun block)) (one ≡ read_life old n)
+      × ((two : ReadLife) × MatchBool b ((one ≡ ReadBegun block) × (two ≡ ReadLanded bytes)) (two ≡ one)
+      × ((three : ReadLife) × MatchBool b ((two ≡ ReadLanded bytes) × (three ≡ Closed)) (three ≡ two)
       × (read_life (after_read old legs block bytes) n ≡ three)))) [
         | true ↦ λ eq.
             let at : next_number old ≡ n = same (next_number old) n eq in
             let not_yet : nat_lt n (next_number old) ≡ false = grind (arith, nat_tests) in
             let now : nat_lt n (old.first + (old.total + 1)) ≡ true = grind (arith, nat_tests) in
-            (Asked block, (ap (λ b. cond b Over Unasked) not_yet, refl), (Found bytes, (refl, refl), (Over, (refl, refl), ap (λ b. cond b Over Unasked) now)))
+            (ReadBegun block, (ap (λ b. cond b Closed NoReadBegun) not_yet, refl), (ReadLanded bytes, (refl, refl), (Closed, (refl, refl), ap (λ b. cond b Closed NoReadBegun) now)))
         | false ↦ λ ne.
             let other : n ≢ old.first + old.total = λ e. let yes : (next_number old == n) ≡ true = grind (arith, nat_tests) in let clash : true ≡ false = sym yes ∙ ne in cc in
             let alike : nat_lt n (old.first + (old.total + 1)) ≡ nat_lt n (next_number old) = grind (arith, nat_tests) in
-            (read_life old n, refl, (read_life old n, refl, (read_life old n, refl, ap (λ b. cond b Over Unasked) alike)))
+            (read_life old n, refl, (read_life old n, refl, (read_life old n, refl, ap (λ b. cond b Closed NoReadBegun) alike)))
       ]) refl
 
   pub read-acts : IsTrue honest → Acts model old (after_read old legs block bytes) (read_events (next_number old) block bytes)
   read-acts is_honest =
       let agree = k.agrees is_honest may.runs in
       let before = array_is_master model old k.legs k.records agree in
-      let new = with_read old legs (old.kept ++ read_entry (next_number old) block bytes ∷ []) (old.total + 1) in
+      let new = with_read old legs (old.kept ++ entry_of_read (next_number old) block bytes ∷ []) (old.total + 1) in
       let after = array_is_master model new
-      (read-legs model honest true old legs block target bytes k reads (old.kept ++ read_entry (next_number old) block bytes ∷ []) (old.total + 1))
-      (read-records model honest true old legs block target bytes k reads (old.kept ++ read_entry (next_number old) block bytes ∷ []) (old.total + 1))
-      (read-agrees model honest true old legs block target bytes k reads is_honest agree (old.kept ++ read_entry (next_number old) block bytes ∷ []) (old.total + 1) (read-ends is_honest)) in
+      (read-legs model honest true old legs block target bytes k reads (old.kept ++ entry_of_read (next_number old) block bytes ∷ []) (old.total + 1))
+      (read-records model honest true old legs block target bytes k reads (old.kept ++ entry_of_read (next_number old) block bytes ∷ []) (old.total + 1))
+      (read-agrees model honest true old legs block target bytes k reads is_honest agree (old.kept ++ entry_of_read (next_number old) block bytes ∷ []) (old.total + 1) (read-ends is_honest)) in
       record {
         explained = record {
+          next = omega arith;
           legal = (refl, ap (λ xs. slice_get xs block) before ∙ read_at is_honest, after ∙ reads-contents model honest true old.legs legs old.master block old.master target bytes is_honest reads ∙ sym before);
           each_write = λ t. (write_life old t, refl, (write_life old t, refl, (write_life old t, refl, refl)));
           each_read = read-lives;
@@ -155,7 +173,7 @@ module _ {L : Type 0} (model : L → Leg) (honest : Bool) (old : StripeState L) 
 
 -- the fields of a stripe after a read are the state after it
 pub read-state : {L : Type 0} (place : At) (legs legs' : List L) (master : ℕ) (table : RecordTable) (tickets : ℕ) (history history' : KeptHistory) (first : ℕ) (stopped : Bool) (block : ℕ) (bytes : Block)
-    → history'.entries ≡ history.entries ++ read_entry (first + history.total) block bytes ∷ [] → history'.total ≡ history.total + 1
+    → history'.entries ≡ history.entries ++ entry_of_read (first + history.total) block bytes ∷ [] → history'.total ≡ history.total + 1
     → state_of place legs' master table tickets history' first stopped ≡ after_read (state_of place legs master table tickets history first stopped) legs' block bytes
 read-state place legs legs' master table tickets history history' first stopped block bytes entries total = rw (entries, total) refl
 

@@ -5,9 +5,10 @@ use Rattle.std.proofs.lemmas.Option.{same_Some}
 use Rattle.std.proofs.lemmas.Bool.Decides.{eqb_tells}
 use Rattle.nm_fanout.specs.declared.write_record.Record.{Record}
 use Rattle.nm_fanout.specs.Record.{is_under_way}
-use Rattle.nm_fanout.specs.Records.{Ascends, AllBelow, find_record, busy_on, changed, without, unlanded}
+use Rattle.nm_fanout.specs.Records.{Ascends, AllBelow, OneWriterABlock, find_record, busy_on, changed, without, unlanded}
 use Rattle.nm_fanout.proofs.Busy.{busy_on-Some}
-use Rattle.nm_fanout.proofs.Finding.{find_record-changed_same, find_record-changed_other, find_record-without_same, find_record-without_other, find_record-with_new_same, find_record-with_new_other}
+use Rattle.nm_fanout.proofs.Writers.{busy_on-here}
+use Rattle.nm_fanout.proofs.Finding.{find_record-ticket, find_record-changed_same, find_record-changed_other, find_record-without_same, find_record-without_other, find_record-with_new_same, find_record-with_new_other}
 use Rattle.nm_fanout.proofs.Landing.{waits, unlanded-changed}
 use Rattle.nm_fanout.proofs.Members.{busy_on-find_record}
 
@@ -19,7 +20,7 @@ one_or_two a b = ⊎_elim (λ yes. inl yes.1) (λ no. inr no.1) (eqb_tells a b)
 pub same : (a b : ℕ) → (a == b) ≡ true → a ≡ b
 same a b is = ⊎_elim (λ yes. yes.1) (λ no. absurd (let e = no.0 in cc)) (eqb_tells a b)
 
--- a record with a ticket above all others is found behind them
+-- a record with a ticket above all others is found after them
 pub find-new_same : (t : ℕ) (rs : List Record) (r : Record) → AllBelow t rs → r.ticket ≡ t → find_record t (rs ++ r ∷ []) ≡ Some r
 find-new_same t rs r below is =
     subst (λ (k : ℕ). find_record k (rs ++ r ∷ []) ≡ Some r) is (find_record-with_new_same r rs (subst (λ (k : ℕ). AllBelow k rs) (sym is) below))
@@ -31,6 +32,14 @@ find-changed_same f keeps t rs r h = find_record-changed_same f keeps t rs ∙ a
 -- the record under way on a block is one of the records
 pub busy_found : (b : ℕ) (rs : List Record) (r : Record) → Ascends rs → busy_on b rs ≡ Some r → (find_record r.ticket rs ≡ Some r) × (r.block ≡ b) × (is_under_way r ≡ true)
 busy_found b rs r up h = let on = busy_on-Some b rs r h in (busy_on-find_record b rs r up h, on.0, on.1)
+
+-- two writes under way on one block are one
+pub one_ticket : (t u : ℕ) (rs : List Record) (x y : Record) → Ascends rs → OneWriterABlock rs → find_record t rs ≡ Some x → find_record u rs ≡ Some y → is_under_way x ≡ true → is_under_way y ≡ true → x.block ≡ y.block → t ≡ u
+one_ticket t u rs x y up one at_t at_u going_x going_y same_block =
+    let on : busy_on x.block rs ≡ Some x = busy_on-here t rs x up one at_t going_x in
+    let also : busy_on x.block rs ≡ Some y = ap (λ (b : ℕ). busy_on b rs) same_block ∙ busy_on-here u rs y up one at_u going_y in
+    let record_is : x ≡ y = cc in
+    sym (find_record-ticket t rs x at_t) ∙ ap (λ (r : Record). r.ticket) record_is ∙ find_record-ticket u rs y at_u
 
 -- both of two tests that hold together hold
 both : (a c : Bool) → (a && c) ≡ true → (a ≡ true) × (c ≡ true)
@@ -59,8 +68,8 @@ busy_none b t (q ∷ rs) r none h at under =
 pub unlanded-landed : (f : Record → Record) (t : ℕ) (rs : List Record) (r : Record) (n : ℕ) → Ascends rs → find_record t rs ≡ Some r → r.entry ≡ None → (f r).entry ≡ Some n → unlanded (changed f t rs) + 1 ≡ unlanded rs
 unlanded-landed f t rs r n up h none lands =
     let before : waits r ≡ 1 = rw none refl in
-    let behind : waits (f r) ≡ 0 = rw lands refl in
-    omega (arith, before, behind, unlanded-changed f t rs r up h)
+    let after : waits (f r) ≡ 0 = rw lands refl in
+    omega (arith, before, after, unlanded-changed f t rs r up h)
 
 -- a change of the rest leaves the tickets where they are
 pub below-changed : (f : Record → Record) → ((r : Record) → (f r).ticket ≡ r.ticket) → (t u : ℕ) (rs : List Record) → AllBelow t rs → AllBelow t (changed f u rs)

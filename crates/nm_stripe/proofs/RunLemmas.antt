@@ -1,22 +1,23 @@
--- Steps one after the other: runs and joint lists, with one step more.
+-- Steps one after the other: runs and interleavings, with one step more.
 use Rattle.std.proofs.Common.{◌≡◌, ℕ, Bool, IsTrue, List, [], ◌∷◌, ◌++◌, refl, sym, ap, ◌∙◌, subst, append_assoc, append-nil}
 use Rattle.std.proofs.Common.{length, reverse, true, false, cond, ◌==◌, Option, None, Some}
 use Rattle.std.proofs.lemmas.List.{reverse-append}
 use Rattle.nm_fanout.specs.declared.write_record.Record.{Record}
 use Rattle.nm_stripe.specs.declared.refusal.Refusal.{Refusal}
 use Rattle.nm_stripe.specs.declared.refusal.Refusal.TheVariants.{Fault}
-use Rattle.nm_stripe.specs.Causes.{read_cause}
-use Rattle.nm_stripe.specs.Steps.{Pushes, ReadRefused, after_push, after_landing, after_reach}
+use Rattle.nm_stripe.specs.Read.{read_cause}
+use Rattle.nm_stripe.specs.Push.{Pushes, after_push, after_landing, after_reach}
+use Rattle.nm_stripe.specs.Read.{ReadRefused}
 use Rattle.nm_stripe.proofs.LegLemmas.{calls-length}
 use Rattle.nm_leg.specs.Leg.{Leg}
 use Rattle.nm_stripe.specs.declared.step.Step.{Step}
 use Rattle.nm_stripe.specs.declared.step.Step.TheVariants.{Begin, Push, Claim, Read, Replace}
 use Rattle.nm_stripe.specs.declared.answer.Answer.{Answer}
 use Rattle.nm_stripe.specs.declared.answer.Answer.TheVariants.{Begun, Pushed, Complete, Halted, Written, Value, Refused}
-use Rattle.nm_stripe.specs.Lives.{Event, marks_of}
+use Rattle.nm_replay.specs.Events.{Event, marks_of}
 use Rattle.nm_stripe.specs.State.{StripeState}
-use Rattle.nm_stripe.specs.Headline.{Acts, ShowsMarks}
-use Rattle.nm_stripe.specs.Machine.{StepOf, MayBeAsked, AllAsked, Runs, marks, IsJoint, joined, NoneHalted, ActOnOneArray}
+use Rattle.nm_stripe.specs.Acts.{Acts, IsExplainedStep}
+use Rattle.nm_stripe.specs.Run.{StepOf, MayBeAsked, AllAsked, Runs, marks, IsInterleaving, concat, NoneHalted, ActOnOneArray}
 use Rattle.nm_stripe.proofs.ActsLemmas.{acts-none, acts-append}
 
 -- one step more
@@ -28,29 +29,29 @@ runs-push model honest old mid new (s ∷ steps) (a ∷ answers) step answer run
 runs-push model honest old mid new [] (a ∷ answers) step answer runs one = absurd runs
 runs-push model honest old mid new (s ∷ steps) [] step answer runs one = absurd runs
 
-joint-push : {L : Type 0} (steps : List (Step L)) (answers : List (Answer L)) (pieces : List (List Event)) (step : Step L) (answer : Answer L) (piece : List Event)
-    → IsJoint steps answers pieces → marks_of piece ≡ marks step answer → IsJoint (steps ++ step ∷ []) (answers ++ answer ∷ []) (pieces ++ piece ∷ [])
-joint-push [] [] [] step answer piece joint marked = (marked, tt)
-joint-push (s ∷ steps) (a ∷ answers) (p ∷ pieces) step answer piece joint marked = (joint.0, joint-push steps answers pieces step answer piece joint.1 marked)
-joint-push [] [] (p ∷ pieces) step answer piece joint marked = absurd joint
-joint-push [] (a ∷ answers) pieces step answer piece joint marked = absurd joint
-joint-push (s ∷ steps) [] pieces step answer piece joint marked = absurd joint
-joint-push (s ∷ steps) (a ∷ answers) [] step answer piece joint marked = absurd joint
+interleaving-push : {L : Type 0} (steps : List (Step L)) (answers : List (Answer L)) (lists : List (List Event)) (step : Step L) (answer : Answer L) (events : List Event)
+    → IsInterleaving steps answers lists → marks_of events ≡ marks step answer → IsInterleaving (steps ++ step ∷ []) (answers ++ answer ∷ []) (lists ++ events ∷ [])
+interleaving-push [] [] [] step answer events woven marked = (marked, tt)
+interleaving-push (s ∷ steps) (a ∷ answers) (p ∷ lists) step answer events woven marked = (woven.0, interleaving-push steps answers lists step answer events woven.1 marked)
+interleaving-push [] [] (p ∷ lists) step answer events woven marked = absurd woven
+interleaving-push [] (a ∷ answers) lists step answer events woven marked = absurd woven
+interleaving-push (s ∷ steps) [] lists step answer events woven marked = absurd woven
+interleaving-push (s ∷ steps) (a ∷ answers) [] step answer events woven marked = absurd woven
 
-joined-push : (pieces : List (List Event)) (piece : List Event) → joined (pieces ++ piece ∷ []) ≡ joined pieces ++ piece
-joined-push [] piece = append-nil piece
-joined-push (p ∷ pieces) piece = ap (λ es. p ++ es) (joined-push pieces piece) ∙ sym (append_assoc p (joined pieces) piece)
+concat-push : (lists : List (List Event)) (events : List Event) → concat (lists ++ events ∷ []) ≡ concat lists ++ events
+concat-push [] events = append-nil events
+concat-push (p ∷ lists) events = ap (λ es. p ++ es) (concat-push lists events) ∙ sym (append_assoc p (concat lists) events)
 
 -- no steps, and one step more
 pub none-acts : {L : Type 0} (model : L → Leg) (stripe : StripeState L) → ActOnOneArray model [] [] stripe stripe
-none-acts model stripe = record { pieces = []; joint = tt; acts = acts-none model stripe }
+none-acts model stripe = record { events_of_each = []; interleaving = tt; acts = acts-none model stripe }
 
 pub act-push : {L : Type 0} (model : L → Leg) (old mid new : StripeState L) (steps : List (Step L)) (answers : List (Answer L)) (step : Step L) (answer : Answer L)
-    → ActOnOneArray model steps answers old mid → ShowsMarks model (marks step answer) mid new → ActOnOneArray model (steps ++ step ∷ []) (answers ++ answer ∷ []) old new
+    → ActOnOneArray model steps answers old mid → IsExplainedStep model (marks step answer) mid new → ActOnOneArray model (steps ++ step ∷ []) (answers ++ answer ∷ []) old new
 act-push model old mid new steps answers step answer all one = record {
-  pieces = all.pieces ++ one.piece ∷ [];
-  joint = joint-push steps answers all.pieces step answer one.piece all.joint one.marked;
-  acts = subst (λ (es : List Event). Acts model old new es) (sym (joined-push all.pieces one.piece)) (acts-append model old mid new (joined all.pieces) one.piece all.acts one.acts);
+  events_of_each = all.events_of_each ++ one.events ∷ [];
+  interleaving = interleaving-push steps answers all.events_of_each step answer one.events all.interleaving one.marked;
+  acts = subst (λ (es : List Event). Acts model old new es) (sym (concat-push all.events_of_each one.events)) (acts-append model old mid new (concat all.events_of_each) one.events all.acts one.acts);
 }
 
 -- none halted among more answers: none among the first, and not the last
@@ -142,7 +143,7 @@ pub all_asked-later : {L : Type 0} (model : L → Leg) (steps : List (Step L)) (
 all_asked-later model [] old new shape asked = tt
 all_asked-later model (step ∷ steps) old new shape asked = (asked-later model step old new shape asked.0, all_asked-later model steps old new shape asked.1)
 
--- how far a run has come: the steps done, of all steps, and those that are left, the last of them first
+-- how far a run has come: the steps done, of all steps, and the rest, the last of them first
 pub record HasRun {L : Type 0} (model : L → Leg) (honest : Bool) (old : StripeState L) (steps rest : List (Step L)) (answers : List (Answer L)) (now : StripeState L) : Type 0 where
   pub done : List (Step L)
   pub split : done ++ reverse rest ≡ steps
@@ -165,7 +166,7 @@ pub next-asked : {L : Type 0} (model : L → Leg) (honest : Bool) (old : StripeS
 next-asked model honest old steps rest step answers now run = (subst (λ ss. AllAsked model now ss) (reverse-push rest step) run.asked).0
 
 pub run-on : {L : Type 0} (model : L → Leg) (honest : Bool) (old : StripeState L) (steps rest : List (Step L)) (step : Step L) (answers : List (Answer L)) (answer : Answer L) (now new : StripeState L)
-    → HasRun model honest old steps (rest ++ step ∷ []) answers now → StepOf model honest step answer now new → (IsTrue honest → NoneHalted (answer ∷ []) → ShowsMarks model (marks step answer) now new)
+    → HasRun model honest old steps (rest ++ step ∷ []) answers now → StepOf model honest step answer now new → (IsTrue honest → NoneHalted (answer ∷ []) → IsExplainedStep model (marks step answer) now new)
     → HasRun model honest old steps rest (answers ++ answer ∷ []) new
 run-on model honest old steps rest step answers answer now new run is shows = record {
   done = run.done ++ step ∷ [];

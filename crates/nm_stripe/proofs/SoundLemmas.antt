@@ -10,8 +10,8 @@ use Rattle.nm_stripe.proofs.ArrayLemmas.{array_is_master}
 
 pub keeps-sound : {L : Type 0} (model : L → Leg) (honest : Bool) (stripe : StripeState L) → Keeps model honest stripe → IsSound model honest stripe
 keeps-sound model honest stripe k = record {
-  one_write = k.records.one_write;
-  few = k.records.in_order.few;
+  in_order = k.records.in_order;
+  one_writer = k.records.one_writer;
   numbers = numbered-somewhere stripe.first stripe.kept k.numbers.numbered;
   consistent = k.consistent;
   in_sync = λ is_honest runs leg block inside in_sync none.

@@ -1,17 +1,19 @@
--- What a contract sees of a stripe, and the array that it stands for.
-use Rattle.std.specs.Prelude.{ℕ, ◌+◌, Bool, List, [], ◌∷◌, Option, None, Some, slice_get, nat_lt, if◌then◌else◌}
+-- What a contract sees of a stripe, and the array that it represents.
+use Rattle.std.specs.Prelude.{ℕ, ◌+◌, ◌^◌, Bool, List, [], ◌∷◌, Option, None, Some, slice_get, nat_lt, nat_le, if◌then◌else◌}
 use Rattle.nm_replay.specs.declared.block.Block.{Block}
 use Rattle.nm_replay.specs.declared.entry.Entry.{Entry}
 use Rattle.nm_replay.specs.Kept.{KeptHistory}
+use Rattle.nm_replay.specs.WriteLives.{WriteLife, NotBegun, Begun, Landed, Replied}
+use Rattle.nm_replay.specs.ReadLives.{ReadLife, Closed, NotBegun as NoReadBegun}
+use Rattle.nm_replay.specs.Explained.{Point}
 use Rattle.nm_fanout.specs.declared.write_record.Record.{Record}
 use Rattle.nm_fanout.specs.Data.{bytes_of}
-use Rattle.nm_fanout.specs.Records.{RecordTable, find_record, busy_on}
+use Rattle.nm_fanout.specs.Records.{RecordTable, find_record, busy_on, unlanded}
 use Rattle.nm_leg.specs.Leg.{Leg, block_of}
 use Rattle.nm_stripe.specs.declared.at.At.{At}
-use Rattle.nm_stripe.specs.Lives.{WriteLife, Unborn, Begun, Landed, Told, ReadLife, Unasked, Over}
 
--- a stripe: where it stands, its legs, the records of writes by rising ticket, the next ticket, the
--- kept history, its first number and its total, and whether the stripe has stopped
+-- a stripe: its place in the mirror, its legs, the records of writes by rising ticket, the next
+-- ticket, the kept history, its first number and its total, and whether the stripe has stopped
 pub record StripeState (L : Type 0) : Type 0 where
   pub place : At
   pub legs : List L
@@ -27,10 +29,14 @@ pub record StripeState (L : Type 0) : Type 0 where
 abbrev pub next_number : {L : Type 0} → StripeState L → ℕ
 next_number stripe = stripe.first + stripe.total
 
+-- all numbers below 2^63 are in use, or will be by writes that have no entry yet
+abbrev pub is_exhausted : {L : Type 0} → StripeState L → Bool
+is_exhausted stripe = nat_le (2 ^ 63) (next_number stripe + unlanded stripe.records)
+
 -- the contents of a leg; none where there is no leg
 abbrev pub contents_at : {L : Type 0} → (L → Leg) → Option L → List Block
 contents_at model None = []
-contents_at model (Some part) = (model part).contents
+contents_at model (Some leg) = (model leg).contents
 
 -- the contents of the leg of this number
 abbrev pub contents_of : {L : Type 0} → (L → Leg) → List L → ℕ → List Block
@@ -53,33 +59,45 @@ laid_over (Some r) block = landed_over r.entry (written r) block
 -- the blocks from this one on, each under the record under way on it
 abbrev pub laid_from : ℕ → List Record → List Block → List Block
 laid_from i records [] = []
-laid_from i records (block ∷ blocks) = laid_over (busy_on i records) block ∷ laid_from (i + 1) records blocks
+laid_from i records (block ∷ blocks) =
+    laid_over (busy_on i records) block ∷ laid_from (i + 1) records blocks
 
 -- the stripe's array: at each block the data of the landed write under way there, else the master's
 abbrev pub stripe_array : {L : Type 0} → (L → Leg) → StripeState L → List Block
-stripe_array model stripe = laid_from 0 stripe.records (contents_of model stripe.legs stripe.master)
+stripe_array model stripe =
+    laid_from 0 stripe.records (contents_of model stripe.legs stripe.master)
 
--- the life of a write that is recorded, by its entry's number
+-- the life of a write that has a record, by its entry's number
 abbrev pub recorded_life : Option ℕ → ℕ → Block → WriteLife
 recorded_life None block bytes = Begun block bytes
 recorded_life (Some number) block bytes = Landed number
 
--- the life of a write that has this record, or none any more
+-- the life of a write that has begun, by its record; it has none once it was replied to
 abbrev pub life_of : Option Record → WriteLife
-life_of None = Told
+life_of None = Replied
 life_of (Some r) = recorded_life r.entry r.block (written r)
 
--- the life of each write: unborn while its ticket is not given
+-- the life of each write: it has not begun while its ticket is not given
 abbrev pub write_life : {L : Type 0} → StripeState L → ℕ → WriteLife
 write_life stripe ticket =
-    if nat_lt ticket stripe.tickets then life_of (find_record ticket stripe.records) else Unborn
+    if nat_lt ticket stripe.tickets then life_of (find_record ticket stripe.records) else NotBegun
 
--- the life of each read: over once its number is taken
+-- the life of each read: its number is closed once the history has an entry of it
 abbrev pub read_life : {L : Type 0} → StripeState L → ℕ → ReadLife
-read_life stripe number = if nat_lt number (next_number stripe) then Over else Unasked
+read_life stripe number = if nat_lt number (next_number stripe) then Closed else NoReadBegun
 
--- a stripe's state, from its legs
-abbrev pub state_of : {L : Type 0} → At → List L → ℕ → RecordTable → ℕ → KeptHistory → ℕ → Bool → StripeState L
+-- where a stripe is: its next number, its array, and how far each write and each read is
+abbrev pub point_of : {L : Type 0} → (L → Leg) → StripeState L → Point
+point_of model stripe = record {
+  next = next_number stripe;
+  array = stripe_array model stripe;
+  writes = write_life stripe;
+  reads = read_life stripe;
+}
+
+-- a stripe's state, from its fields
+abbrev pub state_of : {L : Type 0} → At → List L → ℕ → RecordTable → ℕ → KeptHistory
+    → ℕ → Bool → StripeState L
 state_of place legs master table tickets history first stopped = record {
   place = place;
   legs = legs;

@@ -1,4 +1,4 @@
-/// Where a stripe stands in the mirror, and its shape.
+/// The place of a stripe in the mirror, and its shape.
 #[derive(Clone, Copy, Debug, PartialEq, Eq)]
 pub struct At {
     /// The stripe's number.

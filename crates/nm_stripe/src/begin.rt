@@ -1,19 +1,20 @@
-ghost use Rattle.std.specs.Prelude.{◌≡◌, ℕ, ◌+◌, ◌<◌, ◌≤◌, [], ◌∷◌, true, length, IsTrue, IfOk, OnOk, IfErr, OnErr, nat_lt};
+//! Begins a write.
+ghost use Rattle.std.specs.Prelude.{◌≡◌, ℕ, ◌+◌, ◌<◌, ◌≤◌, [], ◌∷◌, true, length, IsTrue, IfOk, OnOk, IfErr, OnErr};
+ghost use Rattle.nm_replay.specs.Events.{BeginsWrite};
 ghost use Rattle.nm_fanout.specs.Data.{FillsBlock, bytes_of};
 ghost use Rattle.nm_leg.specs.Leg.{block_of};
-ghost use Rattle.nm_stripe.specs.Lives.{BeginsWrite};
-ghost use Rattle.nm_stripe.specs.Causes.{begin_cause, RefusesFor};
-ghost use Rattle.nm_stripe.specs.Steps.{Begins, all_legs};
-ghost use Rattle.nm_stripe.specs.Headline.{ShowsMarks};
+ghost use Rattle.nm_stripe.specs.Begin.{Begins, BeginRefused, OwesFirst, begin_cause};
+ghost use Rattle.nm_stripe.specs.Acts.{IsExplainedStep};
 
 use crate::refusal::Refusal;
 use crate::stripe::Stripe;
 use nm_fanout::{Data, LEGS};
 use nm_leg::LegPart;
 
-/// The first so many legs, all of them owed.
-fn all_legs(count: usize) -> [bool; LEGS]
-    ensures { result ≡ all_legs count }
+/// The places of the eight legs, the first so many of them owed.
+fn owe_first(count: usize) -> [bool; LEGS]
+    requires { count ≤ 8 }
+    ensures { OwesFirst count result }
 {
     [
         0 < count,
@@ -28,18 +29,38 @@ fn all_legs(count: usize) -> [bool; LEGS]
 }
 
 impl<L: LegPart> Stripe<L> {
-    /// Begins a write of a block. It has the next ticket, owes every leg and takes effect later.
+    /// Why a write of this block may not begin.
+    fn begin_cause(&self, block: u64) -> Option<Refusal>
+        ensures { result ≡ begin_cause self.now block }
+    {
+        if self.stopped {
+            return Some(Refusal::Stopped);
+        }
+        if let Some(ticket) = self.records.busy_on(block) {
+            return Some(Refusal::Busy(ticket));
+        }
+        if self.records.is_full() {
+            return Some(Refusal::Full);
+        }
+        if self.is_exhausted() {
+            return Some(Refusal::Exhausted);
+        }
+        None
+    }
+
+    /// Begins a write of a block. It gets the next ticket, owes every leg and takes effect later.
     ///
-    /// Takes the memory that the write's record and its entry need, so that no later step of it does.
-    /// Refused as `Stopped`, `Busy`, `Full`, `Exhausted` or `Memory`, the first that stands; the data come back.
+    /// Takes the memory that the write's record and its entry need, so that no later step takes any.
+    /// Refused as `Stopped`, `Busy`, `Full`, `Exhausted` or `Memory`, the first whose condition
+    /// holds; the data come back.
     pub fn begin(&mut self, block: u64, data: Data) -> Result<u64, (Refusal, Data)>
         requires inside { block < self.old.place.blocks }
         requires whole { FillsBlock «data» }
         ensures ok { IfOk result (λ ticket. Begins self.old self.new block «data» ticket) }
-        ensures acts { IsTrue L.honest → IfOk result (λ ticket. ShowsMarks L.model
+        ensures acts { IsTrue L.honest → IfOk result (λ ticket. IsExplainedStep L.model
             (BeginsWrite ticket block (block_of (bytes_of «data»)) ∷ []) self.old self.new) }
         ensures cause { IfErr result (λ refused.
-            RefusesFor (begin_cause self.old block) refused.0) }
+            BeginRefused (begin_cause self.old block) refused.0) }
         ensures handed_back { IfErr result (λ refused. refused.1 ≡ «data») }
         ensures stays { OnErr result (self.new ≡ self.old) }
     {
@@ -54,7 +75,7 @@ impl<L: LegPart> Stripe<L> {
             return Err((Refusal::Memory, data));
         }
         let ticket = self.tickets;
-        let owed = all_legs(self.legs.len());
+        let owed = owe_first(self.legs.len());
         self.records.begin(ticket, block, data, owed);
         self.tickets += 1;
         Ok(ticket)

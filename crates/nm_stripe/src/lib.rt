@@ -17,10 +17,8 @@ pub use written::Written;
 mod answer;
 mod at;
 mod begin;
-mod causes;
 mod claim;
 pub mod laws;
-mod legs;
 mod push;
 mod read;
 mod receipt;
@@ -28,7 +26,5 @@ mod refusal;
 mod run;
 mod step;
 mod stripe;
-#[cfg(test)]
-mod tests;
 mod value;
 mod written;

@@ -1,15 +1,13 @@
-ghost use Rattle.std.specs.Prelude.{◌≡◌, ℕ, ◌+◌, ◌<◌, ◌≤◌, [], ◌∷◌, true, length, IsTrue, IfOk, OnOk, IfErr, OnErr, IsSome, Some};
+//! Pushes a write to a leg.
+ghost use Rattle.std.specs.Prelude.{◌≡◌, ℕ, ◌+◌, ◌<◌, ◌≤◌, [], ◌∷◌, true, length, IsTrue, IfOk, OnOk, IfErr, OnErr, None, Some};
 ghost use Rattle.nm_fanout.specs.Data.{FillsBlock};
-ghost use Rattle.nm_fanout.specs.Records.{find_record};
-ghost use Rattle.nm_stripe.specs.Causes.{push_cause};
-ghost use Rattle.nm_stripe.specs.Steps.{Reaches, IsReached, write_entry};
-ghost use Rattle.nm_stripe.specs.Headline.{ReachShowsNothing};
+ghost use Rattle.nm_fanout.specs.Records.{IsAt};
+ghost use Rattle.nm_stripe.specs.Push.{Reaches, IsReached, IsExplainedReach, write_entry, push_cause};
 
-use crate::legs::write_leg;
 use crate::refusal::Refusal;
 use crate::stripe::Stripe;
 use nm_fanout::Record;
-use nm_leg::LegPart;
+use nm_leg::{LegPart, write_leg_at};
 use nm_replay::{Block, Entry, Kind};
 
 /// What a push answers.
@@ -39,54 +37,67 @@ fn write_entry(record: &Record, number: u64) -> Entry
 }
 
 impl<L: LegPart> Stripe<L> {
-    /// What a push that reached its leg tells.
-    fn reached(&self, ticket: u64) -> Reach
-        requires { IsSome (find_record ticket self.now.records) }
-        ensures { IsReached self.now ticket result }
+    /// The place of the record that a push of this ticket to this leg would write.
+    fn record_to_push(&self, ticket: u64, leg: u8) -> Result<usize, Refusal>
+        ensures place { IfOk result (λ place. IsAt ticket place self.now.records) }
+        ensures no_cause { OnOk result (push_cause self.now ticket leg ≡ None) }
+        ensures cause { IfErr result (λ refusal. push_cause self.now ticket leg ≡ Some refusal) }
     {
-        let Some(record) = self.records.get(ticket) else {
-            unreachable!()
-        };
-        if record.is_under_way() {
-            return Reach::Pushed(record.owed_count());
+        if self.stopped {
+            return Err(Refusal::Stopped);
         }
-        let Some(number) = record.entry else {
-            unreachable!()
+        let Some(place) = self.records.find(ticket) else {
+            return Err(Refusal::NoTicket);
         };
-        Reach::Complete(number)
+        if self.records.at(place).owes(leg) {
+            Ok(place)
+        } else {
+            Err(Refusal::NotOwed)
+        }
     }
 
-    /// Brings a write to a leg that it owes. At the master it takes effect, under the next number.
+    /// Writes the record's data to a leg that still needs it. At the master the write takes effect,
+    /// under the next number.
     ///
-    /// A leg that fails stops the stripe. Refused as `Stopped`, `NoTicket` or `NotOwed`, the first that stands.
+    /// A leg that fails stops the stripe. Refused as `Stopped`, `NoTicket` or `NotOwed`, the first
+    /// whose condition holds.
     pub fn push(&mut self, ticket: u64, leg: u8) -> Result<Reach, Refusal>
         requires { leg < length self.old.legs }
         ensures ok { IfOk result (Reaches L.model L.honest self.old self.new ticket leg) }
         ensures acts { IsTrue L.honest
-            → IfOk result (ReachShowsNothing L.model self.old self.new) }
+            → IfOk result (IsExplainedReach L.model self.old self.new) }
         ensures cause { IfErr result (λ refusal. push_cause self.old ticket leg ≡ Some refusal) }
         ensures stays { OnErr result (self.new ≡ self.old) }
     {
-        if let Some(refusal) = self.push_cause(ticket, leg) {
-            return Err(refusal);
-        }
+        let place = self.record_to_push(ticket, leg)?;
         let number = self.next_number();
-        let Some(record) = self.records.get(ticket) else {
-            unreachable!()
-        };
-        let written = write_leg(&mut self.legs, leg, record.block, record.data.bytes());
+        let record = self.records.at(place);
+        let written = write_leg_at(&mut self.legs, leg, record.block, record.data.bytes());
         if written.is_err() {
             self.stopped = true;
             return Ok(Reach::Halted);
         }
         if leg != self.master {
-            self.records.reach(ticket, leg);
-            return Ok(self.reached(ticket));
+            self.records.reach_at(place, leg);
+            return Ok(self.reached(place));
         }
-        let entry = write_entry(record, number);
-        self.records.reach(ticket, leg);
-        self.records.land(ticket, number);
-        self.kept.push(&entry);
-        Ok(self.reached(ticket))
+        self.kept.push(&write_entry(record, number));
+        self.records.reach_at(place, leg);
+        self.records.land_at(place, number);
+        Ok(self.reached(place))
+    }
+
+    /// The answer of a push that reached its leg.
+    fn reached(&self, place: usize) -> Reach
+        requires { place < length self.now.records }
+        ensures { (ticket : ℕ) → IsAt ticket place self.now.records
+            → IsReached self.now ticket result }
+    {
+        let record = self.records.at(place);
+        if record.is_under_way() {
+            Reach::Pushed(record.owed_count())
+        } else {
+            Reach::Complete(record.entry.unwrap())
+        }
     }
 }

@@ -1,6 +1,7 @@
-ghost use Rattle.std.specs.Prelude.{◌≡◌, IsTrue, IfOk, IfErr, OnErr};
+//! Does a list of steps.
+ghost use Rattle.std.specs.Prelude.{◌≡◌, [], IsTrue, IsOk, IfOk, IfErr, OnErr};
 ghost use Rattle.nm_stripe.specs.Sound.{IsSound};
-ghost use Rattle.nm_stripe.specs.Machine.{AllAsked, Runs, NoneHalted, ActOnOneArray};
+ghost use Rattle.nm_stripe.specs.Run.{AllAsked, Runs, NoneHalted, ActOnOneArray};
 
 use crate::answer::Answer;
 use crate::step::Step;
@@ -11,9 +12,9 @@ use std::alloc::Global;
 impl<L: LegPart> Stripe<L> {
     /// Does the steps one after the other, and gives one answer a step.
     ///
-    /// Over honest legs, while no answer is `Halted`, each block read or written acts once, between its
-    /// begin and its reply, on one array, and the kept history grows by just those acts. Room for all
-    /// answers is made first: where it is refused the steps come back, and nothing was done.
+    /// Over honest legs, while no answer is `Halted`, each block read or written acts once, between
+    /// its begin and its reply, on one array, and the kept history grows by just those acts. Room for
+    /// all answers is made first: where it is refused the steps come back, and nothing was done.
     pub fn run(
         &mut self,
         alloc: Global,
@@ -27,10 +28,11 @@ impl<L: LegPart> Stripe<L> {
         ensures sound { IsSound L.model L.honest self.new }
         ensures handed_back { IfErr result (λ back. back.items ≡ steps.items) }
         ensures stays { OnErr result (self.new ≡ self.old) }
+        ensures memory_only_at_growth { steps.items ≡ [] → IsOk result }
     {
         let mut answers = Vec::new(alloc);
         if answers.reserve(steps.len()).is_err() {
-            let _ = self.is_stopped();
+            self.sound();
             return Err(steps);
         }
         let mut rest = steps;
@@ -38,7 +40,7 @@ impl<L: LegPart> Stripe<L> {
         while let Some(step) = rest.pop() {
             answers.push_reserved(self.step(step));
         }
-        let _ = self.is_stopped();
+        self.sound();
         Ok(answers)
     }
 }

@@ -1,7 +1,8 @@
+//! Does one step.
 ghost use Rattle.std.specs.Prelude.{◌≡◌, ◌<◌, [], ◌∷◌, IsTrue, Some};
-ghost use Rattle.nm_stripe.specs.Causes.{replace_cause};
-ghost use Rattle.nm_stripe.specs.Headline.{ShowsMarks};
-ghost use Rattle.nm_stripe.specs.Machine.{MayBeAsked, StepOf, NoneHalted, marks};
+ghost use Rattle.nm_stripe.specs.Replace.{replace_cause};
+ghost use Rattle.nm_stripe.specs.Acts.{IsExplainedStep};
+ghost use Rattle.nm_stripe.specs.Run.{MayBeAsked, StepOf, NoneHalted, marks};
 
 use crate::answer::{Answer, Handed};
 use crate::push::Reach;
@@ -18,9 +19,9 @@ use std::marker::PhantomData;
 pub enum Step<L> {
     /// Begins a write of this block.
     Begin(u64, Data),
-    /// Brings the write of this ticket to this leg.
+    /// Pushes the write of this ticket to this leg.
     Push(u64, u8),
-    /// Takes away the finished write of this ticket.
+    /// Claims the finished write of this ticket.
     Claim(u64),
     /// Reads this block.
     Read(u64),
@@ -41,7 +42,7 @@ impl<L: LegPart> Stripe<L> {
         requires { block < self.old.place.blocks }
         ensures step { StepOf L.model L.honest (Step.Read block) result self.old self.new }
         ensures acts { IsTrue L.honest
-            → ShowsMarks L.model (marks (Step.Read block) result) self.old self.new }
+            → IsExplainedStep L.model (marks (Step.Read block) result) self.old self.new }
     {
         let mut bytes = Block::ZERO;
         match self.read(block, &mut bytes) {
@@ -67,12 +68,13 @@ impl<L: LegPart> Stripe<L> {
         }
     }
 
-    /// Does one step. Each answer is one that the step may have, and the stripe is left as that answer says.
+    /// Does one step, with at most one call of a leg. Each answer is one that the step may have, and the
+    /// stripe is then as that answer says.
     pub fn step(&mut self, step: Step<L>) -> Answer<L>
         requires { MayBeAsked L.model self.old step }
         ensures step { StepOf L.model L.honest step result self.old self.new }
         ensures acts { IsTrue L.honest → NoneHalted (result ∷ [])
-            → ShowsMarks L.model (marks step result) self.old self.new }
+            → IsExplainedStep L.model (marks step result) self.old self.new }
     {
         match step {
             Step::Begin(block, data) => match self.begin(block, data) {
@@ -90,9 +92,9 @@ impl<L: LegPart> Stripe<L> {
                 Err(refusal) => refused(refusal),
             },
             Step::Read(block) => self.step_read(block),
-            Step::Replace(_, part) => Answer::Refused(
+            Step::Replace(_, leg) => Answer::Refused(
                 self.replace_cause(),
-                Handed::Replacement(part),
+                Handed::Replacement(leg),
             ),
         }
     }

@@ -1,7 +1,8 @@
-ghost use Rattle.std.specs.Prelude.{◌≡◌, ℕ, ◌+◌, ◌-◌, ◌<◌, ◌≤◌, ◌^◌, ◌↔◌, true, false, [], length, IsTrue, IsOk, IfOk, OnOk, IfErr, OnErr, Some, None};
+ghost use Rattle.std.specs.Prelude.{◌≡◌, ℕ, ◌+◌, ◌-◌, ◌<◌, ◌≤◌, ◌^◌, ◌↔◌, true, false, [], length, slice_get, IsTrue, IsOk, IfOk, OnOk, IfErr, OnErr, Some, None};
 ghost use Rattle.nm_fanout.specs.Records.{next_owed, first_owed};
 ghost use Rattle.nm_leg.specs.LegCalls.{EachHas};
 ghost use Rattle.nm_stripe.specs.Opening.{opened, HoldEqual};
+ghost use Rattle.nm_stripe.specs.State.{next_number, is_exhausted};
 ghost use Rattle.nm_stripe.specs.Sound.{IsSound, leg_state};
 
 use crate::at::At;
@@ -11,14 +12,17 @@ use nm_replay::{Entry, Kept, Memory};
 use std::alloc::Global;
 use std::marker::Model;
 
-/// How a leg stands in its stripe.
+/// No entry has this number or one above it.
+const NUMBERS: u64 = 1 << 63;
+
+/// The state of a leg in its stripe.
 #[derive(Clone, Copy, Debug, PartialEq, Eq)]
 pub enum LegState {
-    /// It holds what the stripe's array has, but where a write is under way.
+    /// It holds what the stripe's array has, except where a write is under way.
     InSync,
 }
 
-/// A lock shard of the mirror: some of its blocks, on all of its legs. (No stripe of RAID 0's kind.)
+/// A lock shard of the mirror: some of its blocks, on all of its legs. Not a RAID 0 stripe.
 ///
 /// A stripe cannot be copied, and gives none of its legs away.
 #[derive(Drop)]
@@ -39,14 +43,17 @@ impl<L: LegPart> Model for Stripe<L> {
 
     ghost Value = { StripeState L };
 
-    ghost view = { λ s. state_of s.place s.legs.items s.master s.records s.tickets s.kept s.first s.stopped };
+    ghost view = { λ s. state_of s.place s.legs.items s.master s.records s.tickets s.kept
+        s.first s.stopped };
 
-    ghost invariant = { λ s. IsStripe L.model L.honest s.kept.room (state_of s.place s.legs.items s.master s.records s.tickets s.kept s.first s.stopped) };
+    ghost invariant = { λ s. IsStripe L.model L.honest s.kept.room
+        (state_of s.place s.legs.items s.master s.records s.tickets s.kept s.first s.stopped) };
 }
 
 impl<L: LegPart> Stripe<L> {
-    /// A stripe of these legs, which are all in sync and hold equal contents. The lowest is the master.
-    /// `first` is the number that its first entry gets. It takes no memory yet.
+    /// A stripe of these legs, which are all in sync, and hold equal contents if they are honest.
+    ///
+    /// The lowest is the master, `first` the number of its first entry. It takes no memory yet.
     pub fn open(
         alloc: Global,
         place: At,
@@ -57,7 +64,7 @@ impl<L: LegPart> Stripe<L> {
         requires some { 0 < length legs.items }
         requires few { length legs.items ≤ 8 }
         requires lengths { EachHas L.model legs.items place.blocks }
-        requires equal { HoldEqual L.model legs.items }
+        requires equal { IsTrue L.honest → HoldEqual L.model legs.items in_sync }
         requires all_in_sync { in_sync + 1 ≡ 2 ^ length legs.items }
         ensures ok { IsOk result }
         ensures opened { IfOk result (λ stripe. stripe ≡ opened place legs.items first) }
@@ -92,12 +99,54 @@ impl<L: LegPart> Stripe<L> {
         LegState::InSync
     }
 
+    /// The stripe's place in the mirror, and its shape.
+    pub fn place(&self) -> At
+        ensures { result ≡ self.now.place }
+    {
+        self.place
+    }
+
+    /// How many legs the stripe has.
+    pub fn legs(&self) -> usize
+        ensures { result ≡ length self.now.legs }
+    {
+        self.legs.len()
+    }
+
+    /// The leg of this number, lent.
+    pub fn part(&self, leg: u8) -> &L
+        requires { leg < length self.now.legs }
+        ensures { slice_get self.now.legs leg ≡ Some result.now }
+    {
+        &self.legs[leg as usize]
+    }
+
     /// Whether the stripe has stopped: its only leg in sync failed in a write.
     pub fn is_stopped(&self) -> bool
-        ensures stopped { result ≡ self.now.stopped }
-        ensures sound { IsSound L.model L.honest self.now }
+        ensures { result ≡ self.now.stopped }
     {
         self.stopped
+    }
+
+    /// Says that the stripe is sound, and does nothing: for proofs, which see no invariant.
+    pub fn sound(&self)
+        ensures { IsSound L.model L.honest self.now }
+    {
+        let _stopped = self.stopped;
+    }
+
+    /// The number of the next entry.
+    pub(crate) fn next_number(&self) -> u64
+        ensures { result ≡ next_number self.now }
+    {
+        self.first + self.kept.total()
+    }
+
+    /// Whether all numbers are in use, or will be by writes that have no entry yet.
+    pub(crate) fn is_exhausted(&self) -> bool
+        ensures { result ≡ is_exhausted self.now }
+    {
+        self.first + self.kept.total() + self.records.unlanded() >= NUMBERS
     }
 
     /// The lowest leg that this ticket's write has still to reach.

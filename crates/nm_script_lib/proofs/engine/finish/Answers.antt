@@ -22,7 +22,7 @@ returns-in_err-put_history-clause-err g c =
       consistent = rw (
         c.deref-2.ensures.value,
         c.in_ok-entries.ensures.ok,
-      ) (c.is_stopped.ensures.sound.consistent refl);
+      ) (c.sound.ensures.consistent refl);
     } in
     on_err _ _ (prefix_finished c.args.stripe.now c.deref-2.result.now c.total.result _ _ _
     c.args.buffer.now.items c.clear.new.self.items
@@ -37,7 +37,7 @@ returns-then-is_err-clause-err g c =
       consistent = rw (
         c.deref-2.ensures.value,
         c.in_ok-entries.ensures.ok,
-      ) (c.is_stopped.ensures.sound.consistent refl);
+      ) (c.sound.ensures.consistent refl);
     } in
     prefix_whole _ _ _ (whole_finished c.args.stripe.now c.deref-2.result.now c.total.result _ _ _ _
     c.args.buffer.now.items c.clear.new.self.items
@@ -52,7 +52,7 @@ returns-clause-ok g c =
       consistent = rw (
         c.deref-2.ensures.value,
         c.in_ok-entries.ensures.ok,
-      ) (c.is_stopped.ensures.sound.consistent refl);
+      ) (c.sound.ensures.consistent refl);
     } in
     whole_finished c.args.stripe.now c.deref-2.result.now c.total.result _ _ _ _
     c.args.buffer.now.items c.clear.new.self.items

@@ -28,7 +28,7 @@ open-requires-clause-equal c =
     let m = c.args.mirror.now in
     let count : length c.in_ok-legs.legs.items ≡ m.legs = ap length c.in_ok-legs.ensures.legs ∙
     count_legs m.legs m.blocks in
-    λ leg other h k. rw c.in_ok-legs.ensures.legs
+    λ is_honest leg other h k named also. rw c.in_ok-legs.ensures.legs
     (equal_legs in_memory m.legs m.blocks leg other (rw count at h) (rw count at k))
 
 pub open-requires-clause-all_in_sync : goal.open-requires-clause-all_in_sync

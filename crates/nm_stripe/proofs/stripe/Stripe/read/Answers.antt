@@ -1,47 +1,52 @@
 -- A read is read off its fields, and the lemmas on reads do the rest.
 use Rattle.std.proofs.Common.{rules, ◌≡◌, ◌+◌, ◌≤◌, true, false, is_ok, None, [], ◌∷◌, ◌++◌, refl, ap, ◌∙◌, arith}
+use Rattle.std.specs.Vec.{with_items}
+use Rattle.std.proofs.lemmas.List.{with_items_is}
 use Rattle.nm_leg.specs.LegCalls.{ReadsLegAt}
-use Rattle.nm_stripe.specs.Causes.{read_cause}
+use Rattle.nm_stripe.specs.Read.{read_cause}
 use Rattle.nm_stripe.specs.State.{state_of}
-use Rattle.nm_stripe.specs.Steps.{read_entry}
+use Rattle.nm_replay.specs.Events.{entry_of_read}
 use Rattle.nm_stripe.proofs.ActsLemmas.{acts-none}
-use Rattle.nm_stripe.proofs.CauseLemmas.{may_read}
-use Rattle.nm_stripe.proofs.ReadLemmas.{read_events, read-keeps, read-acts, read-array, fails-keeps, fails-acts, read-state, failed-state}
+use Rattle.nm_stripe.proofs.ReadLemmas.{may_read, read_events, read-keeps, read-acts, read-array, fails-keeps, fails-acts, read-state, failed-state}
 use Rattle.nm_stripe.proofs.stripe.Stripe.read.Goals as goal
 
--- refused for want of memory: the stripe is as it was
-pub returns-then-is_err-clause-shows_nothing : goal.returns-then-is_err-clause-shows_nothing
-returns-then-is_err-clause-shows_nothing g c =
+-- refused out of memory: the stripe is as it was
+pub returns-then-is_err-clause-refused_acts : goal.returns-then-is_err-clause-refused_acts
+returns-then-is_err-clause-refused_acts g c =
     λ is_honest.
     let i = c.self.inside in
     let old = state_of i.place i.legs.items i.master i.records i.tickets i.kept i.first i.stopped in
     let is = failed-state i.place i.legs.items i.legs.items i.master i.records i.tickets i.kept c.reserve.new.self i.first i.stopped c.reserve.ensures.entries c.reserve.ensures.total in
-    rw (is, ← c.self.view_is) (record { piece = []; marked = refl; acts = acts-none g.L.LegPart.model old })
+    rw (is, ← c.self.view_is) (record { events = []; marked = refl; acts = acts-none g.L.LegPart.model old })
 
 pub invariant_of-self-then-is_err-2 : goal.invariant_of-self-then-is_err-2
 invariant_of-self-then-is_err-2 g c =
     let i = c.self.inside in
     let old = state_of i.place i.legs.items i.master i.records i.tickets i.kept i.first i.stopped in
-    let failed : is_ok c.read_leg.result ≡ false = search rules in
-    let reads : ReadsLegAt g.L.LegPart.model g.L.LegPart.honest false i.master c.args.block i.legs.items c.read_leg.new.legs.items c.args.into.now c.read_leg.new.into = rw (← failed) c.read_leg.ensures in
-    let is = failed-state i.place i.legs.items c.read_leg.new.legs.items i.master i.records i.tickets i.kept c.reserve.new.self i.first i.stopped c.reserve.ensures.entries c.reserve.ensures.total in
+    let same : (with_items i.legs c.read_leg_at.new.legs).items ≡ c.read_leg_at.new.legs = with_items_is i.legs c.read_leg_at.new.legs (search rules) in
+    let was : c.deref_mut.result.now ≡ i.legs.items = c.deref_mut.ensures.value in
+    let failed : is_ok c.read_leg_at.result ≡ false = search rules in
+    let reads : ReadsLegAt g.L.LegPart.model g.L.LegPart.honest false i.master c.args.block i.legs.items c.read_leg_at.new.legs c.args.into.now c.read_leg_at.new.into = rw (← failed, ← was) c.read_leg_at.ensures in
+    let is = failed-state i.place i.legs.items c.read_leg_at.new.legs i.master i.records i.tickets i.kept c.reserve.new.self i.first i.stopped c.reserve.ensures.entries c.reserve.ensures.total in
     record {
-      keeps = rw is (fails-keeps g.L.LegPart.model g.L.LegPart.honest false old c.read_leg.new.legs.items c.args.block c.args.into.now c.read_leg.new.into c.self.invariant.keeps reads);
+      keeps = rw (same, is) (fails-keeps g.L.LegPart.model g.L.LegPart.honest false old c.read_leg_at.new.legs c.args.block c.args.into.now c.read_leg_at.new.into c.self.invariant.keeps reads);
       room_left = omega (arith, c.self.invariant.room_left, c.reserve.ensures.room_stays);
     }
 
-pub returns-then-is_err-2-clause-shows_nothing : goal.returns-then-is_err-2-clause-shows_nothing
-returns-then-is_err-2-clause-shows_nothing g c =
+pub returns-then-is_err-2-clause-refused_acts : goal.returns-then-is_err-2-clause-refused_acts
+returns-then-is_err-2-clause-refused_acts g c =
     λ is_honest.
     let i = c.self.inside in
     let old = state_of i.place i.legs.items i.master i.records i.tickets i.kept i.first i.stopped in
     let none : read_cause c.args.self.now ≡ None = search rules in
     let may = may_read old (ap (λ s. read_cause s) c.self.view_is ∙ none) in
-    let failed : is_ok c.read_leg.result ≡ false = search rules in
-    let reads : ReadsLegAt g.L.LegPart.model g.L.LegPart.honest false i.master c.args.block i.legs.items c.read_leg.new.legs.items c.args.into.now c.read_leg.new.into = rw (← failed) c.read_leg.ensures in
-    let is = failed-state i.place i.legs.items c.read_leg.new.legs.items i.master i.records i.tickets i.kept c.reserve.new.self i.first i.stopped c.reserve.ensures.entries c.reserve.ensures.total in
-    let acts = fails-acts g.L.LegPart.model g.L.LegPart.honest false old c.read_leg.new.legs.items c.args.block c.args.into.now c.read_leg.new.into c.self.invariant.keeps reads is_honest may.runs in
-    rw (is, ← c.self.view_is) (record { piece = []; marked = refl; acts = acts })
+    let same : (with_items i.legs c.read_leg_at.new.legs).items ≡ c.read_leg_at.new.legs = with_items_is i.legs c.read_leg_at.new.legs (search rules) in
+    let was : c.deref_mut.result.now ≡ i.legs.items = c.deref_mut.ensures.value in
+    let failed : is_ok c.read_leg_at.result ≡ false = search rules in
+    let reads : ReadsLegAt g.L.LegPart.model g.L.LegPart.honest false i.master c.args.block i.legs.items c.read_leg_at.new.legs c.args.into.now c.read_leg_at.new.into = rw (← failed, ← was) c.read_leg_at.ensures in
+    let is = failed-state i.place i.legs.items c.read_leg_at.new.legs i.master i.records i.tickets i.kept c.reserve.new.self i.first i.stopped c.reserve.ensures.entries c.reserve.ensures.total in
+    let acts = fails-acts g.L.LegPart.model g.L.LegPart.honest false old c.read_leg_at.new.legs c.args.block c.args.into.now c.read_leg_at.new.into c.self.invariant.keeps reads is_honest may.runs in
+    rw (same, is, ← c.self.view_is) (record { events = []; marked = refl; acts = acts })
 
 pub invariant_of-self-3 : goal.invariant_of-self-3
 invariant_of-self-3 g c =
@@ -49,15 +54,17 @@ invariant_of-self-3 g c =
     let old = state_of i.place i.legs.items i.master i.records i.tickets i.kept i.first i.stopped in
     let none : read_cause c.args.self.now ≡ None = search rules in
     let may = may_read old (ap (λ s. read_cause s) c.self.view_is ∙ none) in
-    let ok : is_ok c.read_leg.result ≡ true = search rules in
-    let reads : ReadsLegAt g.L.LegPart.model g.L.LegPart.honest true i.master c.args.block i.legs.items c.read_leg.new.legs.items c.args.into.now c.read_leg.new.into = rw (← ok) c.read_leg.ensures in
+    let same : (with_items i.legs c.read_leg_at.new.legs).items ≡ c.read_leg_at.new.legs = with_items_is i.legs c.read_leg_at.new.legs (search rules) in
+    let was : c.deref_mut.result.now ≡ i.legs.items = c.deref_mut.ensures.value in
+    let ok : is_ok c.read_leg_at.result ≡ true = search rules in
+    let reads : ReadsLegAt g.L.LegPart.model g.L.LegPart.honest true i.master c.args.block i.legs.items c.read_leg_at.new.legs c.args.into.now c.read_leg_at.new.into = rw (← ok, ← was) c.read_leg_at.ensures in
     let number : c.next_number-number.result ≡ i.first + i.kept.total = search rules in
-    let entries : c.push.new.self.entries ≡ i.kept.entries ++ read_entry (i.first + i.kept.total) c.args.block c.read_leg.new.into ∷ [] = rw (← number, ← c.reserve.ensures.entries) c.push.ensures.entries in
+    let entries : c.push.new.self.entries ≡ i.kept.entries ++ entry_of_read (i.first + i.kept.total) c.args.block c.read_leg_at.new.into ∷ [] = rw (← number, ← c.reserve.ensures.entries) c.push.ensures.entries in
     let total : c.push.new.self.total ≡ i.kept.total + 1 = rw (← c.reserve.ensures.total) c.push.ensures.total in
-    let is = read-state i.place i.legs.items c.read_leg.new.legs.items i.master i.records i.tickets i.kept c.push.new.self i.first i.stopped c.args.block c.read_leg.new.into entries total in
+    let is = read-state i.place i.legs.items c.read_leg_at.new.legs i.master i.records i.tickets i.kept c.push.new.self i.first i.stopped c.args.block c.read_leg_at.new.into entries total in
     let room : c.unlanded-unlanded.result + 1 ≤ c.reserve.new.self.room = search rules in
     record {
-      keeps = rw is (read-keeps g.L.LegPart.model g.L.LegPart.honest old c.read_leg.new.legs.items c.args.block c.args.into.now c.read_leg.new.into c.self.invariant.keeps may reads);
+      keeps = rw (same, is) (read-keeps g.L.LegPart.model g.L.LegPart.honest old c.read_leg_at.new.legs c.args.block c.args.into.now c.read_leg_at.new.into c.self.invariant.keeps may reads);
       room_left = omega (arith, room, c.unlanded-unlanded.ensures.count, c.push.ensures.room);
     }
 
@@ -68,9 +75,11 @@ returns-clause-array g c =
     let old = state_of i.place i.legs.items i.master i.records i.tickets i.kept i.first i.stopped in
     let none : read_cause c.args.self.now ≡ None = search rules in
     let may = may_read old (ap (λ s. read_cause s) c.self.view_is ∙ none) in
-    let ok : is_ok c.read_leg.result ≡ true = search rules in
-    let reads : ReadsLegAt g.L.LegPart.model g.L.LegPart.honest true i.master c.args.block i.legs.items c.read_leg.new.legs.items c.args.into.now c.read_leg.new.into = rw (← ok) c.read_leg.ensures in
-    rw (← c.self.view_is) (read-array g.L.LegPart.model g.L.LegPart.honest old c.read_leg.new.legs.items c.args.block c.args.into.now c.read_leg.new.into c.self.invariant.keeps may reads is_honest)
+    let same : (with_items i.legs c.read_leg_at.new.legs).items ≡ c.read_leg_at.new.legs = with_items_is i.legs c.read_leg_at.new.legs (search rules) in
+    let was : c.deref_mut.result.now ≡ i.legs.items = c.deref_mut.ensures.value in
+    let ok : is_ok c.read_leg_at.result ≡ true = search rules in
+    let reads : ReadsLegAt g.L.LegPart.model g.L.LegPart.honest true i.master c.args.block i.legs.items c.read_leg_at.new.legs c.args.into.now c.read_leg_at.new.into = rw (← ok, ← was) c.read_leg_at.ensures in
+    rw (← c.self.view_is) (read-array g.L.LegPart.model g.L.LegPart.honest old c.read_leg_at.new.legs c.args.block c.args.into.now c.read_leg_at.new.into c.self.invariant.keeps may reads is_honest)
 
 pub returns-clause-acts : goal.returns-clause-acts
 returns-clause-acts g c =
@@ -79,11 +88,13 @@ returns-clause-acts g c =
     let old = state_of i.place i.legs.items i.master i.records i.tickets i.kept i.first i.stopped in
     let none : read_cause c.args.self.now ≡ None = search rules in
     let may = may_read old (ap (λ s. read_cause s) c.self.view_is ∙ none) in
-    let ok : is_ok c.read_leg.result ≡ true = search rules in
-    let reads : ReadsLegAt g.L.LegPart.model g.L.LegPart.honest true i.master c.args.block i.legs.items c.read_leg.new.legs.items c.args.into.now c.read_leg.new.into = rw (← ok) c.read_leg.ensures in
+    let same : (with_items i.legs c.read_leg_at.new.legs).items ≡ c.read_leg_at.new.legs = with_items_is i.legs c.read_leg_at.new.legs (search rules) in
+    let was : c.deref_mut.result.now ≡ i.legs.items = c.deref_mut.ensures.value in
+    let ok : is_ok c.read_leg_at.result ≡ true = search rules in
+    let reads : ReadsLegAt g.L.LegPart.model g.L.LegPart.honest true i.master c.args.block i.legs.items c.read_leg_at.new.legs c.args.into.now c.read_leg_at.new.into = rw (← ok, ← was) c.read_leg_at.ensures in
     let number : c.next_number-number.result ≡ i.first + i.kept.total = search rules in
-    let entries : c.push.new.self.entries ≡ i.kept.entries ++ read_entry (i.first + i.kept.total) c.args.block c.read_leg.new.into ∷ [] = rw (← number, ← c.reserve.ensures.entries) c.push.ensures.entries in
+    let entries : c.push.new.self.entries ≡ i.kept.entries ++ entry_of_read (i.first + i.kept.total) c.args.block c.read_leg_at.new.into ∷ [] = rw (← number, ← c.reserve.ensures.entries) c.push.ensures.entries in
     let total : c.push.new.self.total ≡ i.kept.total + 1 = rw (← c.reserve.ensures.total) c.push.ensures.total in
-    let is = read-state i.place i.legs.items c.read_leg.new.legs.items i.master i.records i.tickets i.kept c.push.new.self i.first i.stopped c.args.block c.read_leg.new.into entries total in
-    let acts = read-acts g.L.LegPart.model g.L.LegPart.honest old c.read_leg.new.legs.items c.args.block c.args.into.now c.read_leg.new.into c.self.invariant.keeps may reads is_honest in
-    rw (c.new.ensures, number, is, ← c.self.view_is) (record { piece = read_events (i.first + i.kept.total) c.args.block c.read_leg.new.into; marked = refl; acts = acts })
+    let is = read-state i.place i.legs.items c.read_leg_at.new.legs i.master i.records i.tickets i.kept c.push.new.self i.first i.stopped c.args.block c.read_leg_at.new.into entries total in
+    let acts = read-acts g.L.LegPart.model g.L.LegPart.honest old c.read_leg_at.new.legs c.args.block c.args.into.now c.read_leg_at.new.into c.self.invariant.keeps may reads is_honest in
+    rw (c.new.ensures, number, same, is, ← c.self.view_is) (record { events = read_events (i.first + i.kept.total) c.args.block c.read_leg_at.new.into; marked = refl; acts = acts })

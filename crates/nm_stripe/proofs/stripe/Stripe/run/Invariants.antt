@@ -1,4 +1,4 @@
--- The loop goes on from the steps done to the steps left, which stand last first.
+-- The loop goes from the steps done to the rest, which are kept in reverse.
 use Rattle.std.proofs.Common.{◌-◌, ◌≤◌, vec_len, vec_capacity}
 use Rattle.nm_stripe.proofs.RunLemmas.{HasRun}
 use Rattle.nm_stripe.proofs.stripe.Stripe.run.Given as goal

@@ -1,9 +1,9 @@
--- A refused begin shows nothing and leaves the stripe as it was.
+-- A refused begin is explained by no events, and leaves the stripe as it was.
 use Rattle.std.proofs.Common.{rules, ◌≡◌}
-use Rattle.nm_stripe.proofs.ActsLemmas.{shows-none}
+use Rattle.nm_stripe.proofs.ActsLemmas.{explained-stays}
 use Rattle.nm_stripe.proofs.stripe.Stripe.step.Goals as goal
 
 pub returns-in-Err-clause-acts : goal.returns-in-Err-clause-acts
 returns-in-Err-clause-acts g c =
     let same : c.begin.new.self ≡ c.args.self.now = search rules in
-    rw (c.in-Begin.is, same) (λ is_honest running. shows-none g.L.LegPart.model c.args.self.now)
+    rw (c.in-Begin.is, same) (λ is_honest running. explained-stays g.L.LegPart.model c.args.self.now)

@@ -1,6 +1,0 @@
--- What the stripe keeps makes it sound.
-use Rattle.nm_stripe.proofs.SoundLemmas.{keeps-sound}
-use Rattle.nm_stripe.proofs.stripe.Stripe.is_stopped.Goals as goal
-
-pub returns-clause-sound : goal.returns-clause-sound
-returns-clause-sound g c = rw (← c.self.view_is) (keeps-sound g.L.LegPart.model g.L.LegPart.honest _ c.self.invariant.keeps)

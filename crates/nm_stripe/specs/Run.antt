@@ -1,0 +1,104 @@
+-- A list of steps: which answers each may have, and that its operations act on one array.
+use Rattle.std.specs.Prelude.{◌≡◌, ◌<◌, Bool, List, [], ◌∷◌, ◌++◌, Some, length}
+use Rattle.nm_replay.specs.Events.{Event, BeginsRead, BeginsWrite, RepliesRead, RepliesWrite, marks_of}
+use Rattle.nm_fanout.specs.Data.{bytes_of, FillsBlock}
+use Rattle.nm_leg.specs.Leg.{Leg, block_of}
+use Rattle.nm_stripe.specs.declared.step.Step.{Step}
+use Rattle.nm_stripe.specs.declared.step.Step.TheVariants.{Begin, Push, Claim, Read, Replace}
+use Rattle.nm_stripe.specs.declared.answer.Answer.{Answer}
+use Rattle.nm_stripe.specs.declared.answer.Answer.TheVariants.{Begun, Pushed, Complete, Halted, Written, Value, Refused}
+use Rattle.nm_stripe.specs.declared.answer.Handed.TheVariants.{Nothing, Data, Replacement}
+use Rattle.nm_stripe.specs.State.{StripeState}
+use Rattle.nm_stripe.specs.Begin.{Begins, BeginRefused, begin_cause}
+use Rattle.nm_stripe.specs.Push.{Pushes, StillOwes, IsComplete, Halts, push_cause}
+use Rattle.nm_stripe.specs.Claim.{Claims, claim_cause}
+use Rattle.nm_stripe.specs.Read.{Finds, ReadRefused, read_cause}
+use Rattle.nm_stripe.specs.Replace.{replace_cause}
+use Rattle.nm_stripe.specs.Acts.{Acts}
+
+-- a step that may be asked for: its block lies in the stripe, its leg is there, and its data fill a
+-- block
+abbrev pub MayBeAsked : {L : Type 0} → (L → Leg) → StripeState L → Step L → Type 0
+MayBeAsked model stripe (Begin block bytes) = (block < stripe.place.blocks) × FillsBlock bytes
+MayBeAsked model stripe (Push ticket leg) = leg < length stripe.legs
+MayBeAsked model stripe (Claim ticket) = Unit {0}
+MayBeAsked model stripe (Read block) = block < stripe.place.blocks
+MayBeAsked model stripe (Replace leg replacement) =
+    (leg < length stripe.legs)
+    × (length (model replacement).contents ≡ stripe.place.blocks)
+
+-- each of the steps may be asked for
+abbrev pub AllAsked : {L : Type 0} → (L → Leg) → StripeState L → List (Step L) → Type 0
+AllAsked model stripe [] = Unit {0}
+AllAsked model stripe (step ∷ steps) = MayBeAsked model stripe step × AllAsked model stripe steps
+
+-- a step with its answer: these answers and no others
+abbrev pub StepOf : {L : Type 0} → (L → Leg) → Bool → Step L → Answer L
+    → StripeState L → StripeState L → Type 0
+StepOf model honest (Begin block bytes) (Begun ticket) old new = Begins old new block bytes ticket
+StepOf model honest (Begin block bytes) (Refused refusal handed) old new =
+    BeginRefused (begin_cause old block) refusal × (handed ≡ Data bytes) × (new ≡ old)
+StepOf model honest (Push ticket leg) (Pushed count) old new =
+    Pushes model honest old new ticket leg × StillOwes new ticket count
+StepOf model honest (Push ticket leg) (Complete number) old new =
+    Pushes model honest old new ticket leg × IsComplete new ticket number
+StepOf model honest (Push ticket leg) Halted old new = Halts model honest old new ticket leg
+StepOf model honest (Push ticket leg) (Refused refusal handed) old new =
+    (push_cause old ticket leg ≡ Some refusal) × (handed ≡ Nothing) × (new ≡ old)
+StepOf model honest (Claim ticket) (Written written) old new = Claims old new ticket written
+StepOf model honest (Claim ticket) (Refused refusal handed) old new =
+    (claim_cause old ticket ≡ Some refusal) × (handed ≡ Nothing) × (new ≡ old)
+StepOf model honest (Read block) (Value value) old new =
+    Finds model honest old new block value.bytes value.entry
+StepOf model honest (Read block) (Refused refusal handed) old new =
+    ReadRefused model honest old new block (read_cause old) refusal × (handed ≡ Nothing)
+StepOf model honest (Replace leg replacement) (Refused refusal handed) old new =
+    (replace_cause old ≡ Some refusal) × (handed ≡ Replacement replacement) × (new ≡ old)
+StepOf model honest step answer old new = ⊥
+
+-- the steps may have these answers, one after the other
+abbrev pub Runs : {L : Type 0} → (L → Leg) → Bool → StripeState L → List (Step L)
+    → List (Answer L) → StripeState L → Type 0
+Runs model honest old [] [] new = new ≡ old
+Runs {L} model honest old (step ∷ steps) (answer ∷ answers) new =
+    (mid : StripeState L)
+    × StepOf model honest step answer old mid × Runs model honest mid steps answers new
+Runs model honest old steps answers new = ⊥
+
+-- the begins and replies of a step with its answer
+abbrev pub marks : {L : Type 0} → Step L → Answer L → List Event
+marks (Begin block bytes) (Begun ticket) =
+    BeginsWrite ticket block (block_of (bytes_of bytes)) ∷ []
+marks (Claim ticket) (Written written) = RepliesWrite ticket written.number ∷ []
+marks (Read block) (Value value) =
+    BeginsRead value.entry.number block ∷ RepliesRead value.entry.number value.bytes ∷ []
+marks step answer = []
+
+-- a list of events for each step, in the order of the steps: the step's begins and replies in
+-- order, with entries anywhere among them
+abbrev pub IsInterleaving : {L : Type 0} → List (Step L) → List (Answer L)
+    → List (List Event) → Type 0
+IsInterleaving [] [] [] = Unit {0}
+IsInterleaving (step ∷ steps) (answer ∷ answers) (events ∷ more) =
+    (marks_of events ≡ marks step answer) × IsInterleaving steps answers more
+IsInterleaving steps answers lists = ⊥
+
+-- the events of all lists, one list after the other
+abbrev pub concat : List (List Event) → List Event
+concat [] = []
+concat (events ∷ more) = events ++ concat more
+
+-- no answer says that a leg failed and stopped the stripe
+abbrev pub NoneHalted : {L : Type 0} → List (Answer L) → Type 0
+NoneHalted [] = Unit {0}
+NoneHalted (Halted ∷ answers) = ⊥
+NoneHalted (answer ∷ answers) = NoneHalted answers
+
+-- each operation of the steps acts once, between its begin and its reply, on one array: the steps'
+-- begins and replies, with some entries among them, are explained from the stripe before to the
+-- stripe after
+pub record ActOnOneArray {L : Type 0} (model : L → Leg) (steps : List (Step L))
+    (answers : List (Answer L)) (old new : StripeState L) : Type 0 where
+  pub events_of_each : List (List Event)
+  pub interleaving : IsInterleaving steps answers events_of_each
+  pub acts : Acts model old new (concat events_of_each)
