@@ -2,7 +2,7 @@
 use Rattle.std.proofs.Common.{◌≡◌, ℕ, ◌+◌, List, [], ◌∷◌, ◌++◌, length, refl, sym, ap, subst, arith, length-append}
 use Rattle.nm_replay.specs.declared.entry.Entry.{Entry}
 use Rattle.nm_replay.specs.History.{Legal}
-use Rattle.nm_replay.specs.Events.{Event, BeginsRead, BeginsWrite, Lands, RepliesRead, RepliesWrite, entries_of, marks_of}
+use Rattle.nm_replay.specs.Events.{Event, BeginsRead, BeginsWrite, Lands, RepliesRead, RepliesWrite, entries_of}
 use Rattle.nm_replay.specs.WriteLives.{WriteLife, WriteLives}
 use Rattle.nm_replay.specs.ReadLives.{ReadLife, ReadLives}
 use Rattle.nm_replay.specs.Explained.{Point, Explained}
@@ -15,14 +15,6 @@ entries_of-append (BeginsWrite t b v ∷ es) fs = entries_of-append es fs
 entries_of-append (Lands e ∷ es) fs = ap (λ (xs : List Entry). e ∷ xs) (entries_of-append es fs)
 entries_of-append (RepliesRead n v ∷ es) fs = entries_of-append es fs
 entries_of-append (RepliesWrite t n ∷ es) fs = entries_of-append es fs
-
-pub marks_of-append : (es fs : List Event) → marks_of (es ++ fs) ≡ marks_of es ++ marks_of fs
-marks_of-append [] fs = refl
-marks_of-append (BeginsRead n b ∷ es) fs = ap (λ (xs : List Event). BeginsRead n b ∷ xs) (marks_of-append es fs)
-marks_of-append (BeginsWrite t b v ∷ es) fs = ap (λ (xs : List Event). BeginsWrite t b v ∷ xs) (marks_of-append es fs)
-marks_of-append (Lands e ∷ es) fs = marks_of-append es fs
-marks_of-append (RepliesRead n v ∷ es) fs = ap (λ (xs : List Event). RepliesRead n v ∷ xs) (marks_of-append es fs)
-marks_of-append (RepliesWrite t n ∷ es) fs = ap (λ (xs : List Event). RepliesWrite t n ∷ xs) (marks_of-append es fs)
 
 pub WriteLives-append : (t : ℕ) (old mid new : WriteLife) (es fs : List Event) → WriteLives t old es mid → WriteLives t mid fs new → WriteLives t old (es ++ fs) new
 WriteLives-append t old mid new [] fs p q = subst (λ w. WriteLives t w fs new) p q
