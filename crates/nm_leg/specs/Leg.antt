@@ -1,6 +1,6 @@
 -- What a leg holds, and what one call does to it.
 use Rattle.std.specs.Prelude.{◌≡◌, ◌≢◌, ℕ, ◌+◌, ◌%◌, ◌^◌, Bool, IsTrue, IsFalse, if◌then◌else◌}
-use Rattle.std.specs.Prelude.{List, length, replicate, Some, slice_get, slice_set}
+use Rattle.std.specs.Prelude.{List, ◌++◌, length, replicate, take, drop, Some, slice_get, slice_set}
 use Rattle.nm_replay.specs.declared.block.Block.{Block}
 use Rattle.nm_replay.specs.Array.{Array}
 
@@ -24,14 +24,22 @@ leg_type model honest = record { model = model; honest = honest }
 abbrev pub block_of : List ℕ → Block
 block_of bytes = record { 0 = bytes }
 
+-- a block of which a write failed halfway: 256 bytes are new, and the rest as they were
+abbrev pub torn_block : List ℕ → Block → Block
+torn_block bytes was = block_of (take 256 bytes ++ drop 256 was.0)
+
 -- an array of so many blocks, with one byte in every place
 abbrev pub filled_array : ℕ → ℕ → Array
 filled_array blocks byte = replicate blocks (block_of (replicate 512 byte))
 
+-- a leg of so many blocks of one byte, all of it durable, of which no call has failed
+abbrev pub filled_leg : ℕ → ℕ → Leg
+filled_leg blocks byte =
+    let all = filled_array blocks byte in record { contents = all; durable = all; faults = 0 }
+
 -- a leg of so many zero blocks, all of it durable, of which no call has failed
 abbrev pub zeroed_leg : ℕ → Leg
-zeroed_leg blocks =
-    let zeroes = filled_array blocks 0 in record { contents = zeroes; durable = zeroes; faults = 0 }
+zeroed_leg blocks = filled_leg blocks 0
 
 -- Any call: no array changes its length, success leaves the count of faults, and a fault adds one
 -- to it, modulo 2^64. So a fault is answered only where the count moved.

@@ -1,3 +1,4 @@
+pub mod Fuse
 pub mod Leg
 pub mod LegCalls
 pub mod TestLegs

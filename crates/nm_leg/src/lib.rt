@@ -7,6 +7,8 @@
 pub use cached_leg::CachedLeg;
 pub use counting_leg::CountingLeg;
 pub use failing_leg::FailingLeg;
+pub use fuse::Fuse;
+pub use fuse_leg::FuseLeg;
 pub use leg_calls::{read_leg_at, sync_leg_at, write_leg_at};
 pub use leg_fault::LegFault;
 pub use leg_part::LegPart;
@@ -16,6 +18,8 @@ pub use mem_leg::MemLeg;
 mod cached_leg;
 mod counting_leg;
 mod failing_leg;
+mod fuse;
+mod fuse_leg;
 mod leg_calls;
 mod leg_fault;
 mod leg_part;

@@ -1,7 +1,7 @@
 //! The legs: what they answer at run time, by themselves and called by generic code.
 use nm_leg::{
-    CachedLeg, CountingLeg, FailingLeg, LegFault, LegPart, LyingLeg, MemLeg, read_leg_at,
-    sync_leg_at, write_leg_at,
+    CachedLeg, CountingLeg, FailingLeg, Fuse, FuseLeg, LegFault, LegPart, LyingLeg, MemLeg,
+    read_leg_at, sync_leg_at, write_leg_at,
 };
 use nm_replay::{Block, Memory};
 use std::process::Abort;
@@ -157,4 +157,66 @@ fn a_counting_leg_counts_failed_calls(rt: HostRuntime) {
     );
     assert_eq!(rt; legs[1].faults(), 3);
     assert_eq!(rt; legs[1].calls(), 3);
+}
+
+#[test]
+fn a_fuse_fails_the_call_that_it_names_and_no_other(rt: HostRuntime) -> Result<(), Fail> {
+    let mut leg = FuseLeg::new(rt.alloc(), 3)?;
+    assert_eq!(rt; leg.len(), 3);
+    let mut found = Block([9; 512]);
+    leg.set(3);
+    leg.write(1, &[0xaa; 512])?;
+    leg.read(1, &mut found)?;
+    assert_eq!(rt; found, Block([0xaa; 512]));
+    assert_eq!(rt; leg.sync(), Err(LegFault));
+    leg.sync()?;
+    assert_eq!(rt; leg.faults(), 1);
+    Ok(())
+}
+
+#[test]
+fn a_failed_write_is_torn(rt: HostRuntime) -> Result<(), Fail> {
+    let mut leg = FuseLeg::filled(rt.alloc(), 3, 0xbb)?;
+    assert_eq!(rt; leg.len(), 3);
+    let mut torn = Block([0xbb; 512]);
+    torn.0[..256].fill(0xaa);
+    leg.set(2);
+    leg.set(1);
+    assert_eq!(rt; leg.write(1, &[0xaa; 512]), Err(LegFault));
+    assert_eq!(rt; *leg.block(1), torn);
+    leg.write(2, &[0xaa; 512])?;
+    assert_eq!(rt; *leg.block(2), Block([0xaa; 512]));
+    assert_eq!(rt; leg.faults(), 1);
+    Ok(())
+}
+
+#[test]
+fn every_call_fails_from_the_one_that_is_named(rt: HostRuntime) -> Result<(), Fail> {
+    let mut leg = FuseLeg::new(rt.alloc(), 3)?;
+    assert_eq!(rt; leg.len(), 3);
+    let mut found = Block([9; 512]);
+    leg.fail_from(2);
+    leg.sync()?;
+    assert_eq!(rt; leg.read(0, &mut found), Err(LegFault));
+    assert_eq!(rt; found, Block([9; 512]));
+    assert_eq!(rt; leg.sync(), Err(LegFault));
+    assert_eq!(rt; leg.write(0, &[0xaa; 512]), Err(LegFault));
+    assert_eq!(rt; leg.faults(), 3);
+    leg.set(2);
+    leg.sync()?;
+    assert_eq!(rt; leg.sync(), Err(LegFault));
+    leg.sync()?;
+    Ok(())
+}
+
+#[test]
+fn a_fuse_counts_calls(rt: HostRuntime) {
+    let mut fuse = Fuse::Once(2);
+    assert!(rt; !fuse.burn());
+    assert!(rt; fuse.burn());
+    assert_eq!(rt; fuse, Fuse::Never);
+    let mut lasting = Fuse::From(2);
+    assert!(rt; !lasting.burn());
+    assert!(rt; lasting.burn());
+    assert!(rt; lasting.burn());
 }
