@@ -28,10 +28,6 @@ const READ_15: [u8; 28] =
 // A READ of nothing, cookie 16.
 const READ_16: [u8; 28] = *b"\x25\x60\x95\x13\0\0\0\0\0\0\0\0\0\0\0\x16\0\0\0\0\0\0\0\0\0\0\0\0";
 
-// A WRITE of 32 MiB, cookie 19, as long as one may be.
-const LONGEST_WRITE: [u8; 28] =
-    *b"\x25\x60\x95\x13\0\0\0\x01\0\0\0\0\0\0\0\x19\0\0\0\0\0\0\0\0\x02\0\0\0";
-
 // A WRITE of 33,554,944 bytes, cookie 17.
 const LONG_WRITE: [u8; 28] =
     *b"\x25\x60\x95\x13\0\0\0\x01\0\0\0\0\0\0\0\x17\0\0\0\0\0\0\0\0\x02\0\x02\0";
@@ -175,21 +171,6 @@ fn a_payload_stays_while_others_are_read(rt: HostRuntime) -> Result<(), Fail> {
         assert_eq!(rt; other.payload.as_slice(), [0xa5; 512].as_slice());
     }
     assert_eq!(rt; kept.payload.as_slice(), [0x5a; 512].as_slice());
-    Ok(())
-}
-
-#[test]
-fn reads_a_write_of_32_mib_in_pieces_of_64_kib(rt: HostRuntime) -> Result<(), Fail> {
-    let mut piece = Vec::new(rt.alloc());
-    piece.resize(65_536, 0xaa)?;
-    let mut reader = RequestReader::new();
-    reader.feed(rt.alloc(), &LONGEST_WRITE)?;
-    for _ in 0..512 {
-        assert!(rt; reader.next(rt.alloc())?.is_none());
-        reader.feed(rt.alloc(), piece.as_slice())?;
-    }
-    let request = reader.next(rt.alloc())?.ok_or("no request")?;
-    assert_eq!(rt; seen(&request), (0, 0x19, 1, 0, 33_554_432, 33_554_432));
     Ok(())
 }
 
