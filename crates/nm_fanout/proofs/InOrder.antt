@@ -153,23 +153,6 @@ pub AllBelow-rise : (low high : ℕ) (rs : List Record) → low ≤ high → All
 AllBelow-rise low high [] le h = tt
 AllBelow-rise low high (r ∷ rs) le h = (omega (arith, h.0, le), AllBelow-rise low high rs le h.1)
 
--- a ticket that is above all others stays so
-pub AllBelow-changed : (f : Record → Record) (k : KeepsOrder f) (high t : ℕ) (rs : List Record)
-    → AllBelow high rs → AllBelow high (changed f t rs)
-AllBelow-changed f k high t [] h = tt
-AllBelow-changed f k high t (r ∷ rs) h =
-    (omega (arith, h.0, ticket-changed f k (r.ticket == t) r), AllBelow-changed f k high t rs h.1)
-
-pub AllBelow-reached : (high t leg : ℕ) (rs : List Record) → AllBelow high rs
-    → AllBelow high (reached t leg rs)
-AllBelow-reached high t leg rs h = AllBelow-changed (without_leg leg) (without_leg-keeps leg) high t
-    rs h
-
-pub AllBelow-landed : (high t number : ℕ) (rs : List Record) → AllBelow high rs
-    → AllBelow high (landed t number rs)
-AllBelow-landed high t number rs h = AllBelow-changed (with_entry number) (with_entry-keeps number)
-    high t rs h
-
 below-kept : (high : ℕ) (b : Bool) (r : Record) (ws : List Record) → r.ticket < high
     → AllBelow high ws → AllBelow high (cond b (r ∷ ws) ws)
 below-kept high true r ws h k = (h, k)

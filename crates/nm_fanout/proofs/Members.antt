@@ -1,11 +1,10 @@
 -- The records in the list, and the tickets by which they are found.
-use Rattle.std.proofs.Common.{◌≡◌, ◌⊎◌, ℕ, ◌<◌, Bool, true, false, cond, ◌==◌, List, [], ◌∷◌, Some, sym, ap, ◌∙◌, arith, eq-eqb, ne_eqb, inl, inr}
+use Rattle.std.proofs.Common.{◌≡◌, ◌⊎◌, ℕ, ◌<◌, Bool, true, false, cond, ◌==◌, List, [], ◌∷◌, Some, sym, ap, arith, eq-eqb, ne_eqb, inl, inr}
 use Rattle.std.proofs.lemmas.Bool.Decides.{eqb_tells}
 use Rattle.nm_fanout.specs.declared.write_record.Record.{Record}
-use Rattle.nm_fanout.specs.Record.{IsWhole, is_under_way}
-use Rattle.nm_fanout.specs.Records.{Ascends, AllAbove, AllWhole, AreInOrder, OneWriterABlock, find_record, busy_on}
+use Rattle.nm_fanout.specs.Record.{IsWhole}
+use Rattle.nm_fanout.specs.Records.{Ascends, AllAbove, AllWhole, AreInOrder, find_record, busy_on}
 use Rattle.nm_fanout.proofs.Busy.{holds}
-use Rattle.nm_fanout.proofs.Writers.{busy_on-here}
 
 -- the record is in the list
 abbrev pub Member : Record → List Record → Type 0
@@ -51,26 +50,6 @@ Member-find_record (r ∷ rs) x h m =
           (λ e. omega (arith, above, e)) in
           rw other (Member-find_record rs x h.1 k)
     ]
-
--- two in the list with one ticket are one
-pub Member-same : (rs : List Record) (x y : Record) → Ascends rs → Member x rs → Member y rs
-    → x.ticket ≡ y.ticket → x ≡ y
-Member-same rs x y h mx my e =
-    let a : find_record x.ticket rs ≡ Some x = Member-find_record rs x h mx in
-    let b : find_record x.ticket rs ≡ Some y = ap (λ (t : ℕ). find_record t rs) e
-    ∙ Member-find_record rs y h my in
-    cc
-
--- two that are under way on one block are one
-pub OneWriterABlock-same : (rs : List Record) (x y : Record) → Ascends rs → OneWriterABlock rs
-    → Member x rs → Member y rs → is_under_way x ≡ true → is_under_way y ≡ true → x.block ≡ y.block
-    → x ≡ y
-OneWriterABlock-same rs x y h one mx my busy_x busy_y e =
-    let a : busy_on x.block rs ≡ Some x = busy_on-here x.ticket rs x h one
-    (Member-find_record rs x h mx) busy_x in
-    let b : busy_on x.block rs ≡ Some y = ap (λ (t : ℕ). busy_on t rs) e
-    ∙ busy_on-here y.ticket rs y h one (Member-find_record rs y h my) busy_y in
-    cc
 
 -- each of them is whole
 pub AllWhole-Member : (rs : List Record) (x : Record) → AllWhole rs → Member x rs → IsWhole x

@@ -24,11 +24,6 @@ pub IsAt-ticket : (t i : ℕ) (rs : List Record) (d : Record) → IsAt t i rs
 IsAt-ticket t i rs d s = find_record-ticket t rs (get_or rs i d)
     (s.found ∙ slice_get-get_or rs i d s.within)
 
--- and is the one that is found by it
-pub IsAt-record : (t i : ℕ) (rs : List Record) (x : Record) → IsAt t i rs
-    → slice_get rs i ≡ Some x → find_record t rs ≡ Some x
-IsAt-record t i rs x s e = s.found ∙ e
-
 -- its entry is the entry that the ticket has
 pub IsAt-entry : (t i : ℕ) (rs : List Record) → IsAt t i rs → entry_at i rs ≡ entry_of t rs
 IsAt-entry t i rs s = ap (λ (o : Option Record). option_and_then (λ (r : Record). r.entry) o)

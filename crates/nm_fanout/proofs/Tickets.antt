@@ -1,19 +1,12 @@
 -- Tickets rise along the list, so a ticket has one place at most: what is done at that place is
 -- what is done to the record of that ticket.
-use Rattle.std.proofs.Common.{◌≡◌, ℕ, ◌<◌, zero, suc, Bool, true, false, cond, ◌==◌, List, [], ◌∷◌, length, get_or, set, Option, None, Some, refl, sym, ap, subst, arith, eq-eqb, ne_eqb}
+use Rattle.std.proofs.Common.{◌≡◌, ℕ, ◌<◌, zero, suc, true, false, ◌==◌, List, [], ◌∷◌, length, get_or, set, Option, None, Some, refl, sym, ap, subst, arith, eq-eqb, ne_eqb}
 use Rattle.std.specs.Option.{IsSome}
 use Rattle.std.specs.List.{remove}
 use Rattle.nm_fanout.specs.declared.write_record.Record.{Record}
 use Rattle.nm_fanout.specs.Records.{Ascends, AllAbove, find_record, changed, without}
 
--- no record above a ticket has that ticket
-pub find_record-above : (t : ℕ) (rs : List Record) → AllAbove t rs → find_record t rs ≡ None
-find_record-above t [] h = refl
-find_record-above t (r ∷ rs) h =
-    let other : (r.ticket == t) ≡ false = ne_eqb r.ticket t (λ e. omega (arith, h.0, e)) in
-    rw other (find_record-above t rs h.1)
-
--- nor is any of them changed with that ticket's record
+-- no record above a ticket is changed with that ticket's record
 pub changed-above : (f : Record → Record) (t : ℕ) (rs : List Record) → AllAbove t rs
     → changed f t rs ≡ rs
 changed-above f t [] h = refl
@@ -71,20 +64,6 @@ find_record-at t (r ∷ rs) (suc i) d h lt at =
     let below = AllAbove-at r.ticket rs i d h.0 (omega arith) in
     let other : (r.ticket == t) ≡ false = ne_eqb r.ticket t (λ e. omega (arith, below, at, e)) in
     rw other (find_record-at t rs i d h.1 (omega arith) at)
-
-some-record : (r : Record) (o : Option Record) (b : Bool) → cond b (Some r) o ≡ None
-    → (b ≡ false) × (o ≡ None)
-some-record r o true h = absurd cc
-some-record r o false h = (refl, h)
-
--- where no record has the ticket, none is changed
-pub changed-none : (f : Record → Record) (t : ℕ) (rs : List Record) → find_record t rs ≡ None
-    → changed f t rs ≡ rs
-changed-none f t [] h = refl
-changed-none f t (r ∷ rs) h =
-    let both = some-record r (find_record t rs) (r.ticket == t) h in
-    let other : (r.ticket == t) ≡ false = both.0 in
-    rw other (ap (λ l. r ∷ l) (changed-none f t rs both.1))
 
 -- an entry that is there is not absent
 pub no-entry-absent : (o : Option ℕ) → IsSome o → o ≡ None → ⊥

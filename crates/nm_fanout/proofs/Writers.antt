@@ -3,9 +3,9 @@ use Rattle.std.proofs.Common.{◌≡◌, ◌≢◌, ℕ, Bool, true, false, cond
 use Rattle.std.specs.Option.{option_or}
 use Rattle.std.proofs.lemmas.Bool.Decides.{eqb_tells}
 use Rattle.nm_fanout.specs.declared.write_record.Record.{Record}
-use Rattle.nm_fanout.specs.Record.{is_under_way, without_leg, with_entry}
-use Rattle.nm_fanout.specs.Records.{Ascends, find_record, busy_on, changed, reached, landed, without, with_new, OneWriterABlock}
-use Rattle.nm_fanout.proofs.Owed.{tells, is_under_way-without_leg}
+use Rattle.nm_fanout.specs.Record.{is_under_way}
+use Rattle.nm_fanout.specs.Records.{Ascends, find_record, busy_on, changed, without, with_new, OneWriterABlock}
+use Rattle.nm_fanout.proofs.Owed.{tells}
 use Rattle.nm_fanout.proofs.Parts.{parts}
 use Rattle.nm_fanout.proofs.Busy.{holds, holds-idle, holds-same, busy_on-parts, busy_on-absent, busy_on-with_new_other, skip-first}
 
@@ -21,11 +21,6 @@ older-free (y ∷ older) newer x one busy =
       | inr w ↦ rw w.0 (older-free older newer x one.1 busy)
     ]
 
-newer-free : (older newer : List Record) (x : Record) → OneWriterABlock (older ++ x ∷ newer)
-    → is_under_way x ≡ true → busy_on x.block newer ≡ None
-newer-free [] newer x one busy = one.0 busy
-newer-free (y ∷ older) newer x one busy = newer-free older newer x one.1 busy
-
 stays-first : (b : ℕ) (older newer : List Record) (x : Record) → busy_on b older ≡ None → x.block ≡ b
     → is_under_way x ≡ true → busy_on b (older ++ x ∷ newer) ≡ Some x
 stays-first b older newer x free e busy =
@@ -33,13 +28,6 @@ stays-first b older newer x free e busy =
     busy_on-parts b older newer x ∙ ap (λ (o : Option Record). option_or o
     (cond (holds b x) (Some x) (busy_on b newer))) free
     ∙ ap (λ (v : Bool). cond v (Some x) (busy_on b newer)) yes
-
-falls-free : (b : ℕ) (older newer : List Record) (x : Record) → busy_on b older ≡ None
-    → busy_on b newer ≡ None → is_under_way x ≡ false → busy_on b (older ++ x ∷ newer) ≡ None
-falls-free b older newer x free_older free_newer idle =
-    busy_on-parts b older newer x ∙ ap (λ (o : Option Record). option_or o
-    (cond (holds b x) (Some x) (busy_on b newer))) free_older
-    ∙ ap (λ (v : Bool). cond v (Some x) (busy_on b newer)) (holds-idle b x idle) ∙ free_newer
 
 -- the record under way on a block is the one that the block is busy with
 pub busy_on-here : (t : ℕ) (rs : List Record) (x : Record) → Ascends rs → OneWriterABlock rs
@@ -50,61 +38,10 @@ busy_on-here t rs x h one found busy =
     ap (λ (l : List Record). busy_on x.block l) p.whole
     ∙ stays-first x.block p.older p.newer x (older-free p.older p.newer x one' busy) refl busy
 
--- a change of it that leaves it under way
-pub busy_on-changed_here : (f : Record → Record) (keeps : (r : Record) → (f r).block ≡ r.block)
-    (t : ℕ) (rs : List Record) (x : Record) → Ascends rs → OneWriterABlock rs
-    → find_record t rs ≡ Some x → is_under_way x ≡ true → is_under_way (f x) ≡ true
-    → busy_on x.block (changed f t rs) ≡ Some (f x)
-busy_on-changed_here f keeps t rs x h one found busy still =
-    let p = parts t rs x h found in
-    let one' = subst (λ (l : List Record). OneWriterABlock l) p.whole one in
-    ap (λ (l : List Record). busy_on x.block l) (p.change f)
-    ∙ stays-first x.block p.older p.newer (f x) (older-free p.older p.newer x one' busy) (keeps x)
-    still
-
--- a change that finishes it
-pub busy_on-changed_done : (f : Record → Record) (t : ℕ) (rs : List Record) (x : Record)
-    → Ascends rs → OneWriterABlock rs → find_record t rs ≡ Some x → is_under_way x ≡ true
-    → is_under_way (f x) ≡ false → busy_on x.block (changed f t rs) ≡ None
-busy_on-changed_done f t rs x h one found busy done =
-    let p = parts t rs x h found in
-    let one' = subst (λ (l : List Record). OneWriterABlock l) p.whole one in
-    ap (λ (l : List Record). busy_on x.block l) (p.change f)
-    ∙ falls-free x.block p.older p.newer (f x) (older-free p.older p.newer x one' busy)
-    (newer-free p.older p.newer x one' busy) done
-
--- a write that reached a leg and has still others to reach
-pub busy_on-reached_here : (t leg : ℕ) (rs : List Record) (x : Record) → Ascends rs
-    → OneWriterABlock rs → find_record t rs ≡ Some x → is_under_way x ≡ true
-    → is_under_way (without_leg leg x) ≡ true
-    → busy_on x.block (reached t leg rs) ≡ Some (without_leg leg x)
-busy_on-reached_here t leg rs x h one found busy still = busy_on-changed_here (without_leg leg)
-    (λ r. refl) t rs x h one found busy still
-
--- a write that reached its last leg: its block is free
-pub busy_on-reached_last : (t leg : ℕ) (rs : List Record) (x : Record) → Ascends rs
-    → OneWriterABlock rs → find_record t rs ≡ Some x → is_under_way x ≡ true
-    → is_under_way (without_leg leg x) ≡ false → busy_on x.block (reached t leg rs) ≡ None
-busy_on-reached_last t leg rs x h one found busy done = busy_on-changed_done (without_leg leg) t rs
-    x h one found busy done
-
--- a write under way that got its entry
-pub busy_on-landed_here : (t number : ℕ) (rs : List Record) (x : Record) → Ascends rs
-    → OneWriterABlock rs → find_record t rs ≡ Some x → is_under_way x ≡ true
-    → busy_on x.block (landed t number rs) ≡ Some (with_entry number x)
-busy_on-landed_here t number rs x h one found busy = busy_on-changed_here (with_entry number)
-    (λ r. refl) t rs x h one found busy busy
-
 -- a change of a record that keeps its block, and does not begin it anew
 pub record Settles (f : Record → Record) : Type 0 where
   pub block : (r : Record) → (f r).block ≡ r.block
   pub idle : (r : Record) → is_under_way r ≡ false → is_under_way (f r) ≡ false
-
-pub without_leg-settles : (leg : ℕ) → Settles (without_leg leg)
-without_leg-settles leg = record { block = λ r. refl; idle = is_under_way-without_leg leg }
-
-pub with_entry-settles : (number : ℕ) → Settles (with_entry number)
-with_entry-settles number = record { block = λ r. refl; idle = λ r h. h }
 
 holds-settled : (f : Record → Record) (k : Settles f) (b : ℕ) (r : Record) → holds b r ≡ false
     → holds b (f r) ≡ false
@@ -157,18 +94,6 @@ OneWriterABlock-changed f k t (r ∷ rs) one = (
       ap (λ (b : ℕ). busy_on b (changed f t rs)) (chosen-block f k (r.ticket == t) r) ∙ free,
   OneWriterABlock-changed f k t rs one.1,
 )
-
--- a write reached a leg
-pub OneWriterABlock-reached : (t leg : ℕ) (rs : List Record) → OneWriterABlock rs
-    → OneWriterABlock (reached t leg rs)
-OneWriterABlock-reached t leg rs one = OneWriterABlock-changed (without_leg leg)
-    (without_leg-settles leg) t rs one
-
--- a write got its entry
-pub OneWriterABlock-landed : (t number : ℕ) (rs : List Record) → OneWriterABlock rs
-    → OneWriterABlock (landed t number rs)
-OneWriterABlock-landed t number rs one = OneWriterABlock-changed (with_entry number)
-    (with_entry-settles number) t rs one
 
 -- a block that is free stays free when a record is taken away
 pub busy_on-without_none : (t b : ℕ) (rs : List Record) → busy_on b rs ≡ None

@@ -2,7 +2,7 @@ ghost use Rattle.std.specs.Prelude.{◌≡◌, ℕ, ◌+◌, ◌-◌, ◌<◌, �
 ghost use Rattle.std.specs.Option.{option_map, option_copied};
 ghost use Rattle.nm_fanout.specs.Data.{FillsBlock};
 ghost use Rattle.nm_fanout.specs.Record.{begun, is_under_way};
-ghost use Rattle.nm_fanout.specs.Records.{AreInOrder, AllBelow, IsAt, find_record, busy_on, entry_of, entry_at, unlanded, next_owed, first_owed, reached, landed, without, with_new};
+ghost use Rattle.nm_fanout.specs.Records.{AreInOrder, AllBelow, IsAt, find_record, busy_on, entry_at, unlanded, next_owed, first_owed, reached, landed, without, with_new};
 
 use crate::block_data::Data;
 use crate::write_record::{LEGS, Record};
@@ -206,42 +206,6 @@ impl Records {
     {
         let record = self.list.remove(place);
         record.into_entry().unwrap()
-    }
-
-    /// Records that this ticket's write has reached the leg. Where no record has the ticket, or the
-    /// leg is not owed, nothing changes.
-    pub fn reach(&mut self, ticket: u64, leg: u8)
-        ensures records { self.new.list ≡ reached ticket leg self.old.list }
-        ensures room { self.new.room ≡ self.old.room }
-    {
-        if let Some(place) = self.find(ticket) {
-            self.reach_at(place, leg);
-        }
-    }
-
-    /// Gives this ticket's write the number of its entry. Where no record has the ticket nothing
-    /// changes.
-    pub fn land(&mut self, ticket: u64, number: u64)
-        ensures records { self.new.list ≡ landed ticket number self.old.list }
-        ensures room { self.new.room ≡ self.old.room }
-    {
-        if let Some(place) = self.find(ticket) {
-            self.land_at(place, number);
-        }
-    }
-
-    /// Removes the record of a landed write, and gives its entry's number. The others keep their
-    /// order.
-    pub fn claim(&mut self, ticket: u64) -> u64
-        requires landed { IsSome (entry_of ticket self.old.list) }
-        ensures number { entry_of ticket self.old.list ≡ Some result }
-        ensures records { self.new.list ≡ without ticket self.old.list }
-        ensures room { self.new.room ≡ self.old.room + 1 }
-    {
-        let Some(place) = self.find(ticket) else {
-            unreachable!()
-        };
-        self.claim_at(place)
     }
 }
 
