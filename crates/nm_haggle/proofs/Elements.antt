@@ -7,7 +7,6 @@ use Rattle.nm_wire.specs.Layout.{FitsOptionHead, option_head_bytes}
 use Rattle.nm_wire.specs.declared.option_head.OptionHead.{OptionHead}
 use Rattle.nm_haggle.specs.ClientOption.{ClientOption, option_bytes, head_of, IsAccepted, IsUnfinished, IsRefused, IsTooLong}
 use Rattle.nm_wire.proofs.Heads.{option_head_bytes-unique, length-option_head_bytes, option_head_bytes-magic}
-use Rattle.nm_wire.proofs.Numbers.{length-be}
 
 -- two prefixes of one length, and what follows them
 pub same_prefixes : {A : Type 0} (a b x y : List A) → length a ≡ length b → a ++ x ≡ b ++ y → (a ≡ b) × (x ≡ y)

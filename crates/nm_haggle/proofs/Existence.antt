@@ -1,7 +1,7 @@
 -- Each text of bytes has a tree: it begins with an incomplete option, a refused header or an option,
 -- and what follows an option is shorter.
 use Rattle.std.proofs.Common.{◌≡◌, ◌≢◌, ℕ, zero, suc, ◌+◌, ◌-◌, ◌<◌, ◌≤◌, ◌^◌, ◌⊎◌, inl, inr, Bool, true, false, List, [], ◌∷◌, ◌++◌, length, take, drop, refl, sym, ap, ◌∙◌, subst, arith, length-append, ⊎_elim}
-use Rattle.std.proofs.lemmas.List.{append_assoc, append-nil, take-append-drop, take-append-le, drop_at, length-take-le, length-drop, drop-drop}
+use Rattle.std.proofs.lemmas.List.{append_assoc, take-append-drop, take-append-le, drop_at, length-take-le, length-drop, drop-drop}
 use Rattle.std.proofs.lemmas.Bool.{cases_lt}
 use Rattle.std.proofs.lemmas.Slice.Eq.{bytes_eq-Decides}
 use Rattle.std.specs.Str.{bytes_eq}
@@ -16,11 +16,11 @@ use Rattle.nm_haggle.specs.declared.next.Next.{Next}
 use Rattle.nm_haggle.specs.declared.next.Next.TheVariants.{More, Transmit, Close}
 use Rattle.nm_haggle.specs.declared.phase.Phase.{Phase}
 use Rattle.nm_haggle.specs.declared.phase.Phase.TheVariants as phase
-use Rattle.nm_haggle.specs.ClientOption.{ClientOption, option_bytes, IsUnfinished}
+use Rattle.nm_haggle.specs.ClientOption.{option_bytes, IsUnfinished}
 use Rattle.nm_haggle.specs.Answer.{answer_to}
 use Rattle.nm_haggle.specs.FirstOption.{option_at, BeginsRefused, BeginsAccepted}
 use Rattle.nm_haggle.specs.Handshake.{Ending, Waits, Settles, Breaks, Options, Handshake, NoFlags, BadFlags, GoodFlags, ending_bytes, options_bytes, handshake_bytes, ending_destination, options_destination, handshake_destination, Destination, replies, has_no_zeroes}
-use Rattle.nm_haggle.specs.Haggling.{OptionsLead, HandshakeLeads, Leads, IsUsed, Response, state, waiting_bytes, end_at, initial_state}
+use Rattle.nm_haggle.specs.Haggling.{OptionsLead, HandshakeLeads, Leads, IsUsed, state, waiting_bytes, end_at, initial_state}
 use Rattle.nm_haggle.specs.Laws.{AreBytes, SomeResponse, SomeAnswer}
 use Rattle.nm_haggle.proofs.Bytes.{bytes_of_take, bytes_of_drop, written_4, below_32}
 use Rattle.nm_haggle.proofs.FirstOptions.{too_long, all_there}

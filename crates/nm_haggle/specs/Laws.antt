@@ -2,7 +2,6 @@
 use Rattle.std.specs.Prelude.{◌≡◌, ◌≢◌, ℕ, ◌+◌, ◌<◌, true, slice_index, List, [], ◌∷◌, ◌++◌, length}
 use Rattle.std.specs.List.{flat_map}
 use Rattle.nm_wire.specs.declared.export.Export.{Export}
-use Rattle.nm_haggle.specs.declared.next.Next.{Next}
 use Rattle.nm_haggle.specs.declared.next.Next.TheVariants.{More}
 use Rattle.nm_haggle.specs.ClientOption.{ClientOption, option_bytes, IsAccepted}
 use Rattle.nm_haggle.specs.Answer.{information_bytes, IsInformation, adds_up, asked_name}

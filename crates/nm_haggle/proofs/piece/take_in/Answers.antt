@@ -5,7 +5,6 @@ use Rattle.nm_wire.specs.declared.export.Export.{Export}
 use Rattle.nm_haggle.specs.declared.phase.Phase.{Phase}
 use Rattle.nm_haggle.specs.declared.progress.Progress.{Progress}
 use Rattle.nm_haggle.specs.Haggling.{state}
-use Rattle.nm_haggle.specs.Output.{Appends}
 use Rattle.nm_haggle.specs.Progress.{Advances, Reads}
 use Rattle.nm_haggle.proofs.Passings.{slice_is_rest, ends_not_more}
 use Rattle.nm_haggle.proofs.Joins.{awaited_short, ended_past, passed_past, ended_in_joined, nothing_whole, in_two_stages}
