@@ -115,12 +115,16 @@ answer_to_list export payload =
     }
     else refusal (option_number option.List) kind.Invalid
 
+-- the zeroes that end the reply to EXPORT_NAME
+unfoldable pub closing_zeroes : List ℕ
+closing_zeroes = replicate export_name_zeroes 0
+
 -- EXPORT_NAME begins transmission without a reply's header, or closes the session without a byte
 abbrev pub answer_to_export_name : Export → Bool → List ℕ → Answer
 answer_to_export_name export no_zeroes payload =
     if is_known export payload
     then record {
-      out = size_and_flags export ++ (if no_zeroes then [] else replicate export_name_zeroes 0);
+      out = size_and_flags export ++ (if no_zeroes then [] else closing_zeroes);
       next = Transmit;
     }
     else record { out = []; next = Close false }

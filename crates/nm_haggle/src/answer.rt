@@ -4,13 +4,9 @@ ghost use Rattle.nm_haggle.specs.Answer.{IsAnswered, answer_to, answer_to_export
 ghost use Rattle.nm_haggle.specs.Output.{BeginsWith};
 
 use crate::next::Next;
-use crate::replies::{put_empty, put_information, put_name, put_size_and_flags};
-use nm_wire::sizes::EXPORT_NAME_ZEROES;
+use crate::replies::{put_empty, put_information, put_name, put_size_and_flags, put_zeroes};
 use nm_wire::{Export, OptionKind, ReplyKind};
 use std::alloc::AllocError;
-
-/// The zeroes at the end of the reply to EXPORT_NAME.
-const ZEROES: [u8; EXPORT_NAME_ZEROES] = [0; EXPORT_NAME_ZEROES];
 
 /// Whether a client may name the export so.
 fn is_known(export: &Export, name: &[u8]) -> bool
@@ -61,7 +57,7 @@ fn answer_export_name(
     }
     put_size_and_flags(out, export)?;
     if !no_zeroes {
-        out.extend_from_slice(&ZEROES)?;
+        put_zeroes(out)?;
     }
     Ok(Next::Transmit)
 }

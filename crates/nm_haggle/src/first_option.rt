@@ -11,7 +11,7 @@ pub(crate) const HEAD: usize = 16;
 pub(crate) const MOST_HELD: usize = HEAD + MAX_OPTION_DATA as usize;
 
 /// What a text of options begins with.
-#[derive(Clone, Copy, Debug, PartialEq, Eq)]
+#[derive(Clone, Copy)]
 pub(crate) enum FirstOption {
     /// An incomplete option.
     Unfinished,

@@ -3,7 +3,7 @@ use crate::next::Next;
 use crate::phase::Phase;
 
 /// How far a text was answered.
-#[derive(Clone, Copy, Debug, PartialEq, Eq)]
+#[derive(Clone, Copy)]
 pub(crate) struct Progress {
     /// The bytes of all elements that were answered.
     pub(crate) used: usize,

@@ -1,13 +1,13 @@
 //! The bytes of the replies to options, each appended to the output. At an error a part
 //! of a reply may follow it.
 ghost use Rattle.std.specs.Prelude.{◌≡◌, ◌<◌, ◌≤◌, ◌^◌, ◌++◌, [], length, OnOk, OnErr};
-ghost use Rattle.nm_haggle.specs.Answer.{reply, size_and_flags, export_information, block_sizes, information_replies};
+ghost use Rattle.nm_haggle.specs.Answer.{reply, size_and_flags, closing_zeroes, export_information, block_sizes, information_replies};
 ghost use Rattle.nm_wire.specs.Number.{be};
 ghost use Rattle.nm_wire.specs.Layout.{option_reply_bytes};
 ghost use Rattle.nm_wire.specs.ReplyKind.{reply_number};
 ghost use Rattle.nm_haggle.specs.Output.{BeginsWith};
 
-use nm_wire::sizes::{MAX_PAYLOAD, MIN_BLOCK, PREFERRED_BLOCK};
+use nm_wire::sizes::{EXPORT_NAME_ZEROES, MAX_PAYLOAD, MIN_BLOCK, PREFERRED_BLOCK};
 use nm_wire::{Export, InfoKind, OptionReply, ReplyKind};
 use std::alloc::AllocError;
 
@@ -70,6 +70,15 @@ pub(crate) fn put_size_and_flags(out: &mut Vec<u8>, export: &Export) -> Result<(
     put_u64(out, export.size())?;
     put_u16(out, export.flags().0)?;
     Ok(())
+}
+
+/// The zeroes that end the reply to EXPORT_NAME.
+#[tactic(auto, unfolding(crate::specs::Answer::closing_zeroes))]
+pub(crate) fn put_zeroes(out: &mut Vec<u8>) -> Result<(), AllocError>
+    ensures ok { OnOk result (out.new.items ≡ out.old.items ++ closing_zeroes) }
+    ensures err { OnErr result (BeginsWith out.new.items out.old.items) }
+{
+    out.extend_from_slice(&[0; EXPORT_NAME_ZEROES])
 }
 
 /// A reply with the export's name.

@@ -390,22 +390,10 @@ fn adds_up_the_lengths_of_info_and_go(rt: HostRuntime) -> Result<(), Fail> {
                 &[0, 3],
             ],
         )?;
-        expect_answer(
-            &rt,
-            alloc,
-            6,
-            &payload,
-            &empty_reply(6, INVALID),
-            Next::More,
-        )?;
-        expect_answer(
-            &rt,
-            alloc,
-            7,
-            &payload,
-            &empty_reply(7, INVALID),
-            Next::More,
-        )?;
+        for number in [6, 7] {
+            let invalid = empty_reply(number, INVALID);
+            expect_answer(&rt, alloc, number, &payload, &invalid, Next::More)?;
+        }
     }
     let payload = concat(alloc, &[&[0, 0, 0, 4], b"disk", &[0, 1, 0, 3]])?;
     expect_answer(&rt, alloc, 6, &payload, &described_by_info(), Next::More)?;
