@@ -1,3 +1,4 @@
+ghost use Rattle.nm_leg.specs.Leg.{leg_type};
 ghost use Rattle.std.specs.Prelude.{◌≡◌, ◌<◌, length, is_ok};
 ghost use Rattle.nm_leg.specs.LegCalls.{HasBlock, ReadsLegAt, WritesLegAt, SyncsLegAt};
 
@@ -13,7 +14,7 @@ pub fn read_leg_at<L: LegPart>(
 ) -> Result<(), LegFault>
     requires leg { leg < length legs.old }
     requires block { HasBlock L.model legs.old leg at }
-    ensures { ReadsLegAt L.model L.honest (is_ok result) leg at
+    ensures { ReadsLegAt (leg_type L.model L.honest) (is_ok result) leg at
         legs.old legs.new into.old into.new }
 {
     legs[leg as usize].read(at, into)
@@ -29,7 +30,7 @@ pub fn write_leg_at<L: LegPart>(
     requires leg { leg < length legs.old }
     requires block { HasBlock L.model legs.old leg at }
     requires bytes { length bytes.now ≡ 512 }
-    ensures { WritesLegAt L.model L.honest (is_ok result) leg at bytes.now
+    ensures { WritesLegAt (leg_type L.model L.honest) (is_ok result) leg at bytes.now
         legs.old legs.new }
 {
     legs[leg as usize].write(at, bytes)
@@ -38,7 +39,7 @@ pub fn write_leg_at<L: LegPart>(
 /// Syncs one leg of a list. All other legs stay as they were.
 pub fn sync_leg_at<L: LegPart>(legs: &mut [L], leg: u8) -> Result<(), LegFault>
     requires { leg < length legs.old }
-    ensures { SyncsLegAt L.model L.honest (is_ok result) leg
+    ensures { SyncsLegAt (leg_type L.model L.honest) (is_ok result) leg
         legs.old legs.new }
 {
     legs[leg as usize].sync()

@@ -11,7 +11,7 @@ use Rattle.nm_script_lib.specs.declared.mirror_line.MirrorLine.{MirrorLine}
 use Rattle.nm_script_lib.specs.declared.step.Step.{Step}
 use Rattle.nm_script_lib.specs.Forms.{keywords}
 use Rattle.nm_script_lib.specs.Grammar.{IsStepLine, IsScript, mirror_form, steps_on}
-use Rattle.nm_script_lib.specs.MemStripe.{MemStripe, InRange, in_memory, new_stripe, filled_block, asked, CanTake}
+use Rattle.nm_script_lib.specs.MemStripe.{MemStripe, InRange, in_memory, mem_legs, new_stripe, filled_block, asked, CanTake}
 use Rattle.nm_script_lib.specs.Runs.{Answers}
 use Rattle.nm_script_lib.proofs.FormLaws.{Always, line_always}
 use Rattle.nm_script_lib.proofs.Legs.{count_legs}
@@ -24,13 +24,13 @@ at_place P (x ∷ xs) (suc k) d h all = at_place P xs k d (omega arith) all.1
 
 -- a run changes neither the stripe's place nor how many legs it has
 runs_shape : (ss : List (StripeStep (List Block))) (xs : List (Answer (List Block)))
-    (old new : MemStripe) → Runs in_memory true old ss xs new → SameShape old new
+    (old new : MemStripe) → Runs mem_legs old ss xs new → SameShape old new
 runs_shape [] [] old new h = record
     { place = ap (λ (s : MemStripe). s.place) h; legs = ap (λ (s : MemStripe). length s.legs) h }
 runs_shape [] (x ∷ xs) old new h = absurd h
 runs_shape (s ∷ ss) [] old new h = absurd h
 runs_shape (s ∷ ss) (x ∷ xs) old new (mid, step, rest) =
-    let first = step-shape in_memory true s x old mid step in
+    let first = step-shape mem_legs s x old mid step in
     let later = runs_shape ss xs mid new rest in
     record { place = later.place ∙ first.place; legs = later.legs ∙ first.legs }
 

@@ -11,7 +11,7 @@ use Rattle.nm_stripe.specs.declared.step.Step.{Step as StripeStep}
 use Rattle.nm_stripe.specs.Run.{StepOf, Runs}
 use Rattle.nm_script_lib.specs.declared.mirror_line.MirrorLine.{MirrorLine}
 use Rattle.nm_script_lib.specs.declared.step.Step.{Step}
-use Rattle.nm_script_lib.specs.MemStripe.{MemStripe, in_memory, new_stripe, asked}
+use Rattle.nm_script_lib.specs.MemStripe.{MemStripe, mem_legs, new_stripe, asked}
 use Rattle.nm_script_lib.specs.Printing.{answer_line, answer_lines}
 use Rattle.nm_script_lib.specs.Streams.{AppendsPrefix, FlushesPrefix}
 use Rattle.nm_script_lib.specs.Runs.{Answers, history, run_text, RunsSteps, RunsPrefix, WholeRun, PartOfRun, FirstSteps, AllSteps, Writes}
@@ -24,8 +24,8 @@ on_err (Err e) P p = p
 
 runs_more : (ss : List (StripeStep (List Block))) (xs : List (Answer (List Block)))
     (a b c : MemStripe) (s : StripeStep (List Block)) (x : Answer (List Block)) →
-    Runs in_memory true a ss xs b → StepOf in_memory true s x b c →
-    Runs in_memory true a (ss ++ s ∷ []) (xs ++ x ∷ []) c
+    Runs mem_legs a ss xs b → StepOf mem_legs s x b c →
+    Runs mem_legs a (ss ++ s ∷ []) (xs ++ x ∷ []) c
 runs_more [] [] a b c s x e h = (c, rw (← e) h, refl)
 runs_more [] (y ∷ xs) a b c s x e h = absurd e
 runs_more (r ∷ ss) [] a b c s x e h = absurd e
@@ -33,7 +33,7 @@ runs_more (r ∷ ss) (y ∷ xs) a b c s x e h = (e.0, e.1, runs_more ss xs e.0 b
 
 pub answers_more : (prefix : List Step) (xs : List (Answer (List Block))) (a b c : MemStripe)
     (s : Step) (x : Answer (List Block)) →
-    Answers prefix xs a b → StepOf in_memory true (asked s) x b c →
+    Answers prefix xs a b → StepOf mem_legs (asked s) x b c →
     Answers (prefix ++ s ∷ []) (xs ++ x ∷ []) a c
 answers_more prefix xs a b c s x e h =
     rw (map-append asked prefix (s ∷ [])) (runs_more (map asked prefix) xs a b c (asked s) x e h)
@@ -72,7 +72,7 @@ prefix_flushed old new all kept h = (h.0, kept, h.1, h.2)
 pub steps_more : (prefix : List Step) (before mid after : MemStripe) (s : Step)
     (a : Answer (List Block)) (old cur new : Option (List ℕ)) (buffer some kept : List ℕ) →
     RunsSteps prefix before mid (λ text. FlushesPrefix old cur (buffer ++ text) some) →
-    StepOf in_memory true (asked s) a mid after →
+    StepOf mem_legs (asked s) a mid after →
     FlushesPrefix cur new (some ++ answer_line a) kept →
     RunsSteps (prefix ++ s ∷ []) before after (λ text. FlushesPrefix old new (buffer ++ text) kept)
 steps_more prefix before mid after s a old cur new buffer some kept h step p = record {
@@ -100,7 +100,7 @@ stopped_before prefix rest steps before mid old cur buffer some e h = record {
 pub stopped_after : (prefix rest steps : List Step) (before mid after : MemStripe) (s : Step)
     (a : Answer (List Block)) (old cur new : Option (List ℕ)) (buffer some : List ℕ) →
     steps ≡ (prefix ++ s ∷ []) ++ rest → RunsSteps prefix before mid (λ text. FlushesPrefix old cur (buffer ++ text) some) →
-    StepOf in_memory true (asked s) a mid after →
+    StepOf mem_legs (asked s) a mid after →
     AppendsPrefix cur new (some ++ answer_line a) → RunsPrefix steps before (λ text. AppendsPrefix old new (buffer ++ text))
 stopped_after prefix rest steps before mid after s a old cur new buffer some e h step w = record {
   prefix = prefix ++ s ∷ [];

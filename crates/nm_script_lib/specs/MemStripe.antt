@@ -1,8 +1,8 @@
 -- The stripe that a script runs: memory legs of zero bytes, all in sync.
-use Rattle.std.specs.Prelude.{ℕ, ◌≤◌, ◌^◌, List, replicate}
+use Rattle.std.specs.Prelude.{true, ℕ, ◌≤◌, ◌^◌, List, replicate}
 use Rattle.nm_replay.specs.declared.block.Block.{Block}
 use Rattle.nm_fanout.specs.declared.block_data.Data.TheVariants.{Cut}
-use Rattle.nm_leg.specs.Leg.{Leg, filled_array}
+use Rattle.nm_leg.specs.Leg.{Leg, filled_array, LegType, leg_type}
 use Rattle.nm_stripe.specs.declared.step.Step.{Step as StripeStep}
 use Rattle.nm_stripe.specs.declared.step.Step.TheVariants.{Begin as BeginStep, Push as PushStep, Claim as ClaimStep, Read as ReadStep}
 use Rattle.nm_stripe.specs.State.{StripeState}
@@ -15,6 +15,10 @@ use Rattle.nm_script_lib.specs.declared.step.Step.TheVariants.{Begin, Push, Clai
 -- A leg in memory holds its blocks, all of them durable, and no call of it fails.
 abbrev pub in_memory : List Block → Leg
 in_memory blocks = record { contents = blocks; durable = blocks; faults = 0 }
+
+-- The type of such legs: all of them are honest.
+abbrev pub mem_legs : LegType (List Block)
+mem_legs = leg_type in_memory true
 
 -- The state of a stripe of such legs.
 abbrev pub MemStripe : Type 0

@@ -3,7 +3,7 @@ ghost use Rattle.std.specs.Prelude.{◌≡◌, ℕ, ◌<◌, ◌≤◌, ◌+◌,
 ghost use Rattle.nm_stripe.specs.Run.{StepOf, MayBeAsked};
 ghost use Rattle.nm_script_lib.specs.MemStripe.{InRange};
 ghost use Rattle.nm_script_lib.specs.RunErrors.{EndsRun};
-ghost use Rattle.nm_script_lib.specs.MemStripe.{in_memory, new_stripe, zero_legs, filled_block, asked, CanTake};
+ghost use Rattle.nm_script_lib.specs.MemStripe.{mem_legs, new_stripe, zero_legs, filled_block, asked, CanTake};
 
 use crate::mirror_line::MirrorLine;
 use crate::run_error::RunError;
@@ -85,7 +85,7 @@ pub fn step(
 ) -> Result<Answer<MemLeg>, AllocError>
     requires { CanTake stripe.old step }
     ensures { IfOk result (λ answer.
-        StepOf in_memory true (asked step) answer stripe.old stripe.new) }
+        StepOf mem_legs (asked step) answer stripe.old stripe.new) }
 {
     let step = asked(alloc, step)?;
     let answer = stripe.step(step);

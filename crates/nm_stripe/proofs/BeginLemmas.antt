@@ -11,7 +11,7 @@ use Rattle.nm_fanout.specs.Record.{owes, begun}
 use Rattle.nm_fanout.specs.Records.{find_record, busy_on, unlanded, with_new}
 use Rattle.nm_fanout.proofs.Writers.{OneWriterABlock-with_new}
 use Rattle.nm_fanout.proofs.InOrder.{AreInOrder-with_new}
-use Rattle.nm_leg.specs.Leg.{Leg}
+use Rattle.nm_leg.specs.Leg.{Leg, LegType}
 use Rattle.nm_replay.specs.WriteLives.{NotBegun, Begun, WriteLives}
 use Rattle.nm_replay.specs.Events.{BeginsWrite}
 use Rattle.nm_replay.specs.Kept.{KeptHistory}
@@ -44,12 +44,12 @@ may_begin stripe block none =
       below = below (2 ^ 63) (next_number stripe + unlanded stripe.records) (when_off (is_exhausted stripe) Exhausted rows.1.1.1.0);
     }
 
-module _ {L : Type 0} (model : L → Leg) (old : StripeState L) (block : ℕ) (bytes : Data) (owed : List Bool) (first : OwesFirst (length old.legs) owed) where
+module _ {L : Type 0} (type : LegType L) (old : StripeState L) (block : ℕ) (bytes : Data) (owed : List Bool) (first : OwesFirst (length old.legs) owed) where
   -- the new write's record
   abbrev pub new_record : Record
   new_record = begun old.tickets block bytes owed
 
-  begin-records : HasLegs model old → HasRecords old → MayBegin old block → block < old.place.blocks → FillsBlock bytes → HasRecords (after_begin old block bytes owed)
+  begin-records : HasLegs type.model old → HasRecords old → MayBegin old block → block < old.place.blocks → FillsBlock bytes → HasRecords (after_begin old block bytes owed)
   begin-records has_legs k may inside fills = record {
     in_order = AreInOrder-with_new new_record old.records may.few k.tickets (record { filled = fills; places = first.places }) k.in_order;
     tickets = AllBelow-with_new new_record old.records k.tickets;
@@ -76,7 +76,7 @@ module _ {L : Type 0} (model : L → Leg) (old : StripeState L) (block : ℕ) (b
     below = omega (arith, may.below, unlanded-with_new new_record old.records refl);
   }
 
-  begin-agrees : HasLegs model old → HasRecords old → LegsAgree model old → LegsAgree model (after_begin old block bytes owed)
+  begin-agrees : HasLegs type.model old → HasRecords old → LegsAgree type.model old → LegsAgree type.model (after_begin old block bytes owed)
   begin-agrees has_legs records k = record {
     reached = λ t r leg at going free inside. ⊎_elim
         (λ new. absurd (let owes_it = owed_each (length old.legs) owed leg first inside in let not_owed : owes leg new_record ≡ false = subst (λ (x : Record). owes leg x ≡ false) new.1 free in let clash : true ≡ false = sym owes_it ∙ not_owed in cc))
@@ -86,8 +86,8 @@ module _ {L : Type 0} (model : L → Leg) (old : StripeState L) (block : ℕ) (b
     last = k.last;
   }
 
-  pub begin-keeps : (honest : Bool) → Keeps model honest old → MayBegin old block → block < old.place.blocks → FillsBlock bytes → Keeps model honest (after_begin old block bytes owed)
-  begin-keeps honest k may inside fills = record {
+  pub begin-keeps : Keeps type old → MayBegin old block → block < old.place.blocks → FillsBlock bytes → Keeps type (after_begin old block bytes owed)
+  begin-keeps k may inside fills = record {
     legs = record { few = k.legs.few; master = k.legs.master; lengths = k.legs.lengths };
     records = begin-records k.legs k.records may inside fills;
     numbers = begin-numbers k.numbers may;
@@ -115,13 +115,13 @@ module _ {L : Type 0} (model : L → Leg) (old : StripeState L) (block : ℕ) (b
     refl,
   )
 
-  pub begin-acts : (honest : Bool) → Keeps model honest old → IsTrue honest → MayBegin old block → block < old.place.blocks → FillsBlock bytes → Acts model old (after_begin old block bytes owed) (BeginsWrite old.tickets block (written new_record) ∷ [])
-  begin-acts honest k is_honest may inside fills =
+  pub begin-acts : Keeps type old → IsTrue type.honest → MayBegin old block → block < old.place.blocks → FillsBlock bytes → Acts type.model old (after_begin old block bytes owed) (BeginsWrite old.tickets block (written new_record) ∷ [])
+  begin-acts k is_honest may inside fills =
       let agrees = k.agrees is_honest may.runs in
       let new_records = begin-records k.legs k.records may inside fills in
-      let new_legs : HasLegs model (after_begin old block bytes owed) = record { few = k.legs.few; master = k.legs.master; lengths = k.legs.lengths } in
-      let before = array_is_master model old k.legs k.records agrees in
-      let after = array_is_master model (after_begin old block bytes owed) new_legs new_records (begin-agrees k.legs k.records agrees) in
+      let new_legs : HasLegs type.model (after_begin old block bytes owed) = record { few = k.legs.few; master = k.legs.master; lengths = k.legs.lengths } in
+      let before = array_is_master type.model old k.legs k.records agrees in
+      let after = array_is_master type.model (after_begin old block bytes owed) new_legs new_records (begin-agrees k.legs k.records agrees) in
       record {
         explained = record {
           legal = after ∙ sym before;

@@ -13,7 +13,7 @@ use Rattle.nm_fanout.specs.declared.write_record.Record.{Record}
 use Rattle.nm_fanout.specs.Record.{is_under_way}
 use Rattle.nm_fanout.specs.Records.{find_record, busy_on, without}
 use Rattle.nm_fanout.proofs.InOrder.{AreInOrder-without}
-use Rattle.nm_leg.specs.Leg.{Leg}
+use Rattle.nm_leg.specs.Leg.{Leg, LegType}
 use Rattle.nm_replay.specs.WriteLives.{NotBegun, Landed, Replied, WriteLives}
 use Rattle.nm_replay.specs.Events.{RepliesWrite}
 use Rattle.nm_replay.specs.Kept.{KeptHistory}
@@ -56,7 +56,7 @@ pub has_number : (e : Option ℕ) → is_some e ≡ true → (n : ℕ) × (e ≡
 has_number None h = absurd (cc)
 has_number (Some n) h = (n, refl)
 
-module _ {L : Type 0} (model : L → Leg) (honest : Bool) (old : StripeState L) (ticket : ℕ) (r : Record) (k : Keeps model honest old) (found : find_record ticket old.records ≡ Some r) (over : is_under_way r ≡ false) where
+module _ {L : Type 0} (type : LegType L) (old : StripeState L) (ticket : ℕ) (r : Record) (k : Keeps type old) (found : find_record ticket old.records ≡ Some r) (over : is_under_way r ≡ false) where
   -- a finished write has landed
   pub finished_landed : (n : ℕ) × (r.entry ≡ Some n)
   finished_landed = has_number r.entry (k.records.landed ticket r found ∙ ap (λ b. not b) (finished-owes old.master r over))
@@ -88,17 +88,17 @@ module _ {L : Type 0} (model : L → Leg) (honest : Bool) (old : StripeState L) 
             (one_or_two q.ticket ticket)
       ]) refl
 
-  claim-legs : HasLegs model (after_claim old ticket)
+  claim-legs : HasLegs type.model (after_claim old ticket)
   claim-legs = record { few = k.legs.few; master = k.legs.master; lengths = k.legs.lengths }
 
-  claim-agrees : LegsAgree model old → LegsAgree model (after_claim old ticket)
+  claim-agrees : LegsAgree type.model old → LegsAgree type.model (after_claim old ticket)
   claim-agrees agree = record {
     reached = λ t x leg at going free inside. agree.reached t x leg (without_cases ticket t old.records x at).1 going free inside;
     alike = λ leg b inside none. agree.alike leg b inside (none_before b none);
     last = agree.last;
   }
 
-  pub claim-keeps : Keeps model honest (after_claim old ticket)
+  pub claim-keeps : Keeps type (after_claim old ticket)
   claim-keeps =
       let n = finished_landed in
       record {
@@ -134,11 +134,11 @@ module _ {L : Type 0} (model : L → Leg) (honest : Bool) (old : StripeState L) 
     refl,
   )
 
-  pub claim-acts : IsTrue honest → old.stopped ≡ false → (n : ℕ) → r.entry ≡ Some n → Acts model old (after_claim old ticket) (RepliesWrite ticket n ∷ [])
+  pub claim-acts : IsTrue type.honest → old.stopped ≡ false → (n : ℕ) → r.entry ≡ Some n → Acts type.model old (after_claim old ticket) (RepliesWrite ticket n ∷ [])
   claim-acts is_honest runs n number =
       let agree = k.agrees is_honest runs in
-      let before = array_is_master model old k.legs k.records agree in
-      let after = array_is_master model (after_claim old ticket) claim-legs claim-records (claim-agrees agree) in
+      let before = array_is_master type.model old k.legs k.records agree in
+      let after = array_is_master type.model (after_claim old ticket) claim-legs claim-records (claim-agrees agree) in
       record {
         explained = record {
           legal = after ∙ sym before;

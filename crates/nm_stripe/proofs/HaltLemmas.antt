@@ -1,19 +1,19 @@
 -- A push whose leg fails stops the stripe: what still holds needs no trust in a leg.
 use Rattle.std.proofs.Common.{◌≡◌, ℕ, Bool, true, false, List, length, ◌∙◌, arith}
-use Rattle.nm_leg.specs.Leg.{Leg}
+use Rattle.nm_leg.specs.Leg.{Leg, LegType}
 use Rattle.nm_leg.specs.LegCalls.{WritesLegAt}
 use Rattle.nm_stripe.specs.State.{StripeState}
 use Rattle.nm_stripe.specs.Invariant.{Keeps}
 use Rattle.nm_stripe.proofs.LegLemmas.{calls-length, calls-lengths}
 
-pub halt-keeps : {L : Type 0} (model : L → Leg) (honest : Bool) (old : StripeState L) (legs : List L) (leg at : ℕ) (bytes : List ℕ) → Keeps model honest old → WritesLegAt model honest false leg at bytes old.legs legs → Keeps model honest (record old { legs = legs; stopped = true })
-halt-keeps model honest old legs leg at bytes k w =
-    let same_count : length legs ≡ length old.legs = calls-length model old.legs legs leg w.before w.after w.change in
+pub halt-keeps : {L : Type 0} (type : LegType L) (old : StripeState L) (legs : List L) (leg at : ℕ) (bytes : List ℕ) → Keeps type old → WritesLegAt type false leg at bytes old.legs legs → Keeps type (record old { legs = legs; stopped = true })
+halt-keeps type old legs leg at bytes k w =
+    let same_count : length legs ≡ length old.legs = calls-length type.model old.legs legs leg w.before w.after w.change in
     record {
       legs = record {
         few = omega (arith, k.legs.few, same_count);
         master = omega (arith, k.legs.master, same_count);
-        lengths = λ j inside. calls-lengths model false old.legs legs leg j w.before w.after w.change w.writes.calls ∙ k.legs.lengths j (omega (arith, inside, same_count));
+        lengths = λ j inside. calls-lengths type.model false old.legs legs leg j w.before w.after w.change w.writes.calls ∙ k.legs.lengths j (omega (arith, inside, same_count));
       };
       records = record {
         in_order = k.records.in_order;

@@ -11,7 +11,7 @@ use Rattle.nm_fanout.specs.Data.{bytes_of}
 use Rattle.nm_fanout.specs.Record.{owes, without_leg}
 use Rattle.nm_fanout.specs.Records.{AreInOrder, find_record, unlanded, changed, reached}
 use Rattle.nm_fanout.proofs.InOrder.{AreInOrder-reached, AreInOrder-landed}
-use Rattle.nm_leg.specs.Leg.{Leg}
+use Rattle.nm_leg.specs.Leg.{Leg, LegType}
 use Rattle.nm_replay.specs.WriteLives.{NotBegun, Begun, Landed, WriteLives}
 use Rattle.nm_replay.specs.ReadLives.{NotBegun as NoReadBegun, Closed, ReadLives}
 use Rattle.nm_replay.specs.Events.{Lands}
@@ -33,34 +33,34 @@ landed_state old legs r leg = moved old legs (landing (next_number old) leg) r.t
 landed-same : {L : Type 0} (old : StripeState L) (legs : List L) (r : Record) (leg : ℕ) → landed_state old legs r leg ≡ after_landing old legs r leg
 landed-same {L} old legs r leg = ap (λ (rs : List Record). let s : StripeState L = record old { legs = legs; records = rs; kept = old.kept ++ write_entry (next_number old) r ∷ []; total = old.total + 1 } in s) (sym (changed-twice (next_number old) leg r.ticket old.records))
 
-module _ {L : Type 0} (model : L → Leg) (honest : Bool) (old : StripeState L) (legs : List L) (r : Record) (leg : ℕ) (c : Reached model honest old legs r leg) (is : leg ≡ old.master) where
+module _ {L : Type 0} (type : LegType L) (old : StripeState L) (legs : List L) (r : Record) (leg : ℕ) (c : Reached type old legs r leg) (is : leg ≡ old.master) where
   no_entry : r.entry ≡ None
   no_entry = not_landed r.entry (c.keeps.records.landed r.ticket r c.found ∙ ap (λ b. not b) (subst (λ (i : ℕ). owes i r ≡ true) is c.owed))
 
   land-records : HasRecords (landed_state old legs r leg)
   land-records =
-      moved-records model honest old legs r leg (landing (next_number old) leg) (old.kept ++ write_entry (next_number old) r ∷ []) (old.total + 1) (landing-reaches (next_number old) leg) c.keeps.records c.writes c.found
+      moved-records type old legs r leg (landing (next_number old) leg) (old.kept ++ write_entry (next_number old) r ∷ []) (old.total + 1) (landing-reaches (next_number old) leg) c.keeps.records c.writes c.found
       (subst (λ (rs : List Record). AreInOrder rs) (changed-twice (next_number old) leg r.ticket old.records)
       (AreInOrder-landed r.ticket (next_number old) (reached r.ticket leg old.records) (AreInOrder-reached r.ticket leg old.records c.keeps.records.in_order)))
       (ap (λ b. not b) (sym (subst (λ (i : ℕ). owes i (without_leg leg r) ≡ false) is (owes-without_leg_same leg r))))
 
-  land-legs : HasLegs model (landed_state old legs r leg)
-  land-legs = moved-legs model honest old legs r leg (landing (next_number old) leg) (old.kept ++ write_entry (next_number old) r ∷ []) (old.total + 1) c.keeps.legs c.writes
+  land-legs : HasLegs type.model (landed_state old legs r leg)
+  land-legs = moved-legs type old legs r leg (landing (next_number old) leg) (old.kept ++ write_entry (next_number old) r ∷ []) (old.total + 1) c.keeps.legs c.writes
 
   -- an honest master's contents change at the block alone
-  land-master : IsTrue honest → contents_of model legs old.master ≡ slice_set (contents_of model old.legs old.master) r.block (written r)
-  land-master is_honest = subst (λ (i : ℕ). contents_of model legs i ≡ slice_set (contents_of model old.legs i) r.block (written r)) is (writes-contents model honest old.legs legs leg r.block (bytes_of r.data) is_honest c.writes)
+  land-master : IsTrue type.honest → contents_of type.model legs old.master ≡ slice_set (contents_of type.model old.legs old.master) r.block (written r)
+  land-master is_honest = subst (λ (i : ℕ). contents_of type.model legs i ≡ slice_set (contents_of type.model old.legs i) r.block (written r)) is (writes-contents type old.legs legs leg r.block (bytes_of r.data) is_honest c.writes)
 
-  land-inside : r.block < length (contents_of model old.legs old.master)
+  land-inside : r.block < length (contents_of type.model old.legs old.master)
   land-inside = omega (arith, c.keeps.legs.lengths old.master c.keeps.legs.master, c.keeps.records.inside r.ticket r c.found)
 
-  land-agrees : IsTrue honest → LegsAgree model (landed_state old legs r leg)
+  land-agrees : IsTrue type.honest → LegsAgree type.model (landed_state old legs r leg)
   land-agrees is_honest =
       let agree = c.keeps.agrees is_honest c.runs in
-      moved-agrees model honest old legs r leg (landing (next_number old) leg) (old.kept ++ write_entry (next_number old) r ∷ []) (old.total + 1) (landing-reaches (next_number old) leg) is_honest c.keeps.legs c.keeps.records agree c.writes c.found c.owed
-      (ends-push_by old.kept (write_entry (next_number old) r) (contents_of model old.legs old.master) (contents_of model legs old.master) agree.last
-      (ap (λ xs. slice_get xs r.block) (land-master is_honest) ∙ slice_get-set_same (contents_of model old.legs old.master) r.block (written r) land-inside)
-      (λ b off. ap (λ xs. slice_get xs b) (land-master is_honest) ∙ slice_get-set_other (contents_of model old.legs old.master) r.block b (written r) (λ e. off (sym e))))
+      moved-agrees type old legs r leg (landing (next_number old) leg) (old.kept ++ write_entry (next_number old) r ∷ []) (old.total + 1) (landing-reaches (next_number old) leg) is_honest c.keeps.legs c.keeps.records agree c.writes c.found c.owed
+      (ends-push_by old.kept (write_entry (next_number old) r) (contents_of type.model old.legs old.master) (contents_of type.model legs old.master) agree.last
+      (ap (λ xs. slice_get xs r.block) (land-master is_honest) ∙ slice_get-set_same (contents_of type.model old.legs old.master) r.block (written r) land-inside)
+      (λ b off. ap (λ xs. slice_get xs b) (land-master is_honest) ∙ slice_get-set_other (contents_of type.model old.legs old.master) r.block b (written r) (λ e. off (sym e))))
 
   one_less : unlanded (changed (landing (next_number old) leg) r.ticket old.records) + 1 ≡ unlanded old.records
   one_less = unlanded-landed (landing (next_number old) leg) r.ticket old.records r (next_number old) c.keeps.records.in_order.ascending c.found no_entry refl
@@ -73,7 +73,7 @@ module _ {L : Type 0} (model : L → Leg) (honest : Bool) (old : StripeState L) 
     below = omega (arith, c.keeps.numbers.below, one_less);
   }
 
-  land-kept : Keeps model honest (landed_state old legs r leg)
+  land-kept : Keeps type (landed_state old legs r leg)
   land-kept = record {
     legs = land-legs;
     records = land-records;
@@ -82,8 +82,8 @@ module _ {L : Type 0} (model : L → Leg) (honest : Bool) (old : StripeState L) 
     agrees = λ is_honest runs. land-agrees is_honest;
   }
 
-  pub land-keeps : Keeps model honest (after_landing old legs r leg)
-  land-keeps = subst (λ (s : StripeState L). Keeps model honest s) (landed-same old legs r leg) land-kept
+  pub land-keeps : Keeps type (after_landing old legs r leg)
+  land-keeps = subst (λ (s : StripeState L). Keeps type s) (landed-same old legs r leg) land-kept
 
   -- the write of the ticket lands, and every other goes on as it was
   land-writes : (t : ℕ) → WriteLives t (write_life old t) (Lands (write_entry (next_number old) r) ∷ []) (write_life (landed_state old legs r leg) t)
@@ -124,10 +124,10 @@ module _ {L : Type 0} (model : L → Leg) (honest : Bool) (old : StripeState L) 
     refl,
   )
 
-  land-acted : IsTrue honest → Acts model old (landed_state old legs r leg) (Lands (write_entry (next_number old) r) ∷ [])
+  land-acted : IsTrue type.honest → Acts type.model old (landed_state old legs r leg) (Lands (write_entry (next_number old) r) ∷ [])
   land-acted is_honest =
-      let before = array_is_master model old c.keeps.legs c.keeps.records (c.keeps.agrees is_honest c.runs) in
-      let after = array_is_master model (landed_state old legs r leg) land-legs land-records (land-agrees is_honest) in
+      let before = array_is_master type.model old c.keeps.legs c.keeps.records (c.keeps.agrees is_honest c.runs) in
+      let after = array_is_master type.model (landed_state old legs r leg) land-legs land-records (land-agrees is_honest) in
       record {
         explained = record {
           next = omega arith;
@@ -140,5 +140,5 @@ module _ {L : Type 0} (model : L → Leg) (honest : Bool) (old : StripeState L) 
         first = refl;
       }
 
-  pub land-acts : IsTrue honest → Acts model old (after_landing old legs r leg) (Lands (write_entry (next_number old) r) ∷ [])
-  land-acts is_honest = subst (λ (s : StripeState L). Acts model old s (Lands (write_entry (next_number old) r) ∷ [])) (landed-same old legs r leg) (land-acted is_honest)
+  pub land-acts : IsTrue type.honest → Acts type.model old (after_landing old legs r leg) (Lands (write_entry (next_number old) r) ∷ [])
+  land-acts is_honest = subst (λ (s : StripeState L). Acts type.model old s (Lands (write_entry (next_number old) r) ∷ [])) (landed-same old legs r leg) (land-acted is_honest)

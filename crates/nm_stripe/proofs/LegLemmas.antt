@@ -4,7 +4,7 @@ use Rattle.std.proofs.lemmas.List.{length-set}
 use Rattle.std.proofs.lemmas.Option.{slice_get_within}
 use Rattle.nm_replay.specs.declared.block.Block.{Block}
 use Rattle.nm_replay.proofs.Arrays.{slice_get-set_same, slice_get-set_other}
-use Rattle.nm_leg.specs.Leg.{Leg, CallsLeg, block_of}
+use Rattle.nm_leg.specs.Leg.{Leg, CallsLeg, block_of, LegType}
 use Rattle.nm_leg.specs.LegCalls.{ChangesLeg, ReadsLegAt, WritesLegAt}
 use Rattle.nm_stripe.proofs.RecordLemmas.{one_or_two}
 use Rattle.nm_stripe.specs.State.{contents_of, contents_at}
@@ -33,26 +33,26 @@ calls-lengths model succeeded old new k j before after calls called =
     (λ ne. ap (λ xs. length xs) (calls-other model old new k j before after calls ne)) (one_or_two j k)
 
 -- an honest read changes nobody's contents
-pub reads-contents : {L : Type 0} (model : L → Leg) (honest succeeded : Bool) (old new : List L) (k at j : ℕ) (target filled : Block) → IsTrue honest → ReadsLegAt model honest succeeded k at old new target filled → contents_of model new j ≡ contents_of model old j
-reads-contents model honest succeeded old new k at j target filled is_honest r =
-    ⊎_elim (λ is. subst (λ (i : ℕ). contents_of model new i ≡ contents_of model old i) (sym is) (calls-after model old new k r.before r.after r.change ∙ r.reads.contents is_honest ∙ sym (calls-before model old new k r.before r.after r.change)))
-    (λ ne. calls-other model old new k j r.before r.after r.change ne) (one_or_two j k)
+pub reads-contents : {L : Type 0} (type : LegType L) (succeeded : Bool) (old new : List L) (k at j : ℕ) (target filled : Block) → IsTrue type.honest → ReadsLegAt type succeeded k at old new target filled → contents_of type.model new j ≡ contents_of type.model old j
+reads-contents type succeeded old new k at j target filled is_honest r =
+    ⊎_elim (λ is. subst (λ (i : ℕ). contents_of type.model new i ≡ contents_of type.model old i) (sym is) (calls-after type.model old new k r.before r.after r.change ∙ r.reads.contents is_honest ∙ sym (calls-before type.model old new k r.before r.after r.change)))
+    (λ ne. calls-other type.model old new k j r.before r.after r.change ne) (one_or_two j k)
 
 -- and a read that succeeds finds the called leg's block
-pub reads-found : {L : Type 0} (model : L → Leg) (honest : Bool) (old new : List L) (k at : ℕ) (target filled : Block) → IsTrue honest → ReadsLegAt model honest true k at old new target filled → slice_get (contents_of model old k) at ≡ Some filled
-reads-found model honest old new k at target filled is_honest r =
-    ap (λ xs. slice_get xs at) (calls-before model old new k r.before r.after r.change) ∙ r.reads.found is_honest refl
+pub reads-found : {L : Type 0} (type : LegType L) (old new : List L) (k at : ℕ) (target filled : Block) → IsTrue type.honest → ReadsLegAt type true k at old new target filled → slice_get (contents_of type.model old k) at ≡ Some filled
+reads-found type old new k at target filled is_honest r =
+    ap (λ xs. slice_get xs at) (calls-before type.model old new k r.before r.after r.change) ∙ r.reads.found is_honest refl
 
 -- an honest write that succeeds sets the block on the called leg
-pub writes-contents : {L : Type 0} (model : L → Leg) (honest : Bool) (old new : List L) (k at : ℕ) (bytes : List ℕ) → IsTrue honest → WritesLegAt model honest true k at bytes old new → contents_of model new k ≡ slice_set (contents_of model old k) at (block_of bytes)
-writes-contents model honest old new k at bytes is_honest w =
-    calls-after model old new k w.before w.after w.change ∙ w.writes.written is_honest refl ∙ ap (λ xs. slice_set xs at (block_of bytes)) (sym (calls-before model old new k w.before w.after w.change))
+pub writes-contents : {L : Type 0} (type : LegType L) (old new : List L) (k at : ℕ) (bytes : List ℕ) → IsTrue type.honest → WritesLegAt type true k at bytes old new → contents_of type.model new k ≡ slice_set (contents_of type.model old k) at (block_of bytes)
+writes-contents type old new k at bytes is_honest w =
+    calls-after type.model old new k w.before w.after w.change ∙ w.writes.written is_honest refl ∙ ap (λ xs. slice_set xs at (block_of bytes)) (sym (calls-before type.model old new k w.before w.after w.change))
 
-pub writes-other : {L : Type 0} (model : L → Leg) (honest succeeded : Bool) (old new : List L) (k at j : ℕ) (bytes : List ℕ) → WritesLegAt model honest succeeded k at bytes old new → j ≢ k → contents_of model new j ≡ contents_of model old j
-writes-other model honest succeeded old new k at j bytes w ne = calls-other model old new k j w.before w.after w.change ne
+pub writes-other : {L : Type 0} (type : LegType L) (succeeded : Bool) (old new : List L) (k at j : ℕ) (bytes : List ℕ) → WritesLegAt type succeeded k at bytes old new → j ≢ k → contents_of type.model new j ≡ contents_of type.model old j
+writes-other type succeeded old new k at j bytes w ne = calls-other type.model old new k j w.before w.after w.change ne
 
 -- a block that is not the one written reads as before, on every leg
-pub writes-other_block : {L : Type 0} (model : L → Leg) (honest : Bool) (old new : List L) (k at j b : ℕ) (bytes : List ℕ) → IsTrue honest → WritesLegAt model honest true k at bytes old new → b ≢ at → slice_get (contents_of model new j) b ≡ slice_get (contents_of model old j) b
-writes-other_block model honest old new k at j b bytes is_honest w ne =
-    ⊎_elim (λ is. subst (λ (i : ℕ). slice_get (contents_of model new i) b ≡ slice_get (contents_of model old i) b) (sym is) (ap (λ xs. slice_get xs b) (writes-contents model honest old new k at bytes is_honest w) ∙ slice_get-set_other (contents_of model old k) at b (block_of bytes) (λ e. ne (sym e))))
-    (λ other. ap (λ xs. slice_get xs b) (writes-other model honest true old new k at j bytes w other)) (one_or_two j k)
+pub writes-other_block : {L : Type 0} (type : LegType L) (old new : List L) (k at j b : ℕ) (bytes : List ℕ) → IsTrue type.honest → WritesLegAt type true k at bytes old new → b ≢ at → slice_get (contents_of type.model new j) b ≡ slice_get (contents_of type.model old j) b
+writes-other_block type old new k at j b bytes is_honest w ne =
+    ⊎_elim (λ is. subst (λ (i : ℕ). slice_get (contents_of type.model new i) b ≡ slice_get (contents_of type.model old i) b) (sym is) (ap (λ xs. slice_get xs b) (writes-contents type old new k at bytes is_honest w) ∙ slice_get-set_other (contents_of type.model old k) at b (block_of bytes) (λ e. ne (sym e))))
+    (λ other. ap (λ xs. slice_get xs b) (writes-other type true old new k at j bytes w other)) (one_or_two j k)

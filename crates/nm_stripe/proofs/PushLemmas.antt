@@ -9,7 +9,7 @@ use Rattle.nm_fanout.specs.Data.{bytes_of}
 use Rattle.nm_fanout.specs.Record.{owes, without_leg, with_entry}
 use Rattle.nm_fanout.specs.Records.{find_record, changed, reached, landed}
 use Rattle.nm_fanout.proofs.InOrder.{AreInOrder-reached}
-use Rattle.nm_leg.specs.Leg.{Leg}
+use Rattle.nm_leg.specs.Leg.{Leg, LegType}
 use Rattle.nm_leg.specs.LegCalls.{WritesLegAt}
 use Rattle.nm_replay.specs.WriteLives.{WriteLife, NotBegun}
 use Rattle.nm_stripe.specs.State.{StripeState, contents_of, write_life, life_of}
@@ -45,36 +45,36 @@ pub not_landed : (e : Option ℕ) → is_some e ≡ false → e ≡ None
 not_landed None h = refl
 not_landed (Some n) h = cc
 
-module _ {L : Type 0} (model : L → Leg) (honest : Bool) (old : StripeState L) (legs : List L) (r : Record) (leg : ℕ) where
+module _ {L : Type 0} (type : LegType L) (old : StripeState L) (legs : List L) (r : Record) (leg : ℕ) where
   -- what is known where a write has reached a leg that it owed
   pub record Reached : Type 0 where
-    pub keeps : Keeps model honest old
+    pub keeps : Keeps type old
     pub runs : old.stopped ≡ false
     pub found : find_record r.ticket old.records ≡ Some r
     pub owed : owes leg r ≡ true
-    pub writes : WritesLegAt model honest true leg r.block (bytes_of r.data) old.legs legs
+    pub writes : WritesLegAt type true leg r.block (bytes_of r.data) old.legs legs
 
   -- at a leg that is not the master
   module _ (c : Reached) (ne : old.master ≢ leg) where
     reach-records : HasRecords (after_reach old legs r leg)
     reach-records =
-        moved-records model honest old legs r leg (without_leg leg) old.kept old.total (without-reaches leg) c.keeps.records c.writes c.found
+        moved-records type old legs r leg (without_leg leg) old.kept old.total (without-reaches leg) c.keeps.records c.writes c.found
         (AreInOrder-reached r.ticket leg old.records c.keeps.records.in_order)
         (c.keeps.records.landed r.ticket r c.found ∙ ap (λ b. not b) (sym (owes-without_leg_other leg old.master r ne)))
 
-    reach-legs : HasLegs model (after_reach old legs r leg)
-    reach-legs = moved-legs model honest old legs r leg (without_leg leg) old.kept old.total c.keeps.legs c.writes
+    reach-legs : HasLegs type.model (after_reach old legs r leg)
+    reach-legs = moved-legs type old legs r leg (without_leg leg) old.kept old.total c.keeps.legs c.writes
 
-    reach-master : contents_of model legs old.master ≡ contents_of model old.legs old.master
-    reach-master = writes-other model honest true old.legs legs leg r.block old.master (bytes_of r.data) c.writes ne
+    reach-master : contents_of type.model legs old.master ≡ contents_of type.model old.legs old.master
+    reach-master = writes-other type true old.legs legs leg r.block old.master (bytes_of r.data) c.writes ne
 
-    reach-agrees : IsTrue honest → LegsAgree model (after_reach old legs r leg)
+    reach-agrees : IsTrue type.honest → LegsAgree type.model (after_reach old legs r leg)
     reach-agrees is_honest =
         let agree = c.keeps.agrees is_honest c.runs in
-        moved-agrees model honest old legs r leg (without_leg leg) old.kept old.total (without-reaches leg) is_honest c.keeps.legs c.keeps.records agree c.writes c.found c.owed
+        moved-agrees type old legs r leg (without_leg leg) old.kept old.total (without-reaches leg) is_honest c.keeps.legs c.keeps.records agree c.writes c.found c.owed
         (subst (λ xs. EndsIn old.kept xs) (sym reach-master) agree.last)
 
-    pub reach-keeps : Keeps model honest (after_reach old legs r leg)
+    pub reach-keeps : Keeps type (after_reach old legs r leg)
     reach-keeps = record {
       legs = reach-legs;
       records = reach-records;
@@ -99,10 +99,10 @@ module _ {L : Type 0} (model : L → Leg) (honest : Bool) (old : StripeState L) 
         (λ other. ap (λ o. life_of o) (find_record-changed_other (without_leg leg) (λ x. refl) r.ticket t old.records other))
         (one_or_two t r.ticket))
 
-    pub reach-acts : IsTrue honest → Acts model old (after_reach old legs r leg) []
+    pub reach-acts : IsTrue type.honest → Acts type.model old (after_reach old legs r leg) []
     reach-acts is_honest =
-        let before = array_is_master model old c.keeps.legs c.keeps.records (c.keeps.agrees is_honest c.runs) in
-        let after = array_is_master model (after_reach old legs r leg) reach-legs reach-records (reach-agrees is_honest) in
+        let before = array_is_master type.model old c.keeps.legs c.keeps.records (c.keeps.agrees is_honest c.runs) in
+        let after = array_is_master type.model (after_reach old legs r leg) reach-legs reach-records (reach-agrees is_honest) in
         record {
           explained = record {
             legal = after ∙ reach-master ∙ sym before;

@@ -10,7 +10,7 @@ use Rattle.nm_fanout.specs.declared.write_record.Record.{Record}
 use Rattle.nm_fanout.specs.Data.{bytes_of}
 use Rattle.nm_fanout.specs.Record.{owes}
 use Rattle.nm_fanout.specs.Records.{RecordTable, Ascends, IsAt, find_record, unlanded, reached, landed}
-use Rattle.nm_leg.specs.Leg.{Leg}
+use Rattle.nm_leg.specs.Leg.{Leg, LegType}
 use Rattle.nm_leg.specs.LegCalls.{HasBlock, WritesLegAt}
 use Rattle.nm_stripe.specs.declared.at.At.{At}
 use Rattle.nm_stripe.specs.State.{StripeState, next_number, contents_at, state_of}
@@ -61,20 +61,20 @@ ticket-at place rs r up inside here =
     let is : get_or rs place r ≡ r = same_Some (get_or rs place r) r (sym (slice_get-get_or rs place r inside) ∙ here) in
     subst (λ (t : ℕ). find_record t rs ≡ Some r) (ap (λ (x : Record). x.ticket) is) ((IsAt-own place rs r up inside).found ∙ here)
 
-module _ {L : Type 0} (model : L → Leg) (honest succeeded : Bool) (old : StripeState L) (ticket leg place : ℕ) (legs : List L) (r : Record) where
+module _ {L : Type 0} (type : LegType L) (succeeded : Bool) (old : StripeState L) (ticket leg place : ℕ) (legs : List L) (r : Record) where
   -- what is known once a push has called its leg
   pub record Called : Type 0 where
-    pub keeps : Keeps model honest old
+    pub keeps : Keeps type old
     pub no_cause : push_cause old ticket leg ≡ None
     pub at : IsAt ticket place old.records
     pub found : find_record ticket old.records ≡ Some r
-    pub writes : WritesLegAt model honest succeeded leg r.block (bytes_of r.data) old.legs legs
+    pub writes : WritesLegAt type succeeded leg r.block (bytes_of r.data) old.legs legs
 
   -- from what the calls before and the leg's call say
   pub has-called : (now : StripeState L) (before : List L) (bytes : List ℕ) (ok : Bool)
-      → old ≡ now → Keeps model honest old → IsAt ticket place now.records → push_cause now ticket leg ≡ None
+      → old ≡ now → Keeps type old → IsAt ticket place now.records → push_cause now ticket leg ≡ None
       → slice_get old.records place ≡ Some r → before ≡ old.legs → bytes ≡ bytes_of r.data → ok ≡ succeeded
-      → WritesLegAt model honest ok leg r.block bytes before legs → Called
+      → WritesLegAt type ok leg r.block bytes before legs → Called
   has-called now before bytes ok is keeps at none here same_legs same_bytes same_ok writes =
       let at_old : IsAt ticket place old.records = subst (λ (s : StripeState L). IsAt ticket place s.records) (sym is) at in
       record {
@@ -85,11 +85,11 @@ module _ {L : Type 0} (model : L → Leg) (honest succeeded : Bool) (old : Strip
         writes = rw (← same_ok, ← same_bytes, ← same_legs) writes;
       }
 
-module _ {L : Type 0} (model : L → Leg) (honest : Bool) (old : StripeState L) (ticket leg place : ℕ) (legs : List L) (r : Record) (c : Called model honest true old ticket leg place legs r) where
+module _ {L : Type 0} (type : LegType L) (old : StripeState L) (ticket leg place : ℕ) (legs : List L) (r : Record) (c : Called type true old ticket leg place legs r) where
   pub same_ticket : r.ticket ≡ ticket
   same_ticket = find_record-ticket ticket old.records r c.found
 
-  pub was_reached : Reached model honest old legs r leg
+  pub was_reached : Reached type old legs r leg
   was_reached =
       let may = may_push old ticket leg c.no_cause in
       record {
@@ -101,7 +101,7 @@ module _ {L : Type 0} (model : L → Leg) (honest : Bool) (old : StripeState L) 
       }
 
   -- the stripe after the push, at another leg than the master
-  pub reach-pushes : old.master ≢ leg → Pushes model honest old (after_reach old legs r leg) ticket leg
+  pub reach-pushes : old.master ≢ leg → Pushes type old (after_reach old legs r leg) ticket leg
   reach-pushes ne = record {
     no_cause = c.no_cause;
     pushed = r;
@@ -111,7 +111,7 @@ module _ {L : Type 0} (model : L → Leg) (honest : Bool) (old : StripeState L) 
   }
 
   -- and at the master
-  pub land-pushes : leg ≡ old.master → Pushes model honest old (after_landing old legs r leg) ticket leg
+  pub land-pushes : leg ≡ old.master → Pushes type old (after_landing old legs r leg) ticket leg
   land-pushes is = record {
     no_cause = c.no_cause;
     pushed = r;
@@ -149,10 +149,10 @@ landed-state place legs legs' master table table' tickets history history' first
     rw (same_list, entries, total) refl
 
 -- the answer of a push that reached its leg goes with what it did
-pub answer-reach : {L : Type 0} (model : L → Leg) (honest : Bool) (old new : StripeState L) (ticket leg : ℕ) (answer : Reach) → Pushes model honest old new ticket leg → IsReached new ticket answer → Reaches model honest old new ticket leg answer
-answer-reach model honest old new ticket leg (Pushed count) pushes is = (pushes, is)
-answer-reach model honest old new ticket leg (Complete number) pushes is = (pushes, is)
-answer-reach model honest old new ticket leg Halted pushes is = absurd is
+pub answer-reach : {L : Type 0} (type : LegType L) (old new : StripeState L) (ticket leg : ℕ) (answer : Reach) → Pushes type old new ticket leg → IsReached new ticket answer → Reaches type old new ticket leg answer
+answer-reach type old new ticket leg (Pushed count) pushes is = (pushes, is)
+answer-reach type old new ticket leg (Complete number) pushes is = (pushes, is)
+answer-reach type old new ticket leg Halted pushes is = absurd is
 
 pub explained-reach : {L : Type 0} (model : L → Leg) (old new : StripeState L) (answer : Reach) → IsExplainedStep model [] old new → IsExplainedReach model old new answer
 explained-reach model old new (Pushed count) step = step

@@ -12,7 +12,7 @@ use Rattle.nm_fanout.specs.declared.write_record.Record.{Record}
 use Rattle.nm_fanout.specs.Data.{bytes_of}
 use Rattle.nm_fanout.specs.Record.{is_under_way, owes, without_leg}
 use Rattle.nm_fanout.specs.Records.{AreInOrder, find_record, busy_on, changed}
-use Rattle.nm_leg.specs.Leg.{Leg, block_of}
+use Rattle.nm_leg.specs.Leg.{Leg, block_of, LegType}
 use Rattle.nm_leg.specs.LegCalls.{WritesLegAt}
 use Rattle.nm_stripe.specs.State.{StripeState, contents_of, written}
 use Rattle.nm_stripe.specs.Invariant.{HasLegs, HasRecords, LegsAgree}
@@ -31,14 +31,14 @@ pub record Reaches (leg : ℕ) (f : Record → Record) : Type 0 where
 abbrev pub moved : {L : Type 0} → StripeState L → List L → (Record → Record) → ℕ → List Entry → ℕ → StripeState L
 moved old legs f t kept total = record old { legs = legs; records = changed f t old.records; kept = kept; total = total }
 
-module _ {L : Type 0} (model : L → Leg) (honest : Bool) (old : StripeState L) (legs : List L) (r : Record) (leg : ℕ) (f : Record → Record) (kept : List Entry) (total : ℕ) where
-  pub moved-legs : HasLegs model old → WritesLegAt model honest true leg r.block (bytes_of r.data) old.legs legs → HasLegs model (moved old legs f r.ticket kept total)
+module _ {L : Type 0} (type : LegType L) (old : StripeState L) (legs : List L) (r : Record) (leg : ℕ) (f : Record → Record) (kept : List Entry) (total : ℕ) where
+  pub moved-legs : HasLegs type.model old → WritesLegAt type true leg r.block (bytes_of r.data) old.legs legs → HasLegs type.model (moved old legs f r.ticket kept total)
   moved-legs k w =
-      let same_count : length legs ≡ length old.legs = calls-length model old.legs legs leg w.before w.after w.change in
+      let same_count : length legs ≡ length old.legs = calls-length type.model old.legs legs leg w.before w.after w.change in
       record {
         few = omega (arith, k.few, same_count);
         master = omega (arith, k.master, same_count);
-        lengths = λ j inside. calls-lengths model true old.legs legs leg j w.before w.after w.change w.writes.calls ∙ k.lengths j (omega (arith, inside, same_count));
+        lengths = λ j inside. calls-lengths type.model true old.legs legs leg j w.before w.after w.change w.writes.calls ∙ k.lengths j (omega (arith, inside, same_count));
       }
 
   -- the change begins no write anew
@@ -51,10 +51,10 @@ module _ {L : Type 0} (model : L → Leg) (honest : Bool) (old : StripeState L) 
   changed_owes : Reaches leg f → (j : ℕ) (x : Record) → owes j (f x) ≡ owes j (without_leg leg x)
   changed_owes c j x = ap (λ (xs : List Bool). owes j (record x { owed = xs })) (c.owed x)
 
-  pub moved-records : Reaches leg f → HasRecords old → WritesLegAt model honest true leg r.block (bytes_of r.data) old.legs legs → find_record r.ticket old.records ≡ Some r → AreInOrder (changed f r.ticket old.records)
+  pub moved-records : Reaches leg f → HasRecords old → WritesLegAt type true leg r.block (bytes_of r.data) old.legs legs → find_record r.ticket old.records ≡ Some r → AreInOrder (changed f r.ticket old.records)
       → is_some (f r).entry ≡ not (owes old.master (f r)) → HasRecords (moved old legs f r.ticket kept total)
   moved-records c k w found order lands =
-      let same_count : length legs ≡ length old.legs = calls-length model old.legs legs leg w.before w.after w.change in
+      let same_count : length legs ≡ length old.legs = calls-length type.model old.legs legs leg w.before w.after w.change in
       record {
         in_order = order;
         tickets = below-changed f c.ticket old.tickets r.ticket old.records k.tickets;
@@ -82,16 +82,16 @@ module _ {L : Type 0} (model : L → Leg) (honest : Bool) (old : StripeState L) 
       }
 
   -- each leg that the write doesn't owe any more holds its bytes
-  arrived : Reaches leg f → IsTrue honest → HasLegs model old → HasRecords old → LegsAgree model old → WritesLegAt model honest true leg r.block (bytes_of r.data) old.legs legs → find_record r.ticket old.records ≡ Some r → owes leg r ≡ true
-      → (j : ℕ) → j < length old.legs → owes j (f r) ≡ false → slice_get (contents_of model legs j) r.block ≡ Some (written r)
+  arrived : Reaches leg f → IsTrue type.honest → HasLegs type.model old → HasRecords old → LegsAgree type.model old → WritesLegAt type true leg r.block (bytes_of r.data) old.legs legs → find_record r.ticket old.records ≡ Some r → owes leg r ≡ true
+      → (j : ℕ) → j < length old.legs → owes j (f r) ≡ false → slice_get (contents_of type.model legs j) r.block ≡ Some (written r)
   arrived c is_honest has_legs records agree w found owed j inside free =
       ⊎_elim
       (λ is.
-      let long : r.block < length (contents_of model old.legs leg) = omega (arith, has_legs.lengths leg (omega (arith, is, inside)), records.inside r.ticket r found) in
-      subst (λ (i : ℕ). slice_get (contents_of model legs i) r.block ≡ Some (written r)) (sym is)
-      (ap (λ xs. slice_get xs r.block) (writes-contents model honest old.legs legs leg r.block (bytes_of r.data) is_honest w) ∙ slice_get-set_same (contents_of model old.legs leg) r.block (written r) long))
+      let long : r.block < length (contents_of type.model old.legs leg) = omega (arith, has_legs.lengths leg (omega (arith, is, inside)), records.inside r.ticket r found) in
+      subst (λ (i : ℕ). slice_get (contents_of type.model legs i) r.block ≡ Some (written r)) (sym is)
+      (ap (λ xs. slice_get xs r.block) (writes-contents type old.legs legs leg r.block (bytes_of r.data) is_honest w) ∙ slice_get-set_same (contents_of type.model old.legs leg) r.block (written r) long))
       (λ ne.
-      ap (λ xs. slice_get xs r.block) (writes-other model honest true old.legs legs leg r.block j (bytes_of r.data) w ne)
+      ap (λ xs. slice_get xs r.block) (writes-other type true old.legs legs leg r.block j (bytes_of r.data) w ne)
       ∙ agree.reached r.ticket r j found (owes-under_way leg r owed) (sym (owes-without_leg_other leg j r ne) ∙ sym (changed_owes c j r) ∙ free) inside)
       (one_or_two j leg)
 
@@ -118,22 +118,22 @@ module _ {L : Type 0} (model : L → Leg) (honest : Bool) (old : StripeState L) 
         | false ↦ λ over. finished-owes j (f r) over
       ]) refl
 
-  pub moved-agrees : Reaches leg f → IsTrue honest → HasLegs model old → HasRecords old → LegsAgree model old → WritesLegAt model honest true leg r.block (bytes_of r.data) old.legs legs → find_record r.ticket old.records ≡ Some r → owes leg r ≡ true
-      → EndsIn kept (contents_of model legs old.master) → LegsAgree model (moved old legs f r.ticket kept total)
+  pub moved-agrees : Reaches leg f → IsTrue type.honest → HasLegs type.model old → HasRecords old → LegsAgree type.model old → WritesLegAt type true leg r.block (bytes_of r.data) old.legs legs → find_record r.ticket old.records ≡ Some r → owes leg r ≡ true
+      → EndsIn kept (contents_of type.model legs old.master) → LegsAgree type.model (moved old legs f r.ticket kept total)
   moved-agrees c is_honest has_legs records agree w found owed last =
-      let same_count : length legs ≡ length old.legs = calls-length model old.legs legs leg w.before w.after w.change in
+      let same_count : length legs ≡ length old.legs = calls-length type.model old.legs legs leg w.before w.after w.change in
       let going : is_under_way r ≡ true = owes-under_way leg r owed in
       record {
         reached = λ t x j at going_x free inside. ⊎_elim
             (λ this.
             let not_owed : owes j (f r) ≡ false = subst (λ (z : Record). owes j z ≡ false) this.1 free in
             let here = arrived c is_honest has_legs records agree w found owed j (omega (arith, inside, same_count)) not_owed in
-            subst (λ (z : Record). slice_get (contents_of model legs j) z.block ≡ Some (written z)) (sym this.1)
-            (subst (λ (b : ℕ). slice_get (contents_of model legs j) b ≡ Some (written (f r))) (sym (c.block r))
+            subst (λ (z : Record). slice_get (contents_of type.model legs j) z.block ≡ Some (written z)) (sym this.1)
+            (subst (λ (b : ℕ). slice_get (contents_of type.model legs j) b ≡ Some (written (f r))) (sym (c.block r))
             (here ∙ ap (λ (d : Data). Some (block_of (bytes_of d))) (sym (c.bytes r)))))
             (λ other.
             let off : x.block ≢ r.block = λ same_block. other.0 (one_ticket t r.ticket old.records x r records.in_order.ascending records.one_writer other.1 found going_x going same_block) in
-            writes-other_block model honest old.legs legs leg r.block j x.block (bytes_of r.data) is_honest w off
+            writes-other_block type old.legs legs leg r.block j x.block (bytes_of r.data) is_honest w off
             ∙ agree.reached t x j other.1 going_x free (omega (arith, inside, same_count)))
             (changed_cases f c.ticket r.ticket t old.records r x found at);
         alike = λ j b inside none. ⊎_elim
@@ -141,11 +141,11 @@ module _ {L : Type 0} (model : L → Leg) (honest : Bool) (old : StripeState L) 
             let none_on : busy_on r.block (changed f r.ticket old.records) ≡ None = subst (λ (k : ℕ). busy_on k (changed f r.ticket old.records) ≡ None) on none in
             let here = arrived c is_honest has_legs records agree w found owed j (omega (arith, inside, same_count)) (all_arrived c found none_on j) in
             let there = arrived c is_honest has_legs records agree w found owed old.master has_legs.master (all_arrived c found none_on old.master) in
-            subst (λ (k : ℕ). slice_get (contents_of model legs j) k ≡ slice_get (contents_of model legs old.master) k) (sym on) (here ∙ sym there))
+            subst (λ (k : ℕ). slice_get (contents_of type.model legs j) k ≡ slice_get (contents_of type.model legs old.master) k) (sym on) (here ∙ sym there))
             (λ off.
-            writes-other_block model honest old.legs legs leg r.block j b (bytes_of r.data) is_honest w off
+            writes-other_block type old.legs legs leg r.block j b (bytes_of r.data) is_honest w off
             ∙ agree.alike j b (omega (arith, inside, same_count)) (none_before c records found b off none)
-            ∙ sym (writes-other_block model honest old.legs legs leg r.block old.master b (bytes_of r.data) is_honest w off))
+            ∙ sym (writes-other_block type old.legs legs leg r.block old.master b (bytes_of r.data) is_honest w off))
             (one_or_two b r.block);
         last = last;
       }

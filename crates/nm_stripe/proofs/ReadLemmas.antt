@@ -5,7 +5,7 @@ use Rattle.nm_replay.specs.declared.block.Block.{Block}
 use Rattle.nm_replay.specs.declared.entry.Entry.{Entry}
 use Rattle.nm_replay.specs.History.{EndsIn}
 use Rattle.nm_replay.proofs.Numbering.{numbered-append}
-use Rattle.nm_leg.specs.Leg.{Leg}
+use Rattle.nm_leg.specs.Leg.{Leg, LegType}
 use Rattle.nm_leg.specs.LegCalls.{ReadsLegAt}
 use Rattle.nm_replay.specs.Events.{Event, BeginsRead, Lands, RepliesRead}
 use Rattle.nm_replay.specs.ReadLives.{ReadLife, NotBegun as NoReadBegun, Begun as ReadBegun, Landed as ReadLanded, Closed, ReadLives}
@@ -46,19 +46,19 @@ read_events number block bytes =
 abbrev pub with_read : {L : Type 0} → StripeState L → List L → List Entry → ℕ → StripeState L
 with_read old legs kept total = record old { legs = legs; kept = kept; total = total }
 
-module _ {L : Type 0} (model : L → Leg) (honest succeeded : Bool) (old : StripeState L) (legs : List L) (block : ℕ) (target bytes : Block) (k : Keeps model honest old) (reads : ReadsLegAt model honest succeeded old.master block old.legs legs target bytes) where
-  pub read-legs : (kept : List Entry) (total : ℕ) → HasLegs model (with_read old legs kept total)
+module _ {L : Type 0} (type : LegType L) (succeeded : Bool) (old : StripeState L) (legs : List L) (block : ℕ) (target bytes : Block) (k : Keeps type old) (reads : ReadsLegAt type succeeded old.master block old.legs legs target bytes) where
+  pub read-legs : (kept : List Entry) (total : ℕ) → HasLegs type.model (with_read old legs kept total)
   read-legs kept total =
-      let same_count : length legs ≡ length old.legs = calls-length model old.legs legs old.master reads.before reads.after reads.change in
+      let same_count : length legs ≡ length old.legs = calls-length type.model old.legs legs old.master reads.before reads.after reads.change in
       record {
         few = omega (arith, k.legs.few, same_count);
         master = omega (arith, k.legs.master, same_count);
-        lengths = λ j inside. calls-lengths model succeeded old.legs legs old.master j reads.before reads.after reads.change reads.reads.calls ∙ k.legs.lengths j (omega (arith, inside, same_count));
+        lengths = λ j inside. calls-lengths type.model succeeded old.legs legs old.master j reads.before reads.after reads.change reads.reads.calls ∙ k.legs.lengths j (omega (arith, inside, same_count));
       }
 
   pub read-records : (kept : List Entry) (total : ℕ) → HasRecords (with_read old legs kept total)
   read-records kept total =
-      let same_count : length legs ≡ length old.legs = calls-length model old.legs legs old.master reads.before reads.after reads.change in
+      let same_count : length legs ≡ length old.legs = calls-length type.model old.legs legs old.master reads.before reads.after reads.change in
       record {
         in_order = k.records.in_order;
         tickets = k.records.tickets;
@@ -68,12 +68,12 @@ module _ {L : Type 0} (model : L → Leg) (honest succeeded : Bool) (old : Strip
         owed = λ t x j at owes_j. omega (arith, k.records.owed t x j at owes_j, same_count);
       }
 
-  read-same : IsTrue honest → (j : ℕ) → contents_of model legs j ≡ contents_of model old.legs j
-  read-same is_honest j = reads-contents model honest succeeded old.legs legs old.master block j target bytes is_honest reads
+  read-same : IsTrue type.honest → (j : ℕ) → contents_of type.model legs j ≡ contents_of type.model old.legs j
+  read-same is_honest j = reads-contents type succeeded old.legs legs old.master block j target bytes is_honest reads
 
-  pub read-agrees : IsTrue honest → LegsAgree model old → (kept : List Entry) (total : ℕ) → EndsIn kept (contents_of model old.legs old.master) → LegsAgree model (with_read old legs kept total)
+  pub read-agrees : IsTrue type.honest → LegsAgree type.model old → (kept : List Entry) (total : ℕ) → EndsIn kept (contents_of type.model old.legs old.master) → LegsAgree type.model (with_read old legs kept total)
   read-agrees is_honest agree kept total last =
-      let same_count : length legs ≡ length old.legs = calls-length model old.legs legs old.master reads.before reads.after reads.change in
+      let same_count : length legs ≡ length old.legs = calls-length type.model old.legs legs old.master reads.before reads.after reads.change in
       record {
         reached = λ t x j at going free inside. ap (λ xs. slice_get xs x.block) (read-same is_honest j) ∙ agree.reached t x j at going free (omega (arith, inside, same_count));
         alike = λ j b inside none. ap (λ xs. slice_get xs b) (read-same is_honest j) ∙ agree.alike j b (omega (arith, inside, same_count)) none ∙ ap (λ xs. slice_get xs b) (sym (read-same is_honest old.master));
@@ -81,7 +81,7 @@ module _ {L : Type 0} (model : L → Leg) (honest succeeded : Bool) (old : Strip
       }
 
   -- a read that failed
-  pub fails-keeps : Keeps model honest (record old { legs = legs })
+  pub fails-keeps : Keeps type (record old { legs = legs })
   fails-keeps = record {
     legs = read-legs old.kept old.total;
     records = read-records old.kept old.total;
@@ -90,11 +90,11 @@ module _ {L : Type 0} (model : L → Leg) (honest succeeded : Bool) (old : Strip
     agrees = λ is_honest runs. let agree = k.agrees is_honest runs in read-agrees is_honest agree old.kept old.total agree.last;
   }
 
-  pub fails-acts : IsTrue honest → old.stopped ≡ false → Acts model old (record old { legs = legs }) []
+  pub fails-acts : IsTrue type.honest → old.stopped ≡ false → Acts type.model old (record old { legs = legs }) []
   fails-acts is_honest runs =
       let agree = k.agrees is_honest runs in
-      let before = array_is_master model old k.legs k.records agree in
-      let after = array_is_master model (with_read old legs old.kept old.total) (read-legs old.kept old.total) (read-records old.kept old.total) (read-agrees is_honest agree old.kept old.total agree.last) in
+      let before = array_is_master type.model old k.legs k.records agree in
+      let after = array_is_master type.model (with_read old legs old.kept old.total) (read-legs old.kept old.total) (read-records old.kept old.total) (read-agrees is_honest agree old.kept old.total agree.last) in
       record {
         explained = record {
           legal = after ∙ read-same is_honest old.master ∙ sym before;
@@ -107,25 +107,25 @@ module _ {L : Type 0} (model : L → Leg) (honest succeeded : Bool) (old : Strip
         first = refl;
       }
 
-module _ {L : Type 0} (model : L → Leg) (honest : Bool) (old : StripeState L) (legs : List L) (block : ℕ) (target bytes : Block) (k : Keeps model honest old) (may : MayRead old) (reads : ReadsLegAt model honest true old.master block old.legs legs target bytes) where
-  read_at : IsTrue honest → slice_get (contents_of model old.legs old.master) block ≡ Some bytes
-  read_at is_honest = reads-found model honest old.legs legs old.master block target bytes is_honest reads
+module _ {L : Type 0} (type : LegType L) (old : StripeState L) (legs : List L) (block : ℕ) (target bytes : Block) (k : Keeps type old) (may : MayRead old) (reads : ReadsLegAt type true old.master block old.legs legs target bytes) where
+  read_at : IsTrue type.honest → slice_get (contents_of type.model old.legs old.master) block ≡ Some bytes
+  read_at is_honest = reads-found type old.legs legs old.master block target bytes is_honest reads
 
-  read-ends : IsTrue honest → EndsIn (old.kept ++ entry_of_read (next_number old) block bytes ∷ []) (contents_of model old.legs old.master)
-  read-ends is_honest = ends-push_by old.kept (entry_of_read (next_number old) block bytes) (contents_of model old.legs old.master) (contents_of model old.legs old.master) (k.agrees is_honest may.runs).last (read_at is_honest) (λ b off. refl)
+  read-ends : IsTrue type.honest → EndsIn (old.kept ++ entry_of_read (next_number old) block bytes ∷ []) (contents_of type.model old.legs old.master)
+  read-ends is_honest = ends-push_by old.kept (entry_of_read (next_number old) block bytes) (contents_of type.model old.legs old.master) (contents_of type.model old.legs old.master) (k.agrees is_honest may.runs).last (read_at is_honest) (λ b off. refl)
 
-  pub read-keeps : Keeps model honest (after_read old legs block bytes)
+  pub read-keeps : Keeps type (after_read old legs block bytes)
   read-keeps = record {
-    legs = read-legs model honest true old legs block target bytes k reads (old.kept ++ entry_of_read (next_number old) block bytes ∷ []) (old.total + 1);
-    records = read-records model honest true old legs block target bytes k reads (old.kept ++ entry_of_read (next_number old) block bytes ∷ []) (old.total + 1);
+    legs = read-legs type true old legs block target bytes k reads (old.kept ++ entry_of_read (next_number old) block bytes ∷ []) (old.total + 1);
+    records = read-records type true old legs block target bytes k reads (old.kept ++ entry_of_read (next_number old) block bytes ∷ []) (old.total + 1);
     numbers = record {
       numbered = numbered-append old.first old.kept (entry_of_read (next_number old) block bytes ∷ []) k.numbers.numbered (let n : old.first + old.total ≡ old.first + length old.kept = omega (arith, k.numbers.total) in n, tt);
       total = omega (arith, k.numbers.total, length-append old.kept (entry_of_read (next_number old) block bytes ∷ []));
       given = omega (arith, k.numbers.given);
       below = omega (arith, may.below);
     };
-    consistent = λ is_honest. consistent-read old.first old.kept (contents_of model old.legs old.master) (next_number old) block bytes k.numbers.numbered (let n : old.first + old.total ≡ old.first + length old.kept = omega (arith, k.numbers.total) in n) (k.agrees is_honest may.runs).last (read_at is_honest) (k.consistent is_honest);
-    agrees = λ is_honest runs. read-agrees model honest true old legs block target bytes k reads is_honest (k.agrees is_honest may.runs) (old.kept ++ entry_of_read (next_number old) block bytes ∷ []) (old.total + 1) (read-ends is_honest);
+    consistent = λ is_honest. consistent-read old.first old.kept (contents_of type.model old.legs old.master) (next_number old) block bytes k.numbers.numbered (let n : old.first + old.total ≡ old.first + length old.kept = omega (arith, k.numbers.total) in n) (k.agrees is_honest may.runs).last (read_at is_honest) (k.consistent is_honest);
+    agrees = λ is_honest runs. read-agrees type true old legs block target bytes k reads is_honest (k.agrees is_honest may.runs) (old.kept ++ entry_of_read (next_number old) block bytes ∷ []) (old.total + 1) (read-ends is_honest);
   }
 
   read-lives : (n : ℕ) → ReadLives n (read_life old n) (read_events (next_number old) block bytes) (read_life (after_read old legs block bytes) n)
@@ -146,19 +146,19 @@ module _ {L : Type 0} (model : L → Leg) (honest : Bool) (old : StripeState L) 
             (read_life old n, refl, (read_life old n, refl, (read_life old n, refl, ap (λ b. cond b Closed NoReadBegun) alike)))
       ]) refl
 
-  pub read-acts : IsTrue honest → Acts model old (after_read old legs block bytes) (read_events (next_number old) block bytes)
+  pub read-acts : IsTrue type.honest → Acts type.model old (after_read old legs block bytes) (read_events (next_number old) block bytes)
   read-acts is_honest =
       let agree = k.agrees is_honest may.runs in
-      let before = array_is_master model old k.legs k.records agree in
+      let before = array_is_master type.model old k.legs k.records agree in
       let new = with_read old legs (old.kept ++ entry_of_read (next_number old) block bytes ∷ []) (old.total + 1) in
-      let after = array_is_master model new
-      (read-legs model honest true old legs block target bytes k reads (old.kept ++ entry_of_read (next_number old) block bytes ∷ []) (old.total + 1))
-      (read-records model honest true old legs block target bytes k reads (old.kept ++ entry_of_read (next_number old) block bytes ∷ []) (old.total + 1))
-      (read-agrees model honest true old legs block target bytes k reads is_honest agree (old.kept ++ entry_of_read (next_number old) block bytes ∷ []) (old.total + 1) (read-ends is_honest)) in
+      let after = array_is_master type.model new
+      (read-legs type true old legs block target bytes k reads (old.kept ++ entry_of_read (next_number old) block bytes ∷ []) (old.total + 1))
+      (read-records type true old legs block target bytes k reads (old.kept ++ entry_of_read (next_number old) block bytes ∷ []) (old.total + 1))
+      (read-agrees type true old legs block target bytes k reads is_honest agree (old.kept ++ entry_of_read (next_number old) block bytes ∷ []) (old.total + 1) (read-ends is_honest)) in
       record {
         explained = record {
           next = omega arith;
-          legal = (refl, ap (λ xs. slice_get xs block) before ∙ read_at is_honest, after ∙ reads-contents model honest true old.legs legs old.master block old.master target bytes is_honest reads ∙ sym before);
+          legal = (refl, ap (λ xs. slice_get xs block) before ∙ read_at is_honest, after ∙ reads-contents type true old.legs legs old.master block old.master target bytes is_honest reads ∙ sym before);
           each_write = λ t. (write_life old t, refl, (write_life old t, refl, (write_life old t, refl, refl)));
           each_read = read-lives;
         };
@@ -168,8 +168,8 @@ module _ {L : Type 0} (model : L → Leg) (honest : Bool) (old : StripeState L) 
       }
 
   -- a read finds what the stripe's array has
-  pub read-array : IsTrue honest → slice_get (stripe_array model old) block ≡ Some bytes
-  read-array is_honest = ap (λ xs. slice_get xs block) (array_is_master model old k.legs k.records (k.agrees is_honest may.runs)) ∙ read_at is_honest
+  pub read-array : IsTrue type.honest → slice_get (stripe_array type.model old) block ≡ Some bytes
+  read-array is_honest = ap (λ xs. slice_get xs block) (array_is_master type.model old k.legs k.records (k.agrees is_honest may.runs)) ∙ read_at is_honest
 
 -- the fields of a stripe after a read are the state after it
 pub read-state : {L : Type 0} (place : At) (legs legs' : List L) (master : ℕ) (table : RecordTable) (tickets : ℕ) (history history' : KeptHistory) (first : ℕ) (stopped : Bool) (block : ℕ) (bytes : Block)

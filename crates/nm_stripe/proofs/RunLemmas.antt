@@ -9,7 +9,7 @@ use Rattle.nm_stripe.specs.Read.{read_cause}
 use Rattle.nm_stripe.specs.Push.{Pushes, after_push, after_landing, after_reach}
 use Rattle.nm_stripe.specs.Read.{ReadRefused}
 use Rattle.nm_stripe.proofs.LegLemmas.{calls-length}
-use Rattle.nm_leg.specs.Leg.{Leg}
+use Rattle.nm_leg.specs.Leg.{Leg, LegType}
 use Rattle.nm_stripe.specs.declared.step.Step.{Step}
 use Rattle.nm_stripe.specs.declared.step.Step.TheVariants.{Begin, Push, Claim, Read, Replace}
 use Rattle.nm_stripe.specs.declared.answer.Answer.{Answer}
@@ -21,13 +21,13 @@ use Rattle.nm_stripe.specs.Run.{StepOf, MayBeAsked, AllAsked, Runs, marks, IsInt
 use Rattle.nm_stripe.proofs.ActsLemmas.{acts-none, acts-append}
 
 -- one step more
-pub runs-push : {L : Type 0} (model : L → Leg) (honest : Bool) (old mid new : StripeState L) (steps : List (Step L)) (answers : List (Answer L)) (step : Step L) (answer : Answer L)
-    → Runs model honest old steps answers mid → StepOf model honest step answer mid new → Runs model honest old (steps ++ step ∷ []) (answers ++ answer ∷ []) new
-runs-push model honest old mid new [] [] step answer runs one = (new, subst (λ (s : StripeState _). StepOf model honest step answer s new) runs one, refl)
-runs-push model honest old mid new (s ∷ steps) (a ∷ answers) step answer runs one =
-    (runs.0, runs.1, runs-push model honest runs.0 mid new steps answers step answer runs.2 one)
-runs-push model honest old mid new [] (a ∷ answers) step answer runs one = absurd runs
-runs-push model honest old mid new (s ∷ steps) [] step answer runs one = absurd runs
+pub runs-push : {L : Type 0} (type : LegType L) (old mid new : StripeState L) (steps : List (Step L)) (answers : List (Answer L)) (step : Step L) (answer : Answer L)
+    → Runs type old steps answers mid → StepOf type step answer mid new → Runs type old (steps ++ step ∷ []) (answers ++ answer ∷ []) new
+runs-push type old mid new [] [] step answer runs one = (new, subst (λ (s : StripeState _). StepOf type step answer s new) runs one, refl)
+runs-push type old mid new (s ∷ steps) (a ∷ answers) step answer runs one =
+    (runs.0, runs.1, runs-push type runs.0 mid new steps answers step answer runs.2 one)
+runs-push type old mid new [] (a ∷ answers) step answer runs one = absurd runs
+runs-push type old mid new (s ∷ steps) [] step answer runs one = absurd runs
 
 interleaving-push : {L : Type 0} (steps : List (Step L)) (answers : List (Answer L)) (lists : List (List Event)) (step : Step L) (answer : Answer L) (events : List Event)
     → IsInterleaving steps answers lists → marks_of events ≡ marks step answer → IsInterleaving (steps ++ step ∷ []) (answers ++ answer ∷ []) (lists ++ events ∷ [])
@@ -96,40 +96,40 @@ push-place : {L : Type 0} (old : StripeState L) (legs : List L) (r : Record) (le
 push-place old legs r leg =
     elim (leg == old.master) as (λ b. (cond b (after_landing old legs r leg) (after_reach old legs r leg)).place ≡ old.place) [ true ↦ refl | false ↦ refl ]
 
-push-shape : {L : Type 0} (model : L → Leg) (honest : Bool) (old new : StripeState L) (ticket leg : ℕ) → Pushes model honest old new ticket leg → SameShape old new
-push-shape model honest old new ticket leg p = record {
+push-shape : {L : Type 0} (type : LegType L) (old new : StripeState L) (ticket leg : ℕ) → Pushes type old new ticket leg → SameShape old new
+push-shape type old new ticket leg p = record {
   place = ap (λ s. s.place) p.after ∙ push-place old new.legs p.pushed leg;
-  legs = calls-length model old.legs new.legs leg p.writes.before p.writes.after p.writes.change;
+  legs = calls-length type.model old.legs new.legs leg p.writes.before p.writes.after p.writes.change;
 }
 
 -- a read that is refused
-refused-shape : {L : Type 0} (model : L → Leg) (honest : Bool) (old new : StripeState L) (block : ℕ) (cause : Option Refusal) (given : Refusal) → ReadRefused model honest old new block cause given → SameShape old new
-refused-shape model honest old new block (Some cause) given is = same old new is.1
-refused-shape model honest old new block None Fault is = record {
+refused-shape : {L : Type 0} (type : LegType L) (old new : StripeState L) (block : ℕ) (cause : Option Refusal) (given : Refusal) → ReadRefused type old new block cause given → SameShape old new
+refused-shape type old new block (Some cause) given is = same old new is.1
+refused-shape type old new block None Fault is = record {
   place = ap (λ s. s.place) is.after;
-  legs = calls-length model old.legs new.legs old.master is.reads.before is.reads.after is.reads.change;
+  legs = calls-length type.model old.legs new.legs old.master is.reads.before is.reads.after is.reads.change;
 }
-refused-shape model honest old new block None given is = same old new is.1
+refused-shape type old new block None given is = same old new is.1
 
-pub step-shape : {L : Type 0} (model : L → Leg) (honest : Bool) (step : Step L) (answer : Answer L) (old new : StripeState L) → StepOf model honest step answer old new → SameShape old new
-step-shape model honest (Begin block bytes) (Begun ticket) old new is = record { place = ap (λ s. s.place) is.after; legs = ap (λ s. length s.legs) is.after }
-step-shape model honest (Begin block bytes) (Refused cause handed) old new is = same old new is.2
-step-shape model honest (Push ticket leg) (Pushed count) old new is = push-shape model honest old new ticket leg is.0
-step-shape model honest (Push ticket leg) (Complete number) old new is = push-shape model honest old new ticket leg is.0
-step-shape model honest (Push ticket leg) Halted old new is = record {
+pub step-shape : {L : Type 0} (type : LegType L) (step : Step L) (answer : Answer L) (old new : StripeState L) → StepOf type step answer old new → SameShape old new
+step-shape type (Begin block bytes) (Begun ticket) old new is = record { place = ap (λ s. s.place) is.after; legs = ap (λ s. length s.legs) is.after }
+step-shape type (Begin block bytes) (Refused cause handed) old new is = same old new is.2
+step-shape type (Push ticket leg) (Pushed count) old new is = push-shape type old new ticket leg is.0
+step-shape type (Push ticket leg) (Complete number) old new is = push-shape type old new ticket leg is.0
+step-shape type (Push ticket leg) Halted old new is = record {
   place = ap (λ s. s.place) is.after;
-  legs = calls-length model old.legs new.legs leg is.writes.before is.writes.after is.writes.change;
+  legs = calls-length type.model old.legs new.legs leg is.writes.before is.writes.after is.writes.change;
 }
-step-shape model honest (Push ticket leg) (Refused cause handed) old new is = same old new is.2
-step-shape model honest (Claim ticket) (Written written) old new is = record { place = ap (λ s. s.place) is.after; legs = ap (λ s. length s.legs) is.after }
-step-shape model honest (Claim ticket) (Refused cause handed) old new is = same old new is.2
-step-shape model honest (Read block) (Value value) old new is = record {
+step-shape type (Push ticket leg) (Refused cause handed) old new is = same old new is.2
+step-shape type (Claim ticket) (Written written) old new is = record { place = ap (λ s. s.place) is.after; legs = ap (λ s. length s.legs) is.after }
+step-shape type (Claim ticket) (Refused cause handed) old new is = same old new is.2
+step-shape type (Read block) (Value value) old new is = record {
   place = ap (λ s. s.place) is.after;
-  legs = calls-length model old.legs new.legs old.master is.reads.before is.reads.after is.reads.change;
+  legs = calls-length type.model old.legs new.legs old.master is.reads.before is.reads.after is.reads.change;
 }
-step-shape model honest (Read block) (Refused cause handed) old new is = refused-shape model honest old new block (read_cause old) cause is.0
-step-shape model honest (Replace leg part) (Refused cause handed) old new is = same old new is.2
-step-shape model honest step answer old new is = absurd is
+step-shape type (Read block) (Refused cause handed) old new is = refused-shape type old new block (read_cause old) cause is.0
+step-shape type (Replace leg part) (Refused cause handed) old new is = same old new is.2
+step-shape type step answer old new is = absurd is
 
 -- what may be asked for may still be
 pub asked-later : {L : Type 0} (model : L → Leg) (step : Step L) (old new : StripeState L) → SameShape old new → MayBeAsked model old step → MayBeAsked model new step
@@ -144,43 +144,43 @@ all_asked-later model [] old new shape asked = tt
 all_asked-later model (step ∷ steps) old new shape asked = (asked-later model step old new shape asked.0, all_asked-later model steps old new shape asked.1)
 
 -- how far a run has come: the steps done, of all steps, and the rest, the last of them first
-pub record HasRun {L : Type 0} (model : L → Leg) (honest : Bool) (old : StripeState L) (steps rest : List (Step L)) (answers : List (Answer L)) (now : StripeState L) : Type 0 where
+pub record HasRun {L : Type 0} (type : LegType L) (old : StripeState L) (steps rest : List (Step L)) (answers : List (Answer L)) (now : StripeState L) : Type 0 where
   pub done : List (Step L)
   pub split : done ++ reverse rest ≡ steps
-  pub runs : Runs model honest old done answers now
-  pub acts : IsTrue honest → NoneHalted answers → ActOnOneArray model done answers old now
-  pub asked : AllAsked model now (reverse rest)
+  pub runs : Runs type old done answers now
+  pub acts : IsTrue type.honest → NoneHalted answers → ActOnOneArray type.model done answers old now
+  pub asked : AllAsked type.model now (reverse rest)
 
-pub run-begins : {L : Type 0} (model : L → Leg) (honest : Bool) (old : StripeState L) (steps : List (Step L)) → AllAsked model old steps → HasRun model honest old steps (reverse steps) [] old
-run-begins model honest old steps asked = record {
+pub run-begins : {L : Type 0} (type : LegType L) (old : StripeState L) (steps : List (Step L)) → AllAsked type.model old steps → HasRun type old steps (reverse steps) [] old
+run-begins type old steps asked = record {
   done = [];
   split = reverse-reverse steps;
   runs = refl;
-  acts = λ is_honest none. none-acts model old;
-  asked = subst (λ ss. AllAsked model old ss) (sym (reverse-reverse steps)) asked;
+  acts = λ is_honest none. none-acts type.model old;
+  asked = subst (λ ss. AllAsked type.model old ss) (sym (reverse-reverse steps)) asked;
 }
 
 -- the next step may be asked for
-pub next-asked : {L : Type 0} (model : L → Leg) (honest : Bool) (old : StripeState L) (steps rest : List (Step L)) (step : Step L) (answers : List (Answer L)) (now : StripeState L)
-    → HasRun model honest old steps (rest ++ step ∷ []) answers now → MayBeAsked model now step
-next-asked model honest old steps rest step answers now run = (subst (λ ss. AllAsked model now ss) (reverse-push rest step) run.asked).0
+pub next-asked : {L : Type 0} (type : LegType L) (old : StripeState L) (steps rest : List (Step L)) (step : Step L) (answers : List (Answer L)) (now : StripeState L)
+    → HasRun type old steps (rest ++ step ∷ []) answers now → MayBeAsked type.model now step
+next-asked type old steps rest step answers now run = (subst (λ ss. AllAsked type.model now ss) (reverse-push rest step) run.asked).0
 
-pub run-on : {L : Type 0} (model : L → Leg) (honest : Bool) (old : StripeState L) (steps rest : List (Step L)) (step : Step L) (answers : List (Answer L)) (answer : Answer L) (now new : StripeState L)
-    → HasRun model honest old steps (rest ++ step ∷ []) answers now → StepOf model honest step answer now new → (IsTrue honest → NoneHalted (answer ∷ []) → IsExplainedStep model (marks step answer) now new)
-    → HasRun model honest old steps rest (answers ++ answer ∷ []) new
-run-on model honest old steps rest step answers answer now new run is shows = record {
+pub run-on : {L : Type 0} (type : LegType L) (old : StripeState L) (steps rest : List (Step L)) (step : Step L) (answers : List (Answer L)) (answer : Answer L) (now new : StripeState L)
+    → HasRun type old steps (rest ++ step ∷ []) answers now → StepOf type step answer now new → (IsTrue type.honest → NoneHalted (answer ∷ []) → IsExplainedStep type.model (marks step answer) now new)
+    → HasRun type old steps rest (answers ++ answer ∷ []) new
+run-on type old steps rest step answers answer now new run is shows = record {
   done = run.done ++ step ∷ [];
   split = append_assoc run.done (step ∷ []) (reverse rest) ∙ ap (λ ss. run.done ++ ss) (sym (reverse-push rest step)) ∙ run.split;
-  runs = runs-push model honest old now new run.done answers step answer run.runs is;
-  acts = λ is_honest none. act-push model old now new run.done answers step answer (run.acts is_honest (halted-front answers answer none)) (shows is_honest (halted-last answers answer none));
-  asked = all_asked-later model (reverse rest) now new (step-shape model honest step answer now new is) (subst (λ ss. AllAsked model now ss) (reverse-push rest step) run.asked).1;
+  runs = runs-push type old now new run.done answers step answer run.runs is;
+  acts = λ is_honest none. act-push type.model old now new run.done answers step answer (run.acts is_honest (halted-front answers answer none)) (shows is_honest (halted-last answers answer none));
+  asked = all_asked-later type.model (reverse rest) now new (step-shape type step answer now new is) (subst (λ ss. AllAsked type.model now ss) (reverse-push rest step) run.asked).1;
 }
 
-pub run-ends : {L : Type 0} (model : L → Leg) (honest : Bool) (old : StripeState L) (steps : List (Step L)) (answers : List (Answer L)) (new : StripeState L)
-    → HasRun model honest old steps [] answers new → Runs model honest old steps answers new × (IsTrue honest → NoneHalted answers → ActOnOneArray model steps answers old new)
-run-ends model honest old steps answers new run =
+pub run-ends : {L : Type 0} (type : LegType L) (old : StripeState L) (steps : List (Step L)) (answers : List (Answer L)) (new : StripeState L)
+    → HasRun type old steps [] answers new → Runs type old steps answers new × (IsTrue type.honest → NoneHalted answers → ActOnOneArray type.model steps answers old new)
+run-ends type old steps answers new run =
     let all : run.done ≡ steps = sym (append-nil run.done) ∙ run.split in
-    (subst (λ ss. Runs model honest old ss answers new) all run.runs, λ is_honest none. subst (λ ss. ActOnOneArray model ss answers old new) all (run.acts is_honest none))
+    (subst (λ ss. Runs type old ss answers new) all run.runs, λ is_honest none. subst (λ ss. ActOnOneArray type.model ss answers old new) all (run.acts is_honest none))
 
 -- one step more that may be asked for
 pub all_asked-push : {L : Type 0} (model : L → Leg) (stripe : StripeState L) (steps : List (Step L)) (step : Step L) → AllAsked model stripe steps → MayBeAsked model stripe step → AllAsked model stripe (steps ++ step ∷ [])

@@ -2,22 +2,22 @@
 use Rattle.std.proofs.Common.{Bool, sym, ap, ◌∙◌, subst, slice_get}
 use Rattle.nm_replay.specs.History.{EndsIn}
 use Rattle.nm_replay.proofs.Numbering.{numbered-somewhere}
-use Rattle.nm_leg.specs.Leg.{Leg}
+use Rattle.nm_leg.specs.Leg.{Leg, LegType}
 use Rattle.nm_stripe.specs.State.{StripeState}
 use Rattle.nm_stripe.specs.Invariant.{Keeps}
 use Rattle.nm_stripe.specs.Sound.{IsSound}
 use Rattle.nm_stripe.proofs.ArrayLemmas.{array_is_master}
 
-pub keeps-sound : {L : Type 0} (model : L → Leg) (honest : Bool) (stripe : StripeState L) → Keeps model honest stripe → IsSound model honest stripe
-keeps-sound model honest stripe k = record {
+pub keeps-sound : {L : Type 0} (type : LegType L) (stripe : StripeState L) → Keeps type stripe → IsSound type stripe
+keeps-sound type stripe k = record {
   in_order = k.records.in_order;
   one_writer = k.records.one_writer;
   numbers = numbered-somewhere stripe.first stripe.kept k.numbers.numbered;
   consistent = k.consistent;
   in_sync = λ is_honest runs leg block inside in_sync none.
       let agree = k.agrees is_honest runs in
-      agree.alike leg block inside none ∙ ap (λ xs. slice_get xs block) (sym (array_is_master model stripe k.legs k.records agree));
+      agree.alike leg block inside none ∙ ap (λ xs. slice_get xs block) (sym (array_is_master type.model stripe k.legs k.records agree));
   last = λ is_honest runs.
       let agree = k.agrees is_honest runs in
-      subst (λ xs. EndsIn stripe.kept xs) (sym (array_is_master model stripe k.legs k.records agree)) agree.last;
+      subst (λ xs. EndsIn stripe.kept xs) (sym (array_is_master type.model stripe k.legs k.records agree)) agree.last;
 }

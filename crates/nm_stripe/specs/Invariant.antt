@@ -4,7 +4,7 @@ use Rattle.nm_replay.specs.History.{Consistent, EndsIn, NumberedFrom}
 use Rattle.nm_fanout.specs.declared.write_record.Record.{Record}
 use Rattle.nm_fanout.specs.Record.{is_under_way, owes}
 use Rattle.nm_fanout.specs.Records.{AllBelow, AreInOrder, OneWriterABlock, find_record, busy_on, unlanded}
-use Rattle.nm_leg.specs.Leg.{Leg}
+use Rattle.nm_leg.specs.Leg.{Leg, LegType}
 use Rattle.nm_stripe.specs.State.{StripeState, next_number, contents_of, written}
 
 -- the legs: one to eight, the master among them, and each as long as the stripe
@@ -48,16 +48,16 @@ pub record LegsAgree {L : Type 0} (model : L → Leg) (stripe : StripeState L) :
   pub last : EndsIn stripe.kept (contents_of model stripe.legs stripe.master)
 
 -- all of it
-pub record Keeps {L : Type 0} (model : L → Leg) (honest : Bool)
+pub record Keeps {L : Type 0} (type : LegType L)
     (stripe : StripeState L) : Type 0 where
-  pub legs : HasLegs model stripe
+  pub legs : HasLegs type.model stripe
   pub records : HasRecords stripe
   pub numbers : HasNumbers stripe
-  pub consistent : IsTrue honest → Consistent stripe.kept
-  pub agrees : IsTrue honest → stripe.stopped ≡ false → LegsAgree model stripe
+  pub consistent : IsTrue type.honest → Consistent stripe.kept
+  pub agrees : IsTrue type.honest → stripe.stopped ≡ false → LegsAgree type.model stripe
 
 -- and there is room in the history for each write that has no entry yet
-pub record IsStripe {L : Type 0} (model : L → Leg) (honest : Bool) (room : ℕ)
+pub record IsStripe {L : Type 0} (type : LegType L) (room : ℕ)
     (stripe : StripeState L) : Type 0 where
-  pub keeps : Keeps model honest stripe
+  pub keeps : Keeps type stripe
   pub room_left : unlanded stripe.records ≤ room

@@ -7,7 +7,7 @@ use Rattle.nm_fanout.specs.declared.write_record.Record.{Record}
 use Rattle.nm_fanout.specs.Data.{bytes_of}
 use Rattle.nm_fanout.specs.Record.{is_under_way, owes, owed_count}
 use Rattle.nm_fanout.specs.Records.{find_record, reached, landed}
-use Rattle.nm_leg.specs.Leg.{Leg}
+use Rattle.nm_leg.specs.Leg.{Leg, LegType}
 use Rattle.nm_leg.specs.LegCalls.{WritesLegAt}
 use Rattle.nm_stripe.specs.declared.push.Reach.{Reach}
 use Rattle.nm_stripe.specs.declared.push.Reach.TheVariants.{Pushed, Complete, Halted}
@@ -52,12 +52,12 @@ after_push old legs r leg =
     if leg == old.master then after_landing old legs r leg else after_reach old legs r leg
 
 -- a push whose leg wrote the block
-pub record Pushes {L : Type 0} (model : L → Leg) (honest : Bool) (old new : StripeState L)
+pub record Pushes {L : Type 0} (type : LegType L) (old new : StripeState L)
     (ticket leg : ℕ) : Type 0 where
   pub no_cause : push_cause old ticket leg ≡ None
   pub pushed : Record
   pub found : find_record ticket old.records ≡ Some pushed
-  pub writes : WritesLegAt model honest true leg pushed.block (bytes_of pushed.data)
+  pub writes : WritesLegAt type true leg pushed.block (bytes_of pushed.data)
       old.legs new.legs
   pub after : new ≡ after_push old new.legs pushed leg
 
@@ -76,12 +76,12 @@ pub record IsComplete {L : Type 0} (stripe : StripeState L) (ticket number : ℕ
   pub entry : finished.entry ≡ Some number
 
 -- a push whose leg failed: the stripe stops, and the record stays as it is
-pub record Halts {L : Type 0} (model : L → Leg) (honest : Bool) (old new : StripeState L)
+pub record Halts {L : Type 0} (type : LegType L) (old new : StripeState L)
     (ticket leg : ℕ) : Type 0 where
   pub no_cause : push_cause old ticket leg ≡ None
   pub pushed : Record
   pub found : find_record ticket old.records ≡ Some pushed
-  pub writes : WritesLegAt model honest false leg pushed.block (bytes_of pushed.data)
+  pub writes : WritesLegAt type false leg pushed.block (bytes_of pushed.data)
       old.legs new.legs
   pub after : new ≡ record old { legs = new.legs; stopped = true }
 
@@ -92,13 +92,13 @@ IsReached stripe ticket (Complete number) = IsComplete stripe ticket number
 IsReached stripe ticket Halted = ⊥
 
 -- what a push did, by its answer
-abbrev pub Reaches : {L : Type 0} → (L → Leg) → Bool → StripeState L → StripeState L
+abbrev pub Reaches : {L : Type 0} → LegType L → StripeState L → StripeState L
     → ℕ → ℕ → Reach → Type 0
-Reaches model honest old new ticket leg (Pushed count) =
-    Pushes model honest old new ticket leg × StillOwes new ticket count
-Reaches model honest old new ticket leg (Complete number) =
-    Pushes model honest old new ticket leg × IsComplete new ticket number
-Reaches model honest old new ticket leg Halted = Halts model honest old new ticket leg
+Reaches type old new ticket leg (Pushed count) =
+    Pushes type old new ticket leg × StillOwes new ticket count
+Reaches type old new ticket leg (Complete number) =
+    Pushes type old new ticket leg × IsComplete new ticket number
+Reaches type old new ticket leg Halted = Halts type old new ticket leg
 
 -- a push begins nothing and replies to nothing; of one that stopped the stripe nothing is said
 abbrev pub IsExplainedReach : {L : Type 0} → (L → Leg) → StripeState L → StripeState L

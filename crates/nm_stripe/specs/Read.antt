@@ -2,7 +2,7 @@
 use Rattle.std.specs.Prelude.{◌≡◌, ℕ, ◌+◌, Bool, true, false, List, [], ◌∷◌, ◌++◌, Option, None, Some}
 use Rattle.nm_replay.specs.declared.block.Block.{Block}
 use Rattle.nm_replay.specs.Events.{entry_of_read}
-use Rattle.nm_leg.specs.Leg.{Leg}
+use Rattle.nm_leg.specs.Leg.{Leg, LegType}
 use Rattle.nm_leg.specs.LegCalls.{ReadsLegAt}
 use Rattle.nm_stripe.specs.declared.refusal.Refusal.{Refusal}
 use Rattle.nm_stripe.specs.declared.refusal.Refusal.TheVariants.{Stopped, Exhausted, Fault, Memory}
@@ -30,26 +30,26 @@ after_read old legs block bytes = record old {
 }
 
 -- a read: the master's call gives the bytes, and the history gets the entry that the receipt names
-pub record Finds {L : Type 0} (model : L → Leg) (honest : Bool) (old new : StripeState L)
+pub record Finds {L : Type 0} (type : LegType L) (old new : StripeState L)
     (block : ℕ) (bytes : Block) (receipt : EntryName) : Type 0 where
   pub no_cause : read_cause old ≡ None
   pub target : Block
-  pub reads : ReadsLegAt model honest true old.master block old.legs new.legs target bytes
+  pub reads : ReadsLegAt type true old.master block old.legs new.legs target bytes
   pub names : receipt
       ≡ record { stripe = old.place.stripe; block = block; number = next_number old }
   pub after : new ≡ after_read old new.legs block bytes
 
 -- a read whose leg failed: its count of faults changed, and nothing else
-pub record Fails {L : Type 0} (model : L → Leg) (honest : Bool) (old new : StripeState L)
+pub record Fails {L : Type 0} (type : LegType L) (old new : StripeState L)
     (block : ℕ) : Type 0 where
   pub no_cause : read_cause old ≡ None
   pub target : Block
-  pub reads : ReadsLegAt model honest false old.master block old.legs new.legs target target
+  pub reads : ReadsLegAt type false old.master block old.legs new.legs target target
   pub after : new ≡ record old { legs = new.legs }
 
 -- a read is refused: for the first condition that holds, or by a leg that failed, or out of memory
-abbrev pub ReadRefused : {L : Type 0} → (L → Leg) → Bool → StripeState L → StripeState L
+abbrev pub ReadRefused : {L : Type 0} → LegType L → StripeState L → StripeState L
     → ℕ → Option Refusal → Refusal → Type 0
-ReadRefused model honest old new block (Some cause) refusal = (refusal ≡ cause) × (new ≡ old)
-ReadRefused model honest old new block None Fault = Fails model honest old new block
-ReadRefused model honest old new block None refusal = (refusal ≡ Memory) × (new ≡ old)
+ReadRefused type old new block (Some cause) refusal = (refusal ≡ cause) × (new ≡ old)
+ReadRefused type old new block None Fault = Fails type old new block
+ReadRefused type old new block None refusal = (refusal ≡ Memory) × (new ≡ old)

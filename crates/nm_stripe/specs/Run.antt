@@ -2,7 +2,7 @@
 use Rattle.std.specs.Prelude.{◌≡◌, ◌<◌, Bool, List, [], ◌∷◌, ◌++◌, Some, length}
 use Rattle.nm_replay.specs.Events.{Event, BeginsRead, BeginsWrite, RepliesRead, RepliesWrite, marks_of}
 use Rattle.nm_fanout.specs.Data.{bytes_of, FillsBlock}
-use Rattle.nm_leg.specs.Leg.{Leg, block_of}
+use Rattle.nm_leg.specs.Leg.{Leg, block_of, LegType}
 use Rattle.nm_stripe.specs.declared.step.Step.{Step}
 use Rattle.nm_stripe.specs.declared.step.Step.TheVariants.{Begin, Push, Claim, Read, Replace}
 use Rattle.nm_stripe.specs.declared.answer.Answer.{Answer}
@@ -33,37 +33,37 @@ AllAsked model stripe [] = Unit {0}
 AllAsked model stripe (step ∷ steps) = MayBeAsked model stripe step × AllAsked model stripe steps
 
 -- a step with its answer: these answers and no others
-abbrev pub StepOf : {L : Type 0} → (L → Leg) → Bool → Step L → Answer L
+abbrev pub StepOf : {L : Type 0} → LegType L → Step L → Answer L
     → StripeState L → StripeState L → Type 0
-StepOf model honest (Begin block bytes) (Begun ticket) old new = Begins old new block bytes ticket
-StepOf model honest (Begin block bytes) (Refused refusal handed) old new =
+StepOf type (Begin block bytes) (Begun ticket) old new = Begins old new block bytes ticket
+StepOf type (Begin block bytes) (Refused refusal handed) old new =
     BeginRefused (begin_cause old block) refusal × (handed ≡ Data bytes) × (new ≡ old)
-StepOf model honest (Push ticket leg) (Pushed count) old new =
-    Pushes model honest old new ticket leg × StillOwes new ticket count
-StepOf model honest (Push ticket leg) (Complete number) old new =
-    Pushes model honest old new ticket leg × IsComplete new ticket number
-StepOf model honest (Push ticket leg) Halted old new = Halts model honest old new ticket leg
-StepOf model honest (Push ticket leg) (Refused refusal handed) old new =
+StepOf type (Push ticket leg) (Pushed count) old new =
+    Pushes type old new ticket leg × StillOwes new ticket count
+StepOf type (Push ticket leg) (Complete number) old new =
+    Pushes type old new ticket leg × IsComplete new ticket number
+StepOf type (Push ticket leg) Halted old new = Halts type old new ticket leg
+StepOf type (Push ticket leg) (Refused refusal handed) old new =
     (push_cause old ticket leg ≡ Some refusal) × (handed ≡ Nothing) × (new ≡ old)
-StepOf model honest (Claim ticket) (Written written) old new = Claims old new ticket written
-StepOf model honest (Claim ticket) (Refused refusal handed) old new =
+StepOf type (Claim ticket) (Written written) old new = Claims old new ticket written
+StepOf type (Claim ticket) (Refused refusal handed) old new =
     (claim_cause old ticket ≡ Some refusal) × (handed ≡ Nothing) × (new ≡ old)
-StepOf model honest (Read block) (Value value) old new =
-    Finds model honest old new block value.bytes value.entry
-StepOf model honest (Read block) (Refused refusal handed) old new =
-    ReadRefused model honest old new block (read_cause old) refusal × (handed ≡ Nothing)
-StepOf model honest (Replace leg replacement) (Refused refusal handed) old new =
+StepOf type (Read block) (Value value) old new =
+    Finds type old new block value.bytes value.entry
+StepOf type (Read block) (Refused refusal handed) old new =
+    ReadRefused type old new block (read_cause old) refusal × (handed ≡ Nothing)
+StepOf type (Replace leg replacement) (Refused refusal handed) old new =
     (replace_cause old ≡ Some refusal) × (handed ≡ Replacement replacement) × (new ≡ old)
-StepOf model honest step answer old new = ⊥
+StepOf type step answer old new = ⊥
 
 -- the steps may have these answers, one after the other
-abbrev pub Runs : {L : Type 0} → (L → Leg) → Bool → StripeState L → List (Step L)
+abbrev pub Runs : {L : Type 0} → LegType L → StripeState L → List (Step L)
     → List (Answer L) → StripeState L → Type 0
-Runs model honest old [] [] new = new ≡ old
-Runs {L} model honest old (step ∷ steps) (answer ∷ answers) new =
+Runs type old [] [] new = new ≡ old
+Runs {L} type old (step ∷ steps) (answer ∷ answers) new =
     (mid : StripeState L)
-    × StepOf model honest step answer old mid × Runs model honest mid steps answers new
-Runs model honest old steps answers new = ⊥
+    × StepOf type step answer old mid × Runs type mid steps answers new
+Runs type old steps answers new = ⊥
 
 -- the begins and replies of a step with its answer
 abbrev pub marks : {L : Type 0} → Step L → Answer L → List Event

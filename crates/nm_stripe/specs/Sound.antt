@@ -2,7 +2,7 @@
 use Rattle.std.specs.Prelude.{◌≡◌, ℕ, ◌<◌, Bool, false, IsTrue, None, length, slice_get}
 use Rattle.nm_replay.specs.History.{Consistent, EndsIn, IsNumbered}
 use Rattle.nm_fanout.specs.Records.{AreInOrder, OneWriterABlock, busy_on}
-use Rattle.nm_leg.specs.Leg.{Leg}
+use Rattle.nm_leg.specs.Leg.{Leg, LegType}
 use Rattle.nm_stripe.specs.declared.stripe.LegState.{LegState}
 use Rattle.nm_stripe.specs.declared.stripe.LegState.TheVariants.{InSync}
 use Rattle.nm_stripe.specs.State.{StripeState, contents_of, stripe_array}
@@ -21,12 +21,12 @@ LegsInSync model stripe =
 
 -- a sound stripe: at most 256 records by rising ticket, so one a ticket, and at most one under way
 -- a block; what is said of contents is said of honest legs alone, the last two while the stripe runs
-pub record IsSound {L : Type 0} (model : L → Leg) (honest : Bool)
+pub record IsSound {L : Type 0} (type : LegType L)
     (stripe : StripeState L) : Type 0 where
   pub in_order : AreInOrder stripe.records
   pub one_writer : OneWriterABlock stripe.records
   pub numbers : IsNumbered stripe.kept
-  pub consistent : IsTrue honest → Consistent stripe.kept
-  pub in_sync : IsTrue honest → stripe.stopped ≡ false → LegsInSync model stripe
-  pub last : IsTrue honest → stripe.stopped ≡ false
-      → EndsIn stripe.kept (stripe_array model stripe)
+  pub consistent : IsTrue type.honest → Consistent stripe.kept
+  pub in_sync : IsTrue type.honest → stripe.stopped ≡ false → LegsInSync type.model stripe
+  pub last : IsTrue type.honest → stripe.stopped ≡ false
+      → EndsIn stripe.kept (stripe_array type.model stripe)

@@ -1,4 +1,5 @@
 //! Pushes a write to a leg.
+ghost use Rattle.nm_leg.specs.Leg.{leg_type};
 ghost use Rattle.std.specs.Prelude.{◌≡◌, ℕ, ◌+◌, ◌<◌, ◌≤◌, [], ◌∷◌, true, length, IsTrue, IfOk, OnOk, IfErr, OnErr, None, Some};
 ghost use Rattle.nm_fanout.specs.Data.{FillsBlock};
 ghost use Rattle.nm_fanout.specs.Records.{IsAt};
@@ -63,7 +64,7 @@ impl<L: LegPart> Stripe<L> {
     /// whose condition holds.
     pub fn push(&mut self, ticket: u64, leg: u8) -> Result<Reach, Refusal>
         requires { leg < length self.old.legs }
-        ensures ok { IfOk result (Reaches L.model L.honest self.old self.new ticket leg) }
+        ensures ok { IfOk result (Reaches (leg_type L.model L.honest) self.old self.new ticket leg) }
         ensures acts { IsTrue L.honest
             → IfOk result (IsExplainedReach L.model self.old self.new) }
         ensures cause { IfErr result (λ refusal. push_cause self.old ticket leg ≡ Some refusal) }

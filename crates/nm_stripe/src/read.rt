@@ -1,4 +1,5 @@
 //! Reads a block.
+ghost use Rattle.nm_leg.specs.Leg.{leg_type};
 ghost use Rattle.std.specs.Prelude.{◌≡◌, ℕ, ◌<◌, [], ◌∷◌, IsTrue, IfOk, IfErr, OnErr, Some, slice_get};
 ghost use Rattle.nm_stripe.specs.State.{stripe_array};
 ghost use Rattle.nm_replay.specs.Events.{BeginsRead, RepliesRead};
@@ -32,13 +33,13 @@ impl<L: LegPart> Stripe<L> {
     /// as it was.
     pub fn read(&mut self, block: u64, into: &mut Block) -> Result<Receipt<L>, Refusal>
         requires { block < self.old.place.blocks }
-        ensures ok { IfOk result (Finds L.model L.honest self.old self.new block into.new) }
+        ensures ok { IfOk result (Finds (leg_type L.model L.honest) self.old self.new block into.new) }
         ensures array { IsTrue L.honest → IfOk result (λ _.
             slice_get (stripe_array L.model self.old) block ≡ Some into.new) }
         ensures acts { IsTrue L.honest → IfOk result (λ receipt. IsExplainedStep L.model
             (BeginsRead receipt.number block ∷ RepliesRead receipt.number into.new ∷ [])
             self.old self.new) }
-        ensures refused { IfErr result (ReadRefused L.model L.honest self.old self.new block
+        ensures refused { IfErr result (ReadRefused (leg_type L.model L.honest) self.old self.new block
             (read_cause self.old)) }
         ensures refused_acts { IsTrue L.honest
             → OnErr result (IsExplainedStep L.model [] self.old self.new) }

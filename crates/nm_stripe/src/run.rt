@@ -1,4 +1,5 @@
 //! Does a list of steps.
+ghost use Rattle.nm_leg.specs.Leg.{leg_type};
 ghost use Rattle.std.specs.Prelude.{◌≡◌, [], IsTrue, IsOk, IfOk, IfErr, OnErr};
 ghost use Rattle.nm_stripe.specs.Sound.{IsSound};
 ghost use Rattle.nm_stripe.specs.Run.{AllAsked, Runs, NoneHalted, ActOnOneArray};
@@ -21,11 +22,11 @@ impl<L: LegPart> Stripe<L> {
         steps: Vec<Step<L>>,
     ) -> Result<Vec<Answer<L>>, Vec<Step<L>>>
         requires { AllAsked L.model self.old steps.items }
-        ensures steps_done { IfOk result (λ answers. Runs L.model L.honest self.old
+        ensures steps_done { IfOk result (λ answers. Runs (leg_type L.model L.honest) self.old
             steps.items answers.items self.new) }
         ensures headline { IsTrue L.honest → IfOk result (λ answers. NoneHalted answers.items
             → ActOnOneArray L.model steps.items answers.items self.old self.new) }
-        ensures sound { IsSound L.model L.honest self.new }
+        ensures sound { IsSound (leg_type L.model L.honest) self.new }
         ensures handed_back { IfErr result (λ back. back.items ≡ steps.items) }
         ensures stays { OnErr result (self.new ≡ self.old) }
         ensures memory_only_at_growth { steps.items ≡ [] → IsOk result }

@@ -1,4 +1,5 @@
 //! Does one step.
+ghost use Rattle.nm_leg.specs.Leg.{leg_type};
 ghost use Rattle.std.specs.Prelude.{◌≡◌, ◌<◌, [], ◌∷◌, IsTrue, Some};
 ghost use Rattle.nm_stripe.specs.Replace.{replace_cause};
 ghost use Rattle.nm_stripe.specs.Acts.{IsExplainedStep};
@@ -40,7 +41,7 @@ impl<L: LegPart> Stripe<L> {
     /// A read, whose answer carries the block.
     fn step_read(&mut self, block: u64) -> Answer<L>
         requires { block < self.old.place.blocks }
-        ensures step { StepOf L.model L.honest (Step.Read block) result self.old self.new }
+        ensures step { StepOf (leg_type L.model L.honest) (Step.Read block) result self.old self.new }
         ensures acts { IsTrue L.honest
             → IsExplainedStep L.model (marks (Step.Read block) result) self.old self.new }
     {
@@ -72,7 +73,7 @@ impl<L: LegPart> Stripe<L> {
     /// stripe is then as that answer says.
     pub fn step(&mut self, step: Step<L>) -> Answer<L>
         requires { MayBeAsked L.model self.old step }
-        ensures step { StepOf L.model L.honest step result self.old self.new }
+        ensures step { StepOf (leg_type L.model L.honest) step result self.old self.new }
         ensures acts { IsTrue L.honest → NoneHalted (result ∷ [])
             → IsExplainedStep L.model (marks step result) self.old self.new }
     {

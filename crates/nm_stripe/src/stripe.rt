@@ -1,3 +1,4 @@
+ghost use Rattle.nm_leg.specs.Leg.{leg_type};
 ghost use Rattle.std.specs.Prelude.{◌≡◌, ℕ, ◌+◌, ◌-◌, ◌<◌, ◌≤◌, ◌^◌, ◌↔◌, true, false, [], length, slice_get, IsTrue, IsOk, IfOk, OnOk, IfErr, OnErr, Some, None};
 ghost use Rattle.nm_fanout.specs.Records.{next_owed, first_owed};
 ghost use Rattle.nm_leg.specs.LegCalls.{EachHas};
@@ -38,6 +39,7 @@ pub struct Stripe<L: LegPart> {
 }
 
 impl<L: LegPart> Model for Stripe<L> {
+    ghost use Rattle.nm_leg.specs.Leg.{leg_type};
     ghost use Rattle.nm_stripe.specs.State.{StripeState, state_of};
     ghost use Rattle.nm_stripe.specs.Invariant.{IsStripe};
 
@@ -46,7 +48,7 @@ impl<L: LegPart> Model for Stripe<L> {
     ghost view = { λ s. state_of s.place s.legs.items s.master s.records s.tickets s.kept
         s.first s.stopped };
 
-    ghost invariant = { λ s. IsStripe L.model L.honest s.kept.room
+    ghost invariant = { λ s. IsStripe (leg_type L.model L.honest) s.kept.room
         (state_of s.place s.legs.items s.master s.records s.tickets s.kept s.first s.stopped) };
 }
 
@@ -130,7 +132,7 @@ impl<L: LegPart> Stripe<L> {
 
     /// Says that the stripe is sound, and does nothing: for proofs, which see no invariant.
     pub fn sound(&self)
-        ensures { IsSound L.model L.honest self.now }
+        ensures { IsSound (leg_type L.model L.honest) self.now }
     {
         let _stopped = self.stopped;
     }

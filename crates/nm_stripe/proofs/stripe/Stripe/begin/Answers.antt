@@ -1,4 +1,5 @@
 -- The fields after a begin are the state after it, which the lemmas on begins are about.
+use Rattle.nm_leg.specs.Leg.{leg_type}
 use Rattle.std.proofs.Common.{rules, ◌≡◌, ◌+◌, ◌<◌, ◌≤◌, length, refl, sym, ap, ◌∙◌, subst, arith, None}
 use Rattle.nm_fanout.proofs.Landing.{unlanded-with_new}
 use Rattle.nm_fanout.specs.Record.{begun}
@@ -19,10 +20,10 @@ invariant_of-self-2 g c =
     let none : begin_cause c.args.self.now c.args.block ≡ None = search rules in
     let may = may_begin old c.args.block (ap (λ s. begin_cause s c.args.block) c.self.view_is ∙ none) in
     let inside : c.args.block < i.place.blocks = subst (λ (s : StripeState _). c.args.block < s.place.blocks) (sym c.self.view_is) c.requires.inside in
-    let keeps = begin-keeps g.L.LegPart.model old c.args.block c.args.data c.owe_first-owed.result first g.L.LegPart.honest c.self.invariant.keeps may inside c.requires.whole in
+    let keeps = begin-keeps (leg_type g.L.LegPart.model g.L.LegPart.honest) old c.args.block c.args.data c.owe_first-owed.result first c.self.invariant.keeps may inside c.requires.whole in
     let room : c.unlanded-unlanded.result + 1 ≤ c.reserve.new.self.room = search rules in
     record {
-      keeps = subst (λ (s : StripeState _). Keeps g.L.LegPart.model g.L.LegPart.honest s) (sym is) keeps;
+      keeps = subst (λ (s : StripeState _). Keeps (leg_type g.L.LegPart.model g.L.LegPart.honest) s) (sym is) keeps;
       room_left = omega (arith, ap (λ rs. unlanded rs) list, unlanded-with_new (begun i.tickets c.args.block c.args.data c.owe_first-owed.result) i.records.list refl, c.unlanded-unlanded.ensures.count, room);
     }
 
@@ -36,5 +37,5 @@ returns-clause-acts g c is_honest =
     let none : begin_cause c.args.self.now c.args.block ≡ None = search rules in
     let may = may_begin old c.args.block (ap (λ s. begin_cause s c.args.block) c.self.view_is ∙ none) in
     let inside : c.args.block < i.place.blocks = subst (λ (s : StripeState _). c.args.block < s.place.blocks) (sym c.self.view_is) c.requires.inside in
-    let acts = begin-acts g.L.LegPart.model old c.args.block c.args.data c.owe_first-owed.result first g.L.LegPart.honest c.self.invariant.keeps is_honest may inside c.requires.whole in
+    let acts = begin-acts (leg_type g.L.LegPart.model g.L.LegPart.honest) old c.args.block c.args.data c.owe_first-owed.result first c.self.invariant.keeps is_honest may inside c.requires.whole in
     rw (is, ← c.self.view_is) (record { events = _; marked = refl; acts = acts })

@@ -1,4 +1,5 @@
 -- A push is read off its fields once, and the lemmas on pushes do the rest.
+use Rattle.nm_leg.specs.Leg.{leg_type}
 use Rattle.std.proofs.Common.{rules, ◌≡◌, ◌≢◌, ◌+◌, true, false, is_ok, [], ◌∷◌, ◌++◌, refl, sym, ap, ◌∙◌, subst, arith}
 use Rattle.std.specs.Vec.{with_items}
 use Rattle.std.proofs.lemmas.List.{with_items_is}
@@ -39,9 +40,9 @@ invariant_of-self g c =
     let legs = c.write_leg_at-written.new.legs in
     let same : (with_items i.legs legs).items ≡ legs = with_items_is i.legs legs (search rules) in
     let ok : is_ok c.write_leg_at-written.result ≡ false = search rules in
-    let called = has-called g.L.LegPart.model g.L.LegPart.honest false old c.args.ticket c.args.leg c.in_ok-place.place legs r c.args.self.now c.deref_mut.result.now c.bytes.result.now (is_ok c.write_leg_at-written.result) c.self.view_is c.self.invariant.keeps c.in_ok-place.ensures.place c.in_ok-place.ensures.no_cause c.at-record.ensures.found c.deref_mut.ensures.value c.bytes.ensures ok c.write_leg_at-written.ensures in
+    let called = has-called (leg_type g.L.LegPart.model g.L.LegPart.honest) false old c.args.ticket c.args.leg c.in_ok-place.place legs r c.args.self.now c.deref_mut.result.now c.bytes.result.now (is_ok c.write_leg_at-written.result) c.self.view_is c.self.invariant.keeps c.in_ok-place.ensures.place c.in_ok-place.ensures.no_cause c.at-record.ensures.found c.deref_mut.ensures.value c.bytes.ensures ok c.write_leg_at-written.ensures in
     record {
-      keeps = rw same (halt-keeps g.L.LegPart.model g.L.LegPart.honest old legs c.args.leg r.block _ called.keeps called.writes);
+      keeps = rw same (halt-keeps (leg_type g.L.LegPart.model g.L.LegPart.honest) old legs c.args.leg r.block _ called.keeps called.writes);
       room_left = c.self.invariant.room_left;
     }
 
@@ -54,13 +55,13 @@ invariant_of-self-then-leg-self g c =
     let legs = c.write_leg_at-written.new.legs in
     let same : (with_items i.legs legs).items ≡ legs = with_items_is i.legs legs (search rules) in
     let ok : is_ok c.write_leg_at-written.result ≡ true = search rules in
-    let called = has-called g.L.LegPart.model g.L.LegPart.honest true old c.args.ticket c.args.leg c.in_ok-place.place legs r c.args.self.now c.deref_mut.result.now c.bytes.result.now (is_ok c.write_leg_at-written.result) c.self.view_is c.self.invariant.keeps c.in_ok-place.ensures.place c.in_ok-place.ensures.no_cause c.at-record.ensures.found c.deref_mut.ensures.value c.bytes.ensures ok c.write_leg_at-written.ensures in
+    let called = has-called (leg_type g.L.LegPart.model g.L.LegPart.honest) true old c.args.ticket c.args.leg c.in_ok-place.place legs r c.args.self.now c.deref_mut.result.now c.bytes.result.now (is_ok c.write_leg_at-written.result) c.self.view_is c.self.invariant.keeps c.in_ok-place.ensures.place c.in_ok-place.ensures.no_cause c.at-record.ensures.found c.deref_mut.ensures.value c.bytes.ensures ok c.write_leg_at-written.ensures in
     let ne : i.master ≢ c.args.leg = search rules in
-    let was = was_reached g.L.LegPart.model g.L.LegPart.honest old c.args.ticket c.args.leg c.in_ok-place.place legs r called in
+    let was = was_reached (leg_type g.L.LegPart.model g.L.LegPart.honest) old c.args.ticket c.args.leg c.in_ok-place.place legs r called in
     let list : c.reach_at.new.self.list ≡ reached c.args.ticket c.args.leg i.records.list = c.reach_at.ensures.records c.args.ticket called.at in
-    let is = reached-state i.place i.legs.items legs i.master i.records c.reach_at.new.self i.tickets i.kept i.first i.stopped c.args.ticket c.args.leg r (same_ticket g.L.LegPart.model g.L.LegPart.honest old c.args.ticket c.args.leg c.in_ok-place.place legs r called) list in
+    let is = reached-state i.place i.legs.items legs i.master i.records c.reach_at.new.self i.tickets i.kept i.first i.stopped c.args.ticket c.args.leg r (same_ticket (leg_type g.L.LegPart.model g.L.LegPart.honest) old c.args.ticket c.args.leg c.in_ok-place.place legs r called) list in
     record {
-      keeps = rw (same, is) (reach-keeps g.L.LegPart.model g.L.LegPart.honest old legs r c.args.leg was ne);
+      keeps = rw (same, is) (reach-keeps (leg_type g.L.LegPart.model g.L.LegPart.honest) old legs r c.args.leg was ne);
       room_left = omega (arith, c.self.invariant.room_left, ap (λ rs. unlanded rs) list, unlanded-reached c.args.ticket c.args.leg i.records.list);
     }
 
@@ -72,11 +73,11 @@ reached-requires g c =
     let legs = c.write_leg_at-written.new.legs in
     let same : (with_items i.legs legs).items ≡ legs = with_items_is i.legs legs (search rules) in
     let ok : is_ok c.write_leg_at-written.result ≡ true = search rules in
-    let called = has-called g.L.LegPart.model g.L.LegPart.honest true old c.args.ticket c.args.leg c.in_ok-place.place legs r c.args.self.now c.deref_mut.result.now c.bytes.result.now (is_ok c.write_leg_at-written.result) c.self.view_is c.self.invariant.keeps c.in_ok-place.ensures.place c.in_ok-place.ensures.no_cause c.at-record.ensures.found c.deref_mut.ensures.value c.bytes.ensures ok c.write_leg_at-written.ensures in
+    let called = has-called (leg_type g.L.LegPart.model g.L.LegPart.honest) true old c.args.ticket c.args.leg c.in_ok-place.place legs r c.args.self.now c.deref_mut.result.now c.bytes.result.now (is_ok c.write_leg_at-written.result) c.self.view_is c.self.invariant.keeps c.in_ok-place.ensures.place c.in_ok-place.ensures.no_cause c.at-record.ensures.found c.deref_mut.ensures.value c.bytes.ensures ok c.write_leg_at-written.ensures in
     let ne : i.master ≢ c.args.leg = search rules in
-    let was = was_reached g.L.LegPart.model g.L.LegPart.honest old c.args.ticket c.args.leg c.in_ok-place.place legs r called in
+    let was = was_reached (leg_type g.L.LegPart.model g.L.LegPart.honest) old c.args.ticket c.args.leg c.in_ok-place.place legs r called in
     let list : c.reach_at.new.self.list ≡ reached c.args.ticket c.args.leg i.records.list = c.reach_at.ensures.records c.args.ticket called.at in
-    rw list (reach-at g.L.LegPart.model g.L.LegPart.honest old c.args.ticket c.args.leg c.in_ok-place.place legs r called).within
+    rw list (reach-at (leg_type g.L.LegPart.model g.L.LegPart.honest) old c.args.ticket c.args.leg c.in_ok-place.place legs r called).within
 
 pub returns-then-leg-self-clause-ok : goal.returns-then-leg-self-clause-ok
 returns-then-leg-self-clause-ok g c =
@@ -86,14 +87,14 @@ returns-then-leg-self-clause-ok g c =
     let legs = c.write_leg_at-written.new.legs in
     let same : (with_items i.legs legs).items ≡ legs = with_items_is i.legs legs (search rules) in
     let ok : is_ok c.write_leg_at-written.result ≡ true = search rules in
-    let called = has-called g.L.LegPart.model g.L.LegPart.honest true old c.args.ticket c.args.leg c.in_ok-place.place legs r c.args.self.now c.deref_mut.result.now c.bytes.result.now (is_ok c.write_leg_at-written.result) c.self.view_is c.self.invariant.keeps c.in_ok-place.ensures.place c.in_ok-place.ensures.no_cause c.at-record.ensures.found c.deref_mut.ensures.value c.bytes.ensures ok c.write_leg_at-written.ensures in
+    let called = has-called (leg_type g.L.LegPart.model g.L.LegPart.honest) true old c.args.ticket c.args.leg c.in_ok-place.place legs r c.args.self.now c.deref_mut.result.now c.bytes.result.now (is_ok c.write_leg_at-written.result) c.self.view_is c.self.invariant.keeps c.in_ok-place.ensures.place c.in_ok-place.ensures.no_cause c.at-record.ensures.found c.deref_mut.ensures.value c.bytes.ensures ok c.write_leg_at-written.ensures in
     let ne : i.master ≢ c.args.leg = search rules in
-    let was = was_reached g.L.LegPart.model g.L.LegPart.honest old c.args.ticket c.args.leg c.in_ok-place.place legs r called in
+    let was = was_reached (leg_type g.L.LegPart.model g.L.LegPart.honest) old c.args.ticket c.args.leg c.in_ok-place.place legs r called in
     let list : c.reach_at.new.self.list ≡ reached c.args.ticket c.args.leg i.records.list = c.reach_at.ensures.records c.args.ticket called.at in
-    let is = reached-state i.place i.legs.items legs i.master i.records c.reach_at.new.self i.tickets i.kept i.first i.stopped c.args.ticket c.args.leg r (same_ticket g.L.LegPart.model g.L.LegPart.honest old c.args.ticket c.args.leg c.in_ok-place.place legs r called) list in
-    let pushes = reach-pushes g.L.LegPart.model g.L.LegPart.honest old c.args.ticket c.args.leg c.in_ok-place.place legs r called ne in
-    let there : IsAt c.args.ticket c.in_ok-place.place c.reach_at.new.self.list = rw list (reach-at g.L.LegPart.model g.L.LegPart.honest old c.args.ticket c.args.leg c.in_ok-place.place legs r called) in
-    answer-reach g.L.LegPart.model g.L.LegPart.honest c.args.self.now _ c.args.ticket c.args.leg c.reached.result
+    let is = reached-state i.place i.legs.items legs i.master i.records c.reach_at.new.self i.tickets i.kept i.first i.stopped c.args.ticket c.args.leg r (same_ticket (leg_type g.L.LegPart.model g.L.LegPart.honest) old c.args.ticket c.args.leg c.in_ok-place.place legs r called) list in
+    let pushes = reach-pushes (leg_type g.L.LegPart.model g.L.LegPart.honest) old c.args.ticket c.args.leg c.in_ok-place.place legs r called ne in
+    let there : IsAt c.args.ticket c.in_ok-place.place c.reach_at.new.self.list = rw list (reach-at (leg_type g.L.LegPart.model g.L.LegPart.honest) old c.args.ticket c.args.leg c.in_ok-place.place legs r called) in
+    answer-reach (leg_type g.L.LegPart.model g.L.LegPart.honest) c.args.self.now _ c.args.ticket c.args.leg c.reached.result
     (rw (same, is, ← c.self.view_is) pushes) (c.reached.ensures c.args.ticket there)
 
 pub returns-then-leg-self-clause-acts : goal.returns-then-leg-self-clause-acts
@@ -105,12 +106,12 @@ returns-then-leg-self-clause-acts g c =
     let legs = c.write_leg_at-written.new.legs in
     let same : (with_items i.legs legs).items ≡ legs = with_items_is i.legs legs (search rules) in
     let ok : is_ok c.write_leg_at-written.result ≡ true = search rules in
-    let called = has-called g.L.LegPart.model g.L.LegPart.honest true old c.args.ticket c.args.leg c.in_ok-place.place legs r c.args.self.now c.deref_mut.result.now c.bytes.result.now (is_ok c.write_leg_at-written.result) c.self.view_is c.self.invariant.keeps c.in_ok-place.ensures.place c.in_ok-place.ensures.no_cause c.at-record.ensures.found c.deref_mut.ensures.value c.bytes.ensures ok c.write_leg_at-written.ensures in
+    let called = has-called (leg_type g.L.LegPart.model g.L.LegPart.honest) true old c.args.ticket c.args.leg c.in_ok-place.place legs r c.args.self.now c.deref_mut.result.now c.bytes.result.now (is_ok c.write_leg_at-written.result) c.self.view_is c.self.invariant.keeps c.in_ok-place.ensures.place c.in_ok-place.ensures.no_cause c.at-record.ensures.found c.deref_mut.ensures.value c.bytes.ensures ok c.write_leg_at-written.ensures in
     let ne : i.master ≢ c.args.leg = search rules in
-    let was = was_reached g.L.LegPart.model g.L.LegPart.honest old c.args.ticket c.args.leg c.in_ok-place.place legs r called in
+    let was = was_reached (leg_type g.L.LegPart.model g.L.LegPart.honest) old c.args.ticket c.args.leg c.in_ok-place.place legs r called in
     let list : c.reach_at.new.self.list ≡ reached c.args.ticket c.args.leg i.records.list = c.reach_at.ensures.records c.args.ticket called.at in
-    let is = reached-state i.place i.legs.items legs i.master i.records c.reach_at.new.self i.tickets i.kept i.first i.stopped c.args.ticket c.args.leg r (same_ticket g.L.LegPart.model g.L.LegPart.honest old c.args.ticket c.args.leg c.in_ok-place.place legs r called) list in
-    let acts = reach-acts g.L.LegPart.model g.L.LegPart.honest old legs r c.args.leg was ne is_honest in
+    let is = reached-state i.place i.legs.items legs i.master i.records c.reach_at.new.self i.tickets i.kept i.first i.stopped c.args.ticket c.args.leg r (same_ticket (leg_type g.L.LegPart.model g.L.LegPart.honest) old c.args.ticket c.args.leg c.in_ok-place.place legs r called) list in
+    let acts = reach-acts (leg_type g.L.LegPart.model g.L.LegPart.honest) old legs r c.args.leg was ne is_honest in
     explained-reach g.L.LegPart.model c.args.self.now _ c.reached.result (rw (same, is, ← c.self.view_is) (record { events = []; marked = refl; acts = acts }))
 
 -- the master was reached
@@ -122,9 +123,9 @@ push-requires g c =
     let legs = c.write_leg_at-written.new.legs in
     let same : (with_items i.legs legs).items ≡ legs = with_items_is i.legs legs (search rules) in
     let ok : is_ok c.write_leg_at-written.result ≡ true = search rules in
-    let called = has-called g.L.LegPart.model g.L.LegPart.honest true old c.args.ticket c.args.leg c.in_ok-place.place legs r c.args.self.now c.deref_mut.result.now c.bytes.result.now (is_ok c.write_leg_at-written.result) c.self.view_is c.self.invariant.keeps c.in_ok-place.ensures.place c.in_ok-place.ensures.no_cause c.at-record.ensures.found c.deref_mut.ensures.value c.bytes.ensures ok c.write_leg_at-written.ensures in
+    let called = has-called (leg_type g.L.LegPart.model g.L.LegPart.honest) true old c.args.ticket c.args.leg c.in_ok-place.place legs r c.args.self.now c.deref_mut.result.now c.bytes.result.now (is_ok c.write_leg_at-written.result) c.self.view_is c.self.invariant.keeps c.in_ok-place.ensures.place c.in_ok-place.ensures.no_cause c.at-record.ensures.found c.deref_mut.ensures.value c.bytes.ensures ok c.write_leg_at-written.ensures in
     let at : c.args.leg ≡ i.master = search rules in
-    let waits = still_waits g.L.LegPart.model g.L.LegPart.honest old c.args.ticket c.args.leg c.in_ok-place.place legs r called at in
+    let waits = still_waits (leg_type g.L.LegPart.model g.L.LegPart.honest) old c.args.ticket c.args.leg c.in_ok-place.place legs r called at in
     omega (arith, waits, c.self.invariant.room_left)
 
 pub land_at-requires : goal.land_at-requires
@@ -135,12 +136,12 @@ land_at-requires g c =
     let legs = c.write_leg_at-written.new.legs in
     let same : (with_items i.legs legs).items ≡ legs = with_items_is i.legs legs (search rules) in
     let ok : is_ok c.write_leg_at-written.result ≡ true = search rules in
-    let called = has-called g.L.LegPart.model g.L.LegPart.honest true old c.args.ticket c.args.leg c.in_ok-place.place legs r c.args.self.now c.deref_mut.result.now c.bytes.result.now (is_ok c.write_leg_at-written.result) c.self.view_is c.self.invariant.keeps c.in_ok-place.ensures.place c.in_ok-place.ensures.no_cause c.at-record.ensures.found c.deref_mut.ensures.value c.bytes.ensures ok c.write_leg_at-written.ensures in
+    let called = has-called (leg_type g.L.LegPart.model g.L.LegPart.honest) true old c.args.ticket c.args.leg c.in_ok-place.place legs r c.args.self.now c.deref_mut.result.now c.bytes.result.now (is_ok c.write_leg_at-written.result) c.self.view_is c.self.invariant.keeps c.in_ok-place.ensures.place c.in_ok-place.ensures.no_cause c.at-record.ensures.found c.deref_mut.ensures.value c.bytes.ensures ok c.write_leg_at-written.ensures in
     let at : c.args.leg ≡ i.master = search rules in
-    let was = was_reached g.L.LegPart.model g.L.LegPart.honest old c.args.ticket c.args.leg c.in_ok-place.place legs r called in
+    let was = was_reached (leg_type g.L.LegPart.model g.L.LegPart.honest) old c.args.ticket c.args.leg c.in_ok-place.place legs r called in
     let number : c.next_number-number.result ≡ i.first + i.kept.total = rw (← c.self.view_is) at c.next_number-number.ensures in
     let first : c.reach_at-2.new.self.list ≡ reached c.args.ticket c.args.leg i.records.list = c.reach_at-2.ensures.records c.args.ticket called.at in
-    record { within = rw first (reach-at g.L.LegPart.model g.L.LegPart.honest old c.args.ticket c.args.leg c.in_ok-place.place legs r called).within }
+    record { within = rw first (reach-at (leg_type g.L.LegPart.model g.L.LegPart.honest) old c.args.ticket c.args.leg c.in_ok-place.place legs r called).within }
 
 pub invariant_of-self-2 : goal.invariant_of-self-2
 invariant_of-self-2 g c =
@@ -150,18 +151,18 @@ invariant_of-self-2 g c =
     let legs = c.write_leg_at-written.new.legs in
     let same : (with_items i.legs legs).items ≡ legs = with_items_is i.legs legs (search rules) in
     let ok : is_ok c.write_leg_at-written.result ≡ true = search rules in
-    let called = has-called g.L.LegPart.model g.L.LegPart.honest true old c.args.ticket c.args.leg c.in_ok-place.place legs r c.args.self.now c.deref_mut.result.now c.bytes.result.now (is_ok c.write_leg_at-written.result) c.self.view_is c.self.invariant.keeps c.in_ok-place.ensures.place c.in_ok-place.ensures.no_cause c.at-record.ensures.found c.deref_mut.ensures.value c.bytes.ensures ok c.write_leg_at-written.ensures in
+    let called = has-called (leg_type g.L.LegPart.model g.L.LegPart.honest) true old c.args.ticket c.args.leg c.in_ok-place.place legs r c.args.self.now c.deref_mut.result.now c.bytes.result.now (is_ok c.write_leg_at-written.result) c.self.view_is c.self.invariant.keeps c.in_ok-place.ensures.place c.in_ok-place.ensures.no_cause c.at-record.ensures.found c.deref_mut.ensures.value c.bytes.ensures ok c.write_leg_at-written.ensures in
     let at : c.args.leg ≡ i.master = search rules in
-    let was = was_reached g.L.LegPart.model g.L.LegPart.honest old c.args.ticket c.args.leg c.in_ok-place.place legs r called in
+    let was = was_reached (leg_type g.L.LegPart.model g.L.LegPart.honest) old c.args.ticket c.args.leg c.in_ok-place.place legs r called in
     let number : c.next_number-number.result ≡ i.first + i.kept.total = rw (← c.self.view_is) at c.next_number-number.ensures in
     let first : c.reach_at-2.new.self.list ≡ reached c.args.ticket c.args.leg i.records.list = c.reach_at-2.ensures.records c.args.ticket called.at in
-    let there : IsAt c.args.ticket c.in_ok-place.place c.reach_at-2.new.self.list = rw first (reach-at g.L.LegPart.model g.L.LegPart.honest old c.args.ticket c.args.leg c.in_ok-place.place legs r called) in
+    let there : IsAt c.args.ticket c.in_ok-place.place c.reach_at-2.new.self.list = rw first (reach-at (leg_type g.L.LegPart.model g.L.LegPart.honest) old c.args.ticket c.args.leg c.in_ok-place.place legs r called) in
     let list : c.land_at.new.self.list ≡ landed c.args.ticket (i.first + i.kept.total) (reached c.args.ticket c.args.leg i.records.list) = rw (← number, ← first) (c.land_at.ensures.records c.args.ticket there) in
     let entries : c.push.new.self.entries ≡ i.kept.entries ++ write_entry (i.first + i.kept.total) r ∷ [] = rw (← number, ← c.write_entry.ensures) c.push.ensures.entries in
-    let is = landed-state i.place i.legs.items legs i.master i.records c.land_at.new.self i.tickets i.kept c.push.new.self i.first i.stopped c.args.ticket c.args.leg r (same_ticket g.L.LegPart.model g.L.LegPart.honest old c.args.ticket c.args.leg c.in_ok-place.place legs r called) list entries c.push.ensures.total in
-    let waits = still_waits g.L.LegPart.model g.L.LegPart.honest old c.args.ticket c.args.leg c.in_ok-place.place legs r called at in
+    let is = landed-state i.place i.legs.items legs i.master i.records c.land_at.new.self i.tickets i.kept c.push.new.self i.first i.stopped c.args.ticket c.args.leg r (same_ticket (leg_type g.L.LegPart.model g.L.LegPart.honest) old c.args.ticket c.args.leg c.in_ok-place.place legs r called) list entries c.push.ensures.total in
+    let waits = still_waits (leg_type g.L.LegPart.model g.L.LegPart.honest) old c.args.ticket c.args.leg c.in_ok-place.place legs r called at in
     record {
-      keeps = rw (same, is) (land-keeps g.L.LegPart.model g.L.LegPart.honest old legs r c.args.leg was at);
+      keeps = rw (same, is) (land-keeps (leg_type g.L.LegPart.model g.L.LegPart.honest) old legs r c.args.leg was at);
       room_left = omega (arith, waits, c.self.invariant.room_left, ap (λ rs. unlanded rs) list, c.push.ensures.room);
     }
 
@@ -173,14 +174,14 @@ reached-requires-2 g c =
     let legs = c.write_leg_at-written.new.legs in
     let same : (with_items i.legs legs).items ≡ legs = with_items_is i.legs legs (search rules) in
     let ok : is_ok c.write_leg_at-written.result ≡ true = search rules in
-    let called = has-called g.L.LegPart.model g.L.LegPart.honest true old c.args.ticket c.args.leg c.in_ok-place.place legs r c.args.self.now c.deref_mut.result.now c.bytes.result.now (is_ok c.write_leg_at-written.result) c.self.view_is c.self.invariant.keeps c.in_ok-place.ensures.place c.in_ok-place.ensures.no_cause c.at-record.ensures.found c.deref_mut.ensures.value c.bytes.ensures ok c.write_leg_at-written.ensures in
+    let called = has-called (leg_type g.L.LegPart.model g.L.LegPart.honest) true old c.args.ticket c.args.leg c.in_ok-place.place legs r c.args.self.now c.deref_mut.result.now c.bytes.result.now (is_ok c.write_leg_at-written.result) c.self.view_is c.self.invariant.keeps c.in_ok-place.ensures.place c.in_ok-place.ensures.no_cause c.at-record.ensures.found c.deref_mut.ensures.value c.bytes.ensures ok c.write_leg_at-written.ensures in
     let at : c.args.leg ≡ i.master = search rules in
-    let was = was_reached g.L.LegPart.model g.L.LegPart.honest old c.args.ticket c.args.leg c.in_ok-place.place legs r called in
+    let was = was_reached (leg_type g.L.LegPart.model g.L.LegPart.honest) old c.args.ticket c.args.leg c.in_ok-place.place legs r called in
     let number : c.next_number-number.result ≡ i.first + i.kept.total = rw (← c.self.view_is) at c.next_number-number.ensures in
     let first : c.reach_at-2.new.self.list ≡ reached c.args.ticket c.args.leg i.records.list = c.reach_at-2.ensures.records c.args.ticket called.at in
-    let there : IsAt c.args.ticket c.in_ok-place.place c.reach_at-2.new.self.list = rw first (reach-at g.L.LegPart.model g.L.LegPart.honest old c.args.ticket c.args.leg c.in_ok-place.place legs r called) in
+    let there : IsAt c.args.ticket c.in_ok-place.place c.reach_at-2.new.self.list = rw first (reach-at (leg_type g.L.LegPart.model g.L.LegPart.honest) old c.args.ticket c.args.leg c.in_ok-place.place legs r called) in
     let list : c.land_at.new.self.list ≡ landed c.args.ticket (i.first + i.kept.total) (reached c.args.ticket c.args.leg i.records.list) = rw (← number, ← first) (c.land_at.ensures.records c.args.ticket there) in
-    rw list (land-at g.L.LegPart.model g.L.LegPart.honest old c.args.ticket c.args.leg c.in_ok-place.place legs r called).within
+    rw list (land-at (leg_type g.L.LegPart.model g.L.LegPart.honest) old c.args.ticket c.args.leg c.in_ok-place.place legs r called).within
 
 pub returns-clause-ok : goal.returns-clause-ok
 returns-clause-ok g c =
@@ -190,18 +191,18 @@ returns-clause-ok g c =
     let legs = c.write_leg_at-written.new.legs in
     let same : (with_items i.legs legs).items ≡ legs = with_items_is i.legs legs (search rules) in
     let ok : is_ok c.write_leg_at-written.result ≡ true = search rules in
-    let called = has-called g.L.LegPart.model g.L.LegPart.honest true old c.args.ticket c.args.leg c.in_ok-place.place legs r c.args.self.now c.deref_mut.result.now c.bytes.result.now (is_ok c.write_leg_at-written.result) c.self.view_is c.self.invariant.keeps c.in_ok-place.ensures.place c.in_ok-place.ensures.no_cause c.at-record.ensures.found c.deref_mut.ensures.value c.bytes.ensures ok c.write_leg_at-written.ensures in
+    let called = has-called (leg_type g.L.LegPart.model g.L.LegPart.honest) true old c.args.ticket c.args.leg c.in_ok-place.place legs r c.args.self.now c.deref_mut.result.now c.bytes.result.now (is_ok c.write_leg_at-written.result) c.self.view_is c.self.invariant.keeps c.in_ok-place.ensures.place c.in_ok-place.ensures.no_cause c.at-record.ensures.found c.deref_mut.ensures.value c.bytes.ensures ok c.write_leg_at-written.ensures in
     let at : c.args.leg ≡ i.master = search rules in
-    let was = was_reached g.L.LegPart.model g.L.LegPart.honest old c.args.ticket c.args.leg c.in_ok-place.place legs r called in
+    let was = was_reached (leg_type g.L.LegPart.model g.L.LegPart.honest) old c.args.ticket c.args.leg c.in_ok-place.place legs r called in
     let number : c.next_number-number.result ≡ i.first + i.kept.total = rw (← c.self.view_is) at c.next_number-number.ensures in
     let first : c.reach_at-2.new.self.list ≡ reached c.args.ticket c.args.leg i.records.list = c.reach_at-2.ensures.records c.args.ticket called.at in
-    let there : IsAt c.args.ticket c.in_ok-place.place c.reach_at-2.new.self.list = rw first (reach-at g.L.LegPart.model g.L.LegPart.honest old c.args.ticket c.args.leg c.in_ok-place.place legs r called) in
+    let there : IsAt c.args.ticket c.in_ok-place.place c.reach_at-2.new.self.list = rw first (reach-at (leg_type g.L.LegPart.model g.L.LegPart.honest) old c.args.ticket c.args.leg c.in_ok-place.place legs r called) in
     let list : c.land_at.new.self.list ≡ landed c.args.ticket (i.first + i.kept.total) (reached c.args.ticket c.args.leg i.records.list) = rw (← number, ← first) (c.land_at.ensures.records c.args.ticket there) in
     let entries : c.push.new.self.entries ≡ i.kept.entries ++ write_entry (i.first + i.kept.total) r ∷ [] = rw (← number, ← c.write_entry.ensures) c.push.ensures.entries in
-    let is = landed-state i.place i.legs.items legs i.master i.records c.land_at.new.self i.tickets i.kept c.push.new.self i.first i.stopped c.args.ticket c.args.leg r (same_ticket g.L.LegPart.model g.L.LegPart.honest old c.args.ticket c.args.leg c.in_ok-place.place legs r called) list entries c.push.ensures.total in
-    let pushes = land-pushes g.L.LegPart.model g.L.LegPart.honest old c.args.ticket c.args.leg c.in_ok-place.place legs r called at in
-    let last : IsAt c.args.ticket c.in_ok-place.place c.land_at.new.self.list = rw list (land-at g.L.LegPart.model g.L.LegPart.honest old c.args.ticket c.args.leg c.in_ok-place.place legs r called) in
-    answer-reach g.L.LegPart.model g.L.LegPart.honest c.args.self.now _ c.args.ticket c.args.leg c.reached-2.result
+    let is = landed-state i.place i.legs.items legs i.master i.records c.land_at.new.self i.tickets i.kept c.push.new.self i.first i.stopped c.args.ticket c.args.leg r (same_ticket (leg_type g.L.LegPart.model g.L.LegPart.honest) old c.args.ticket c.args.leg c.in_ok-place.place legs r called) list entries c.push.ensures.total in
+    let pushes = land-pushes (leg_type g.L.LegPart.model g.L.LegPart.honest) old c.args.ticket c.args.leg c.in_ok-place.place legs r called at in
+    let last : IsAt c.args.ticket c.in_ok-place.place c.land_at.new.self.list = rw list (land-at (leg_type g.L.LegPart.model g.L.LegPart.honest) old c.args.ticket c.args.leg c.in_ok-place.place legs r called) in
+    answer-reach (leg_type g.L.LegPart.model g.L.LegPart.honest) c.args.self.now _ c.args.ticket c.args.leg c.reached-2.result
     (rw (same, is, ← c.self.view_is) pushes) (c.reached-2.ensures c.args.ticket last)
 
 pub returns-clause-acts : goal.returns-clause-acts
@@ -213,14 +214,14 @@ returns-clause-acts g c =
     let legs = c.write_leg_at-written.new.legs in
     let same : (with_items i.legs legs).items ≡ legs = with_items_is i.legs legs (search rules) in
     let ok : is_ok c.write_leg_at-written.result ≡ true = search rules in
-    let called = has-called g.L.LegPart.model g.L.LegPart.honest true old c.args.ticket c.args.leg c.in_ok-place.place legs r c.args.self.now c.deref_mut.result.now c.bytes.result.now (is_ok c.write_leg_at-written.result) c.self.view_is c.self.invariant.keeps c.in_ok-place.ensures.place c.in_ok-place.ensures.no_cause c.at-record.ensures.found c.deref_mut.ensures.value c.bytes.ensures ok c.write_leg_at-written.ensures in
+    let called = has-called (leg_type g.L.LegPart.model g.L.LegPart.honest) true old c.args.ticket c.args.leg c.in_ok-place.place legs r c.args.self.now c.deref_mut.result.now c.bytes.result.now (is_ok c.write_leg_at-written.result) c.self.view_is c.self.invariant.keeps c.in_ok-place.ensures.place c.in_ok-place.ensures.no_cause c.at-record.ensures.found c.deref_mut.ensures.value c.bytes.ensures ok c.write_leg_at-written.ensures in
     let at : c.args.leg ≡ i.master = search rules in
-    let was = was_reached g.L.LegPart.model g.L.LegPart.honest old c.args.ticket c.args.leg c.in_ok-place.place legs r called in
+    let was = was_reached (leg_type g.L.LegPart.model g.L.LegPart.honest) old c.args.ticket c.args.leg c.in_ok-place.place legs r called in
     let number : c.next_number-number.result ≡ i.first + i.kept.total = rw (← c.self.view_is) at c.next_number-number.ensures in
     let first : c.reach_at-2.new.self.list ≡ reached c.args.ticket c.args.leg i.records.list = c.reach_at-2.ensures.records c.args.ticket called.at in
-    let there : IsAt c.args.ticket c.in_ok-place.place c.reach_at-2.new.self.list = rw first (reach-at g.L.LegPart.model g.L.LegPart.honest old c.args.ticket c.args.leg c.in_ok-place.place legs r called) in
+    let there : IsAt c.args.ticket c.in_ok-place.place c.reach_at-2.new.self.list = rw first (reach-at (leg_type g.L.LegPart.model g.L.LegPart.honest) old c.args.ticket c.args.leg c.in_ok-place.place legs r called) in
     let list : c.land_at.new.self.list ≡ landed c.args.ticket (i.first + i.kept.total) (reached c.args.ticket c.args.leg i.records.list) = rw (← number, ← first) (c.land_at.ensures.records c.args.ticket there) in
     let entries : c.push.new.self.entries ≡ i.kept.entries ++ write_entry (i.first + i.kept.total) r ∷ [] = rw (← number, ← c.write_entry.ensures) c.push.ensures.entries in
-    let is = landed-state i.place i.legs.items legs i.master i.records c.land_at.new.self i.tickets i.kept c.push.new.self i.first i.stopped c.args.ticket c.args.leg r (same_ticket g.L.LegPart.model g.L.LegPart.honest old c.args.ticket c.args.leg c.in_ok-place.place legs r called) list entries c.push.ensures.total in
-    let acts = land-acts g.L.LegPart.model g.L.LegPart.honest old legs r c.args.leg was at is_honest in
+    let is = landed-state i.place i.legs.items legs i.master i.records c.land_at.new.self i.tickets i.kept c.push.new.self i.first i.stopped c.args.ticket c.args.leg r (same_ticket (leg_type g.L.LegPart.model g.L.LegPart.honest) old c.args.ticket c.args.leg c.in_ok-place.place legs r called) list entries c.push.ensures.total in
+    let acts = land-acts (leg_type g.L.LegPart.model g.L.LegPart.honest) old legs r c.args.leg was at is_honest in
     explained-reach g.L.LegPart.model c.args.self.now _ c.reached-2.result (rw (same, is, ← c.self.view_is) (record { events = Lands (write_entry (i.first + i.kept.total) r) ∷ []; marked = refl; acts = acts }))

@@ -1,4 +1,5 @@
 -- A write that owes no leg has its entry.
+use Rattle.nm_leg.specs.Leg.{leg_type}
 use Rattle.std.proofs.Common.{rules, ◌≡◌, sym, ◌∙◌, false, refl}
 use Rattle.nm_fanout.specs.Record.{is_under_way}
 use Rattle.nm_stripe.specs.State.{StripeState, state_of}
@@ -14,5 +15,5 @@ unwrap-requires g c =
     let over : is_under_way r ≡ false = sym c.is_under_way.ensures ∙ c.if-is_under_way.false in
     let inside = rw (← c.self.view_is) at c.requires in
     let found = ticket-at c.args.place i.records.list r c.self.invariant.keeps.records.in_order.ascending inside c.at-record.ensures.found in
-    let number = finished_landed g.L.LegPart.model g.L.LegPart.honest old r.ticket r c.self.invariant.keeps found over in
+    let number = finished_landed (leg_type g.L.LegPart.model g.L.LegPart.honest) old r.ticket r c.self.invariant.keeps found over in
     rw number.1 refl

@@ -1,4 +1,5 @@
 -- A read is read off its fields, and the lemmas on reads do the rest.
+use Rattle.nm_leg.specs.Leg.{leg_type}
 use Rattle.std.proofs.Common.{rules, ◌≡◌, ◌+◌, ◌≤◌, true, false, is_ok, None, [], ◌∷◌, ◌++◌, refl, ap, ◌∙◌, arith}
 use Rattle.std.specs.Vec.{with_items}
 use Rattle.std.proofs.lemmas.List.{with_items_is}
@@ -26,10 +27,10 @@ invariant_of-self-then-is_err-2 g c =
     let same : (with_items i.legs c.read_leg_at.new.legs).items ≡ c.read_leg_at.new.legs = with_items_is i.legs c.read_leg_at.new.legs (search rules) in
     let was : c.deref_mut.result.now ≡ i.legs.items = c.deref_mut.ensures.value in
     let failed : is_ok c.read_leg_at.result ≡ false = search rules in
-    let reads : ReadsLegAt g.L.LegPart.model g.L.LegPart.honest false i.master c.args.block i.legs.items c.read_leg_at.new.legs c.args.into.now c.read_leg_at.new.into = rw (← failed, ← was) c.read_leg_at.ensures in
+    let reads : ReadsLegAt (leg_type g.L.LegPart.model g.L.LegPart.honest) false i.master c.args.block i.legs.items c.read_leg_at.new.legs c.args.into.now c.read_leg_at.new.into = rw (← failed, ← was) c.read_leg_at.ensures in
     let is = failed-state i.place i.legs.items c.read_leg_at.new.legs i.master i.records i.tickets i.kept c.reserve.new.self i.first i.stopped c.reserve.ensures.entries c.reserve.ensures.total in
     record {
-      keeps = rw (same, is) (fails-keeps g.L.LegPart.model g.L.LegPart.honest false old c.read_leg_at.new.legs c.args.block c.args.into.now c.read_leg_at.new.into c.self.invariant.keeps reads);
+      keeps = rw (same, is) (fails-keeps (leg_type g.L.LegPart.model g.L.LegPart.honest) false old c.read_leg_at.new.legs c.args.block c.args.into.now c.read_leg_at.new.into c.self.invariant.keeps reads);
       room_left = omega (arith, c.self.invariant.room_left, c.reserve.ensures.room_stays);
     }
 
@@ -43,9 +44,9 @@ returns-then-is_err-2-clause-refused_acts g c =
     let same : (with_items i.legs c.read_leg_at.new.legs).items ≡ c.read_leg_at.new.legs = with_items_is i.legs c.read_leg_at.new.legs (search rules) in
     let was : c.deref_mut.result.now ≡ i.legs.items = c.deref_mut.ensures.value in
     let failed : is_ok c.read_leg_at.result ≡ false = search rules in
-    let reads : ReadsLegAt g.L.LegPart.model g.L.LegPart.honest false i.master c.args.block i.legs.items c.read_leg_at.new.legs c.args.into.now c.read_leg_at.new.into = rw (← failed, ← was) c.read_leg_at.ensures in
+    let reads : ReadsLegAt (leg_type g.L.LegPart.model g.L.LegPart.honest) false i.master c.args.block i.legs.items c.read_leg_at.new.legs c.args.into.now c.read_leg_at.new.into = rw (← failed, ← was) c.read_leg_at.ensures in
     let is = failed-state i.place i.legs.items c.read_leg_at.new.legs i.master i.records i.tickets i.kept c.reserve.new.self i.first i.stopped c.reserve.ensures.entries c.reserve.ensures.total in
-    let acts = fails-acts g.L.LegPart.model g.L.LegPart.honest false old c.read_leg_at.new.legs c.args.block c.args.into.now c.read_leg_at.new.into c.self.invariant.keeps reads is_honest may.runs in
+    let acts = fails-acts (leg_type g.L.LegPart.model g.L.LegPart.honest) false old c.read_leg_at.new.legs c.args.block c.args.into.now c.read_leg_at.new.into c.self.invariant.keeps reads is_honest may.runs in
     rw (same, is, ← c.self.view_is) (record { events = []; marked = refl; acts = acts })
 
 pub invariant_of-self-3 : goal.invariant_of-self-3
@@ -57,14 +58,14 @@ invariant_of-self-3 g c =
     let same : (with_items i.legs c.read_leg_at.new.legs).items ≡ c.read_leg_at.new.legs = with_items_is i.legs c.read_leg_at.new.legs (search rules) in
     let was : c.deref_mut.result.now ≡ i.legs.items = c.deref_mut.ensures.value in
     let ok : is_ok c.read_leg_at.result ≡ true = search rules in
-    let reads : ReadsLegAt g.L.LegPart.model g.L.LegPart.honest true i.master c.args.block i.legs.items c.read_leg_at.new.legs c.args.into.now c.read_leg_at.new.into = rw (← ok, ← was) c.read_leg_at.ensures in
+    let reads : ReadsLegAt (leg_type g.L.LegPart.model g.L.LegPart.honest) true i.master c.args.block i.legs.items c.read_leg_at.new.legs c.args.into.now c.read_leg_at.new.into = rw (← ok, ← was) c.read_leg_at.ensures in
     let number : c.next_number-number.result ≡ i.first + i.kept.total = search rules in
     let entries : c.push.new.self.entries ≡ i.kept.entries ++ entry_of_read (i.first + i.kept.total) c.args.block c.read_leg_at.new.into ∷ [] = rw (← number, ← c.reserve.ensures.entries) c.push.ensures.entries in
     let total : c.push.new.self.total ≡ i.kept.total + 1 = rw (← c.reserve.ensures.total) c.push.ensures.total in
     let is = read-state i.place i.legs.items c.read_leg_at.new.legs i.master i.records i.tickets i.kept c.push.new.self i.first i.stopped c.args.block c.read_leg_at.new.into entries total in
     let room : c.unlanded-unlanded.result + 1 ≤ c.reserve.new.self.room = search rules in
     record {
-      keeps = rw (same, is) (read-keeps g.L.LegPart.model g.L.LegPart.honest old c.read_leg_at.new.legs c.args.block c.args.into.now c.read_leg_at.new.into c.self.invariant.keeps may reads);
+      keeps = rw (same, is) (read-keeps (leg_type g.L.LegPart.model g.L.LegPart.honest) old c.read_leg_at.new.legs c.args.block c.args.into.now c.read_leg_at.new.into c.self.invariant.keeps may reads);
       room_left = omega (arith, room, c.unlanded-unlanded.ensures.count, c.push.ensures.room);
     }
 
@@ -78,8 +79,8 @@ returns-clause-array g c =
     let same : (with_items i.legs c.read_leg_at.new.legs).items ≡ c.read_leg_at.new.legs = with_items_is i.legs c.read_leg_at.new.legs (search rules) in
     let was : c.deref_mut.result.now ≡ i.legs.items = c.deref_mut.ensures.value in
     let ok : is_ok c.read_leg_at.result ≡ true = search rules in
-    let reads : ReadsLegAt g.L.LegPart.model g.L.LegPart.honest true i.master c.args.block i.legs.items c.read_leg_at.new.legs c.args.into.now c.read_leg_at.new.into = rw (← ok, ← was) c.read_leg_at.ensures in
-    rw (← c.self.view_is) (read-array g.L.LegPart.model g.L.LegPart.honest old c.read_leg_at.new.legs c.args.block c.args.into.now c.read_leg_at.new.into c.self.invariant.keeps may reads is_honest)
+    let reads : ReadsLegAt (leg_type g.L.LegPart.model g.L.LegPart.honest) true i.master c.args.block i.legs.items c.read_leg_at.new.legs c.args.into.now c.read_leg_at.new.into = rw (← ok, ← was) c.read_leg_at.ensures in
+    rw (← c.self.view_is) (read-array (leg_type g.L.LegPart.model g.L.LegPart.honest) old c.read_leg_at.new.legs c.args.block c.args.into.now c.read_leg_at.new.into c.self.invariant.keeps may reads is_honest)
 
 pub returns-clause-acts : goal.returns-clause-acts
 returns-clause-acts g c =
@@ -91,10 +92,10 @@ returns-clause-acts g c =
     let same : (with_items i.legs c.read_leg_at.new.legs).items ≡ c.read_leg_at.new.legs = with_items_is i.legs c.read_leg_at.new.legs (search rules) in
     let was : c.deref_mut.result.now ≡ i.legs.items = c.deref_mut.ensures.value in
     let ok : is_ok c.read_leg_at.result ≡ true = search rules in
-    let reads : ReadsLegAt g.L.LegPart.model g.L.LegPart.honest true i.master c.args.block i.legs.items c.read_leg_at.new.legs c.args.into.now c.read_leg_at.new.into = rw (← ok, ← was) c.read_leg_at.ensures in
+    let reads : ReadsLegAt (leg_type g.L.LegPart.model g.L.LegPart.honest) true i.master c.args.block i.legs.items c.read_leg_at.new.legs c.args.into.now c.read_leg_at.new.into = rw (← ok, ← was) c.read_leg_at.ensures in
     let number : c.next_number-number.result ≡ i.first + i.kept.total = search rules in
     let entries : c.push.new.self.entries ≡ i.kept.entries ++ entry_of_read (i.first + i.kept.total) c.args.block c.read_leg_at.new.into ∷ [] = rw (← number, ← c.reserve.ensures.entries) c.push.ensures.entries in
     let total : c.push.new.self.total ≡ i.kept.total + 1 = rw (← c.reserve.ensures.total) c.push.ensures.total in
     let is = read-state i.place i.legs.items c.read_leg_at.new.legs i.master i.records i.tickets i.kept c.push.new.self i.first i.stopped c.args.block c.read_leg_at.new.into entries total in
-    let acts = read-acts g.L.LegPart.model g.L.LegPart.honest old c.read_leg_at.new.legs c.args.block c.args.into.now c.read_leg_at.new.into c.self.invariant.keeps may reads is_honest in
+    let acts = read-acts (leg_type g.L.LegPart.model g.L.LegPart.honest) old c.read_leg_at.new.legs c.args.block c.args.into.now c.read_leg_at.new.into c.self.invariant.keeps may reads is_honest in
     rw (c.new.ensures, number, same, is, ← c.self.view_is) (record { events = read_events (i.first + i.kept.total) c.args.block c.read_leg_at.new.into; marked = refl; acts = acts })

@@ -1,4 +1,5 @@
 -- One turn of the loop is one step more.
+use Rattle.nm_leg.specs.Leg.{leg_type}
 use Rattle.std.proofs.Common.{rules, ◌≡◌, [], ◌∷◌, ◌++◌, reverse}
 use Rattle.nm_stripe.proofs.RunLemmas.{run-begins, run-on}
 use Rattle.nm_stripe.proofs.stripe.Stripe.run.Goals as goal
@@ -8,7 +9,7 @@ loop-step-init g c =
     let turned : c.reverse.new.self.items ≡ reverse c.args.steps.items = search rules in
     let none : c.reserve.new.self.items ≡ [] = search rules in
     record {
-      run = rw (turned, none) (run-begins g.L.LegPart.model g.L.LegPart.honest c.args.self.now c.args.steps.items c.requires);
+      run = rw (turned, none) (run-begins (leg_type g.L.LegPart.model g.L.LegPart.honest) c.args.self.now c.args.steps.items c.requires);
       room = search rules;
     }
 
@@ -17,7 +18,7 @@ loop-step-preserved g c =
     let last : c.loop-step.rest.items ≡ c.pop.new.self.items ++ c.in-Some.step ∷ [] = search rules in
     let answered : c.push_reserved.new.self.items ≡ c.loop-step.answers.items ++ c.step.result ∷ [] = search rules in
     record {
-      run = rw answered (run-on g.L.LegPart.model g.L.LegPart.honest c.args.self.now c.args.steps.items c.pop.new.self.items c.in-Some.step c.loop-step.answers.items c.step.result c.loop-step.self c.step.new.self
+      run = rw answered (run-on (leg_type g.L.LegPart.model g.L.LegPart.honest) c.args.self.now c.args.steps.items c.pop.new.self.items c.in-Some.step c.loop-step.answers.items c.step.result c.loop-step.self c.step.new.self
           (rw last at c.loop-step.invariant.run) c.step.ensures.step c.step.ensures.acts);
       room = search rules;
     }
