@@ -94,6 +94,45 @@ fn fills_the_records(rt: HostRuntime) -> Result<(), Fail> {
     Ok(())
 }
 
+/// A writer that takes five bytes a call.
+#[derive(Drop)]
+struct ShortWriter {
+    taken: Vec<u8>,
+}
+
+impl Write for ShortWriter {
+    fn write(&mut self, bytes: &[u8]) -> io::Result<usize> {
+        let count = bytes.len().min(5);
+        self.taken.extend_from_slice(&bytes[..count])?;
+        Ok(count)
+    }
+
+    fn flush(&mut self) -> io::Result<()> {
+        Ok(())
+    }
+}
+
+/// The lines of 10,000 steps are more than are written at once, and go out five bytes a call.
+#[test]
+fn prints_more_lines_than_are_buffered(rt: HostRuntime) -> Result<(), Fail> {
+    let mut text = Vec::from_slice(rt.alloc(), b"mirror 1 4 4 4 rr 0\n")?;
+    let mut printed = Vec::new(rt.alloc());
+    for _ in 0..10_000u32 {
+        text.extend_from_slice(b"claim 9\n")?;
+        printed.extend_from_slice(b"refused 7 NoTicket\n")?;
+    }
+    printed.extend_from_slice(b"history 0 of 0\nlegal yes\n")?;
+    let mut input = text.as_slice();
+    let mut out = ShortWriter {
+        taken: Vec::new(rt.alloc()),
+    };
+    let mut err = Vec::new(rt.alloc());
+    assert_eq!(rt; run_script(rt.alloc(), &mut input, &mut out, &mut err), 0);
+    assert_eq!(rt; out.taken.as_slice(), printed.as_slice());
+    assert_eq!(rt; err.as_slice(), b"".as_slice());
+    Ok(())
+}
+
 /// Lines that are no mirror line, though most have `mirror` as their first word.
 const NO_MIRROR: [&[u8]; 21] = [
     b"mirror",
