@@ -1,8 +1,6 @@
-use Rattle.std.proofs.Common.{◌≤◌, length, sym, arith}
+use Rattle.std.proofs.Common.{sym, arith}
 use Rattle.std.proofs.lemmas.List.{length-take-le}
 use Rattle.nm_leg.proofs.fuse_leg.tear.Goals as goal
 
 pub slice_bounds-copy_from_slice-end-3 : goal.slice_bounds-copy_from_slice-end-3
-slice_bounds-copy_from_slice-end-3 c =
-    let enough : 256 ≤ length c.args.bytes.now = omega arith in
-    sym (length-take-le 256 c.args.bytes.now enough)
+slice_bounds-copy_from_slice-end-3 c = sym (length-take-le _ c.args.bytes.now (omega arith))
