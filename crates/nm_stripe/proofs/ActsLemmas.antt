@@ -1,5 +1,5 @@
 -- Acts followed by acts: what holds of two runs of events holds of one run after the other.
-use Rattle.std.proofs.Common.{◌≡◌, ◌+◌, List, [], ◌++◌, length, refl, sym, ap, ◌∙◌, arith, append_assoc, append-nil, length-append}
+use Rattle.std.proofs.Common.{List, [], ◌++◌, length, refl, sym, ap, ◌∙◌, arith, append_assoc, append-nil, length-append}
 use Rattle.nm_replay.specs.Events.{Event, entries_of}
 use Rattle.nm_replay.proofs.Lives.{entries_of-append, explained-none, explained-append}
 use Rattle.nm_leg.specs.Leg.{Leg}

@@ -11,7 +11,7 @@ use Rattle.nm_fanout.specs.Record.{owes, begun}
 use Rattle.nm_fanout.specs.Records.{find_record, busy_on, unlanded, with_new}
 use Rattle.nm_fanout.proofs.Writers.{OneWriterABlock-with_new}
 use Rattle.nm_fanout.proofs.InOrder.{AreInOrder-with_new}
-use Rattle.nm_leg.specs.Leg.{Leg, LegType}
+use Rattle.nm_leg.specs.Leg.{LegType}
 use Rattle.nm_replay.specs.WriteLives.{NotBegun, Begun, WriteLives}
 use Rattle.nm_replay.specs.Events.{BeginsWrite}
 use Rattle.nm_replay.specs.Kept.{KeptHistory}
@@ -23,7 +23,7 @@ use Rattle.nm_stripe.specs.Begin.{after_begin, OwesFirst, begin_cause, begin_row
 use Rattle.nm_stripe.specs.Invariant.{HasLegs, HasRecords, HasNumbers, LegsAgree, Keeps}
 use Rattle.nm_stripe.specs.Acts.{Acts}
 use Rattle.nm_stripe.proofs.ArrayLemmas.{array_is_master}
-use Rattle.nm_stripe.proofs.CauseLemmas.{NoneHolds, none_holds, when_off, map_off, below}
+use Rattle.nm_stripe.proofs.CauseLemmas.{none_holds, when_off, map_off, below}
 use Rattle.nm_stripe.proofs.OwedLemmas.{owed_each, owed_within}
 use Rattle.nm_stripe.proofs.RecordLemmas.{same, new_cases, find-new_same, busy-front}
 

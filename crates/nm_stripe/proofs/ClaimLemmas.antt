@@ -13,7 +13,7 @@ use Rattle.nm_fanout.specs.declared.write_record.Record.{Record}
 use Rattle.nm_fanout.specs.Record.{is_under_way}
 use Rattle.nm_fanout.specs.Records.{find_record, busy_on, without}
 use Rattle.nm_fanout.proofs.InOrder.{AreInOrder-without}
-use Rattle.nm_leg.specs.Leg.{Leg, LegType}
+use Rattle.nm_leg.specs.Leg.{LegType}
 use Rattle.nm_replay.specs.WriteLives.{NotBegun, Landed, Replied, WriteLives}
 use Rattle.nm_replay.specs.Events.{RepliesWrite}
 use Rattle.nm_replay.specs.Kept.{KeptHistory}
@@ -26,7 +26,7 @@ use Rattle.nm_stripe.specs.declared.refusal.Refusal.TheVariants.{Stopped, NoTick
 use Rattle.nm_stripe.specs.Cause.{when}
 use Rattle.nm_stripe.specs.Claim.{claim_cause, claim_rows}
 use Rattle.nm_stripe.proofs.ArrayLemmas.{array_is_master}
-use Rattle.nm_stripe.proofs.CauseLemmas.{NoneHolds, none_holds, when_off, is_there}
+use Rattle.nm_stripe.proofs.CauseLemmas.{none_holds, when_off, is_there}
 use Rattle.nm_stripe.proofs.RecordLemmas.{same, one_or_two, without_cases, busy_found, busy_none}
 
 -- the write of this ticket may be claimed

@@ -1,6 +1,6 @@
 -- A push whose leg fails stops the stripe: what still holds needs no trust in a leg.
-use Rattle.std.proofs.Common.{◌≡◌, ℕ, Bool, true, false, List, length, ◌∙◌, arith}
-use Rattle.nm_leg.specs.Leg.{Leg, LegType}
+use Rattle.std.proofs.Common.{◌≡◌, ℕ, true, false, List, length, ◌∙◌, arith}
+use Rattle.nm_leg.specs.Leg.{LegType}
 use Rattle.nm_leg.specs.LegCalls.{WritesLegAt}
 use Rattle.nm_stripe.specs.State.{StripeState}
 use Rattle.nm_stripe.specs.Invariant.{Keeps}

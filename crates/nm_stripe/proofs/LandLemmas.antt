@@ -1,5 +1,5 @@
 -- A write reaches the master, and takes effect there: its entry is the next of the history.
-use Rattle.std.proofs.Common.{◌≡◌, ◌≢◌, ℕ, ◌+◌, ◌<◌, ◌==◌, Bool, true, false, not, IsTrue, List, [], ◌∷◌, ◌++◌, length, None, Some, refl, sym, ap, ◌∙◌, subst, arith, slice_get, slice_set, nat_lt, cond, MatchBool, length-append}
+use Rattle.std.proofs.Common.{◌≡◌, ◌≢◌, ℕ, ◌+◌, ◌<◌, ◌==◌, true, false, not, IsTrue, List, [], ◌∷◌, ◌++◌, length, None, Some, refl, sym, ap, ◌∙◌, subst, arith, slice_get, slice_set, nat_lt, cond, MatchBool, length-append}
 use Rattle.std.proofs.lemmas.Bool.Decides.{nat_tests}
 use Rattle.nm_replay.specs.declared.block.Block.{Block}
 use Rattle.nm_replay.proofs.Arrays.{slice_get-set_same, slice_get-set_other}
@@ -11,7 +11,7 @@ use Rattle.nm_fanout.specs.Data.{bytes_of}
 use Rattle.nm_fanout.specs.Record.{owes, without_leg}
 use Rattle.nm_fanout.specs.Records.{AreInOrder, find_record, unlanded, changed, reached}
 use Rattle.nm_fanout.proofs.InOrder.{AreInOrder-reached, AreInOrder-landed}
-use Rattle.nm_leg.specs.Leg.{Leg, LegType}
+use Rattle.nm_leg.specs.Leg.{LegType}
 use Rattle.nm_replay.specs.WriteLives.{NotBegun, Begun, Landed, WriteLives}
 use Rattle.nm_replay.specs.ReadLives.{NotBegun as NoReadBegun, Closed, ReadLives}
 use Rattle.nm_replay.specs.Events.{Lands}

@@ -1,9 +1,8 @@
 -- A stripe as it is opened: each leg has the stripe's blocks, and the bit of each is set, so that all
 -- honest legs hold equal contents.
-use Rattle.std.proofs.Common.{◌≡◌, ℕ, ◌+◌, ◌-◌, ◌*◌, ◌<◌, ◌/◌, ◌%◌, ◌^◌, zero, suc, List, [], ◌∷◌, Some, length, refl, sym, ap, ◌∙◌, arith, slice_get}
+use Rattle.std.proofs.Common.{◌≡◌, ℕ, ◌+◌, ◌-◌, ◌*◌, ◌<◌, ◌/◌, ◌%◌, ◌^◌, zero, suc, List, [], ◌∷◌, Some, length, refl, ap, ◌∙◌, arith, slice_get}
 use Rattle.std.proofs.lemmas.Nat.{pow-add, pow_pos, div-mul-add}
 use Rattle.std.proofs.Math.Nat.{suc-mul, mul_comm}
-use Rattle.nm_replay.specs.declared.block.Block.{Block}
 use Rattle.nm_leg.specs.Leg.{Leg}
 use Rattle.nm_leg.specs.LegCalls.{EachHas}
 use Rattle.nm_stripe.specs.Opening.{HasLeg, HoldEqual}

@@ -2,18 +2,7 @@
 use Rattle.std.proofs.Common.{◌≡◌, ℕ, ◌<◌, ◌≤◌, zero, suc, Bool, true, false, List, [], ◌∷◌, refl, sym, ◌∙◌, arith, nat_lt}
 use Rattle.std.proofs.lemmas.Bool.Decides.{nat_tests}
 use Rattle.std.specs.List.{slice_index_or}
-use Rattle.nm_fanout.specs.declared.write_record.Record.{Record}
-use Rattle.nm_fanout.specs.Record.{is_under_way, without_leg}
-use Rattle.nm_fanout.proofs.Owed.{is_under_way-without_leg}
 use Rattle.nm_stripe.specs.Begin.{OwesFirst}
-
--- a write that reached a leg and goes on was under way
-pub still_under_way : (leg : ℕ) (r : Record) → is_under_way (without_leg leg r) ≡ true → is_under_way r ≡ true
-still_under_way leg r h =
-    (elim (is_under_way r) as (λ b. is_under_way r ≡ b → b ≡ true) [
-      | true ↦ λ is. refl
-      | false ↦ λ is. let clash : true ≡ false = sym h ∙ is_under_way-without_leg leg r is in cc
-    ]) refl
 
 lt_true : (a b : ℕ) → a < b → nat_lt a b ≡ true
 lt_true a b h = grind (arith, nat_tests)

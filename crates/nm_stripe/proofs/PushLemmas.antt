@@ -1,5 +1,5 @@
 -- A push: at the master the write takes effect, at every other leg nothing is observable.
-use Rattle.std.proofs.Common.{◌≡◌, ◌≢◌, ⊎_elim, ℕ, ◌==◌, Bool, true, false, not, IsTrue, List, [], ◌∷◌, Option, None, Some, is_some, refl, sym, ap, ◌∙◌, subst, arith, nat_lt, cond, append-nil}
+use Rattle.std.proofs.Common.{◌≡◌, ◌≢◌, ⊎_elim, ℕ, ◌==◌, true, false, not, IsTrue, List, [], ◌∷◌, Option, None, Some, is_some, refl, sym, ap, ◌∙◌, subst, arith, nat_lt, cond, append-nil}
 use Rattle.nm_replay.specs.History.{EndsIn}
 use Rattle.nm_fanout.proofs.Owed.{owes-without_leg_other}
 use Rattle.nm_fanout.proofs.Landing.{unlanded-reached}
@@ -9,7 +9,7 @@ use Rattle.nm_fanout.specs.Data.{bytes_of}
 use Rattle.nm_fanout.specs.Record.{owes, without_leg, with_entry}
 use Rattle.nm_fanout.specs.Records.{find_record, changed, reached, landed}
 use Rattle.nm_fanout.proofs.InOrder.{AreInOrder-reached}
-use Rattle.nm_leg.specs.Leg.{Leg, LegType}
+use Rattle.nm_leg.specs.Leg.{LegType}
 use Rattle.nm_leg.specs.LegCalls.{WritesLegAt}
 use Rattle.nm_replay.specs.WriteLives.{WriteLife, NotBegun}
 use Rattle.nm_stripe.specs.State.{StripeState, contents_of, write_life, life_of}

@@ -11,20 +11,20 @@ use Rattle.nm_fanout.specs.Data.{bytes_of}
 use Rattle.nm_fanout.specs.Record.{owes}
 use Rattle.nm_fanout.specs.Records.{RecordTable, Ascends, IsAt, find_record, unlanded, reached, landed}
 use Rattle.nm_leg.specs.Leg.{Leg, LegType}
-use Rattle.nm_leg.specs.LegCalls.{HasBlock, WritesLegAt}
+use Rattle.nm_leg.specs.LegCalls.{WritesLegAt}
 use Rattle.nm_stripe.specs.declared.at.At.{At}
-use Rattle.nm_stripe.specs.State.{StripeState, next_number, contents_at, state_of}
+use Rattle.nm_stripe.specs.State.{StripeState, next_number, state_of}
 use Rattle.nm_stripe.specs.Push.{push_cause}
 use Rattle.nm_stripe.specs.Push.{after_reach, after_landing, write_entry, Pushes, IsReached, Reaches}
 use Rattle.nm_stripe.specs.declared.push.Reach.{Reach}
 use Rattle.nm_stripe.specs.declared.push.Reach.TheVariants.{Pushed, Complete, Halted}
-use Rattle.nm_stripe.specs.Invariant.{HasLegs, Keeps}
+use Rattle.nm_stripe.specs.Invariant.{Keeps}
 use Rattle.nm_stripe.specs.Acts.{IsExplainedStep}
 use Rattle.nm_stripe.specs.Push.{IsExplainedReach}
 use Rattle.nm_stripe.specs.declared.refusal.Refusal.TheVariants.{Stopped, NoTicket, NotOwed}
 use Rattle.nm_stripe.specs.Cause.{when}
 use Rattle.nm_stripe.specs.Push.{push_rows}
-use Rattle.nm_stripe.proofs.CauseLemmas.{NoneHolds, none_holds, when_off, unless_on, is_there}
+use Rattle.nm_stripe.proofs.CauseLemmas.{none_holds, when_off, unless_on, is_there}
 use Rattle.nm_stripe.proofs.PushLemmas.{Reached, landing, changed-twice, not_landed}
 use Rattle.nm_stripe.proofs.RecordLemmas.{unlanded-landed}
 
@@ -45,11 +45,6 @@ may_push stripe ticket leg none =
       found = at.1;
       owed = unless_on (owes leg at.0) NotOwed (sym (ap (λ (o : Option Record). option_and_then (λ (r : Record). when (not (owes leg r)) NotOwed) o) at.1) ∙ rows.1.1.0);
     }
-
--- each leg of a stripe has each of its blocks
-pub has-block : {L : Type 0} (model : L → Leg) (stripe : StripeState L) (leg at : ℕ) → HasLegs model stripe → leg < length stripe.legs → at < stripe.place.blocks → HasBlock model stripe.legs leg at
-has-block model stripe leg at has_legs inside low part here =
-    omega (arith, has_legs.lengths leg inside, low, ap (λ o. length (contents_at model o)) here)
 
 -- the record at a place is that of the ticket
 pub found-at : (ticket place : ℕ) (rs : List Record) (r : Record) → IsAt ticket place rs → slice_get rs place ≡ Some r → find_record ticket rs ≡ Some r

@@ -12,7 +12,7 @@ use Rattle.nm_fanout.specs.declared.write_record.Record.{Record}
 use Rattle.nm_fanout.specs.Data.{bytes_of}
 use Rattle.nm_fanout.specs.Record.{is_under_way, owes, without_leg}
 use Rattle.nm_fanout.specs.Records.{AreInOrder, find_record, busy_on, changed}
-use Rattle.nm_leg.specs.Leg.{Leg, block_of, LegType}
+use Rattle.nm_leg.specs.Leg.{block_of, LegType}
 use Rattle.nm_leg.specs.LegCalls.{WritesLegAt}
 use Rattle.nm_stripe.specs.State.{StripeState, contents_of, written}
 use Rattle.nm_stripe.specs.Invariant.{HasLegs, HasRecords, LegsAgree}

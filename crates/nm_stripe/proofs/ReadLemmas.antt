@@ -5,7 +5,7 @@ use Rattle.nm_replay.specs.declared.block.Block.{Block}
 use Rattle.nm_replay.specs.declared.entry.Entry.{Entry}
 use Rattle.nm_replay.specs.History.{EndsIn}
 use Rattle.nm_replay.proofs.Numbering.{numbered-append}
-use Rattle.nm_leg.specs.Leg.{Leg, LegType}
+use Rattle.nm_leg.specs.Leg.{LegType}
 use Rattle.nm_leg.specs.LegCalls.{ReadsLegAt}
 use Rattle.nm_replay.specs.Events.{Event, BeginsRead, Lands, RepliesRead}
 use Rattle.nm_replay.specs.ReadLives.{ReadLife, NotBegun as NoReadBegun, Begun as ReadBegun, Landed as ReadLanded, Closed, ReadLives}
@@ -19,7 +19,7 @@ use Rattle.nm_replay.specs.Events.{entry_of_read}
 use Rattle.nm_stripe.specs.Invariant.{HasLegs, HasRecords, LegsAgree, Keeps}
 use Rattle.nm_stripe.specs.Acts.{Acts}
 use Rattle.nm_stripe.proofs.ArrayLemmas.{array_is_master}
-use Rattle.nm_stripe.proofs.CauseLemmas.{NoneHolds, none_holds, when_off, below}
+use Rattle.nm_stripe.proofs.CauseLemmas.{none_holds, when_off, below}
 use Rattle.nm_replay.proofs.Pushing.{consistent-read, ends-push_by}
 use Rattle.nm_stripe.proofs.LegLemmas.{calls-length, calls-lengths, reads-contents, reads-found}
 use Rattle.nm_stripe.proofs.RecordLemmas.{same}

@@ -1,5 +1,5 @@
 -- Steps one after the other: runs and interleavings, with one step more.
-use Rattle.std.proofs.Common.{◌≡◌, ℕ, Bool, IsTrue, List, [], ◌∷◌, ◌++◌, refl, sym, ap, ◌∙◌, subst, append_assoc, append-nil}
+use Rattle.std.proofs.Common.{◌≡◌, ℕ, IsTrue, List, [], ◌∷◌, ◌++◌, refl, sym, ap, ◌∙◌, subst, append_assoc, append-nil}
 use Rattle.std.proofs.Common.{length, reverse, true, false, cond, ◌==◌, Option, None, Some}
 use Rattle.std.proofs.lemmas.List.{reverse-append}
 use Rattle.nm_fanout.specs.declared.write_record.Record.{Record}
@@ -160,11 +160,6 @@ run-begins type old steps asked = record {
   asked = subst (λ ss. AllAsked type.model old ss) (sym (reverse-reverse steps)) asked;
 }
 
--- the next step may be asked for
-pub next-asked : {L : Type 0} (type : LegType L) (old : StripeState L) (steps rest : List (Step L)) (step : Step L) (answers : List (Answer L)) (now : StripeState L)
-    → HasRun type old steps (rest ++ step ∷ []) answers now → MayBeAsked type.model now step
-next-asked type old steps rest step answers now run = (subst (λ ss. AllAsked type.model now ss) (reverse-push rest step) run.asked).0
-
 pub run-on : {L : Type 0} (type : LegType L) (old : StripeState L) (steps rest : List (Step L)) (step : Step L) (answers : List (Answer L)) (answer : Answer L) (now new : StripeState L)
     → HasRun type old steps (rest ++ step ∷ []) answers now → StepOf type step answer now new → (IsTrue type.honest → NoneHalted (answer ∷ []) → IsExplainedStep type.model (marks step answer) now new)
     → HasRun type old steps rest (answers ++ answer ∷ []) new
@@ -175,12 +170,6 @@ run-on type old steps rest step answers answer now new run is shows = record {
   acts = λ is_honest none. act-push type.model old now new run.done answers step answer (run.acts is_honest (halted-front answers answer none)) (shows is_honest (halted-last answers answer none));
   asked = all_asked-later type.model (reverse rest) now new (step-shape type step answer now new is) (subst (λ ss. AllAsked type.model now ss) (reverse-push rest step) run.asked).1;
 }
-
-pub run-ends : {L : Type 0} (type : LegType L) (old : StripeState L) (steps : List (Step L)) (answers : List (Answer L)) (new : StripeState L)
-    → HasRun type old steps [] answers new → Runs type old steps answers new × (IsTrue type.honest → NoneHalted answers → ActOnOneArray type.model steps answers old new)
-run-ends type old steps answers new run =
-    let all : run.done ≡ steps = sym (append-nil run.done) ∙ run.split in
-    (subst (λ ss. Runs type old ss answers new) all run.runs, λ is_honest none. subst (λ ss. ActOnOneArray type.model ss answers old new) all (run.acts is_honest none))
 
 -- one step more that may be asked for
 pub all_asked-push : {L : Type 0} (model : L → Leg) (stripe : StripeState L) (steps : List (Step L)) (step : Step L) → AllAsked model stripe steps → MayBeAsked model stripe step → AllAsked model stripe (steps ++ step ∷ [])

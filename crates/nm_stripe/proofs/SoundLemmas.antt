@@ -1,8 +1,8 @@
 -- What a stripe keeps makes it sound.
-use Rattle.std.proofs.Common.{Bool, sym, ap, ◌∙◌, subst, slice_get}
+use Rattle.std.proofs.Common.{sym, ap, ◌∙◌, subst, slice_get}
 use Rattle.nm_replay.specs.History.{EndsIn}
 use Rattle.nm_replay.proofs.Numbering.{numbered-somewhere}
-use Rattle.nm_leg.specs.Leg.{Leg, LegType}
+use Rattle.nm_leg.specs.Leg.{LegType}
 use Rattle.nm_stripe.specs.State.{StripeState}
 use Rattle.nm_stripe.specs.Invariant.{Keeps}
 use Rattle.nm_stripe.specs.Sound.{IsSound}

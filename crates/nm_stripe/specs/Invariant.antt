@@ -1,5 +1,5 @@
 -- What every stripe keeps between its steps, from which its soundness follows.
-use Rattle.std.specs.Prelude.{◌≡◌, ℕ, ◌+◌, ◌<◌, ◌≤◌, ◌^◌, Bool, true, false, not, IsTrue, None, Some, is_some, length, max, slice_get}
+use Rattle.std.specs.Prelude.{◌≡◌, ℕ, ◌+◌, ◌<◌, ◌≤◌, ◌^◌, true, false, not, IsTrue, None, Some, is_some, length, max, slice_get}
 use Rattle.nm_replay.specs.History.{Consistent, EndsIn, NumberedFrom}
 use Rattle.nm_fanout.specs.declared.write_record.Record.{Record}
 use Rattle.nm_fanout.specs.Record.{is_under_way, owes}

@@ -1,8 +1,8 @@
 -- A read of a block: why it is refused, and what it does.
-use Rattle.std.specs.Prelude.{◌≡◌, ℕ, ◌+◌, Bool, true, false, List, [], ◌∷◌, ◌++◌, Option, None, Some}
+use Rattle.std.specs.Prelude.{◌≡◌, ℕ, ◌+◌, true, false, List, [], ◌∷◌, ◌++◌, Option, None, Some}
 use Rattle.nm_replay.specs.declared.block.Block.{Block}
 use Rattle.nm_replay.specs.Events.{entry_of_read}
-use Rattle.nm_leg.specs.Leg.{Leg, LegType}
+use Rattle.nm_leg.specs.Leg.{LegType}
 use Rattle.nm_leg.specs.LegCalls.{ReadsLegAt}
 use Rattle.nm_stripe.specs.declared.refusal.Refusal.{Refusal}
 use Rattle.nm_stripe.specs.declared.refusal.Refusal.TheVariants.{Stopped, Exhausted, Fault, Memory}

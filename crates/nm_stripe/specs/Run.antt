@@ -1,5 +1,5 @@
 -- A list of steps: which answers each may have, and that its operations act on one array.
-use Rattle.std.specs.Prelude.{◌≡◌, ◌<◌, Bool, List, [], ◌∷◌, ◌++◌, Some, length}
+use Rattle.std.specs.Prelude.{◌≡◌, ◌<◌, List, [], ◌∷◌, ◌++◌, Some, length}
 use Rattle.nm_replay.specs.Events.{Event, BeginsRead, BeginsWrite, RepliesRead, RepliesWrite, marks_of}
 use Rattle.nm_fanout.specs.Data.{bytes_of, FillsBlock}
 use Rattle.nm_leg.specs.Leg.{Leg, block_of, LegType}

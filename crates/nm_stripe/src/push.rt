@@ -64,7 +64,8 @@ impl<L: LegPart> Stripe<L> {
     /// whose condition holds.
     pub fn push(&mut self, ticket: u64, leg: u8) -> Result<Reach, Refusal>
         requires { leg < length self.old.legs }
-        ensures ok { IfOk result (Reaches (leg_type L.model L.honest) self.old self.new ticket leg) }
+        ensures ok { IfOk result (Reaches (leg_type L.model L.honest) self.old self.new
+            ticket leg) }
         ensures acts { IsTrue L.honest
             → IfOk result (IsExplainedReach L.model self.old self.new) }
         ensures cause { IfErr result (λ refusal. push_cause self.old ticket leg ≡ Some refusal) }

@@ -33,14 +33,15 @@ impl<L: LegPart> Stripe<L> {
     /// as it was.
     pub fn read(&mut self, block: u64, into: &mut Block) -> Result<Receipt<L>, Refusal>
         requires { block < self.old.place.blocks }
-        ensures ok { IfOk result (Finds (leg_type L.model L.honest) self.old self.new block into.new) }
+        ensures ok { IfOk result (Finds (leg_type L.model L.honest) self.old self.new
+            block into.new) }
         ensures array { IsTrue L.honest → IfOk result (λ _.
             slice_get (stripe_array L.model self.old) block ≡ Some into.new) }
         ensures acts { IsTrue L.honest → IfOk result (λ receipt. IsExplainedStep L.model
             (BeginsRead receipt.number block ∷ RepliesRead receipt.number into.new ∷ [])
             self.old self.new) }
-        ensures refused { IfErr result (ReadRefused (leg_type L.model L.honest) self.old self.new block
-            (read_cause self.old)) }
+        ensures refused { IfErr result (ReadRefused (leg_type L.model L.honest) self.old self.new
+            block (read_cause self.old)) }
         ensures refused_acts { IsTrue L.honest
             → OnErr result (IsExplainedStep L.model [] self.old self.new) }
         ensures target_left { OnErr result (into.new ≡ into.old) }

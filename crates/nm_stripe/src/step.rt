@@ -41,7 +41,8 @@ impl<L: LegPart> Stripe<L> {
     /// A read, whose answer carries the block.
     fn step_read(&mut self, block: u64) -> Answer<L>
         requires { block < self.old.place.blocks }
-        ensures step { StepOf (leg_type L.model L.honest) (Step.Read block) result self.old self.new }
+        ensures step { StepOf (leg_type L.model L.honest) (Step.Read block) result
+            self.old self.new }
         ensures acts { IsTrue L.honest
             → IsExplainedStep L.model (marks (Step.Read block) result) self.old self.new }
     {
@@ -69,8 +70,8 @@ impl<L: LegPart> Stripe<L> {
         }
     }
 
-    /// Does one step, with at most one call of a leg. Each answer is one that the step may have, and the
-    /// stripe is then as that answer says.
+    /// Does one step, with at most one call of a leg. Each answer is one that the step may have, and
+    /// the stripe is then as that answer says.
     pub fn step(&mut self, step: Step<L>) -> Answer<L>
         requires { MayBeAsked L.model self.old step }
         ensures step { StepOf (leg_type L.model L.honest) step result self.old self.new }

@@ -1,6 +1,6 @@
 -- A claim is read off its fields, and the lemmas on claims do the rest.
 use Rattle.nm_leg.specs.Leg.{leg_type}
-use Rattle.std.proofs.Common.{rules, ◌≡◌, Option, Some, [], ◌∷◌, refl, sym, ap, ◌∙◌, subst, arith}
+use Rattle.std.proofs.Common.{◌≡◌, Option, Some, [], ◌∷◌, refl, sym, ap, ◌∙◌, subst, arith}
 use Rattle.std.specs.Option.{option_and_then}
 use Rattle.nm_fanout.proofs.Landing.{unlanded-without}
 use Rattle.nm_fanout.proofs.Places.{IsAt-entry}

@@ -1,6 +1,6 @@
 -- A push is read off its fields once, and the lemmas on pushes do the rest.
 use Rattle.nm_leg.specs.Leg.{leg_type}
-use Rattle.std.proofs.Common.{rules, ◌≡◌, ◌≢◌, ◌+◌, true, false, is_ok, [], ◌∷◌, ◌++◌, refl, sym, ap, ◌∙◌, subst, arith}
+use Rattle.std.proofs.Common.{rules, ◌≡◌, ◌≢◌, ◌+◌, true, false, is_ok, [], ◌∷◌, ◌++◌, refl, sym, ap, subst, arith}
 use Rattle.std.specs.Vec.{with_items}
 use Rattle.std.proofs.lemmas.List.{with_items_is}
 use Rattle.nm_fanout.proofs.Landing.{unlanded-reached}
@@ -12,7 +12,7 @@ use Rattle.nm_stripe.specs.Push.{write_entry}
 use Rattle.nm_stripe.proofs.HaltLemmas.{halt-keeps}
 use Rattle.nm_stripe.proofs.PushLemmas.{reach-keeps, reach-acts}
 use Rattle.nm_stripe.proofs.LandLemmas.{land-keeps, land-acts}
-use Rattle.nm_stripe.proofs.PushedLemmas.{Called, has-called, found-at, same_ticket, was_reached, reach-pushes, land-pushes, reach-at, land-at, still_waits, reached-state, landed-state, answer-reach, explained-reach}
+use Rattle.nm_stripe.proofs.PushedLemmas.{has-called, found-at, same_ticket, was_reached, reach-pushes, land-pushes, reach-at, land-at, still_waits, reached-state, landed-state, answer-reach, explained-reach}
 use Rattle.nm_stripe.proofs.stripe.Stripe.push.Goals as goal
 
 pub write_leg_at-written-requires-clause-bytes : goal.write_leg_at-written-requires-clause-bytes

@@ -1,8 +1,8 @@
 -- A write that owes no leg has its entry.
 use Rattle.nm_leg.specs.Leg.{leg_type}
-use Rattle.std.proofs.Common.{rules, ◌≡◌, sym, ◌∙◌, false, refl}
+use Rattle.std.proofs.Common.{◌≡◌, sym, ◌∙◌, false, refl}
 use Rattle.nm_fanout.specs.Record.{is_under_way}
-use Rattle.nm_stripe.specs.State.{StripeState, state_of}
+use Rattle.nm_stripe.specs.State.{state_of}
 use Rattle.nm_stripe.proofs.ClaimLemmas.{finished_landed}
 use Rattle.nm_stripe.proofs.PushedLemmas.{ticket-at}
 use Rattle.nm_stripe.proofs.stripe.Stripe.reached.Goals as goal
