@@ -1,5 +1,5 @@
 -- The steps of a script name blocks and legs of its stripe, before and after each step.
-use Rattle.std.proofs.Common.{◌≡◌, ℕ, ◌<◌, true, zero, suc, List, [], ◌∷◌, length, map, get_or, ap, ◌∙◌, arith}
+use Rattle.std.proofs.Common.{◌≡◌, ℕ, ◌<◌, zero, suc, List, [], ◌∷◌, length, map, get_or, ap, ◌∙◌, arith}
 use Rattle.std.specs.List.{AllByRecursion, AllZip}
 use Rattle.std.proofs.lemmas.List.{length-replicate}
 use Rattle.nm_replay.specs.declared.block.Block.{Block}
@@ -11,7 +11,7 @@ use Rattle.nm_script_lib.specs.declared.mirror_line.MirrorLine.{MirrorLine}
 use Rattle.nm_script_lib.specs.declared.step.Step.{Step}
 use Rattle.nm_script_lib.specs.Forms.{keywords}
 use Rattle.nm_script_lib.specs.Grammar.{IsStepLine, IsScript, mirror_form, steps_on}
-use Rattle.nm_script_lib.specs.MemStripe.{MemStripe, InRange, in_memory, mem_legs, new_stripe, filled_block, asked, CanTake}
+use Rattle.nm_script_lib.specs.MemStripe.{MemStripe, InRange, in_memory, mem_legs, new_stripe, filled_block, stripe_step, CanTake}
 use Rattle.nm_script_lib.specs.Runs.{Answers}
 use Rattle.nm_script_lib.proofs.FormLaws.{Always, line_always}
 use Rattle.nm_script_lib.proofs.Legs.{count_legs}
@@ -38,7 +38,7 @@ runs_shape (s ∷ ss) (x ∷ xs) old new (mid, step, rest) =
 pub still_takes : (steps : List Step) (xs : List (Answer (List Block))) (old new : MemStripe)
     (s : Step) → Answers steps xs old new → CanTake old s → CanTake new s
 still_takes steps xs old new s h can =
-    asked-later in_memory (asked s) old new (runs_shape (map asked steps) xs old new h) can
+    asked-later in_memory (stripe_step s) old new (runs_shape (map stripe_step steps) xs old new h) can
 
 fills_block : (fill : ℕ) → length (filled_block fill) ≡ 512
 unfolding filled_block

@@ -1,5 +1,5 @@
 -- A run of steps, one step longer; and what is written of it.
-use Rattle.std.proofs.Common.{◌≡◌, ℕ, List, [], ◌∷◌, ◌++◌, Option, Some, None, Result, Ok, Err, OnOk, OnErr, map, true, refl, sym, ap, subst, ◌∙◌, append_assoc}
+use Rattle.std.proofs.Common.{◌≡◌, ℕ, List, [], ◌∷◌, ◌++◌, Option, Some, None, Result, Ok, Err, OnOk, OnErr, map, refl, sym, ap, subst, ◌∙◌, append_assoc}
 use Rattle.std.specs.List.{flat_map}
 use Rattle.std.proofs.lemmas.List.{map-append, flat_map_more, append-nil}
 use Rattle.std.proofs.lemmas.Grind.{flat_map-append}
@@ -11,7 +11,7 @@ use Rattle.nm_stripe.specs.declared.step.Step.{Step as StripeStep}
 use Rattle.nm_stripe.specs.Run.{StepOf, Runs}
 use Rattle.nm_script_lib.specs.declared.mirror_line.MirrorLine.{MirrorLine}
 use Rattle.nm_script_lib.specs.declared.step.Step.{Step}
-use Rattle.nm_script_lib.specs.MemStripe.{MemStripe, mem_legs, new_stripe, asked}
+use Rattle.nm_script_lib.specs.MemStripe.{MemStripe, mem_legs, new_stripe, stripe_step}
 use Rattle.nm_script_lib.specs.Printing.{answer_line, answer_lines}
 use Rattle.nm_script_lib.specs.Streams.{AppendsPrefix, FlushesPrefix}
 use Rattle.nm_script_lib.specs.Runs.{Answers, history, run_text, RunsSteps, RunsPrefix, WholeRun, PartOfRun, FirstSteps, AllSteps, Writes}
@@ -33,10 +33,10 @@ runs_more (r ∷ ss) (y ∷ xs) a b c s x e h = (e.0, e.1, runs_more ss xs e.0 b
 
 pub answers_more : (prefix : List Step) (xs : List (Answer (List Block))) (a b c : MemStripe)
     (s : Step) (x : Answer (List Block)) →
-    Answers prefix xs a b → StepOf mem_legs (asked s) x b c →
+    Answers prefix xs a b → StepOf mem_legs (stripe_step s) x b c →
     Answers (prefix ++ s ∷ []) (xs ++ x ∷ []) a c
 answers_more prefix xs a b c s x e h =
-    rw (map-append asked prefix (s ∷ [])) (runs_more (map asked prefix) xs a b c (asked s) x e h)
+    rw (map-append stripe_step prefix (s ∷ [])) (runs_more (map stripe_step prefix) xs a b c (stripe_step s) x e h)
 
 lines_more : (before : List ℕ) (xs : List (Answer (List Block))) (x : Answer (List Block)) →
     before ++ answer_lines (xs ++ x ∷ []) ≡ (before ++ answer_lines xs) ++ answer_line x
@@ -72,7 +72,7 @@ prefix_flushed old new all kept h = (h.0, kept, h.1, h.2)
 pub steps_more : (prefix : List Step) (before mid after : MemStripe) (s : Step)
     (a : Answer (List Block)) (old cur new : Option (List ℕ)) (buffer some kept : List ℕ) →
     RunsSteps prefix before mid (λ text. FlushesPrefix old cur (buffer ++ text) some) →
-    StepOf mem_legs (asked s) a mid after →
+    StepOf mem_legs (stripe_step s) a mid after →
     FlushesPrefix cur new (some ++ answer_line a) kept →
     RunsSteps (prefix ++ s ∷ []) before after (λ text. FlushesPrefix old new (buffer ++ text) kept)
 steps_more prefix before mid after s a old cur new buffer some kept h step p = record {
@@ -100,7 +100,7 @@ stopped_before prefix rest steps before mid old cur buffer some e h = record {
 pub stopped_after : (prefix rest steps : List Step) (before mid after : MemStripe) (s : Step)
     (a : Answer (List Block)) (old cur new : Option (List ℕ)) (buffer some : List ℕ) →
     steps ≡ (prefix ++ s ∷ []) ++ rest → RunsSteps prefix before mid (λ text. FlushesPrefix old cur (buffer ++ text) some) →
-    StepOf mem_legs (asked s) a mid after →
+    StepOf mem_legs (stripe_step s) a mid after →
     AppendsPrefix cur new (some ++ answer_line a) → RunsPrefix steps before (λ text. AppendsPrefix old new (buffer ++ text))
 stopped_after prefix rest steps before mid after s a old cur new buffer some e h step w = record {
   prefix = prefix ++ s ∷ [];

@@ -47,12 +47,12 @@ unfoldable pub filled_block : ℕ → List ℕ
 filled_block fill = replicate 512 fill
 
 -- The stripe's step for a step of a script. A begin hands in 512 bytes of its fill.
-abbrev pub asked : Step → StripeStep (List Block)
-asked (Begin block fill) = BeginStep block (Cut (filled_block fill))
-asked (Push ticket leg) = PushStep ticket leg
-asked (Claim ticket) = ClaimStep ticket
-asked (Read block) = ReadStep block
+abbrev pub stripe_step : Step → StripeStep (List Block)
+stripe_step (Begin block fill) = BeginStep block (Cut (filled_block fill))
+stripe_step (Push ticket leg) = PushStep ticket leg
+stripe_step (Claim ticket) = ClaimStep ticket
+stripe_step (Read block) = ReadStep block
 
 -- The stripe may be asked for this step: it has the step's block and leg.
 abbrev pub CanTake : MemStripe → Step → Type 0
-CanTake stripe step = MayBeAsked in_memory stripe (asked step)
+CanTake stripe step = MayBeAsked in_memory stripe (stripe_step step)

@@ -7,12 +7,12 @@ use Rattle.nm_stripe.specs.declared.answer.Answer.{Answer}
 use Rattle.nm_stripe.specs.Run.{Runs}
 use Rattle.nm_script_lib.specs.declared.mirror_line.MirrorLine.{MirrorLine}
 use Rattle.nm_script_lib.specs.declared.step.Step.{Step}
-use Rattle.nm_script_lib.specs.MemStripe.{MemStripe, mem_legs, new_stripe, asked}
+use Rattle.nm_script_lib.specs.MemStripe.{MemStripe, mem_legs, new_stripe, stripe_step}
 use Rattle.nm_script_lib.specs.Printing.{answer_lines, history_lines}
 
 -- The script's steps had these answers, one a step, one after the other.
 abbrev pub Answers : List Step → List (Answer (List Block)) → MemStripe → MemStripe → Type 0
-Answers steps answers old new = Runs mem_legs old (map asked steps) answers new
+Answers steps answers old new = Runs mem_legs old (map stripe_step steps) answers new
 
 -- A fact about a history's lines, which have `legal yes` exactly where it is consistent.
 abbrev pub JudgesHistory : List Entry → ℕ → (List ℕ → Type 0) → Type 0

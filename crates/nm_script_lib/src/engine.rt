@@ -137,7 +137,8 @@ fn finish<W: Write>(
 /// Runs a script on a new stripe of memory legs: writes a line a step, and then the history.
 pub fn run<W: Write>(alloc: Global, script: &Script, out: &mut W) -> Result<(), RunError>
     requires range { InRange script.now.mirror }
-    requires inside { AllByRecursion (CanTake (new_stripe script.now.mirror)) script.now.steps.items }
+    requires inside { AllByRecursion (CanTake (new_stripe script.now.mirror))
+        script.now.steps.items }
     ensures ok { OnOk result (Writes (WholeRun script.now.mirror script.now.steps.items)
         (Appends (W.contents out.old) (W.contents out.new))) }
     ensures err { OnErr result (Writes (PartOfRun script.now.mirror script.now.steps.items)

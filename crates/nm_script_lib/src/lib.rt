@@ -1,8 +1,8 @@
 //! What `nm_script` runs: a text of steps on one stripe of memory legs.
 //!
 //! `run_script` reads the whole script, does its steps one after the other, and writes a line for
-//! each answer, the history that the stripe keeps, and whether that history is legal. What it writes
-//! is proved to be the lines of the answers, with `legal yes` as the last line.
+//! each answer, the history that the stripe keeps, and whether that history is legal. What it
+//! writes is proved to be the lines of the answers, with `legal yes` as the last line.
 #![tactic(auto)]
 
 mod engine;

@@ -3,7 +3,7 @@ ghost use Rattle.std.specs.Prelude.{◌≡◌, ℕ, ◌<◌, ◌≤◌, ◌+◌,
 ghost use Rattle.nm_stripe.specs.Run.{StepOf, MayBeAsked};
 ghost use Rattle.nm_script_lib.specs.MemStripe.{InRange};
 ghost use Rattle.nm_script_lib.specs.RunErrors.{EndsRun};
-ghost use Rattle.nm_script_lib.specs.MemStripe.{mem_legs, new_stripe, zero_legs, filled_block, asked, CanTake};
+ghost use Rattle.nm_script_lib.specs.MemStripe.{mem_legs, new_stripe, zero_legs, filled_block, stripe_step, CanTake};
 
 use crate::mirror_line::MirrorLine;
 use crate::run_error::RunError;
@@ -63,8 +63,8 @@ fn filled_block(fill: u8) -> [u8; 512]
 }
 
 /// The step of the stripe for a step of the script, with its data.
-fn asked(alloc: Global, step: Step) -> Result<nm_stripe::Step<MemLeg>, AllocError>
-    ensures { IfOk result (λ s. s ≡ asked step) }
+fn stripe_step(alloc: Global, step: Step) -> Result<nm_stripe::Step<MemLeg>, AllocError>
+    ensures { IfOk result (λ s. s ≡ stripe_step step) }
 {
     Ok(match step {
         Step::Begin { block, fill } => {
@@ -85,9 +85,9 @@ pub fn step(
 ) -> Result<Answer<MemLeg>, AllocError>
     requires { CanTake stripe.old step }
     ensures { IfOk result (λ answer.
-        StepOf mem_legs (asked step) answer stripe.old stripe.new) }
+        StepOf mem_legs (stripe_step step) answer stripe.old stripe.new) }
 {
-    let step = asked(alloc, step)?;
+    let step = stripe_step(alloc, step)?;
     let answer = stripe.step(step);
     Ok(answer)
 }
