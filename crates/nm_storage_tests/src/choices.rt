@@ -1,0 +1,38 @@
+//! The legs that reads take, and the leg that becomes master.
+use nm_choice::{LegState, Policy, elect, next_turn, pick};
+
+#[test]
+fn a_quiet_region_is_read_by_the_policy(rt: HostRuntime) {
+    assert_eq!(rt; pick(Policy::RoundRobin, 5, 2, &[0, 2, 3], 2, true), 3);
+    assert_eq!(rt; pick(Policy::Striped, 5, 4, &[0, 2, 3], 2, true), 2);
+}
+
+#[test]
+fn a_busy_region_is_read_from_the_master(rt: HostRuntime) {
+    for policy in [Policy::RoundRobin, Policy::Striped] {
+        assert_eq!(rt; pick(policy, 5, 4, &[0, 2, 3], 2, false), 2);
+    }
+}
+
+#[test]
+fn three_reads_go_round_two_legs(rt: HostRuntime) {
+    let mut turn = 0;
+    for leg in [0, 1, 0] {
+        assert_eq!(rt; pick(Policy::RoundRobin, turn, 0, &[0, 1], 0, true), leg);
+        turn = next_turn(turn);
+    }
+    assert_eq!(rt; next_turn(839), 0);
+}
+
+#[test]
+fn the_lowest_leg_in_sync_becomes_master(rt: HostRuntime) {
+    let states = [
+        LegState::Out,
+        LegState::Joining,
+        LegState::InSync,
+        LegState::InSync,
+    ];
+    assert_eq!(rt; elect(&states), Some(2));
+    assert_eq!(rt; elect(&states[..2]), None);
+    assert_eq!(rt; elect(&[]), None);
+}
