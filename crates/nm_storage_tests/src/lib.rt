@@ -10,6 +10,8 @@ mod legs;
 #[cfg(test)]
 mod records;
 #[cfg(test)]
+mod regions;
+#[cfg(test)]
 mod scripts;
 #[cfg(test)]
 mod stripes;

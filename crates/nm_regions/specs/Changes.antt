@@ -1,0 +1,80 @@
+-- The changes of the region table, each as the table that it leaves.
+use Rattle.std.specs.Prelude.{ℕ, ◌+◌, ◌-◌, Bool, ◌==◌, if◌then◌else◌, Option, None, Some}
+use Rattle.std.specs.Prelude.{List, map, replicate, slice_set}
+use Rattle.nm_regions.specs.declared.copy_place.CopyPlace.{CopyPlace}
+use Rattle.nm_regions.specs.LegFlags as leg_flags
+use Rattle.nm_regions.specs.LegFlags.{LegRegions, opened_leg, marked_if_out, cleared}
+use Rattle.nm_regions.specs.Table.{RegionTable, regions_of, region_of, writes_in, leg_at}
+
+-- the table of so many blocks as it opens: legs not in sync join with all regions behind
+abbrev pub opened : ℕ → ℕ → List Bool → RegionTable
+opened blocks region in_sync = record {
+  blocks = blocks;
+  region = region;
+  legs = map (opened_leg (regions_of blocks region)) in_sync;
+  writes = replicate (regions_of blocks region) 0;
+  copy = None;
+}
+
+-- the table with this leg changed by f
+abbrev pub with_leg : (LegRegions → LegRegions) → ℕ → RegionTable → RegionTable
+with_leg f leg t = record t { legs = slice_set t.legs leg (f (leg_at leg t)) }
+
+-- one more write is under way in the block's region, which falls behind on each leg that is out
+abbrev pub begun : ℕ → RegionTable → RegionTable
+begun block t =
+    let region = region_of block t in record t {
+      legs = map (marked_if_out region) t.legs;
+      writes = slice_set t.writes region (writes_in region t + 1);
+    }
+
+-- one write fewer is under way in the block's region
+abbrev pub finished : ℕ → RegionTable → RegionTable
+finished block t =
+    let region = region_of block t in
+    record t { writes = slice_set t.writes region (writes_in region t - 1) }
+
+-- the copy, unless it is of this leg
+abbrev pub copy_but_of : ℕ → Option CopyPlace → Option CopyPlace
+copy_but_of leg None = None
+copy_but_of leg (Some copy) = if copy.leg == leg then None else Some copy
+
+-- the leg is out, and its open copy is dropped: its region stays behind
+abbrev pub gone_out : ℕ → RegionTable → RegionTable
+gone_out leg t =
+    record (with_leg leg_flags.gone_out leg t) { copy = copy_but_of leg t.copy }
+
+-- the block's region is behind for the leg
+abbrev pub marked : ℕ → ℕ → RegionTable → RegionTable
+marked leg block t = with_leg (leg_flags.marked (region_of block t)) leg t
+
+-- all regions are behind for the leg
+abbrev pub all_marked : ℕ → RegionTable → RegionTable
+all_marked leg t = with_leg leg_flags.all_marked leg t
+
+-- the leg is not out any more, and its regions are as they were
+abbrev pub attached : ℕ → RegionTable → RegionTable
+attached leg t = with_leg leg_flags.attached leg t
+
+-- a copy of this leg's region is open, and nothing of it is copied
+abbrev pub copy_opened : ℕ → ℕ → RegionTable → RegionTable
+copy_opened leg region t =
+    record t { copy = Some (record { leg = leg; region = region; cursor = 0 }) }
+
+-- the copy once so many more blocks are copied
+abbrev pub moved : ℕ → Option CopyPlace → Option CopyPlace
+moved blocks None = None
+moved blocks (Some copy) = Some (record copy { cursor = copy.cursor + blocks })
+
+-- so many more blocks of the open copy's region are copied
+abbrev pub advanced : ℕ → RegionTable → RegionTable
+advanced blocks t = record t { copy = moved blocks t.copy }
+
+-- the table once the leg of this copy is no longer behind in its region
+abbrev pub cleared_for : Option CopyPlace → RegionTable → RegionTable
+cleared_for None t = t
+cleared_for (Some copy) t = with_leg (cleared copy.region) copy.leg t
+
+-- the copy has ended, and its leg is no longer behind in its region
+abbrev pub region_finished : RegionTable → RegionTable
+region_finished t = record (cleared_for t.copy t) { copy = None }

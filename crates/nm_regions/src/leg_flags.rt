@@ -1,0 +1,198 @@
+ghost use Rattle.std.specs.Prelude.{◌≡◌, ◌<◌, ◌≤◌, ◌^◌, length, map, replicate, All, Some, IsTrue, IsFalse, IfOk};
+ghost use Rattle.nm_regions.specs.LegFlags.{opened_leg, is_behind, lowest_behind, has_behind, gone_out, attached, marked, marked_if_out, all_marked, cleared};
+ghost use Rattle.nm_regions.specs.Links.{behind_count, before_lowest, AreLinks};
+
+use std::alloc::{AllocError, Global};
+use std::marker::Model;
+
+/// One leg's regions: whether the leg is out, and in which regions it is behind.
+///
+/// While the leg is not out its flags are only ever cleared, the lowest first. So links from each
+/// region that is behind to the next one, made as the leg is attached, keep the lowest at hand.
+#[derive(Drop)]
+pub(crate) struct LegFlags {
+    out: bool,
+    behind: Vec<bool>,
+    /// How many regions are behind.
+    count: u64,
+    /// While the leg is not out, the lowest region behind; where none is, the number of regions.
+    head: u32,
+    /// While the leg is not out, for each region behind the next higher one; where none is, the
+    /// number of regions.
+    next: Vec<u32>,
+}
+
+impl Model for LegFlags {
+    ghost use Rattle.nm_regions.specs.LegFlags.{LegRegions};
+    ghost use Rattle.nm_regions.specs.Links.{AreLinked};
+
+    ghost Value = { LegRegions };
+
+    ghost view = { λ f. record { out = f.out; behind = f.behind.items } };
+
+    ghost invariant = { λ f. AreLinked f.out f.behind.items f.count f.head f.next.items };
+}
+
+impl LegFlags {
+    /// A leg of so many regions that is not out. Where it is not in sync all of them are behind.
+    pub(crate) fn new(alloc: Global, regions: usize, in_sync: bool) -> Result<LegFlags, AllocError>
+        requires few { regions ≤ 2 ^ 31 }
+        ensures ok { IfOk result (λ leg. leg ≡ opened_leg regions in_sync) }
+    {
+        let behind = flags(alloc, regions, !in_sync)?;
+        let next = no_links(alloc, regions)?;
+        let mut leg = LegFlags {
+            out: true,
+            behind,
+            count: if in_sync { 0 } else { regions as u64 },
+            head: 0,
+            next,
+        };
+        leg.attach();
+        Ok(leg)
+    }
+
+    /// Whether the leg is out.
+    pub(crate) fn is_out(&self) -> bool
+        ensures { result ≡ self.now.out }
+    {
+        self.out
+    }
+
+    /// Whether this region is behind.
+    pub(crate) fn is_behind(&self, region: usize) -> bool
+        requires within { region < length self.now.behind }
+        ensures { result ≡ is_behind region self.now }
+    {
+        self.behind[region]
+    }
+
+    /// How many regions are behind.
+    pub(crate) fn behind_count(&self) -> u64
+        ensures count { result ≡ behind_count self.now.behind }
+        ensures most { result ≤ 2 ^ 31 }
+    {
+        self.count
+    }
+
+    /// Whether some region is behind.
+    pub(crate) fn has_behind(&self) -> bool
+        ensures { result ≡ has_behind self.now }
+    {
+        self.count > 0
+    }
+
+    /// The lowest region that is behind, of a leg that is not out.
+    pub(crate) fn lowest_behind(&self) -> Option<u64>
+        requires attached { IsFalse self.now.out }
+        ensures { result ≡ lowest_behind self.now }
+    {
+        if (self.head as usize) < self.behind.len() {
+            Some(self.head as u64)
+        } else {
+            None
+        }
+    }
+
+    /// The leg goes out. Its regions stay as they are.
+    pub(crate) fn go_out(&mut self)
+        ensures { self.new ≡ gone_out self.old }
+    {
+        self.out = true;
+    }
+
+    /// The leg is not out any more. Its regions stay as they are. Goes over all regions.
+    pub(crate) fn attach(&mut self)
+        ensures { self.new ≡ attached self.old }
+    {
+        self.head = link(&self.behind, &mut self.next);
+        self.out = false;
+    }
+
+    /// The region is behind from now on, on a leg that is out.
+    pub(crate) fn mark(&mut self, region: usize)
+        requires out { IsTrue self.old.out }
+        requires within { region < length self.old.behind }
+        ensures { self.new ≡ marked region self.old }
+    {
+        self.count += u64::from(!self.behind[region]);
+        self.behind[region] = true;
+    }
+
+    /// The region is behind from now on, if the leg is out.
+    pub(crate) fn mark_if_out(&mut self, region: usize)
+        requires within { region < length self.old.behind }
+        ensures { self.new ≡ marked_if_out region self.old }
+    {
+        if self.is_out() {
+            self.mark(region);
+        }
+    }
+
+    /// All regions are behind from now on, on a leg that is out. Goes over all regions.
+    pub(crate) fn mark_all(&mut self)
+        requires out { IsTrue self.old.out }
+        ensures { self.new ≡ all_marked self.old }
+    {
+        self.count = self.behind.len() as u64;
+        self.behind.fill(true);
+    }
+
+    /// The region is no longer behind: it is the lowest one of a leg that is not out.
+    pub(crate) fn clear(&mut self, region: usize)
+        requires attached { IsFalse self.old.out }
+        requires lowest { lowest_behind self.old ≡ Some region }
+        ensures { self.new ≡ cleared region self.old }
+    {
+        self.behind[region] = false;
+        self.count -= 1;
+        self.head = self.next[region];
+    }
+}
+
+/// So many flags, all the same.
+fn flags(alloc: Global, regions: usize, behind: bool) -> Result<Vec<bool>, AllocError>
+    ensures { IfOk result (λ flags. flags.items ≡ replicate regions behind) }
+{
+    let mut flags = Vec::with_capacity(alloc, regions)?;
+    flags.resize(regions, behind)?;
+    Ok(flags)
+}
+
+/// So many links that are not made yet.
+fn no_links(alloc: Global, regions: usize) -> Result<Vec<u32>, AllocError>
+    ensures { IfOk result (λ links. length links.items ≡ regions) }
+{
+    let mut links = Vec::with_capacity(alloc, regions)?;
+    links.resize(regions, 0)?;
+    Ok(links)
+}
+
+/// Links each region that is behind to the next higher one, and gives the lowest.
+fn link(behind: &[bool], next: &mut [u32]) -> u32
+    requires places { length next.old ≡ length behind.now }
+    requires few { length behind.now ≤ 2 ^ 31 }
+    ensures links { AreLinks 0 behind.now next.new }
+    ensures lowest { result ≡ before_lowest behind.now }
+{
+    let mut lowest = behind.len() as u32;
+    let mut at = behind.len();
+    while at > 0 {
+        at -= 1;
+        next[at] = lowest;
+        if behind[at] {
+            lowest = at as u32;
+        }
+    }
+    lowest
+}
+
+/// The region is behind from now on, for each of the legs that is out.
+pub(crate) fn mark_where_out(legs: &mut [LegFlags], region: usize)
+    requires within { All (λ leg. region < length leg.behind) legs.old }
+    ensures { legs.new ≡ map (marked_if_out region) legs.old }
+{
+    for leg in legs.iter_mut() {
+        leg.mark_if_out(region);
+    }
+}
