@@ -24,8 +24,8 @@ impl Policy {
     }
 }
 
-/// The leg that a read takes. In a quiet region it is one of `current`, the legs that are current at
-/// the block by rising number; else the master alone is read.
+/// The leg that a read takes. In a quiet region it is one of `current`, the legs that are current
+/// at the block by rising number; else the master alone is read.
 pub fn pick(policy: Policy, turn: u64, region: u64, current: &[u8], master: u8, quiet: bool) -> u8
     requires { 0 < length current.now }
     ensures { picked policy turn region current.now master quiet ≡ Some result }

@@ -127,7 +127,8 @@ pub(crate) fn put_information(
     option: u32,
     export: &Export,
 ) -> Result<(), AllocError>
-    ensures ok { OnOk result (out.new.items ≡ out.old.items ++ information_replies option export.now) }
+    ensures ok { OnOk result
+        (out.new.items ≡ out.old.items ++ information_replies option export.now) }
     ensures err { OnErr result (BeginsWith out.new.items out.old.items) }
 {
     put_export_information(out, option, export)?;

@@ -17,7 +17,8 @@ impl Fuse {
     /// Counts one call, and tells whether it fails.
     pub fn burn(&mut self) -> bool
         ensures now { result ≡ fails_at 1 self.old }
-        ensures later { (call : ℕ) → 0 < call → fails_at call self.new ≡ fails_at (call + 1) self.old }
+        ensures later { (call : ℕ) → 0 < call
+            → fails_at call self.new ≡ fails_at (call + 1) self.old }
     {
         match *self {
             Fuse::Never => false,

@@ -12,8 +12,8 @@ const TORN: usize = 256;
 
 /// An honest leg in memory whose calls fail as a fuse says, for tests.
 ///
-/// Each read, write and sync counts as a call. The fuse is set through a shared reference, so that a
-/// leg can be made to fail while a stripe has it.
+/// Each read, write and sync counts as a call. The fuse is set through a shared reference, so that
+/// a leg can be made to fail while a stripe has it.
 #[derive(Drop)]
 pub struct FuseLeg {
     blocks: Vec<Block>,
@@ -55,16 +55,16 @@ impl FuseLeg {
         })
     }
 
-    /// The call of this number from now fails, once; 1 is the next. This takes the place of what was
-    /// set before.
+    /// The call of this number from now fails, once; 1 is the next. This takes the place of what
+    /// was set before.
     pub fn set(&self, call: u64)
         requires { 0 < call }
     {
         self.fuse.set(Fuse::Once(call));
     }
 
-    /// The call of this number from now and all later ones fail; 1 is the next. This takes the place
-    /// of what was set before.
+    /// The call of this number from now and all later ones fail; 1 is the next. This takes the
+    /// place of what was set before.
     pub fn fail_from(&self, call: u64)
         requires { 0 < call }
     {

@@ -20,7 +20,7 @@ fn entries(alloc: Global, rows: &[Row]) -> Result<Vec<Entry>, AllocError> {
     rows.iter().copied().map(entry).collect(alloc)
 }
 
-// Lists that were judged by hand: what the block holds when an entry comes, and so what it must say.
+// Lists judged by hand: what the block holds when an entry comes, and so what it must say.
 const CONSISTENT: [(&str, &[Row]); 10] = [
     ("no entry", &[]),
     ("one read of anything", &[(0, Read, 3, 0x5a)]),

@@ -15,7 +15,7 @@ impl<L: LegPart> Stripe<L> {
     ///
     /// Over honest legs, while no answer is `Halted`, each block read or written acts once, between
     /// its begin and its reply, on one array, and the kept history grows by just those acts. Room
-    /// for all answers is made first: where it is refused the steps come back, and nothing was done.
+    /// for all answers is made first: where it is refused the steps come back and nothing was done.
     pub fn run(
         &mut self,
         alloc: Global,

@@ -70,8 +70,8 @@ impl<L: LegPart> Stripe<L> {
         }
     }
 
-    /// Does one step, with at most one call of a leg. Each answer is one that the step may have, and
-    /// the stripe is then as that answer says.
+    /// Does one step, with at most one call of a leg. Each answer is one that the step may have,
+    /// and the stripe is then as that answer says.
     pub fn step(&mut self, step: Step<L>) -> Answer<L>
         requires { MayBeAsked L.model self.old step }
         ensures step { StepOf (leg_type L.model L.honest) step result self.old self.new }

@@ -1,4 +1,4 @@
-//! The stream of requests: how it is cut into them, what memory that takes, and how they are judged.
+//! The stream of requests: how it is cut, what memory that takes, and how requests are judged.
 mod judging;
 mod memory;
 mod reading;
