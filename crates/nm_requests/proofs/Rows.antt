@@ -5,7 +5,7 @@ use Rattle.std.specs.Bool.{MatchBool}
 use Rattle.nm_wire.specs.declared.export.Export.{Export}
 use Rattle.nm_requests.specs.declared.request.Request.{Request}
 use Rattle.nm_requests.specs.declared.task.Task.{Task}
-use Rattle.nm_requests.specs.Judging.{Row, row, IsFirst, table, is_read, is_write, is_disconnect, is_flush, is_trim, is_write_zeroes, contains, fua, no_hole, is_change, is_aligned, is_past_end}
+use Rattle.nm_requests.specs.Judging.{Row, row, IsFirst, table, is_read, is_write, is_disconnect, is_flush, is_trim, is_write_zeroes, contains, fua, no_hole, is_change, is_past_end}
 use Rattle.nm_wire.specs.Sizes.{max_payload}
 
 -- one of the tests is true
@@ -19,22 +19,22 @@ some_after (true ∷ prefix) tests some = tt
 some_after (false ∷ prefix) tests some = some_after prefix tests some
 
 -- a known type has its row among the last, and an unknown one the second
-each_type : (disconnect read write flush trim zeroes a c d e f g h : Bool)
+each_type : (disconnect read write flush trim zeroes a c d e f g : Bool)
     → SomeTrue (disconnect ∷ not (read || (write || (disconnect || (flush ||
-    (trim || zeroes))))) ∷ a ∷ flush ∷ c ∷ d ∷ e ∷ f ∷ g ∷ h ∷ read ∷ write ∷
+    (trim || zeroes))))) ∷ a ∷ flush ∷ c ∷ d ∷ e ∷ f ∷ g ∷ read ∷ write ∷
     (trim || zeroes) ∷ [])
-each_type true read write flush trim zeroes a c d e f g h = tt
-each_type false true write flush trim zeroes a c d e f g h =
-    some_after (a ∷ flush ∷ c ∷ d ∷ e ∷ f ∷ g ∷ h ∷ []) (true ∷ write ∷ (trim || zeroes) ∷ []) tt
-each_type false false true flush trim zeroes a c d e f g h =
-    some_after (a ∷ flush ∷ c ∷ d ∷ e ∷ f ∷ g ∷ h ∷ []) (false ∷ true ∷ (trim || zeroes) ∷ []) tt
-each_type false false false true trim zeroes a c d e f g h =
-    some_after (a ∷ []) (true ∷ c ∷ d ∷ e ∷ f ∷ g ∷ h ∷ false ∷ false ∷ (trim || zeroes) ∷ []) tt
-each_type false false false false true zeroes a c d e f g h =
-    some_after (a ∷ false ∷ c ∷ d ∷ e ∷ f ∷ g ∷ h ∷ []) (false ∷ false ∷ true ∷ []) tt
-each_type false false false false false true a c d e f g h =
-    some_after (a ∷ false ∷ c ∷ d ∷ e ∷ f ∷ g ∷ h ∷ []) (false ∷ false ∷ true ∷ []) tt
-each_type false false false false false false a c d e f g h = tt
+each_type true read write flush trim zeroes a c d e f g = tt
+each_type false true write flush trim zeroes a c d e f g =
+    some_after (a ∷ flush ∷ c ∷ d ∷ e ∷ f ∷ g ∷ []) (true ∷ write ∷ (trim || zeroes) ∷ []) tt
+each_type false false true flush trim zeroes a c d e f g =
+    some_after (a ∷ flush ∷ c ∷ d ∷ e ∷ f ∷ g ∷ []) (false ∷ true ∷ (trim || zeroes) ∷ []) tt
+each_type false false false true trim zeroes a c d e f g =
+    some_after (a ∷ []) (true ∷ c ∷ d ∷ e ∷ f ∷ g ∷ false ∷ false ∷ (trim || zeroes) ∷ []) tt
+each_type false false false false true zeroes a c d e f g =
+    some_after (a ∷ false ∷ c ∷ d ∷ e ∷ f ∷ g ∷ []) (false ∷ false ∷ true ∷ []) tt
+each_type false false false false false true a c d e f g =
+    some_after (a ∷ false ∷ c ∷ d ∷ e ∷ f ∷ g ∷ []) (false ∷ false ∷ true ∷ []) tt
+each_type false false false false false false a c d e f g = tt
 
 tests_of : List Row → List Bool
 tests_of rows = map (λ r. r.applies) rows
@@ -46,7 +46,6 @@ some_row request export =
     (is_trim request) (is_write_zeroes request)
     (not (contains (fua + no_hole) request.flags.0))
     (is_change request && export.read_only)
-    (not (is_aligned request))
     ((is_read request || is_trim request) && is_past_end request export)
     ((is_write request || is_write_zeroes request) && is_past_end request export)
     (is_read request && nat_lt max_payload request.length)

@@ -1,12 +1,12 @@
 -- How a request is judged against an export: by a table whose first row that applies decides.
-use Rattle.std.specs.Prelude.{◌≡◌, ℕ, ◌+◌, ◌*◌, ◌/◌, ◌%◌, ◌^◌, ◌<◌, ◌≤◌, Bool, true, not, ◌&&◌, ◌||◌, List, [], ◌∷◌, ◌==◌, nat_lt, bit_and, Result, Ok, Err}
+use Rattle.std.specs.Prelude.{◌≡◌, ℕ, ◌+◌, ◌^◌, ◌<◌, ◌≤◌, Bool, true, not, ◌&&◌, ◌||◌, List, [], ◌∷◌, ◌==◌, nat_lt, bit_and, Result, Ok, Err}
 use Rattle.std.specs.Bool.{MatchBool}
 use Rattle.nm_wire.specs.declared.command.Command.TheVariants as command
 use Rattle.nm_wire.specs.declared.command.Command.{Command}
 use Rattle.nm_wire.specs.declared.export.Export.{Export}
 use Rattle.nm_wire.specs.Command.{command_number}
 use Rattle.nm_wire.specs.Export.{size_of}
-use Rattle.nm_wire.specs.Sizes.{max_payload, min_block}
+use Rattle.nm_wire.specs.Sizes.{max_payload}
 use Rattle.nm_requests.specs.declared.request.Request.{Request}
 use Rattle.nm_requests.specs.declared.task.Task.TheVariants as task
 use Rattle.nm_requests.specs.declared.task.Task.{Task}
@@ -77,17 +77,6 @@ fua = 2 ^ 0
 abbrev pub no_hole : ℕ
 no_hole = 2 ^ 1
 
--- whether it begins and ends between blocks
-abbrev pub is_aligned : Request → Bool
-is_aligned request = (request.offset % min_block == 0) && (request.length % min_block == 0)
-
--- the block that it begins with, and how many it names
-abbrev pub first_block : Request → ℕ
-first_block request = request.offset / min_block
-
-abbrev pub blocks : Request → ℕ
-blocks request = request.length / min_block
-
 -- whether its data are to be durable before the reply
 abbrev pub has_fua : Request → Bool
 has_fua request = contains request.flags.0 fua
@@ -96,7 +85,7 @@ has_fua request = contains request.flags.0 fua
 abbrev pub is_past_end : Request → Export → Bool
 is_past_end request export = nat_lt (size_of export) (request.offset + request.length)
 
--- the thirteen rows, top first
+-- the twelve rows, top first
 abbrev pub table : Request → Export → List Row
 table request export =
     row (is_disconnect request) (Ok task.Disconnect)
@@ -104,34 +93,33 @@ table request export =
     ∷ row (not (contains (fua + no_hole) request.flags.0)) (Err not_valid)
     ∷ row (is_flush request) (Ok task.Flush)
     ∷ row (is_change request && export.read_only) (Err not_permitted)
-    ∷ row (not (is_aligned request)) (Err not_valid)
     ∷ row ((is_read request || is_trim request) && is_past_end request export) (Err not_valid)
     ∷ row ((is_write request || is_write_zeroes request) && is_past_end request export)
     (Err no_space)
     ∷ row (is_read request && nat_lt max_payload request.length) (Err not_valid)
     ∷ row (request.length == 0) (Ok task.Nothing)
-    ∷ row (is_read request) (Ok (task.Read (first_block request) (blocks request)))
+    ∷ row (is_read request) (Ok (task.Read request.offset request.length))
     ∷ row (is_write request)
-    (Ok (task.Write (first_block request) (blocks request) (has_fua request)))
+    (Ok (task.Write request.offset request.length (has_fua request)))
     ∷ row (is_trim request || is_write_zeroes request)
-    (Ok (task.Zero (first_block request) (blocks request) (has_fua request)))
+    (Ok (task.Zero request.offset request.length (has_fua request)))
     ∷ []
 
--- the blocks are those that the request names, at least one, and lie inside the export
-pub record AreBlocksOf (request : Request) (export : Export) (block count : ℕ) : Type 0 where
-  pub offset : request.offset ≡ min_block * block
-  pub length : request.length ≡ min_block * count
-  pub some : 0 < count
-  pub inside : block + count ≤ export.blocks
+-- the bytes are those that the request names, at least one, and lie inside the export
+pub record AreBytesOf (request : Request) (export : Export) (offset length : ℕ) : Type 0 where
+  pub offset_is : offset ≡ request.offset
+  pub length_is : length ≡ request.length
+  pub some : 0 < length
+  pub inside : offset + length ≤ size_of export
 
--- the task's blocks are the request's; no READ is longer than 32 MiB, and only a WRITE writes, so
--- that its payload fills the blocks
+-- the task's bytes are the request's; no READ is longer than 32 MiB, and only a WRITE writes, so
+-- that its payload fills the bytes
 abbrev pub LiesInside : Request → Export → Task → Type 0
-LiesInside request export (task.Read block count) =
-    AreBlocksOf request export block count × (min_block * count ≤ max_payload)
-LiesInside request export (task.Write block count _) =
-    AreBlocksOf request export block count × (is_write request ≡ true)
-LiesInside request export (task.Zero block count _) = AreBlocksOf request export block count
+LiesInside request export (task.Read offset length) =
+    AreBytesOf request export offset length × (length ≤ max_payload)
+LiesInside request export (task.Write offset length _) =
+    AreBytesOf request export offset length × (is_write request ≡ true)
+LiesInside request export (task.Zero offset length _) = AreBytesOf request export offset length
 LiesInside request export task.Flush = Unit {0}
 LiesInside request export task.Nothing = Unit {0}
 LiesInside request export task.Disconnect = Unit {0}

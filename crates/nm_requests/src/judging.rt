@@ -6,7 +6,7 @@ ghost use Rattle.nm_requests.specs.Judging as judging;
 use crate::request::Request;
 use crate::task::Task;
 use nm_wire::errors::{EINVAL, ENOSPC, EPERM};
-use nm_wire::sizes::{MAX_PAYLOAD, MIN_BLOCK};
+use nm_wire::sizes::MAX_PAYLOAD;
 use nm_wire::{Command, CommandFlags, Export};
 
 // The flags that a request may have.
@@ -39,9 +39,6 @@ fn judge_extent(command: Command, request: &Request, export: &Export) -> Result<
 {
     let size = export.size();
     let length = u64::from(request.length);
-    if request.offset % u64::from(MIN_BLOCK) != 0 || request.length % MIN_BLOCK != 0 {
-        return Err(EINVAL);
-    }
     // The sum of offset and length may not fit.
     if length > size || request.offset > size - length {
         return Err(match command {
@@ -55,13 +52,20 @@ fn judge_extent(command: Command, request: &Request, export: &Export) -> Result<
     if request.length == 0 {
         return Ok(Task::Nothing);
     }
-    let block = request.offset / u64::from(MIN_BLOCK);
-    let count = request.length / MIN_BLOCK;
+    let (offset, length) = (request.offset, request.length);
     let fua = contains(request.flags, CommandFlags::FUA);
     Ok(match command {
-        Command::Read => Task::Read { block, count },
-        Command::Write => Task::Write { block, count, fua },
-        _ => Task::Zero { block, count, fua },
+        Command::Read => Task::Read { offset, length },
+        Command::Write => Task::Write {
+            offset,
+            length,
+            fua,
+        },
+        _ => Task::Zero {
+            offset,
+            length,
+            fua,
+        },
     })
 }
 

@@ -1,6 +1,5 @@
 //! Laws of the definitions: what the contracts of single calls say, they say of whole streams.
-ghost use Rattle.std.specs.Prelude.{◌≡◌, ◌<◌, ◌*◌, ◌++◌, ◌⊎◌, ℕ, Bool, slice_index, List, length, Option, Some, Result};
-ghost use Rattle.nm_wire.specs.Sizes.{min_block};
+ghost use Rattle.std.specs.Prelude.{◌≡◌, ◌<◌, ◌++◌, ◌⊎◌, ℕ, Bool, slice_index, List, length, Option, Some, Result};
 ghost use Rattle.nm_wire.specs.declared.export.Export.{Export};
 ghost use Rattle.nm_requests.specs.declared.fault.Fault.{Fault};
 ghost use Rattle.nm_requests.specs.declared.request.Request.{Request};
@@ -75,10 +74,10 @@ pub fn one_result()
         × ((other : Result Task ℕ) → IsFirst (table request export) other → other ≡ result) }
 {}
 
-/// A WRITE that is judged a task has a payload that fills its blocks.
-pub fn payload_fills_the_blocks()
+/// A WRITE that is judged a task has a payload as long as the bytes that it writes.
+pub fn payload_fills_the_bytes()
     ensures { (before : ℕ) (bytes after : List ℕ) (request : Request) (export : Export)
-        (block count : ℕ) (fua : Bool) → StartsWith before bytes (message_of request) after
-        → LiesInside request export (Write block count fua)
-        → length request.payload ≡ min_block * count }
+        (offset count : ℕ) (fua : Bool) → StartsWith before bytes (message_of request) after
+        → LiesInside request export (Write offset count fua)
+        → length request.payload ≡ count }
 {}

@@ -3,7 +3,7 @@ use Rattle.std.specs.Prelude.{ℕ}
 
 -- the minimum block size ("Block size constraints")
 abbrev pub min_block : ℕ
-min_block = 512
+min_block = 1
 
 -- the preferred block size ("Block size constraints")
 abbrev pub preferred_block : ℕ

@@ -1,8 +1,8 @@
 //! Sizes in bytes that the protocol fixes or leaves to the server.
 
-/// The minimum block size that clients are told, and the unit of an export's length ("Block size
+/// The minimum block size that clients are told: requests need no alignment ("Block size
 /// constraints").
-pub const MIN_BLOCK: u32 = 512;
+pub const MIN_BLOCK: u32 = 1;
 
 /// The preferred block size that clients are told ("Block size constraints").
 pub const PREFERRED_BLOCK: u32 = 4_096;

@@ -171,7 +171,7 @@ fn constants_of_the_protocol(rt: HostRuntime) {
         (errors::ENOMEM, 12),
         (errors::EINVAL, 22),
         (errors::ENOSPC, 28),
-        (sizes::MIN_BLOCK, 512),
+        (sizes::MIN_BLOCK, 1),
         (sizes::PREFERRED_BLOCK, 4_096),
         (sizes::MAX_PAYLOAD, 0x0200_0000),
         (sizes::MAX_OPTION_DATA, 65_536),

@@ -18,90 +18,78 @@ const OTHER_FLAGS: [u16; 14] = [
     4, 8, 16, 32, 64, 128, 256, 512, 1024, 2048, 4096, 8192, 16_384, 32_768,
 ];
 
-// At a length of 512 in 1 MiB: the offset, its block, and what READ, WRITE, TRIM and WRITE_ZEROES
-// get: 0 for a task, or the error.
-const OFFSETS: [(u64, u64, [u32; 4]); 26] = [
-    (0, 0, [0, 0, 0, 0]),
-    (1, 0, [22, 22, 22, 22]),
-    (2, 0, [22, 22, 22, 22]),
-    (510, 0, [22, 22, 22, 22]),
-    (511, 0, [22, 22, 22, 22]),
-    (512, 1, [0, 0, 0, 0]),
-    (513, 0, [22, 22, 22, 22]),
-    (1_048_063, 0, [22, 22, 22, 22]),
-    (1_048_064, 2047, [0, 0, 0, 0]),
-    (1_048_065, 0, [22, 22, 22, 22]),
-    (1_048_575, 0, [22, 22, 22, 22]),
-    (1_048_576, 0, [22, 28, 22, 28]),
-    (1_048_577, 0, [22, 22, 22, 22]),
-    (1_049_087, 0, [22, 22, 22, 22]),
-    (1_049_088, 0, [22, 28, 22, 28]),
-    (1_049_089, 0, [22, 22, 22, 22]),
-    (33_554_432, 0, [22, 28, 22, 28]),
-    (33_554_433, 0, [22, 22, 22, 22]),
-    (4_294_967_295, 0, [22, 22, 22, 22]),
-    (9_223_372_036_854_775_807, 0, [22, 22, 22, 22]),
-    (9_223_372_036_854_775_808, 0, [22, 28, 22, 28]),
-    (9_223_372_036_854_775_809, 0, [22, 22, 22, 22]),
-    (18_446_744_073_709_551_103, 0, [22, 22, 22, 22]),
-    (18_446_744_073_709_551_104, 0, [22, 28, 22, 28]),
-    (18_446_744_073_709_551_105, 0, [22, 22, 22, 22]),
-    (18_446_744_073_709_551_615, 0, [22, 22, 22, 22]),
+// At a length of 512 in 1 MiB: the offset, and what READ, WRITE, TRIM and WRITE_ZEROES get: 0 for a
+// task, or the error.
+const OFFSETS: [(u64, [u32; 4]); 19] = [
+    (0, [0, 0, 0, 0]),
+    (1, [0, 0, 0, 0]),
+    (511, [0, 0, 0, 0]),
+    (512, [0, 0, 0, 0]),
+    (513, [0, 0, 0, 0]),
+    (1_048_063, [0, 0, 0, 0]),
+    (1_048_064, [0, 0, 0, 0]),
+    (1_048_065, [22, 28, 22, 28]),
+    (1_048_575, [22, 28, 22, 28]),
+    (1_048_576, [22, 28, 22, 28]),
+    (1_048_577, [22, 28, 22, 28]),
+    (33_554_432, [22, 28, 22, 28]),
+    (4_294_967_295, [22, 28, 22, 28]),
+    (9_223_372_036_854_775_807, [22, 28, 22, 28]),
+    (9_223_372_036_854_775_808, [22, 28, 22, 28]),
+    (18_446_744_073_709_551_103, [22, 28, 22, 28]),
+    (18_446_744_073_709_551_104, [22, 28, 22, 28]),
+    (18_446_744_073_709_551_105, [22, 28, 22, 28]),
+    (18_446_744_073_709_551_615, [22, 28, 22, 28]),
 ];
 
-// At offset 0 in 1 MiB: the length, its blocks, and what the four get.
-const LENGTHS: [(u32, u32, [u32; 4]); 22] = [
-    (1, 0, [22, 22, 22, 22]),
-    (2, 0, [22, 22, 22, 22]),
-    (510, 0, [22, 22, 22, 22]),
-    (511, 0, [22, 22, 22, 22]),
-    (512, 1, [0, 0, 0, 0]),
-    (513, 0, [22, 22, 22, 22]),
-    (1_048_063, 0, [22, 22, 22, 22]),
-    (1_048_064, 2047, [0, 0, 0, 0]),
-    (1_048_065, 0, [22, 22, 22, 22]),
-    (1_048_575, 0, [22, 22, 22, 22]),
-    (1_048_576, 2048, [0, 0, 0, 0]),
-    (1_048_577, 0, [22, 22, 22, 22]),
-    (1_049_087, 0, [22, 22, 22, 22]),
-    (1_049_088, 0, [22, 28, 22, 28]),
-    (1_049_089, 0, [22, 22, 22, 22]),
-    (33_554_431, 0, [22, 22, 22, 22]),
-    (33_554_432, 0, [22, 28, 22, 28]),
-    (33_554_433, 0, [22, 22, 22, 22]),
-    (33_554_434, 0, [22, 22, 22, 22]),
-    (4_294_966_784, 0, [22, 28, 22, 28]),
-    (4_294_967_294, 0, [22, 22, 22, 22]),
-    (4_294_967_295, 0, [22, 22, 22, 22]),
+// At offset 0 in 1 MiB: the length, and what the four get.
+const LENGTHS: [(u32, [u32; 4]); 15] = [
+    (1, [0, 0, 0, 0]),
+    (2, [0, 0, 0, 0]),
+    (511, [0, 0, 0, 0]),
+    (512, [0, 0, 0, 0]),
+    (513, [0, 0, 0, 0]),
+    (1_048_063, [0, 0, 0, 0]),
+    (1_048_575, [0, 0, 0, 0]),
+    (1_048_576, [0, 0, 0, 0]),
+    (1_048_577, [22, 28, 22, 28]),
+    (1_049_088, [22, 28, 22, 28]),
+    (33_554_431, [22, 28, 22, 28]),
+    (33_554_432, [22, 28, 22, 28]),
+    (33_554_433, [22, 28, 22, 28]),
+    (4_294_966_784, [22, 28, 22, 28]),
+    (4_294_967_295, [22, 28, 22, 28]),
 ];
 
 // The same in 64 MiB, where a READ is too long before it is past the end.
-const LONG_LENGTHS: [(u32, u32, [u32; 4]); 7] = [
-    (33_553_920, 65_535, [0, 0, 0, 0]),
-    (33_554_431, 0, [22, 22, 22, 22]),
-    (33_554_432, 65_536, [0, 0, 0, 0]),
-    (33_554_433, 0, [22, 22, 22, 22]),
-    (33_554_944, 65_537, [22, 0, 0, 0]),
-    (67_108_864, 131_072, [22, 0, 0, 0]),
-    (67_109_376, 0, [22, 28, 22, 28]),
+const LONG_LENGTHS: [(u32, [u32; 4]); 7] = [
+    (33_554_431, [0, 0, 0, 0]),
+    (33_554_432, [0, 0, 0, 0]),
+    (33_554_433, [22, 0, 0, 0]),
+    (33_554_944, [22, 0, 0, 0]),
+    (67_108_863, [22, 0, 0, 0]),
+    (67_108_864, [22, 0, 0, 0]),
+    (67_108_865, [22, 28, 22, 28]),
 ];
 
 // Offset and length in 1 MiB, and what the four get; 0 stands for Nothing.
-const EXTENTS: [(u64, u32, [u32; 4]); 14] = [
+const EXTENTS: [(u64, u32, [u32; 4]); 16] = [
     (0, 0, [0, 0, 0, 0]),
+    (1, 0, [0, 0, 0, 0]),
     (512, 0, [0, 0, 0, 0]),
-    (1, 0, [22, 22, 22, 22]),
-    (1_048_064, 0, [0, 0, 0, 0]),
-    (1_048_064, 1024, [22, 28, 22, 28]),
-    (1_048_575, 0, [22, 22, 22, 22]),
+    (1_048_064, 513, [22, 28, 22, 28]),
+    (1_048_575, 0, [0, 0, 0, 0]),
+    (1_048_575, 2, [22, 28, 22, 28]),
     (1_048_576, 0, [0, 0, 0, 0]),
-    (1_048_577, 0, [22, 22, 22, 22]),
-    (1_049_088, 0, [22, 28, 22, 28]),
+    (1_048_576, 1, [22, 28, 22, 28]),
+    (1_048_577, 0, [22, 28, 22, 28]),
+    (1, 1_048_576, [22, 28, 22, 28]),
     (9_223_372_036_854_775_808, 0, [22, 28, 22, 28]),
-    (512, 1_048_576, [22, 28, 22, 28]),
     (18_446_744_073_709_551_104, 0, [22, 28, 22, 28]),
     (18_446_744_073_709_551_104, 1024, [22, 28, 22, 28]),
     (18_446_744_073_709_551_104, 4_294_966_784, [22, 28, 22, 28]),
+    (18_446_744_073_709_551_615, 1, [22, 28, 22, 28]),
+    (18_446_744_073_709_551_615, 2, [22, 28, 22, 28]),
 ];
 
 // Type, flags, offset, length, and the result: of a writable and of a read-only export.
@@ -128,7 +116,7 @@ const RESULTS: [(u16, u16, u64, u32, Result<Task, u32>, Result<Task, u32>); 22] 
         Ok(Task::Disconnect),
         Ok(Task::Disconnect),
     ),
-    (4, 0, 1, 512, Err(22), Err(1)),
+    (4, 0, 1, 512, Ok(ZERO_AT_1), Err(1)),
     (1, 0, 0, 0, Ok(Task::Nothing), Err(1)),
     (1, 0, 1_048_576, 512, Err(28), Err(1)),
     (1, 4, 1, 512, Err(22), Err(22)),
@@ -137,17 +125,26 @@ const RESULTS: [(u16, u16, u64, u32, Result<Task, u32>, Result<Task, u32>); 22] 
     (0, 0, 0, 0, Ok(Task::Nothing), Ok(Task::Nothing)),
 ];
 
-const READ: Task = Task::Read { block: 0, count: 1 };
+const READ: Task = Task::Read {
+    offset: 0,
+    length: 512,
+};
 
 const WRITE: Task = Task::Write {
-    block: 0,
-    count: 1,
+    offset: 0,
+    length: 512,
     fua: false,
 };
 
 const ZERO: Task = Task::Zero {
-    block: 0,
-    count: 1,
+    offset: 0,
+    length: 512,
+    fua: false,
+};
+
+const ZERO_AT_1: Task = Task::Zero {
+    offset: 1,
+    length: 512,
     fua: false,
 };
 
@@ -174,11 +171,19 @@ fn export(alloc: Global, blocks: u64, read_only: bool) -> Export
 }
 
 // What one of the four gets: the task, or the error where there is one.
-fn expected(kind: u16, block: u64, count: u32, fua: bool, error: u32) -> Result<Task, u32> {
+fn expected(kind: u16, offset: u64, length: u32, fua: bool, error: u32) -> Result<Task, u32> {
     match (error, kind) {
-        (0, 0) => Ok(Task::Read { block, count }),
-        (0, 1) => Ok(Task::Write { block, count, fua }),
-        (0, _) => Ok(Task::Zero { block, count, fua }),
+        (0, 0) => Ok(Task::Read { offset, length }),
+        (0, 1) => Ok(Task::Write {
+            offset,
+            length,
+            fua,
+        }),
+        (0, _) => Ok(Task::Zero {
+            offset,
+            length,
+            fua,
+        }),
         _ => Err(error),
     }
 }
@@ -186,12 +191,12 @@ fn expected(kind: u16, block: u64, count: u32, fua: bool, error: u32) -> Result<
 #[test]
 fn judges_each_offset(rt: HostRuntime) {
     let disk = export(rt.alloc(), SMALL, false);
-    for (offset, block, errors) in OFFSETS {
+    for (offset, errors) in OFFSETS {
         for (kind, error) in COMMANDS.iter().zip(&errors) {
             let got = judge(&request(*kind, 0, offset, 512), &disk);
             assert_eq!(rt;
                 got,
-                expected(*kind, block, 1, false, *error),
+                expected(*kind, offset, 512, false, *error),
                 "{kind} at {offset}"
             );
         }
@@ -201,12 +206,12 @@ fn judges_each_offset(rt: HostRuntime) {
 #[test]
 fn judges_each_length(rt: HostRuntime) {
     let disk = export(rt.alloc(), SMALL, false);
-    for (length, count, errors) in LENGTHS {
+    for (length, errors) in LENGTHS {
         for (kind, error) in COMMANDS.iter().zip(&errors) {
             let got = judge(&request(*kind, 0, 0, length), &disk);
             assert_eq!(rt;
                 got,
-                expected(*kind, 0, count, false, *error),
+                expected(*kind, 0, length, false, *error),
                 "{kind} of {length}"
             );
         }
@@ -216,12 +221,12 @@ fn judges_each_length(rt: HostRuntime) {
 #[test]
 fn judges_each_long_length(rt: HostRuntime) {
     let disk = export(rt.alloc(), LARGE, false);
-    for (length, count, errors) in LONG_LENGTHS {
+    for (length, errors) in LONG_LENGTHS {
         for (kind, error) in COMMANDS.iter().zip(&errors) {
             let got = judge(&request(*kind, 0, 0, length), &disk);
             assert_eq!(rt;
                 got,
-                expected(*kind, 0, count, false, *error),
+                expected(*kind, 0, length, false, *error),
                 "{kind} of {length}"
             );
         }
@@ -247,11 +252,11 @@ fn judges_the_end_before_length_0(rt: HostRuntime) {
 #[test]
 fn refuses_each_change_of_a_read_only_export(rt: HostRuntime) {
     let disk = export(rt.alloc(), SMALL, true);
-    for (offset, block, errors) in OFFSETS {
+    for (offset, errors) in OFFSETS {
         let read = judge(&request(0, 0, offset, 512), &disk);
         assert_eq!(rt;
             read,
-            expected(0, block, 1, false, errors[0]),
+            expected(0, offset, 512, false, errors[0]),
             "at {offset}"
         );
         for kind in [1, 4, 6] {
@@ -281,7 +286,11 @@ fn judges_each_flag(rt: HostRuntime) {
     for kind in COMMANDS {
         for (flags, fua) in [(0, false), (1, true), (2, false), (3, true)] {
             let got = judge(&request(kind, flags, 512, 512), &disk);
-            assert_eq!(rt; got, expected(kind, 1, 1, fua, 0), "{kind} with {flags}");
+            assert_eq!(rt;
+                got,
+                expected(kind, 512, 512, fua, 0),
+                "{kind} with {flags}"
+            );
         }
         for flags in OTHER_FLAGS {
             assert_eq!(rt;
