@@ -6,11 +6,6 @@ use Rattle.std.specs.Option.{option_map, option_and_then}
 use Rattle.nm_fanout.specs.declared.write_record.Record.{Record}
 use Rattle.nm_fanout.specs.Record.{is_under_way, lowest_owed, without_leg, with_entry, IsWhole}
 
--- the records, and how many more of them fit without memory being taken
-pub record RecordTable : Type 0 where
-  pub list : List Record
-  pub room : ℕ
-
 -- the record of this ticket
 abbrev pub find_record : ℕ → List Record → Option Record
 find_record ticket list = find (λ r. r.ticket == ticket) list

@@ -3,8 +3,8 @@
 //! A record exists from the beginning of a write until it is claimed. It keeps the block, the data,
 //! the legs that the write has still to reach, and the number of the write's entry once it took
 //! effect.
-//! Every call on `Records` answers exactly what its list of records says, and only `reserve`
-//! takes memory.
+//! Every call on `Records` answers exactly what its list of records says, and only `new` takes
+//! memory.
 #![tactic(auto)]
 
 pub use block_data::Data;

@@ -1,4 +1,4 @@
-ghost use Rattle.std.specs.Prelude.{◌≡◌, ℕ, ◌+◌, ◌-◌, ◌<◌, ◌≤◌, ◌↔◌, [], length, find, slice_get, IsTrue, IsSome, IfSome, IfNone, Some, None, OnOk, OnErr};
+ghost use Rattle.std.specs.Prelude.{◌≡◌, ℕ, ◌+◌, ◌-◌, ◌<◌, ◌≤◌, ◌↔◌, [], length, find, slice_get, IsTrue, IsSome, IfSome, IfNone, Some, None, IfOk};
 ghost use Rattle.std.specs.Option.{option_map, option_copied};
 ghost use Rattle.nm_fanout.specs.Data.{FillsBlock};
 ghost use Rattle.nm_fanout.specs.Record.{begun, is_under_way};
@@ -22,49 +22,48 @@ pub struct Records {
 }
 
 impl Model for Records {
-    ghost use Rattle.std.specs.Prelude.{◌≡◌, ◌-◌, vec_len, vec_capacity};
-    ghost use Rattle.nm_fanout.specs.Records.{RecordTable, AreInOrder, unlanded};
+    ghost use Rattle.std.specs.Prelude.{◌≡◌, ◌≤◌, List, vec_capacity};
+    ghost use Rattle.nm_fanout.specs.declared.write_record.Record.{Record};
+    ghost use Rattle.nm_fanout.specs.Records.{AreInOrder, unlanded};
 
-    ghost Value = { RecordTable };
+    ghost Value = { List Record };
 
-    ghost view = { λ r. record {
-      list = r.list.items;
-      room = vec_capacity r.list - vec_len r.list;
-    } };
+    ghost view = { λ r. r.list.items };
 
-    ghost invariant = { λ r. AreInOrder r.list.items × (r.without_entry ≡ unlanded r.list.items) };
+    ghost invariant = { λ r. (AreInOrder r.list.items × (r.without_entry ≡ unlanded r.list.items))
+        × (256 ≤ vec_capacity r.list) };
 }
 
 impl Records {
-    /// No records, and no memory allocated yet.
-    pub fn new(alloc: Global) -> Records
-        ensures { result.list ≡ [] }
+    /// No records, and room for 256: no later call takes memory.
+    pub fn new(alloc: Global) -> Result<Records, Memory>
+        ensures { IfOk result (λ records. records ≡ []) }
     {
-        Records {
-            list: Vec::new(alloc),
+        Ok(Records {
+            list: Vec::with_capacity(alloc, MOST_RECORDS)?,
             without_entry: 0,
-        }
+        })
     }
 
     /// How many records there are.
     pub fn len(&self) -> usize
-        ensures len { result ≡ length self.now.list }
-        ensures in_order { AreInOrder self.now.list }
+        ensures len { result ≡ length self.now }
+        ensures in_order { AreInOrder self.now }
     {
         self.list.len()
     }
 
     /// Whether there is no record.
     pub fn is_empty(&self) -> bool
-        ensures { IsTrue result ↔ (self.now.list ≡ []) }
+        ensures { IsTrue result ↔ (self.now ≡ []) }
     {
         self.list.is_empty()
     }
 
     /// Whether no more record may be begun.
     pub fn is_full(&self) -> bool
-        ensures full { IsTrue result ↔ (256 ≤ length self.now.list) }
-        ensures in_order { AreInOrder self.now.list }
+        ensures full { IsTrue result ↔ (256 ≤ length self.now) }
+        ensures in_order { AreInOrder self.now }
     {
         self.len() >= MOST_RECORDS
     }
@@ -72,26 +71,26 @@ impl Records {
     /// The place of this ticket's record in the list, counted from 0. It stays the same until an
     /// older record is claimed.
     pub fn find(&self, ticket: u64) -> Option<usize>
-        ensures found { IfSome result (λ place. IsAt ticket place self.now.list) }
-        ensures absent { IfNone result (find_record ticket self.now.list ≡ None) }
-        ensures in_order { AreInOrder self.now.list }
+        ensures found { IfSome result (λ place. IsAt ticket place self.now) }
+        ensures absent { IfNone result (find_record ticket self.now ≡ None) }
+        ensures in_order { AreInOrder self.now }
     {
         self.list.binary_search_by_key(&ticket, |r| r.ticket).ok()
     }
 
     /// The record at this place, lent.
     pub fn at(&self, place: usize) -> &Record
-        requires within { place < length self.now.list }
-        ensures found { slice_get self.now.list place ≡ Some result.now }
-        ensures in_order { AreInOrder self.now.list }
+        requires within { place < length self.now }
+        ensures found { slice_get self.now place ≡ Some result.now }
+        ensures in_order { AreInOrder self.now }
     {
         &self.list[place]
     }
 
     /// The record of this ticket, lent.
     pub fn get(&self, ticket: u64) -> Option<&Record>
-        ensures found { option_copied result ≡ find_record ticket self.now.list }
-        ensures in_order { AreInOrder self.now.list }
+        ensures found { option_copied result ≡ find_record ticket self.now }
+        ensures in_order { AreInOrder self.now }
     {
         let place = self.find(ticket)?;
         Some(self.at(place))
@@ -99,8 +98,8 @@ impl Records {
 
     /// The ticket of the record under way on this block.
     pub fn busy_on(&self, block: u64) -> Option<u64>
-        ensures busy { result ≡ option_map (λ r. r.ticket) (busy_on block self.now.list) }
-        ensures in_order { AreInOrder self.now.list }
+        ensures busy { result ≡ option_map (λ r. r.ticket) (busy_on block self.now) }
+        ensures in_order { AreInOrder self.now }
     {
         let record = self
             .list
@@ -111,55 +110,39 @@ impl Records {
 
     /// How many of the writes have no entry yet.
     pub fn unlanded(&self) -> u64
-        ensures count { result ≡ unlanded self.now.list }
-        ensures most { result ≤ length self.now.list }
-        ensures in_order { AreInOrder self.now.list }
+        ensures count { result ≡ unlanded self.now }
+        ensures most { result ≤ length self.now }
+        ensures in_order { AreInOrder self.now }
     {
         self.without_entry
     }
 
     /// The lowest leg that this ticket's write has still to reach; none for an unknown ticket.
     pub fn next_owed(&self, ticket: u64) -> Option<u8>
-        ensures { result ≡ next_owed ticket self.now.list }
+        ensures { result ≡ next_owed ticket self.now }
     {
         self.get(ticket)?.lowest_owed()
     }
 
     /// The lowest ticket under way, with the lowest leg that it has still to reach.
     pub fn first_owed(&self) -> Option<(u64, u8)>
-        ensures { result ≡ first_owed self.now.list }
+        ensures { result ≡ first_owed self.now }
     {
         let record = first_under_way(&self.list)?;
         let leg = record.lowest_owed()?;
         Some((record.ticket, leg))
     }
 
-    /// Makes room for one more record. It is refused only where there is no room and an allocation
-    /// fails, and then nothing changes.
-    pub fn reserve(&mut self) -> Result<(), Memory>
-        ensures ok { OnOk result (0 < self.new.room) }
-        ensures no_room { OnErr result (self.old.room ≡ 0) }
-        ensures records { self.new.list ≡ self.old.list }
-        ensures room { self.old.room ≤ self.new.room }
-        ensures err { OnErr result (self.new ≡ self.old) }
-    {
-        self.list.reserve(1)?;
-        Ok(())
-    }
-
     /// Begins a write: adds its record, with these legs owed and no entry. The ticket is above all
     /// earlier ones.
     ///
-    /// `reserve` makes the room, `is_full` tells whether one more record is allowed, and
-    /// `Data::fills_block` whether the data are a block's worth.
+    /// `is_full` tells whether one more record is allowed, and `Data::fills_block` whether the data
+    /// are a block's worth.
     pub fn begin(&mut self, ticket: u64, block: u64, data: Data, owed: [bool; LEGS])
-        requires room { 0 < self.old.room }
-        requires few { length self.old.list < 256 }
-        requires next { AllBelow ticket self.old.list }
+        requires few { length self.old < 256 }
+        requires next { AllBelow ticket self.old }
         requires whole { FillsBlock «data» }
-        ensures records { self.new.list
-            ≡ with_new (begun ticket block «data» owed) self.old.list }
-        ensures room { self.new.room + 1 ≡ self.old.room }
+        ensures { self.new ≡ with_new (begun ticket block «data» owed) self.old }
     {
         self.list.push_reserved(Record {
             ticket,
@@ -174,20 +157,18 @@ impl Records {
     /// Records that the write at this place has reached the leg. Where the leg is not owed, nothing
     /// changes.
     pub fn reach_at(&mut self, place: usize, leg: u8)
-        requires within { place < length self.old.list }
-        ensures records { (ticket : ℕ) → IsAt ticket place self.old.list
-            → self.new.list ≡ reached ticket leg self.old.list }
-        ensures room { self.new.room ≡ self.old.room }
+        requires within { place < length self.old }
+        ensures { (ticket : ℕ) → IsAt ticket place self.old
+            → self.new ≡ reached ticket leg self.old }
     {
         self.list[place].reach(leg);
     }
 
     /// Gives the write at this place the number of its entry.
     pub fn land_at(&mut self, place: usize, number: u64)
-        requires within { place < length self.old.list }
-        ensures records { (ticket : ℕ) → IsAt ticket place self.old.list
-            → self.new.list ≡ landed ticket number self.old.list }
-        ensures room { self.new.room ≡ self.old.room }
+        requires within { place < length self.old }
+        ensures { (ticket : ℕ) → IsAt ticket place self.old
+            → self.new ≡ landed ticket number self.old }
     {
         if self.list[place].entry.is_none() {
             self.without_entry -= 1;
@@ -198,11 +179,10 @@ impl Records {
     /// Removes the record of the landed write at this place, and gives its entry's number. The
     /// others keep their order.
     pub fn claim_at(&mut self, place: usize) -> u64
-        requires landed { IsSome (entry_at place self.old.list) }
-        ensures number { entry_at place self.old.list ≡ Some result }
-        ensures records { (ticket : ℕ) → IsAt ticket place self.old.list
-            → self.new.list ≡ without ticket self.old.list }
-        ensures room { self.new.room ≡ self.old.room + 1 }
+        requires landed { IsSome (entry_at place self.old) }
+        ensures number { entry_at place self.old ≡ Some result }
+        ensures records { (ticket : ℕ) → IsAt ticket place self.old
+            → self.new ≡ without ticket self.old }
     {
         let record = self.list.remove(place);
         record.into_entry().unwrap()

@@ -26,9 +26,8 @@ fn owed_to(low: usize, high: usize) -> [bool; LEGS] {
 
 #[test]
 fn a_write_reaches_its_legs(rt: HostRuntime) -> Result<(), Fail> {
-    let mut records = Records::new(rt.alloc());
+    let mut records = Records::new(rt.alloc())?;
     assert!(rt; records.is_empty());
-    records.reserve()?;
     records.begin(7, 3, Data::Cut(cut(rt.alloc(), 0xaa)?), owed_to(0, 1));
     assert_eq!(rt; records.len(), 1);
     assert_eq!(rt; records.unlanded(), 1);
@@ -56,8 +55,7 @@ fn a_write_reaches_its_legs(rt: HostRuntime) -> Result<(), Fail> {
 
 #[test]
 fn a_record_lends_what_it_holds(rt: HostRuntime) -> Result<(), Fail> {
-    let mut records = Records::new(rt.alloc());
-    records.reserve()?;
+    let mut records = Records::new(rt.alloc())?;
     records.begin(7, 3, Data::Cut(cut(rt.alloc(), 0xaa)?), owed_to(2, 7));
     let record = records.get(7).ok_or("the record of ticket 7")?;
     assert_eq!(rt; record.block, 3);
@@ -82,11 +80,10 @@ fn a_write_of_zeroes_needs_no_buffer(rt: HostRuntime) -> Result<(), Fail> {
 
 #[test]
 fn as_many_as_256_records_stand_and_each_is_found(rt: HostRuntime) -> Result<(), Fail> {
-    let mut records = Records::new(rt.alloc());
+    let mut records = Records::new(rt.alloc())?;
     assert_eq!(rt; records.find(0), None);
     for count in 0..256 {
         assert!(rt; !records.is_full());
-        records.reserve()?;
         records.begin(2 * count, count, Data::Zero, owed_to(0, 0));
     }
     assert_eq!(rt; records.len(), MOST_RECORDS);

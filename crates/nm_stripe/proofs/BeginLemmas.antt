@@ -15,7 +15,6 @@ use Rattle.nm_leg.specs.Leg.{LegType}
 use Rattle.nm_replay.specs.WriteLives.{NotBegun, Begun, WriteLives}
 use Rattle.nm_replay.specs.Events.{BeginsWrite}
 use Rattle.nm_replay.specs.Kept.{KeptHistory}
-use Rattle.nm_fanout.specs.Records.{RecordTable}
 use Rattle.nm_stripe.specs.declared.at.At.{At}
 use Rattle.nm_stripe.specs.State.{StripeState, state_of, next_number, is_exhausted, write_life, read_life, written}
 use Rattle.nm_stripe.specs.declared.refusal.Refusal.TheVariants.{Busy, Full, Stopped, Exhausted}
@@ -135,7 +134,7 @@ module _ {L : Type 0} (type : LegType L) (old : StripeState L) (block : ℕ) (by
       }
 
 -- the fields after a begin are those of the state after it
-pub begun-state : {L : Type 0} (place : At) (legs : List L) (master : ℕ) (table table' : RecordTable) (tickets : ℕ) (history history' : KeptHistory) (first : ℕ) (stopped : Bool) (block : ℕ) (bytes : Data) (owed : List Bool)
-    → table'.list ≡ with_new (begun tickets block bytes owed) table.list → history'.entries ≡ history.entries → history'.total ≡ history.total
+pub begun-state : {L : Type 0} (place : At) (legs : List L) (master : ℕ) (table table' : List Record) (tickets : ℕ) (history history' : KeptHistory) (first : ℕ) (stopped : Bool) (block : ℕ) (bytes : Data) (owed : List Bool)
+    → table' ≡ with_new (begun tickets block bytes owed) table → history'.entries ≡ history.entries → history'.total ≡ history.total
     → state_of place legs master table' (tickets + 1) history' first stopped ≡ after_begin (state_of place legs master table tickets history first stopped) block bytes owed
 begun-state place legs master table table' tickets history history' first stopped block bytes owed list entries total = rw (list, entries, total) refl

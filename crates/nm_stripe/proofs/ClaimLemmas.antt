@@ -17,7 +17,6 @@ use Rattle.nm_leg.specs.Leg.{LegType}
 use Rattle.nm_replay.specs.WriteLives.{NotBegun, Landed, Replied, WriteLives}
 use Rattle.nm_replay.specs.Events.{RepliesWrite}
 use Rattle.nm_replay.specs.Kept.{KeptHistory}
-use Rattle.nm_fanout.specs.Records.{RecordTable}
 use Rattle.nm_stripe.specs.declared.at.At.{At}
 use Rattle.nm_stripe.specs.State.{StripeState, state_of, write_life, read_life, life_of, recorded_life, written}
 use Rattle.nm_stripe.specs.Invariant.{HasLegs, HasRecords, LegsAgree, Keeps}
@@ -152,7 +151,7 @@ module _ {L : Type 0} (type : LegType L) (old : StripeState L) (ticket : ℕ) (r
       }
 
 -- the fields of a stripe after a claim are the state after it
-pub claimed-state : {L : Type 0} (place : At) (legs : List L) (master : ℕ) (table table' : RecordTable) (tickets : ℕ) (history : KeptHistory) (first : ℕ) (stopped : Bool) (ticket : ℕ)
-    → table'.list ≡ without ticket table.list
+pub claimed-state : {L : Type 0} (place : At) (legs : List L) (master : ℕ) (table table' : List Record) (tickets : ℕ) (history : KeptHistory) (first : ℕ) (stopped : Bool) (ticket : ℕ)
+    → table' ≡ without ticket table
     → state_of place legs master table' tickets history first stopped ≡ after_claim (state_of place legs master table tickets history first stopped) ticket
 claimed-state place legs master table table' tickets history first stopped ticket list = rw list refl

@@ -9,7 +9,7 @@ use Rattle.nm_fanout.proofs.Places.{IsAt-own, IsAt-reached, IsAt-landed}
 use Rattle.nm_fanout.specs.declared.write_record.Record.{Record}
 use Rattle.nm_fanout.specs.Data.{bytes_of}
 use Rattle.nm_fanout.specs.Record.{owes}
-use Rattle.nm_fanout.specs.Records.{RecordTable, Ascends, IsAt, find_record, unlanded, reached, landed}
+use Rattle.nm_fanout.specs.Records.{Ascends, IsAt, find_record, unlanded, reached, landed}
 use Rattle.nm_leg.specs.Leg.{Leg, LegType}
 use Rattle.nm_leg.specs.LegCalls.{WritesLegAt}
 use Rattle.nm_stripe.specs.declared.at.At.{At}
@@ -130,17 +130,17 @@ module _ {L : Type 0} (type : LegType L) (old : StripeState L) (ticket leg place
       omega (arith, ap (λ rs. unlanded rs) (changed-twice (next_number old) leg ticket old.records), unlanded-landed (landing (next_number old) leg) ticket old.records r (next_number old) c.keeps.records.in_order.ascending c.found none refl)
 
 -- the fields of a stripe after a push are the state after it
-pub reached-state : {L : Type 0} (place : At) (legs legs' : List L) (master : ℕ) (table table' : RecordTable) (tickets : ℕ) (history : KeptHistory) (first : ℕ) (stopped : Bool) (ticket leg : ℕ) (r : Record)
-    → r.ticket ≡ ticket → table'.list ≡ reached ticket leg table.list
+pub reached-state : {L : Type 0} (place : At) (legs legs' : List L) (master : ℕ) (table table' : List Record) (tickets : ℕ) (history : KeptHistory) (first : ℕ) (stopped : Bool) (ticket leg : ℕ) (r : Record)
+    → r.ticket ≡ ticket → table' ≡ reached ticket leg table
     → state_of place legs' master table' tickets history first stopped ≡ after_reach (state_of place legs master table tickets history first stopped) legs' r leg
 reached-state place legs legs' master table table' tickets history first stopped ticket leg r is list = rw (is, list) refl
 
-pub landed-state : {L : Type 0} (place : At) (legs legs' : List L) (master : ℕ) (table table' : RecordTable) (tickets : ℕ) (history history' : KeptHistory) (first : ℕ) (stopped : Bool) (ticket leg : ℕ) (r : Record)
-    → r.ticket ≡ ticket → table'.list ≡ landed ticket (first + history.total) (reached ticket leg table.list)
+pub landed-state : {L : Type 0} (place : At) (legs legs' : List L) (master : ℕ) (table table' : List Record) (tickets : ℕ) (history history' : KeptHistory) (first : ℕ) (stopped : Bool) (ticket leg : ℕ) (r : Record)
+    → r.ticket ≡ ticket → table' ≡ landed ticket (first + history.total) (reached ticket leg table)
     → history'.entries ≡ history.entries ++ write_entry (first + history.total) r ∷ [] → history'.total ≡ history.total + 1
     → state_of place legs' master table' tickets history' first stopped ≡ after_landing (state_of place legs master table tickets history first stopped) legs' r leg
 landed-state place legs legs' master table table' tickets history history' first stopped ticket leg r is list entries total =
-    let same_list : table'.list ≡ landed r.ticket (first + history.total) (reached r.ticket leg table.list) = subst (λ (t : ℕ). table'.list ≡ landed t (first + history.total) (reached t leg table.list)) (sym is) list in
+    let same_list : table' ≡ landed r.ticket (first + history.total) (reached r.ticket leg table) = subst (λ (t : ℕ). table' ≡ landed t (first + history.total) (reached t leg table)) (sym is) list in
     rw (same_list, entries, total) refl
 
 -- the answer of a push that reached its leg goes with what it did

@@ -10,7 +10,8 @@ use Rattle.nm_leg.specs.LegCalls.{ReadsLegAt}
 use Rattle.nm_replay.specs.Events.{Event, BeginsRead, Lands, RepliesRead}
 use Rattle.nm_replay.specs.ReadLives.{ReadLife, NotBegun as NoReadBegun, Begun as ReadBegun, Landed as ReadLanded, Closed, ReadLives}
 use Rattle.nm_replay.specs.Kept.{KeptHistory}
-use Rattle.nm_fanout.specs.Records.{RecordTable, unlanded}
+use Rattle.nm_fanout.specs.declared.write_record.Record.{Record}
+use Rattle.nm_fanout.specs.Records.{unlanded}
 use Rattle.nm_stripe.specs.declared.at.At.{At}
 use Rattle.nm_stripe.specs.State.{StripeState, state_of, next_number, is_exhausted, contents_of, stripe_array, write_life, read_life}
 use Rattle.nm_stripe.specs.Read.{after_read, read_cause, read_rows}
@@ -172,12 +173,12 @@ module _ {L : Type 0} (type : LegType L) (old : StripeState L) (legs : List L) (
   read-array is_honest = ap (λ xs. slice_get xs block) (array_is_master type.model old k.legs k.records (k.agrees is_honest may.runs)) ∙ read_at is_honest
 
 -- the fields of a stripe after a read are the state after it
-pub read-state : {L : Type 0} (place : At) (legs legs' : List L) (master : ℕ) (table : RecordTable) (tickets : ℕ) (history history' : KeptHistory) (first : ℕ) (stopped : Bool) (block : ℕ) (bytes : Block)
+pub read-state : {L : Type 0} (place : At) (legs legs' : List L) (master : ℕ) (table : List Record) (tickets : ℕ) (history history' : KeptHistory) (first : ℕ) (stopped : Bool) (block : ℕ) (bytes : Block)
     → history'.entries ≡ history.entries ++ entry_of_read (first + history.total) block bytes ∷ [] → history'.total ≡ history.total + 1
     → state_of place legs' master table tickets history' first stopped ≡ after_read (state_of place legs master table tickets history first stopped) legs' block bytes
 read-state place legs legs' master table tickets history history' first stopped block bytes entries total = rw (entries, total) refl
 
-pub failed-state : {L : Type 0} (place : At) (legs legs' : List L) (master : ℕ) (table : RecordTable) (tickets : ℕ) (history history' : KeptHistory) (first : ℕ) (stopped : Bool)
+pub failed-state : {L : Type 0} (place : At) (legs legs' : List L) (master : ℕ) (table : List Record) (tickets : ℕ) (history history' : KeptHistory) (first : ℕ) (stopped : Bool)
     → history'.entries ≡ history.entries → history'.total ≡ history.total
     → state_of place legs' master table tickets history' first stopped ≡ with_read (state_of place legs master table tickets history first stopped) legs' history.entries history.total
 failed-state place legs legs' master table tickets history history' first stopped entries total = rw (entries, total) refl

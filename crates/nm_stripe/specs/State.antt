@@ -8,7 +8,7 @@ use Rattle.nm_replay.specs.ReadLives.{ReadLife, Closed, NotBegun as NoReadBegun}
 use Rattle.nm_replay.specs.Explained.{Point}
 use Rattle.nm_fanout.specs.declared.write_record.Record.{Record}
 use Rattle.nm_fanout.specs.Data.{bytes_of}
-use Rattle.nm_fanout.specs.Records.{RecordTable, find_record, busy_on, unlanded}
+use Rattle.nm_fanout.specs.Records.{find_record, busy_on, unlanded}
 use Rattle.nm_leg.specs.Leg.{Leg, block_of}
 use Rattle.nm_stripe.specs.declared.at.At.{At}
 
@@ -96,13 +96,13 @@ point_of model stripe = record {
 }
 
 -- a stripe's state, from its fields
-abbrev pub state_of : {L : Type 0} → At → List L → ℕ → RecordTable → ℕ → KeptHistory
+abbrev pub state_of : {L : Type 0} → At → List L → ℕ → List Record → ℕ → KeptHistory
     → ℕ → Bool → StripeState L
-state_of place legs master table tickets history first stopped = record {
+state_of place legs master records tickets history first stopped = record {
   place = place;
   legs = legs;
   master = master;
-  records = table.list;
+  records = records;
   tickets = tickets;
   kept = history.entries;
   first = first;

@@ -50,7 +50,7 @@ impl<L: LegPart> Stripe<L> {
 
     /// Begins a write of a block. It gets the next ticket, owes every leg and takes effect later.
     ///
-    /// Takes the memory that the write's record and entry need, so that no later step takes any.
+    /// Takes the memory that the write's entry needs, so that no later step takes any.
     /// Refused as `Stopped`, `Busy`, `Full`, `Exhausted` or `Memory`, the first whose condition
     /// holds; the data come back.
     pub fn begin(&mut self, block: u64, data: Data) -> Result<u64, (Refusal, Data)>
@@ -69,9 +69,6 @@ impl<L: LegPart> Stripe<L> {
         }
         let unlanded = self.records.unlanded() as usize;
         if self.kept.reserve(unlanded + 1).is_err() {
-            return Err((Refusal::Memory, data));
-        }
-        if self.records.reserve().is_err() {
             return Err((Refusal::Memory, data));
         }
         let ticket = self.tickets;

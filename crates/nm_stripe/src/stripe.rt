@@ -55,7 +55,8 @@ impl<L: LegPart> Model for Stripe<L> {
 impl<L: LegPart> Stripe<L> {
     /// A stripe of these legs, which are all in sync, and hold equal contents if they are honest.
     ///
-    /// The lowest is the master, `first` the number of its first entry. It takes no memory yet.
+    /// The lowest is the master, `first` the number of its first entry. Room for all records is
+    /// taken here; where it is refused the legs come back.
     pub fn open(
         alloc: Global,
         place: At,
@@ -68,15 +69,18 @@ impl<L: LegPart> Stripe<L> {
         requires lengths { EachHas L.model legs.items place.blocks }
         requires equal { IsTrue L.honest → HoldEqual L.model legs.items in_sync }
         requires all_in_sync { in_sync + 1 ≡ 2 ^ length legs.items }
-        ensures ok { IsOk result }
         ensures opened { IfOk result (λ stripe. stripe ≡ opened place legs.items first) }
+        ensures handed_back { IfErr result (λ refused. refused.1 ≡ legs) }
     {
         let _ = in_sync;
+        let Ok(records) = Records::new(alloc) else {
+            return Err((Memory, legs));
+        };
         Ok(Stripe {
             place,
             legs,
             master: 0,
-            records: Records::new(alloc),
+            records,
             tickets: 0,
             kept: Kept::new(alloc),
             first,

@@ -12,7 +12,7 @@ begin-requires-clause-whole g c = FillsBlock-Zero
 pub loop-count-preserved : goal.loop-count-preserved
 loop-count-preserved g c =
     let count = c.loop-count.count in
-    rw (c.begin.ensures.records, c.reserve.ensures.records)
+    rw c.begin.ensures
     (AllBelow-rise (2 * count + 1) (2 * (count + 1)) _ (omega arith)
     (AllBelow-with_new (begun (2 * count) count Zero c.owed_to.result)
-    c.loop-count.records.list c.loop-count.invariant))
+    c.loop-count.records c.loop-count.invariant))

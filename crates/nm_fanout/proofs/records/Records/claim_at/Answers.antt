@@ -1,14 +1,13 @@
-use Rattle.std.proofs.Common.{◌≡◌, ◌<◌, length, ap, ◌∙◌, sym}
+use Rattle.std.proofs.Common.{rules, ◌≡◌, ◌<◌, length, ◌∙◌, sym}
 use Rattle.std.specs.Option.{IsSome}
-use Rattle.nm_fanout.specs.Records.{RecordTable, IsAt, entry_at}
+use Rattle.nm_fanout.specs.Records.{IsAt, entry_at}
 use Rattle.nm_fanout.proofs.Places.{remove-at}
 use Rattle.nm_fanout.proofs.Counted.{claimed-counted, entry_at-read, entry_at-within}
 use Rattle.nm_fanout.proofs.records.Records.claim_at.Goals as goal
 
 within : (c : goal.After-unwrap) → c.args.place < length c.self.inside.list.items
 within c =
-    let landed : IsSome (entry_at c.args.place c.self.inside.list.items) = rw
-    (ap (λ (t : RecordTable). t.list) c.self.view_is) c.requires.landed in
+    let landed : IsSome (entry_at c.args.place c.self.inside.list.items) = rw c.self.view_is c.requires.landed in
     entry_at-within c.args.place c.self.inside.list.items landed
 
 entry : (c : goal.After-unwrap)
@@ -22,16 +21,16 @@ returns-clause-number c = rw (← c.self.view_is) (entry c ∙ sym c.into_entry.
 
 pub returns-clause-records : goal.returns-clause-records
 returns-clause-records c = λ ticket s.
-    let here : IsAt ticket c.args.place c.self.inside.list.items = rw
-    (ap (λ (t : RecordTable). t.list) c.self.view_is) s in
+    let here : IsAt ticket c.args.place c.self.inside.list.items = rw c.self.view_is s in
     rw (← c.self.view_is) (c.remove-record.ensures.items
     ∙ remove-at ticket c.args.place c.self.inside.list.items c.remove-record.result
-    c.self.invariant.0.ascending here)
+    c.self.invariant.0.0.ascending here)
 
 pub invariant_of-self : goal.invariant_of-self
 invariant_of-self c =
-    let landed : IsSome (entry_at c.args.place c.self.inside.list.items) = rw
-    (ap (λ (t : RecordTable). t.list) c.self.view_is) c.requires.landed in
-    rw c.remove-record.ensures.items (claimed-counted c.self.inside.without_entry c.args.place
-    c.self.inside.list.items c.remove-record.result c.self.invariant (within c)
-    c.remove-record.ensures.value (rw (← entry c) landed))
+    let landed : IsSome (entry_at c.args.place c.self.inside.list.items) = rw c.self.view_is c.requires.landed in (
+      rw c.remove-record.ensures.items (claimed-counted c.self.inside.without_entry c.args.place
+          c.self.inside.list.items c.remove-record.result c.self.invariant.0 (within c)
+          c.remove-record.ensures.value (rw (← entry c) landed)),
+      search rules,
+    )

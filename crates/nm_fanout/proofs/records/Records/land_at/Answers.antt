@@ -1,6 +1,6 @@
-use Rattle.std.proofs.Common.{◌≡◌, ◌-◌, ◌<◌, Bool, true, false, cond, not, length, get_or, ap, ◌∙◌, arith}
+use Rattle.std.proofs.Common.{rules, ◌≡◌, ◌-◌, ◌<◌, Bool, true, false, cond, not, length, get_or, ap, ◌∙◌, arith}
 use Rattle.nm_fanout.specs.Record.{with_entry}
-use Rattle.nm_fanout.specs.Records.{RecordTable, IsAt}
+use Rattle.nm_fanout.specs.Records.{IsAt}
 use Rattle.nm_fanout.proofs.Landing.{waits}
 use Rattle.nm_fanout.proofs.Places.{set-at}
 use Rattle.nm_fanout.proofs.Counted.{numbered-counted, same-read, waits-test}
@@ -21,7 +21,7 @@ read : (c : goal.After-self-2-1) → c.index_mut.result.now
 read c = rw (← same-list c) c.index_mut.ensures.value
 
 within : (c : goal.After-self-2-1) → c.args.place < length c.self.inside.list.items
-within c = rw (ap (λ (t : RecordTable). t.list) c.self.view_is) c.requires.within
+within c = rw c.self.view_is c.requires.within
 
 -- both looks see one record
 same-record : (c : goal.After-self-2-1) → c.index.result.now ≡ c.index_mut.result.now
@@ -45,16 +45,17 @@ less c =
           ∙ omega (arith, counted c false w.if-is_none.false)
     ]
 
-pub returns-clause-records : goal.returns-clause-records
-returns-clause-records c = λ ticket s.
-    let here : IsAt ticket c.args.place c.self.inside.list.items = rw
-    (ap (λ (t : RecordTable). t.list) c.self.view_is) s in
+pub returns : goal.returns
+returns c = λ ticket s.
+    let here : IsAt ticket c.args.place c.self.inside.list.items = rw c.self.view_is s in
     rw (← c.self.view_is, c.land.ensures, same-list c) (set-at (with_entry c.args.number) ticket
-    c.args.place c.self.inside.list.items c.index_mut.result.now c.self.invariant.0.ascending here
+    c.args.place c.self.inside.list.items c.index_mut.result.now c.self.invariant.0.0.ascending here
     (read c))
 
 pub invariant_of-self : goal.invariant_of-self
-invariant_of-self c =
-    rw (c.land.ensures, same-list c) (numbered-counted c.self.inside.without_entry
-    c.if-is_none.self-inside.without_entry c.args.number c.args.place c.self.inside.list.items
-    c.index_mut.result.now c.self.invariant (within c) (read c) (less c))
+invariant_of-self c = (
+  rw (c.land.ensures, same-list c) (numbered-counted c.self.inside.without_entry
+      c.if-is_none.self-inside.without_entry c.args.number c.args.place c.self.inside.list.items
+      c.index_mut.result.now c.self.invariant.0 (within c) (read c) (less c)),
+  search rules,
+)

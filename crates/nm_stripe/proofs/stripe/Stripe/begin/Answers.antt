@@ -14,7 +14,7 @@ pub invariant_of-self-2 : goal.invariant_of-self-2
 invariant_of-self-2 g c =
     let i = c.self.inside in
     let old = state_of i.place i.legs.items i.master i.records i.tickets i.kept i.first i.stopped in
-    let list : c.begin.new.self.list ≡ with_new (begun i.tickets c.args.block c.args.data c.owe_first-owed.result) i.records.list = search rules in
+    let list : c.begin.new.self ≡ with_new (begun i.tickets c.args.block c.args.data c.owe_first-owed.result) i.records = search rules in
     let is = begun-state i.place i.legs.items i.master i.records c.begin.new.self i.tickets i.kept c.reserve.new.self i.first i.stopped c.args.block c.args.data c.owe_first-owed.result list c.reserve.ensures.entries c.reserve.ensures.total in
     let first : OwesFirst (length i.legs.items) c.owe_first-owed.result = search rules in
     let none : begin_cause c.args.self.now c.args.block ≡ None = search rules in
@@ -24,14 +24,14 @@ invariant_of-self-2 g c =
     let room : c.unlanded-unlanded.result + 1 ≤ c.reserve.new.self.room = search rules in
     record {
       keeps = subst (λ (s : StripeState _). Keeps (leg_type g.L.LegPart.model g.L.LegPart.honest) s) (sym is) keeps;
-      room_left = omega (arith, ap (λ rs. unlanded rs) list, unlanded-with_new (begun i.tickets c.args.block c.args.data c.owe_first-owed.result) i.records.list refl, c.unlanded-unlanded.ensures.count, room);
+      room_left = omega (arith, ap (λ rs. unlanded rs) list, unlanded-with_new (begun i.tickets c.args.block c.args.data c.owe_first-owed.result) i.records refl, c.unlanded-unlanded.ensures.count, room);
     }
 
 pub returns-clause-acts : goal.returns-clause-acts
 returns-clause-acts g c is_honest =
     let i = c.self.inside in
     let old = state_of i.place i.legs.items i.master i.records i.tickets i.kept i.first i.stopped in
-    let list : c.begin.new.self.list ≡ with_new (begun i.tickets c.args.block c.args.data c.owe_first-owed.result) i.records.list = search rules in
+    let list : c.begin.new.self ≡ with_new (begun i.tickets c.args.block c.args.data c.owe_first-owed.result) i.records = search rules in
     let is = begun-state i.place i.legs.items i.master i.records c.begin.new.self i.tickets i.kept c.reserve.new.self i.first i.stopped c.args.block c.args.data c.owe_first-owed.result list c.reserve.ensures.entries c.reserve.ensures.total in
     let first : OwesFirst (length i.legs.items) c.owe_first-owed.result = search rules in
     let none : begin_cause c.args.self.now c.args.block ≡ None = search rules in

@@ -16,14 +16,14 @@ pub invariant_of-self : goal.invariant_of-self
 invariant_of-self g c =
     let i = c.self.inside in
     let old = state_of i.place i.legs.items i.master i.records i.tickets i.kept i.first i.stopped in
-    let at : IsAt c.args.ticket c.in_ok-place.place i.records.list = subst (λ (s : StripeState _). IsAt c.args.ticket c.in_ok-place.place s.records) (sym c.self.view_is) c.in_ok-place.ensures.place in
+    let at : IsAt c.args.ticket c.in_ok-place.place i.records = subst (λ (s : StripeState _). IsAt c.args.ticket c.in_ok-place.place s.records) (sym c.self.view_is) c.in_ok-place.ensures.place in
     let may = may_claim old c.args.ticket (ap (λ s. claim_cause s c.args.ticket) c.self.view_is ∙ c.in_ok-place.ensures.no_cause) in
     let n = finished_landed (leg_type g.L.LegPart.model g.L.LegPart.honest) old c.args.ticket may.finished c.self.invariant.keeps may.found may.over in
-    let list : c.claim_at-number.new.self.list ≡ without c.args.ticket i.records.list = c.claim_at-number.ensures.records c.args.ticket at in
+    let list : c.claim_at-number.new.self ≡ without c.args.ticket i.records = c.claim_at-number.ensures.records c.args.ticket at in
     let is = claimed-state i.place i.legs.items i.master i.records c.claim_at-number.new.self i.tickets i.kept i.first i.stopped c.args.ticket list in
     record {
       keeps = rw is (claim-keeps (leg_type g.L.LegPart.model g.L.LegPart.honest) old c.args.ticket may.finished c.self.invariant.keeps may.found may.over);
-      room_left = omega (arith, c.self.invariant.room_left, ap (λ rs. unlanded rs) list, unlanded-without c.args.ticket n.0 i.records.list may.finished c.self.invariant.keeps.records.in_order.ascending may.found n.1);
+      room_left = omega (arith, c.self.invariant.room_left, ap (λ rs. unlanded rs) list, unlanded-without c.args.ticket n.0 i.records may.finished c.self.invariant.keeps.records.in_order.ascending may.found n.1);
     }
 
 pub returns-clause-acts : goal.returns-clause-acts
@@ -31,10 +31,10 @@ returns-clause-acts g c =
     λ is_honest.
     let i = c.self.inside in
     let old = state_of i.place i.legs.items i.master i.records i.tickets i.kept i.first i.stopped in
-    let at : IsAt c.args.ticket c.in_ok-place.place i.records.list = subst (λ (s : StripeState _). IsAt c.args.ticket c.in_ok-place.place s.records) (sym c.self.view_is) c.in_ok-place.ensures.place in
+    let at : IsAt c.args.ticket c.in_ok-place.place i.records = subst (λ (s : StripeState _). IsAt c.args.ticket c.in_ok-place.place s.records) (sym c.self.view_is) c.in_ok-place.ensures.place in
     let may = may_claim old c.args.ticket (ap (λ s. claim_cause s c.args.ticket) c.self.view_is ∙ c.in_ok-place.ensures.no_cause) in
-    let number : may.finished.entry ≡ Some c.claim_at-number.result = sym (ap (λ (o : Option Record). option_and_then (λ (x : Record). x.entry) o) may.found) ∙ sym (IsAt-entry c.args.ticket c.in_ok-place.place i.records.list at) ∙ c.claim_at-number.ensures.number in
-    let list : c.claim_at-number.new.self.list ≡ without c.args.ticket i.records.list = c.claim_at-number.ensures.records c.args.ticket at in
+    let number : may.finished.entry ≡ Some c.claim_at-number.result = sym (ap (λ (o : Option Record). option_and_then (λ (x : Record). x.entry) o) may.found) ∙ sym (IsAt-entry c.args.ticket c.in_ok-place.place i.records at) ∙ c.claim_at-number.ensures.number in
+    let list : c.claim_at-number.new.self ≡ without c.args.ticket i.records = c.claim_at-number.ensures.records c.args.ticket at in
     let is = claimed-state i.place i.legs.items i.master i.records c.claim_at-number.new.self i.tickets i.kept i.first i.stopped c.args.ticket list in
     let acts = claim-acts (leg_type g.L.LegPart.model g.L.LegPart.honest) old c.args.ticket may.finished c.self.invariant.keeps may.found may.over is_honest may.runs c.claim_at-number.result number in
     rw (c.new.ensures, is, ← c.self.view_is) (record { events = RepliesWrite c.args.ticket c.claim_at-number.result ∷ []; marked = refl; acts = acts })

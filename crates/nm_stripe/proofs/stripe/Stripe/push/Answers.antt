@@ -20,16 +20,16 @@ write_leg_at-written-requires-clause-bytes g c =
     let i = c.self.inside in
     let old = state_of i.place i.legs.items i.master i.records i.tickets i.kept i.first i.stopped in
     let r = c.at-record.result.now in
-    let at : IsAt c.args.ticket c.in_ok-place.place i.records.list = subst (λ (s : StripeState _). IsAt c.args.ticket c.in_ok-place.place s.records) (sym c.self.view_is) c.in_ok-place.ensures.place in
-    rw c.bytes.ensures (find_record-whole c.args.ticket i.records.list r c.self.invariant.keeps.records.in_order (found-at c.args.ticket c.in_ok-place.place i.records.list r at c.at-record.ensures.found)).filled
+    let at : IsAt c.args.ticket c.in_ok-place.place i.records = subst (λ (s : StripeState _). IsAt c.args.ticket c.in_ok-place.place s.records) (sym c.self.view_is) c.in_ok-place.ensures.place in
+    rw c.bytes.ensures (find_record-whole c.args.ticket i.records r c.self.invariant.keeps.records.in_order (found-at c.args.ticket c.in_ok-place.place i.records r at c.at-record.ensures.found)).filled
 
 pub write_entry-requires : goal.write_entry-requires
 write_entry-requires g c =
     let i = c.self.inside in
     let old = state_of i.place i.legs.items i.master i.records i.tickets i.kept i.first i.stopped in
     let r = c.at-record.result.now in
-    let at : IsAt c.args.ticket c.in_ok-place.place i.records.list = subst (λ (s : StripeState _). IsAt c.args.ticket c.in_ok-place.place s.records) (sym c.self.view_is) c.in_ok-place.ensures.place in
-    (find_record-whole c.args.ticket i.records.list r c.self.invariant.keeps.records.in_order (found-at c.args.ticket c.in_ok-place.place i.records.list r at c.at-record.ensures.found)).filled
+    let at : IsAt c.args.ticket c.in_ok-place.place i.records = subst (λ (s : StripeState _). IsAt c.args.ticket c.in_ok-place.place s.records) (sym c.self.view_is) c.in_ok-place.ensures.place in
+    (find_record-whole c.args.ticket i.records r c.self.invariant.keeps.records.in_order (found-at c.args.ticket c.in_ok-place.place i.records r at c.at-record.ensures.found)).filled
 
 -- the leg failed
 pub invariant_of-self : goal.invariant_of-self
@@ -58,11 +58,11 @@ invariant_of-self-then-leg-self g c =
     let called = has-called (leg_type g.L.LegPart.model g.L.LegPart.honest) true old c.args.ticket c.args.leg c.in_ok-place.place legs r c.args.self.now c.deref_mut.result.now c.bytes.result.now (is_ok c.write_leg_at-written.result) c.self.view_is c.self.invariant.keeps c.in_ok-place.ensures.place c.in_ok-place.ensures.no_cause c.at-record.ensures.found c.deref_mut.ensures.value c.bytes.ensures ok c.write_leg_at-written.ensures in
     let ne : i.master ≢ c.args.leg = search rules in
     let was = was_reached (leg_type g.L.LegPart.model g.L.LegPart.honest) old c.args.ticket c.args.leg c.in_ok-place.place legs r called in
-    let list : c.reach_at.new.self.list ≡ reached c.args.ticket c.args.leg i.records.list = c.reach_at.ensures.records c.args.ticket called.at in
+    let list : c.reach_at.new.self ≡ reached c.args.ticket c.args.leg i.records = c.reach_at.ensures c.args.ticket called.at in
     let is = reached-state i.place i.legs.items legs i.master i.records c.reach_at.new.self i.tickets i.kept i.first i.stopped c.args.ticket c.args.leg r (same_ticket (leg_type g.L.LegPart.model g.L.LegPart.honest) old c.args.ticket c.args.leg c.in_ok-place.place legs r called) list in
     record {
       keeps = rw (same, is) (reach-keeps (leg_type g.L.LegPart.model g.L.LegPart.honest) old legs r c.args.leg was ne);
-      room_left = omega (arith, c.self.invariant.room_left, ap (λ rs. unlanded rs) list, unlanded-reached c.args.ticket c.args.leg i.records.list);
+      room_left = omega (arith, c.self.invariant.room_left, ap (λ rs. unlanded rs) list, unlanded-reached c.args.ticket c.args.leg i.records);
     }
 
 pub reached-requires : goal.reached-requires
@@ -76,7 +76,7 @@ reached-requires g c =
     let called = has-called (leg_type g.L.LegPart.model g.L.LegPart.honest) true old c.args.ticket c.args.leg c.in_ok-place.place legs r c.args.self.now c.deref_mut.result.now c.bytes.result.now (is_ok c.write_leg_at-written.result) c.self.view_is c.self.invariant.keeps c.in_ok-place.ensures.place c.in_ok-place.ensures.no_cause c.at-record.ensures.found c.deref_mut.ensures.value c.bytes.ensures ok c.write_leg_at-written.ensures in
     let ne : i.master ≢ c.args.leg = search rules in
     let was = was_reached (leg_type g.L.LegPart.model g.L.LegPart.honest) old c.args.ticket c.args.leg c.in_ok-place.place legs r called in
-    let list : c.reach_at.new.self.list ≡ reached c.args.ticket c.args.leg i.records.list = c.reach_at.ensures.records c.args.ticket called.at in
+    let list : c.reach_at.new.self ≡ reached c.args.ticket c.args.leg i.records = c.reach_at.ensures c.args.ticket called.at in
     rw list (reach-at (leg_type g.L.LegPart.model g.L.LegPart.honest) old c.args.ticket c.args.leg c.in_ok-place.place legs r called).within
 
 pub returns-then-leg-self-clause-ok : goal.returns-then-leg-self-clause-ok
@@ -90,10 +90,10 @@ returns-then-leg-self-clause-ok g c =
     let called = has-called (leg_type g.L.LegPart.model g.L.LegPart.honest) true old c.args.ticket c.args.leg c.in_ok-place.place legs r c.args.self.now c.deref_mut.result.now c.bytes.result.now (is_ok c.write_leg_at-written.result) c.self.view_is c.self.invariant.keeps c.in_ok-place.ensures.place c.in_ok-place.ensures.no_cause c.at-record.ensures.found c.deref_mut.ensures.value c.bytes.ensures ok c.write_leg_at-written.ensures in
     let ne : i.master ≢ c.args.leg = search rules in
     let was = was_reached (leg_type g.L.LegPart.model g.L.LegPart.honest) old c.args.ticket c.args.leg c.in_ok-place.place legs r called in
-    let list : c.reach_at.new.self.list ≡ reached c.args.ticket c.args.leg i.records.list = c.reach_at.ensures.records c.args.ticket called.at in
+    let list : c.reach_at.new.self ≡ reached c.args.ticket c.args.leg i.records = c.reach_at.ensures c.args.ticket called.at in
     let is = reached-state i.place i.legs.items legs i.master i.records c.reach_at.new.self i.tickets i.kept i.first i.stopped c.args.ticket c.args.leg r (same_ticket (leg_type g.L.LegPart.model g.L.LegPart.honest) old c.args.ticket c.args.leg c.in_ok-place.place legs r called) list in
     let pushes = reach-pushes (leg_type g.L.LegPart.model g.L.LegPart.honest) old c.args.ticket c.args.leg c.in_ok-place.place legs r called ne in
-    let there : IsAt c.args.ticket c.in_ok-place.place c.reach_at.new.self.list = rw list (reach-at (leg_type g.L.LegPart.model g.L.LegPart.honest) old c.args.ticket c.args.leg c.in_ok-place.place legs r called) in
+    let there : IsAt c.args.ticket c.in_ok-place.place c.reach_at.new.self = rw list (reach-at (leg_type g.L.LegPart.model g.L.LegPart.honest) old c.args.ticket c.args.leg c.in_ok-place.place legs r called) in
     answer-reach (leg_type g.L.LegPart.model g.L.LegPart.honest) c.args.self.now _ c.args.ticket c.args.leg c.reached.result
     (rw (same, is, ← c.self.view_is) pushes) (c.reached.ensures c.args.ticket there)
 
@@ -109,7 +109,7 @@ returns-then-leg-self-clause-acts g c =
     let called = has-called (leg_type g.L.LegPart.model g.L.LegPart.honest) true old c.args.ticket c.args.leg c.in_ok-place.place legs r c.args.self.now c.deref_mut.result.now c.bytes.result.now (is_ok c.write_leg_at-written.result) c.self.view_is c.self.invariant.keeps c.in_ok-place.ensures.place c.in_ok-place.ensures.no_cause c.at-record.ensures.found c.deref_mut.ensures.value c.bytes.ensures ok c.write_leg_at-written.ensures in
     let ne : i.master ≢ c.args.leg = search rules in
     let was = was_reached (leg_type g.L.LegPart.model g.L.LegPart.honest) old c.args.ticket c.args.leg c.in_ok-place.place legs r called in
-    let list : c.reach_at.new.self.list ≡ reached c.args.ticket c.args.leg i.records.list = c.reach_at.ensures.records c.args.ticket called.at in
+    let list : c.reach_at.new.self ≡ reached c.args.ticket c.args.leg i.records = c.reach_at.ensures c.args.ticket called.at in
     let is = reached-state i.place i.legs.items legs i.master i.records c.reach_at.new.self i.tickets i.kept i.first i.stopped c.args.ticket c.args.leg r (same_ticket (leg_type g.L.LegPart.model g.L.LegPart.honest) old c.args.ticket c.args.leg c.in_ok-place.place legs r called) list in
     let acts = reach-acts (leg_type g.L.LegPart.model g.L.LegPart.honest) old legs r c.args.leg was ne is_honest in
     explained-reach g.L.LegPart.model c.args.self.now _ c.reached.result (rw (same, is, ← c.self.view_is) (record { events = []; marked = refl; acts = acts }))
@@ -140,7 +140,7 @@ land_at-requires g c =
     let at : c.args.leg ≡ i.master = search rules in
     let was = was_reached (leg_type g.L.LegPart.model g.L.LegPart.honest) old c.args.ticket c.args.leg c.in_ok-place.place legs r called in
     let number : c.next_number-number.result ≡ i.first + i.kept.total = rw (← c.self.view_is) at c.next_number-number.ensures in
-    let first : c.reach_at-2.new.self.list ≡ reached c.args.ticket c.args.leg i.records.list = c.reach_at-2.ensures.records c.args.ticket called.at in
+    let first : c.reach_at-2.new.self ≡ reached c.args.ticket c.args.leg i.records = c.reach_at-2.ensures c.args.ticket called.at in
     record { within = rw first (reach-at (leg_type g.L.LegPart.model g.L.LegPart.honest) old c.args.ticket c.args.leg c.in_ok-place.place legs r called).within }
 
 pub invariant_of-self-2 : goal.invariant_of-self-2
@@ -155,9 +155,9 @@ invariant_of-self-2 g c =
     let at : c.args.leg ≡ i.master = search rules in
     let was = was_reached (leg_type g.L.LegPart.model g.L.LegPart.honest) old c.args.ticket c.args.leg c.in_ok-place.place legs r called in
     let number : c.next_number-number.result ≡ i.first + i.kept.total = rw (← c.self.view_is) at c.next_number-number.ensures in
-    let first : c.reach_at-2.new.self.list ≡ reached c.args.ticket c.args.leg i.records.list = c.reach_at-2.ensures.records c.args.ticket called.at in
-    let there : IsAt c.args.ticket c.in_ok-place.place c.reach_at-2.new.self.list = rw first (reach-at (leg_type g.L.LegPart.model g.L.LegPart.honest) old c.args.ticket c.args.leg c.in_ok-place.place legs r called) in
-    let list : c.land_at.new.self.list ≡ landed c.args.ticket (i.first + i.kept.total) (reached c.args.ticket c.args.leg i.records.list) = rw (← number, ← first) (c.land_at.ensures.records c.args.ticket there) in
+    let first : c.reach_at-2.new.self ≡ reached c.args.ticket c.args.leg i.records = c.reach_at-2.ensures c.args.ticket called.at in
+    let there : IsAt c.args.ticket c.in_ok-place.place c.reach_at-2.new.self = rw first (reach-at (leg_type g.L.LegPart.model g.L.LegPart.honest) old c.args.ticket c.args.leg c.in_ok-place.place legs r called) in
+    let list : c.land_at.new.self ≡ landed c.args.ticket (i.first + i.kept.total) (reached c.args.ticket c.args.leg i.records) = rw (← number, ← first) (c.land_at.ensures c.args.ticket there) in
     let entries : c.push.new.self.entries ≡ i.kept.entries ++ write_entry (i.first + i.kept.total) r ∷ [] = rw (← number, ← c.write_entry.ensures) c.push.ensures.entries in
     let is = landed-state i.place i.legs.items legs i.master i.records c.land_at.new.self i.tickets i.kept c.push.new.self i.first i.stopped c.args.ticket c.args.leg r (same_ticket (leg_type g.L.LegPart.model g.L.LegPart.honest) old c.args.ticket c.args.leg c.in_ok-place.place legs r called) list entries c.push.ensures.total in
     let waits = still_waits (leg_type g.L.LegPart.model g.L.LegPart.honest) old c.args.ticket c.args.leg c.in_ok-place.place legs r called at in
@@ -178,9 +178,9 @@ reached-requires-2 g c =
     let at : c.args.leg ≡ i.master = search rules in
     let was = was_reached (leg_type g.L.LegPart.model g.L.LegPart.honest) old c.args.ticket c.args.leg c.in_ok-place.place legs r called in
     let number : c.next_number-number.result ≡ i.first + i.kept.total = rw (← c.self.view_is) at c.next_number-number.ensures in
-    let first : c.reach_at-2.new.self.list ≡ reached c.args.ticket c.args.leg i.records.list = c.reach_at-2.ensures.records c.args.ticket called.at in
-    let there : IsAt c.args.ticket c.in_ok-place.place c.reach_at-2.new.self.list = rw first (reach-at (leg_type g.L.LegPart.model g.L.LegPart.honest) old c.args.ticket c.args.leg c.in_ok-place.place legs r called) in
-    let list : c.land_at.new.self.list ≡ landed c.args.ticket (i.first + i.kept.total) (reached c.args.ticket c.args.leg i.records.list) = rw (← number, ← first) (c.land_at.ensures.records c.args.ticket there) in
+    let first : c.reach_at-2.new.self ≡ reached c.args.ticket c.args.leg i.records = c.reach_at-2.ensures c.args.ticket called.at in
+    let there : IsAt c.args.ticket c.in_ok-place.place c.reach_at-2.new.self = rw first (reach-at (leg_type g.L.LegPart.model g.L.LegPart.honest) old c.args.ticket c.args.leg c.in_ok-place.place legs r called) in
+    let list : c.land_at.new.self ≡ landed c.args.ticket (i.first + i.kept.total) (reached c.args.ticket c.args.leg i.records) = rw (← number, ← first) (c.land_at.ensures c.args.ticket there) in
     rw list (land-at (leg_type g.L.LegPart.model g.L.LegPart.honest) old c.args.ticket c.args.leg c.in_ok-place.place legs r called).within
 
 pub returns-clause-ok : goal.returns-clause-ok
@@ -195,13 +195,13 @@ returns-clause-ok g c =
     let at : c.args.leg ≡ i.master = search rules in
     let was = was_reached (leg_type g.L.LegPart.model g.L.LegPart.honest) old c.args.ticket c.args.leg c.in_ok-place.place legs r called in
     let number : c.next_number-number.result ≡ i.first + i.kept.total = rw (← c.self.view_is) at c.next_number-number.ensures in
-    let first : c.reach_at-2.new.self.list ≡ reached c.args.ticket c.args.leg i.records.list = c.reach_at-2.ensures.records c.args.ticket called.at in
-    let there : IsAt c.args.ticket c.in_ok-place.place c.reach_at-2.new.self.list = rw first (reach-at (leg_type g.L.LegPart.model g.L.LegPart.honest) old c.args.ticket c.args.leg c.in_ok-place.place legs r called) in
-    let list : c.land_at.new.self.list ≡ landed c.args.ticket (i.first + i.kept.total) (reached c.args.ticket c.args.leg i.records.list) = rw (← number, ← first) (c.land_at.ensures.records c.args.ticket there) in
+    let first : c.reach_at-2.new.self ≡ reached c.args.ticket c.args.leg i.records = c.reach_at-2.ensures c.args.ticket called.at in
+    let there : IsAt c.args.ticket c.in_ok-place.place c.reach_at-2.new.self = rw first (reach-at (leg_type g.L.LegPart.model g.L.LegPart.honest) old c.args.ticket c.args.leg c.in_ok-place.place legs r called) in
+    let list : c.land_at.new.self ≡ landed c.args.ticket (i.first + i.kept.total) (reached c.args.ticket c.args.leg i.records) = rw (← number, ← first) (c.land_at.ensures c.args.ticket there) in
     let entries : c.push.new.self.entries ≡ i.kept.entries ++ write_entry (i.first + i.kept.total) r ∷ [] = rw (← number, ← c.write_entry.ensures) c.push.ensures.entries in
     let is = landed-state i.place i.legs.items legs i.master i.records c.land_at.new.self i.tickets i.kept c.push.new.self i.first i.stopped c.args.ticket c.args.leg r (same_ticket (leg_type g.L.LegPart.model g.L.LegPart.honest) old c.args.ticket c.args.leg c.in_ok-place.place legs r called) list entries c.push.ensures.total in
     let pushes = land-pushes (leg_type g.L.LegPart.model g.L.LegPart.honest) old c.args.ticket c.args.leg c.in_ok-place.place legs r called at in
-    let last : IsAt c.args.ticket c.in_ok-place.place c.land_at.new.self.list = rw list (land-at (leg_type g.L.LegPart.model g.L.LegPart.honest) old c.args.ticket c.args.leg c.in_ok-place.place legs r called) in
+    let last : IsAt c.args.ticket c.in_ok-place.place c.land_at.new.self = rw list (land-at (leg_type g.L.LegPart.model g.L.LegPart.honest) old c.args.ticket c.args.leg c.in_ok-place.place legs r called) in
     answer-reach (leg_type g.L.LegPart.model g.L.LegPart.honest) c.args.self.now _ c.args.ticket c.args.leg c.reached-2.result
     (rw (same, is, ← c.self.view_is) pushes) (c.reached-2.ensures c.args.ticket last)
 
@@ -218,9 +218,9 @@ returns-clause-acts g c =
     let at : c.args.leg ≡ i.master = search rules in
     let was = was_reached (leg_type g.L.LegPart.model g.L.LegPart.honest) old c.args.ticket c.args.leg c.in_ok-place.place legs r called in
     let number : c.next_number-number.result ≡ i.first + i.kept.total = rw (← c.self.view_is) at c.next_number-number.ensures in
-    let first : c.reach_at-2.new.self.list ≡ reached c.args.ticket c.args.leg i.records.list = c.reach_at-2.ensures.records c.args.ticket called.at in
-    let there : IsAt c.args.ticket c.in_ok-place.place c.reach_at-2.new.self.list = rw first (reach-at (leg_type g.L.LegPart.model g.L.LegPart.honest) old c.args.ticket c.args.leg c.in_ok-place.place legs r called) in
-    let list : c.land_at.new.self.list ≡ landed c.args.ticket (i.first + i.kept.total) (reached c.args.ticket c.args.leg i.records.list) = rw (← number, ← first) (c.land_at.ensures.records c.args.ticket there) in
+    let first : c.reach_at-2.new.self ≡ reached c.args.ticket c.args.leg i.records = c.reach_at-2.ensures c.args.ticket called.at in
+    let there : IsAt c.args.ticket c.in_ok-place.place c.reach_at-2.new.self = rw first (reach-at (leg_type g.L.LegPart.model g.L.LegPart.honest) old c.args.ticket c.args.leg c.in_ok-place.place legs r called) in
+    let list : c.land_at.new.self ≡ landed c.args.ticket (i.first + i.kept.total) (reached c.args.ticket c.args.leg i.records) = rw (← number, ← first) (c.land_at.ensures c.args.ticket there) in
     let entries : c.push.new.self.entries ≡ i.kept.entries ++ write_entry (i.first + i.kept.total) r ∷ [] = rw (← number, ← c.write_entry.ensures) c.push.ensures.entries in
     let is = landed-state i.place i.legs.items legs i.master i.records c.land_at.new.self i.tickets i.kept c.push.new.self i.first i.stopped c.args.ticket c.args.leg r (same_ticket (leg_type g.L.LegPart.model g.L.LegPart.honest) old c.args.ticket c.args.leg c.in_ok-place.place legs r called) list entries c.push.ensures.total in
     let acts = land-acts (leg_type g.L.LegPart.model g.L.LegPart.honest) old legs r c.args.leg was at is_honest in
