@@ -1,0 +1,4 @@
+pub mod ArrayLemmas
+pub mod CauseLemmas
+pub mod LegLemmas
+pub mod RecordLemmas

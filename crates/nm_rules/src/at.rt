@@ -1,0 +1,12 @@
+/// The place of a stripe in the mirror, and its shape.
+#[derive(Clone, Copy, Debug, PartialEq, Eq)]
+pub struct At {
+    /// The stripe's number.
+    pub stripe: u32,
+    /// How many blocks the stripe has, and so each of its legs.
+    pub blocks: u64,
+    /// How many blocks a region has.
+    pub region: u64,
+    /// How many blocks a chunk has.
+    pub chunk: u64,
+}
