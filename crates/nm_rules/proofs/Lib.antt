@@ -1,4 +1,5 @@
 pub mod ArrayLemmas
 pub mod CauseLemmas
+pub mod ClearLemmas
 pub mod LegLemmas
 pub mod RecordLemmas
