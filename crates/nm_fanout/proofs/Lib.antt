@@ -9,4 +9,5 @@ pub mod Writers
 pub mod Landing
 pub mod Counted
 pub mod Members
+pub mod Leaving
 pub mod DataLemmas

@@ -1,7 +1,8 @@
 -- The records of writes, by rising ticket.
-use Rattle.std.specs.Prelude.{◌≡◌, ℕ, IsTrue, None, ◌<◌, ◌≤◌, ◌&&◌, ◌==◌, not, if◌then◌else◌}
-use Rattle.std.specs.Prelude.{List, [], ◌∷◌, ◌++◌, length, slice_get, find, filter, count_by}
+use Rattle.std.specs.Prelude.{◌≡◌, ℕ, ◌+◌, Bool, IsTrue, None, ◌<◌, ◌≤◌, ◌&&◌, ◌==◌, nat_le, nat_lt, not, if◌then◌else◌}
+use Rattle.std.specs.Prelude.{List, [], ◌∷◌, ◌++◌, length, map, slice_get, find, filter, position, count_by}
 use Rattle.std.specs.Prelude.{Option, is_none}
+use Rattle.std.specs.List.{list_any}
 use Rattle.std.specs.Option.{option_map, option_and_then}
 use Rattle.nm_fanout.specs.declared.write_record.Record.{Record}
 use Rattle.nm_fanout.specs.Record.{is_under_way, lowest_owed, without_leg, with_entry, IsWhole}
@@ -13,6 +14,22 @@ find_record ticket list = find (λ r. r.ticket == ticket) list
 -- the record under way on this block
 abbrev pub busy_on : ℕ → List Record → Option Record
 busy_on block list = find (λ r. (r.block == block) && is_under_way r) list
+
+-- whether the block is one of so many from the first on
+abbrev pub is_among : ℕ → ℕ → ℕ → Bool
+is_among first count block = nat_le first block && nat_lt block (first + count)
+
+-- the record of the lowest ticket under way on a block among these
+abbrev pub busy_among : ℕ → ℕ → List Record → Option Record
+busy_among first count list = find (λ r. is_among first count r.block && is_under_way r) list
+
+-- how many records are under way on a block among these
+abbrev pub busy_count : ℕ → ℕ → List Record → ℕ
+busy_count first count list = count_by (λ r. is_among first count r.block && is_under_way r) list
+
+-- whether some write is under way
+abbrev pub any_under_way : List Record → Bool
+any_under_way list = list_any is_under_way list
 
 -- the number of the entry of this ticket's write
 abbrev pub entry_of : ℕ → List Record → Option ℕ
@@ -30,6 +47,10 @@ entry_at place list = option_and_then (λ r. r.entry) (slice_get list place)
 -- how many of the writes have no entry yet
 abbrev pub unlanded : List Record → ℕ
 unlanded list = count_by (λ r. is_none r.entry) list
+
+-- the place of the lowest ticket whose write has no entry yet
+abbrev pub first_unlanded : List Record → Option ℕ
+first_unlanded list = position (λ r. is_none r.entry) list
 
 -- the lowest leg that this ticket's write has still to reach
 abbrev pub next_owed : ℕ → List Record → Option ℕ
@@ -53,6 +74,23 @@ reached ticket leg list = changed (without_leg leg) ticket list
 -- the records after this ticket's write got its entry, under this number
 abbrev pub landed : ℕ → ℕ → List Record → List Record
 landed ticket number list = changed (with_entry number) ticket list
+
+-- the records after a leg has left: no write has to reach it any more
+abbrev pub left_by : ℕ → List Record → List Record
+left_by leg list = map (without_leg leg) list
+
+-- the records after each write without an entry got one, by rising ticket, from this number on
+abbrev pub landed_all : ℕ → List Record → List Record
+landed_all next [] = []
+landed_all next (r ∷ rs) =
+    if is_none r.entry then with_entry next r ∷ landed_all (next + 1) rs
+    else r ∷ landed_all next rs
+
+-- the writes that then land, each with its number, in the order in which they do
+abbrev pub landings : ℕ → List Record → List (ℕ × Record)
+landings next [] = []
+landings next (r ∷ rs) =
+    if is_none r.entry then (next, r) ∷ landings (next + 1) rs else landings next rs
 
 -- the records but that of this ticket
 abbrev pub without : ℕ → List Record → List Record

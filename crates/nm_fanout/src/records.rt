@@ -2,7 +2,7 @@ ghost use Rattle.std.specs.Prelude.{◌≡◌, ℕ, ◌+◌, ◌-◌, ◌<◌, �
 ghost use Rattle.std.specs.Option.{option_map, option_copied};
 ghost use Rattle.nm_fanout.specs.Data.{FillsBlock};
 ghost use Rattle.nm_fanout.specs.Record.{begun, is_under_way};
-ghost use Rattle.nm_fanout.specs.Records.{AreInOrder, AllBelow, IsAt, find_record, busy_on, entry_at, unlanded, next_owed, first_owed, reached, landed, without, with_new};
+ghost use Rattle.nm_fanout.specs.Records.{AreInOrder, AllBelow, IsAt, find_record, busy_on, busy_among, any_under_way, entry_at, unlanded, first_unlanded, next_owed, first_owed, reached, landed, left_by, without, with_new};
 
 use crate::block_data::Data;
 use crate::write_record::{LEGS, Record};
@@ -108,6 +108,24 @@ impl Records {
         Some(record.ticket)
     }
 
+    /// The lowest ticket under way on one of so many blocks, from the first on.
+    pub fn busy_among(&self, first: u64, count: u64) -> Option<u64>
+        ensures busy { result ≡ option_map (λ r. r.ticket) (busy_among first count self.now) }
+        ensures in_order { AreInOrder self.now }
+    {
+        let record = self.list.iter().find(|r| first <= r.block
+            && r.block - first < count
+            && r.is_under_way())?;
+        Some(record.ticket)
+    }
+
+    /// Whether some write is under way.
+    pub fn is_any_under_way(&self) -> bool
+        ensures { result ≡ any_under_way self.now }
+    {
+        self.list.iter().any(|r| r.is_under_way())
+    }
+
     /// How many of the writes have no entry yet.
     pub fn unlanded(&self) -> u64
         ensures count { result ≡ unlanded self.now }
@@ -115,6 +133,16 @@ impl Records {
         ensures in_order { AreInOrder self.now }
     {
         self.without_entry
+    }
+
+    /// The place of the lowest ticket whose write has no entry yet. To land all writes by rising
+    /// ticket, land the one at this place until there is none.
+    pub fn first_unlanded(&self) -> Option<usize>
+        ensures place { result ≡ first_unlanded self.now }
+        ensures within { IfSome result (λ place. place < length self.now) }
+        ensures in_order { AreInOrder self.now }
+    {
+        first_without_entry(&self.list)
     }
 
     /// The lowest leg that this ticket's write has still to reach; none for an unknown ticket.
@@ -164,6 +192,13 @@ impl Records {
         self.list[place].reach(leg);
     }
 
+    /// Takes the leg out of those that the writes have still to reach.
+    pub fn leave(&mut self, leg: u8)
+        ensures { self.new ≡ left_by leg self.old }
+    {
+        leave_each(&mut self.list, leg);
+    }
+
     /// Gives the write at this place the number of its entry.
     pub fn land_at(&mut self, place: usize, number: u64)
         requires within { place < length self.old }
@@ -187,6 +222,23 @@ impl Records {
         let record = self.list.remove(place);
         record.into_entry().unwrap()
     }
+}
+
+/// Takes the leg out of those that each write has still to reach.
+fn leave_each(list: &mut [Record], leg: u8)
+    ensures { list.new ≡ left_by leg list.old }
+{
+    for pending in list.iter_mut() {
+        pending.reach(leg);
+    }
+}
+
+/// The first place of a record without an entry.
+fn first_without_entry(list: &[Record]) -> Option<usize>
+    ensures place { result ≡ first_unlanded list.now }
+    ensures within { IfSome result (λ place. place < length list.now) }
+{
+    list.iter().position(|r| r.entry.is_none())
 }
 
 /// The oldest record under way.
