@@ -55,7 +55,7 @@ pub record HasWrites {L : Type 0} (stripe : StripeState L) : Type 0 where
   pub apart : (t : ℕ) (r : Record) → find_record t stripe.records ≡ Some r
       → is_under_way r ≡ true → is_copied_now r.block stripe ≡ false
   pub marked : (t : ℕ) (r : Record) (leg : ℕ) → find_record t stripe.records ≡ Some r
-      → is_under_way r ≡ true → is_out (leg_state leg stripe) ≡ true
+      → leg < length stripe.legs → is_under_way r ≡ true → is_out (leg_state leg stripe) ≡ true
       → is_clear leg r.block stripe ≡ false
 
 -- an open copy: its leg is joining, and it is in the leg's lowest region behind, before its end
