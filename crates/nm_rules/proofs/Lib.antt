@@ -5,3 +5,4 @@ pub mod ClearLemmas
 pub mod KeptLemmas
 pub mod LegLemmas
 pub mod RecordLemmas
+pub mod SoundLemmas
