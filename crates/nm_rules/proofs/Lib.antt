@@ -3,6 +3,7 @@ pub mod ArrayLemmas
 pub mod CauseLemmas
 pub mod ClearLemmas
 pub mod KeptLemmas
+pub mod LandingLemmas
 pub mod LegLemmas
 pub mod RecordLemmas
 pub mod SoundLemmas
