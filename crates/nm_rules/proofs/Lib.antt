@@ -4,6 +4,7 @@ pub mod CauseLemmas
 pub mod ClearLemmas
 pub mod KeptLemmas
 pub mod LandingLemmas
+pub mod LeftLemmas
 pub mod LegLemmas
 pub mod RecordLemmas
 pub mod SoundLemmas
