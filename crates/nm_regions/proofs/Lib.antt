@@ -6,3 +6,6 @@ pub mod Begun
 pub mod Left
 pub mod Opened
 pub mod LeftLaws
+pub mod Dirtied
+pub mod GoneOut
+pub mod OutLaws

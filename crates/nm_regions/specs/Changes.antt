@@ -39,14 +39,10 @@ abbrev pub copy_but_of : ℕ → Option CopyPlace → Option CopyPlace
 copy_but_of leg None = None
 copy_but_of leg (Some copy) = if copy.leg == leg then None else Some copy
 
--- the leg is out, and its open copy is dropped: its region stays behind
+-- the leg is out, behind also in each region with a write under way; an open copy of it is dropped
 abbrev pub gone_out : ℕ → RegionTable → RegionTable
 gone_out leg t =
-    record (with_leg leg_flags.gone_out leg t) { copy = copy_but_of leg t.copy }
-
--- the block's region is behind for the leg
-abbrev pub marked : ℕ → ℕ → RegionTable → RegionTable
-marked leg block t = with_leg (leg_flags.marked (region_of block t)) leg t
+    record (with_leg (leg_flags.gone_out t.writes) leg t) { copy = copy_but_of leg t.copy }
 
 -- all regions are behind for the leg
 abbrev pub all_marked : ℕ → RegionTable → RegionTable
@@ -55,6 +51,10 @@ all_marked leg t = with_leg leg_flags.all_marked leg t
 -- the leg is not out any more, and its regions are as they were
 abbrev pub attached : ℕ → RegionTable → RegionTable
 attached leg t = with_leg leg_flags.attached leg t
+
+-- the leg that was out is another one now: it joins with all regions behind
+abbrev pub replaced : ℕ → RegionTable → RegionTable
+replaced leg t = attached leg (all_marked leg t)
 
 -- a copy of this leg's region is open, and nothing of it is copied
 abbrev pub copy_opened : ℕ → ℕ → RegionTable → RegionTable

@@ -1,6 +1,6 @@
 -- One leg's regions: whether the leg is out, and in which regions it is behind.
-use Rattle.std.specs.Prelude.{ℕ, Bool, true, false, not, if◌then◌else◌, Option}
-use Rattle.std.specs.Prelude.{List, [], length, replicate, position, slice_index_or, slice_set}
+use Rattle.std.specs.Prelude.{ℕ, Bool, true, false, not, ◌==◌, if◌then◌else◌, Option}
+use Rattle.std.specs.Prelude.{List, [], ◌∷◌, length, replicate, position, slice_index_or, slice_set}
 use Rattle.std.specs.List.{list_any}
 
 -- whether the leg is out, and for each region whether it is behind
@@ -28,9 +28,16 @@ lowest_behind leg = position (λ behind. behind) leg.behind
 abbrev pub has_behind : LegRegions → Bool
 has_behind leg = list_any (λ behind. behind) leg.behind
 
--- the leg once it is out: its regions stay as they are
-abbrev pub gone_out : LegRegions → LegRegions
-gone_out leg = record leg { out = true }
+-- the flags, each set too where its region has a write under way
+abbrev pub dirty_marked : List ℕ → List Bool → List Bool
+dirty_marked writes [] = []
+dirty_marked [] (behind ∷ flags) = behind ∷ flags
+dirty_marked (count ∷ writes) (behind ∷ flags) =
+    (if count == 0 then behind else true) ∷ dirty_marked writes flags
+
+-- the leg once it is out, with so many writes under way in each region
+abbrev pub gone_out : List ℕ → LegRegions → LegRegions
+gone_out writes leg = record { out = true; behind = dirty_marked writes leg.behind }
 
 -- the leg once it is attached: its regions stay as they are
 abbrev pub attached : LegRegions → LegRegions

@@ -1,5 +1,5 @@
 ghost use Rattle.std.specs.Prelude.{◌≡◌, ◌<◌, ◌≤◌, ◌^◌, length, map, replicate, All, Some, IsTrue, IsFalse, IfOk};
-ghost use Rattle.nm_regions.specs.LegFlags.{opened_leg, is_behind, lowest_behind, has_behind, gone_out, attached, marked, marked_if_out, all_marked, cleared};
+ghost use Rattle.nm_regions.specs.LegFlags.{opened_leg, is_behind, lowest_behind, has_behind, dirty_marked, gone_out, attached, marked, marked_if_out, all_marked, cleared};
 ghost use Rattle.nm_regions.specs.Links.{behind_count, before_lowest, AreLinks};
 
 use std::alloc::{AllocError, Global};
@@ -94,11 +94,14 @@ impl LegFlags {
         }
     }
 
-    /// The leg goes out. Its regions stay as they are.
-    pub(crate) fn go_out(&mut self)
-        ensures { self.new ≡ gone_out self.old }
+    /// The leg goes out, and falls behind in each region with a write under way, beside those that
+    /// it is behind in. Goes over all regions.
+    pub(crate) fn go_out(&mut self, writes: &[u16])
+        requires places { length writes.now ≡ length self.old.behind }
+        ensures { self.new ≡ gone_out writes.now self.old }
     {
         self.out = true;
+        self.count = mark_dirty(&mut self.behind, writes);
     }
 
     /// The leg is not out any more. Its regions stay as they are. Goes over all regions.
@@ -185,6 +188,24 @@ fn link(behind: &[bool], next: &mut [u32]) -> u32
         }
     }
     lowest
+}
+
+/// Each region with a write under way is behind from now on. Gives how many are behind then.
+fn mark_dirty(behind: &mut [bool], writes: &[u16]) -> u64
+    requires places { length writes.now ≡ length behind.old }
+    requires few { length behind.old ≤ 2 ^ 31 }
+    ensures flags { behind.new ≡ dirty_marked writes.now behind.old }
+    ensures count { result ≡ behind_count behind.new }
+{
+    let mut count = 0;
+    let mut at = behind.len();
+    while at > 0 {
+        at -= 1;
+        let is_behind = behind[at] | (writes[at] != 0);
+        behind[at] = is_behind;
+        count += u64::from(is_behind);
+    }
+    count
 }
 
 /// The region is behind from now on, for each of the legs that is out.

@@ -1,7 +1,7 @@
 ghost use Rattle.std.specs.Prelude.{◌≡◌, ◌-◌, ◌*◌, ◌<◌, ◌≤◌, ◌^◌, if◌then◌else◌, length, map, replicate, Some, None, IsTrue, IsFalse, IsSome, IfOk};
 ghost use Rattle.nm_regions.specs.LegFlags.{opened_leg, is_behind};
 ghost use Rattle.nm_regions.specs.Table.{region_of, length_of, writes_in, is_quiet, state, is_out, leg_at, has_region, is_current_at, is_current, targets, blocks_behind, copied, left, lowest_behind, has_behind, copy_rest};
-ghost use Rattle.nm_regions.specs.Changes.{opened, begun, finished, gone_out, marked, all_marked, attached, copy_opened, advanced, region_finished};
+ghost use Rattle.nm_regions.specs.Changes.{opened, begun, finished, gone_out, all_marked, attached, replaced, copy_opened, advanced, region_finished};
 ghost use Rattle.nm_regions.specs.Sound.{AreSizes, IsRegionTable};
 
 use crate::copy_place::{CopyPlace, copied, copies, copy_but_of, has_copied, moved};
@@ -268,24 +268,14 @@ impl Regions {
         self.writes[region] -= 1;
     }
 
-    /// The leg goes out. Its open copy is dropped, and the copy's region stays behind.
+    /// The leg goes out. It falls behind in each region with a write under way, beside those that
+    /// it is behind in. Its open copy is dropped. Goes over all regions.
     pub fn go_out(&mut self, leg: u8)
         requires leg { leg < length self.old.legs }
         ensures { self.new ≡ gone_out leg self.old }
     {
         self.copy = copy_but_of(self.copy, leg);
-        self.legs[leg as usize].go_out();
-    }
-
-    /// The block's region is behind from now on, for a leg that is out.
-    pub fn mark(&mut self, leg: u8, block: u64)
-        requires leg { leg < length self.old.legs }
-        requires out { IsTrue (is_out leg self.old) }
-        requires block { block < self.old.blocks }
-        ensures { self.new ≡ marked leg block self.old }
-    {
-        let region = self.region_of(block) as usize;
-        self.legs[leg as usize].mark(region);
+        self.legs[leg as usize].go_out(&self.writes);
     }
 
     /// All regions are behind from now on, for a leg that is out. Goes over all regions.
@@ -303,6 +293,17 @@ impl Regions {
         ensures { self.new ≡ attached leg self.old }
     {
         self.legs[leg as usize].attach();
+    }
+
+    /// A leg that is out is another one from now on: it joins with all regions behind. Goes over
+    /// all regions.
+    pub fn replace(&mut self, leg: u8)
+        requires leg { leg < length self.old.legs }
+        requires out { IsTrue (is_out leg self.old) }
+        ensures { self.new ≡ replaced leg self.old }
+    {
+        self.mark_all(leg);
+        self.attach(leg);
     }
 
     /// A copy of the leg's lowest region behind is opened. No copy is open yet.

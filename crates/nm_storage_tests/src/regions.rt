@@ -77,11 +77,33 @@ fn a_leg_that_goes_out_loses_its_copy(rt: HostRuntime) -> Result<(), Fail> {
     assert_eq!(rt; table.left(1), 8);
     table.attach(1);
     assert_eq!(rt; table.lowest_behind(1), Some(0));
-    table.go_out(0);
-    table.mark(0, 7);
-    assert_eq!(rt; table.left(0), 4);
-    table.mark_all(0);
-    assert_eq!(rt; table.left(0), 8);
+    Ok(())
+}
+
+#[test]
+fn a_leg_that_goes_out_is_behind_where_a_write_is_under_way(rt: HostRuntime) -> Result<(), Fail> {
+    let mut table = Regions::new(rt.alloc(), 10, 4, &[true, true])?;
+    table.begin(9);
+    table.begin(1);
+    table.finish(1);
+    table.go_out(1);
+    assert_eq!(rt; table.left(1), 2);
+    table.finish(9);
+    assert_eq!(rt; table.left(1), 2);
+    table.mark_all(1);
+    assert_eq!(rt; table.left(1), 10);
+    assert_eq!(rt; table.left(0), 0);
+    Ok(())
+}
+
+#[test]
+fn a_leg_that_is_replaced_is_behind_everywhere(rt: HostRuntime) -> Result<(), Fail> {
+    let mut table = Regions::new(rt.alloc(), 10, 4, &[true, true])?;
+    table.go_out(1);
+    table.replace(1);
+    assert!(rt; !table.is_out(1));
+    assert_eq!(rt; table.left(1), 10);
+    assert_eq!(rt; table.lowest_behind(1), Some(0));
     Ok(())
 }
 
