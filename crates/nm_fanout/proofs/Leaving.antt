@@ -1,15 +1,17 @@
 -- A leg leaves: each record is changed alike, so every fact about the list is one about each record.
-use Rattle.std.proofs.Common.{◌≡◌, ℕ, ◌+◌, ◌<◌, ◌≤◌, zero, suc, Bool, false, cond, ◌==◌, List, [], ◌∷◌, ◌++◌, length, get_or, set, take, drop, map, None, Some, refl, sym, ap, ◌∙◌, arith, inl, inr}
+use Rattle.std.proofs.Common.{◌≡◌, ℕ, ◌+◌, ◌<◌, ◌≤◌, zero, suc, true, false, cond, ◌==◌, List, [], ◌∷◌, ◌++◌, Bool, length, get_or, set, take, drop, map, None, Some, refl, sym, ap, ◌∙◌, subst, arith, inl, inr}
 use Rattle.std.specs.Option.{option_map}
+use Rattle.std.proofs.lemmas.List.{get_or_default}
 use Rattle.std.proofs.Math.Seq.{take-append_seam}
 use Rattle.std.proofs.lemmas.List.Sums.{sum_by-cons}
 use Rattle.nm_fanout.specs.declared.write_record.Record.{Record}
 use Rattle.nm_fanout.specs.Record.{is_under_way, without_leg}
-use Rattle.nm_fanout.specs.Records.{Ascends, AllAbove, AllBelow, AllWhole, AreInOrder, OneWriterABlock, find_record, busy_on, unlanded, left_by}
+use Rattle.nm_fanout.specs.Records.{Ascends, AllAbove, AllBelow, AllWhole, AreInOrder, IsAt, OneWriterABlock, find_record, busy_on, unlanded, reached, left_by}
 use Rattle.nm_fanout.proofs.InOrder.{without_leg-keeps}
 use Rattle.nm_fanout.proofs.Landing.{waits}
 use Rattle.nm_fanout.proofs.Owed.{tells, is_under_way-without_leg}
-use Rattle.nm_fanout.proofs.Busy.{holds, skip-first}
+use Rattle.nm_fanout.proofs.Busy.{holds, holds-idle, holds-is, holds-same, skip-first}
+use Rattle.nm_fanout.proofs.Places.{set-at}
 use Rattle.nm_fanout.proofs.Writers.{Settles, holds-settled}
 
 -- the records with the first so many of them changed by f
@@ -139,3 +141,96 @@ OneWriterABlock-left_by leg (r ∷ rs) one = (
   ],
   OneWriterABlock-left_by leg rs one.1,
 )
+
+busy-first : (leg b : ℕ) (r x : Record) (rs : List Record)
+    → (busy_on b rs ≡ Some x → busy_on b (left_by leg rs) ≡ Some (without_leg leg x))
+    → is_under_way (without_leg leg x) ≡ true → cond (holds b r) (Some r) (busy_on b rs) ≡ Some x
+    → busy_on b (left_by leg (r ∷ rs)) ≡ Some (without_leg leg x)
+busy-first leg b r x rs rest still h =
+    elim (tells (holds b r)) [
+      | inl w ↦
+          let here : Some r ≡ Some x = rw w at h in
+          let e : r ≡ x = cc in
+          let block : r.block ≡ b = (holds-is b r w).0 in
+          let goes_on : is_under_way (without_leg leg r) ≡ true = ap
+          (λ (y : Record). is_under_way (without_leg leg y)) e ∙ still in
+          let yes : holds b (without_leg leg r) ≡ true = holds-same b (without_leg leg r) block
+          goes_on in
+          ap (λ (v : Bool). cond v (Some (without_leg leg r)) (busy_on b (left_by leg rs))) yes
+          ∙ ap (λ (y : Record). Some (without_leg leg y)) e
+      | inr w ↦
+          let no : holds b (without_leg leg r) ≡ false = holds-settled (without_leg leg)
+          (without_leg-settles leg) b r w in
+          ap (λ (v : Bool). cond v (Some (without_leg leg r)) (busy_on b (left_by leg rs))) no
+          ∙ rest (rw w at h)
+    ]
+
+-- a write that owes another leg stays the one that its block is busy with
+pub busy_on-left_by_busy : (leg b : ℕ) (rs : List Record) (x : Record) → busy_on b rs ≡ Some x
+    → is_under_way (without_leg leg x) ≡ true
+    → busy_on b (left_by leg rs) ≡ Some (without_leg leg x)
+busy_on-left_by_busy leg b [] x h still = absurd cc
+busy_on-left_by_busy leg b (r ∷ rs) x h still = busy-first leg b r x rs
+    (λ k. busy_on-left_by_busy leg b rs x k still) still h
+
+finished-first : (leg b : ℕ) (r x : Record) (rs : List Record) → OneWriterABlock (r ∷ rs)
+    → (busy_on b rs ≡ Some x → busy_on b (left_by leg rs) ≡ None)
+    → is_under_way (without_leg leg x) ≡ false → cond (holds b r) (Some r) (busy_on b rs) ≡ Some x
+    → busy_on b (left_by leg (r ∷ rs)) ≡ None
+finished-first leg b r x rs one rest over h =
+    elim (tells (holds b r)) [
+      | inl w ↦
+          let here : Some r ≡ Some x = rw w at h in
+          let e : r ≡ x = cc in
+          let is = holds-is b r w in
+          let free : busy_on b rs ≡ None = subst (λ (n : ℕ). busy_on n rs ≡ None) is.0
+          (one.0 is.1) in
+          let ends : is_under_way (without_leg leg r) ≡ false = ap
+          (λ (y : Record). is_under_way (without_leg leg y)) e ∙ over in
+          let no : holds b (without_leg leg r) ≡ false = holds-idle b (without_leg leg r) ends in
+          ap (λ (v : Bool). cond v (Some (without_leg leg r)) (busy_on b (left_by leg rs))) no
+          ∙ busy_on-left_by_none leg b rs free
+      | inr w ↦
+          let no : holds b (without_leg leg r) ≡ false = holds-settled (without_leg leg)
+          (without_leg-settles leg) b r w in
+          ap (λ (v : Bool). cond v (Some (without_leg leg r)) (busy_on b (left_by leg rs))) no
+          ∙ rest (rw w at h)
+    ]
+
+-- and one that owed that leg alone leaves its block free
+pub busy_on-left_by_finished : (leg b : ℕ) (rs : List Record) (x : Record) → OneWriterABlock rs
+    → busy_on b rs ≡ Some x → is_under_way (without_leg leg x) ≡ false
+    → busy_on b (left_by leg rs) ≡ None
+busy_on-left_by_finished leg b [] x one h over = absurd cc
+busy_on-left_by_finished leg b (r ∷ rs) x one h over = finished-first leg b r x rs one
+    (λ k. busy_on-left_by_finished leg b rs x one.1 k over) over h
+
+AllAbove-mapped_to : (leg low n : ℕ) (rs : List Record) → AllAbove low rs
+    → AllAbove low (mapped_to (without_leg leg) n rs)
+AllAbove-mapped_to leg low zero rs h = h
+AllAbove-mapped_to leg low (suc n) [] h = tt
+AllAbove-mapped_to leg low (suc n) (r ∷ rs) h = (h.0, AllAbove-mapped_to leg low n rs h.1)
+
+Ascends-mapped_to : (leg n : ℕ) (rs : List Record) → Ascends rs
+    → Ascends (mapped_to (without_leg leg) n rs)
+Ascends-mapped_to leg zero rs h = h
+Ascends-mapped_to leg (suc n) [] h = tt
+Ascends-mapped_to leg (suc n) (r ∷ rs) h =
+    (AllAbove-mapped_to leg r.ticket n rs h.0, Ascends-mapped_to leg n rs h.1)
+
+-- the same, a place after the other: at each place the write has reached the leg
+pub reached-mapped_to : (leg n t : ℕ) (rs : List Record) → Ascends rs
+    → IsAt t n (mapped_to (without_leg leg) n rs)
+    → reached t leg (mapped_to (without_leg leg) n rs) ≡ mapped_to (without_leg leg) (n + 1) rs
+reached-mapped_to leg n t [] h at = absurd (let no = at.within in
+    omega (arith, no, length-mapped_to (without_leg leg) n []))
+reached-mapped_to leg n t (r ∷ rs) h at =
+    let now = mapped_to (without_leg leg) n (r ∷ rs) in
+    let x = get_or now n r in
+    let within : n < length now = at.within in
+    let long : length now ≡ length (r ∷ rs) = length-mapped_to (without_leg leg) n (r ∷ rs) in
+    let lt : n < length (r ∷ rs) = omega (arith, within, long) in
+    let read : x ≡ get_or now n x = get_or_default now n r x within in
+    sym (set-at (without_leg leg) t n now x (Ascends-mapped_to leg n (r ∷ rs) h) at read)
+    ∙ mapped-step (without_leg leg) (r ∷ rs) now n x (without_leg leg x) refl lt read
+    (ap (λ (y : Record). without_leg leg y) read)

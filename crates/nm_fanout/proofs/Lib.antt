@@ -10,4 +10,6 @@ pub mod Landing
 pub mod Counted
 pub mod Members
 pub mod Leaving
+pub mod LandedAll
+pub mod Counts
 pub mod DataLemmas

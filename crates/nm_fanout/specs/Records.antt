@@ -23,9 +23,9 @@ is_among first count block = nat_le first block && nat_lt block (first + count)
 abbrev pub busy_among : ℕ → ℕ → List Record → Option Record
 busy_among first count list = find (λ r. is_among first count r.block && is_under_way r) list
 
--- how many records are under way on a block among these
-abbrev pub busy_count : ℕ → ℕ → List Record → ℕ
-busy_count first count list = count_by (λ r. is_among first count r.block && is_under_way r) list
+-- how many records are under way on the blocks that pass this test
+abbrev pub busy_count : (ℕ → Bool) → List Record → ℕ
+busy_count test list = count_by (λ r. test r.block && is_under_way r) list
 
 -- whether some write is under way
 abbrev pub any_under_way : List Record → Bool

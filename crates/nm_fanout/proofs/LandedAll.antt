@@ -1,0 +1,351 @@
+-- All writes without an entry land, one after the other: the lowest ticket first, until none is left.
+use Rattle.std.proofs.Common.{◌≡◌, ◌⊎◌, ℕ, ◌+◌, ◌<◌, ◌≤◌, zero, suc, Bool, true, false, cond, ◌==◌, List, [], ◌∷◌, length, get_or, Option, None, Some, is_none, refl, sym, ap, ◌∙◌, subst, arith, eq-eqb, ne_eqb, inl, inr}
+use Rattle.std.specs.List.{find, slice_get}
+use Rattle.std.proofs.lemmas.Grind.{common_steps}
+use Rattle.std.proofs.lemmas.List.Quantifiers.{position-Some}
+use Rattle.std.proofs.lemmas.List.Sums.{fails_before_first, sum_by-cons}
+use Rattle.std.proofs.lemmas.Option.{slice_get-get_or}
+use Rattle.nm_fanout.specs.declared.write_record.Record.{Record}
+use Rattle.nm_fanout.specs.Record.{with_entry}
+use Rattle.nm_fanout.specs.Records.{Ascends, AllAbove, AllBelow, AllWhole, AreInOrder, IsAt, OneWriterABlock, find_record, busy_on, unlanded, first_unlanded, landed, landed_all, landings}
+use Rattle.nm_fanout.proofs.InOrder.{with_entry-keeps}
+use Rattle.nm_fanout.proofs.Landing.{waits}
+use Rattle.nm_fanout.proofs.Owed.{tells}
+use Rattle.nm_fanout.proofs.Busy.{holds}
+use Rattle.nm_fanout.proofs.Places.{IsAt-own}
+use Rattle.nm_fanout.proofs.Tickets.{changed-above, AllAbove-at}
+
+-- landing the first of them leaves the others to land from the next number on
+landed_all-at : (next i : ℕ) (rs : List Record) (d : Record) → Ascends rs → i < length rs
+    → is_none (get_or rs i d).entry ≡ true
+    → ((k : ℕ) → k < i → is_none (get_or rs k d).entry ≡ false)
+    → landed_all (next + 1) (landed (get_or rs i d).ticket next rs) ≡ landed_all next rs
+landed_all-at next i [] d h lt here before = absurd (omega arith)
+landed_all-at next zero (r ∷ rs) d h lt here before =
+    let same : (r.ticket == r.ticket) ≡ true = eq-eqb r.ticket r.ticket refl in
+    rw (same, here) (ap (λ l. with_entry next r ∷ landed_all (next + 1) l)
+    (changed-above (with_entry next) r.ticket rs h.0))
+landed_all-at next (suc i) (r ∷ rs) d h lt here before =
+    let low = AllAbove-at r.ticket rs i d h.0 (omega arith) in
+    let other : (r.ticket == (get_or rs i d).ticket) ≡ false = ne_eqb r.ticket
+    (get_or rs i d).ticket (λ e. omega (arith, low, e)) in
+    rw (other, before zero (omega arith)) (ap (λ l. r ∷ l)
+    (landed_all-at next i rs d h.1 (omega arith) here (λ k lt. before (suc k) (omega (arith, lt)))))
+
+-- and its landing comes first
+landings-at : (next i : ℕ) (rs : List Record) (d : Record) → Ascends rs → i < length rs
+    → is_none (get_or rs i d).entry ≡ true
+    → ((k : ℕ) → k < i → is_none (get_or rs k d).entry ≡ false)
+    → landings next rs
+    ≡ (next, get_or rs i d) ∷ landings (next + 1) (landed (get_or rs i d).ticket next rs)
+landings-at next i [] d h lt here before = absurd (omega arith)
+landings-at next zero (r ∷ rs) d h lt here before =
+    let same : (r.ticket == r.ticket) ≡ true = eq-eqb r.ticket r.ticket refl in
+    rw (same, here) (ap (λ l. (next, r) ∷ landings (next + 1) l)
+    (sym (changed-above (with_entry next) r.ticket rs h.0)))
+landings-at next (suc i) (r ∷ rs) d h lt here before =
+    let low = AllAbove-at r.ticket rs i d h.0 (omega arith) in
+    let other : (r.ticket == (get_or rs i d).ticket) ≡ false = ne_eqb r.ticket
+    (get_or rs i d).ticket (λ e. omega (arith, low, e)) in
+    rw (other, before zero (omega arith))
+    (landings-at next i rs d h.1 (omega arith) here (λ k lt. before (suc k) (omega (arith, lt))))
+
+absent : (entry : Option ℕ) → is_none entry ≡ true → entry ≡ None
+absent None h = refl
+absent (Some n) h = absurd cc
+
+-- the write at the place of the lowest ticket without an entry lands, and then the others do
+pub record NextToLand (next place : ℕ) (rs : List Record) : Type 0 where
+  pub lands : Record
+  pub there : slice_get rs place ≡ Some lands
+  pub at : IsAt lands.ticket place rs
+  pub no_entry : lands.entry ≡ None
+  pub others : landed_all (next + 1) (landed lands.ticket next rs) ≡ landed_all next rs
+  pub first : landings next rs ≡ (next, lands) ∷ landings (next + 1) (landed lands.ticket next rs)
+
+pub next_to_land : (next place : ℕ) (rs : List Record) → Ascends rs
+    → first_unlanded rs ≡ Some place → NextToLand next place rs
+next_to_land next place [] h found = absurd cc
+next_to_land next place (r ∷ rs) h found =
+    let is = position-Some (λ (x : Record). is_none x.entry) (r ∷ rs) place r found in
+    record {
+      lands = get_or (r ∷ rs) place r;
+      there = slice_get-get_or (r ∷ rs) place r is.0;
+      at = IsAt-own place (r ∷ rs) r h is.0;
+      no_entry = absent (get_or (r ∷ rs) place r).entry is.1;
+      others = landed_all-at next place (r ∷ rs) r h is.0 is.1 is.2;
+      first = landings-at next place (r ∷ rs) r h is.0 is.1 is.2;
+    }
+
+-- each record has its entry
+abbrev AllLanded : List Record → Record → Type 0
+AllLanded rs d = (k : ℕ) → k < length rs → is_none (get_or rs k d).entry ≡ false
+
+landed_all-none : (next : ℕ) (rs : List Record) (d : Record) → AllLanded rs d
+    → (landed_all next rs ≡ rs) × (landings next rs ≡ []) × (unlanded rs ≡ 0)
+landed_all-none next [] d h = (refl, refl, refl)
+landed_all-none next (r ∷ rs) d h =
+    let here : is_none r.entry ≡ false = h zero (omega arith) in
+    let rest = landed_all-none next rs d (λ k lt. h (suc k) (omega (arith, lt))) in
+    let counts = sum_by-cons waits r rs in
+    let none : waits r ≡ 0 = ap (λ (b : Bool). cond b 1 0) here in (
+      rw here (ap (λ l. r ∷ l) rest.0),
+      rw here rest.1,
+      omega (arith, counts, none, rest.2),
+    )
+
+-- where no ticket lacks its entry nothing lands
+pub none_to_land : (next : ℕ) (rs : List Record) → first_unlanded rs ≡ None
+    → (landed_all next rs ≡ rs) × (landings next rs ≡ []) × (unlanded rs ≡ 0)
+none_to_land next [] h = (refl, refl, refl)
+none_to_land next (r ∷ rs) h = landed_all-none next (r ∷ rs) r (λ k lt. fails_before_first
+    (λ (x : Record). is_none x.entry) (r ∷ rs) k r (grind (arith, common_steps)))
+
+pub length-landed_all : (next : ℕ) (rs : List Record) → length (landed_all next rs) ≡ length rs
+length-landed_all next [] = refl
+length-landed_all next (r ∷ rs) =
+    elim (tells (is_none r.entry)) [
+      | inl w ↦ rw w (ap (λ n. suc n) (length-landed_all (next + 1) rs))
+      | inr w ↦ rw w (ap (λ n. suc n) (length-landed_all next rs))
+    ]
+
+-- as many land as had no entry
+pub length-landings : (next : ℕ) (rs : List Record) → length (landings next rs) ≡ unlanded rs
+length-landings next [] = refl
+length-landings next (r ∷ rs) =
+    let counts = sum_by-cons waits r rs in
+    elim (tells (is_none r.entry)) [
+      | inl w ↦
+          let one : waits r ≡ 1 = ap (λ (b : Bool). cond b 1 0) w in
+          let more = length-landings (next + 1) rs in
+          let long : length (landings next (r ∷ rs)) ≡ suc (length (landings (next + 1) rs)) = rw w
+          refl in
+          omega (arith, counts, one, more, long)
+      | inr w ↦
+          let none : waits r ≡ 0 = ap (λ (b : Bool). cond b 1 0) w in
+          let long : length (landings next (r ∷ rs)) ≡ length (landings next rs) = rw w refl in
+          omega (arith, counts, none, long, length-landings next rs)
+    ]
+
+numbered : (next i : ℕ) (r : Record) (rs : List Record) (p : ℕ × Record)
+    → ((k : ℕ) → slice_get (landings (next + 1) rs) k ≡ Some p → p.0 ≡ next + 1 + k)
+    → slice_get ((next, r) ∷ landings (next + 1) rs) i ≡ Some p → p.0 ≡ next + i
+numbered next zero r rs p later h =
+    let e : (next, r) ≡ p = cc in
+    let is : next ≡ p.0 = ap (λ (q : ℕ × Record). q.0) e in omega (arith, is)
+numbered next (suc i) r rs p later h = omega (arith, later i h)
+
+-- their numbers rise by one
+pub landings-number : (next i : ℕ) (rs : List Record) (p : ℕ × Record)
+    → slice_get (landings next rs) i ≡ Some p → p.0 ≡ next + i
+landings-number next i [] p h = absurd cc
+landings-number next i (r ∷ rs) p h =
+    elim (tells (is_none r.entry)) [
+      | inl w ↦ numbered next i r rs p (λ k later. landings-number (next + 1) k rs p later)
+          (rw w at h)
+      | inr w ↦ landings-number next i rs p (rw w at h)
+    ]
+
+-- then none lacks its entry
+pub unlanded-landed_all : (next : ℕ) (rs : List Record) → unlanded (landed_all next rs) ≡ 0
+unlanded-landed_all next [] = refl
+unlanded-landed_all next (r ∷ rs) =
+    elim (tells (is_none r.entry)) [
+      | inl w ↦ rw w (
+          let counts = sum_by-cons waits (with_entry next r) (landed_all (next + 1) rs) in
+          omega (arith, counts, unlanded-landed_all (next + 1) rs)
+          )
+      | inr w ↦ rw w (
+          let counts = sum_by-cons waits r (landed_all next rs) in
+          let none : waits r ≡ 0 = ap (λ (b : Bool). cond b 1 0) w in
+          omega (arith, counts, none, unlanded-landed_all next rs)
+          )
+    ]
+
+AllAbove-landed_all : (next low : ℕ) (rs : List Record) → AllAbove low rs
+    → AllAbove low (landed_all next rs)
+AllAbove-landed_all next low [] h = tt
+AllAbove-landed_all next low (r ∷ rs) h =
+    elim (tells (is_none r.entry)) [
+      | inl w ↦ rw w (h.0, AllAbove-landed_all (next + 1) low rs h.1)
+      | inr w ↦ rw w (h.0, AllAbove-landed_all next low rs h.1)
+    ]
+
+-- a ticket above all stays above all
+pub AllBelow-landed_all : (next high : ℕ) (rs : List Record) → AllBelow high rs
+    → AllBelow high (landed_all next rs)
+AllBelow-landed_all next high [] h = tt
+AllBelow-landed_all next high (r ∷ rs) h =
+    elim (tells (is_none r.entry)) [
+      | inl w ↦ rw w (h.0, AllBelow-landed_all (next + 1) high rs h.1)
+      | inr w ↦ rw w (h.0, AllBelow-landed_all next high rs h.1)
+    ]
+
+Ascends-landed_all : (next : ℕ) (rs : List Record) → Ascends rs → Ascends (landed_all next rs)
+Ascends-landed_all next [] h = tt
+Ascends-landed_all next (r ∷ rs) h =
+    elim (tells (is_none r.entry)) [
+      | inl w ↦ rw w (
+        AllAbove-landed_all (next + 1) r.ticket rs h.0,
+        Ascends-landed_all (next + 1) rs h.1,
+      )
+      | inr w ↦ rw w (AllAbove-landed_all next r.ticket rs h.0, Ascends-landed_all next rs h.1)
+    ]
+
+AllWhole-landed_all : (next : ℕ) (rs : List Record) → AllWhole rs → AllWhole (landed_all next rs)
+AllWhole-landed_all next [] h = tt
+AllWhole-landed_all next (r ∷ rs) h =
+    elim (tells (is_none r.entry)) [
+      | inl w ↦ rw w (
+        (with_entry-keeps next).whole r h.0,
+        AllWhole-landed_all (next + 1) rs h.1,
+      )
+      | inr w ↦ rw w (h.0, AllWhole-landed_all next rs h.1)
+    ]
+
+-- the records stay whole and in order
+pub AreInOrder-landed_all : (next : ℕ) (rs : List Record) → AreInOrder rs
+    → AreInOrder (landed_all next rs)
+AreInOrder-landed_all next rs h = record {
+  few = omega (arith, h.few, length-landed_all next rs);
+  ascending = Ascends-landed_all next rs h.ascending;
+  whole = AllWhole-landed_all next rs h.whole;
+}
+
+-- a record after all landed: as it was if it had its entry, else with one of the next numbers
+abbrev pub LandedAs : ℕ → ℕ → Record → Record → Type 0
+LandedAs next count r new =
+    ((is_none r.entry ≡ false) × (new ≡ r))
+    ⊎ ((number : ℕ)
+    × (next ≤ number) × (number < next + count) × (r.entry ≡ None) × (new ≡ with_entry number r))
+
+-- what a test that takes no note of entries finds after all landed
+pub record FoundLanded (test : Record → Bool) (next : ℕ) (rs : List Record) (r : Record)
+    : Type 0 where
+  pub now : Record
+  pub found : find test (landed_all next rs) ≡ Some now
+  pub is : LandedAs next (unlanded rs) r now
+
+skipped : (test : Record → Bool) (r : Record) (o : Option Record)
+    → cond (test r) (Some r) o ≡ None → (test r ≡ false) × (o ≡ None)
+skipped test r o h =
+    elim (tells (test r)) [
+      | inl w ↦ absurd (let here : Some r ≡ None = rw w at h in cc)
+      | inr w ↦ (w, rw w at h)
+    ]
+
+-- where it found none it finds none
+pub find-landed_all_none : (test : Record → Bool)
+    (same : (n : ℕ) (r : Record) → test (with_entry n r) ≡ test r) (next : ℕ) (rs : List Record)
+    → find test rs ≡ None → find test (landed_all next rs) ≡ None
+find-landed_all_none test same next [] h = refl
+find-landed_all_none test same next (r ∷ rs) h =
+    let skip = skipped test r (find test rs) h in
+    elim (tells (is_none r.entry)) [
+      | inl w ↦ rw (w, same next r, skip.0) (find-landed_all_none test same (next + 1) rs skip.1)
+      | inr w ↦ rw (w, skip.0) (find-landed_all_none test same next rs skip.1)
+    ]
+
+-- fewer are left to land after one more number, or as many after a record with its entry
+later : (next m n : ℕ) (r new : Record) → m + 1 ≡ n → LandedAs (next + 1) m r new
+    → LandedAs next n r new
+later next m n r new less (inl k) = inl k
+later next m n r new less (inr k) = inr (
+  k.0,
+  omega (arith, k.1),
+  omega (arith, k.2, less),
+  k.3,
+  k.4,
+)
+
+first-landed : (test : Record → Bool) (same : (n : ℕ) (r : Record) → test (with_entry n r) ≡ test r)
+    (next : ℕ) (r : Record) (rs : List Record) (b c : Bool) → test r ≡ b → is_none r.entry ≡ c
+    → ((n : ℕ) → (x : Record) → find test rs ≡ Some x → FoundLanded test n rs x) → (x : Record)
+    → cond b (Some r) (find test rs) ≡ Some x → FoundLanded test next (r ∷ rs) x
+first-landed test same next r rs true true here none rest x h =
+    let e : r ≡ x = cc in
+    let passes : test (with_entry next r) ≡ true = same next r ∙ here in
+    let counts = sum_by-cons waits r rs in
+    let one : waits r ≡ 1 = ap (λ (b : Bool). cond b 1 0) none in
+    record {
+      now = with_entry next x;
+      found = rw (none, passes) (ap (λ (y : Record). Some (with_entry next y)) e);
+      is = inr (
+        next,
+        omega arith,
+        omega (arith, counts, one),
+        absent x.entry (ap (λ (y : Record). is_none y.entry) (sym e) ∙ none),
+        refl,
+      );
+    }
+first-landed test same next r rs true false here some rest x h =
+    let e : r ≡ x = cc in
+    record {
+      now = x;
+      found = rw (some, here) (ap (λ (y : Record). Some y) e);
+      is = inl (ap (λ (y : Record). is_none y.entry) (sym e) ∙ some, refl);
+    }
+first-landed test same next r rs false true here none rest x h =
+    let fails : test (with_entry next r) ≡ false = same next r ∙ here in
+    let more = rest (next + 1) x h in
+    let counts = sum_by-cons waits r rs in
+    let one : waits r ≡ 1 = ap (λ (b : Bool). cond b 1 0) none in
+    record {
+      now = more.now;
+      found = rw (none, fails) more.found;
+      is = later next (unlanded rs) (unlanded (r ∷ rs)) x more.now (omega (arith, counts, one)) more.is;
+    }
+first-landed test same next r rs false false here some rest x h =
+    let more = rest next x h in
+    let counts = sum_by-cons waits r rs in
+    let none : waits r ≡ 0 = ap (λ (b : Bool). cond b 1 0) some in
+    let all : unlanded rs ≡ unlanded (r ∷ rs) = omega (arith, counts, none) in
+    record {
+      now = more.now;
+      found = rw (some, here) more.found;
+      is = subst (λ (n : ℕ). LandedAs next n x more.now) all more.is;
+    }
+
+-- what it found it finds landed
+pub find-landed_all_some : (test : Record → Bool)
+    (same : (n : ℕ) (r : Record) → test (with_entry n r) ≡ test r) (next : ℕ) (rs : List Record)
+    (x : Record) → find test rs ≡ Some x → FoundLanded test next rs x
+find-landed_all_some test same next [] x h = absurd cc
+find-landed_all_some test same next (r ∷ rs) x h = first-landed test same next r rs (test r)
+    (is_none r.entry) refl refl (λ n y found. find-landed_all_some test same n rs y found) x h
+
+-- so a record is found by its ticket as it landed
+pub find_record-landed_all : (next t : ℕ) (rs : List Record) (x : Record)
+    → find_record t rs ≡ Some x → FoundLanded (λ r. r.ticket == t) next rs x
+find_record-landed_all next t rs x h = find-landed_all_some (λ r. r.ticket == t) (λ n r. refl) next
+    rs x h
+
+pub find_record-landed_all_none : (next t : ℕ) (rs : List Record) → find_record t rs ≡ None
+    → find_record t (landed_all next rs) ≡ None
+find_record-landed_all_none next t rs h = find-landed_all_none (λ r. r.ticket == t) (λ n r. refl)
+    next rs h
+
+-- and so is the record that a block is busy with
+pub busy_on-landed_all : (next b : ℕ) (rs : List Record) (x : Record) → busy_on b rs ≡ Some x
+    → FoundLanded (holds b) next rs x
+busy_on-landed_all next b rs x h = find-landed_all_some (holds b) (λ n r. refl) next rs x h
+
+pub busy_on-landed_all_none : (next b : ℕ) (rs : List Record) → busy_on b rs ≡ None
+    → busy_on b (landed_all next rs) ≡ None
+busy_on-landed_all_none next b rs h = find-landed_all_none (holds b) (λ n r. refl) next rs h
+
+-- no block gets two records under way
+pub OneWriterABlock-landed_all : (next : ℕ) (rs : List Record) → OneWriterABlock rs
+    → OneWriterABlock (landed_all next rs)
+OneWriterABlock-landed_all next [] one = tt
+OneWriterABlock-landed_all next (r ∷ rs) one =
+    elim (tells (is_none r.entry)) [
+      | inl w ↦ rw w (
+        λ busy. busy_on-landed_all_none (next + 1) r.block rs (one.0 busy),
+        OneWriterABlock-landed_all (next + 1) rs one.1,
+      )
+      | inr w ↦ rw w (
+        λ busy. busy_on-landed_all_none next r.block rs (one.0 busy),
+        OneWriterABlock-landed_all next rs one.1,
+      )
+    ]
