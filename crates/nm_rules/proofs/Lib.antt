@@ -7,4 +7,5 @@ pub mod LandingLemmas
 pub mod LeftLemmas
 pub mod LegLemmas
 pub mod RecordLemmas
+pub mod RelabelLemmas
 pub mod SoundLemmas
