@@ -38,7 +38,6 @@ pub(crate) fn cut_first(buffer: &mut BytesMut, index: u64) -> Result<Option<Requ
         return Ok(None);
     };
     let payload = cut_payload(buffer, payload_len(&head))?;
-    leave_long_block(buffer, payload.len());
     Ok(Some(Request {
         index,
         kind: head.kind,
@@ -99,13 +98,11 @@ fn payload_len(head: &RequestHead) -> u32
     }
 }
 
-// Takes a header and this many bytes after it off the buffer, and returns the latter: a cut of the
-// buffer's block, but a copy where the block is large and the payload a small part of it.
+// Takes a header and this many bytes after it off the buffer, and returns the latter.
 fn cut_payload(buffer: &mut BytesMut, len: u32) -> Result<Bytes, AllocError>
     requires { 28 + len ≤ length buffer.old.items }
     ensures payload { IfOk result (λ payload. payload ≡ take len (drop 28 buffer.old.items)) }
     ensures rest { IfOk result (λ _. buffer.new.items ≡ drop (28 + len) buffer.old.items) }
-    ensures room { buffer.new.spare ≡ buffer.old.spare }
     ensures empty { len ≡ 0 → IsOk result }
     ensures err { OnErr result (buffer.new ≡ buffer.old) }
 {
@@ -113,14 +110,28 @@ fn cut_payload(buffer: &mut BytesMut, len: u32) -> Result<Bytes, AllocError>
         buffer.advance(RequestHead::BYTES);
         return Ok(Bytes::new());
     }
+    cut_bytes(buffer, len)
+}
+
+// The same, where there is a payload: a cut of the buffer's block, but a copy where the block is
+// large and the payload a small part of it. Inlined, it would slow requests down that have none.
+#[inline(never)]
+fn cut_bytes(buffer: &mut BytesMut, len: u32) -> Result<Bytes, AllocError>
+    requires { 28 + len ≤ length buffer.old.items }
+    ensures payload { IfOk result (λ payload. payload ≡ take len (drop 28 buffer.old.items)) }
+    ensures rest { IfOk result (λ _. buffer.new.items ≡ drop (28 + len) buffer.old.items) }
+    ensures err { OnErr result (buffer.new ≡ buffer.old) }
+{
     let end = RequestHead::BYTES + len as usize;
     if buffer.capacity() > SMALL_BLOCK && (len as usize) < buffer.capacity() / LEAST_PART {
         let alloc = *buffer.allocator();
         let payload = Bytes::copy_from_slice(alloc, &buffer.as_slice()[RequestHead::BYTES..end])?;
         buffer.advance(end);
+        leave_long_block(buffer, len as usize);
         return Ok(payload);
     }
     let mut request = buffer.freeze_to(end)?;
     request.advance(RequestHead::BYTES);
+    leave_long_block(buffer, len as usize);
     Ok(request)
 }

@@ -20,8 +20,8 @@ returns-clause-request c =
     let there = rw c.in-Some.is at c.in_ok-head.ensures.whole in
     let has = rw c.as_slice.ensures at there in
     starts_from_cut c.args.index c.args.buffer.now.items c.in_ok-payload.payload
-    c.leave_long_block.new.buffer.items c.in-Some.head has
+    c.cut_payload.new.buffer.items c.in-Some.head has
     (c.in_ok-payload.ensures.payload ∙ ap (λ n. take n
     (drop 28 c.args.buffer.now.items)) c.payload_len.ensures)
-    (c.leave_long_block.ensures ∙ c.in_ok-payload.ensures.rest ∙ ap (λ n. drop
+    (c.in_ok-payload.ensures.rest ∙ ap (λ n. drop
     (28 + n) c.args.buffer.now.items) c.payload_len.ensures)

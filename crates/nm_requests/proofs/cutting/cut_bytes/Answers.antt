@@ -1,7 +1,7 @@
 -- The payload follows the header in what was cut.
 use Rattle.std.proofs.Common.{ap, ◌∙◌, drop}
 use Rattle.std.proofs.lemmas.List.{drop-take}
-use Rattle.nm_requests.proofs.cutting.cut_payload.Goals as goal
+use Rattle.nm_requests.proofs.cutting.cut_bytes.Goals as goal
 
 pub returns-clause-payload : goal.returns-clause-payload
 returns-clause-payload c =
