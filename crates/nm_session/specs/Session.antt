@@ -1,0 +1,61 @@
+-- A session, as its core keeps it: everything that is needed to go on, and nothing of the past.
+use Rattle.std.specs.Prelude.{◌≡◌, ℕ, ◌<◌, List, [], ◌∷◌, length, Option, Some, None}
+use Rattle.nm_wire.specs.declared.export.Export.{Export}
+use Rattle.nm_haggle.specs.Haggling.{Haggling, initial_state, greeting_bytes}
+use Rattle.nm_session.specs.declared.ended_by.EndedBy.{EndedBy}
+use Rattle.nm_session.specs.declared.held.Held.{Held}
+use Rattle.nm_session.specs.declared.phase.Phase.{Phase}
+use Rattle.nm_session.specs.declared.phase.Phase.TheVariants as phase
+use Rattle.nm_session.specs.declared.stage.Stage.{Stage}
+use Rattle.nm_session.specs.declared.stage.Stage.TheVariants as stage
+
+-- how many requests may be outstanding; what the client's bytes are; the haggling; the bytes that
+-- are no request yet; how many requests were read; those that are not answered, in the order in
+-- which they were read; and the bytes that wait to go out
+pub record Session : Type 0 where
+  pub limit : ℕ
+  pub stage : Stage
+  pub haggling : Haggling
+  pub rest : List ℕ
+  pub count : ℕ
+  pub outstanding : List Held
+  pub out : List ℕ
+
+-- a new session over an export: the greeting waits to go out
+abbrev pub session_of : Export → ℕ → Session
+session_of export limit = record {
+  limit = limit;
+  stage = stage.Haggling;
+  haggling = initial_state export;
+  rest = [];
+  count = 0;
+  outstanding = [];
+  out = greeting_bytes;
+}
+
+-- requests are read, and fewer are outstanding than may be
+pub record IsReading (session : Session) : Type 0 where
+  pub serving : session.stage ≡ stage.Serving
+  pub free : length session.outstanding < session.limit
+
+-- requests are read, and as many are outstanding as may be
+pub record IsFull (session : Session) : Type 0 where
+  pub serving : session.stage ≡ stage.Serving
+  pub full : length session.outstanding ≡ session.limit
+
+-- what ended a session at this stage
+abbrev pub ended_by : Stage → Option EndedBy
+ended_by stage.Haggling = None
+ended_by stage.Serving = None
+ended_by (stage.Ended by) = Some by
+
+-- how far a session is, once nothing more is read
+abbrev pub ended_phase : List Held → Phase
+ended_phase [] = phase.Closed
+ended_phase (held ∷ others) = phase.Draining
+
+-- how far a session is, by its stage and the requests that are not answered
+abbrev pub phase_at : Stage → List Held → Phase
+phase_at stage.Haggling outstanding = phase.Haggling
+phase_at stage.Serving outstanding = phase.Serving
+phase_at (stage.Ended by) outstanding = ended_phase outstanding

@@ -1,0 +1,10 @@
+/// What came of a request's task.
+#[derive(Debug, Drop)]
+pub enum Outcome {
+    /// It was done, and asked for no data.
+    Done,
+    /// The bytes that it read.
+    Data(Vec<u8>),
+    /// It failed with this error, which is not 0 ("Error values").
+    Error(u32),
+}

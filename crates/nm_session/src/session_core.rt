@@ -1,0 +1,283 @@
+ghost use Rattle.std.specs.Prelude.{◌≡◌, ◌≢◌, ◌↔◌, ◌<◌, ◌≤◌, ◌⊎◌, [], length, vec_capacity, IfOk, IfErr, IfSome, IfNone, OnOk, OnErr, All, slice_index_or, if◌then◌else◌};
+ghost use Rattle.nm_session.specs.declared.ended_by.EndedBy.TheVariants as by;
+ghost use Rattle.nm_haggle.specs.Haggling.{greeting_bytes};
+ghost use Rattle.nm_session.specs.Session.{session_of, phase_at};
+ghost use Rattle.nm_session.specs.Session as session;
+ghost use Rattle.nm_session.specs.Feeding.{Feeds, Responds, IsEnded};
+ghost use Rattle.nm_session.specs.Asking.{Answers};
+ghost use Rattle.nm_session.specs.Outcome.{Fits};
+ghost use Rattle.nm_session.specs.Reading.{Reads, ReadsOn, RepliesItself, Tells};
+ghost use Rattle.nm_session.specs.declared.held.Held.{Held};
+ghost use Rattle.nm_session.specs.declared.stage.Stage.TheVariants as stage;
+
+use crate::ended_by::EndedBy;
+use crate::held::Held;
+use crate::next::Next;
+use crate::outcome::Outcome;
+use crate::phase::Phase;
+use crate::refused::Refused;
+use crate::settling::{put_outcome, settle, stage_after};
+use crate::stage::Stage;
+use nm_haggle::Haggle;
+use nm_requests::{Fault, RequestReader, judge};
+use nm_wire::{Export, SimpleReply};
+use std::alloc::{AllocError, Global};
+use std::marker::Model;
+use std::mem;
+
+/// The server's side of one client's session: takes the client's bytes and the outcomes of its
+/// requests, hands requests out to be done, and gathers the bytes that go to the client.
+///
+/// Up to 16 requests are outstanding at once, and they are answered in any order.
+#[derive(Debug, Drop)]
+pub struct SessionCore {
+    limit: usize,
+    stage: Stage,
+    haggle: Haggle,
+    reader: RequestReader,
+    outstanding: Vec<Held>,
+    out: Vec<u8>,
+}
+
+impl Model for SessionCore {
+    ghost use Rattle.nm_session.specs.Session.{Session};
+
+    ghost Value = { Session };
+
+    ghost use Rattle.nm_session.specs.CoreFields.{session_in, IsSound};
+
+    ghost view = { session_in };
+
+    ghost invariant = { IsSound };
+}
+
+impl SessionCore {
+    /// A session over this export, of which at most `limit` requests, 1 to 16, are outstanding at
+    /// once. The greeting waits to go out. Refused for memory, the export comes back.
+    pub fn new(
+        alloc: Global,
+        export: Export,
+        limit: usize,
+    ) -> Result<SessionCore, (Refused, Export)>
+        requires some { 1 ≤ limit }
+        requires limit { limit ≤ 16 }
+        ensures ok { IfOk result (λ core. core ≡ session_of export limit) }
+        ensures err { IfErr result (λ e. e ≡ (Refused.Memory, export)) }
+    {
+        match make_room(alloc, limit) {
+            Ok((outstanding, out)) => Ok(SessionCore {
+                limit,
+                stage: Stage::Haggling,
+                haggle: Haggle::new(export),
+                reader: RequestReader::new(),
+                outstanding,
+                out,
+            }),
+            Err(_) => Err((Refused::Memory, export)),
+        }
+    }
+
+    /// Takes the next piece of what the client sends.
+    pub fn feed(&mut self, alloc: Global, piece: &[u8]) -> Result<(), Refused>
+        ensures ok { OnOk result (Feeds self.old piece.now self.new) }
+        ensures closed { (result ≡ Err Refused.Closed) ↔ IsEnded self.old.stage }
+        ensures memory { IfErr result (λ e. (e ≡ Refused.Closed) ⊎ (e ≡ Refused.Memory)) }
+        ensures err { OnErr result (self.new ≡ self.old) }
+    {
+        match self.stage {
+            Stage::Haggling => self.feed_haggling(alloc, piece),
+            Stage::Serving => match self.reader.feed(alloc, piece) {
+                Ok(()) => Ok(()),
+                Err(_) => Err(Refused::Memory),
+            },
+            Stage::Ended(_) => Err(Refused::Closed),
+        }
+    }
+
+    // Takes a piece that begins with bytes of the haggling.
+    fn feed_haggling(&mut self, alloc: Global, piece: &[u8]) -> Result<(), Refused>
+        requires { self.old.stage ≡ stage.Haggling }
+        ensures ok { OnOk result (Responds self.old piece.now self.new) }
+        ensures memory { IfErr result (λ e. e ≡ Refused.Memory) }
+        ensures err { OnErr result (self.new ≡ self.old) }
+    {
+        nm_haggle::laws::over_after_an_end();
+        // The bytes after the haggling are the reader's, so there must be room for them.
+        if self.reader.reserve(alloc, piece.len()).is_err() {
+            return Err(Refused::Memory);
+        }
+        let Ok(step) = self.haggle.feed_into(alloc, &mut self.out, piece) else {
+            return Err(Refused::Memory);
+        };
+        match step.next {
+            nm_haggle::Next::More => {}
+            nm_haggle::Next::Transmit => {
+                self.reader.feed(alloc, &piece[step.used..]).unwrap();
+                self.stage = Stage::Serving;
+            }
+            nm_haggle::Next::Close { aborted } => self.stage = Stage::Ended(closed_by(aborted)),
+        }
+        Ok(())
+    }
+
+    /// What comes next. Requests that are refused and those that ask for nothing are replied to as
+    /// they are read. Refused for memory, some of these may have been, and nothing else happened.
+    pub fn next(&mut self, alloc: Global) -> Result<Next, Refused>
+        ensures ok { IfOk result (λ next. Reads self.old next self.new) }
+        ensures memory { IfErr result (λ e. e ≡ Refused.Memory) }
+        ensures err { OnErr result (ReadsOn self.old self.new) }
+    {
+        loop {
+            match self.read_one(alloc) {
+                Ok(Some(next)) => return Ok(next),
+                Ok(None) => {}
+                Err(refused) => return Err(refused),
+            }
+        }
+    }
+
+    // Reads at most one request, and says what comes next unless it replied to it.
+    fn read_one(&mut self, alloc: Global) -> Result<Option<Next>, Refused>
+        ensures tells { IfOk result (λ seen. IfSome seen (λ next. Tells self.old next self.new)) }
+        ensures replies { IfOk result (λ seen. IfNone seen (RepliesItself self.old self.new)) }
+        ensures memory { IfErr result (λ e. e ≡ Refused.Memory) }
+        ensures err { OnErr result (self.new ≡ self.old) }
+    {
+        match self.stage {
+            Stage::Haggling => return Ok(Some(Next::Starved)),
+            Stage::Ended(_) => return Ok(Some(Next::Ended)),
+            Stage::Serving => {}
+        }
+        if self.outstanding.len() == self.limit {
+            return Ok(Some(Next::Full));
+        }
+        // A request that was read cannot be put back, so there must be room for its reply.
+        self.out.reserve(SimpleReply::BYTES)?;
+        match self.reader.next(alloc) {
+            Ok(None) => Ok(Some(Next::Starved)),
+            Ok(Some(request)) => {
+                let judged = judge(&request, self.haggle.export());
+                self.stage = stage_after(&judged);
+                Ok(settle(request, judged, &mut self.outstanding, &mut self.out))
+            }
+            Err(Fault::Memory) => Err(Refused::Memory),
+            Err(Fault::Magic) => {
+                self.stage = Stage::Ended(EndedBy::Protocol);
+                Ok(Some(Next::Ended))
+            }
+            Err(Fault::TooLong) => {
+                self.stage = Stage::Ended(EndedBy::Protocol);
+                Ok(Some(Next::Ended))
+            }
+        }
+    }
+
+    /// Replies to the outstanding request with this index, by the outcome of its task.
+    pub fn answer(
+        &mut self,
+        _alloc: Global,
+        index: u64,
+        outcome: Outcome,
+    ) -> Result<(), (Refused, Outcome)>
+        requires fits { All (λ held. held.index ≡ index → Fits held.task outcome) self.old.outstanding }
+        ensures ok { OnOk result (Answers self.old index outcome self.new) }
+        ensures unknown { (result ≡ Err (Refused.UnknownIndex, outcome))
+            ↔ (self.old.count ≤ index) }
+        ensures twice { (result ≡ Err (Refused.Twice, outcome)) ↔ ((index < self.old.count)
+            × All (λ held. held.index ≢ index) self.old.outstanding) }
+        ensures back { IfErr result (λ e. e.1 ≡ outcome) }
+        ensures open { IfErr result (λ e. e.0 ≢ Refused.Closed) }
+        ensures err { OnErr result (self.new ≡ self.old) }
+    {
+        let Some(at) = find(self.outstanding.as_slice(), index) else {
+            let refused = if index < self.reader.count() {
+                Refused::Twice
+            } else {
+                Refused::UnknownIndex
+            };
+            return Err((refused, outcome));
+        };
+        let cookie = self.outstanding[at].cookie;
+        if put_outcome(&mut self.out, cookie, &outcome).is_err() {
+            return Err((Refused::Memory, outcome));
+        }
+        self.outstanding.remove(at);
+        Ok(())
+    }
+
+    /// Takes the bytes that wait to go out, and leaves none; takes no memory.
+    pub fn take_out(&mut self) -> Vec<u8>
+        ensures bytes { result.items ≡ self.old.out }
+        ensures rest { self.new ≡ record self.old { out = [] } }
+    {
+        let alloc = *self.out.allocator();
+        mem::replace(&mut self.out, Vec::new(alloc))
+    }
+
+    /// How many bytes wait to go out.
+    pub fn waiting(&self) -> usize
+        ensures { result ≡ length self.now.out }
+    {
+        self.out.len()
+    }
+
+    /// How many requests were read, a DISC among them: the index that the next one gets.
+    pub fn count(&self) -> u64
+        ensures { result ≡ self.now.count }
+    {
+        self.reader.count()
+    }
+
+    /// How far the session is.
+    pub fn phase(&self) -> Phase
+        ensures { result ≡ phase_at self.now.stage self.now.outstanding }
+    {
+        match self.stage {
+            Stage::Haggling => Phase::Haggling,
+            Stage::Serving => Phase::Serving,
+            Stage::Ended(_) if self.outstanding.is_empty() => Phase::Closed,
+            Stage::Ended(_) => Phase::Draining,
+        }
+    }
+
+    /// What ended the session, if anything did.
+    pub fn ended_by(&self) -> Option<EndedBy>
+        ensures { result ≡ session.ended_by self.now.stage }
+    {
+        match self.stage {
+            Stage::Ended(by) => Some(by),
+            _ => None,
+        }
+    }
+}
+
+// What closed the haggling.
+fn closed_by(aborted: bool) -> EndedBy
+    ensures { result ≡ (if aborted then by.Abort else by.Protocol) }
+{
+    if aborted {
+        EndedBy::Abort
+    } else {
+        EndedBy::Protocol
+    }
+}
+
+// Where the outstanding request with this index stands.
+fn find(outstanding: &[Held], index: u64) -> Option<usize>
+    ensures some { IfSome result (λ at. (at < length outstanding.now)
+        × ((other : Held) → (slice_index_or outstanding.now at other).index ≡ index)) }
+    ensures none { IfNone result (All (λ held. held.index ≢ index) outstanding.now) }
+{
+    outstanding.iter().position(|held| held.index == index)
+}
+
+// Room for so many outstanding requests, and the greeting.
+fn make_room(alloc: Global, limit: usize) -> Result<(Vec<Held>, Vec<u8>), AllocError>
+    ensures held { IfOk result (λ room. room.0.items ≡ []) }
+    ensures capacity { IfOk result (λ room. vec_capacity room.0 ≡ limit) }
+    ensures out { IfOk result (λ room. room.1.items ≡ greeting_bytes) }
+{
+    let outstanding = Vec::with_capacity(alloc, limit)?;
+    let out = Vec::from_slice(alloc, &Haggle::greeting())?;
+    Ok((outstanding, out))
+}

@@ -1,0 +1,91 @@
+//! What becomes of a request once it is judged.
+ghost use Rattle.std.specs.Prelude.{◌≡◌, ◌+◌, ◌<◌, ◌≤◌, ◌++◌, [], vec_len, vec_capacity};
+ghost use Rattle.std.specs.Prelude.{IsOk, OnOk, OnErr};
+ghost use Rattle.nm_session.specs.Asking as asking;
+ghost use Rattle.nm_session.specs.Asking.{issued, own_reply, next_after};
+ghost use Rattle.nm_replies.specs.Answer.{frame_of};
+ghost use Rattle.nm_session.specs.Outcome.{says, reply_frame};
+
+use crate::ended_by::EndedBy;
+use crate::held::Held;
+use crate::next::Next;
+use crate::outcome::Outcome;
+use crate::stage::Stage;
+use nm_replies::put_frame;
+use nm_requests::{Request, Task};
+use nm_wire::{Memory, SimpleReply};
+
+// How the client's bytes are read after a request with this result.
+pub(crate) fn stage_after(judged: &Result<Task, u32>) -> Stage
+    ensures { result ≡ asking.stage_after judged.now }
+{
+    match judged {
+        Ok(Task::Disconnect) => Stage::Ended(EndedBy::Disconnect),
+        _ => Stage::Serving,
+    }
+}
+
+// Keeps a request that has a task for a target, and replies to one that has none. There is room
+// for either.
+pub(crate) fn settle(
+    request: Request,
+    judged: Result<Task, u32>,
+    outstanding: &mut Vec<Held>,
+    out: &mut Vec<u8>,
+) -> Option<Next>
+    requires free { vec_len outstanding.old < vec_capacity outstanding.old }
+    requires room { vec_len out.old + 16 ≤ vec_capacity out.old }
+    ensures next { result ≡ next_after request judged }
+    ensures outstanding { outstanding.new.items ≡ outstanding.old.items ++ issued request judged }
+    ensures one { vec_len outstanding.new ≤ vec_len outstanding.old + 1 }
+    ensures capacity { vec_capacity outstanding.new ≡ vec_capacity outstanding.old }
+    ensures out { out.new.items ≡ out.old.items ++ own_reply request judged }
+{
+    match judged {
+        Ok(Task::Nothing) => {
+            put_header(out, request.cookie, 0);
+            None
+        }
+        Ok(Task::Disconnect) => Some(Next::Ended),
+        Ok(task) => {
+            outstanding.push_reserved(Held {
+                index: request.index,
+                task,
+                cookie: request.cookie,
+            });
+            Some(Next::Issue(request.index, task, request.payload))
+        }
+        Err(code) => {
+            put_header(out, request.cookie, code);
+            None
+        }
+    }
+}
+
+// Appends the reply to a request with this outcome. Refused, the output stays.
+pub(crate) fn put_outcome(out: &mut Vec<u8>, cookie: u64, outcome: &Outcome) -> Result<(), Memory>
+    ensures ok { OnOk result (out.new.items ≡ out.old.items ++ reply_frame cookie (says outcome.now)) }
+    ensures err { OnErr result (out.new.items ≡ out.old.items) }
+{
+    match outcome {
+        Outcome::Done => put_frame(out, SimpleReply { error: 0, cookie }, &[]),
+        Outcome::Data(bytes) => put_frame(out, SimpleReply { error: 0, cookie }, bytes.as_slice()),
+        Outcome::Error(code) => put_frame(
+            out,
+            SimpleReply {
+                error: *code,
+                cookie,
+            },
+            &[],
+        ),
+    }
+}
+
+// Appends a reply without data, for which there is room.
+fn put_header(out: &mut Vec<u8>, cookie: u64, error: u32)
+    requires { vec_len out.old + 16 ≤ vec_capacity out.old }
+    ensures { out.new.items ≡ out.old.items
+        ++ frame_of (record { error = error; cookie = cookie; bytes = [] }) }
+{
+    put_frame(out, SimpleReply { error, cookie }, &[]).unwrap();
+}
