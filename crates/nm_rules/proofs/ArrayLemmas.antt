@@ -1,9 +1,10 @@
 -- The stripe's array, block by block.
-use Rattle.std.proofs.Common.{◌≡◌, ℕ, ◌+◌, zero, suc, List, [], ◌∷◌, Option, None, Some, refl, ap, ◌∙◌, arith, slice_get, length}
+use Rattle.std.proofs.Common.{◌≡◌, ℕ, ◌+◌, zero, suc, ◌==◌, ◌&&◌, true, false, cond, List, [], ◌∷◌, ◌++◌, Option, None, Some, refl, ap, ◌∙◌, arith, slice_get, length}
 use Rattle.std.specs.Option.{option_map}
 use Rattle.std.proofs.lemmas.Option.{same_Some, slice_get-get_or}
 use Rattle.nm_replay.specs.declared.block.Block.{Block}
 use Rattle.nm_fanout.specs.declared.write_record.Record.{Record}
+use Rattle.nm_fanout.specs.Record.{is_under_way}
 use Rattle.nm_fanout.specs.Records.{busy_on}
 use Rattle.nm_leg.specs.Leg.{Leg}
 use Rattle.nm_rules.specs.State.{StripeState}
@@ -55,3 +56,25 @@ same-places [] (y ∷ ys) same = absurd (let h = same 0 in cc)
 same-places (x ∷ xs) [] same = absurd (let h = same 0 in cc)
 same-places (x ∷ xs) (y ∷ ys) same =
     ap (λ z. z ∷ xs) (same_Some x y (same 0)) ∙ ap (λ zs. y ∷ zs) (same-places xs ys (λ b. same (suc b)))
+
+-- records that lay over each block alike lay over all of them alike
+pub laid-alike : (i : ℕ) (rs qs : List Record) (xs : List Block) → ((b : ℕ) (x : Block) → laid_over (busy_on b rs) x ≡ laid_over (busy_on b qs) x) → laid_from i rs xs ≡ laid_from i qs xs
+laid-alike i rs qs [] alike = refl
+laid-alike i rs qs (x ∷ xs) alike =
+    ap (λ y. y ∷ laid_from (i + 1) rs xs) (alike i x) ∙ ap (λ ys. laid_over (busy_on i qs) x ∷ ys) (laid-alike (i + 1) rs qs xs alike)
+
+-- a write that has begun and not landed lays nothing over its block
+over-begun : (b : ℕ) (rs : List Record) (r : Record) (x : Block) → r.entry ≡ None → laid_over (busy_on b (rs ++ r ∷ [])) x ≡ laid_over (busy_on b rs) x
+over-begun b [] r x none =
+    (elim ((r.block == b) && is_under_way r) as (λ c. laid_over (cond c (Some r) None) x ≡ x) [
+      | true ↦ ap (λ (e : Option ℕ). landed_over e (written r) x) none
+      | false ↦ refl
+    ])
+over-begun b (q ∷ rs) r x none =
+    (elim ((q.block == b) && is_under_way q) as (λ c. laid_over (cond c (Some q) (busy_on b (rs ++ r ∷ []))) x ≡ laid_over (cond c (Some q) (busy_on b rs)) x) [
+      | true ↦ refl
+      | false ↦ over-begun b rs r x none
+    ])
+
+pub laid-begun : (rs : List Record) (r : Record) (xs : List Block) → r.entry ≡ None → laid_from 0 (rs ++ r ∷ []) xs ≡ laid_from 0 rs xs
+laid-begun rs r xs none = laid-alike 0 (rs ++ r ∷ []) rs xs (λ b x. over-begun b rs r x none)

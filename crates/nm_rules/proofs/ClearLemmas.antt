@@ -1,5 +1,5 @@
 -- Where a leg is clear, and where it is current: the same for a leg that is not out.
-use Rattle.std.proofs.Common.{◌≡◌, ℕ, zero, suc, Bool, true, false, not, ◌&&◌, ◌||◌, List, [], ◌∷◌, refl, sym, ap, ◌∙◌, subst, get_or}
+use Rattle.std.proofs.Common.{◌≡◌, ℕ, zero, suc, Bool, true, false, not, ◌&&◌, ◌||◌, List, [], ◌∷◌, refl, get_or}
 use Rattle.std.specs.List.{list_any}
 use Rattle.nm_regions.specs.Table.{leg_at, has_behind, region_of, place_of, has_copied}
 use Rattle.nm_regions.specs.LegFlags.{is_behind}

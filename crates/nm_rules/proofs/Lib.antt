@@ -1,11 +1,16 @@
 pub mod ActsLemmas
 pub mod ArrayLemmas
+pub mod BeginLemmas
 pub mod CauseLemmas
+pub mod ChunkLemmas
 pub mod ClearLemmas
 pub mod KeptLemmas
 pub mod LandingLemmas
 pub mod LeftLemmas
 pub mod LegLemmas
+pub mod MarkLemmas
+pub mod OwedLemmas
 pub mod RecordLemmas
 pub mod RelabelLemmas
 pub mod SoundLemmas
+pub mod StateLemmas
