@@ -3,6 +3,7 @@ pub mod ArrayLemmas
 pub mod BeginLemmas
 pub mod CauseLemmas
 pub mod ChunkLemmas
+pub mod ClaimLemmas
 pub mod ClearLemmas
 pub mod KeptLemmas
 pub mod LandingLemmas
