@@ -1,5 +1,6 @@
 pub mod ActsLemmas
 pub mod ArrayLemmas
+pub mod AttachLemmas
 pub mod BeginLemmas
 pub mod CauseLemmas
 pub mod ChunkLemmas
