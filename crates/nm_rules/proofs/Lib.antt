@@ -13,6 +13,7 @@ pub mod LeftLemmas
 pub mod LegLemmas
 pub mod MarkLemmas
 pub mod OwedLemmas
+pub mod PromoteLemmas
 pub mod RecordLemmas
 pub mod RelabelLemmas
 pub mod SoundLemmas
