@@ -16,5 +16,6 @@ pub mod OwedLemmas
 pub mod PromoteLemmas
 pub mod RecordLemmas
 pub mod RelabelLemmas
+pub mod ReplaceLemmas
 pub mod SoundLemmas
 pub mod StateLemmas
