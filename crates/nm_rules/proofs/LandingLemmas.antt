@@ -15,6 +15,7 @@ use Rattle.nm_fanout.specs.Records.{Ascends, AllAbove, OneWriterABlock, find_rec
 use Rattle.std.proofs.lemmas.List.Sums.{sum_by-cons}
 use Rattle.nm_fanout.proofs.Landing.{missing, waits}
 use Rattle.nm_fanout.proofs.Busy.{holds, holds-same}
+use Rattle.nm_fanout.proofs.Members.{Member-find_record, find_record-Member}
 use Rattle.nm_rules.specs.Array.{written, life_of, recorded_life}
 use Rattle.nm_rules.specs.Lost.{landed_all, landing}
 use Rattle.nm_rules.proofs.RecordLemmas.{both, same}
@@ -38,25 +39,36 @@ laid_all [] xs = xs
 laid_all (r ∷ rs) xs =
     if is_none r.entry then laid_all rs (slice_set xs r.block (written r)) else laid_all rs xs
 
--- each write without an entry lies in so many blocks
-abbrev pub AllWaitInside : ℕ → List Record → Type 0
-AllWaitInside blocks [] = Unit {0}
-AllWaitInside blocks (r ∷ rs) = (is_none r.entry ≡ true → r.block < blocks) × AllWaitInside blocks rs
+-- so it is with each of these records
+abbrev pub Each : (Record → Type 0) → List Record → Type 0
+Each P [] = Unit {0}
+Each P (r ∷ rs) = P r × Each P rs
 
--- each write without an entry is under way
-abbrev pub AllWaitUnderWay : List Record → Type 0
-AllWaitUnderWay [] = Unit {0}
-AllWaitUnderWay (r ∷ rs) = (is_none r.entry ≡ true → is_under_way r ≡ true) × AllWaitUnderWay rs
+-- what holds of each record that is found holds of each
+pub each-found : (P : Record → Type 0) (rs : List Record) → Ascends rs → ((t : ℕ) (r : Record) → find_record t rs ≡ Some r → P r) → Each P rs
+each-found P [] up all = tt
+each-found P (r ∷ rs) up all = (
+  all r.ticket r (Member-find_record (r ∷ rs) r up (inl refl)),
+  each-found P rs up.1 (λ t x found. all x.ticket x (Member-find_record (r ∷ rs) x up (inr (find_record-Member t rs x found)))),
+)
+
+-- where it has no entry, a write lies in so many blocks
+abbrev pub WaitsInside : ℕ → Record → Type 0
+WaitsInside blocks r = is_none r.entry ≡ true → r.block < blocks
+
+-- where it has no entry, a write is under way
+abbrev pub WaitsUnderWay : Record → Type 0
+WaitsUnderWay r = is_none r.entry ≡ true → is_under_way r ≡ true
 
 -- the entries are legal, up to that array
-pub landing-legal : (next : ℕ) (rs : List Record) (xs : List Block) → AllWaitInside (length xs) rs → Legal next (landing next rs) xs (laid_all rs xs)
+pub landing-legal : (next : ℕ) (rs : List Record) (xs : List Block) → Each (WaitsInside (length xs)) rs → Legal next (landing next rs) xs (laid_all rs xs)
 landing-legal next [] xs inside = refl
 landing-legal next (r ∷ rs) xs inside =
     (elim (is_none r.entry) as (λ b. is_none r.entry ≡ b → Legal next (cond b (entry_of_write next r.ticket r.block (written r) ∷ landing (next + 1) rs) (landing next rs)) xs (cond b (laid_all rs (slice_set xs r.block (written r))) (laid_all rs xs))) [
       | true ↦ λ waits. (
         refl,
         inside.0 waits,
-        landing-legal (next + 1) rs (slice_set xs r.block (written r)) (subst (λ (n : ℕ). AllWaitInside n rs) (sym (length-set xs r.block (written r))) inside.1),
+        landing-legal (next + 1) rs (slice_set xs r.block (written r)) (subst (λ (n : ℕ). Each (WaitsInside n) rs) (sym (length-set xs r.block (written r))) inside.1),
       )
       | false ↦ λ has. landing-legal next rs xs inside.1
     ]) refl
@@ -75,7 +87,7 @@ landed_on None block = block
 landed_on (Some r) block = if is_none r.entry then Some (written r) else block
 
 -- so it is in that array, where no block has two writes under way
-pub laid_all-at : (rs : List Record) (xs : List Block) (b : ℕ) → OneWriterABlock rs → AllWaitUnderWay rs → b < length xs → slice_get (laid_all rs xs) b ≡ landed_on (busy_on b rs) (slice_get xs b)
+pub laid_all-at : (rs : List Record) (xs : List Block) (b : ℕ) → OneWriterABlock rs → Each WaitsUnderWay rs → b < length xs → slice_get (laid_all rs xs) b ≡ landed_on (busy_on b rs) (slice_get xs b)
 laid_all-at [] xs b one waiting inside = refl
 laid_all-at (r ∷ rs) xs b one waiting inside =
     (elim (is_none r.entry) as (λ v. is_none r.entry ≡ v → slice_get (cond v (laid_all rs (slice_set xs r.block (written r))) (laid_all rs xs)) b ≡ landed_on (busy_on b (r ∷ rs)) (slice_get xs b)) [

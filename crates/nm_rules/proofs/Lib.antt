@@ -7,6 +7,9 @@ pub mod CauseLemmas
 pub mod ChunkLemmas
 pub mod ClaimLemmas
 pub mod ClearLemmas
+pub mod DirtyLemmas
+pub mod ElectLemmas
+pub mod GoneLemmas
 pub mod KeptLemmas
 pub mod LandingLemmas
 pub mod LeftLemmas
