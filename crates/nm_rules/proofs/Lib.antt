@@ -9,6 +9,7 @@ pub mod ClaimLemmas
 pub mod ClearLemmas
 pub mod DirtyLemmas
 pub mod ElectLemmas
+pub mod GoneArrayLemmas
 pub mod GoneLemmas
 pub mod KeptLemmas
 pub mod LandingLemmas
