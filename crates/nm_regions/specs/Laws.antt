@@ -1,5 +1,6 @@
--- Laws of the region table: how many blocks are left to copy to a leg, and where a lost leg is behind.
-use Rattle.std.specs.Prelude.{◌≡◌, ℕ, ◌+◌, ◌<◌, ◌≤◌, ◌==◌, ◌||◌, not, IsTrue, IsFalse, None, Some, length}
+-- Laws of the region table: what is left to copy to a leg, and where a lost leg is behind.
+use Rattle.std.specs.Prelude.{◌≡◌, ℕ, ◌+◌, ◌<◌, ◌≤◌, ◌==◌, ◌||◌, not, IsTrue, IsFalse, None, Some}
+use Rattle.std.specs.Prelude.{length}
 use Rattle.nm_regions.specs.declared.copy_place.CopyPlace.{CopyPlace}
 use Rattle.nm_regions.specs.LegFlags.{is_behind}
 use Rattle.nm_regions.specs.Table.{RegionTable, leg_at, is_out, is_quiet, left, copy_rest}
