@@ -12,6 +12,8 @@ mod records;
 #[cfg(test)]
 mod regions;
 #[cfg(test)]
+mod resync;
+#[cfg(test)]
 mod scripts;
 #[cfg(test)]
 mod stripes;

@@ -1,0 +1,6 @@
+pub mod Chunk
+pub mod Moves
+pub mod Work
+pub mod Laws
+pub mod Inside
+pub mod Lending

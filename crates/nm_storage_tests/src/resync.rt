@@ -1,0 +1,78 @@
+//! The buffer of a copy: chunks of three blocks and of one, reads that fail, the largest buffer.
+use nm_leg::{LegPart, MemLeg};
+use nm_replay::Block;
+use nm_resync::{Copy, MOST_CHUNK, Move};
+use std::test::Fail;
+
+// A block with one byte in every place.
+fn block_of(byte: u8) -> Block {
+    Block([byte; 512])
+}
+
+#[test]
+fn a_chunk_of_three_blocks_is_read_and_then_written(rt: HostRuntime) -> Result<(), Fail> {
+    let mut copy = Copy::new(rt.alloc(), 8)?;
+    assert_eq!(rt; copy.next_move(), Move::Open);
+    copy.open(3);
+    assert_eq!(rt; copy.next_move(), Move::Read(0));
+    *copy.slot() = block_of(1);
+    copy.fill();
+    *copy.slot() = block_of(2);
+    copy.fill();
+    assert_eq!(rt; copy.next_move(), Move::Read(2));
+    *copy.slot() = block_of(3);
+    copy.fill();
+    assert_eq!(rt; copy.buffered(), 3);
+    assert_eq!(rt; copy.next_move(), Move::Write(0));
+    assert_eq!(rt; *copy.block(0), block_of(1));
+    assert_eq!(rt; copy.wrote(), None);
+    assert_eq!(rt; *copy.block(1), block_of(2));
+    assert_eq!(rt; copy.wrote(), None);
+    assert_eq!(rt; copy.written(), 2);
+    assert_eq!(rt; copy.buffered(), 1);
+    assert_eq!(rt; copy.next_move(), Move::Write(2));
+    assert_eq!(rt; *copy.block(2), block_of(3));
+    assert_eq!(rt; copy.wrote(), Some(3));
+    assert_eq!(rt; copy.next_move(), Move::Open);
+    assert_eq!(rt; copy.buffered(), 0);
+    Ok(())
+}
+
+#[test]
+fn a_chunk_of_one_block_goes_from_leg_to_leg(rt: HostRuntime) -> Result<(), Fail> {
+    let mut master = MemLeg::filled(rt.alloc(), 1, 0xaa)?;
+    let mut leg = MemLeg::new(rt.alloc(), 1)?;
+    let mut copy = Copy::new(rt.alloc(), 1)?;
+    master.read(0, copy.slot())?;
+    copy.open(1);
+    copy.fill();
+    assert_eq!(rt; copy.next_move(), Move::Write(0));
+    leg.write(0, &copy.block(0).0)?;
+    assert_eq!(rt; copy.wrote(), Some(1));
+    assert_eq!(rt; *leg.block(0), block_of(0xaa));
+    Ok(())
+}
+
+#[test]
+fn a_read_that_fails_leaves_the_chunk(rt: HostRuntime) -> Result<(), Fail> {
+    let mut copy = Copy::new(rt.alloc(), 2)?;
+    *copy.slot() = block_of(9);
+    assert_eq!(rt; copy.next_move(), Move::Open);
+    copy.open(2);
+    *copy.slot() = block_of(9);
+    assert_eq!(rt; copy.next_move(), Move::Read(0));
+    assert_eq!(rt; copy.length(), 2);
+    assert_eq!(rt; copy.buffered(), 0);
+    copy.drop_chunk();
+    assert_eq!(rt; copy.next_move(), Move::Open);
+    Ok(())
+}
+
+#[test]
+fn the_largest_buffer_is_made(rt: HostRuntime) -> Result<(), Fail> {
+    let copy = Copy::new(rt.alloc(), MOST_CHUNK)?;
+    assert_eq!(rt; copy.most(), 65_536);
+    assert_eq!(rt; copy.chunk_length(0, 65_536), 65_536);
+    assert_eq!(rt; copy.chunk_length(65_535, 65_536), 1);
+    Ok(())
+}
