@@ -7,6 +7,7 @@ pub mod CauseLemmas
 pub mod ChunkLemmas
 pub mod ClaimLemmas
 pub mod ClearLemmas
+pub mod CopyLemmas
 pub mod DirtyLemmas
 pub mod ElectLemmas
 pub mod GoneArrayLemmas
