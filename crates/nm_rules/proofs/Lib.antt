@@ -8,6 +8,7 @@ pub mod ChunkLemmas
 pub mod ClaimLemmas
 pub mod ClearLemmas
 pub mod CopyLemmas
+pub mod CopyReadLemmas
 pub mod DirtyLemmas
 pub mod ElectLemmas
 pub mod GoneArrayLemmas
