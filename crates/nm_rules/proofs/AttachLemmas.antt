@@ -50,7 +50,7 @@ have-set n legs k l all is = λ j d inside.
     let within : j < length legs = omega (arith, inside, length-set legs k l) in
     ⊎_elim
     (λ same. subst (λ (i : ℕ). length (get_or (slice_set legs k l) i d).behind ≡ n) (sym same)
-        (ap (λ (x : LegRegions). length x.behind) (set-same legs k l d (omega (arith, within, same))) ∙ is))
+    (ap (λ (x : LegRegions). length x.behind) (set-same legs k l d (omega (arith, within, same))) ∙ is))
     (λ ne. ap (λ (x : LegRegions). length x.behind) (set-other legs k j l d ne) ∙ all j d within)
     (one_or_two j k)
 
@@ -83,7 +83,7 @@ module _ {L : Type 0} (type : LegType L) (old : StripeState L) (leg : ℕ) (insi
     master = state-other old.master (not_this old.master (ap (λ (st : LegState). is_out st) k.legs.master)) ∙ k.legs.master;
     outs = λ j. ⊎_elim
         (λ same. subst (λ (i : ℕ). (leg_at i (table (after_attach old leg))).out ≡ is_out (leg_state i (after_attach old leg))) (sym same)
-            (ap (λ (l : LegRegions). l.out) flags-here ∙ sym (ap (λ (st : LegState). is_out st) state-here)))
+        (ap (λ (l : LegRegions). l.out) flags-here ∙ sym (ap (λ (st : LegState). is_out st) state-here)))
         (λ ne. ap (λ (l : LegRegions). l.out) (flags-other j ne) ∙ k.legs.outs j ∙ sym (ap (λ (st : LegState). is_out st) (state-other j ne)))
         (one_or_two j leg);
     in_sync = λ j in_sync. ⊎_elim

@@ -44,8 +44,10 @@ module _ {L : Type 0} (type : LegType L) (old : StripeState L) (legs : List L) w
   called-chunk None None has = tt
   called-chunk None (Some k) has = absurd has
   called-chunk (Some c) None has = record { joining = has.joining; lowest = has.lowest; within = has.within }
-  called-chunk (Some c) (Some k) has = (record { joining = has.0.joining; lowest = has.0.lowest; within = has.0.within },
-      record { long = has.1.long; some = has.1.some; most = has.1.most; more = has.1.more; read_first = has.1.read_first })
+  called-chunk (Some c) (Some k) has = (
+    record { joining = has.0.joining; lowest = has.0.lowest; within = has.0.within },
+    record { long = has.1.long; some = has.1.some; most = has.1.most; more = has.1.more; read_first = has.1.read_first },
+  )
 
   module _ (same : SameContents) where
     same-array : IsTrue type.honest → stripe_array type.model with_legs ≡ stripe_array type.model old
@@ -99,7 +101,7 @@ module _ {L : Type 0} (type : LegType L) (old : StripeState L) (legs : List L) w
     lengths = λ j. calls-lengths type.model succeeded old.legs legs leg j s.before s.after s.change s.syncs.calls;
     contents = λ is_honest j. ⊎_elim
         (λ is. subst (λ (i : ℕ). contents_of type.model legs i ≡ contents_of type.model old.legs i) (sym is)
-            (calls-after type.model old.legs legs leg s.before s.after s.change ∙ s.syncs.contents is_honest ∙ sym (calls-before type.model old.legs legs leg s.before s.after s.change)))
+        (calls-after type.model old.legs legs leg s.before s.after s.change ∙ s.syncs.contents is_honest ∙ sym (calls-before type.model old.legs legs leg s.before s.after s.change)))
         (λ ne. calls-other type.model old.legs legs leg j s.before s.after s.change ne)
         (one_or_two j leg);
   }

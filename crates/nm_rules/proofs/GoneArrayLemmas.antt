@@ -56,7 +56,7 @@ owes-master None false false landed waits = cc
 owes-master (Some n) settling owed landed waits = cc
 
 module _ {L : Type 0} (type : LegType L) (old : StripeState L) (rest : Rest L) (c : IsGone type old rest) where
-  other_master : rest.master ≢ rest.leg
+  pub other_master : rest.master ≢ rest.leg
   other_master = gone-in_sync type old rest c rest.master c.master
 
   was_in_sync : leg_state rest.master old ≡ InSync
@@ -101,7 +101,7 @@ module _ {L : Type 0} (type : LegType L) (old : StripeState L) (rest : Rest L) (
         ∙ sym ((array-at type.model old b).free free)
 
     -- a leg that stays clear holds the bytes of a write under way that it is not owed
-    holds-written : (b j : ℕ) (r : Record) → j ≢ rest.leg → j < length old.legs → busy_on b old.records ≡ Some r → owes j r ≡ false → is_clear j b old ≡ true
+    pub holds-written : (b j : ℕ) (r : Record) → j ≢ rest.leg → j < length old.legs → busy_on b old.records ≡ Some r → owes j r ≡ false → is_clear j b old ≡ true
         → slice_get (contents_of type.model rest.legs j) b ≡ Some (written r)
     holds-written b j r ne inside busy free clear =
         let at = busy_found b old.records r c.keeps.records.in_order.ascending busy in

@@ -11,6 +11,7 @@ pub mod CopyLemmas
 pub mod CopyReadLemmas
 pub mod DirtyLemmas
 pub mod ElectLemmas
+pub mod GoneAgreeLemmas
 pub mod GoneArrayLemmas
 pub mod GoneLemmas
 pub mod KeptLemmas

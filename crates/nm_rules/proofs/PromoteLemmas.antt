@@ -63,7 +63,7 @@ module _ {L : Type 0} (type : LegType L) (old : StripeState L) (leg : ℕ) (insi
         (λ ne. state-other old.master ne ∙ k.legs.master) (one_or_two old.master leg);
     outs = λ j. ⊎_elim
         (λ same. subst (λ (i : ℕ). (leg_at i (table old)).out ≡ is_out (leg_state i promoted)) (sym same)
-            (k.legs.outs leg ∙ not-out (leg_state leg old) may.joining ∙ sym (ap (λ (st : LegState). is_out st) state-here)))
+        (k.legs.outs leg ∙ not-out (leg_state leg old) may.joining ∙ sym (ap (λ (st : LegState). is_out st) state-here)))
         (λ ne. k.legs.outs j ∙ sym (ap (λ (st : LegState). is_out st) (state-other j ne)))
         (one_or_two j leg);
     in_sync = λ j in_sync. ⊎_elim

@@ -75,7 +75,7 @@ module _ {L : Type 0} (type : LegType L) (old : StripeState L) (leg : ℕ) (part
     master = state-other old.master (not_this old.master (ap (λ (st : LegState). is_out st) k.legs.master)) ∙ k.legs.master;
     outs = λ j. ⊎_elim
         (λ same. subst (λ (i : ℕ). (leg_at i (table new)).out ≡ is_out (leg_state i new)) (sym same)
-            (ap (λ (l : LegRegions). l.out) flags-here ∙ sym (ap (λ (st : LegState). is_out st) state-here)))
+        (ap (λ (l : LegRegions). l.out) flags-here ∙ sym (ap (λ (st : LegState). is_out st) state-here)))
         (λ ne. ap (λ (l : LegRegions). l.out) (flags-other j ne) ∙ k.legs.outs j ∙ sym (ap (λ (st : LegState). is_out st) (state-other j ne)))
         (one_or_two j leg);
     in_sync = λ j in_sync. ⊎_elim
