@@ -3,3 +3,7 @@ pub mod Sessions
 pub mod Settled
 pub mod Fed
 pub mod Answered
+pub mod Known
+pub mod Transmission
+pub mod Haggled
+pub mod Once

@@ -1,5 +1,5 @@
 -- What reading and answering a request does to a session.
-use Rattle.std.specs.Prelude.{◌≡◌, ℕ, ◌+◌, List, [], ◌∷◌, ◌++◌, Option, Some, None, Result, Ok, Err, IfOk}
+use Rattle.std.specs.Prelude.{◌≡◌, ℕ, ◌+◌, List, [], ◌∷◌, ◌++◌, All, Option, Some, None, Result, Ok, Err, IfOk}
 use Rattle.nm_requests.specs.declared.fault.Fault.{Fault}
 use Rattle.nm_requests.specs.declared.request.Request.{Request}
 use Rattle.nm_requests.specs.declared.task.Task.{Task}
@@ -66,6 +66,11 @@ pub record Stops (old : Session) (fault : Fault) (new : Session) : Type 0 where
   pub reading : IsReading old
   pub ends : EndsAs old.count old.rest (Some fault)
   pub new_is : new ≡ record old { stage = stage.Ended by.Protocol }
+
+-- the outcome is one that the task of the request with this index can have
+abbrev pub FitsAt : ℕ → Outcome → List Held → Type 0
+FitsAt index outcome outstanding =
+    All (λ held. held.index ≡ index → Fits held.task outcome) outstanding
 
 -- an outstanding request is answered with this outcome of its task
 pub record Answers (old : Session) (index : ℕ) (outcome : Outcome) (new : Session)

@@ -16,8 +16,8 @@ session_in core = record {
   out = core.out.items;
 }
 
--- while the session goes on its reader has stopped at no fault, and while it haggles the haggling is
--- not over; there is room for every request that may be outstanding, and each of them was read
+-- while the session goes on its reader has stopped at no fault, and while it haggles the haggling
+-- is not over; there is room for every request that may be outstanding, and each of them was read
 pub record IsSound (core : Inside) : Type 0 where
   pub haggles : core.stage ≡ stage.Haggling → ¬ IsOver core.haggle
   pub going : ((by : _) → core.stage ≢ stage.Ended by) → core.reader.fault ≡ None

@@ -5,3 +5,6 @@ pub mod Feeding
 pub mod Asking
 pub mod Reading
 pub mod CoreFields
+pub mod Event
+pub mod Text
+pub mod Laws

@@ -1,5 +1,5 @@
 -- A session, as its core keeps it: everything that is needed to go on, and nothing of the past.
-use Rattle.std.specs.Prelude.{◌≡◌, ℕ, ◌<◌, List, [], ◌∷◌, length, Option, Some, None}
+use Rattle.std.specs.Prelude.{◌≡◌, ◌≢◌, ℕ, ◌<◌, All, List, [], ◌∷◌, length, Option, Some, None}
 use Rattle.nm_wire.specs.declared.export.Export.{Export}
 use Rattle.nm_haggle.specs.Haggling.{Haggling, initial_state, greeting_bytes}
 use Rattle.nm_session.specs.declared.ended_by.EndedBy.{EndedBy}
@@ -42,6 +42,11 @@ pub record IsReading (session : Session) : Type 0 where
 pub record IsFull (session : Session) : Type 0 where
   pub serving : session.stage ≡ stage.Serving
   pub full : length session.outstanding ≡ session.limit
+
+-- a request of this index was read, and is not outstanding
+pub record IsSettled (session : Session) (index : ℕ) : Type 0 where
+  pub read : index < session.count
+  pub answered : All (λ held. held.index ≢ index) session.outstanding
 
 -- what ended a session at this stage
 abbrev pub ended_by : Stage → Option EndedBy

@@ -1,11 +1,12 @@
-ghost use Rattle.std.specs.Prelude.{◌≡◌, ◌≢◌, ◌↔◌, ◌<◌, ◌≤◌, ◌⊎◌, [], length, vec_capacity, IfOk, IfErr, IfSome, IfNone, OnOk, OnErr, All, slice_index_or, if◌then◌else◌};
+ghost use Rattle.std.specs.Prelude.{◌≡◌, ◌≢◌, ◌↔◌, ◌<◌, ◌≤◌, ◌⊎◌, if◌then◌else◌, [], length, All};
+ghost use Rattle.std.specs.Prelude.{slice_index_or, vec_capacity};
+ghost use Rattle.std.specs.Prelude.{IfOk, IfErr, IfSome, IfNone, OnOk, OnErr};
 ghost use Rattle.nm_session.specs.declared.ended_by.EndedBy.TheVariants as by;
 ghost use Rattle.nm_haggle.specs.Haggling.{greeting_bytes};
-ghost use Rattle.nm_session.specs.Session.{session_of, phase_at};
+ghost use Rattle.nm_session.specs.Session.{session_of, phase_at, IsSettled};
 ghost use Rattle.nm_session.specs.Session as session;
 ghost use Rattle.nm_session.specs.Feeding.{Feeds, Responds, IsEnded};
-ghost use Rattle.nm_session.specs.Asking.{Answers};
-ghost use Rattle.nm_session.specs.Outcome.{Fits};
+ghost use Rattle.nm_session.specs.Asking.{Answers, FitsAt};
 ghost use Rattle.nm_session.specs.Reading.{Reads, ReadsOn, RepliesItself, Tells};
 ghost use Rattle.nm_session.specs.declared.held.Held.{Held};
 ghost use Rattle.nm_session.specs.declared.stage.Stage.TheVariants as stage;
@@ -81,7 +82,7 @@ impl SessionCore {
     pub fn feed(&mut self, alloc: Global, piece: &[u8]) -> Result<(), Refused>
         ensures ok { OnOk result (Feeds self.old piece.now self.new) }
         ensures closed { (result ≡ Err Refused.Closed) ↔ IsEnded self.old.stage }
-        ensures memory { IfErr result (λ e. (e ≡ Refused.Closed) ⊎ (e ≡ Refused.Memory)) }
+        ensures only { IfErr result (λ e. (e ≡ Refused.Closed) ⊎ (e ≡ Refused.Memory)) }
         ensures err { OnErr result (self.new ≡ self.old) }
     {
         match self.stage {
@@ -179,14 +180,12 @@ impl SessionCore {
         index: u64,
         outcome: Outcome,
     ) -> Result<(), (Refused, Outcome)>
-        requires fits { All (λ held. held.index ≡ index → Fits held.task outcome) self.old.outstanding }
+        requires { FitsAt index outcome self.old.outstanding }
         ensures ok { OnOk result (Answers self.old index outcome self.new) }
-        ensures unknown { (result ≡ Err (Refused.UnknownIndex, outcome))
-            ↔ (self.old.count ≤ index) }
-        ensures twice { (result ≡ Err (Refused.Twice, outcome)) ↔ ((index < self.old.count)
-            × All (λ held. held.index ≢ index) self.old.outstanding) }
+        ensures unknown { (result ≡ Err (Refused.UnknownIndex, outcome)) ↔ (self.old.count ≤ index) }
+        ensures twice { (result ≡ Err (Refused.Twice, outcome)) ↔ IsSettled self.old index }
         ensures back { IfErr result (λ e. e.1 ≡ outcome) }
-        ensures open { IfErr result (λ e. e.0 ≢ Refused.Closed) }
+        ensures only { IfErr result (λ e. e.0 ≢ Refused.Closed) }
         ensures err { OnErr result (self.new ≡ self.old) }
     {
         let Some(at) = find(self.outstanding.as_slice(), index) else {

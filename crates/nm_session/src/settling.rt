@@ -64,7 +64,8 @@ pub(crate) fn settle(
 
 // Appends the reply to a request with this outcome. Refused, the output stays.
 pub(crate) fn put_outcome(out: &mut Vec<u8>, cookie: u64, outcome: &Outcome) -> Result<(), Memory>
-    ensures ok { OnOk result (out.new.items ≡ out.old.items ++ reply_frame cookie (says outcome.now)) }
+    ensures ok { OnOk result
+        (out.new.items ≡ out.old.items ++ reply_frame cookie (says outcome.now)) }
     ensures err { OnErr result (out.new.items ≡ out.old.items) }
 {
     match outcome {

@@ -13,7 +13,7 @@ returns-clause-ok c =
     let below = rw c.as_slice.ensures.value at c.in-Some.ensures.some.0 in
     let all = rw c.as_slice.ensures.value at c.in-Some.ensures.some.1 in
     let index_is = ap (λ (h : Held). h.index) c.index.ensures ∙ all held in
-    let fits = rw (← c.self.view_is) at c.requires.fits in
+    let fits = rw (← c.self.view_is) at c.requires in
     rw (← c.self.view_is)
     (answers (session_in c.self.inside) _ c.args.index c.args.outcome (take c.in-Some.at xs)
     (drop (c.in-Some.at + 1) xs) held (split_at xs c.in-Some.at held below (sym c.index.ensures))
