@@ -31,6 +31,7 @@ use Rattle.nm_rules.proofs.ArrayLemmas.{laid-alike}
 use Rattle.nm_rules.proofs.CauseLemmas.{none_holds, when_off, is_there}
 use Rattle.nm_rules.proofs.ChunkLemmas.{chunk-stays}
 use Rattle.nm_rules.proofs.RecordLemmas.{same, without_cases}
+use Rattle.nm_rules.proofs.SettledLemmas.{or_true, and_false}
 
 -- the write of this ticket may be claimed
 pub record MayClaim {L : Type 0} (stripe : StripeState L) (ticket : ℕ) : Type 0 where
@@ -54,15 +55,6 @@ may_claim stripe ticket none =
 pub has_number : (e : Option ℕ) → is_some e ≡ true → (n : ℕ) × (e ≡ Some n)
 has_number None h = absurd (cc)
 has_number (Some n) h = (n, refl)
-
--- what holds in any case holds
-pub or_true : (a : Bool) → (a || true) ≡ true
-or_true true = refl
-or_true false = refl
-
-and_false : (a : Bool) → (a && false) ≡ false
-and_false true = refl
-and_false false = refl
 
 -- without a finished record the same writes are under way
 busy-without : (b t : ℕ) (rs : List Record) (r : Record) → Ascends rs → find_record t rs ≡ Some r → is_under_way r ≡ false → busy_on b (without t rs) ≡ busy_on b rs
