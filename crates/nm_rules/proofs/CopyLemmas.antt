@@ -104,7 +104,8 @@ region-some blocks size region some within =
           omega (arith, enough, split, same_sum, some)
     ]) refl
 
-off-last : (a b : Bool) → b ≡ false → (a && b) ≡ false
+-- a test whose last part fails
+pub off-last : (a b : Bool) → b ≡ false → (a && b) ≡ false
 off-last true b is = is
 off-last false b is = refl
 

@@ -9,6 +9,7 @@ pub mod ClaimLemmas
 pub mod ClearLemmas
 pub mod CopyLemmas
 pub mod CopyReadLemmas
+pub mod CopyWriteLemmas
 pub mod DirtyLemmas
 pub mod ElectLemmas
 pub mod GoneAgreeLemmas
