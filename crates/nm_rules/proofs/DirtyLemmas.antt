@@ -79,7 +79,7 @@ dirty-at (count ∷ writes) (behind ∷ flags) zero inside some =
 dirty-at (count ∷ writes) (behind ∷ flags) (suc k) inside some = dirty-at writes flags k (omega (arith, inside)) some
 
 -- what is marked behind is one of the regions
-behind-inside : (flags : List Bool) (k : ℕ) → get_or flags k false ≡ true → k < length flags
+pub behind-inside : (flags : List Bool) (k : ℕ) → get_or flags k false ≡ true → k < length flags
 behind-inside [] k is = cc
 behind-inside (behind ∷ flags) zero is = omega arith
 behind-inside (behind ∷ flags) (suc k) is = omega (arith, behind-inside flags k is)

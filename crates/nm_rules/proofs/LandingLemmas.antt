@@ -1,14 +1,16 @@
 -- Writes without an entry take effect one after the other, over a plain list of records: what the
 -- array becomes, and how far each write and each read is.
-use Rattle.std.proofs.Common.{◌≡◌, ◌≢◌, ℕ, ◌+◌, ◌<◌, ◌==◌, Bool, true, false, List, [], ◌∷◌, map, length, Option, None, Some, is_none, refl, sym, ap, ◌∙◌, subst, arith, slice_get, slice_set, length-set, nat_lt, cond, if◌then◌else◌, ne_eqb, MatchBool, inl, inr}
+use Rattle.std.proofs.Common.{◌≡◌, ◌≢◌, ℕ, ◌+◌, ◌<◌, ◌==◌, Bool, true, false, List, [], ◌∷◌, ◌++◌, map, length, length-append, append_assoc, append-nil, Option, None, Some, is_none, refl, sym, ap, ◌∙◌, subst, arith, slice_get, slice_set, length-set, nat_lt, cond, if◌then◌else◌, ne_eqb, MatchBool, inl, inr}
 use Rattle.std.proofs.lemmas.Bool.Decides.{nat_tests, eqb_tells}
 use Rattle.nm_replay.specs.declared.block.Block.{Block}
 use Rattle.nm_replay.specs.declared.entry.Entry.{Entry}
 use Rattle.nm_replay.specs.Events.{Event, Lands, entries_of, marks_of, entry_of_write}
-use Rattle.nm_replay.specs.History.{Legal}
+use Rattle.nm_replay.specs.History.{Consistent, Legal, NumberedFrom}
 use Rattle.nm_replay.specs.WriteLives.{WriteLife, WriteLives, Begun, Landed}
 use Rattle.nm_replay.specs.ReadLives.{ReadLife, ReadLives, NotBegun, Closed}
 use Rattle.nm_replay.proofs.Arrays.{slice_get-set_same, slice_get-set_other}
+use Rattle.nm_replay.proofs.Numbering.{numbered-append}
+use Rattle.nm_replay.proofs.Pushing.{consistent-write}
 use Rattle.nm_fanout.specs.declared.write_record.Record.{Record}
 use Rattle.nm_fanout.specs.Record.{is_under_way, with_entry}
 use Rattle.nm_fanout.specs.Records.{Ascends, AllAbove, OneWriterABlock, find_record, busy_on, unlanded}
@@ -223,3 +225,27 @@ unlanded-all next (r ∷ rs) =
           let nil : missing r.entry ≡ 0 = ap (λ b. cond b 1 0) has in
           omega (arith, waiting-more r (landed_all next rs), nil, unlanded-all next rs)
     ]) refl
+
+-- their numbers rise from the next one
+pub landing-numbered : (next : ℕ) (rs : List Record) → NumberedFrom next (landing next rs)
+landing-numbered next [] = tt
+landing-numbered next (r ∷ rs) =
+    elim (is_none r.entry) as (λ b. NumberedFrom next (cond b (entry_of_write next r.ticket r.block (written r) ∷ landing (next + 1) rs) (landing next rs))) [
+      | true ↦ (refl, landing-numbered (next + 1) rs)
+      | false ↦ landing-numbered next rs
+    ]
+
+-- and they keep a history consistent
+pub landing-consistent : (first next : ℕ) (rs : List Record) (kept : List Entry) → NumberedFrom first kept → next ≡ first + length kept → Consistent kept → Consistent (kept ++ landing next rs)
+landing-consistent first next [] kept numbers is consistent = subst (λ (es : List Entry). Consistent es) (sym (append-nil kept)) consistent
+landing-consistent first next (r ∷ rs) kept numbers is consistent =
+    let e : Entry = entry_of_write next r.ticket r.block (written r) in
+    (elim (is_none r.entry) as (λ b. Consistent (kept ++ cond b (e ∷ landing (next + 1) rs) (landing next rs))) [
+      | true ↦
+          let more : List Entry = kept ++ e ∷ [] in
+          let size : next + 1 ≡ first + length more = omega (arith, is, length-append kept (e ∷ [])) in
+          subst (λ (es : List Entry). Consistent es) (append_assoc kept (e ∷ []) (landing (next + 1) rs))
+          (landing-consistent first (next + 1) rs more (numbered-append first kept (e ∷ []) numbers (is, tt)) size
+          (consistent-write first kept r.ticket next r.block (written r) numbers is consistent))
+      | false ↦ landing-consistent first next rs kept numbers is consistent
+    ])

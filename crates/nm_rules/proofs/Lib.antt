@@ -12,6 +12,7 @@ pub mod CopyReadLemmas
 pub mod CopyWriteLemmas
 pub mod DirtyLemmas
 pub mod ElectLemmas
+pub mod FailoverLemmas
 pub mod GoneAgreeLemmas
 pub mod GoneArrayLemmas
 pub mod GoneLemmas
@@ -20,8 +21,10 @@ pub mod LandLemmas
 pub mod LandingLemmas
 pub mod LeftLemmas
 pub mod LegLemmas
+pub mod LostLemmas
 pub mod MarkLemmas
 pub mod MovedLemmas
+pub mod OutLemmas
 pub mod OwedLemmas
 pub mod PromoteLemmas
 pub mod PushLemmas
