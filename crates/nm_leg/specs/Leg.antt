@@ -2,6 +2,7 @@
 use Rattle.std.specs.Prelude.{◌≡◌, ◌≢◌, ℕ, ◌+◌, ◌%◌, ◌^◌, Bool, IsTrue, IsFalse, if◌then◌else◌}
 use Rattle.std.specs.Prelude.{List, ◌++◌, length, replicate, take, drop, Some, slice_get, slice_set}
 use Rattle.nm_replay.specs.declared.block.Block.{Block}
+use Rattle.nm_replay.specs.declared.block.TheConstants.{BLOCK_BYTES}
 use Rattle.nm_replay.specs.Array.{Array}
 
 -- An array of blocks as reads find it, the same array as a loss of power would leave it,
@@ -30,7 +31,7 @@ torn_block bytes was = block_of (take 256 bytes ++ drop 256 was.0)
 
 -- an array of so many blocks, with one byte in every place
 abbrev pub filled_array : ℕ → ℕ → Array
-filled_array blocks byte = replicate blocks (block_of (replicate 512 byte))
+filled_array blocks byte = replicate blocks (block_of (replicate BLOCK_BYTES byte))
 
 -- a leg of so many blocks of one byte, all of it durable, of which no call has failed
 abbrev pub filled_leg : ℕ → ℕ → Leg

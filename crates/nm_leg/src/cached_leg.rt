@@ -1,4 +1,5 @@
 ghost use Rattle.std.specs.Prelude.{◌≡◌, ◌<◌, true, length, slice_get, is_ok, Some, IfOk, OnErr};
+ghost use Rattle.nm_replay.specs.declared.block.TheConstants.{BLOCK_BYTES};
 ghost use Rattle.nm_leg.specs.Leg.{WritesLeg, zeroed_leg};
 
 use crate::{LegFault, LegPart};
@@ -58,7 +59,7 @@ impl LegPart for CachedLeg {
 
     fn write(&mut self, at: u64, bytes: &[u8]) -> Result<(), LegFault>
         requires block { at < length (of_cached self.old).contents }
-        requires bytes { length bytes.now ≡ 512 }
+        requires bytes { length bytes.now ≡ BLOCK_BYTES }
         ensures cached { (of_cached self.new).durable ≡ (of_cached self.old).durable }
         ensures writes { WritesLeg true (is_ok result) at bytes.now
             (of_cached self.old) (of_cached self.new) }

@@ -1,4 +1,5 @@
 ghost use Rattle.std.specs.Prelude.{◌≡◌, ◌+◌, ◌%◌, ◌^◌, ◌<◌, length, is_ok};
+ghost use Rattle.nm_replay.specs.declared.block.TheConstants.{BLOCK_BYTES};
 ghost use Rattle.nm_leg.specs.Leg.{ReadsLeg, WritesLeg, SyncsLeg};
 
 use crate::{LegFault, LegPart};
@@ -67,7 +68,7 @@ impl<L: LegPart> LegPart for CountingLeg<L> {
 
     fn write(&mut self, at: u64, bytes: &[u8]) -> Result<(), LegFault>
         requires block { at < length (L.model self.old.leg).contents }
-        requires bytes { length bytes.now ≡ 512 }
+        requires bytes { length bytes.now ≡ BLOCK_BYTES }
         ensures counted { self.new.calls ≡ (self.old.calls + 1) % 2 ^ 64 }
         ensures writes { WritesLeg L.honest (is_ok result) at bytes.now (L.model self.old.leg)
             (L.model self.new.leg) }

@@ -1,9 +1,10 @@
 ghost use Rattle.std.specs.Prelude.{◌≡◌, ◌+◌, ◌%◌, ◌^◌, ◌<◌, true, length, refl, is_ok, slice_get, slice_set, Some, IfSome, IfOk, IsErr, OnErr};
+ghost use Rattle.nm_replay.specs.declared.block.TheConstants.{BLOCK_BYTES};
 ghost use Rattle.nm_leg.specs.Leg.{WritesLeg, filled_leg, torn_block};
 
 use crate::fuse::Fuse;
 use crate::{LegFault, LegPart};
-use nm_replay::{Block, Memory};
+use nm_replay::{BLOCK_BYTES, Block, Memory};
 use std::alloc::Global;
 use std::cell::Cell;
 
@@ -23,7 +24,7 @@ pub struct FuseLeg {
 
 /// Writes the first of the bytes to the block.
 fn tear(block: &mut Block, bytes: &[u8])
-    requires { length bytes.now ≡ 512 }
+    requires { length bytes.now ≡ BLOCK_BYTES }
     ensures { block.new ≡ torn_block bytes.now block.old }
 {
     block.0[..TORN].copy_from_slice(&bytes[..TORN]);
@@ -47,7 +48,7 @@ impl FuseLeg {
         ensures memory { OnErr result (0 < blocks) }
     {
         let mut all = Vec::new(alloc);
-        all.resize(blocks as usize, Block([byte; 512]))?;
+        all.resize(blocks as usize, Block([byte; BLOCK_BYTES]))?;
         Ok(FuseLeg {
             blocks: all,
             faults: 0,
@@ -120,7 +121,7 @@ impl LegPart for FuseLeg {
 
     fn write(&mut self, at: u64, bytes: &[u8]) -> Result<(), LegFault>
         requires block { at < length (of_fuse self.old).contents }
-        requires bytes { length bytes.now ≡ 512 }
+        requires bytes { length bytes.now ≡ BLOCK_BYTES }
         ensures torn { IfSome (slice_get (of_fuse self.old).contents at) (λ was. OnErr result
             ((of_fuse self.new).contents
             ≡ slice_set (of_fuse self.old).contents at (torn_block bytes.now was))) }

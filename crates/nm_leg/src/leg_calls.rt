@@ -1,5 +1,6 @@
 ghost use Rattle.nm_leg.specs.Leg.{leg_type};
 ghost use Rattle.std.specs.Prelude.{◌≡◌, ◌<◌, length, is_ok};
+ghost use Rattle.nm_replay.specs.declared.block.TheConstants.{BLOCK_BYTES};
 ghost use Rattle.nm_leg.specs.LegCalls.{HasBlock, ReadsLegAt, WritesLegAt, SyncsLegAt};
 
 use crate::{LegFault, LegPart};
@@ -29,7 +30,7 @@ pub fn write_leg_at<L: LegPart>(
 ) -> Result<(), LegFault>
     requires leg { leg < length legs.old }
     requires block { HasBlock L.model legs.old leg at }
-    requires bytes { length bytes.now ≡ 512 }
+    requires bytes { length bytes.now ≡ BLOCK_BYTES }
     ensures { WritesLegAt (leg_type L.model L.honest) (is_ok result) leg at bytes.now
         legs.old legs.new }
 {

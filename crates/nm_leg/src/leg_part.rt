@@ -1,4 +1,5 @@
 ghost use Rattle.std.specs.Prelude.{◌≡◌, ◌<◌, Bool, length, is_ok};
+ghost use Rattle.nm_replay.specs.declared.block.TheConstants.{BLOCK_BYTES};
 ghost use Rattle.nm_leg.specs.Leg.{Leg, ReadsLeg, WritesLeg, SyncsLeg};
 
 use crate::LegFault;
@@ -28,7 +29,7 @@ pub trait LegPart: Drop {
     /// Writes 512 bytes to the block at `at`. A fault may leave any bytes in that block.
     fn write(&mut self, at: u64, bytes: &[u8]) -> Result<(), LegFault>
         requires block { at < length (model self.old).contents }
-        requires bytes { length bytes.now ≡ 512 }
+        requires bytes { length bytes.now ≡ BLOCK_BYTES }
         ensures { WritesLeg honest (is_ok result) at bytes.now (model self.old) (model self.new) };
 
     /// Makes durable what was written, so that a loss of power leaves it.

@@ -1,4 +1,5 @@
 ghost use Rattle.std.specs.Prelude.{◌≡◌, false, refl, replicate, is_ok};
+ghost use Rattle.nm_replay.specs.declared.block.TheConstants.{BLOCK_BYTES};
 ghost use Rattle.nm_leg.specs.Leg.{ReadsLeg, block_of, zeroed_leg};
 ghost use Rattle.nm_leg.specs.TestLegs.{of_lying};
 
@@ -33,7 +34,7 @@ impl LegPart for LyingLeg {
     }
 
     fn read(&mut self, at: u64, into: &mut Block) -> Result<(), LegFault>
-        ensures lies { into.new ≡ block_of (replicate 512 255) }
+        ensures lies { into.new ≡ block_of (replicate BLOCK_BYTES 255) }
         ensures reads { ReadsLeg false (is_ok result) at
             (of_lying self.old) (of_lying self.new) into.old into.new }
     {

@@ -2,7 +2,7 @@ ghost use Rattle.std.specs.Prelude.{◌≡◌, ◌<◌, true, length, refl, slic
 ghost use Rattle.nm_leg.specs.Leg.{filled_array};
 
 use crate::{LegFault, LegPart};
-use nm_replay::{Block, Memory};
+use nm_replay::{BLOCK_BYTES, Block, Memory};
 use std::alloc::Global;
 use std::marker::Model;
 
@@ -38,7 +38,7 @@ impl MemLeg {
         ensures memory { OnErr result (0 < blocks) }
     {
         let mut all = Vec::new(alloc);
-        all.resize(blocks as usize, Block([byte; 512]))?;
+        all.resize(blocks as usize, Block([byte; BLOCK_BYTES]))?;
         Ok(MemLeg { blocks: all })
     }
 
