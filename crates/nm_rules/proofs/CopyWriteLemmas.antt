@@ -53,7 +53,7 @@ module _ {L : Type 0} (type : LegType L) (s : StripeState L) (leg : ℕ) (copy :
   master-same : contents_of type.model legs s.master ≡ contents_of type.model s.legs s.master
   master-same = writes-other type true s.legs legs copy.leg at s.master bytes.0 w master_other
 
-  array-same : (records : List Record) → laid_from 0 records (contents_of type.model legs s.master) ≡ laid_from 0 records (contents_of type.model s.legs s.master)
+  pub array-same : (records : List Record) → laid_from 0 records (contents_of type.model legs s.master) ≡ laid_from 0 records (contents_of type.model s.legs s.master)
   array-same records = ap (λ (xs : List Block). laid_from 0 records xs) master-same
 
   -- the place of the block in its region

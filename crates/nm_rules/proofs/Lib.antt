@@ -8,6 +8,7 @@ pub mod ChunkLemmas
 pub mod ClaimLemmas
 pub mod ClearLemmas
 pub mod CopyLemmas
+pub mod CopyMoveLemmas
 pub mod CopyReadLemmas
 pub mod CopyWriteLemmas
 pub mod DirtyLemmas
