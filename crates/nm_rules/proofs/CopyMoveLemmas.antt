@@ -34,11 +34,11 @@ passes j region place c leg_is region_is low =
     let three : nat_lt place c.cursor ≡ true = grind (arith, nat_tests) in
     rw (one, two, three) refl
 
-either : (a b : Bool) → (a || b) ≡ true → (a ≡ true) ⊎ (b ≡ true)
+pub either : (a b : Bool) → (a || b) ≡ true → (a ≡ true) ⊎ (b ≡ true)
 either true b is = inl refl
 either false b is = inr is
 
-or-first : (a b : Bool) → a ≡ true → (a || b) ≡ true
+pub or-first : (a b : Bool) → a ≡ true → (a || b) ≡ true
 or-first true b is = refl
 or-first false b is = cc
 
@@ -46,18 +46,18 @@ or-last : (a b : Bool) → b ≡ true → (a || b) ≡ true
 or-last true b is = refl
 or-last false b is = is
 
-or-both : (a b : Bool) → a ≡ false → b ≡ false → (a || b) ≡ false
+pub or-both : (a b : Bool) → a ≡ false → b ≡ false → (a || b) ≡ false
 or-both true b is bs = cc
 or-both false b is bs = bs
 
-or-off : (a b : Bool) → (a || b) ≡ false → a ≡ false
+pub or-off : (a b : Bool) → (a || b) ≡ false → a ≡ false
 or-off true b is = cc
 or-off false b is = refl
 
 module _ {L : Type 0} (type : LegType L) (s : StripeState L) (leg : ℕ) (copy : CopyPlace) (chunk : Chunk) (k : Keeps type s) (r : Ready type s leg copy chunk)
     (runs : s.stopped ≡ false) (legs : List L) (bytes : Block) (filled : length chunk.blocks ≡ chunk.length) (next : slice_get chunk.blocks chunk.written ≡ Some bytes)
     (w : WritesLegAt type true copy.leg (copy_start s.place.region copy + chunk.written) bytes.0 s.legs legs) where
-  is-open : (s.copy ≡ Some copy) × (s.chunk ≡ Some chunk)
+  pub is-open : (s.copy ≡ Some copy) × (s.chunk ≡ Some chunk)
   is-open = r.was (omega (arith, filled, r.more))
 
   -- the chunk with one block more that is written
@@ -101,7 +101,7 @@ module _ {L : Type 0} (type : LegType L) (s : StripeState L) (leg : ℕ) (copy :
       omega (arith, parts, whole, low)
 
   -- a place of the copy's region: the copy has passed it, or it is one of the chunk that is written
-  behind-or-written : chunk.written + 1 ≡ chunk.length → (j block : ℕ) → copy.leg ≡ j → copy.region ≡ block / s.place.region
+  pub behind-or-written : chunk.written + 1 ≡ chunk.length → (j block : ℕ) → copy.leg ≡ j → copy.region ≡ block / s.place.region
       → block % s.place.region < copy.cursor + chunk.length
       → (is_clear j block s ≡ true) ⊎ ((j ≡ copy.leg) × ((i : ℕ) × (i < chunk.written + 1) × (block ≡ copy_start s.place.region copy + i)))
   behind-or-written last j block leg_is region_is low =
@@ -117,7 +117,7 @@ module _ {L : Type 0} (type : LegType L) (s : StripeState L) (leg : ℕ) (copy :
       ]) refl
 
   -- a leg that is out is not the copy's
-  out_other : (j : ℕ) → is_out (leg_state j s) ≡ true → copy.leg ≢ j
+  pub out_other : (j : ℕ) → is_out (leg_state j s) ≡ true → copy.leg ≢ j
   out_other j out e = let in_it : is_out (leg_state j s) ≡ false = subst (λ (i : ℕ). is_out (leg_state i s) ≡ false) e (ap (λ (st : LegState). is_out st) r.is_copy.joining) in let clash : true ≡ false = sym out ∙ in_it in cc
 
   not_passed : (j region place : ℕ) (c : CopyPlace) → c.leg ≡ copy.leg → is_out (leg_state j s) ≡ true → has_copied j region place (Some c) ≡ false

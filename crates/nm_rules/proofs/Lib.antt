@@ -7,6 +7,7 @@ pub mod CauseLemmas
 pub mod ChunkLemmas
 pub mod ClaimLemmas
 pub mod ClearLemmas
+pub mod CopyEndLemmas
 pub mod CopyLemmas
 pub mod CopyMoveLemmas
 pub mod CopyReadLemmas
