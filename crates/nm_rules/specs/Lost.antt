@@ -8,35 +8,19 @@ use Rattle.nm_choice.specs.Choice.{elected}
 use Rattle.nm_fanout.specs.declared.write_record.Record.{Record}
 use Rattle.nm_fanout.specs.Record.{without_leg, with_entry}
 use Rattle.nm_fanout.specs.Records.{unlanded}
+pub use Rattle.nm_fanout.specs.Records.{landed_all}
 use Rattle.nm_regions.specs.declared.copy_place.CopyPlace.{CopyPlace}
-use Rattle.nm_regions.specs.LegFlags.{LegRegions, all_marked}
+use Rattle.nm_regions.specs.LegFlags.{all_marked}
+pub use Rattle.nm_regions.specs.LegFlags.{dirty_marked, gone_out as dirty_and_out}
 use Rattle.nm_regions.specs.Changes.{copy_but_of, with_leg}
 use Rattle.nm_rules.specs.Array.{written}
 use Rattle.nm_rules.specs.Kept.{kept_with}
 use Rattle.nm_rules.specs.State.{StripeState, Chunk, next_number, is_writing, table}
 
--- the flags of a leg, each set too where its region has a write under way
-abbrev pub dirty_marked : List ℕ → List Bool → List Bool
-dirty_marked writes [] = []
-dirty_marked [] (behind ∷ flags) = behind ∷ flags
-dirty_marked (count ∷ writes) (behind ∷ flags) =
-    (if count == 0 then behind else true) ∷ dirty_marked writes flags
-
--- a leg's regions once it is out: each with a write under way is behind
-abbrev pub dirty_and_out : List ℕ → LegRegions → LegRegions
-dirty_and_out writes leg = record { out = true; behind = dirty_marked writes leg.behind }
-
 -- the open chunk, unless it is of a copy of this leg
 abbrev pub chunk_but_of : ℕ → Option CopyPlace → Option Chunk → Option Chunk
 chunk_but_of leg None chunk = chunk
 chunk_but_of leg (Some copy) chunk = if copy.leg == leg then None else chunk
-
--- the records once each write without an entry got one, by rising ticket, from this number on
-abbrev pub landed_all : ℕ → List Record → List Record
-landed_all next [] = []
-landed_all next (r ∷ rs) =
-    if is_none r.entry then with_entry next r ∷ landed_all (next + 1) rs
-    else r ∷ landed_all next rs
 
 -- the entries that these writes got
 abbrev pub landing : ℕ → List Record → List Entry

@@ -16,14 +16,8 @@ use Rattle.nm_regions.specs.declared.copy_place.CopyPlace.{CopyPlace}
 use Rattle.nm_regions.specs.LegFlags.{LegRegions}
 use Rattle.nm_regions.specs.Table as regions
 use Rattle.nm_regions.specs.Table.{RegionTable, regions_of}
+pub use Rattle.nm_resync.specs.Chunk.{Chunk}
 use Rattle.nm_rules.specs.declared.at.At.{At}
-
--- the open chunk of a copy: how many blocks it has, those that are read, and how many of them are
--- written
-pub record Chunk : Type 0 where
-  pub length : ℕ
-  pub blocks : List Block
-  pub written : ℕ
 
 -- a stripe: its place in the mirror; its legs with their states and regions; the open copy; the
 -- records of writes by rising ticket; the kept history, its first number and its total
