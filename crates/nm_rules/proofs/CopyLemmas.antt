@@ -207,3 +207,9 @@ module _ {L : Type 0} (type : LegType L) (s : StripeState L) (leg : ℕ) (copy :
       by_chunk : (o : Option Chunk) → s.chunk ≡ o → Ready type s leg copy chunk
       by_chunk None none = ready-new none
       by_chunk (Some h) some = ready-open h some
+
+-- what is known where a step of a copy goes on
+pub ready-on : {L : Type 0} (type : LegType L) (s : StripeState L) (leg : ℕ) (copy : CopyPlace) (chunk : Chunk) → Keeps type s → GoesOn s leg copy chunk → Ready type s leg copy chunk
+ready-on type s leg copy chunk k on =
+    let rows = none_holds (copy_more_rows s leg) on.no_more_cause in
+    ready type s leg copy chunk k (may_copy s leg on.no_cause) on.copy_is on.chunk_is (other-off s leg s.copy rows.0) (map_off (λ (r : Record). Busy r.ticket) (busy_chunk leg s) rows.1.0)

@@ -23,6 +23,7 @@ pub mod LandLemmas
 pub mod LandingLemmas
 pub mod LeftLemmas
 pub mod LegLemmas
+pub mod LosesLemmas
 pub mod LostLemmas
 pub mod MarkLemmas
 pub mod MovedLemmas
