@@ -27,6 +27,7 @@ pub mod LosesLemmas
 pub mod LostLemmas
 pub mod MarkLemmas
 pub mod MovedLemmas
+pub mod OpeningLemmas
 pub mod OutLemmas
 pub mod OwedLemmas
 pub mod PromoteLemmas
