@@ -25,6 +25,7 @@ pub mod LeftLemmas
 pub mod LegLemmas
 pub mod LosesLemmas
 pub mod LostLemmas
+pub mod LostStepLemmas
 pub mod MarkLemmas
 pub mod MovedLemmas
 pub mod OpeningLemmas
