@@ -79,7 +79,8 @@ pub record Ready {L : Type 0} (type : LegType L) (s : StripeState L) (leg : ℕ)
   pub holds : IsTrue type.honest → HoldsArray type.model copy chunk s
   pub was : 0 < length chunk.blocks → (s.copy ≡ Some copy) × (s.chunk ≡ Some chunk)
 
-other-off : {L : Type 0} (stripe : StripeState L) (leg : ℕ) (o : Option CopyPlace) → option_and_then (λ (c : CopyPlace). when (not (c.leg == leg)) (OtherCopy c.leg)) o ≡ None
+-- where no other copy is open, the open one is of this leg
+pub other-off : {L : Type 0} (stripe : StripeState L) (leg : ℕ) (o : Option CopyPlace) → option_and_then (λ (c : CopyPlace). when (not (c.leg == leg)) (OtherCopy c.leg)) o ≡ None
     → (c : CopyPlace) → o ≡ Some c → c.leg ≡ leg
 other-off stripe leg None none c is = cc
 other-off stripe leg (Some d) none c is =

@@ -11,6 +11,7 @@ pub mod CopyEndLemmas
 pub mod CopyLemmas
 pub mod CopyMoveLemmas
 pub mod CopyReadLemmas
+pub mod CopySteps
 pub mod CopyWriteLemmas
 pub mod DirtyLemmas
 pub mod ElectLemmas
