@@ -1,5 +1,6 @@
 // The same work in plain Rust, with the standard library alone: the same rules are asked, the same
 // records and the same history are kept.
+use std::collections::VecDeque;
 use std::ops::Range;
 use std::sync::Arc;
 use std::time::Instant;
@@ -9,6 +10,7 @@ const STEPS: u64 = 16_384;
 const ROUNDS: u32 = 40;
 const BATCH: u64 = 128;
 const MOST_RECORDS: usize = 256;
+const MOST_ENTRIES: usize = 1_024;
 const NUMBERS: u64 = 1 << 63;
 const LEGS: usize = 2;
 
@@ -79,11 +81,27 @@ struct Receipt {
     number: u64,
 }
 
+// The last entries, and the count of all.
+struct Kept {
+    ring: VecDeque<Entry>,
+    total: u64,
+}
+
+impl Kept {
+    fn push(&mut self, entry: Entry) {
+        if self.ring.len() == MOST_ENTRIES {
+            self.ring.pop_front();
+        }
+        self.ring.push_back(entry);
+        self.total += 1;
+    }
+}
+
 struct Stripe {
     legs: Vec<Vec<Block>>,
     records: Vec<Record>,
     tickets: u64,
-    kept: Vec<Entry>,
+    kept: Kept,
     stopped: bool,
 }
 
@@ -91,16 +109,19 @@ impl Stripe {
     fn open(legs: Vec<Vec<Block>>) -> Stripe {
         Stripe {
             legs,
-            records: Vec::new(),
+            records: Vec::with_capacity(MOST_RECORDS),
             tickets: 0,
-            kept: Vec::new(),
+            kept: Kept {
+                ring: VecDeque::with_capacity(MOST_ENTRIES),
+                total: 0,
+            },
             stopped: false,
         }
     }
 
     fn is_exhausted(&self) -> bool {
         let unlanded = self.records.iter().filter(|r| r.entry.is_none()).count();
-        (self.kept.len() + unlanded) as u64 >= NUMBERS
+        self.kept.total + unlanded as u64 >= NUMBERS
     }
 
     fn begin(&mut self, block: u64, data: Data) -> Result<u64, (Refusal, Data)> {
@@ -142,7 +163,7 @@ impl Stripe {
         let bytes: &[u8; 512] = record.data.bytes().try_into().unwrap();
         self.legs[leg][record.block as usize].0 = *bytes;
         if leg == 0 {
-            let number = self.kept.len() as u64;
+            let number = self.kept.total;
             self.kept.push(Entry {
                 seq: number,
                 kind: Kind::Write(ticket),
@@ -182,7 +203,7 @@ impl Stripe {
         if self.is_exhausted() {
             return Err(Refusal::Exhausted);
         }
-        let number = self.kept.len() as u64;
+        let number = self.kept.total;
         *into = self.legs[0][block as usize];
         self.kept.push(Entry {
             seq: number,
@@ -259,7 +280,7 @@ fn steps(stripe: &mut Stripe, work: Work, received: &Arc<[u8]>, count: u64) -> u
 
 fn history_sum(stripe: &Stripe) -> u64 {
     let mut sum = 0u64;
-    for entry in &stripe.kept {
+    for entry in &stripe.kept.ring {
         let ticket = match entry.kind {
             Kind::Read => 0,
             Kind::Write(ticket) => ticket,

@@ -1,7 +1,11 @@
 -- Entries that agree with those before them, one after the other: the form for inductions.
 use Rattle.std.proofs.Common.{◌≡◌, List, [], ◌∷◌, ◌++◌, append_assoc, append-nil, refl, sym, ap, ◌∙◌, subst}
+use Rattle.std.specs.Prelude.{Option, None, Some, IfSome}
+use Rattle.std.specs.Option.{option_or}
+use Rattle.nm_replay.specs.declared.block.Block.{Block}
 use Rattle.nm_replay.specs.declared.entry.Entry.{Entry}
-use Rattle.nm_replay.specs.History.{Agrees, IsNumbered, Consistent}
+use Rattle.nm_replay.specs.History.{last_on, Agrees, IsNumbered, Consistent}
+use Rattle.nm_replay.proofs.LastOn.{last_on-append}
 
 -- after `before`, each of the entries agrees with all that stand before it
 abbrev pub AgreeAfter : List Entry → List Entry → Type 0
@@ -41,6 +45,24 @@ pub agree-rest : (xs ys before : List Entry) → AgreeAfter before (xs ++ ys) �
 agree-rest [] ys before all = subst (λ b. AgreeAfter b ys) (sym (append-nil before)) all
 agree-rest (x ∷ xs) ys before all =
     subst (λ b. AgreeAfter b ys) (append_assoc before (x ∷ []) xs) (agree-rest xs ys (before ++ x ∷ []) all.1)
+
+-- what holds of the last entry on a block holds of that of an end piece
+pub later : (latest earlier : Option Block) (P : Block → Type 0) → IfSome (option_or latest earlier) P → IfSome latest P
+later None earlier P all = tt
+later (Some bytes) earlier P all = all
+
+-- entries agree with fewer entries before them
+agrees-fewer : (front before : List Entry) (e : Entry) → Agrees (front ++ before) e → Agrees before e
+agrees-fewer front before e agrees = λ read.
+    later (last_on e.block before) (last_on e.block front) (λ last. e.bytes ≡ last)
+    (subst (λ o. IfSome o (λ last. e.bytes ≡ last)) (last_on-append e.block front before) (agrees read))
+
+pub agree-fewer : (es front before : List Entry) → AgreeAfter (front ++ before) es → AgreeAfter before es
+agree-fewer [] front before all = tt
+agree-fewer (x ∷ xs) front before all = (
+  agrees-fewer front before x all.0,
+  agree-fewer xs front (before ++ x ∷ []) (subst (λ b. AgreeAfter b xs) (append_assoc front before (x ∷ [])) all.1),
+)
 
 -- the two forms of consistency
 pub consistent-agree : (es : List Entry) → Consistent es → AgreeAfter [] es

@@ -1,5 +1,5 @@
 -- Consistent entries: one more at the end, and pieces of them.
-use Rattle.std.proofs.Common.{◌≡◌, ℕ, ◌+◌, ◌-◌, ◌<◌, List, [], ◌∷◌, ◌++◌, length, take, drop, get_or, refl, sym, subst, arith, slice_get}
+use Rattle.std.proofs.Common.{◌≡◌, ℕ, ◌+◌, ◌-◌, ◌<◌, List, [], ◌∷◌, ◌++◌, length, take, drop, get_or, refl, sym, subst, arith, slice_get, append-nil}
 use Rattle.std.specs.Prelude.{Option, Some, IfSome}
 use Rattle.std.specs.Bool.{⊤}
 use Rattle.std.proofs.lemmas.List.{take_more, take-append-drop}
@@ -7,8 +7,8 @@ use Rattle.std.proofs.lemmas.Option.{MatchOption-at_some, slice_get-get_or}
 use Rattle.nm_replay.specs.declared.entry.Entry.{Entry}
 use Rattle.nm_replay.specs.Following.{MayFollow}
 use Rattle.nm_replay.specs.History.{NumberedFrom, IsNumbered, Consistent}
-use Rattle.nm_replay.proofs.Agreement.{agree-append, agree-front, agree-rest, consistent-agree, agree-consistent}
-use Rattle.nm_replay.proofs.Numbering.{numbered-append, numbered-front, numbered-rest, numbered-at}
+use Rattle.nm_replay.proofs.Agreement.{AgreeAfter, agree-append, agree-front, agree-rest, agree-fewer, consistent-agree, agree-consistent}
+use Rattle.nm_replay.proofs.Numbering.{numbered-append, numbered-front, numbered-rest, numbered-somewhere, numbered-at}
 
 -- the last of numbered entries has the number that its place gives it
 pub last-number : (x : Entry) (xs : List Entry) → NumberedFrom (x.seq + 1) xs → (y : Entry) × (slice_get (x ∷ xs) (length (x ∷ xs) - 1) ≡ Some y) × (y.seq ≡ x.seq + length xs)
@@ -41,6 +41,10 @@ pub is_numbered-front : (xs ys : List Entry) → IsNumbered (xs ++ ys) → IsNum
 is_numbered-front [] ys numbers = tt
 is_numbered-front (x ∷ xs) ys numbers = numbered-front (x.seq + 1) xs ys numbers
 
+pub is_numbered-rest : (xs ys : List Entry) → IsNumbered (xs ++ ys) → IsNumbered ys
+is_numbered-rest [] ys numbers = numbers
+is_numbered-rest (x ∷ xs) ys numbers = numbered-somewhere (x.seq + 1 + length xs) ys (numbered-rest (x.seq + 1) xs ys numbers)
+
 -- no entries at all are consistent
 pub consistent-empty : Consistent []
 consistent-empty = agree-consistent [] tt tt
@@ -62,6 +66,12 @@ pub consistent-front : (xs ys : List Entry) → Consistent (xs ++ ys) → Consis
 consistent-front xs ys consistent =
     agree-consistent xs (is_numbered-front xs ys consistent.numbers)
     (agree-front xs ys [] (consistent-agree (xs ++ ys) consistent))
+
+-- and so is the end piece
+pub consistent-rest : (xs ys : List Entry) → Consistent (xs ++ ys) → Consistent ys
+consistent-rest xs ys consistent =
+    agree-consistent ys (is_numbered-rest xs ys consistent.numbers)
+    (agree-fewer ys xs [] (subst (λ b. AgreeAfter b ys) (sym (append-nil xs)) (agree-rest xs ys [] (consistent-agree (xs ++ ys) consistent))))
 
 -- one entry further along consistent entries
 pub consistent-more : (es : List Entry) (i : ℕ) (d : Entry) → i < length es → Consistent (take i es) → MayFollow (take i es) (get_or es i d) → Consistent (take (i + 1) es)

@@ -2,6 +2,7 @@ pub mod Agreement
 pub mod Arrays
 pub mod Blocks
 pub mod Consistency
+pub mod Dropping
 pub mod Endings
 pub mod LastOn
 pub mod Layings

@@ -3,6 +3,7 @@ use Rattle.std.specs.Prelude.{ℕ, ◌+◌, ◌↔◌, List, ◌++◌, length}
 use Rattle.nm_replay.specs.declared.entry.Entry.{Entry}
 use Rattle.nm_replay.specs.Array.{Array}
 use Rattle.nm_replay.specs.History.{Legal, Consistent, EndsIn}
+use Rattle.nm_replay.specs.Kept.{last_kept}
 
 -- some array and some first number make the entries legal up to `to`
 abbrev pub HasOpening : List Entry → Array → Type 0
@@ -34,3 +35,10 @@ LegalThenLegal =
     → Legal next front from middle
     → Legal (next + length front) piece middle to
     → Legal next (front ++ piece) from to
+
+-- where entries are consistent and end in an array, so are and so do those of them that are kept
+abbrev pub KeptIsConsistent : Type 0
+KeptIsConsistent =
+    (entries : List Entry) (to : Array)
+    → Consistent entries → EndsIn entries to
+    → Consistent (last_kept entries) × EndsIn (last_kept entries) to

@@ -1,7 +1,7 @@
 //! Laws of histories and of events. Each function does nothing: its contract is the law, for every
 //! history and every list of events.
 ghost use Rattle.nm_replay.specs.Laws.{ConsistentIsExplained, ConsistentIsLegal};
-ghost use Rattle.nm_replay.specs.Laws.{EndPieceIsLegal, LegalThenLegal};
+ghost use Rattle.nm_replay.specs.Laws.{EndPieceIsLegal, KeptIsConsistent, LegalThenLegal};
 ghost use Rattle.nm_replay.specs.OrderLaws.{ReadBeforeRead, ReadBeforeWrite, ReadFindsTheLastBytes};
 ghost use Rattle.nm_replay.specs.OrderLaws.{WriteBeforeRead, WriteBeforeWrite};
 ghost use Rattle.nm_replay.specs.ReadLaws.{NoReadEntryBeforeItsBegin, NoReadReplyBeforeItsEntry};
@@ -29,6 +29,12 @@ pub fn consistent_is_explained()
 /// same array.
 pub fn end_piece_is_legal()
     ensures { EndPieceIsLegal }
+{}
+
+/// Of a list of entries that is consistent and ends in an array, the last 1,024 are consistent and
+/// end in that array.
+pub fn kept_is_consistent()
+    ensures { KeptIsConsistent }
 {}
 
 /// A legal list of entries followed by a legal list of entries is legal.

@@ -28,7 +28,7 @@ const WRITE: (&[u8], &[u8]) = (
 );
 
 /// Scripts, each with all that it prints.
-const SCRIPTS: [(&[u8], &[u8]); 7] = [
+const SCRIPTS: [(&[u8], &[u8]); 8] = [
     WRITE,
     (b"mirror 1 1 1 1 rr 0\n", b"history 0 of 0\nlegal yes\n"),
     // The largest number of an entry.
@@ -56,6 +56,12 @@ const SCRIPTS: [(&[u8], &[u8]); 7] = [
     (
         b"\n# one\r\nmirror 2 16 8 4 rr 0\n\n#\x0b\xe2\x80\xa8 mirror\n\nread 007\n#",
         b"value 0 00\nhistory 1 of 1\n0 read 7 00\nlegal yes\n",
+    ),
+    // A ticket is given once: once claimed it names no record.
+    (
+        b"mirror 1 8 4 2 rr 0\nbegin 0 aa\npush 0 0\nclaim 0\nbegin 0 bb\nclaim 0\n",
+        b"begun 0\ncomplete 0\nwritten 0\nbegun 1\nrefused 7 NoTicket\n\
+          history 1 of 1\n0 write 0 0 aa\nlegal yes\n",
     ),
     // A ticket may be any number of 64 bits.
     (
@@ -88,6 +94,26 @@ fn fills_the_records(rt: HostRuntime) -> Result<(), Fail> {
         b"refused 4 Full\ncomplete 0\nrefused 4 Full\nwritten 0\nbegun 256\n",
     )?;
     printed.extend_from_slice(b"history 1 of 1\n0 write 0 0 aa\nlegal yes\n")?;
+    let ran = run_text(rt.alloc(), &text);
+    assert_eq!(rt; ran.out.as_slice(), printed.as_slice());
+    assert_eq!(rt; ran.status, 0);
+    Ok(())
+}
+
+/// Of 1,025 reads the last 1,024 are kept, and all are counted.
+#[test]
+fn keeps_the_last_1024_entries(rt: HostRuntime) -> Result<(), Fail> {
+    let mut text = Vec::from_slice(rt.alloc(), b"mirror 1 8 4 2 rr 0\n")?;
+    let mut printed = Vec::new(rt.alloc());
+    for number in 0..1_025u32 {
+        text.extend_from_slice(b"read 0\n")?;
+        writeln!(printed, "value {number} 00")?;
+    }
+    printed.extend_from_slice(b"history 1024 of 1025\n")?;
+    for number in 1..1_025u32 {
+        writeln!(printed, "{number} read 0 00")?;
+    }
+    printed.extend_from_slice(b"legal yes\n")?;
     let ran = run_text(rt.alloc(), &text);
     assert_eq!(rt; ran.out.as_slice(), printed.as_slice());
     assert_eq!(rt; ran.status, 0);

@@ -145,6 +145,20 @@ fn summary_of<L: LegPart>(answer: &Answer<L>) -> Summary {
     }
 }
 
+/// Does a step that may be asked for.
+fn asked<L: LegPart>(rt: &impl Abort, stripe: &mut Stripe<L>, step: Step<L>) -> Answer<L> {
+    match &step {
+        Step::Begin(block, data) => {
+            assert!(rt; *block < stripe.place().blocks && data.fills_block());
+        }
+        Step::Push(_, leg) => assert!(rt; (*leg as usize) < stripe.legs()),
+        Step::Claim(_) => {}
+        Step::Read(block) => assert!(rt; *block < stripe.place().blocks),
+        Step::Replace(_, _) => assert!(rt; false, "no leg is out"),
+    }
+    stripe.step(step)
+}
+
 /// Gives the steps to `run` as one list, and compares its answers, one a step.
 fn compare<L: LegPart>(
     rt: &impl Abort,
@@ -233,15 +247,20 @@ fn no_number_reaches_two_to_the_63(rt: HostRuntime) -> Result<(), Fail> {
     compare(&rt, rt.alloc(), &mut past, &NO_NUMBER_LEFT)
 }
 
-#[test]
-fn no_more_than_256_records_stand(rt: HostRuntime) -> Result<(), Fail> {
-    let mut stripe = opened(rt.alloc(), false, 300, 0)?;
-    let mut rows = Vec::new(rt.alloc());
+/// 256 begins, and the steps after them.
+fn full_and_after(alloc: Global) -> Result<Vec<(Ask, Summary)>, AllocError> {
+    let mut rows = Vec::new(alloc);
     for ticket in 0..256 {
         rows.push((Ask::Begin(ticket, 0xaa), Summary::Begun(ticket)))?;
     }
     rows.extend_from_slice(&AFTER_256)?;
-    compare(&rt, rt.alloc(), &mut stripe, &rows)
+    Ok(rows)
+}
+
+#[test]
+fn no_more_than_256_records_stand(rt: HostRuntime) -> Result<(), Fail> {
+    let mut stripe = opened(rt.alloc(), false, 300, 0)?;
+    compare(&rt, rt.alloc(), &mut stripe, &full_and_after(rt.alloc())?)
 }
 
 #[test]
@@ -277,29 +296,69 @@ fn a_leg_that_lies_is_believed(rt: HostRuntime) -> Result<(), Fail> {
     read_begin_push(&rt, rt.alloc(), LyingLeg::new(4), &LYING)
 }
 
-/// Does a step. Out of memory nothing has changed, and the step is done once more.
-fn once_or_again<L: LegPart>(
-    rt: &impl Abort,
-    alloc: Global,
-    stripe: &mut Stripe<L>,
-    ask: Ask,
-) -> Result<Summary, Fail> {
-    let before = (stripe.total(), stripe.first_owed());
-    let first = stripe.step(step_of(rt, alloc, stripe, ask)?);
-    if summary_of(&first) != Summary::Refused(Refusal::Memory) {
-        return Ok(summary_of(&first));
+/// The data of each begin among the rows, the last first.
+fn data_of(alloc: Global, rows: &[(Ask, Summary)]) -> Result<Vec<Data>, AllocError> {
+    let mut all = Vec::new(alloc);
+    for (ask, _) in rows.iter().rev() {
+        if let Ask::Begin(_, byte) = ask {
+            all.push(filled(alloc, *byte)?)?;
+        }
     }
-    assert_eq!(rt; (stripe.total(), stripe.first_owed()), before);
-    let again = stripe.step(step_of(rt, alloc, stripe, ask)?);
-    Ok(summary_of(&again))
+    Ok(all)
 }
 
+/// Does the steps one by one, and compares their answers. The data of all begins were made before.
+fn compare_each<L: LegPart>(
+    rt: &impl Abort,
+    stripe: &mut Stripe<L>,
+    mut ready: Vec<Data>,
+    rows: &[(Ask, Summary)],
+) {
+    for (ask, want) in rows {
+        let step = match *ask {
+            Ask::Begin(block, _) => Step::Begin(block, ready.pop().unwrap_or(Data::Zero)),
+            Ask::Push(ticket, leg) => Step::Push(ticket, leg),
+            Ask::Claim(ticket) => Step::Claim(ticket),
+            Ask::Read(block) => Step::Read(block),
+        };
+        let answer = asked(rt, stripe, step);
+        assert_eq!(rt; summary_of(&answer), *want, "at {ask:?}");
+    }
+}
+
+// With one allocation after another refused (`rt try --test --fail-alloc N`) these end without a
+// stripe or have the same answers: after `open` nothing is allocated.
 #[test]
-fn out_of_memory_changes_nothing(rt: HostRuntime) -> Result<(), Fail> {
-    let mut stripe = opened(rt.alloc(), true, 16, 0)?;
-    for (ask, want) in &WRITE_AND_READS {
-        let answer = once_or_again(&rt, rt.alloc(), &mut stripe, *ask)?;
-        assert_eq!(rt; answer, *want, "at {ask:?}");
+fn steps_take_no_memory(rt: HostRuntime) -> Result<(), Fail> {
+    let alloc = rt.alloc();
+    let ready = data_of(alloc, &WRITE_AND_READS)?;
+    let mut stripe = opened(alloc, true, 16, 0)?;
+    compare_each(&rt, &mut stripe, ready, &WRITE_AND_READS);
+    let ready = data_of(alloc, &LAST_NUMBER)?;
+    let mut stripe = opened(alloc, false, 8, 9_223_372_036_854_775_807)?;
+    compare_each(&rt, &mut stripe, ready, &LAST_NUMBER);
+    let rows = full_and_after(alloc)?;
+    let ready = data_of(alloc, &rows)?;
+    let mut stripe = opened(alloc, false, 300, 0)?;
+    compare_each(&rt, &mut stripe, ready, &rows);
+    Ok(())
+}
+
+// Refused memory (`rt try --test --fail-alloc N`), `open` gives back the legs as they were.
+#[test]
+fn a_refused_open_hands_the_legs_back(rt: HostRuntime) -> Result<(), Fail> {
+    let mut legs = Vec::new(rt.alloc());
+    legs.push(MemLeg::filled(rt.alloc(), 4, 0xaa)?)?;
+    legs.push(MemLeg::filled(rt.alloc(), 4, 0xaa)?)?;
+    match Stripe::open(rt.alloc(), at(4), legs, 3, 0) {
+        Ok(stripe) => assert_eq!(rt; stripe.legs(), 2),
+        Err((_memory, mut legs)) => {
+            assert_eq!(rt; legs.len(), 2);
+            let mut into = Block::ZERO;
+            assert!(rt; legs[1].len() == 4);
+            assert_eq!(rt; legs[1].read(3, &mut into), Ok(()));
+            assert_eq!(rt; into, Block([0xaa; 512]));
+        }
     }
     Ok(())
 }
@@ -376,10 +435,10 @@ fn a_refusal_prints_its_number_and_name(rt: HostRuntime) -> Result<(), Fail> {
         "1 Busy 7"
     );
     assert_eq!(rt;
-        Refusal::Memory.to_string(rt.alloc())?.as_str(),
-        "16 Memory"
+        Refusal::NotOut.to_string(rt.alloc())?.as_str(),
+        "13 NotOut"
     );
-    assert_eq!(rt; Refusal::Memory.number(), 16);
+    assert_eq!(rt; Refusal::NotOut.number(), 13);
     Ok(())
 }
 

@@ -1,5 +1,5 @@
 -- A begin: the new write owes every leg, so no contents and no entry change.
-use Rattle.std.proofs.Common.{◌≡◌, ◌≢◌, ⊎_elim, ℕ, ◌+◌, ◌<◌, ◌^◌, ◌==◌, Bool, true, false, not, IsTrue, List, [], ◌∷◌, length, None, Some, is_some, refl, sym, ap, ◌∙◌, subst, arith, nat_lt, MatchBool, append-nil}
+use Rattle.std.proofs.Common.{◌≡◌, ◌≢◌, ⊎_elim, ℕ, ◌+◌, ◌<◌, ◌^◌, ◌==◌, Bool, true, false, not, IsTrue, List, [], ◌∷◌, length, None, Some, is_some, refl, sym, ap, ◌∙◌, subst, arith, nat_lt, MatchBool}
 use Rattle.std.proofs.lemmas.Bool.Decides.{nat_tests}
 use Rattle.nm_fanout.proofs.InOrder.{AllBelow-with_new}
 use Rattle.nm_fanout.proofs.Landing.{unlanded-with_new}
@@ -21,6 +21,7 @@ use Rattle.nm_stripe.specs.declared.refusal.Refusal.TheVariants.{Busy, Full, Sto
 use Rattle.nm_stripe.specs.Begin.{after_begin, OwesFirst, begin_cause, begin_rows, is_full}
 use Rattle.nm_stripe.specs.Invariant.{HasLegs, HasRecords, HasNumbers, LegsAgree, Keeps}
 use Rattle.nm_stripe.specs.Acts.{Acts}
+use Rattle.nm_stripe.proofs.ActsLemmas.{kept-none}
 use Rattle.nm_stripe.proofs.ArrayLemmas.{array_is_master}
 use Rattle.nm_stripe.proofs.CauseLemmas.{none_holds, when_off, map_off, below}
 use Rattle.nm_stripe.proofs.OwedLemmas.{owed_each, owed_within}
@@ -70,7 +71,7 @@ module _ {L : Type 0} (type : LegType L) (old : StripeState L) (block : ℕ) (by
   begin-numbers : HasNumbers old → MayBegin old block → HasNumbers (after_begin old block bytes owed)
   begin-numbers k may = record {
     numbered = k.numbered;
-    total = k.total;
+    kept = k.kept;
     given = omega (arith, k.given, unlanded-with_new new_record old.records refl);
     below = omega (arith, may.below, unlanded-with_new new_record old.records refl);
   }
@@ -128,13 +129,13 @@ module _ {L : Type 0} (type : LegType L) (old : StripeState L) (block : ℕ) (by
           each_write = begin-lives k.records;
           each_read = λ n. (read_life old n, refl, refl);
         };
-        kept = sym (append-nil old.kept);
+        kept = kept-none old k.numbers.kept;
         total = omega arith;
         first = refl;
       }
 
 -- the fields after a begin are those of the state after it
-pub begun-state : {L : Type 0} (place : At) (legs : List L) (master : ℕ) (table table' : List Record) (tickets : ℕ) (history history' : KeptHistory) (first : ℕ) (stopped : Bool) (block : ℕ) (bytes : Data) (owed : List Bool)
-    → table' ≡ with_new (begun tickets block bytes owed) table → history'.entries ≡ history.entries → history'.total ≡ history.total
-    → state_of place legs master table' (tickets + 1) history' first stopped ≡ after_begin (state_of place legs master table tickets history first stopped) block bytes owed
-begun-state place legs master table table' tickets history history' first stopped block bytes owed list entries total = rw (list, entries, total) refl
+pub begun-state : {L : Type 0} (place : At) (legs : List L) (master : ℕ) (table table' : List Record) (tickets : ℕ) (history : KeptHistory) (first : ℕ) (stopped : Bool) (block : ℕ) (bytes : Data) (owed : List Bool)
+    → table' ≡ with_new (begun tickets block bytes owed) table
+    → state_of place legs master table' (tickets + 1) history first stopped ≡ after_begin (state_of place legs master table tickets history first stopped) block bytes owed
+begun-state place legs master table table' tickets history first stopped block bytes owed list = rw list refl

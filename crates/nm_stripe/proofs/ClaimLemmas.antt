@@ -1,6 +1,6 @@
 -- A claim: it takes a finished write's record away and answers with the write's number, and nothing
 -- else changes.
-use Rattle.std.proofs.Common.{◌≡◌, ◌≢◌, ⊎_elim, ℕ, ◌==◌, Bool, true, false, not, IsTrue, List, [], ◌∷◌, Option, None, Some, is_some, is_none, refl, sym, ap, ◌∙◌, subst, arith, nat_lt, cond, MatchBool, append-nil}
+use Rattle.std.proofs.Common.{◌≡◌, ◌≢◌, ⊎_elim, ℕ, ◌==◌, Bool, true, false, not, IsTrue, List, [], ◌∷◌, Option, None, Some, is_some, is_none, refl, sym, ap, ◌∙◌, subst, arith, nat_lt, cond, MatchBool}
 use Rattle.std.specs.Option.{option_and_then}
 use Rattle.std.proofs.lemmas.Option.{same_Some}
 use Rattle.std.proofs.lemmas.Bool.Decides.{nat_tests}
@@ -24,6 +24,7 @@ use Rattle.nm_stripe.specs.Acts.{Acts}
 use Rattle.nm_stripe.specs.declared.refusal.Refusal.TheVariants.{Stopped, NoTicket, NotYet}
 use Rattle.nm_stripe.specs.Cause.{when}
 use Rattle.nm_stripe.specs.Claim.{claim_cause, claim_rows}
+use Rattle.nm_stripe.proofs.ActsLemmas.{kept-none}
 use Rattle.nm_stripe.proofs.ArrayLemmas.{array_is_master}
 use Rattle.nm_stripe.proofs.CauseLemmas.{none_holds, when_off, is_there}
 use Rattle.nm_stripe.proofs.RecordLemmas.{same, one_or_two, without_cases, busy_found, busy_none}
@@ -105,7 +106,7 @@ module _ {L : Type 0} (type : LegType L) (old : StripeState L) (ticket : ℕ) (r
         records = claim-records;
         numbers = record {
           numbered = k.numbers.numbered;
-          total = k.numbers.total;
+          kept = k.numbers.kept;
           given = omega (arith, k.numbers.given, unlanded-without ticket n.0 old.records r k.records.in_order.ascending found n.1);
           below = omega (arith, k.numbers.below, unlanded-without ticket n.0 old.records r k.records.in_order.ascending found n.1);
         };
@@ -145,7 +146,7 @@ module _ {L : Type 0} (type : LegType L) (old : StripeState L) (ticket : ℕ) (r
           each_write = claim-lives n number;
           each_read = λ m. (read_life old m, refl, refl);
         };
-        kept = sym (append-nil old.kept);
+        kept = kept-none old k.numbers.kept;
         total = omega arith;
         first = refl;
       }

@@ -23,7 +23,7 @@ halt-keeps type old legs leg at bytes k w =
         landed = k.records.landed;
         owed = λ t x j found owes_j. omega (arith, k.records.owed t x j found owes_j, same_count);
       };
-      numbers = record { numbered = k.numbers.numbered; total = k.numbers.total; given = k.numbers.given; below = k.numbers.below };
+      numbers = record { numbered = k.numbers.numbered; kept = k.numbers.kept; given = k.numbers.given; below = k.numbers.below };
       consistent = k.consistent;
       agrees = λ is_honest runs. absurd (cc);
     }

@@ -1,9 +1,10 @@
 -- A write reaches the master, and takes effect there: its entry is the next of the history.
-use Rattle.std.proofs.Common.{◌≡◌, ◌≢◌, ℕ, ◌+◌, ◌<◌, ◌==◌, true, false, not, IsTrue, List, [], ◌∷◌, ◌++◌, length, None, Some, refl, sym, ap, ◌∙◌, subst, arith, slice_get, slice_set, nat_lt, cond, MatchBool, length-append}
+use Rattle.std.proofs.Common.{◌≡◌, ◌≢◌, ℕ, ◌+◌, ◌-◌, ◌<◌, ◌==◌, true, false, not, IsTrue, List, [], ◌∷◌, ◌++◌, length, None, Some, refl, sym, ap, ◌∙◌, subst, arith, slice_get, slice_set, nat_lt, cond, MatchBool}
 use Rattle.std.proofs.lemmas.Bool.Decides.{nat_tests}
 use Rattle.nm_replay.specs.declared.block.Block.{Block}
 use Rattle.nm_replay.proofs.Arrays.{slice_get-set_same, slice_get-set_other}
-use Rattle.nm_replay.proofs.Numbering.{numbered-append}
+use Rattle.nm_replay.proofs.Dropping.{length-kept, numbered-kept, consistent-last_kept, ends-last_kept}
+use Rattle.nm_replay.specs.Kept.{last_kept}
 use Rattle.nm_fanout.proofs.Owed.{owes-without_leg_same}
 use Rattle.nm_fanout.proofs.Finding.{find_record-changed_other, find_record-below}
 use Rattle.nm_fanout.specs.declared.write_record.Record.{Record}
@@ -28,10 +29,10 @@ use Rattle.nm_stripe.proofs.RecordLemmas.{same, find-changed_same, unlanded-land
 
 -- the stripe, with one change of the record in place of two
 abbrev landed_state : {L : Type 0} → StripeState L → List L → Record → ℕ → StripeState L
-landed_state old legs r leg = moved old legs (landing (next_number old) leg) r.ticket (old.kept ++ write_entry (next_number old) r ∷ []) (old.total + 1)
+landed_state old legs r leg = moved old legs (landing (next_number old) leg) r.ticket (last_kept (old.kept ++ write_entry (next_number old) r ∷ [])) (old.total + 1)
 
 landed-same : {L : Type 0} (old : StripeState L) (legs : List L) (r : Record) (leg : ℕ) → landed_state old legs r leg ≡ after_landing old legs r leg
-landed-same {L} old legs r leg = ap (λ (rs : List Record). let s : StripeState L = record old { legs = legs; records = rs; kept = old.kept ++ write_entry (next_number old) r ∷ []; total = old.total + 1 } in s) (sym (changed-twice (next_number old) leg r.ticket old.records))
+landed-same {L} old legs r leg = ap (λ (rs : List Record). let s : StripeState L = record old { legs = legs; records = rs; kept = last_kept (old.kept ++ write_entry (next_number old) r ∷ []); total = old.total + 1 } in s) (sym (changed-twice (next_number old) leg r.ticket old.records))
 
 module _ {L : Type 0} (type : LegType L) (old : StripeState L) (legs : List L) (r : Record) (leg : ℕ) (c : Reached type old legs r leg) (is : leg ≡ old.master) where
   no_entry : r.entry ≡ None
@@ -39,13 +40,13 @@ module _ {L : Type 0} (type : LegType L) (old : StripeState L) (legs : List L) (
 
   land-records : HasRecords (landed_state old legs r leg)
   land-records =
-      moved-records type old legs r leg (landing (next_number old) leg) (old.kept ++ write_entry (next_number old) r ∷ []) (old.total + 1) (landing-reaches (next_number old) leg) c.keeps.records c.writes c.found
+      moved-records type old legs r leg (landing (next_number old) leg) (last_kept (old.kept ++ write_entry (next_number old) r ∷ [])) (old.total + 1) (landing-reaches (next_number old) leg) c.keeps.records c.writes c.found
       (subst (λ (rs : List Record). AreInOrder rs) (changed-twice (next_number old) leg r.ticket old.records)
       (AreInOrder-landed r.ticket (next_number old) (reached r.ticket leg old.records) (AreInOrder-reached r.ticket leg old.records c.keeps.records.in_order)))
       (ap (λ b. not b) (sym (subst (λ (i : ℕ). owes i (without_leg leg r) ≡ false) is (owes-without_leg_same leg r))))
 
   land-legs : HasLegs type.model (landed_state old legs r leg)
-  land-legs = moved-legs type old legs r leg (landing (next_number old) leg) (old.kept ++ write_entry (next_number old) r ∷ []) (old.total + 1) c.keeps.legs c.writes
+  land-legs = moved-legs type old legs r leg (landing (next_number old) leg) (last_kept (old.kept ++ write_entry (next_number old) r ∷ [])) (old.total + 1) c.keeps.legs c.writes
 
   -- an honest master's contents change at the block alone
   land-master : IsTrue type.honest → contents_of type.model legs old.master ≡ slice_set (contents_of type.model old.legs old.master) r.block (written r)
@@ -57,18 +58,19 @@ module _ {L : Type 0} (type : LegType L) (old : StripeState L) (legs : List L) (
   land-agrees : IsTrue type.honest → LegsAgree type.model (landed_state old legs r leg)
   land-agrees is_honest =
       let agree = c.keeps.agrees is_honest c.runs in
-      moved-agrees type old legs r leg (landing (next_number old) leg) (old.kept ++ write_entry (next_number old) r ∷ []) (old.total + 1) (landing-reaches (next_number old) leg) is_honest c.keeps.legs c.keeps.records agree c.writes c.found c.owed
+      moved-agrees type old legs r leg (landing (next_number old) leg) (last_kept (old.kept ++ write_entry (next_number old) r ∷ [])) (old.total + 1) (landing-reaches (next_number old) leg) is_honest c.keeps.legs c.keeps.records agree c.writes c.found c.owed
+      (ends-last_kept (old.kept ++ write_entry (next_number old) r ∷ []) (contents_of type.model legs old.master)
       (ends-push_by old.kept (write_entry (next_number old) r) (contents_of type.model old.legs old.master) (contents_of type.model legs old.master) agree.last
       (ap (λ xs. slice_get xs r.block) (land-master is_honest) ∙ slice_get-set_same (contents_of type.model old.legs old.master) r.block (written r) land-inside)
-      (λ b off. ap (λ xs. slice_get xs b) (land-master is_honest) ∙ slice_get-set_other (contents_of type.model old.legs old.master) r.block b (written r) (λ e. off (sym e))))
+      (λ b off. ap (λ xs. slice_get xs b) (land-master is_honest) ∙ slice_get-set_other (contents_of type.model old.legs old.master) r.block b (written r) (λ e. off (sym e)))))
 
   one_less : unlanded (changed (landing (next_number old) leg) r.ticket old.records) + 1 ≡ unlanded old.records
   one_less = unlanded-landed (landing (next_number old) leg) r.ticket old.records r (next_number old) c.keeps.records.in_order.ascending c.found no_entry refl
 
   land-numbers : HasNumbers (landed_state old legs r leg)
   land-numbers = record {
-    numbered = numbered-append old.first old.kept (write_entry (next_number old) r ∷ []) c.keeps.numbers.numbered (let n : old.first + old.total ≡ old.first + length old.kept = omega (arith, c.keeps.numbers.total) in n, tt);
-    total = omega (arith, c.keeps.numbers.total, length-append old.kept (write_entry (next_number old) r ∷ []));
+    numbered = numbered-kept old.first old.total old.kept (write_entry (next_number old) r) c.keeps.numbers.kept c.keeps.numbers.numbered refl;
+    kept = length-kept old.total old.kept (write_entry (next_number old) r) c.keeps.numbers.kept;
     given = omega (arith, c.keeps.numbers.given, one_less);
     below = omega (arith, c.keeps.numbers.below, one_less);
   }
@@ -78,7 +80,8 @@ module _ {L : Type 0} (type : LegType L) (old : StripeState L) (legs : List L) (
     legs = land-legs;
     records = land-records;
     numbers = land-numbers;
-    consistent = λ is_honest. consistent-write old.first old.kept r.ticket (next_number old) r.block (written r) c.keeps.numbers.numbered (let n : old.first + old.total ≡ old.first + length old.kept = omega (arith, c.keeps.numbers.total) in n) (c.keeps.consistent is_honest);
+    consistent = λ is_honest. consistent-last_kept (old.kept ++ write_entry (next_number old) r ∷ [])
+        (consistent-write (next_number old - length old.kept) old.kept r.ticket (next_number old) r.block (written r) c.keeps.numbers.numbered (let n : old.first + old.total ≡ old.first + old.total - length old.kept + length old.kept = omega (arith, c.keeps.numbers.kept) in n) (c.keeps.consistent is_honest));
     agrees = λ is_honest runs. land-agrees is_honest;
   }
 

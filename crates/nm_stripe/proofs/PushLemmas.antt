@@ -1,5 +1,5 @@
 -- A push: at the master the write takes effect, at every other leg nothing is observable.
-use Rattle.std.proofs.Common.{◌≡◌, ◌≢◌, ⊎_elim, ℕ, ◌==◌, true, false, not, IsTrue, List, [], ◌∷◌, Option, None, Some, is_some, refl, sym, ap, ◌∙◌, subst, arith, nat_lt, cond, append-nil}
+use Rattle.std.proofs.Common.{◌≡◌, ◌≢◌, ⊎_elim, ℕ, ◌==◌, true, false, not, IsTrue, List, [], ◌∷◌, Option, None, Some, is_some, refl, sym, ap, ◌∙◌, subst, arith, nat_lt, cond}
 use Rattle.nm_replay.specs.History.{EndsIn}
 use Rattle.nm_fanout.proofs.Owed.{owes-without_leg_other}
 use Rattle.nm_fanout.proofs.Landing.{unlanded-reached}
@@ -16,6 +16,7 @@ use Rattle.nm_stripe.specs.State.{StripeState, contents_of, write_life, life_of}
 use Rattle.nm_stripe.specs.Push.{after_reach}
 use Rattle.nm_stripe.specs.Invariant.{HasLegs, HasRecords, LegsAgree, Keeps}
 use Rattle.nm_stripe.specs.Acts.{Acts}
+use Rattle.nm_stripe.proofs.ActsLemmas.{kept-none}
 use Rattle.nm_stripe.proofs.ArrayLemmas.{array_is_master}
 use Rattle.nm_stripe.proofs.LegLemmas.{writes-other}
 use Rattle.nm_stripe.proofs.ReachLemmas.{Reaches, moved-legs, moved-records, moved-agrees}
@@ -80,7 +81,7 @@ module _ {L : Type 0} (type : LegType L) (old : StripeState L) (legs : List L) (
       records = reach-records;
       numbers = record {
         numbered = c.keeps.numbers.numbered;
-        total = c.keeps.numbers.total;
+        kept = c.keeps.numbers.kept;
         given = omega (arith, c.keeps.numbers.given, unlanded-reached r.ticket leg old.records);
         below = omega (arith, c.keeps.numbers.below, unlanded-reached r.ticket leg old.records);
       };
@@ -110,7 +111,7 @@ module _ {L : Type 0} (type : LegType L) (old : StripeState L) (legs : List L) (
             each_write = reach-lives;
             each_read = λ n. refl;
           };
-          kept = sym (append-nil old.kept);
+          kept = kept-none old c.keeps.numbers.kept;
           total = omega arith;
           first = refl;
         }

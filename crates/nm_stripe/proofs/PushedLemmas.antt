@@ -2,7 +2,7 @@
 use Rattle.std.proofs.Common.{◌≡◌, ◌≢◌, ℕ, ◌+◌, ◌<◌, Bool, true, false, not, List, [], ◌∷◌, ◌++◌, length, Option, None, Some, is_none, refl, sym, ap, ◌∙◌, subst, arith, cond, slice_get, get_or, eq-eqb, ne_eqb}
 use Rattle.std.specs.Option.{option_and_then}
 use Rattle.std.proofs.lemmas.Option.{same_Some, slice_get-get_or}
-use Rattle.nm_replay.specs.Kept.{KeptHistory}
+use Rattle.nm_replay.specs.Kept.{KeptHistory, last_kept}
 use Rattle.nm_fanout.proofs.Finding.{find_record-ticket}
 use Rattle.nm_fanout.proofs.InOrder.{AreInOrder-reached}
 use Rattle.nm_fanout.proofs.Places.{IsAt-own, IsAt-reached, IsAt-landed}
@@ -137,7 +137,7 @@ reached-state place legs legs' master table table' tickets history first stopped
 
 pub landed-state : {L : Type 0} (place : At) (legs legs' : List L) (master : ℕ) (table table' : List Record) (tickets : ℕ) (history history' : KeptHistory) (first : ℕ) (stopped : Bool) (ticket leg : ℕ) (r : Record)
     → r.ticket ≡ ticket → table' ≡ landed ticket (first + history.total) (reached ticket leg table)
-    → history'.entries ≡ history.entries ++ write_entry (first + history.total) r ∷ [] → history'.total ≡ history.total + 1
+    → history'.entries ≡ last_kept (history.entries ++ write_entry (first + history.total) r ∷ []) → history'.total ≡ history.total + 1
     → state_of place legs' master table' tickets history' first stopped ≡ after_landing (state_of place legs master table tickets history first stopped) legs' r leg
 landed-state place legs legs' master table table' tickets history history' first stopped ticket leg r is list entries total =
     let same_list : table' ≡ landed r.ticket (first + history.total) (reached r.ticket leg table) = subst (λ (t : ℕ). table' ≡ landed t (first + history.total) (reached t leg table)) (sym is) list in

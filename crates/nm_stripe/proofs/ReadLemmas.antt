@@ -1,15 +1,15 @@
 -- A read: it begins, finds its bytes at the entry that it gets, and is replied to with them.
-use Rattle.std.proofs.Common.{◌≡◌, ◌≢◌, ℕ, ◌+◌, ◌<◌, ◌^◌, ◌==◌, Bool, true, false, IsTrue, List, [], ◌∷◌, ◌++◌, length, None, Some, refl, sym, ap, ◌∙◌, subst, arith, slice_get, nat_lt, cond, MatchBool, append-nil, length-append}
+use Rattle.std.proofs.Common.{◌≡◌, ◌≢◌, ℕ, ◌+◌, ◌-◌, ◌<◌, ◌^◌, ◌==◌, Bool, true, false, IsTrue, List, [], ◌∷◌, ◌++◌, length, None, Some, refl, sym, ap, ◌∙◌, subst, arith, slice_get, nat_lt, cond, MatchBool}
 use Rattle.std.proofs.lemmas.Bool.Decides.{nat_tests}
 use Rattle.nm_replay.specs.declared.block.Block.{Block}
 use Rattle.nm_replay.specs.declared.entry.Entry.{Entry}
 use Rattle.nm_replay.specs.History.{EndsIn}
-use Rattle.nm_replay.proofs.Numbering.{numbered-append}
+use Rattle.nm_replay.proofs.Dropping.{length-kept, numbered-kept, consistent-last_kept, ends-last_kept}
 use Rattle.nm_leg.specs.Leg.{LegType}
 use Rattle.nm_leg.specs.LegCalls.{ReadsLegAt}
 use Rattle.nm_replay.specs.Events.{Event, BeginsRead, Lands, RepliesRead}
 use Rattle.nm_replay.specs.ReadLives.{ReadLife, NotBegun as NoReadBegun, Begun as ReadBegun, Landed as ReadLanded, Closed, ReadLives}
-use Rattle.nm_replay.specs.Kept.{KeptHistory}
+use Rattle.nm_replay.specs.Kept.{KeptHistory, last_kept}
 use Rattle.nm_fanout.specs.declared.write_record.Record.{Record}
 use Rattle.nm_fanout.specs.Records.{unlanded}
 use Rattle.nm_stripe.specs.declared.at.At.{At}
@@ -19,6 +19,7 @@ use Rattle.nm_stripe.specs.declared.refusal.Refusal.TheVariants.{Stopped, Exhaus
 use Rattle.nm_replay.specs.Events.{entry_of_read}
 use Rattle.nm_stripe.specs.Invariant.{HasLegs, HasRecords, LegsAgree, Keeps}
 use Rattle.nm_stripe.specs.Acts.{Acts}
+use Rattle.nm_stripe.proofs.ActsLemmas.{kept-none}
 use Rattle.nm_stripe.proofs.ArrayLemmas.{array_is_master}
 use Rattle.nm_stripe.proofs.CauseLemmas.{none_holds, when_off, below}
 use Rattle.nm_replay.proofs.Pushing.{consistent-read, ends-push_by}
@@ -86,7 +87,7 @@ module _ {L : Type 0} (type : LegType L) (succeeded : Bool) (old : StripeState L
   fails-keeps = record {
     legs = read-legs old.kept old.total;
     records = read-records old.kept old.total;
-    numbers = record { numbered = k.numbers.numbered; total = k.numbers.total; given = k.numbers.given; below = k.numbers.below };
+    numbers = record { numbered = k.numbers.numbered; kept = k.numbers.kept; given = k.numbers.given; below = k.numbers.below };
     consistent = k.consistent;
     agrees = λ is_honest runs. let agree = k.agrees is_honest runs in read-agrees is_honest agree old.kept old.total agree.last;
   }
@@ -103,7 +104,7 @@ module _ {L : Type 0} (type : LegType L) (succeeded : Bool) (old : StripeState L
           each_write = λ t. refl;
           each_read = λ n. refl;
         };
-        kept = sym (append-nil old.kept);
+        kept = kept-none old k.numbers.kept;
         total = omega arith;
         first = refl;
       }
@@ -112,21 +113,23 @@ module _ {L : Type 0} (type : LegType L) (old : StripeState L) (legs : List L) (
   read_at : IsTrue type.honest → slice_get (contents_of type.model old.legs old.master) block ≡ Some bytes
   read_at is_honest = reads-found type old.legs legs old.master block target bytes is_honest reads
 
-  read-ends : IsTrue type.honest → EndsIn (old.kept ++ entry_of_read (next_number old) block bytes ∷ []) (contents_of type.model old.legs old.master)
-  read-ends is_honest = ends-push_by old.kept (entry_of_read (next_number old) block bytes) (contents_of type.model old.legs old.master) (contents_of type.model old.legs old.master) (k.agrees is_honest may.runs).last (read_at is_honest) (λ b off. refl)
+  read-ends : IsTrue type.honest → EndsIn (last_kept (old.kept ++ entry_of_read (next_number old) block bytes ∷ [])) (contents_of type.model old.legs old.master)
+  read-ends is_honest = ends-last_kept (old.kept ++ entry_of_read (next_number old) block bytes ∷ []) (contents_of type.model old.legs old.master)
+      (ends-push_by old.kept (entry_of_read (next_number old) block bytes) (contents_of type.model old.legs old.master) (contents_of type.model old.legs old.master) (k.agrees is_honest may.runs).last (read_at is_honest) (λ b off. refl))
 
   pub read-keeps : Keeps type (after_read old legs block bytes)
   read-keeps = record {
-    legs = read-legs type true old legs block target bytes k reads (old.kept ++ entry_of_read (next_number old) block bytes ∷ []) (old.total + 1);
-    records = read-records type true old legs block target bytes k reads (old.kept ++ entry_of_read (next_number old) block bytes ∷ []) (old.total + 1);
+    legs = read-legs type true old legs block target bytes k reads (last_kept (old.kept ++ entry_of_read (next_number old) block bytes ∷ [])) (old.total + 1);
+    records = read-records type true old legs block target bytes k reads (last_kept (old.kept ++ entry_of_read (next_number old) block bytes ∷ [])) (old.total + 1);
     numbers = record {
-      numbered = numbered-append old.first old.kept (entry_of_read (next_number old) block bytes ∷ []) k.numbers.numbered (let n : old.first + old.total ≡ old.first + length old.kept = omega (arith, k.numbers.total) in n, tt);
-      total = omega (arith, k.numbers.total, length-append old.kept (entry_of_read (next_number old) block bytes ∷ []));
+      numbered = numbered-kept old.first old.total old.kept (entry_of_read (next_number old) block bytes) k.numbers.kept k.numbers.numbered refl;
+      kept = length-kept old.total old.kept (entry_of_read (next_number old) block bytes) k.numbers.kept;
       given = omega (arith, k.numbers.given);
       below = omega (arith, may.below);
     };
-    consistent = λ is_honest. consistent-read old.first old.kept (contents_of type.model old.legs old.master) (next_number old) block bytes k.numbers.numbered (let n : old.first + old.total ≡ old.first + length old.kept = omega (arith, k.numbers.total) in n) (k.agrees is_honest may.runs).last (read_at is_honest) (k.consistent is_honest);
-    agrees = λ is_honest runs. read-agrees type true old legs block target bytes k reads is_honest (k.agrees is_honest may.runs) (old.kept ++ entry_of_read (next_number old) block bytes ∷ []) (old.total + 1) (read-ends is_honest);
+    consistent = λ is_honest. consistent-last_kept (old.kept ++ entry_of_read (next_number old) block bytes ∷ [])
+        (consistent-read (next_number old - length old.kept) old.kept (contents_of type.model old.legs old.master) (next_number old) block bytes k.numbers.numbered (let n : old.first + old.total ≡ old.first + old.total - length old.kept + length old.kept = omega (arith, k.numbers.kept) in n) (k.agrees is_honest may.runs).last (read_at is_honest) (k.consistent is_honest));
+    agrees = λ is_honest runs. read-agrees type true old legs block target bytes k reads is_honest (k.agrees is_honest may.runs) (last_kept (old.kept ++ entry_of_read (next_number old) block bytes ∷ [])) (old.total + 1) (read-ends is_honest);
   }
 
   read-lives : (n : ℕ) → ReadLives n (read_life old n) (read_events (next_number old) block bytes) (read_life (after_read old legs block bytes) n)
@@ -151,11 +154,11 @@ module _ {L : Type 0} (type : LegType L) (old : StripeState L) (legs : List L) (
   read-acts is_honest =
       let agree = k.agrees is_honest may.runs in
       let before = array_is_master type.model old k.legs k.records agree in
-      let new = with_read old legs (old.kept ++ entry_of_read (next_number old) block bytes ∷ []) (old.total + 1) in
+      let new = with_read old legs (last_kept (old.kept ++ entry_of_read (next_number old) block bytes ∷ [])) (old.total + 1) in
       let after = array_is_master type.model new
-      (read-legs type true old legs block target bytes k reads (old.kept ++ entry_of_read (next_number old) block bytes ∷ []) (old.total + 1))
-      (read-records type true old legs block target bytes k reads (old.kept ++ entry_of_read (next_number old) block bytes ∷ []) (old.total + 1))
-      (read-agrees type true old legs block target bytes k reads is_honest agree (old.kept ++ entry_of_read (next_number old) block bytes ∷ []) (old.total + 1) (read-ends is_honest)) in
+      (read-legs type true old legs block target bytes k reads (last_kept (old.kept ++ entry_of_read (next_number old) block bytes ∷ [])) (old.total + 1))
+      (read-records type true old legs block target bytes k reads (last_kept (old.kept ++ entry_of_read (next_number old) block bytes ∷ [])) (old.total + 1))
+      (read-agrees type true old legs block target bytes k reads is_honest agree (last_kept (old.kept ++ entry_of_read (next_number old) block bytes ∷ [])) (old.total + 1) (read-ends is_honest)) in
       record {
         explained = record {
           next = omega arith;
@@ -174,7 +177,7 @@ module _ {L : Type 0} (type : LegType L) (old : StripeState L) (legs : List L) (
 
 -- the fields of a stripe after a read are the state after it
 pub read-state : {L : Type 0} (place : At) (legs legs' : List L) (master : ℕ) (table : List Record) (tickets : ℕ) (history history' : KeptHistory) (first : ℕ) (stopped : Bool) (block : ℕ) (bytes : Block)
-    → history'.entries ≡ history.entries ++ entry_of_read (first + history.total) block bytes ∷ [] → history'.total ≡ history.total + 1
+    → history'.entries ≡ last_kept (history.entries ++ entry_of_read (first + history.total) block bytes ∷ []) → history'.total ≡ history.total + 1
     → state_of place legs' master table tickets history' first stopped ≡ after_read (state_of place legs master table tickets history first stopped) legs' block bytes
 read-state place legs legs' master table tickets history history' first stopped block bytes entries total = rw (entries, total) refl
 

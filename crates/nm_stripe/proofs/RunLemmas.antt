@@ -1,10 +1,9 @@
 -- Steps one after the other: runs and interleavings, with one step more.
 use Rattle.std.proofs.Common.{◌≡◌, ℕ, IsTrue, List, [], ◌∷◌, ◌++◌, refl, sym, ap, ◌∙◌, subst, append_assoc, append-nil}
-use Rattle.std.proofs.Common.{length, reverse, true, false, cond, ◌==◌, Option, None, Some}
+use Rattle.std.proofs.Common.{min, length, reverse, true, false, cond, ◌==◌, Option, None, Some}
 use Rattle.std.proofs.lemmas.List.{reverse-append}
 use Rattle.nm_fanout.specs.declared.write_record.Record.{Record}
 use Rattle.nm_stripe.specs.declared.refusal.Refusal.{Refusal}
-use Rattle.nm_stripe.specs.declared.refusal.Refusal.TheVariants.{Fault}
 use Rattle.nm_stripe.specs.Read.{read_cause}
 use Rattle.nm_stripe.specs.Push.{Pushes, after_push, after_landing, after_reach}
 use Rattle.nm_stripe.specs.Read.{ReadRefused}
@@ -43,8 +42,8 @@ concat-push [] events = append-nil events
 concat-push (p ∷ lists) events = ap (λ es. p ++ es) (concat-push lists events) ∙ sym (append_assoc p (concat lists) events)
 
 -- no steps, and one step more
-pub none-acts : {L : Type 0} (model : L → Leg) (stripe : StripeState L) → ActOnOneArray model [] [] stripe stripe
-none-acts model stripe = record { events_of_each = []; interleaving = tt; acts = acts-none model stripe }
+pub none-acts : {L : Type 0} (model : L → Leg) (stripe : StripeState L) → length stripe.kept ≡ min 1024 stripe.total → ActOnOneArray model [] [] stripe stripe
+none-acts model stripe few = record { events_of_each = []; interleaving = tt; acts = acts-none model stripe few }
 
 pub act-push : {L : Type 0} (model : L → Leg) (old mid new : StripeState L) (steps : List (Step L)) (answers : List (Answer L)) (step : Step L) (answer : Answer L)
     → ActOnOneArray model steps answers old mid → IsExplainedStep model (marks step answer) mid new → ActOnOneArray model (steps ++ step ∷ []) (answers ++ answer ∷ []) old new
@@ -105,11 +104,10 @@ push-shape type old new ticket leg p = record {
 -- a read that is refused
 refused-shape : {L : Type 0} (type : LegType L) (old new : StripeState L) (block : ℕ) (cause : Option Refusal) (given : Refusal) → ReadRefused type old new block cause given → SameShape old new
 refused-shape type old new block (Some cause) given is = same old new is.1
-refused-shape type old new block None Fault is = record {
-  place = ap (λ s. s.place) is.after;
-  legs = calls-length type.model old.legs new.legs old.master is.reads.before is.reads.after is.reads.change;
+refused-shape type old new block None given is = record {
+  place = ap (λ s. s.place) is.1.after;
+  legs = calls-length type.model old.legs new.legs old.master is.1.reads.before is.1.reads.after is.1.reads.change;
 }
-refused-shape type old new block None given is = same old new is.1
 
 pub step-shape : {L : Type 0} (type : LegType L) (step : Step L) (answer : Answer L) (old new : StripeState L) → StepOf type step answer old new → SameShape old new
 step-shape type (Begin block bytes) (Begun ticket) old new is = record { place = ap (λ s. s.place) is.after; legs = ap (λ s. length s.legs) is.after }
@@ -151,12 +149,12 @@ pub record HasRun {L : Type 0} (type : LegType L) (old : StripeState L) (steps r
   pub acts : IsTrue type.honest → NoneHalted answers → ActOnOneArray type.model done answers old now
   pub asked : AllAsked type.model now (reverse rest)
 
-pub run-begins : {L : Type 0} (type : LegType L) (old : StripeState L) (steps : List (Step L)) → AllAsked type.model old steps → HasRun type old steps (reverse steps) [] old
-run-begins type old steps asked = record {
+pub run-begins : {L : Type 0} (type : LegType L) (old : StripeState L) (steps : List (Step L)) → length old.kept ≡ min 1024 old.total → AllAsked type.model old steps → HasRun type old steps (reverse steps) [] old
+run-begins type old steps few asked = record {
   done = [];
   split = reverse-reverse steps;
   runs = refl;
-  acts = λ is_honest none. none-acts type.model old;
+  acts = λ is_honest none. none-acts type.model old few;
   asked = subst (λ ss. AllAsked type.model old ss) (sym (reverse-reverse steps)) asked;
 }
 

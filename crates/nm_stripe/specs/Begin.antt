@@ -1,11 +1,11 @@
 -- A begin of a write: why it is refused, and what it does.
-use Rattle.std.specs.Prelude.{◌≡◌, ℕ, ◌+◌, Bool, false, nat_lt, nat_le, List, [], ◌∷◌, Option, None, Some, length, slice_index_or}
+use Rattle.std.specs.Prelude.{◌≡◌, ℕ, ◌+◌, Bool, false, nat_lt, nat_le, List, [], ◌∷◌, Option, None, length, slice_index_or}
 use Rattle.std.specs.Option.{option_map}
 use Rattle.nm_fanout.specs.declared.block_data.Data.{Data}
 use Rattle.nm_fanout.specs.Record.{begun}
 use Rattle.nm_fanout.specs.Records.{busy_on, with_new}
 use Rattle.nm_stripe.specs.declared.refusal.Refusal.{Refusal}
-use Rattle.nm_stripe.specs.declared.refusal.Refusal.TheVariants.{Busy, Full, Stopped, Exhausted, Memory}
+use Rattle.nm_stripe.specs.declared.refusal.Refusal.TheVariants.{Busy, Full, Stopped, Exhausted}
 use Rattle.nm_stripe.specs.State.{StripeState, is_exhausted}
 use Rattle.nm_stripe.specs.Cause.{when, first_cause}
 
@@ -25,11 +25,6 @@ begin_rows stripe block =
 -- why a write of this block may not begin
 abbrev pub begin_cause : {L : Type 0} → StripeState L → ℕ → Option Refusal
 begin_cause stripe block = first_cause (begin_rows stripe block)
-
--- a begin is refused for the first condition that holds, or out of memory where none does
-abbrev pub BeginRefused : Option Refusal → Refusal → Type 0
-BeginRefused None refusal = refusal ≡ Memory
-BeginRefused (Some cause) refusal = refusal ≡ cause
 
 -- of a place for each of eight legs, just the first so many are owed
 pub record OwesFirst (count : ℕ) (owed : List Bool) : Type 0 where

@@ -1,5 +1,5 @@
 -- What every stripe keeps between its steps, from which its soundness follows.
-use Rattle.std.specs.Prelude.{◌≡◌, ℕ, ◌+◌, ◌<◌, ◌≤◌, ◌^◌, true, false, not, IsTrue, None, Some, is_some, length, max, slice_get}
+use Rattle.std.specs.Prelude.{◌≡◌, ℕ, ◌+◌, ◌-◌, ◌<◌, ◌≤◌, ◌^◌, true, false, not, IsTrue, None, Some, is_some, length, min, max, slice_get}
 use Rattle.nm_replay.specs.History.{Consistent, EndsIn, NumberedFrom}
 use Rattle.nm_fanout.specs.declared.write_record.Record.{Record}
 use Rattle.nm_fanout.specs.Record.{is_under_way, owes}
@@ -27,11 +27,11 @@ pub record HasRecords {L : Type 0} (stripe : StripeState L) : Type 0 where
   pub owed : (t : ℕ) (r : Record) (leg : ℕ) → find_record t stripe.records ≡ Some r
       → owes leg r ≡ true → leg < length stripe.legs
 
--- the numbers: the kept entries have those from the first on, each write has one or will get one,
--- and none reaches 2^63
+-- the numbers: the kept entries, 1,024 or all where there were fewer, have those up to the next,
+-- each write has one or will get one, and none reaches 2^63
 pub record HasNumbers {L : Type 0} (stripe : StripeState L) : Type 0 where
-  pub numbered : NumberedFrom stripe.first stripe.kept
-  pub total : stripe.total ≡ length stripe.kept
+  pub numbered : NumberedFrom (next_number stripe - length stripe.kept) stripe.kept
+  pub kept : length stripe.kept ≡ min 1024 stripe.total
   pub given : stripe.tickets ≤ stripe.total + unlanded stripe.records
   pub below : next_number stripe + unlanded stripe.records ≤ max (2 ^ 63) stripe.first
 
@@ -55,9 +55,3 @@ pub record Keeps {L : Type 0} (type : LegType L)
   pub numbers : HasNumbers stripe
   pub consistent : IsTrue type.honest → Consistent stripe.kept
   pub agrees : IsTrue type.honest → stripe.stopped ≡ false → LegsAgree type.model stripe
-
--- and there is room in the history for each write that has no entry yet
-pub record IsStripe {L : Type 0} (type : LegType L) (room : ℕ)
-    (stripe : StripeState L) : Type 0 where
-  pub keeps : Keeps type stripe
-  pub room_left : unlanded stripe.records ≤ room

@@ -3,6 +3,7 @@ use Rattle.std.specs.Prelude.{◌≡◌, ℕ, ◌+◌, ◌==◌, true, false, no
 use Rattle.std.specs.Option.{option_and_then}
 use Rattle.nm_replay.specs.declared.entry.Entry.{Entry}
 use Rattle.nm_replay.specs.Events.{entry_of_write}
+use Rattle.nm_replay.specs.Kept.{last_kept}
 use Rattle.nm_fanout.specs.declared.write_record.Record.{Record}
 use Rattle.nm_fanout.specs.Data.{bytes_of}
 use Rattle.nm_fanout.specs.Record.{is_under_way, owes, owed_count}
@@ -42,7 +43,7 @@ abbrev pub after_landing : {L : Type 0} → StripeState L → List L → Record 
 after_landing old legs r leg = record old {
   legs = legs;
   records = landed r.ticket (next_number old) (reached r.ticket leg old.records);
-  kept = old.kept ++ write_entry (next_number old) r ∷ [];
+  kept = last_kept (old.kept ++ write_entry (next_number old) r ∷ []);
   total = old.total + 1;
 }
 

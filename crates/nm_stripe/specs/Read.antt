@@ -2,10 +2,11 @@
 use Rattle.std.specs.Prelude.{◌≡◌, ℕ, ◌+◌, true, false, List, [], ◌∷◌, ◌++◌, Option, None, Some}
 use Rattle.nm_replay.specs.declared.block.Block.{Block}
 use Rattle.nm_replay.specs.Events.{entry_of_read}
+use Rattle.nm_replay.specs.Kept.{last_kept}
 use Rattle.nm_leg.specs.Leg.{LegType}
 use Rattle.nm_leg.specs.LegCalls.{ReadsLegAt}
 use Rattle.nm_stripe.specs.declared.refusal.Refusal.{Refusal}
-use Rattle.nm_stripe.specs.declared.refusal.Refusal.TheVariants.{Stopped, Exhausted, Fault, Memory}
+use Rattle.nm_stripe.specs.declared.refusal.Refusal.TheVariants.{Stopped, Exhausted, Fault}
 use Rattle.nm_stripe.specs.Receipt.{EntryName}
 use Rattle.nm_stripe.specs.State.{StripeState, next_number, is_exhausted}
 use Rattle.nm_stripe.specs.Cause.{when, first_cause}
@@ -25,7 +26,7 @@ read_cause stripe = first_cause (read_rows stripe)
 abbrev pub after_read : {L : Type 0} → StripeState L → List L → ℕ → Block → StripeState L
 after_read old legs block bytes = record old {
   legs = legs;
-  kept = old.kept ++ entry_of_read (next_number old) block bytes ∷ [];
+  kept = last_kept (old.kept ++ entry_of_read (next_number old) block bytes ∷ []);
   total = old.total + 1;
 }
 
@@ -47,9 +48,8 @@ pub record Fails {L : Type 0} (type : LegType L) (old new : StripeState L)
   pub reads : ReadsLegAt type false old.master block old.legs new.legs target target
   pub after : new ≡ record old { legs = new.legs }
 
--- a read is refused: for the first condition that holds, or by a leg that failed, or out of memory
+-- a read is refused: for the first condition that holds, or, where none does, by a leg that failed
 abbrev pub ReadRefused : {L : Type 0} → LegType L → StripeState L → StripeState L
     → ℕ → Option Refusal → Refusal → Type 0
 ReadRefused type old new block (Some cause) refusal = (refusal ≡ cause) × (new ≡ old)
-ReadRefused type old new block None Fault = Fails type old new block
-ReadRefused type old new block None refusal = (refusal ≡ Memory) × (new ≡ old)
+ReadRefused type old new block None refusal = (refusal ≡ Fault) × Fails type old new block

@@ -1,7 +1,7 @@
 -- What a refusal is called: its number, and its text.
 use Rattle.std.specs.Prelude.{ℕ, List, ◌++◌, codes, decimal}
 use Rattle.nm_stripe.specs.declared.refusal.Refusal.{Refusal}
-use Rattle.nm_stripe.specs.declared.refusal.Refusal.TheVariants.{Busy, Full, Stopped, Exhausted, NoTicket, NotOwed, NotYet, Fault, NotOut, Memory}
+use Rattle.nm_stripe.specs.declared.refusal.Refusal.TheVariants.{Busy, Full, Stopped, Exhausted, NoTicket, NotOwed, NotYet, Fault, NotOut}
 
 -- the number of each refusal
 abbrev pub number_of : Refusal → ℕ
@@ -14,7 +14,6 @@ number_of NotOwed = 8
 number_of NotYet = 9
 number_of Fault = 10
 number_of NotOut = 13
-number_of Memory = 16
 
 -- the text of each refusal: its number, its name, and the ticket that it carries
 abbrev pub text_of : Refusal → List ℕ
@@ -27,4 +26,3 @@ text_of NotOwed = codes "8 NotOwed"
 text_of NotYet = codes "9 NotYet"
 text_of Fault = codes "10 Fault"
 text_of NotOut = codes "13 NotOut"
-text_of Memory = codes "16 Memory"

@@ -9,7 +9,7 @@ use Rattle.nm_stripe.specs.declared.answer.Answer.{Answer}
 use Rattle.nm_stripe.specs.declared.answer.Answer.TheVariants.{Begun, Pushed, Complete, Halted, Written, Value, Refused}
 use Rattle.nm_stripe.specs.declared.answer.Handed.TheVariants.{Nothing, Data, Replacement}
 use Rattle.nm_stripe.specs.State.{StripeState}
-use Rattle.nm_stripe.specs.Begin.{Begins, BeginRefused, begin_cause}
+use Rattle.nm_stripe.specs.Begin.{Begins, begin_cause}
 use Rattle.nm_stripe.specs.Push.{Pushes, StillOwes, IsComplete, Halts, push_cause}
 use Rattle.nm_stripe.specs.Claim.{Claims, claim_cause}
 use Rattle.nm_stripe.specs.Read.{Finds, ReadRefused, read_cause}
@@ -37,7 +37,7 @@ abbrev pub StepOf : {L : Type 0} → LegType L → Step L → Answer L
     → StripeState L → StripeState L → Type 0
 StepOf type (Begin block bytes) (Begun ticket) old new = Begins old new block bytes ticket
 StepOf type (Begin block bytes) (Refused refusal handed) old new =
-    BeginRefused (begin_cause old block) refusal × (handed ≡ Data bytes) × (new ≡ old)
+    (begin_cause old block ≡ Some refusal) × (handed ≡ Data bytes) × (new ≡ old)
 StepOf type (Push ticket leg) (Pushed count) old new =
     Pushes type old new ticket leg × StillOwes new ticket count
 StepOf type (Push ticket leg) (Complete number) old new =

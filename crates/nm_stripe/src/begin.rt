@@ -3,7 +3,7 @@ ghost use Rattle.std.specs.Prelude.{◌≡◌, ℕ, ◌+◌, ◌<◌, ◌≤◌,
 ghost use Rattle.nm_replay.specs.Events.{BeginsWrite};
 ghost use Rattle.nm_fanout.specs.Data.{FillsBlock, bytes_of};
 ghost use Rattle.nm_leg.specs.Leg.{block_of};
-ghost use Rattle.nm_stripe.specs.Begin.{Begins, BeginRefused, OwesFirst, begin_cause};
+ghost use Rattle.nm_stripe.specs.Begin.{Begins, OwesFirst, begin_cause};
 ghost use Rattle.nm_stripe.specs.Acts.{IsExplainedStep};
 
 use crate::refusal::Refusal;
@@ -50,9 +50,8 @@ impl<L: LegPart> Stripe<L> {
 
     /// Begins a write of a block. It gets the next ticket, owes every leg and takes effect later.
     ///
-    /// Takes the memory that the write's entry needs, so that no later step takes any.
-    /// Refused as `Stopped`, `Busy`, `Full`, `Exhausted` or `Memory`, the first whose condition
-    /// holds; the data come back.
+    /// Refused as `Stopped`, `Busy`, `Full` or `Exhausted`, the first whose condition holds; the
+    /// data come back.
     pub fn begin(&mut self, block: u64, data: Data) -> Result<u64, (Refusal, Data)>
         requires inside { block < self.old.place.blocks }
         requires whole { FillsBlock «data» }
@@ -60,16 +59,12 @@ impl<L: LegPart> Stripe<L> {
         ensures acts { IsTrue L.honest → IfOk result (λ ticket. IsExplainedStep L.model
             (BeginsWrite ticket block (block_of (bytes_of «data»)) ∷ []) self.old self.new) }
         ensures cause { IfErr result (λ refused.
-            BeginRefused (begin_cause self.old block) refused.0) }
+            begin_cause self.old block ≡ Some refused.0) }
         ensures handed_back { IfErr result (λ refused. refused.1 ≡ «data») }
         ensures stays { OnErr result (self.new ≡ self.old) }
     {
         if let Some(refusal) = self.begin_cause(block) {
             return Err((refusal, data));
-        }
-        let unlanded = self.records.unlanded() as usize;
-        if self.kept.reserve(unlanded + 1).is_err() {
-            return Err((Refusal::Memory, data));
         }
         let ticket = self.tickets;
         let owed = owe_first(self.legs.len());

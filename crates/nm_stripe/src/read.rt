@@ -28,9 +28,8 @@ impl<L: LegPart> Stripe<L> {
 
     /// Reads a block from the master into `into`, and keeps the read's entry under the next number.
     ///
-    /// Takes the memory that its entry needs, beside what writes without an entry need. Refused as
-    /// `Stopped`, `Exhausted`, `Memory` or `Fault`, the first whose condition holds; then `into` is
-    /// as it was.
+    /// Refused as `Stopped`, `Exhausted` or `Fault`, the first whose condition holds; then `into`
+    /// is as it was.
     pub fn read(&mut self, block: u64, into: &mut Block) -> Result<Receipt<L>, Refusal>
         requires { block < self.old.place.blocks }
         ensures ok { IfOk result (Finds (leg_type L.model L.honest) self.old self.new
@@ -46,14 +45,10 @@ impl<L: LegPart> Stripe<L> {
             → OnErr result (IsExplainedStep L.model [] self.old self.new) }
         ensures target_left { OnErr result (into.new ≡ into.old) }
     {
+        let stripe = self.place.stripe;
         if let Some(refusal) = self.read_cause() {
             return Err(refusal);
         }
-        let unlanded = self.records.unlanded() as usize;
-        if self.kept.reserve(unlanded + 1).is_err() {
-            return Err(Refusal::Memory);
-        }
-        let stripe = self.place.stripe;
         let number = self.next_number();
         if read_leg_at(&mut self.legs, self.master, block, into).is_err() {
             return Err(Refusal::Fault);

@@ -27,8 +27,6 @@ pub enum Refusal {
     Fault,
     /// The leg is not out.
     NotOut,
-    /// Out of memory: an allocation failed.
-    Memory,
 }
 
 impl Refusal {
@@ -46,7 +44,6 @@ impl Refusal {
             Refusal::NotYet => 9,
             Refusal::Fault => 10,
             Refusal::NotOut => 13,
-            Refusal::Memory => 16,
         }
     }
 }
@@ -65,7 +62,6 @@ impl fmt::Display for Refusal {
             Refusal::NotYet => f.write_str("9 NotYet"),
             Refusal::Fault => f.write_str("10 Fault"),
             Refusal::NotOut => f.write_str("13 NotOut"),
-            Refusal::Memory => f.write_str("16 Memory"),
         }
     }
 }

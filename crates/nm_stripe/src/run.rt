@@ -31,9 +31,9 @@ impl<L: LegPart> Stripe<L> {
         ensures stays { OnErr result (self.new ≡ self.old) }
         ensures memory_only_at_growth { steps.items ≡ [] → IsOk result }
     {
+        self.sound();
         let mut answers = Vec::new(alloc);
         if answers.reserve(steps.len()).is_err() {
-            self.sound();
             return Err(steps);
         }
         let mut rest = steps;

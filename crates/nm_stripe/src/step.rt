@@ -78,6 +78,7 @@ impl<L: LegPart> Stripe<L> {
         ensures acts { IsTrue L.honest → NoneHalted (result ∷ [])
             → IsExplainedStep L.model (marks step result) self.old self.new }
     {
+        self.sound();
         match step {
             Step::Begin(block, data) => match self.begin(block, data) {
                 Ok(ticket) => Answer::Begun(ticket),

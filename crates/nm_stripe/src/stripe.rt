@@ -41,22 +41,23 @@ pub struct Stripe<L: LegPart> {
 impl<L: LegPart> Model for Stripe<L> {
     ghost use Rattle.nm_leg.specs.Leg.{leg_type};
     ghost use Rattle.nm_stripe.specs.State.{StripeState, state_of};
-    ghost use Rattle.nm_stripe.specs.Invariant.{IsStripe};
+    ghost use Rattle.nm_stripe.specs.Invariant.{Keeps};
 
     ghost Value = { StripeState L };
 
     ghost view = { λ s. state_of s.place s.legs.items s.master s.records s.tickets s.kept
         s.first s.stopped };
 
-    ghost invariant = { λ s. IsStripe (leg_type L.model L.honest) s.kept.room
+    ghost invariant = { λ s. Keeps (leg_type L.model L.honest)
         (state_of s.place s.legs.items s.master s.records s.tickets s.kept s.first s.stopped) };
 }
 
 impl<L: LegPart> Stripe<L> {
     /// A stripe of these legs, which are all in sync, and hold equal contents if they are honest.
     ///
-    /// The lowest is the master, `first` the number of its first entry. Room for all records is
-    /// taken here; where it is refused the legs come back.
+    /// The lowest is the master, `first` the number of its first entry. All the memory that the
+    /// stripe will ever need is taken here, so no step takes any; where it is refused the legs come
+    /// back.
     pub fn open(
         alloc: Global,
         place: At,
@@ -76,13 +77,16 @@ impl<L: LegPart> Stripe<L> {
         let Ok(records) = Records::new(alloc) else {
             return Err((Memory, legs));
         };
+        let Ok(kept) = Kept::new(alloc) else {
+            return Err((Memory, legs));
+        };
         Ok(Stripe {
             place,
             legs,
             master: 0,
             records,
             tickets: 0,
-            kept: Kept::new(alloc),
+            kept,
             first,
             stopped: false,
         })

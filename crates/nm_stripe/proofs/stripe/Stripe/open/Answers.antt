@@ -7,20 +7,17 @@ use Rattle.std.proofs.Common.{ap, slice_get}
 
 pub invariant_of-result : goal.invariant_of-result
 invariant_of-result g c = record {
-  keeps = record {
-    legs = record {
-      few = c.requires.few;
-      master = c.requires.some;
-      lengths = λ leg inside. opened-lengths g.L.LegPart.model c.args.legs.items c.args.place.blocks leg c.requires.lengths inside;
-    };
-    records = search rules;
-    numbers = search rules;
-    consistent = λ is_honest. grind (arith, common_steps);
-    agrees = λ is_honest runs. record {
-      reached = search rules;
-      alike = λ leg block inside none. ap (λ xs. slice_get xs block) (all_equal g.L.LegPart.model c.args.legs.items c.args.in_sync leg 0 c.requires.all_in_sync (c.requires.equal is_honest) inside c.requires.some);
-      last = search rules;
-    };
+  legs = record {
+    few = c.requires.few;
+    master = c.requires.some;
+    lengths = λ leg inside. opened-lengths g.L.LegPart.model c.args.legs.items c.args.place.blocks leg c.requires.lengths inside;
   };
-  room_left = search rules;
+  records = search rules;
+  numbers = search rules;
+  consistent = λ is_honest. grind (arith, common_steps);
+  agrees = λ is_honest runs. record {
+    reached = search rules;
+    alike = λ leg block inside none. ap (λ xs. slice_get xs block) (all_equal g.L.LegPart.model c.args.legs.items c.args.in_sync leg 0 c.requires.all_in_sync (c.requires.equal is_honest) inside c.requires.some);
+    last = search rules;
+  };
 }

@@ -1,12 +1,12 @@
 -- A push is read off its fields once, and the lemmas on pushes do the rest.
 use Rattle.nm_leg.specs.Leg.{leg_type}
-use Rattle.std.proofs.Common.{rules, ◌≡◌, ◌≢◌, ◌+◌, true, false, is_ok, [], ◌∷◌, ◌++◌, refl, sym, ap, subst, arith}
+use Rattle.std.proofs.Common.{rules, ◌≡◌, ◌≢◌, ◌+◌, true, false, is_ok, [], ◌∷◌, ◌++◌, refl, sym, subst, arith}
 use Rattle.std.specs.Vec.{with_items}
 use Rattle.std.proofs.lemmas.List.{with_items_is}
-use Rattle.nm_fanout.proofs.Landing.{unlanded-reached}
 use Rattle.nm_fanout.proofs.Members.{find_record-whole}
-use Rattle.nm_fanout.specs.Records.{IsAt, unlanded, reached, landed}
+use Rattle.nm_fanout.specs.Records.{IsAt, reached, landed}
 use Rattle.nm_replay.specs.Events.{Lands}
+use Rattle.nm_replay.specs.Kept.{last_kept}
 use Rattle.nm_stripe.specs.State.{StripeState, state_of}
 use Rattle.nm_stripe.specs.Push.{write_entry}
 use Rattle.nm_stripe.proofs.HaltLemmas.{halt-keeps}
@@ -21,7 +21,7 @@ write_leg_at-written-requires-clause-bytes g c =
     let old = state_of i.place i.legs.items i.master i.records i.tickets i.kept i.first i.stopped in
     let r = c.at-record.result.now in
     let at : IsAt c.args.ticket c.in_ok-place.place i.records = subst (λ (s : StripeState _). IsAt c.args.ticket c.in_ok-place.place s.records) (sym c.self.view_is) c.in_ok-place.ensures.place in
-    rw c.bytes.ensures (find_record-whole c.args.ticket i.records r c.self.invariant.keeps.records.in_order (found-at c.args.ticket c.in_ok-place.place i.records r at c.at-record.ensures.found)).filled
+    rw c.bytes.ensures (find_record-whole c.args.ticket i.records r c.self.invariant.records.in_order (found-at c.args.ticket c.in_ok-place.place i.records r at c.at-record.ensures.found)).filled
 
 pub write_entry-requires : goal.write_entry-requires
 write_entry-requires g c =
@@ -29,7 +29,7 @@ write_entry-requires g c =
     let old = state_of i.place i.legs.items i.master i.records i.tickets i.kept i.first i.stopped in
     let r = c.at-record.result.now in
     let at : IsAt c.args.ticket c.in_ok-place.place i.records = subst (λ (s : StripeState _). IsAt c.args.ticket c.in_ok-place.place s.records) (sym c.self.view_is) c.in_ok-place.ensures.place in
-    (find_record-whole c.args.ticket i.records r c.self.invariant.keeps.records.in_order (found-at c.args.ticket c.in_ok-place.place i.records r at c.at-record.ensures.found)).filled
+    (find_record-whole c.args.ticket i.records r c.self.invariant.records.in_order (found-at c.args.ticket c.in_ok-place.place i.records r at c.at-record.ensures.found)).filled
 
 -- the leg failed
 pub invariant_of-self : goal.invariant_of-self
@@ -40,11 +40,8 @@ invariant_of-self g c =
     let legs = c.write_leg_at-written.new.legs in
     let same : (with_items i.legs legs).items ≡ legs = with_items_is i.legs legs (search rules) in
     let ok : is_ok c.write_leg_at-written.result ≡ false = search rules in
-    let called = has-called (leg_type g.L.LegPart.model g.L.LegPart.honest) false old c.args.ticket c.args.leg c.in_ok-place.place legs r c.args.self.now c.deref_mut.result.now c.bytes.result.now (is_ok c.write_leg_at-written.result) c.self.view_is c.self.invariant.keeps c.in_ok-place.ensures.place c.in_ok-place.ensures.no_cause c.at-record.ensures.found c.deref_mut.ensures.value c.bytes.ensures ok c.write_leg_at-written.ensures in
-    record {
-      keeps = rw same (halt-keeps (leg_type g.L.LegPart.model g.L.LegPart.honest) old legs c.args.leg r.block _ called.keeps called.writes);
-      room_left = c.self.invariant.room_left;
-    }
+    let called = has-called (leg_type g.L.LegPart.model g.L.LegPart.honest) false old c.args.ticket c.args.leg c.in_ok-place.place legs r c.args.self.now c.deref_mut.result.now c.bytes.result.now (is_ok c.write_leg_at-written.result) c.self.view_is c.self.invariant c.in_ok-place.ensures.place c.in_ok-place.ensures.no_cause c.at-record.ensures.found c.deref_mut.ensures.value c.bytes.ensures ok c.write_leg_at-written.ensures in
+    rw same (halt-keeps (leg_type g.L.LegPart.model g.L.LegPart.honest) old legs c.args.leg r.block _ called.keeps called.writes)
 
 -- another leg than the master was reached
 pub invariant_of-self-then-leg-self : goal.invariant_of-self-then-leg-self
@@ -55,15 +52,12 @@ invariant_of-self-then-leg-self g c =
     let legs = c.write_leg_at-written.new.legs in
     let same : (with_items i.legs legs).items ≡ legs = with_items_is i.legs legs (search rules) in
     let ok : is_ok c.write_leg_at-written.result ≡ true = search rules in
-    let called = has-called (leg_type g.L.LegPart.model g.L.LegPart.honest) true old c.args.ticket c.args.leg c.in_ok-place.place legs r c.args.self.now c.deref_mut.result.now c.bytes.result.now (is_ok c.write_leg_at-written.result) c.self.view_is c.self.invariant.keeps c.in_ok-place.ensures.place c.in_ok-place.ensures.no_cause c.at-record.ensures.found c.deref_mut.ensures.value c.bytes.ensures ok c.write_leg_at-written.ensures in
+    let called = has-called (leg_type g.L.LegPart.model g.L.LegPart.honest) true old c.args.ticket c.args.leg c.in_ok-place.place legs r c.args.self.now c.deref_mut.result.now c.bytes.result.now (is_ok c.write_leg_at-written.result) c.self.view_is c.self.invariant c.in_ok-place.ensures.place c.in_ok-place.ensures.no_cause c.at-record.ensures.found c.deref_mut.ensures.value c.bytes.ensures ok c.write_leg_at-written.ensures in
     let ne : i.master ≢ c.args.leg = search rules in
     let was = was_reached (leg_type g.L.LegPart.model g.L.LegPart.honest) old c.args.ticket c.args.leg c.in_ok-place.place legs r called in
     let list : c.reach_at.new.self ≡ reached c.args.ticket c.args.leg i.records = c.reach_at.ensures c.args.ticket called.at in
     let is = reached-state i.place i.legs.items legs i.master i.records c.reach_at.new.self i.tickets i.kept i.first i.stopped c.args.ticket c.args.leg r (same_ticket (leg_type g.L.LegPart.model g.L.LegPart.honest) old c.args.ticket c.args.leg c.in_ok-place.place legs r called) list in
-    record {
-      keeps = rw (same, is) (reach-keeps (leg_type g.L.LegPart.model g.L.LegPart.honest) old legs r c.args.leg was ne);
-      room_left = omega (arith, c.self.invariant.room_left, ap (λ rs. unlanded rs) list, unlanded-reached c.args.ticket c.args.leg i.records);
-    }
+    rw (same, is) (reach-keeps (leg_type g.L.LegPart.model g.L.LegPart.honest) old legs r c.args.leg was ne)
 
 pub reached-requires : goal.reached-requires
 reached-requires g c =
@@ -73,7 +67,7 @@ reached-requires g c =
     let legs = c.write_leg_at-written.new.legs in
     let same : (with_items i.legs legs).items ≡ legs = with_items_is i.legs legs (search rules) in
     let ok : is_ok c.write_leg_at-written.result ≡ true = search rules in
-    let called = has-called (leg_type g.L.LegPart.model g.L.LegPart.honest) true old c.args.ticket c.args.leg c.in_ok-place.place legs r c.args.self.now c.deref_mut.result.now c.bytes.result.now (is_ok c.write_leg_at-written.result) c.self.view_is c.self.invariant.keeps c.in_ok-place.ensures.place c.in_ok-place.ensures.no_cause c.at-record.ensures.found c.deref_mut.ensures.value c.bytes.ensures ok c.write_leg_at-written.ensures in
+    let called = has-called (leg_type g.L.LegPart.model g.L.LegPart.honest) true old c.args.ticket c.args.leg c.in_ok-place.place legs r c.args.self.now c.deref_mut.result.now c.bytes.result.now (is_ok c.write_leg_at-written.result) c.self.view_is c.self.invariant c.in_ok-place.ensures.place c.in_ok-place.ensures.no_cause c.at-record.ensures.found c.deref_mut.ensures.value c.bytes.ensures ok c.write_leg_at-written.ensures in
     let ne : i.master ≢ c.args.leg = search rules in
     let was = was_reached (leg_type g.L.LegPart.model g.L.LegPart.honest) old c.args.ticket c.args.leg c.in_ok-place.place legs r called in
     let list : c.reach_at.new.self ≡ reached c.args.ticket c.args.leg i.records = c.reach_at.ensures c.args.ticket called.at in
@@ -87,7 +81,7 @@ returns-then-leg-self-clause-ok g c =
     let legs = c.write_leg_at-written.new.legs in
     let same : (with_items i.legs legs).items ≡ legs = with_items_is i.legs legs (search rules) in
     let ok : is_ok c.write_leg_at-written.result ≡ true = search rules in
-    let called = has-called (leg_type g.L.LegPart.model g.L.LegPart.honest) true old c.args.ticket c.args.leg c.in_ok-place.place legs r c.args.self.now c.deref_mut.result.now c.bytes.result.now (is_ok c.write_leg_at-written.result) c.self.view_is c.self.invariant.keeps c.in_ok-place.ensures.place c.in_ok-place.ensures.no_cause c.at-record.ensures.found c.deref_mut.ensures.value c.bytes.ensures ok c.write_leg_at-written.ensures in
+    let called = has-called (leg_type g.L.LegPart.model g.L.LegPart.honest) true old c.args.ticket c.args.leg c.in_ok-place.place legs r c.args.self.now c.deref_mut.result.now c.bytes.result.now (is_ok c.write_leg_at-written.result) c.self.view_is c.self.invariant c.in_ok-place.ensures.place c.in_ok-place.ensures.no_cause c.at-record.ensures.found c.deref_mut.ensures.value c.bytes.ensures ok c.write_leg_at-written.ensures in
     let ne : i.master ≢ c.args.leg = search rules in
     let was = was_reached (leg_type g.L.LegPart.model g.L.LegPart.honest) old c.args.ticket c.args.leg c.in_ok-place.place legs r called in
     let list : c.reach_at.new.self ≡ reached c.args.ticket c.args.leg i.records = c.reach_at.ensures c.args.ticket called.at in
@@ -106,7 +100,7 @@ returns-then-leg-self-clause-acts g c =
     let legs = c.write_leg_at-written.new.legs in
     let same : (with_items i.legs legs).items ≡ legs = with_items_is i.legs legs (search rules) in
     let ok : is_ok c.write_leg_at-written.result ≡ true = search rules in
-    let called = has-called (leg_type g.L.LegPart.model g.L.LegPart.honest) true old c.args.ticket c.args.leg c.in_ok-place.place legs r c.args.self.now c.deref_mut.result.now c.bytes.result.now (is_ok c.write_leg_at-written.result) c.self.view_is c.self.invariant.keeps c.in_ok-place.ensures.place c.in_ok-place.ensures.no_cause c.at-record.ensures.found c.deref_mut.ensures.value c.bytes.ensures ok c.write_leg_at-written.ensures in
+    let called = has-called (leg_type g.L.LegPart.model g.L.LegPart.honest) true old c.args.ticket c.args.leg c.in_ok-place.place legs r c.args.self.now c.deref_mut.result.now c.bytes.result.now (is_ok c.write_leg_at-written.result) c.self.view_is c.self.invariant c.in_ok-place.ensures.place c.in_ok-place.ensures.no_cause c.at-record.ensures.found c.deref_mut.ensures.value c.bytes.ensures ok c.write_leg_at-written.ensures in
     let ne : i.master ≢ c.args.leg = search rules in
     let was = was_reached (leg_type g.L.LegPart.model g.L.LegPart.honest) old c.args.ticket c.args.leg c.in_ok-place.place legs r called in
     let list : c.reach_at.new.self ≡ reached c.args.ticket c.args.leg i.records = c.reach_at.ensures c.args.ticket called.at in
@@ -123,10 +117,10 @@ push-requires g c =
     let legs = c.write_leg_at-written.new.legs in
     let same : (with_items i.legs legs).items ≡ legs = with_items_is i.legs legs (search rules) in
     let ok : is_ok c.write_leg_at-written.result ≡ true = search rules in
-    let called = has-called (leg_type g.L.LegPart.model g.L.LegPart.honest) true old c.args.ticket c.args.leg c.in_ok-place.place legs r c.args.self.now c.deref_mut.result.now c.bytes.result.now (is_ok c.write_leg_at-written.result) c.self.view_is c.self.invariant.keeps c.in_ok-place.ensures.place c.in_ok-place.ensures.no_cause c.at-record.ensures.found c.deref_mut.ensures.value c.bytes.ensures ok c.write_leg_at-written.ensures in
+    let called = has-called (leg_type g.L.LegPart.model g.L.LegPart.honest) true old c.args.ticket c.args.leg c.in_ok-place.place legs r c.args.self.now c.deref_mut.result.now c.bytes.result.now (is_ok c.write_leg_at-written.result) c.self.view_is c.self.invariant c.in_ok-place.ensures.place c.in_ok-place.ensures.no_cause c.at-record.ensures.found c.deref_mut.ensures.value c.bytes.ensures ok c.write_leg_at-written.ensures in
     let at : c.args.leg ≡ i.master = search rules in
     let waits = still_waits (leg_type g.L.LegPart.model g.L.LegPart.honest) old c.args.ticket c.args.leg c.in_ok-place.place legs r called at in
-    omega (arith, waits, c.self.invariant.room_left)
+    omega (arith, waits, c.self.invariant.numbers.below)
 
 pub land_at-requires : goal.land_at-requires
 land_at-requires g c =
@@ -136,7 +130,7 @@ land_at-requires g c =
     let legs = c.write_leg_at-written.new.legs in
     let same : (with_items i.legs legs).items ≡ legs = with_items_is i.legs legs (search rules) in
     let ok : is_ok c.write_leg_at-written.result ≡ true = search rules in
-    let called = has-called (leg_type g.L.LegPart.model g.L.LegPart.honest) true old c.args.ticket c.args.leg c.in_ok-place.place legs r c.args.self.now c.deref_mut.result.now c.bytes.result.now (is_ok c.write_leg_at-written.result) c.self.view_is c.self.invariant.keeps c.in_ok-place.ensures.place c.in_ok-place.ensures.no_cause c.at-record.ensures.found c.deref_mut.ensures.value c.bytes.ensures ok c.write_leg_at-written.ensures in
+    let called = has-called (leg_type g.L.LegPart.model g.L.LegPart.honest) true old c.args.ticket c.args.leg c.in_ok-place.place legs r c.args.self.now c.deref_mut.result.now c.bytes.result.now (is_ok c.write_leg_at-written.result) c.self.view_is c.self.invariant c.in_ok-place.ensures.place c.in_ok-place.ensures.no_cause c.at-record.ensures.found c.deref_mut.ensures.value c.bytes.ensures ok c.write_leg_at-written.ensures in
     let at : c.args.leg ≡ i.master = search rules in
     let was = was_reached (leg_type g.L.LegPart.model g.L.LegPart.honest) old c.args.ticket c.args.leg c.in_ok-place.place legs r called in
     let number : c.next_number-number.result ≡ i.first + i.kept.total = rw (← c.self.view_is) at c.next_number-number.ensures in
@@ -151,20 +145,16 @@ invariant_of-self-2 g c =
     let legs = c.write_leg_at-written.new.legs in
     let same : (with_items i.legs legs).items ≡ legs = with_items_is i.legs legs (search rules) in
     let ok : is_ok c.write_leg_at-written.result ≡ true = search rules in
-    let called = has-called (leg_type g.L.LegPart.model g.L.LegPart.honest) true old c.args.ticket c.args.leg c.in_ok-place.place legs r c.args.self.now c.deref_mut.result.now c.bytes.result.now (is_ok c.write_leg_at-written.result) c.self.view_is c.self.invariant.keeps c.in_ok-place.ensures.place c.in_ok-place.ensures.no_cause c.at-record.ensures.found c.deref_mut.ensures.value c.bytes.ensures ok c.write_leg_at-written.ensures in
+    let called = has-called (leg_type g.L.LegPart.model g.L.LegPart.honest) true old c.args.ticket c.args.leg c.in_ok-place.place legs r c.args.self.now c.deref_mut.result.now c.bytes.result.now (is_ok c.write_leg_at-written.result) c.self.view_is c.self.invariant c.in_ok-place.ensures.place c.in_ok-place.ensures.no_cause c.at-record.ensures.found c.deref_mut.ensures.value c.bytes.ensures ok c.write_leg_at-written.ensures in
     let at : c.args.leg ≡ i.master = search rules in
     let was = was_reached (leg_type g.L.LegPart.model g.L.LegPart.honest) old c.args.ticket c.args.leg c.in_ok-place.place legs r called in
     let number : c.next_number-number.result ≡ i.first + i.kept.total = rw (← c.self.view_is) at c.next_number-number.ensures in
     let first : c.reach_at-2.new.self ≡ reached c.args.ticket c.args.leg i.records = c.reach_at-2.ensures c.args.ticket called.at in
     let there : IsAt c.args.ticket c.in_ok-place.place c.reach_at-2.new.self = rw first (reach-at (leg_type g.L.LegPart.model g.L.LegPart.honest) old c.args.ticket c.args.leg c.in_ok-place.place legs r called) in
     let list : c.land_at.new.self ≡ landed c.args.ticket (i.first + i.kept.total) (reached c.args.ticket c.args.leg i.records) = rw (← number, ← first) (c.land_at.ensures c.args.ticket there) in
-    let entries : c.push.new.self.entries ≡ i.kept.entries ++ write_entry (i.first + i.kept.total) r ∷ [] = rw (← number, ← c.write_entry.ensures) c.push.ensures.entries in
+    let entries : c.push.new.self.entries ≡ last_kept (i.kept.entries ++ write_entry (i.first + i.kept.total) r ∷ []) = rw (← number, ← c.write_entry.ensures) c.push.ensures.entries in
     let is = landed-state i.place i.legs.items legs i.master i.records c.land_at.new.self i.tickets i.kept c.push.new.self i.first i.stopped c.args.ticket c.args.leg r (same_ticket (leg_type g.L.LegPart.model g.L.LegPart.honest) old c.args.ticket c.args.leg c.in_ok-place.place legs r called) list entries c.push.ensures.total in
-    let waits = still_waits (leg_type g.L.LegPart.model g.L.LegPart.honest) old c.args.ticket c.args.leg c.in_ok-place.place legs r called at in
-    record {
-      keeps = rw (same, is) (land-keeps (leg_type g.L.LegPart.model g.L.LegPart.honest) old legs r c.args.leg was at);
-      room_left = omega (arith, waits, c.self.invariant.room_left, ap (λ rs. unlanded rs) list, c.push.ensures.room);
-    }
+    rw (same, is) (land-keeps (leg_type g.L.LegPart.model g.L.LegPart.honest) old legs r c.args.leg was at)
 
 pub reached-requires-2 : goal.reached-requires-2
 reached-requires-2 g c =
@@ -174,7 +164,7 @@ reached-requires-2 g c =
     let legs = c.write_leg_at-written.new.legs in
     let same : (with_items i.legs legs).items ≡ legs = with_items_is i.legs legs (search rules) in
     let ok : is_ok c.write_leg_at-written.result ≡ true = search rules in
-    let called = has-called (leg_type g.L.LegPart.model g.L.LegPart.honest) true old c.args.ticket c.args.leg c.in_ok-place.place legs r c.args.self.now c.deref_mut.result.now c.bytes.result.now (is_ok c.write_leg_at-written.result) c.self.view_is c.self.invariant.keeps c.in_ok-place.ensures.place c.in_ok-place.ensures.no_cause c.at-record.ensures.found c.deref_mut.ensures.value c.bytes.ensures ok c.write_leg_at-written.ensures in
+    let called = has-called (leg_type g.L.LegPart.model g.L.LegPart.honest) true old c.args.ticket c.args.leg c.in_ok-place.place legs r c.args.self.now c.deref_mut.result.now c.bytes.result.now (is_ok c.write_leg_at-written.result) c.self.view_is c.self.invariant c.in_ok-place.ensures.place c.in_ok-place.ensures.no_cause c.at-record.ensures.found c.deref_mut.ensures.value c.bytes.ensures ok c.write_leg_at-written.ensures in
     let at : c.args.leg ≡ i.master = search rules in
     let was = was_reached (leg_type g.L.LegPart.model g.L.LegPart.honest) old c.args.ticket c.args.leg c.in_ok-place.place legs r called in
     let number : c.next_number-number.result ≡ i.first + i.kept.total = rw (← c.self.view_is) at c.next_number-number.ensures in
@@ -191,14 +181,14 @@ returns-clause-ok g c =
     let legs = c.write_leg_at-written.new.legs in
     let same : (with_items i.legs legs).items ≡ legs = with_items_is i.legs legs (search rules) in
     let ok : is_ok c.write_leg_at-written.result ≡ true = search rules in
-    let called = has-called (leg_type g.L.LegPart.model g.L.LegPart.honest) true old c.args.ticket c.args.leg c.in_ok-place.place legs r c.args.self.now c.deref_mut.result.now c.bytes.result.now (is_ok c.write_leg_at-written.result) c.self.view_is c.self.invariant.keeps c.in_ok-place.ensures.place c.in_ok-place.ensures.no_cause c.at-record.ensures.found c.deref_mut.ensures.value c.bytes.ensures ok c.write_leg_at-written.ensures in
+    let called = has-called (leg_type g.L.LegPart.model g.L.LegPart.honest) true old c.args.ticket c.args.leg c.in_ok-place.place legs r c.args.self.now c.deref_mut.result.now c.bytes.result.now (is_ok c.write_leg_at-written.result) c.self.view_is c.self.invariant c.in_ok-place.ensures.place c.in_ok-place.ensures.no_cause c.at-record.ensures.found c.deref_mut.ensures.value c.bytes.ensures ok c.write_leg_at-written.ensures in
     let at : c.args.leg ≡ i.master = search rules in
     let was = was_reached (leg_type g.L.LegPart.model g.L.LegPart.honest) old c.args.ticket c.args.leg c.in_ok-place.place legs r called in
     let number : c.next_number-number.result ≡ i.first + i.kept.total = rw (← c.self.view_is) at c.next_number-number.ensures in
     let first : c.reach_at-2.new.self ≡ reached c.args.ticket c.args.leg i.records = c.reach_at-2.ensures c.args.ticket called.at in
     let there : IsAt c.args.ticket c.in_ok-place.place c.reach_at-2.new.self = rw first (reach-at (leg_type g.L.LegPart.model g.L.LegPart.honest) old c.args.ticket c.args.leg c.in_ok-place.place legs r called) in
     let list : c.land_at.new.self ≡ landed c.args.ticket (i.first + i.kept.total) (reached c.args.ticket c.args.leg i.records) = rw (← number, ← first) (c.land_at.ensures c.args.ticket there) in
-    let entries : c.push.new.self.entries ≡ i.kept.entries ++ write_entry (i.first + i.kept.total) r ∷ [] = rw (← number, ← c.write_entry.ensures) c.push.ensures.entries in
+    let entries : c.push.new.self.entries ≡ last_kept (i.kept.entries ++ write_entry (i.first + i.kept.total) r ∷ []) = rw (← number, ← c.write_entry.ensures) c.push.ensures.entries in
     let is = landed-state i.place i.legs.items legs i.master i.records c.land_at.new.self i.tickets i.kept c.push.new.self i.first i.stopped c.args.ticket c.args.leg r (same_ticket (leg_type g.L.LegPart.model g.L.LegPart.honest) old c.args.ticket c.args.leg c.in_ok-place.place legs r called) list entries c.push.ensures.total in
     let pushes = land-pushes (leg_type g.L.LegPart.model g.L.LegPart.honest) old c.args.ticket c.args.leg c.in_ok-place.place legs r called at in
     let last : IsAt c.args.ticket c.in_ok-place.place c.land_at.new.self = rw list (land-at (leg_type g.L.LegPart.model g.L.LegPart.honest) old c.args.ticket c.args.leg c.in_ok-place.place legs r called) in
@@ -214,14 +204,14 @@ returns-clause-acts g c =
     let legs = c.write_leg_at-written.new.legs in
     let same : (with_items i.legs legs).items ≡ legs = with_items_is i.legs legs (search rules) in
     let ok : is_ok c.write_leg_at-written.result ≡ true = search rules in
-    let called = has-called (leg_type g.L.LegPart.model g.L.LegPart.honest) true old c.args.ticket c.args.leg c.in_ok-place.place legs r c.args.self.now c.deref_mut.result.now c.bytes.result.now (is_ok c.write_leg_at-written.result) c.self.view_is c.self.invariant.keeps c.in_ok-place.ensures.place c.in_ok-place.ensures.no_cause c.at-record.ensures.found c.deref_mut.ensures.value c.bytes.ensures ok c.write_leg_at-written.ensures in
+    let called = has-called (leg_type g.L.LegPart.model g.L.LegPart.honest) true old c.args.ticket c.args.leg c.in_ok-place.place legs r c.args.self.now c.deref_mut.result.now c.bytes.result.now (is_ok c.write_leg_at-written.result) c.self.view_is c.self.invariant c.in_ok-place.ensures.place c.in_ok-place.ensures.no_cause c.at-record.ensures.found c.deref_mut.ensures.value c.bytes.ensures ok c.write_leg_at-written.ensures in
     let at : c.args.leg ≡ i.master = search rules in
     let was = was_reached (leg_type g.L.LegPart.model g.L.LegPart.honest) old c.args.ticket c.args.leg c.in_ok-place.place legs r called in
     let number : c.next_number-number.result ≡ i.first + i.kept.total = rw (← c.self.view_is) at c.next_number-number.ensures in
     let first : c.reach_at-2.new.self ≡ reached c.args.ticket c.args.leg i.records = c.reach_at-2.ensures c.args.ticket called.at in
     let there : IsAt c.args.ticket c.in_ok-place.place c.reach_at-2.new.self = rw first (reach-at (leg_type g.L.LegPart.model g.L.LegPart.honest) old c.args.ticket c.args.leg c.in_ok-place.place legs r called) in
     let list : c.land_at.new.self ≡ landed c.args.ticket (i.first + i.kept.total) (reached c.args.ticket c.args.leg i.records) = rw (← number, ← first) (c.land_at.ensures c.args.ticket there) in
-    let entries : c.push.new.self.entries ≡ i.kept.entries ++ write_entry (i.first + i.kept.total) r ∷ [] = rw (← number, ← c.write_entry.ensures) c.push.ensures.entries in
+    let entries : c.push.new.self.entries ≡ last_kept (i.kept.entries ++ write_entry (i.first + i.kept.total) r ∷ []) = rw (← number, ← c.write_entry.ensures) c.push.ensures.entries in
     let is = landed-state i.place i.legs.items legs i.master i.records c.land_at.new.self i.tickets i.kept c.push.new.self i.first i.stopped c.args.ticket c.args.leg r (same_ticket (leg_type g.L.LegPart.model g.L.LegPart.honest) old c.args.ticket c.args.leg c.in_ok-place.place legs r called) list entries c.push.ensures.total in
     let acts = land-acts (leg_type g.L.LegPart.model g.L.LegPart.honest) old legs r c.args.leg was at is_honest in
     explained-reach g.L.LegPart.model c.args.self.now _ c.reached-2.result (rw (same, is, ← c.self.view_is) (record { events = Lands (write_entry (i.first + i.kept.total) r) ∷ []; marked = refl; acts = acts }))

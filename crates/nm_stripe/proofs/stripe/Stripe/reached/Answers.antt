@@ -14,6 +14,6 @@ unwrap-requires g c =
     let r = c.at-record.result.now in
     let over : is_under_way r ≡ false = sym c.is_under_way.ensures ∙ c.if-is_under_way.false in
     let inside = rw (← c.self.view_is) at c.requires in
-    let found = ticket-at c.args.place i.records r c.self.invariant.keeps.records.in_order.ascending inside c.at-record.ensures.found in
-    let number = finished_landed (leg_type g.L.LegPart.model g.L.LegPart.honest) old r.ticket r c.self.invariant.keeps found over in
+    let found = ticket-at c.args.place i.records r c.self.invariant.records.in_order.ascending inside c.at-record.ensures.found in
+    let number = finished_landed (leg_type g.L.LegPart.model g.L.LegPart.honest) old r.ticket r c.self.invariant found over in
     rw number.1 refl

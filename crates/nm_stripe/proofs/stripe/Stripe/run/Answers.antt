@@ -9,7 +9,7 @@ loop-step-init g c =
     let turned : c.reverse.new.self.items ≡ reverse c.args.steps.items = search rules in
     let none : c.reserve.new.self.items ≡ [] = search rules in
     record {
-      run = rw (turned, none) (run-begins (leg_type g.L.LegPart.model g.L.LegPart.honest) c.args.self.now c.args.steps.items c.requires);
+      run = rw (turned, none) (run-begins (leg_type g.L.LegPart.model g.L.LegPart.honest) c.args.self.now c.args.steps.items c.sound.ensures.kept c.requires);
       room = search rules;
     }
 

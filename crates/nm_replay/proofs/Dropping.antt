@@ -1,0 +1,73 @@
+-- Where the oldest entries are dropped, the others are numbered, consistent, and end in the same array.
+use Rattle.std.proofs.Common.{◌≡◌, ℕ, ◌+◌, ◌-◌, ◌≤◌, List, [], ◌∷◌, ◌++◌, min, length, take, drop, drop-drop, append-nil, sym, ap, ◌∙◌, subst, arith, slice_get, length-append, length-drop}
+use Rattle.std.specs.Prelude.{Option, Some, IfSome}
+use Rattle.std.proofs.lemmas.List.{take-append-drop, drop-append-le}
+use Rattle.nm_replay.specs.declared.block.Block.{Block}
+use Rattle.nm_replay.specs.declared.entry.Entry.{Entry}
+use Rattle.nm_replay.specs.Array.{Array}
+use Rattle.nm_replay.specs.History.{NumberedFrom, last_on, Consistent, EndsIn}
+use Rattle.nm_replay.specs.Kept.{last_kept}
+use Rattle.nm_replay.proofs.Agreement.{later}
+use Rattle.nm_replay.proofs.Consistency.{consistent-rest}
+use Rattle.nm_replay.proofs.LastOn.{last_on-append}
+use Rattle.nm_replay.proofs.Numbering.{numbered-append, numbered-rest}
+
+-- an end piece of entries ends where they do
+pub ends-rest : (xs ys : List Entry) (array : Array) → EndsIn (xs ++ ys) array → EndsIn ys array
+ends-rest xs ys array ends = λ block.
+    let P : Option Block → Type 0 = λ o. IfSome o (λ bytes. slice_get array block ≡ Some bytes) in
+    later (last_on block ys) (last_on block xs) (λ bytes. slice_get array block ≡ Some bytes) (subst P (last_on-append block xs ys) (ends block))
+
+pub ends-drop : (n : ℕ) (es : List Entry) (array : Array) → EndsIn es array → EndsIn (drop n es) array
+ends-drop n es array ends =
+    ends-rest (take n es) (drop n es) array (subst (λ xs. EndsIn xs array) (sym (take-append-drop n es)) ends)
+
+pub consistent-drop : (n : ℕ) (es : List Entry) → Consistent es → Consistent (drop n es)
+consistent-drop n es consistent =
+    consistent-rest (take n es) (drop n es) (subst (λ xs. Consistent xs) (sym (take-append-drop n es)) consistent)
+
+pub numbered-drop : (n first : ℕ) (es : List Entry) → n ≤ length es → NumberedFrom first es → NumberedFrom (first + n) (drop n es)
+numbered-drop n first es inside numbers =
+    let cut : length (take n es) + length (drop n es) ≡ length es = sym (length-append (take n es) (drop n es)) ∙ ap (λ xs. length xs) (take-append-drop n es) in
+    let size : first + length (take n es) ≡ first + n = omega (arith, cut, length-drop n es, inside) in
+    subst (λ k. NumberedFrom k (drop n es)) size
+    (numbered-rest first (take n es) (drop n es) (subst (λ xs. NumberedFrom first xs) (sym (take-append-drop n es)) numbers))
+
+-- what is kept: at most 1,024, and all of few
+pub length-last_kept : (es : List Entry) → length (last_kept es) ≡ min 1024 (length es)
+length-last_kept es = omega (arith, length-drop (length es - 1024) es)
+
+pub last_kept-few : (es : List Entry) → length es ≤ 1024 → last_kept es ≡ es
+last_kept-few es few = ap (λ n. drop n es) (let none : length es - 1024 ≡ 0 = omega (arith, few) in none)
+
+pub last_kept-none : (es : List Entry) → length es ≤ 1024 → es ≡ last_kept (es ++ [])
+last_kept-none es few = sym (ap (λ xs. last_kept xs) (append-nil es) ∙ last_kept-few es few)
+
+-- what is kept of some entries, and then of that and others, is what is kept of all
+pub last_kept-append : (xs ys : List Entry) → last_kept (last_kept xs ++ ys) ≡ last_kept (xs ++ ys)
+last_kept-append xs ys =
+    let n : ℕ = length xs - 1024 in
+    let inside : n ≤ length xs = omega arith in
+    let joined : last_kept xs ++ ys ≡ drop n (xs ++ ys) = sym (drop-append-le n xs ys inside) in
+    let all : n + (length (drop n (xs ++ ys)) - 1024) ≡ length (xs ++ ys) - 1024 = omega (arith, length-drop n (xs ++ ys), length-append xs ys) in
+    ap (λ zs. last_kept zs) joined ∙ drop-drop (length (drop n (xs ++ ys)) - 1024) n (xs ++ ys) ∙ ap (λ k. drop k (xs ++ ys)) all
+
+pub consistent-last_kept : (es : List Entry) → Consistent es → Consistent (last_kept es)
+consistent-last_kept es consistent = consistent-drop (length es - 1024) es consistent
+
+pub ends-last_kept : (es : List Entry) (array : Array) → EndsIn es array → EndsIn (last_kept es) array
+ends-last_kept es array ends = ends-drop (length es - 1024) es array ends
+
+pub numbered-last_kept : (first : ℕ) (es : List Entry) → NumberedFrom first es → NumberedFrom (first + (length es - 1024)) (last_kept es)
+numbered-last_kept first es numbers = numbered-drop (length es - 1024) first es (omega arith) numbers
+
+-- one more entry in a kept history: how many are kept, and their numbers
+pub length-kept : (total : ℕ) (es : List Entry) (e : Entry) → length es ≡ min 1024 total → length (last_kept (es ++ e ∷ [])) ≡ min 1024 (total + 1)
+length-kept total es e kept = omega (arith, kept, length-last_kept (es ++ e ∷ []), length-append es (e ∷ []))
+
+pub numbered-kept : (first total : ℕ) (es : List Entry) (e : Entry) → length es ≡ min 1024 total → NumberedFrom (first + total - length es) es → e.seq ≡ first + total → NumberedFrom (first + (total + 1) - length (last_kept (es ++ e ∷ []))) (last_kept (es ++ e ∷ []))
+numbered-kept first total es e kept numbers number =
+    let next : e.seq ≡ first + total - length es + length es = omega (arith, number, kept) in
+    let all : NumberedFrom (first + total - length es) (es ++ e ∷ []) = numbered-append (first + total - length es) es (e ∷ []) numbers (next, tt) in
+    let from : first + total - length es + (length (es ++ e ∷ []) - 1024) ≡ first + (total + 1) - length (last_kept (es ++ e ∷ [])) = omega (arith, kept, length-last_kept (es ++ e ∷ []), length-append es (e ∷ [])) in
+    subst (λ n. NumberedFrom n (last_kept (es ++ e ∷ []))) from (numbered-last_kept (first + total - length es) (es ++ e ∷ []) all)
