@@ -1,15 +1,14 @@
 -- A leg was called, and no contents changed: a read or a sync, whether it went well or not.
-use Rattle.std.proofs.Common.{◌≡◌, ◌≢◌, ⊎_elim, ℕ, ◌<◌, Bool, true, false, IsTrue, List, Option, None, Some, length, refl, sym, ap, ◌∙◌, subst, arith, slice_get, [], ◌+◌}
+use Rattle.std.proofs.Common.{◌≡◌, ⊎_elim, ℕ, Bool, IsTrue, List, Option, None, Some, length, refl, sym, ap, ◌∙◌, subst, arith, slice_get, [], ◌+◌}
 use Rattle.nm_replay.specs.declared.block.Block.{Block}
 use Rattle.nm_replay.specs.History.{EndsIn}
-use Rattle.nm_fanout.specs.declared.write_record.Record.{Record}
 use Rattle.nm_leg.specs.Leg.{LegType}
 use Rattle.nm_leg.specs.LegCalls.{ReadsLegAt, SyncsLegAt}
 use Rattle.nm_regions.specs.declared.copy_place.CopyPlace.{CopyPlace}
 use Rattle.nm_rules.specs.Acts.{Acts}
 use Rattle.nm_rules.specs.Array.{contents_of, stripe_array, laid_from}
 use Rattle.nm_rules.specs.State.{StripeState, Chunk, copy_start}
-use Rattle.nm_rules.specs.Invariant.{HasLegs, HasChunk, IsCopy, HoldsArray, LegsAgree, Keeps}
+use Rattle.nm_rules.specs.Invariant.{HasLegs, HasChunk, LegsAgree, Keeps}
 use Rattle.nm_regions.specs.Sound.{AreSizes}
 use Rattle.nm_rules.proofs.ActsLemmas.{acts-same}
 use Rattle.nm_rules.proofs.LegLemmas.{calls-length, calls-lengths, calls-after, calls-before, calls-other, reads-contents}

@@ -1,5 +1,5 @@
 -- A step of a copy: what is known of the copy and the chunk that it goes on with.
-use Rattle.std.proofs.Common.{◌≡◌, ◌≢◌, ⊎_elim, ℕ, suc, ◌+◌, ◌-◌, ◌*◌, ◌/◌, ◌<◌, ◌≤◌, ◌==◌, ◌&&◌, Bool, true, false, not, IsTrue, List, [], ◌∷◌, None, Some, Option, is_some, length, min, refl, sym, ap, ◌∙◌, subst, arith, cond, nat_lt, nat_le, slice_get, position, suc-mul}
+use Rattle.std.proofs.Common.{◌≡◌, ℕ, suc, ◌+◌, ◌-◌, ◌*◌, ◌/◌, ◌<◌, ◌≤◌, ◌==◌, ◌&&◌, Bool, true, false, not, IsTrue, List, [], ◌∷◌, None, Some, Option, is_some, length, min, refl, sym, ap, ◌∙◌, subst, arith, cond, nat_lt, nat_le, position, suc-mul}
 use Rattle.std.specs.Option.{option_map, option_and_then, option_or}
 use Rattle.std.proofs.lemmas.Bool.Decides.{nat_tests}
 use Rattle.std.proofs.Math.Nat.{div-lt_iff_lt-mul}
@@ -10,11 +10,10 @@ use Rattle.nm_choice.specs.declared.leg_state.LegState.TheVariants.{InSync, Join
 use Rattle.nm_fanout.specs.declared.write_record.Record.{Record}
 use Rattle.nm_fanout.specs.Record.{is_under_way}
 use Rattle.nm_fanout.specs.Records.{find_record}
-use Rattle.nm_leg.specs.Leg.{Leg, LegType}
+use Rattle.nm_leg.specs.Leg.{LegType}
 use Rattle.nm_regions.specs.declared.copy_place.CopyPlace.{CopyPlace}
 use Rattle.nm_regions.specs.LegFlags.{no_leg}
 use Rattle.nm_regions.specs.Table.{leg_at, lowest_behind, length_of, has_copied, regions_of}
-use Rattle.nm_rules.specs.declared.refusal.Refusal.{Refusal}
 use Rattle.nm_rules.specs.declared.refusal.Refusal.TheVariants.{Busy, Settling, Stopped, OtherCopy, NotJoining}
 use Rattle.nm_rules.specs.Cause.{when}
 use Rattle.nm_rules.specs.Copy.{GoesOn, copy_cause, copy_rows, copy_more_rows, copy_of, chunk_of, chunk_or, new_chunk, busy_within, busy_chunk, busy_new_chunk}
@@ -22,7 +21,7 @@ use Rattle.nm_rules.specs.Invariant.{HasChunk, IsCopy, IsChunk, HoldsArray, Keep
 use Rattle.nm_rules.specs.State.{StripeState, Chunk, copy_start, lies_in, leg_state, is_joining, table}
 use Rattle.nm_rules.proofs.CauseLemmas.{none_holds, when_off, unless_on, map_off}
 use Rattle.nm_rules.proofs.ChunkLemmas.{copy-is}
-use Rattle.nm_rules.proofs.RecordLemmas.{same, both}
+use Rattle.nm_rules.proofs.RecordLemmas.{same}
 use Rattle.nm_rules.proofs.StateLemmas.{joining_inside}
 
 -- a leg may be copied to
@@ -117,7 +116,7 @@ module _ {L : Type 0} (type : LegType L) (s : StripeState L) (leg : ℕ) (copy :
   new-copy : s.copy ≡ None → (region : ℕ) × (lowest_behind leg (table s) ≡ Some region) × (copy ≡ record { leg = leg; region = region; cursor = 0 })
   new-copy none =
       let found = mapped (λ (r : ℕ). let c : CopyPlace = record { leg = leg; region = r; cursor = 0 } in c) (lowest_behind leg (table s)) copy
-          (ap (λ (o : Option CopyPlace). option_or o (option_map (λ (r : ℕ). let c : CopyPlace = record { leg = leg; region = r; cursor = 0 } in c) (lowest_behind leg (table s)))) (sym none) ∙ copy_is) in
+      (ap (λ (o : Option CopyPlace). option_or o (option_map (λ (r : ℕ). let c : CopyPlace = record { leg = leg; region = r; cursor = 0 } in c) (lowest_behind leg (table s)))) (sym none) ∙ copy_is) in
       (found.0, found.1, sym found.2)
 
   open-copy : (c : CopyPlace) → s.copy ≡ Some c → copy ≡ c
@@ -134,26 +133,28 @@ module _ {L : Type 0} (type : LegType L) (s : StripeState L) (leg : ℕ) (copy :
           let joining_in = joining_inside type.model s k.legs leg may.joining in
           let regions : length (leg_at leg (table s)).behind ≡ regions_of s.place.blocks s.place.region = k.legs.regions leg no_leg (omega (arith, joining_in, k.legs.flags)) in
           let within : new.0 < regions_of s.place.blocks s.place.region = omega (arith, regions, (position-Some (λ behind. behind) (leg_at leg (table s)).behind new.0 false lowest).0) in
-          let some : 0 < length_of new.0 (table s) = region-some s.place.blocks s.place.region new.0 k.legs.sizes.some_region within in
-          (ap (λ (c : CopyPlace). c.leg) new.2,
+          let some : 0 < length_of new.0 (table s) = region-some s.place.blocks s.place.region new.0 k.legs.sizes.some_region within in (
+            ap (λ (c : CopyPlace). c.leg) new.2,
             subst (λ (c : CopyPlace). IsCopy c s) (sym new.2) (record { joining = may.joining; lowest = new.1; within = some }),
-            λ j region place. ap (λ (c : CopyPlace). has_copied j region place (Some c)) new.2 ∙ none_copied j region place new.0 ∙ sym (ap (λ (o : Option CopyPlace). has_copied j region place o) none))
+            λ j region place. ap (λ (c : CopyPlace). has_copied j region place (Some c)) new.2 ∙ none_copied j region place new.0 ∙ sym (ap (λ (o : Option CopyPlace). has_copied j region place o) none),
+          )
         where
           none_copied : (j region place r : ℕ) → has_copied j region place (Some (record { leg = leg; region = r; cursor = 0 })) ≡ false
           none_copied j region place r = let low : nat_lt place 0 ≡ false = grind (arith, nat_tests) in off-last ((leg == j) && (r == region)) (nat_lt place 0) low
       by_copy (Some c) is_open =
-          let one = open-copy c is_open in
-          (ap (λ (x : CopyPlace). x.leg) one ∙ mine c is_open,
+          let one = open-copy c is_open in (
+            ap (λ (x : CopyPlace). x.leg) one ∙ mine c is_open,
             subst (λ (x : CopyPlace). IsCopy x s) (sym one) (copy-is s c k.chunk is_open),
-            λ j region place. ap (λ (x : CopyPlace). has_copied j region place (Some x)) one ∙ sym (ap (λ (o : Option CopyPlace). has_copied j region place o) is_open))
+            λ j region place. ap (λ (x : CopyPlace). has_copied j region place (Some x)) one ∙ sym (ap (λ (o : Option CopyPlace). has_copied j region place o) is_open),
+          )
 
   ready-new : s.chunk ≡ None → Ready type s leg copy chunk
   ready-new none =
       let copying = is-copy in
       let one : chunk ≡ new_chunk copy s = chunk_is ∙ ap (λ (o : Option Chunk). chunk_or o (new_chunk copy s)) none in
       let idle : busy_new_chunk copy s ≡ None =
-          ap (λ (o : Option CopyPlace). option_and_then (λ (c : CopyPlace). busy_new_chunk c s) o) (sym copy_is)
-          ∙ ap (λ (o : Option Chunk). cond (is_some o) None (option_and_then (λ (c : CopyPlace). busy_new_chunk c s) (copy_of leg s))) (sym none) ∙ free in
+      ap (λ (o : Option CopyPlace). option_and_then (λ (c : CopyPlace). busy_new_chunk c s) o) (sym copy_is)
+      ∙ ap (λ (o : Option Chunk). cond (is_some o) None (option_and_then (λ (c : CopyPlace). busy_new_chunk c s) (copy_of leg s))) (sym none) ∙ free in
       let blocks : length chunk.blocks ≡ 0 = ap (λ (c : Chunk). length c.blocks) one in
       let written : chunk.written ≡ 0 = ap (λ (c : Chunk). c.written) one in
       let long : chunk.length ≡ min s.place.chunk (length_of copy.region (table s) - copy.cursor) = ap (λ (c : Chunk). c.length) one in
@@ -199,6 +200,7 @@ module _ {L : Type 0} (type : LegType L) (s : StripeState L) (leg : ℕ) (copy :
       has_open (Some c) some has =
           let same_copy : copy ≡ c = open-copy c some in
           (some ∙ ap (λ (x : CopyPlace). Some x) (sym same_copy), subst (λ (x : CopyPlace). IsChunk x h s) (sym same_copy) has.1)
+
       is_open : (o : Option CopyPlace) → s.copy ≡ o → (s.copy ≡ Some copy) × IsChunk copy h s
       is_open o is = has_open o is (subst (λ (x : Option CopyPlace). HasChunk x (Some h) s) is (subst (λ (x : Option Chunk). HasChunk s.copy x s) is_chunk k.chunk))
 

@@ -1,24 +1,20 @@
 -- The three ways in which a copy goes on behind a write: within its chunk, to the next chunk, and to
 -- the end of its region.
-use Rattle.std.proofs.Common.{◌≡◌, ◌≢◌, ◌⊎◌, inl, inr, ⊎_elim, ℕ, zero, suc, ◌+◌, ◌-◌, ◌*◌, ◌/◌, ◌%◌, ◌<◌, ◌≤◌, ◌==◌, ◌&&◌, ◌||◌, Bool, true, false, not, IsTrue, List, [], ◌∷◌, None, Some, Option, length, length-set, min, refl, sym, ap, ◌∙◌, subst, arith, nat_lt, slice_get, slice_set, get_or, eq-eqb, div-add-mod'}
-use Rattle.std.specs.List.{list_any}
+use Rattle.std.proofs.Common.{◌≡◌, ◌≢◌, ◌⊎◌, inl, inr, ⊎_elim, ℕ, ◌+◌, ◌-◌, ◌*◌, ◌/◌, ◌%◌, ◌<◌, ◌≤◌, ◌==◌, ◌&&◌, ◌||◌, Bool, true, false, not, List, None, Some, Option, length, refl, sym, ap, ◌∙◌, subst, arith, nat_lt, slice_get, eq-eqb, div-add-mod'}
 use Rattle.std.proofs.lemmas.Bool.Decides.{nat_tests}
 use Rattle.std.proofs.lemmas.Option.{same_Some}
 use Rattle.nm_replay.specs.declared.block.Block.{Block}
 use Rattle.nm_choice.specs.declared.leg_state.LegState.{LegState}
-use Rattle.nm_choice.specs.declared.leg_state.LegState.TheVariants.{InSync, Joining}
 use Rattle.nm_leg.specs.Leg.{LegType}
 use Rattle.nm_leg.specs.LegCalls.{WritesLegAt}
 use Rattle.nm_regions.specs.declared.copy_place.CopyPlace.{CopyPlace}
-use Rattle.nm_regions.specs.LegFlags.{LegRegions, is_behind, no_leg, cleared}
+use Rattle.nm_regions.specs.LegFlags.{is_behind}
 use Rattle.nm_regions.specs.Table.{leg_at, region_of, place_of, length_of, has_copied, has_region}
-use Rattle.nm_rules.specs.Array.{contents_of, stripe_array}
-use Rattle.nm_rules.specs.Invariant.{HasLegs, HasWrites, HasChunk, HoldsArray, LegsAgree, Keeps, is_clear}
-use Rattle.nm_rules.specs.State.{StripeState, Chunk, copy_start, leg_state, is_out, is_current, lies_in, table}
-use Rattle.nm_rules.proofs.AttachLemmas.{set-same, set-other, have-set}
-use Rattle.nm_rules.proofs.CopyLemmas.{Ready, off-last}
+use Rattle.nm_rules.specs.Invariant.{HasLegs, HasChunk, HoldsArray, Keeps, is_clear}
+use Rattle.nm_rules.specs.State.{StripeState, Chunk, copy_start, leg_state, is_out, lies_in, table}
+use Rattle.nm_rules.proofs.CopyLemmas.{Ready}
 use Rattle.nm_rules.proofs.CopyWriteLemmas.{GoesFurther, further-legs, written-held, array-same, copied_on}
-use Rattle.nm_rules.proofs.RecordLemmas.{both, same, one_or_two}
+use Rattle.nm_rules.proofs.RecordLemmas.{both, same}
 
 -- a place that a copy has passed is of its leg and region
 pub passed : (j region place : ℕ) (c : CopyPlace) → has_copied j region place (Some c) ≡ true → (c.leg ≡ j) × (c.region ≡ region) × (place < c.cursor)
@@ -76,9 +72,10 @@ module _ {L : Type 0} (type : LegType L) (s : StripeState L) (leg : ℕ) (copy :
       apart = λ t q at going. subst (λ (o : Option CopyPlace). lies_in s.place.region o (Some further) q.block ≡ false) (sym is-open.0) (r.apart t q at going);
       marked = λ t q j at inside. k.writes.marked t q j at (omega (arith, inside, (same-legs s.copy (Some further)).states, k.legs.states));
     };
-    has_chunk = subst (λ (o : Option CopyPlace). HasChunk o (Some further) (copied_on type s leg copy chunk k r runs legs bytes filled next w s.flags s.copy (Some further))) (sym is-open.0)
-        (record { joining = r.is_copy.joining; lowest = r.is_copy.lowest; within = r.is_copy.within },
-          record { long = r.long; some = omega (arith, filled, more); most = r.most; more = more; read_first = λ some. filled });
+    has_chunk = subst (λ (o : Option CopyPlace). HasChunk o (Some further) (copied_on type s leg copy chunk k r runs legs bytes filled next w s.flags s.copy (Some further))) (sym is-open.0) (
+      record { joining = r.is_copy.joining; lowest = r.is_copy.lowest; within = r.is_copy.within },
+      record { long = r.long; some = omega (arith, filled, more); most = r.most; more = more; read_first = λ some. filled },
+    );
     clear = λ j block inside clear. inl clear;
     buffer = λ is_honest c h copy_is chunk_is.
         let this_copy : copy ≡ c = same_Some copy c (sym is-open.0 ∙ copy_is) in
@@ -109,7 +106,7 @@ module _ {L : Type 0} (type : LegType L) (s : StripeState L) (leg : ℕ) (copy :
         | true ↦ λ is.
             let below : block % s.place.region < copy.cursor = grind (arith, nat_tests) in
             let had : has_copied j (block / s.place.region) (block % s.place.region) s.copy ≡ true =
-                sym (r.copied j (block / s.place.region) (block % s.place.region)) ∙ passes j (block / s.place.region) (block % s.place.region) copy leg_is region_is below in
+            sym (r.copied j (block / s.place.region) (block % s.place.region)) ∙ passes j (block / s.place.region) (block % s.place.region) copy leg_is region_is below in
             inl (or-last (not (is_behind (region_of block (table s)) (leg_at j (table s)))) (has_copied j (block / s.place.region) (block % s.place.region) s.copy) had)
         | false ↦ λ is.
             let above : copy.cursor ≤ block % s.place.region = grind (arith, nat_tests) in
@@ -140,9 +137,9 @@ module _ {L : Type 0} (type : LegType L) (s : StripeState L) (leg : ℕ) (copy :
       owed = λ t q j at owes. ⊎_elim
           (λ has. or-first (has_region j (region_of q.block (table s)) (table s)) (has_copied j (region_of q.block (table s)) (place_of q.block (table s)) (Some beyond)) has)
           (λ copied.
-              let was = passed j (region_of q.block (table s)) (place_of q.block (table s)) copy (r.copied j (region_of q.block (table s)) (place_of q.block (table s)) ∙ copied) in
-              or-last (has_region j (region_of q.block (table s)) (table s)) (has_copied j (region_of q.block (table s)) (place_of q.block (table s)) (Some beyond))
-              (passes j (region_of q.block (table s)) (place_of q.block (table s)) beyond was.0 was.1 (omega (arith, was.2))))
+          let was = passed j (region_of q.block (table s)) (place_of q.block (table s)) copy (r.copied j (region_of q.block (table s)) (place_of q.block (table s)) ∙ copied) in
+          or-last (has_region j (region_of q.block (table s)) (table s)) (has_copied j (region_of q.block (table s)) (place_of q.block (table s)) (Some beyond))
+          (passes j (region_of q.block (table s)) (place_of q.block (table s)) beyond was.0 was.1 (omega (arith, was.2))))
           (either (has_region j (region_of q.block (table s)) (table s)) (has_copied j (region_of q.block (table s)) (place_of q.block (table s)) s.copy) (k.writes.owed t q j at owes));
       apart = λ t q at going. refl;
       marked = λ t q j at inside going out.

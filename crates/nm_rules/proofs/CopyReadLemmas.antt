@@ -1,5 +1,5 @@
 -- A step of a copy reads a block from the master: the chunk has one block more.
-use Rattle.std.proofs.Common.{◌≡◌, ◌≢◌, ⊎_elim, ℕ, zero, suc, ◌+◌, ◌-◌, ◌*◌, ◌/◌, ◌<◌, ◌≤◌, ◌==◌, ◌&&◌, ◌||◌, Bool, true, false, not, IsTrue, List, [], ◌∷◌, ◌++◌, None, Some, Option, length, length-append, refl, sym, ap, ◌∙◌, subst, arith, nat_lt, nat_le, slice_get}
+use Rattle.std.proofs.Common.{◌≡◌, ⊎_elim, ℕ, zero, suc, ◌+◌, ◌<◌, ◌&&◌, ◌||◌, Bool, true, false, not, IsTrue, List, [], ◌∷◌, ◌++◌, None, Some, Option, length, length-append, refl, sym, ap, ◌∙◌, subst, arith, nat_lt, nat_le, slice_get}
 use Rattle.std.proofs.lemmas.Bool.Decides.{nat_tests}
 use Rattle.std.proofs.lemmas.Option.{same_Some}
 use Rattle.nm_replay.specs.declared.block.Block.{Block}
@@ -8,11 +8,11 @@ use Rattle.nm_fanout.specs.Records.{busy_on}
 use Rattle.nm_leg.specs.Leg.{LegType}
 use Rattle.nm_regions.specs.declared.copy_place.CopyPlace.{CopyPlace}
 use Rattle.nm_regions.specs.LegFlags.{is_behind}
-use Rattle.nm_regions.specs.Table.{leg_at, region_of, place_of, has_copied, has_region}
+use Rattle.nm_regions.specs.Table.{leg_at, region_of, place_of, has_region}
 use Rattle.nm_rules.specs.Acts.{Acts}
 use Rattle.nm_rules.specs.Array.{contents_of, stripe_array}
-use Rattle.nm_rules.specs.Invariant.{HasWrites, HasChunk, IsCopy, HoldsArray, LegsAgree, Keeps, is_clear}
-use Rattle.nm_rules.specs.State.{StripeState, Chunk, copy_start, lies_in, is_current, table}
+use Rattle.nm_rules.specs.Invariant.{HasWrites, HoldsArray, LegsAgree, Keeps, is_clear}
+use Rattle.nm_rules.specs.State.{StripeState, Chunk, copy_start, is_current, table}
 use Rattle.nm_rules.proofs.ActsLemmas.{acts-same}
 use Rattle.nm_rules.proofs.ArrayLemmas.{array-at}
 use Rattle.nm_rules.proofs.CopyLemmas.{Ready}
@@ -92,10 +92,10 @@ module _ {L : Type 0} (type : LegType L) (s : StripeState L) (leg : ℕ) (copy :
           (record {
             read = λ i inside. ⊎_elim
                 (λ last. subst (λ (n : ℕ). slice_get longer.blocks n ≡ slice_get (stripe_array type.model s) (copy_start s.place.region copy + n)) (sym last)
-                    (push-last chunk.blocks bytes ∙ sym (found is_honest) ∙ sym (chunk-master (length chunk.blocks) not_filled)))
+                (push-last chunk.blocks bytes ∙ sym (found is_honest) ∙ sym (chunk-master (length chunk.blocks) not_filled)))
                 (λ before.
-                    let low : i < length chunk.blocks = omega (arith, inside, long-by-one, before) in
-                    push-before chunk.blocks bytes i low ∙ (r.holds is_honest).read i low)
+                let low : i < length chunk.blocks = omega (arith, inside, long-by-one, before) in
+                push-before chunk.blocks bytes i low ∙ (r.holds is_honest).read i low)
                 (one_or_two i (length chunk.blocks));
             written = λ i inside. absurd (omega (arith, inside, not_written));
           }));
@@ -106,8 +106,10 @@ module _ {L : Type 0} (type : LegType L) (s : StripeState L) (leg : ℕ) (copy :
       legs = record { sizes = k.legs.sizes; some_chunk = k.legs.some_chunk; states = k.legs.states; flags = k.legs.flags; regions = k.legs.regions; lengths = k.legs.lengths; master = k.legs.master; outs = k.legs.outs; in_sync = k.legs.in_sync };
       records = record { in_order = k.records.in_order; tickets = k.records.tickets; one_writer = k.records.one_writer; inside = k.records.inside; landed = k.records.landed; settling = k.records.settling };
       writes = grown-writes;
-      chunk = (record { joining = r.is_copy.joining; lowest = r.is_copy.lowest; within = r.is_copy.within },
-          record { long = r.long; some = omega (arith, long-by-one); most = omega (arith, long-by-one, not_filled); more = r.more; read_first = λ some. absurd (omega (arith, some, not_written)) });
+      chunk = (
+        record { joining = r.is_copy.joining; lowest = r.is_copy.lowest; within = r.is_copy.within },
+        record { long = r.long; some = omega (arith, long-by-one); most = omega (arith, long-by-one, not_filled); more = r.more; read_first = λ some. absurd (omega (arith, some, not_written)) },
+      );
       numbers = record { start = k.numbers.start; starts = k.numbers.starts; numbered = k.numbers.numbered; most = k.numbers.most; given = k.numbers.given; below = k.numbers.below };
       turn = k.turn;
       consistent = k.consistent;

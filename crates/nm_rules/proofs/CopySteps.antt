@@ -1,7 +1,6 @@
 -- A step of a copy that went well keeps everything, and no caller sees it.
-use Rattle.std.proofs.Common.{◌≡◌, ◌≢◌, ⊎_elim, ℕ, ◌+◌, ◌-◌, ◌*◌, ◌<◌, ◌≤◌, ◌==◌, Bool, true, false, not, IsTrue, List, [], ◌∷◌, None, Some, Option, length, min, refl, sym, ap, ◌∙◌, subst, arith, cond, nat_lt, slice_get, eq-eqb, ne_eqb}
+use Rattle.std.proofs.Common.{◌≡◌, ◌≢◌, ℕ, ◌+◌, ◌-◌, ◌<◌, ◌≤◌, ◌==◌, true, false, IsTrue, List, [], None, Some, Option, length, refl, sym, ap, ◌∙◌, subst, arith, cond, nat_lt, slice_get, eq-eqb}
 use Rattle.std.proofs.lemmas.Bool.Decides.{nat_tests}
-use Rattle.std.specs.Option.{option_map, option_and_then}
 use Rattle.nm_replay.specs.declared.block.Block.{Block}
 use Rattle.nm_fanout.specs.declared.write_record.Record.{Record}
 use Rattle.nm_leg.specs.Leg.{LegType}
@@ -18,7 +17,7 @@ use Rattle.nm_rules.specs.State.{StripeState, Chunk, copy_start, table, with_tab
 use Rattle.nm_rules.proofs.ActsLemmas.{LooksSame, acts-append, acts-same}
 use Rattle.nm_rules.proofs.CalledLemmas.{SameContents, read-same, called-keeps, called-acts, with_legs}
 use Rattle.nm_rules.proofs.CauseLemmas.{none_holds, map_off}
-use Rattle.nm_rules.proofs.CopyLemmas.{MayCopy, may_copy, other-off, Ready, ready}
+use Rattle.nm_rules.proofs.CopyLemmas.{may_copy, other-off, Ready, ready}
 use Rattle.nm_rules.proofs.CopyReadLemmas.{grown-keeps, grown-acts}
 use Rattle.nm_rules.proofs.CopyWriteLemmas.{array-same, further-keeps}
 use Rattle.nm_rules.proofs.CopyMoveLemmas.{is-open, further, beyond, goes-within, goes-on}
@@ -115,22 +114,23 @@ module _ {L : Type 0} (type : LegType L) (old : StripeState L) (legs : List L) (
     where
       not_same : (a b : ℕ) → (a == b) ≡ false → a ≢ b
       not_same a b is e = let yes = eq-eqb a b e in cc
+
       closed-keeps : chunk.written + 1 ≡ chunk.length → Keeps type closed
       closed-keeps last =
           (elim (copy_rest (advanced chunk.length (table old)) == 0) as (λ b. (copy_rest (advanced chunk.length (table old)) == 0) ≡ b
-              → Keeps type (let t : RegionTable = cond b (region_finished (advanced chunk.length (table old))) (advanced chunk.length (table old)) in record (with_table t old) { legs = legs; chunk = None })) [
+          → Keeps type (let t : RegionTable = cond b (region_finished (advanced chunk.length (table old))) (advanced chunk.length (table old)) in record (with_table t old) { legs = legs; chunk = None })) [
             | true ↦ λ is.
                 let rest : copy_rest (advanced chunk.length (table old)) ≡ 0 = same (copy_rest (advanced chunk.length (table old))) 0 is in
                 subst (λ (o : Option CopyPlace). Keeps type (let s : StripeState L = record old { legs = legs; flags = (cleared_for o (advanced chunk.length (table old))).legs; copy = None; chunk = None } in s))
                 (sym (on_is old.copy open-copy))
                 (further-keeps type old leg copy chunk k r runs legs bytes filled next w (new_flags type old leg copy chunk k r runs legs bytes filled next w) None None
-                    (ends type old leg copy chunk k r runs legs bytes filled next w last (omega (arith, rest, rest_is, r.long, r.is_copy.within))))
+                (ends type old leg copy chunk k r runs legs bytes filled next w last (omega (arith, rest, rest_is, r.long, r.is_copy.within))))
             | false ↦ λ is.
                 let rest : copy_rest (advanced chunk.length (table old)) ≢ 0 = not_same (copy_rest (advanced chunk.length (table old))) 0 is in
                 subst (λ (o : Option CopyPlace). Keeps type (let s : StripeState L = record old { legs = legs; flags = old.flags; copy = o; chunk = None } in s))
                 (sym (on_is old.copy open-copy))
                 (further-keeps type old leg copy chunk k r runs legs bytes filled next w old.flags (Some (beyond type old leg copy chunk k r runs legs bytes filled next w)) None
-                    (goes-on type old leg copy chunk k r runs legs bytes filled next w last (omega (arith, rest, rest_is, r.long, r.is_copy.within))))
+                (goes-on type old leg copy chunk k r runs legs bytes filled next w last (omega (arith, rest, rest_is, r.long, r.is_copy.within))))
           ]) refl
 
   -- and no caller sees it

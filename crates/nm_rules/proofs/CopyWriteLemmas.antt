@@ -1,28 +1,26 @@
 -- A step of a copy writes a block to the leg: what all three ways of going on have in common.
-use Rattle.std.proofs.Common.{◌≡◌, ◌≢◌, ◌⊎◌, inl, inr, ⊎_elim, ℕ, zero, suc, ◌+◌, ◌-◌, ◌*◌, ◌/◌, ◌%◌, ◌<◌, ◌≤◌, ◌==◌, ◌&&◌, ◌||◌, Bool, true, false, not, IsTrue, List, [], ◌∷◌, None, Some, Option, length, min, refl, sym, ap, ◌∙◌, subst, arith, nat_lt, nat_le, slice_get, slice_set, get_or, position}
+use Rattle.std.proofs.Common.{◌≡◌, ◌≢◌, ◌⊎◌, ⊎_elim, ℕ, ◌+◌, ◌*◌, ◌/◌, ◌%◌, ◌<◌, ◌==◌, ◌&&◌, true, false, IsTrue, List, [], Some, Option, length, refl, sym, ap, ◌∙◌, subst, arith, nat_lt, slice_get, get_or}
 use Rattle.std.specs.List.{list_any}
 use Rattle.std.proofs.lemmas.Bool.Decides.{nat_tests}
 use Rattle.std.proofs.lemmas.List.Quantifiers.{position-Some}
 use Rattle.std.proofs.lemmas.Nat.{div-mul-add, mod-mul-add}
-use Rattle.std.proofs.lemmas.Option.{same_Some}
 use Rattle.nm_replay.specs.declared.block.Block.{Block}
 use Rattle.nm_replay.specs.History.{EndsIn}
 use Rattle.nm_replay.proofs.Arrays.{slice_get-set_same}
-use Rattle.nm_choice.specs.declared.leg_state.LegState.{LegState}
-use Rattle.nm_choice.specs.declared.leg_state.LegState.TheVariants.{InSync, Joining}
+use Rattle.nm_choice.specs.declared.leg_state.LegState.TheVariants.{InSync}
 use Rattle.nm_fanout.specs.declared.write_record.Record.{Record}
 use Rattle.nm_fanout.specs.Record.{is_under_way}
-use Rattle.nm_fanout.specs.Records.{busy_on, find_record}
+use Rattle.nm_fanout.specs.Records.{find_record}
 use Rattle.nm_leg.specs.Leg.{LegType}
 use Rattle.nm_leg.specs.LegCalls.{WritesLegAt}
 use Rattle.nm_regions.specs.declared.copy_place.CopyPlace.{CopyPlace}
 use Rattle.nm_regions.specs.LegFlags.{LegRegions, is_behind, no_leg}
 use Rattle.nm_regions.specs.Sound.{AllHave, AreSizes}
-use Rattle.nm_regions.specs.Table.{leg_at, regions_of, region_of, place_of, length_of, has_copied}
+use Rattle.nm_regions.specs.Table.{leg_at, regions_of, has_copied}
 use Rattle.nm_rules.specs.Acts.{Acts}
 use Rattle.nm_rules.specs.Array.{contents_of, stripe_array, laid_from}
 use Rattle.nm_rules.specs.Invariant.{HasLegs, HasWrites, HasChunk, HoldsArray, LegsAgree, Keeps, is_clear}
-use Rattle.nm_rules.specs.State.{StripeState, Chunk, copy_start, leg_state, lies_in, table}
+use Rattle.nm_rules.specs.State.{StripeState, Chunk, copy_start, leg_state, table}
 use Rattle.nm_rules.proofs.ActsLemmas.{acts-same}
 use Rattle.nm_rules.proofs.CopyLemmas.{Ready, off-last}
 use Rattle.nm_rules.proofs.CopyReadLemmas.{chunk-free, chunk-master}
@@ -74,7 +72,7 @@ module _ {L : Type 0} (type : LegType L) (s : StripeState L) (leg : ℕ) (copy :
       let ahead : nat_lt (copy.cursor + chunk.written) copy.cursor ≡ false = grind (arith, nat_tests) in
       let ahead_here : nat_lt (at % s.place.region) copy.cursor ≡ false = ap (λ (n : ℕ). nat_lt n copy.cursor) place-is ∙ ahead in
       let copied : has_copied copy.leg (at / s.place.region) (at % s.place.region) s.copy ≡ false =
-          sym (r.copied copy.leg (at / s.place.region) (at % s.place.region)) ∙ off-last ((copy.leg == copy.leg) && (copy.region == at / s.place.region)) (nat_lt (at % s.place.region) copy.cursor) ahead_here in
+      sym (r.copied copy.leg (at / s.place.region) (at % s.place.region)) ∙ off-last ((copy.leg == copy.leg) && (copy.region == at / s.place.region)) (nat_lt (at % s.place.region) copy.cursor) ahead_here in
       rw (behind_here, copied) refl
 
   -- a leg that was clear at a block holds there what it held
@@ -82,9 +80,9 @@ module _ {L : Type 0} (type : LegType L) (s : StripeState L) (leg : ℕ) (copy :
   was-held is_honest j block clear =
       ⊎_elim
       (λ here. ⊎_elim
-          (λ own. absurd (let is : is_clear copy.leg at s ≡ true = subst (λ (i : ℕ). is_clear i at s ≡ true) own (subst (λ (b : ℕ). is_clear j b s ≡ true) here clear) in let clash : true ≡ false = sym is ∙ not_clear in cc))
-          (λ other. ap (λ (xs : List Block). slice_get xs block) (writes-other type true s.legs legs copy.leg at j bytes.0 w other))
-          (one_or_two j copy.leg))
+      (λ own. absurd (let is : is_clear copy.leg at s ≡ true = subst (λ (i : ℕ). is_clear i at s ≡ true) own (subst (λ (b : ℕ). is_clear j b s ≡ true) here clear) in let clash : true ≡ false = sym is ∙ not_clear in cc))
+      (λ other. ap (λ (xs : List Block). slice_get xs block) (writes-other type true s.legs legs copy.leg at j bytes.0 w other))
+      (one_or_two j copy.leg))
       (λ off. writes-other_block type s.legs legs copy.leg at j block bytes.0 is_honest w off)
       (one_or_two block at)
 
@@ -94,15 +92,15 @@ module _ {L : Type 0} (type : LegType L) (s : StripeState L) (leg : ℕ) (copy :
   written-held is_honest i inside =
       ⊎_elim
       (λ last.
-          let long : at < length (contents_of type.model s.legs copy.leg) = omega (arith, k.legs.lengths copy.leg leg_inside, block_inside) in
-          let set : slice_get (contents_of type.model legs copy.leg) at ≡ Some bytes =
-              ap (λ (xs : List Block). slice_get xs at) (writes-contents type s.legs legs copy.leg at bytes.0 is_honest w) ∙ slice_get-set_same (contents_of type.model s.legs copy.leg) at bytes long in
-          subst (λ (n : ℕ). slice_get (contents_of type.model legs copy.leg) (copy_start s.place.region copy + n) ≡ slice_get (stripe_array type.model s) (copy_start s.place.region copy + n)) (sym last)
-              (set ∙ sym next ∙ (r.holds is_honest).read chunk.written (omega (arith, r.more, filled))))
+      let long : at < length (contents_of type.model s.legs copy.leg) = omega (arith, k.legs.lengths copy.leg leg_inside, block_inside) in
+      let set : slice_get (contents_of type.model legs copy.leg) at ≡ Some bytes =
+      ap (λ (xs : List Block). slice_get xs at) (writes-contents type s.legs legs copy.leg at bytes.0 is_honest w) ∙ slice_get-set_same (contents_of type.model s.legs copy.leg) at bytes long in
+      subst (λ (n : ℕ). slice_get (contents_of type.model legs copy.leg) (copy_start s.place.region copy + n) ≡ slice_get (stripe_array type.model s) (copy_start s.place.region copy + n)) (sym last)
+      (set ∙ sym next ∙ (r.holds is_honest).read chunk.written (omega (arith, r.more, filled))))
       (λ before.
-          let low : i < chunk.written = omega (arith, inside, before) in
-          let off : copy_start s.place.region copy + i ≢ at = λ e. before (omega (arith, e)) in
-          writes-other_block type s.legs legs copy.leg at copy.leg (copy_start s.place.region copy + i) bytes.0 is_honest w off ∙ (r.holds is_honest).written i low)
+      let low : i < chunk.written = omega (arith, inside, before) in
+      let off : copy_start s.place.region copy + i ≢ at = λ e. before (omega (arith, e)) in
+      writes-other_block type s.legs legs copy.leg at copy.leg (copy_start s.place.region copy + i) bytes.0 is_honest w off ∙ (r.holds is_honest).written i low)
       (one_or_two i chunk.written)
     where
       block_inside : at < s.place.blocks
@@ -138,11 +136,11 @@ module _ {L : Type 0} (type : LegType L) (s : StripeState L) (leg : ℕ) (copy :
         alike = λ j block inside within none clear. ⊎_elim
             (λ was. was-held is_honest j block was ∙ agree.alike j block (omega (arith, inside, count)) within none was ∙ ap (λ (xs : List Block). slice_get xs block) (sym master-same))
             (λ own.
-                let i = own.1.0 in
-                let here = written-held is_honest i own.1.1 ∙ chunk-master type s leg copy chunk k r i (omega (arith, own.1.1, r.more)) in
-                subst (λ (n : ℕ). slice_get (contents_of type.model legs n) block ≡ slice_get (contents_of type.model legs s.master) block) (sym own.0)
-                (subst (λ (b : ℕ). slice_get (contents_of type.model legs copy.leg) b ≡ slice_get (contents_of type.model legs s.master) b) (sym own.1.2)
-                    (here ∙ ap (λ (xs : List Block). slice_get xs (copy_start s.place.region copy + i)) (sym master-same))))
+            let i = own.1.0 in
+            let here = written-held is_honest i own.1.1 ∙ chunk-master type s leg copy chunk k r i (omega (arith, own.1.1, r.more)) in
+            subst (λ (n : ℕ). slice_get (contents_of type.model legs n) block ≡ slice_get (contents_of type.model legs s.master) block) (sym own.0)
+            (subst (λ (b : ℕ). slice_get (contents_of type.model legs copy.leg) b ≡ slice_get (contents_of type.model legs s.master) b) (sym own.1.2)
+            (here ∙ ap (λ (xs : List Block). slice_get xs (copy_start s.place.region copy + i)) (sym master-same))))
             (f.clear j block within clear);
         last = subst (λ (xs : List Block). EndsIn s.kept xs) (sym (array-same s.records)) agree.last;
         buffer = f.buffer is_honest;

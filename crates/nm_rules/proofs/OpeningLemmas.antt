@@ -1,5 +1,5 @@
 -- A stripe as it opens: the legs of the bits are in sync, and the others join with all regions behind.
-use Rattle.std.proofs.Common.{◌≡◌, ◌≢◌, ⊎_elim, ℕ, zero, suc, ◌+◌, ◌<◌, ◌≤◌, ◌^◌, Bool, true, false, not, ◌||◌, IsTrue, List, [], ◌∷◌, map, None, Some, Option, length, replicate, max, min, refl, sym, ap, ◌∙◌, subst, arith, cond, get_or, slice_get, position, nat_lt}
+use Rattle.std.proofs.Common.{◌≡◌, ℕ, zero, suc, ◌+◌, ◌<◌, ◌≤◌, Bool, true, false, not, ◌||◌, IsTrue, List, [], ◌∷◌, map, Some, Option, length, replicate, refl, sym, ap, ◌∙◌, arith, get_or, slice_get, nat_lt}
 use Rattle.std.proofs.lemmas.Bool.Decides.{nat_tests}
 use Rattle.std.proofs.lemmas.List.{get_or-map, get_or_past, length-replicate, get_or-replicate}
 use Rattle.std.proofs.lemmas.List.Quantifiers.{position-Some}
@@ -13,7 +13,7 @@ use Rattle.nm_choice.specs.Choice.{elected, is_in_sync}
 use Rattle.nm_leg.specs.Leg.{Leg, LegType}
 use Rattle.nm_leg.specs.LegCalls.{EachHas}
 use Rattle.nm_regions.specs.LegFlags.{LegRegions, opened_leg, no_leg}
-use Rattle.nm_regions.specs.Sound.{AreSizes, AllHave}
+use Rattle.nm_regions.specs.Sound.{AreSizes}
 use Rattle.nm_regions.specs.Table.{leg_at, regions_of, region_of}
 use Rattle.nm_rules.specs.declared.at.At.{At}
 use Rattle.nm_rules.specs.Array.{contents_of, contents_at}

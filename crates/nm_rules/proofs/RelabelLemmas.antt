@@ -1,14 +1,13 @@
 -- Legs change their states, and none of them goes out or falls behind: everything is kept.
-use Rattle.std.proofs.Common.{◌≡◌, ℕ, ◌==◌, nat_lt, Bool, true, false, not, ◌&&◌, ◌||◌, IsTrue, List, Option, None, Some, refl, sym, ap, ◌∙◌, get_or, position}
+use Rattle.std.proofs.Common.{◌≡◌, ℕ, ◌==◌, nat_lt, Bool, true, false, not, ◌&&◌, ◌||◌, List, Option, None, Some, refl, sym, ap, ◌∙◌, get_or, position}
 use Rattle.nm_choice.specs.declared.leg_state.LegState.{LegState}
 use Rattle.nm_choice.specs.declared.leg_state.LegState.TheVariants.{InSync, Joining, Out}
-use Rattle.nm_fanout.specs.declared.write_record.Record.{Record}
 use Rattle.nm_leg.specs.Leg.{LegType}
 use Rattle.nm_regions.specs.declared.copy_place.CopyPlace.{CopyPlace}
 use Rattle.nm_regions.specs.LegFlags.{LegRegions, is_behind}
 use Rattle.nm_regions.specs.Table.{leg_at, region_of, place_of, has_copied}
 use Rattle.nm_rules.specs.State.{StripeState, Chunk, leg_state, is_out, is_current, table}
-use Rattle.nm_rules.specs.Invariant.{HasLegs, HasRecords, HasWrites, HasChunk, IsCopy, HoldsArray, LegsAgree, Keeps, is_clear}
+use Rattle.nm_rules.specs.Invariant.{HasLegs, HasWrites, HasChunk, IsCopy, LegsAgree, Keeps, is_clear}
 use Rattle.nm_rules.proofs.ClearLemmas.{clear-current, current-clear}
 use Rattle.nm_rules.proofs.RecordLemmas.{same, both}
 

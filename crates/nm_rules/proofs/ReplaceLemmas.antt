@@ -1,6 +1,6 @@
 -- Another leg joins in the place of one that is out: it is behind everywhere, so nothing is asked of
 -- what it holds.
-use Rattle.std.proofs.Common.{◌≡◌, ◌≢◌, ⊎_elim, ℕ, ◌<◌, ◌/◌, Bool, true, false, not, ◌&&◌, ◌||◌, ◌+◌, position, IsTrue, List, [], ◌∷◌, None, Some, Option, length, length-set, replicate, refl, sym, ap, ◌∙◌, subst, arith, get_or, slice_get, slice_set}
+use Rattle.std.proofs.Common.{◌≡◌, ◌≢◌, ⊎_elim, ℕ, ◌<◌, ◌/◌, Bool, true, false, not, ◌&&◌, ◌||◌, ◌+◌, position, List, [], Option, length, length-set, refl, sym, ap, ◌∙◌, subst, arith, slice_get}
 use Rattle.std.proofs.lemmas.List.{get_or-replicate, length-replicate}
 use Rattle.std.specs.List.{list_any}
 use Rattle.nm_replay.specs.declared.block.Block.{Block}
@@ -8,8 +8,7 @@ use Rattle.nm_replay.specs.History.{EndsIn}
 use Rattle.nm_replay.proofs.Arrays.{slice_get-set_same, slice_get-set_other}
 use Rattle.nm_choice.specs.declared.leg_state.LegState.{LegState}
 use Rattle.nm_choice.specs.declared.leg_state.LegState.TheVariants.{InSync, Joining, Out}
-use Rattle.nm_fanout.specs.declared.write_record.Record.{Record}
-use Rattle.nm_leg.specs.Leg.{Leg, LegType}
+use Rattle.nm_leg.specs.Leg.{LegType}
 use Rattle.nm_regions.specs.declared.copy_place.CopyPlace.{CopyPlace}
 use Rattle.nm_regions.specs.LegFlags.{LegRegions, no_leg, attached, all_marked, is_behind}
 use Rattle.nm_regions.specs.Table.{leg_at, region_of, place_of, regions_of, has_copied}
@@ -17,8 +16,8 @@ use Rattle.nm_regions.specs.Sound.{AreSizes}
 use Rattle.nm_rules.specs.Acts.{Acts}
 use Rattle.nm_rules.specs.Array.{contents_of, contents_at, stripe_array, laid_from}
 use Rattle.nm_rules.specs.Attach.{after_replace}
-use Rattle.nm_rules.specs.Invariant.{HasLegs, HasWrites, HasChunk, IsCopy, LegsAgree, Keeps, is_clear}
-use Rattle.nm_rules.specs.State.{StripeState, Chunk, copy_start, leg_state, is_out, is_current, table}
+use Rattle.nm_rules.specs.Invariant.{HasLegs, HasWrites, IsCopy, LegsAgree, Keeps, is_clear}
+use Rattle.nm_rules.specs.State.{StripeState, copy_start, leg_state, is_out, table}
 use Rattle.nm_rules.proofs.ActsLemmas.{acts-same}
 use Rattle.nm_rules.proofs.AttachLemmas.{set-same, set-other, have-set}
 use Rattle.nm_rules.proofs.ChunkLemmas.{chunk-stays, copy-is, region_within}

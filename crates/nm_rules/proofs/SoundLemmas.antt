@@ -1,5 +1,5 @@
 -- What a stripe keeps makes it sound.
-use Rattle.std.proofs.Common.{◌≡◌, ℕ, true, sym, ◌∙◌}
+use Rattle.std.proofs.Common.{sym, ◌∙◌}
 use Rattle.nm_replay.proofs.Numbering.{numbered-somewhere}
 use Rattle.nm_leg.specs.Leg.{LegType}
 use Rattle.nm_rules.specs.State.{StripeState}
