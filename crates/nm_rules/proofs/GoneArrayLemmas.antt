@@ -1,29 +1,23 @@
 -- A leg has gone out of a stripe that runs: the array, block by block, and what honest legs hold.
-use Rattle.std.proofs.Common.{◌≡◌, ◌≢◌, ◌⊎◌, ⊎_elim, ℕ, ◌+◌, ◌-◌, ◌*◌, ◌/◌, ◌<◌, ◌≤◌, ◌==◌, ◌&&◌, ◌||◌, Bool, true, false, not, IsTrue, List, length, Option, None, Some, is_none, is_some, min, refl, sym, ap, ◌∙◌, subst, arith, cond, inl, inr, slice_get, nat_lt, nat_le}
-use Rattle.std.proofs.lemmas.Bool.Decides.{eqb_tells, nat_tests}
-use Rattle.std.proofs.lemmas.Option.{same_Some, slice_get_past}
+use Rattle.std.proofs.Common.{◌≡◌, ◌≢◌, ◌⊎◌, ⊎_elim, ℕ, ◌<◌, ◌≤◌, ◌||◌, Bool, true, false, not, List, length, Option, None, Some, is_none, is_some, refl, sym, ap, ◌∙◌, subst, arith, cond, inl, inr, slice_get, nat_lt}
+use Rattle.std.proofs.lemmas.Bool.Decides.{nat_tests}
+use Rattle.std.proofs.lemmas.Option.{slice_get_past}
 use Rattle.nm_replay.specs.declared.block.Block.{Block}
-use Rattle.nm_replay.specs.History.{EndsIn}
 use Rattle.nm_choice.specs.declared.leg_state.LegState.TheVariants.{InSync}
 use Rattle.nm_fanout.specs.declared.write_record.Record.{Record}
 use Rattle.nm_fanout.specs.Record.{is_under_way, owes}
 use Rattle.nm_fanout.specs.Records.{find_record, busy_on}
 use Rattle.nm_fanout.proofs.Owed.{finished-owes, owes-under_way, tells}
 use Rattle.nm_leg.specs.Leg.{LegType}
-use Rattle.nm_regions.specs.declared.copy_place.CopyPlace.{CopyPlace}
-use Rattle.nm_regions.specs.LegFlags.{is_behind}
-use Rattle.nm_regions.specs.Changes.{copy_but_of}
-use Rattle.nm_regions.specs.Table.{has_copied, leg_at, length_of, place_of}
 use Rattle.nm_rules.specs.Array.{contents_of, stripe_array, written}
-use Rattle.nm_rules.specs.Invariant.{HasChunk, HoldsArray, IsChunk, IsCopy, Keeps, LegsAgree, is_clear}
-use Rattle.nm_rules.specs.Lost.{chunk_but_of}
-use Rattle.nm_rules.specs.State.{Chunk, StripeState, copy_start, leg_state, lies_in, table}
+use Rattle.nm_rules.specs.Invariant.{LegsAgree, is_clear}
+use Rattle.nm_rules.specs.State.{StripeState, leg_state}
 use Rattle.nm_rules.proofs.ArrayLemmas.{array-at, length-array, same-places}
 use Rattle.nm_rules.proofs.ClearLemmas.{nowhere-clear}
-use Rattle.nm_rules.proofs.GoneLemmas.{IsGone, Rest, gone, gone-clear_other, gone-dirty, gone-in_sync, gone-not_behind, gone-was_in_sync}
+use Rattle.nm_rules.proofs.GoneLemmas.{IsGone, Rest, gone, gone-in_sync, gone-was_in_sync}
 use Rattle.nm_rules.proofs.LandingLemmas.{WaitsUnderWay, each-found, laid_all, laid_all-at, landed_on, length-laid_all}
-use Rattle.nm_rules.proofs.LeftLemmas.{IsLeft, left-busy, left-find, left-finished, left-found, left-free, left-owes_other, left-under_way, left-written}
-use Rattle.nm_rules.proofs.RecordLemmas.{busy_found, busy_none, one_or_two}
+use Rattle.nm_rules.proofs.LeftLemmas.{IsLeft, left-busy, left-find, left-finished, left-free, left-owes_other, left-written}
+use Rattle.nm_rules.proofs.RecordLemmas.{busy_found}
 use Rattle.nm_rules.proofs.ElectLemmas.{in_sync-inside}
 
 -- two lists of one length with the same block at each of their places are one

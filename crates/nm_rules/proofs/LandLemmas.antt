@@ -69,7 +69,7 @@ module _ {L : Type 0} (type : LegType L) (old : StripeState L) (legs : List L) (
   is_master : leg ≡ old.master
   is_master = same leg old.master (both_hold (leg == old.master) (is_none r.entry) lands).0
 
-  no_entry : r.entry ≡ None
+  pub no_entry : r.entry ≡ None
   no_entry = none_is r.entry (both_hold (leg == old.master) (is_none r.entry) lands).1
 
   land-order : AreInOrder (changed (landing number leg) r.ticket old.records)

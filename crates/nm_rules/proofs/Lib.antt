@@ -34,7 +34,10 @@ pub mod OutLemmas
 pub mod OwedLemmas
 pub mod PromoteLemmas
 pub mod PushLemmas
+pub mod PushedLemmas
 pub mod ReachLemmas
+pub mod ReadLegLemmas
+pub mod ReadLemmas
 pub mod RecordLemmas
 pub mod RelabelLemmas
 pub mod ReplaceLemmas
