@@ -1,6 +1,6 @@
 ghost use Rattle.std.specs.Prelude.{◌≡◌, ◌≢◌, ◌↔◌, ◌<◌, ◌≤◌, ◌⊎◌, if◌then◌else◌, [], length, All};
 ghost use Rattle.std.specs.Prelude.{slice_index_or, vec_capacity};
-ghost use Rattle.std.specs.Prelude.{IfOk, IfErr, IfSome, IfNone, OnOk, OnErr};
+ghost use Rattle.std.specs.Prelude.{IfOk, IfErr, IfSome, IfNone, OnOk, OnErr, IsTrue};
 ghost use Rattle.nm_session.specs.declared.ended_by.EndedBy.TheVariants as by;
 ghost use Rattle.nm_haggle.specs.Haggling.{greeting_bytes};
 ghost use Rattle.nm_session.specs.Session.{session_of, phase_at, IsSettled};
@@ -17,7 +17,7 @@ use crate::next::Next;
 use crate::outcome::Outcome;
 use crate::phase::Phase;
 use crate::refused::Refused;
-use crate::settling::{put_outcome, settle, stage_after};
+use crate::settling::{is_fit, put_outcome, settle, stage_after};
 use crate::stage::Stage;
 use nm_haggle::Haggle;
 use nm_requests::{Fault, RequestReader, judge};
@@ -171,6 +171,16 @@ impl SessionCore {
                 Ok(Some(Next::Ended))
             }
         }
+    }
+
+    /// Whether the outcome is one that the task of the request with this index can have, if that
+    /// request is outstanding.
+    pub fn fits(&self, index: u64, outcome: &Outcome) -> bool
+        ensures { IsTrue result ↔ FitsAt index outcome.now self.now.outstanding }
+    {
+        self.outstanding
+            .iter()
+            .all(|held| held.index != index || is_fit(held.task, outcome))
     }
 
     /// Replies to the outstanding request with this index, by the outcome of its task.

@@ -1,10 +1,10 @@
 //! What becomes of a request once it is judged.
 ghost use Rattle.std.specs.Prelude.{◌≡◌, ◌+◌, ◌<◌, ◌≤◌, ◌++◌, [], vec_len, vec_capacity};
-ghost use Rattle.std.specs.Prelude.{IsOk, OnOk, OnErr};
+ghost use Rattle.std.specs.Prelude.{◌↔◌, IsTrue, OnOk, OnErr};
 ghost use Rattle.nm_session.specs.Asking as asking;
 ghost use Rattle.nm_session.specs.Asking.{issued, own_reply, next_after};
 ghost use Rattle.nm_replies.specs.Answer.{frame_of};
-ghost use Rattle.nm_session.specs.Outcome.{says, reply_frame};
+ghost use Rattle.nm_session.specs.Outcome.{says, reply_frame, Fits};
 
 use crate::ended_by::EndedBy;
 use crate::held::Held;
@@ -59,6 +59,21 @@ pub(crate) fn settle(
             put_header(out, request.cookie, code);
             None
         }
+    }
+}
+
+// Whether the outcome is one that the task can have.
+pub(crate) fn is_fit(task: Task, outcome: &Outcome) -> bool
+    ensures { IsTrue result ↔ Fits task outcome.now }
+{
+    let length = match task {
+        Task::Read { length, .. } => length as usize,
+        _ => 0,
+    };
+    match outcome {
+        Outcome::Done => length == 0,
+        Outcome::Data(bytes) => bytes.len() == length,
+        Outcome::Error(code) => *code != 0,
     }
 }
 
