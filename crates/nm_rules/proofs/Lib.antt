@@ -19,6 +19,7 @@ pub mod FailoverLemmas
 pub mod GoneAgreeLemmas
 pub mod GoneArrayLemmas
 pub mod GoneLemmas
+pub mod HaltLemmas
 pub mod KeptLemmas
 pub mod LandLemmas
 pub mod LandingLemmas

@@ -41,9 +41,6 @@ true-at i zero leg (true ∷ bs) at = (0, omega (arith, same_Some i leg at), ref
 true-at i (suc k) leg (true ∷ bs) at = let later = true-at (i + 1) k leg bs at in (suc later.0, omega (arith, later.1), later.2)
 true-at i k leg (false ∷ bs) at = let later = true-at (i + 1) k leg bs at in (suc later.0, omega (arith, later.1), later.2)
 
-out-bits : (behind : Bool) → ((not true && not behind) || false) ≡ false
-out-bits behind = refl
-
 module _ {L : Type 0} (type : LegType L) (old : StripeState L) (k : Keeps type old) where
   -- a leg that is current at a block is not out
   pub current_attached : (leg block : ℕ) → is_current leg block old ≡ true → is_out (leg_state leg old) ≡ false
