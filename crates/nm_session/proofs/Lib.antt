@@ -7,3 +7,9 @@ pub mod Known
 pub mod Transmission
 pub mod Haggled
 pub mod Once
+pub mod Changing
+pub mod Reading
+pub mod Motion
+pub mod OneTurn
+pub mod Pieces
+pub mod WholeSessions

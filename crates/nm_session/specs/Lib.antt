@@ -8,3 +8,12 @@ pub mod CoreFields
 pub mod Event
 pub mod Text
 pub mod Laws
+pub mod CalledValue
+pub mod Target
+pub mod Calling
+pub mod MemTarget
+pub mod ServeFault
+pub mod Moving
+pub mod Turning
+pub mod MovingBytes
+pub mod Serving

@@ -1,0 +1,122 @@
+ghost use Rattle.std.specs.Prelude.{◌≡◌, ◌≢◌, ◌+◌, ◌≤◌, [], IfErr};
+ghost use Rattle.nm_requests.specs.declared.task.Task.TheVariants.{Read, Write, Zero, Flush};
+ghost use Rattle.nm_session.specs.Outcome.{says, Fits};
+ghost use Rattle.nm_session.specs.Calling.{IsCallable, Calls};
+ghost use Rattle.nm_session.specs.Calling as calling;
+
+use crate::called::Called;
+use crate::outcome::Outcome;
+use crate::target::Target;
+use crate::target_fault::TargetFault;
+use bytes::Bytes;
+use nm_requests::Task;
+use nm_wire::errors::ENOMEM;
+use std::alloc::Global;
+
+/// Calls the target for the task of the request with this index.
+///
+/// A READ's buffer is made here; where that is refused the target is not called, and the outcome is
+/// ENOMEM. After a WRITE or a zeroing that succeeded and is to be durable, `sync_touched` is called
+/// for the same bytes, and its answer is the outcome.
+pub fn call<T: Target>(
+    alloc: Global,
+    target: &mut T,
+    index: u64,
+    task: Task,
+    payload: Bytes,
+) -> Called
+    requires { IsCallable (T.size target.old) task payload }
+    ensures index { result.index ≡ index }
+    ensures task { result.task ≡ task }
+    ensures calls { Calls task payload result.outcome
+        (λ calls. T.follows target.old calls target.new) }
+    ensures size { T.size target.new ≡ T.size target.old }
+{
+    match task {
+        Task::Read { offset, length } => {
+            Called::new(index, task, read(alloc, target, offset, length))
+        }
+        Task::Write {
+            offset,
+            length,
+            fua,
+        } => { Called::new(index, task, write(target, offset, length, fua, payload)) }
+        Task::Zero {
+            offset,
+            length,
+            fua,
+        } => { Called::new(index, task, zero(target, offset, length, fua)) }
+        _ => Called::new(index, task, flush(target)),
+    }
+}
+
+// Reads so many bytes into a buffer of its own.
+fn read<T: Target>(alloc: Global, target: &mut T, offset: u64, length: u32) -> Outcome
+    requires { offset + length ≤ T.size target.old }
+    ensures calls { Calls (Read offset length) [] (says result)
+        (λ calls. T.follows target.old calls target.new) }
+    ensures fits { Fits (Read offset length) result }
+    ensures size { T.size target.new ≡ T.size target.old }
+{
+    let Ok(mut buffer) = vec![in alloc; 0; length as usize] else {
+        return Outcome::Error(ENOMEM);
+    };
+    match target.read(offset, &mut buffer) {
+        Ok(()) => Outcome::Data(buffer),
+        Err(fault) => Outcome::Error(fault.error()),
+    }
+}
+
+// Writes the payload and, where it is to be durable, makes it so.
+fn write<T: Target>(target: &mut T, offset: u64, length: u32, fua: bool, payload: Bytes) -> Outcome
+    requires { IsCallable (T.size target.old) (Write offset length fua) payload }
+    ensures calls { Calls (Write offset length fua) payload (says result)
+        (λ calls. T.follows target.old calls target.new) }
+    ensures fits { Fits (Write offset length fua) result }
+    ensures size { T.size target.new ≡ T.size target.old }
+{
+    if let Err(fault) = target.write(offset, payload) {
+        return Outcome::Error(fault.error());
+    }
+    if !fua {
+        return Outcome::Done;
+    }
+    outcome_of(target.sync_touched(offset, u64::from(length)))
+}
+
+// Writes zeroes to so many bytes and, where they are to be durable, makes them so.
+fn zero<T: Target>(target: &mut T, offset: u64, count: u32, fua: bool) -> Outcome
+    requires { offset + count ≤ T.size target.old }
+    ensures calls { Calls (Zero offset count fua) [] (says result)
+        (λ calls. T.follows target.old calls target.new) }
+    ensures fits { Fits (Zero offset count fua) result }
+    ensures size { T.size target.new ≡ T.size target.old }
+{
+    if let Err(fault) = target.zero(offset, u64::from(count)) {
+        return Outcome::Error(fault.error());
+    }
+    if !fua {
+        return Outcome::Done;
+    }
+    outcome_of(target.sync_touched(offset, u64::from(count)))
+}
+
+// Makes durable what was written before.
+fn flush<T: Target>(target: &mut T) -> Outcome
+    ensures calls { Calls Flush [] (says result) (λ calls. T.follows target.old calls target.new) }
+    ensures fits { Fits Flush result }
+    ensures size { T.size target.new ≡ T.size target.old }
+{
+    outcome_of(target.flush())
+}
+
+// What comes of a call that gives no bytes.
+fn outcome_of(answer: Result<(), TargetFault>) -> Outcome
+    ensures says { says result ≡ calling.outcome_of answer }
+    ensures fits { IfErr (says result) (λ code. code ≢ 0) }
+{
+    match answer {
+        Ok(()) => Outcome::Done,
+        Err(fault) => Outcome::Error(fault.error()),
+    }
+}

@@ -1,0 +1,113 @@
+ghost use Rattle.std.specs.Prelude.{◌≡◌, ◌≤◌, [], IfOk, IfErr};
+ghost use Rattle.nm_replies.specs.Sending.{device_of};
+ghost use Rattle.nm_wire.specs.Export.{size_of};
+ghost use Rattle.nm_session.specs.Session.{session_of};
+ghost use Rattle.nm_session.specs.Moving.{moment, BreaksOff};
+ghost use Rattle.nm_session.specs.Serving.{no_target, ShakesHands, Transmits};
+
+use crate::handshake::shake_hands;
+use crate::rounds::serve_requests;
+use crate::serve_fault::ServeFault;
+use crate::served::Served;
+use crate::session_core::SessionCore;
+use crate::target::Target;
+use nm_replies::ReplyWriter;
+use nm_wire::{Export, Memory};
+use std::alloc::Global;
+use std::io::{Read, Write};
+use std::marker::Model;
+use std::sync::Wait;
+
+// How many bytes a read has room for.
+const ROOM: usize = 128 * 1024;
+
+/// One client's session as it is served, one request after the other: its core, and the room into
+/// which its bytes are read. Contracts see it as its core.
+#[derive(Drop)]
+pub struct Connection {
+    core: SessionCore,
+    room: Vec<u8>,
+}
+
+impl Model for Connection {
+    ghost use Rattle.std.specs.Prelude.{◌<◌, vec_len};
+    ghost use Rattle.nm_session.specs.Session.{Session};
+
+    ghost Value = { Session };
+
+    ghost view = { λ connection. connection.core };
+
+    ghost invariant = { λ connection. 0 < vec_len connection.room };
+}
+
+impl Connection {
+    /// A session over this export, before its first byte.
+    pub fn new(alloc: Global, export: Export) -> Result<Connection, Memory>
+        ensures { IfOk result (λ connection. connection ≡ session_of export 1) }
+    {
+        let Ok(core) = SessionCore::new(alloc, export, 1) else {
+            return Err(Memory);
+        };
+        let room = vec![in alloc; 0; ROOM]?;
+        Ok(Connection { core, room })
+    }
+
+    /// Haggles over the export, from the greeting until transmission begins, where it answers
+    /// `None`, or the session ends. All that is to go out is sent.
+    pub fn handshake<R: Wait, I: Read, O: Write>(
+        &mut self,
+        rt: &R,
+        alloc: Global,
+        reader: &mut I,
+        sender: &mut ReplyWriter<O>,
+    ) -> Result<Option<Served>, ServeFault>
+        requires idle { self.old.outstanding ≡ [] }
+        requires limit { self.old.limit ≡ 1 }
+        ensures ok { IfOk result (λ served. ShakesHands served
+            (moment self.old tt (I.remaining reader.old) (O.contents (device_of sender.old)))
+            (moment self.new tt (I.remaining reader.new) (O.contents (device_of sender.new)))) }
+        ensures err { IfErr result (λ fault. BreaksOff no_target
+            (moment self.old tt (I.remaining reader.old) (O.contents (device_of sender.old)))
+            (moment self.new tt (I.remaining reader.new) (O.contents (device_of sender.new)))
+            fault) }
+    {
+        shake_hands(rt, alloc, &mut self.core, &mut self.room, reader, sender)
+    }
+
+    /// Serves requests one after the other, each by a call of the target, until the session ends.
+    ///
+    /// The replies that are ready go out in one write before each read, and once about 1 MiB of
+    /// them has gathered.
+    pub fn transmit<R: Wait, I: Read, O: Write, T: Target>(
+        &mut self,
+        rt: &R,
+        alloc: Global,
+        reader: &mut I,
+        sender: &mut ReplyWriter<O>,
+        target: &mut T,
+    ) -> Result<Served, ServeFault>
+        requires idle { self.old.outstanding ≡ [] }
+        requires limit { self.old.limit ≡ 1 }
+        requires size { size_of self.old.haggling.export ≤ T.size target.old }
+        ensures ok { IfOk result (λ served. Transmits T.follows served
+            (moment self.old target.old (I.remaining reader.old)
+            (O.contents (device_of sender.old)))
+            (moment self.new target.new (I.remaining reader.new)
+            (O.contents (device_of sender.new)))) }
+        ensures err { IfErr result (λ fault. BreaksOff T.follows
+            (moment self.old target.old (I.remaining reader.old)
+            (O.contents (device_of sender.old)))
+            (moment self.new target.new (I.remaining reader.new)
+            (O.contents (device_of sender.new))) fault) }
+    {
+        serve_requests(
+            rt,
+            alloc,
+            &mut self.core,
+            &mut self.room,
+            reader,
+            sender,
+            target,
+        )
+    }
+}
