@@ -1,5 +1,5 @@
 -- A step of a copy: what is known of the copy and the chunk that it goes on with.
-use Rattle.std.proofs.Common.{◌≡◌, ℕ, suc, ◌+◌, ◌-◌, ◌*◌, ◌/◌, ◌<◌, ◌≤◌, ◌==◌, ◌&&◌, Bool, true, false, not, IsTrue, List, [], ◌∷◌, None, Some, Option, is_some, length, min, refl, sym, ap, ◌∙◌, subst, arith, cond, nat_lt, nat_le, position, suc-mul}
+use Rattle.std.proofs.Common.{◌≡◌, ℕ, suc, ◌+◌, ◌-◌, ◌*◌, ◌/◌, ◌<◌, ◌≤◌, ◌==◌, ◌&&◌, Bool, true, false, not, IsTrue, List, [], ◌∷◌, None, Some, Option, is_some, length, min, refl, sym, ap, ◌∙◌, subst, arith, cond, nat_lt, nat_le, position, suc-mul, eq-eqb}
 use Rattle.std.specs.Option.{option_map, option_and_then, option_or}
 use Rattle.std.proofs.lemmas.Bool.Decides.{nat_tests}
 use Rattle.std.proofs.Math.Nat.{div-lt_iff_lt-mul}
@@ -13,12 +13,12 @@ use Rattle.nm_fanout.specs.Records.{find_record}
 use Rattle.nm_leg.specs.Leg.{LegType}
 use Rattle.nm_regions.specs.declared.copy_place.CopyPlace.{CopyPlace}
 use Rattle.nm_regions.specs.LegFlags.{no_leg}
-use Rattle.nm_regions.specs.Table.{leg_at, lowest_behind, length_of, has_copied, regions_of}
+use Rattle.nm_regions.specs.Table.{copied, leg_at, lowest_behind, length_of, has_copied, regions_of}
 use Rattle.nm_rules.specs.declared.refusal.Refusal.TheVariants.{Busy, Settling, Stopped, OtherCopy, NotJoining}
 use Rattle.nm_rules.specs.Cause.{when}
 use Rattle.nm_rules.specs.Copy.{GoesOn, copy_cause, copy_rows, copy_more_rows, copy_of, chunk_of, chunk_or, new_chunk, busy_within, busy_chunk, busy_new_chunk}
 use Rattle.nm_rules.specs.Invariant.{HasChunk, IsCopy, IsChunk, HoldsArray, Keeps}
-use Rattle.nm_rules.specs.State.{StripeState, Chunk, copy_start, lies_in, leg_state, is_joining, table}
+use Rattle.nm_rules.specs.State.{StripeState, Chunk, copy_start, chunk_written, chunk_buffered, lies_in, leg_state, is_joining, table}
 use Rattle.nm_rules.proofs.CauseLemmas.{none_holds, when_off, unless_on, map_off}
 use Rattle.nm_rules.proofs.ChunkLemmas.{copy-is}
 use Rattle.nm_rules.proofs.RecordLemmas.{same}
@@ -64,6 +64,30 @@ within-none first count t (q ∷ rs) r none at going =
     off true b is clash = clash
     off false b is clash = cc
 
+-- how much of its region a copy has copied, and how much of its chunk is read and written
+pub record Counts (leg : ℕ) (was : Option CopyPlace) (open_chunk : Option Chunk) (copy : CopyPlace) (chunk : Chunk) : Type 0 where
+  pub copied : copied leg was ≡ copy.cursor
+  pub written : chunk_written leg was open_chunk ≡ chunk.written
+  pub buffered : chunk_buffered leg was open_chunk ≡ length chunk.blocks - chunk.written
+
+-- where none is open nothing is
+counts-none : (leg : ℕ) (copy : CopyPlace) (chunk : Chunk) → copy.cursor ≡ 0 → chunk.written ≡ 0 → length chunk.blocks ≡ 0 → Counts leg None None copy chunk
+counts-none leg copy chunk start one two = record { copied = sym start; written = sym one; buffered = omega (arith, one, two) }
+
+counts-new : (leg : ℕ) (copy : CopyPlace) (chunk : Chunk) → copy.leg ≡ leg → chunk.written ≡ 0 → length chunk.blocks ≡ 0 → Counts leg (Some copy) None copy chunk
+counts-new leg copy chunk own one two = record {
+  copied = ap (λ b. cond b copy.cursor 0) (eq-eqb copy.leg leg own);
+  written = sym one;
+  buffered = omega (arith, one, two);
+}
+
+counts-open : (leg : ℕ) (copy : CopyPlace) (chunk : Chunk) → copy.leg ≡ leg → Counts leg (Some copy) (Some chunk) copy chunk
+counts-open leg copy chunk own = record {
+  copied = ap (λ b. cond b copy.cursor 0) (eq-eqb copy.leg leg own);
+  written = ap (λ b. cond b chunk.written 0) (eq-eqb copy.leg leg own);
+  buffered = ap (λ b. cond b (length chunk.blocks - chunk.written) 0) (eq-eqb copy.leg leg own);
+}
+
 -- what is known of the copy and the chunk that a step goes on with
 pub record Ready {L : Type 0} (type : LegType L) (s : StripeState L) (leg : ℕ) (copy : CopyPlace) (chunk : Chunk) : Type 0 where
   pub leg_is : copy.leg ≡ leg
@@ -76,6 +100,7 @@ pub record Ready {L : Type 0} (type : LegType L) (s : StripeState L) (leg : ℕ)
   pub apart : (t : ℕ) (r : Record) → find_record t s.records ≡ Some r → is_under_way r ≡ true
       → lies_in s.place.region (Some copy) (Some chunk) r.block ≡ false
   pub holds : IsTrue type.honest → HoldsArray type.model copy chunk s
+  pub counts : Counts leg s.copy s.chunk copy chunk
   pub was : 0 < length chunk.blocks → (s.copy ≡ Some copy) × (s.chunk ≡ Some chunk)
 
 -- where no other copy is open, the open one is of this leg
@@ -148,6 +173,15 @@ module _ {L : Type 0} (type : LegType L) (s : StripeState L) (leg : ℕ) (copy :
             λ j region place. ap (λ (x : CopyPlace). has_copied j region place (Some x)) one ∙ sym (ap (λ (o : Option CopyPlace). has_copied j region place o) is_open),
           )
 
+  new-counts : s.chunk ≡ None → chunk.written ≡ 0 → length chunk.blocks ≡ 0 → Counts leg s.copy s.chunk copy chunk
+  new-counts none written blocks = subst (λ (o : Option Chunk). Counts leg s.copy o copy chunk) (sym none) (by_copy s.copy refl)
+    where
+      by_copy : (o : Option CopyPlace) → s.copy ≡ o → Counts leg s.copy None copy chunk
+      by_copy None is = subst (λ (o : Option CopyPlace). Counts leg o None copy chunk) (sym is) (counts-none leg copy chunk (ap (λ (c : CopyPlace). c.cursor) (new-copy is).2) written blocks)
+      by_copy (Some c) is =
+          let one = open-copy c is in
+          subst (λ (o : Option CopyPlace). Counts leg o None copy chunk) (ap (λ (x : CopyPlace). Some x) one ∙ sym is) (counts-new leg copy chunk is-copy.0 written blocks)
+
   ready-new : s.chunk ≡ None → Ready type s leg copy chunk
   ready-new none =
       let copying = is-copy in
@@ -169,6 +203,7 @@ module _ {L : Type 0} (type : LegType L) (s : StripeState L) (leg : ℕ) (copy :
         apart = λ t r at going.
             subst (λ (c : Chunk). (nat_le (copy_start s.place.region copy) r.block && nat_lt r.block (copy_start s.place.region copy + c.length)) ≡ false) (sym one)
             (within-none (copy_start s.place.region copy) (new_chunk copy s).length t s.records r idle at going);
+        counts = new-counts none written blocks;
         holds = λ is_honest. record { read = λ i inside. absurd (omega (arith, inside, blocks)); written = λ i inside. absurd (omega (arith, inside, written)) };
         was = λ some. absurd (omega (arith, some, blocks));
       }
@@ -191,6 +226,7 @@ module _ {L : Type 0} (type : LegType L) (s : StripeState L) (leg : ℕ) (copy :
         read_first = this.read_first;
         apart = λ t r at going. let off = k.writes.apart t r at going in
             subst (λ (o : Option CopyPlace). lies_in s.place.region o (Some chunk) r.block ≡ false) both_open.0 (subst (λ (o : Option Chunk). lies_in s.place.region s.copy o r.block ≡ false) is_open_chunk off);
+        counts = subst (λ (o : Option CopyPlace). Counts leg o s.chunk copy chunk) (sym both_open.0) (subst (λ (o : Option Chunk). Counts leg (Some copy) o copy chunk) (sym is_open_chunk) (counts-open leg copy chunk copying.0));
         holds = λ is_honest. (k.agrees is_honest may.runs).buffer copy chunk both_open.0 is_open_chunk;
         was = λ some. (both_open.0, is_open_chunk);
       }
