@@ -81,7 +81,7 @@ counts-new leg copy chunk own one two = record {
   buffered = omega (arith, one, two);
 }
 
-counts-open : (leg : ℕ) (copy : CopyPlace) (chunk : Chunk) → copy.leg ≡ leg → Counts leg (Some copy) (Some chunk) copy chunk
+pub counts-open : (leg : ℕ) (copy : CopyPlace) (chunk : Chunk) → copy.leg ≡ leg → Counts leg (Some copy) (Some chunk) copy chunk
 counts-open leg copy chunk own = record {
   copied = ap (λ b. cond b copy.cursor 0) (eq-eqb copy.leg leg own);
   written = ap (λ b. cond b chunk.written 0) (eq-eqb copy.leg leg own);

@@ -45,3 +45,4 @@ pub mod ReplaceLemmas
 pub mod SettledLemmas
 pub mod SoundLemmas
 pub mod StateLemmas
+pub mod WorkLemmas
