@@ -14,7 +14,7 @@ use Rattle.nm_regions.proofs.Copies.{copy-behind}
 use Rattle.nm_regions.proofs.Begun.{leg-kept}
 
 -- a region that is cleared takes its blocks along
-blocks-cleared : (region blocks : ℕ) (flags : List Bool) (k : ℕ) → get_or flags k false ≡ true
+pub blocks-cleared : (region blocks : ℕ) (flags : List Bool) (k : ℕ) → get_or flags k false ≡ true
     → blocks_behind region blocks flags
     ≡ blocks_behind region blocks (set flags k false) + min region (blocks - k * region)
 blocks-cleared region blocks [] k h = absurd cc

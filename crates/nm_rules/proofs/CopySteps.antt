@@ -78,30 +78,30 @@ copies-read-acts type old new leg k c is_honest =
 module _ {L : Type 0} (type : LegType L) (old : StripeState L) (legs : List L) (leg : ℕ) (copy : CopyPlace) (chunk : Chunk) (bytes : Block) (k : Keeps type old) (on : GoesOn old leg copy chunk)
     (not_short : nat_lt (length chunk.blocks) chunk.length ≡ false) (next : slice_get chunk.blocks chunk.written ≡ Some bytes)
     (w : WritesLegAt type true copy.leg (copy_start old.place.region copy + chunk.written) bytes.0 old.legs legs) where
-  r : Ready type old leg copy chunk
+  pub r : Ready type old leg copy chunk
   r = goes-ready type old leg copy chunk k on
 
-  runs : old.stopped ≡ false
+  pub runs : old.stopped ≡ false
   runs = (may_copy old leg on.no_cause).runs
 
-  filled : length chunk.blocks ≡ chunk.length
+  pub filled : length chunk.blocks ≡ chunk.length
   filled = let high : chunk.length ≤ length chunk.blocks = grind (arith, nat_tests) in omega (arith, high, r.most)
 
   -- the stripe once the chunk is written to its end, and once it is not
-  abbrev closed : StripeState L
+  abbrev pub closed : StripeState L
   closed = record (with_table (chunk_copied chunk.length (table old)) old) { legs = legs; chunk = None }
 
-  abbrev going : StripeState L
+  abbrev pub going : StripeState L
   going = record old { legs = legs; chunk = Some (record chunk { written = chunk.written + 1 }) }
 
   -- the region table behind the chunk
-  on_is : (o : Option CopyPlace) → o ≡ Some copy → moved chunk.length o ≡ Some (beyond type old leg copy chunk k r runs legs bytes filled next w)
+  pub on_is : (o : Option CopyPlace) → o ≡ Some copy → moved chunk.length o ≡ Some (beyond type old leg copy chunk k r runs legs bytes filled next w)
   on_is o is = ap (λ (x : Option CopyPlace). moved chunk.length x) is
 
-  open-copy : old.copy ≡ Some copy
+  pub open-copy : old.copy ≡ Some copy
   open-copy = (is-open type old leg copy chunk k r runs legs bytes filled next w).0
 
-  rest_is : copy_rest (advanced chunk.length (table old)) ≡ length_of copy.region (table old) - (copy.cursor + chunk.length)
+  pub rest_is : copy_rest (advanced chunk.length (table old)) ≡ length_of copy.region (table old) - (copy.cursor + chunk.length)
   rest_is = ap (λ (o : Option CopyPlace). rest_of o (advanced chunk.length (table old))) (on_is old.copy open-copy)
 
   pub write-keeps : Keeps type (after_copy_write old legs chunk)
