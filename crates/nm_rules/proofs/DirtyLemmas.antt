@@ -1,8 +1,8 @@
 -- The regions of a leg that goes out: each that was behind is, and so is each with a write under way.
-use Rattle.std.proofs.Common.{◌≡◌, ◌≢◌, ⊎_elim, ℕ, zero, suc, ◌+◌, ◌-◌, ◌*◌, ◌/◌, ◌%◌, ◌<◌, ◌≤◌, ◌==◌, ◌&&◌, ◌||◌, Bool, true, false, not, List, [], ◌∷◌, length, Option, None, Some, get_or, refl, sym, ap, ◌∙◌, subst, arith, cond, inl, inr, slice_index_or, if◌then◌else◌, div-add-mod', eq-eqb}
+use Rattle.std.proofs.Common.{◌≡◌, ℕ, zero, suc, ◌+◌, ◌-◌, ◌*◌, ◌/◌, ◌%◌, ◌<◌, ◌==◌, ◌&&◌, Bool, true, false, List, [], ◌∷◌, length, Some, get_or, refl, ap, ◌∙◌, arith, cond, inl, inr, slice_index_or, if◌then◌else◌, div-add-mod', eq-eqb}
 use Rattle.std.proofs.lemmas.Bool.Decides.{eqb_tells}
 use Rattle.std.proofs.lemmas.Nat.{mod_below, div_below}
-use Rattle.std.proofs.lemmas.List.{get_or-replicate, get_or_past, length-replicate}
+use Rattle.std.proofs.lemmas.List.{get_or-replicate, length-replicate}
 use Rattle.std.proofs.lemmas.List.Sums.{sum_by-cons}
 use Rattle.std.proofs.lemmas.Option.{same_Some}
 use Rattle.nm_fanout.specs.declared.write_record.Record.{Record}

@@ -1,6 +1,6 @@
 -- A leg has gone out of a stripe of honest legs that runs: under the same master no caller sees it, and
 -- under a new one each write without an entry takes effect, by rising ticket.
-use Rattle.std.proofs.Common.{◌≡◌, ◌≢◌, ℕ, ◌+◌, ◌<◌, Bool, true, false, IsTrue, List, [], map, length, Option, None, Some, refl, sym, ap, ◌∙◌, subst, arith, cond, nat_lt}
+use Rattle.std.proofs.Common.{◌≡◌, ◌≢◌, ℕ, ◌+◌, ◌<◌, true, false, IsTrue, List, [], map, length, None, Some, refl, sym, ap, ◌∙◌, subst, arith, cond, nat_lt}
 use Rattle.std.proofs.lemmas.Bool.Decides.{nat_tests}
 use Rattle.nm_replay.specs.declared.entry.Entry.{Entry}
 use Rattle.nm_replay.specs.Events.{entries_of}
@@ -15,7 +15,6 @@ use Rattle.nm_leg.specs.Leg.{LegType}
 use Rattle.nm_regions.specs.LegFlags.{LegRegions}
 use Rattle.nm_rules.specs.Acts.{Acts}
 use Rattle.nm_rules.specs.Array.{life_of, read_life, stripe_array, write_life}
-use Rattle.nm_rules.specs.Invariant.{Keeps}
 use Rattle.nm_rules.specs.Kept.{kept_with}
 use Rattle.nm_rules.specs.Lost.{landed_all, landing}
 use Rattle.nm_rules.specs.State.{StripeState, is_last, next_number}

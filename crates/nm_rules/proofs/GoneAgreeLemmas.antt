@@ -1,5 +1,5 @@
 -- A leg has gone out of a stripe that runs: what honest legs and an open chunk hold afterwards.
-use Rattle.std.proofs.Common.{◌≡◌, ◌≢◌, ⊎_elim, ℕ, ◌+◌, ◌-◌, ◌*◌, ◌/◌, ◌<◌, ◌≤◌, ◌&&◌, ◌||◌, Bool, true, false, not, IsTrue, List, length, Option, None, Some, min, refl, sym, ap, ◌∙◌, subst, arith, inl, inr, slice_get, nat_lt, nat_le}
+use Rattle.std.proofs.Common.{◌≡◌, ◌≢◌, ⊎_elim, ℕ, ◌+◌, ◌-◌, ◌*◌, ◌/◌, ◌<◌, ◌||◌, Bool, true, false, not, IsTrue, length, Option, None, Some, min, refl, sym, ap, ◌∙◌, subst, arith, inl, inr, slice_get, nat_lt, nat_le}
 use Rattle.std.proofs.lemmas.Bool.Decides.{eqb_tells, nat_tests}
 use Rattle.std.proofs.lemmas.Option.{same_Some}
 use Rattle.nm_replay.specs.declared.block.Block.{Block}
@@ -12,9 +12,9 @@ use Rattle.nm_leg.specs.Leg.{LegType}
 use Rattle.nm_regions.specs.declared.copy_place.CopyPlace.{CopyPlace}
 use Rattle.nm_regions.specs.LegFlags.{is_behind}
 use Rattle.nm_regions.specs.Changes.{copy_but_of}
-use Rattle.nm_regions.specs.Table.{has_copied, leg_at, length_of, place_of}
+use Rattle.nm_regions.specs.Table.{has_copied, leg_at, place_of}
 use Rattle.nm_rules.specs.Array.{contents_of, stripe_array, written}
-use Rattle.nm_rules.specs.Invariant.{HasChunk, HoldsArray, IsChunk, IsCopy, LegsAgree, is_clear}
+use Rattle.nm_rules.specs.Invariant.{HasChunk, HoldsArray, IsChunk, LegsAgree, is_clear}
 use Rattle.nm_rules.specs.Lost.{chunk_but_of}
 use Rattle.nm_rules.specs.State.{Chunk, StripeState, copy_start, lies_in, table}
 use Rattle.nm_rules.proofs.GoneArrayLemmas.{array-free, holds-written, master_clear, master_inside, other_master}

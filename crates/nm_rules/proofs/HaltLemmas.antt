@@ -1,17 +1,16 @@
 -- A call of the last leg in sync failed: a push stops the stripe, and what still holds needs no trust in a
 -- leg; a read, a sync and a copy's read leave the stripe as it was, but for the leg.
-use Rattle.std.proofs.Common.{◌≡◌, ℕ, true, false, IsTrue, List, [], length, ◌+◌, sym, ◌∙◌, subst, arith, Option, None, Some}
+use Rattle.std.proofs.Common.{◌≡◌, ℕ, true, false, IsTrue, List, [], length, ◌+◌, sym, ◌∙◌, subst, arith}
 use Rattle.nm_replay.specs.declared.block.Block.{Block}
 use Rattle.nm_leg.specs.Leg.{LegType}
-use Rattle.nm_regions.specs.declared.copy_place.CopyPlace.{CopyPlace}
 use Rattle.nm_regions.specs.Sound.{AreSizes}
 use Rattle.nm_rules.specs.Acts.{Acts}
 use Rattle.nm_rules.specs.Array.{contents_of}
 use Rattle.nm_rules.specs.Copy.{FailsInCopy}
-use Rattle.nm_rules.specs.Invariant.{HasChunk, Keeps}
+use Rattle.nm_rules.specs.Invariant.{Keeps}
 use Rattle.nm_rules.specs.Push.{Halts}
 use Rattle.nm_rules.specs.Read.{FailsInRead}
-use Rattle.nm_rules.specs.State.{Chunk, StripeState, copy_start}
+use Rattle.nm_rules.specs.State.{StripeState, copy_start}
 use Rattle.nm_rules.specs.Sync.{FailsInSync}
 use Rattle.nm_rules.proofs.CalledLemmas.{SameContents, called-acts, called-keeps, read-same, sync-same}
 use Rattle.nm_rules.proofs.ChunkLemmas.{chunk-stays}

@@ -1,12 +1,12 @@
 -- Writes without an entry take effect one after the other, over a plain list of records: what the
 -- array becomes, and how far each write and each read is.
-use Rattle.std.proofs.Common.{◌≡◌, ◌≢◌, ℕ, ◌+◌, ◌<◌, ◌==◌, Bool, true, false, List, [], ◌∷◌, ◌++◌, map, length, length-append, append_assoc, append-nil, Option, None, Some, is_none, refl, sym, ap, ◌∙◌, subst, arith, slice_get, slice_set, length-set, nat_lt, cond, if◌then◌else◌, ne_eqb, MatchBool, inl, inr}
+use Rattle.std.proofs.Common.{◌≡◌, ℕ, ◌+◌, ◌<◌, ◌==◌, true, false, List, [], ◌∷◌, ◌++◌, length, length-append, append_assoc, append-nil, Option, None, Some, is_none, refl, sym, ap, ◌∙◌, subst, arith, slice_get, slice_set, length-set, nat_lt, cond, if◌then◌else◌, ne_eqb, MatchBool, inl, inr}
 use Rattle.std.proofs.lemmas.Bool.Decides.{nat_tests, eqb_tells}
 use Rattle.nm_replay.specs.declared.block.Block.{Block}
 use Rattle.nm_replay.specs.declared.entry.Entry.{Entry}
 use Rattle.nm_replay.specs.Events.{Event, Lands, entries_of, marks_of, entry_of_write}
 use Rattle.nm_replay.specs.History.{Consistent, Legal, NumberedFrom}
-use Rattle.nm_replay.specs.WriteLives.{WriteLife, WriteLives, Begun, Landed}
+use Rattle.nm_replay.specs.WriteLives.{WriteLife, WriteLives, Landed}
 use Rattle.nm_replay.specs.ReadLives.{ReadLife, ReadLives, NotBegun, Closed}
 use Rattle.nm_replay.proofs.Arrays.{slice_get-set_same, slice_get-set_other}
 use Rattle.nm_replay.proofs.Numbering.{numbered-append}

@@ -1,11 +1,10 @@
 -- Records once a leg has gone out: no write owes it, and the rest is as it was, but that a write may
 -- have got its entry.
-use Rattle.std.proofs.Common.{◌≡◌, ◌≢◌, ⊎_elim, ℕ, ◌+◌, ◌<◌, ◌==◌, Bool, true, false, List, [], ◌∷◌, map, length, Option, None, Some, is_none, refl, sym, ap, ◌∙◌, subst, arith, cond, inl, inr, length-set, slice_set}
+use Rattle.std.proofs.Common.{◌≡◌, ◌≢◌, ℕ, ◌+◌, ◌==◌, Bool, true, false, List, [], ◌∷◌, map, length, Option, None, Some, is_none, refl, sym, ap, ◌∙◌, subst, arith, cond, inl, inr, length-set, slice_set}
 use Rattle.std.specs.Option.{option_map}
 use Rattle.std.proofs.lemmas.Bool.Decides.{eqb_tells}
 use Rattle.std.proofs.lemmas.Option.{same_Some}
 use Rattle.std.proofs.lemmas.List.Sums.{sum_by-cons}
-use Rattle.nm_replay.specs.declared.block.Block.{Block}
 use Rattle.nm_leg.specs.Leg.{block_of}
 use Rattle.nm_fanout.specs.declared.block_data.Data.{Data}
 use Rattle.nm_fanout.specs.declared.write_record.Record.{Record}
@@ -19,7 +18,7 @@ use Rattle.nm_fanout.proofs.Writers.{busy_on-here}
 use Rattle.nm_rules.specs.Array.{life_of, written}
 use Rattle.nm_rules.specs.Lost.{landed_all, landing}
 use Rattle.nm_rules.specs.Push.{write_entry}
-use Rattle.nm_rules.proofs.RecordLemmas.{busy_found, busy_none, one_ticket}
+use Rattle.nm_rules.proofs.RecordLemmas.{busy_found, one_ticket}
 
 -- a record once the leg is gone: it may have got its entry, and keeps one that it had
 pub record IsLeft (leg : ℕ) (was now : Record) : Type 0 where

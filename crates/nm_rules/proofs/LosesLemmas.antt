@@ -1,6 +1,6 @@
 -- A leg that a step calls is not out, and where its call fails, it changes no more than what is behind
 -- for it once it has gone out.
-use Rattle.std.proofs.Common.{◌≡◌, ◌≢◌, ⊎_elim, ℕ, ◌+◌, ◌/◌, ◌*◌, ◌<◌, ◌==◌, ◌&&◌, ◌||◌, zero, suc, Bool, true, false, not, IsTrue, List, [], ◌∷◌, length, Option, Some, get_or, refl, sym, ap, ◌∙◌, subst, arith, cond, inl, inr, slice_get}
+use Rattle.std.proofs.Common.{◌≡◌, ℕ, ◌+◌, ◌/◌, ◌*◌, ◌<◌, ◌&&◌, ◌||◌, zero, suc, Bool, true, false, not, IsTrue, List, [], ◌∷◌, length, Some, get_or, refl, sym, ap, ◌∙◌, subst, arith, cond, slice_get}
 use Rattle.std.proofs.lemmas.List.Quantifiers.{position-Some}
 use Rattle.std.proofs.lemmas.Nat.{div-mul-add}
 use Rattle.std.proofs.lemmas.Option.{same_Some}
@@ -9,21 +9,19 @@ use Rattle.nm_choice.specs.declared.leg_state.LegState.{LegState}
 use Rattle.nm_choice.specs.Choice.{place_of}
 use Rattle.nm_fanout.specs.declared.write_record.Record.{Record}
 use Rattle.nm_fanout.specs.Data.{bytes_of}
-use Rattle.nm_fanout.specs.Record.{is_under_way, owes}
-use Rattle.nm_fanout.specs.Records.{find_record}
+use Rattle.nm_fanout.specs.Record.{owes}
 use Rattle.nm_fanout.proofs.Owed.{owes-under_way}
 use Rattle.nm_leg.specs.Leg.{CallsLeg, LegType}
 use Rattle.nm_leg.specs.LegCalls.{ChangesLeg, ReadsLegAt, SyncsLegAt, WritesLegAt}
 use Rattle.nm_regions.specs.declared.copy_place.CopyPlace.{CopyPlace}
-use Rattle.nm_regions.specs.LegFlags.{LegRegions, is_behind}
+use Rattle.nm_regions.specs.LegFlags.{is_behind}
 use Rattle.nm_regions.specs.Table.{has_copied, leg_at, region_of, targets}
 use Rattle.nm_regions.specs.Table as regions
-use Rattle.nm_rules.specs.Array.{contents_of}
 use Rattle.nm_rules.specs.Copy.{CallsToCopyWrite}
 use Rattle.nm_rules.specs.Invariant.{Keeps}
 use Rattle.nm_rules.specs.Lost.{dirty_and_out}
 use Rattle.nm_rules.specs.Push.{CallsToPush}
-use Rattle.nm_rules.specs.Read.{CallsToRead, current_legs, read_leg, true_from}
+use Rattle.nm_rules.specs.Read.{current_legs, read_leg, true_from}
 use Rattle.nm_rules.specs.State.{Chunk, StripeState, copy_start, is_current, is_out, is_quiet, leg_state, table}
 use Rattle.nm_rules.proofs.ChunkLemmas.{not_copying}
 use Rattle.nm_rules.proofs.CopyLemmas.{Ready}
@@ -31,7 +29,6 @@ use Rattle.nm_rules.proofs.DirtyLemmas.{dirty-marks}
 use Rattle.nm_rules.proofs.LegLemmas.{calls-after, calls-before, calls-length, calls-lengths, calls-other}
 use Rattle.nm_rules.proofs.OutLemmas.{LosesLeg}
 use Rattle.nm_rules.proofs.OwedLemmas.{owes_current}
-use Rattle.nm_rules.proofs.RecordLemmas.{one_or_two}
 use Rattle.nm_rules.proofs.StateLemmas.{attached_inside}
 
 -- the places that are true

@@ -1,19 +1,18 @@
 -- A leg that is not the last in sync goes out of a stripe, after a call of it failed or on request: the
 -- stripe keeps everything, and what callers see of it is explained.
-use Rattle.std.proofs.Common.{◌≡◌, ◌≢◌, ⊎_elim, ℕ, ◌<◌, ◌==◌, Bool, true, false, IsTrue, List, [], length, refl, sym, ap, ◌∙◌, subst, arith, cond, inl, inr, ne_eqb, eq-eqb, set}
+use Rattle.std.proofs.Common.{◌≡◌, ◌≢◌, ⊎_elim, ℕ, ◌<◌, true, false, IsTrue, List, [], length, refl, sym, ap, ◌∙◌, subst, arith, cond, ne_eqb, eq-eqb, set}
 use Rattle.std.proofs.lemmas.List.{get_or-replicate, get_or-set_same, set-set}
-use Rattle.nm_replay.specs.Events.{Event}
 use Rattle.nm_leg.specs.Leg.{LegType}
-use Rattle.nm_regions.specs.LegFlags.{LegRegions, all_marked, is_behind, no_leg}
+use Rattle.nm_regions.specs.LegFlags.{LegRegions, all_marked, no_leg}
 use Rattle.nm_regions.specs.Changes.{with_leg}
 use Rattle.nm_regions.specs.Table.{leg_at}
 use Rattle.nm_rules.specs.Acts.{Acts, IsExplainedStep}
 use Rattle.nm_rules.specs.Invariant.{Keeps}
 use Rattle.nm_rules.specs.Lost.{dirty_and_out, failed_over, landing, lost, lost_all, settled, without_leg_of}
 use Rattle.nm_rules.specs.State.{StripeState, is_last, is_out, leg_state, next_number, table}
-use Rattle.nm_rules.proofs.DirtyLemmas.{Marks, all-marks, behind-inside, dirty-marks}
+use Rattle.nm_rules.proofs.DirtyLemmas.{all-marks, behind-inside, dirty-marks}
 use Rattle.nm_rules.proofs.FailoverLemmas.{new-acts, same-acts}
-use Rattle.nm_rules.proofs.GoneLemmas.{Rest, gone}
+use Rattle.nm_rules.proofs.GoneLemmas.{gone}
 use Rattle.nm_rules.proofs.LandingLemmas.{lands, marks-lands}
 use Rattle.nm_rules.proofs.OutLemmas.{GoesOutOf, LosesLeg, new-keeps, new_rest, same-keeps, same_rest}
 use Rattle.nm_rules.proofs.RecordLemmas.{one_or_two}

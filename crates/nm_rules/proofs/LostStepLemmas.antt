@@ -5,17 +5,17 @@ use Rattle.nm_choice.specs.declared.leg_state.LegState.TheVariants.{InSync, Join
 use Rattle.nm_choice.specs.Choice.{is_in_sync}
 use Rattle.nm_replay.specs.declared.block.Block.{Block}
 use Rattle.nm_leg.specs.Leg.{LegType}
-use Rattle.nm_rules.specs.declared.refusal.Refusal.TheVariants.{AlreadyOut, LastLeg, Settling, Stopped}
+use Rattle.nm_rules.specs.declared.refusal.Refusal.TheVariants.{AlreadyOut, LastLeg, Stopped}
 use Rattle.nm_rules.specs.Acts.{IsExplainedStep}
 use Rattle.nm_rules.specs.Copy.{LosesInCopy}
-use Rattle.nm_rules.specs.Failing.{GoesOut, fail_cause, fail_rows}
+use Rattle.nm_rules.specs.Failing.{GoesOut, fail_rows}
 use Rattle.nm_rules.specs.Invariant.{Keeps}
 use Rattle.nm_rules.specs.Lost.{lost, lost_all}
 use Rattle.nm_rules.specs.Promote.{LosesInPromote}
 use Rattle.nm_rules.specs.Push.{LosesInPush}
-use Rattle.nm_rules.specs.Read.{LosesInRead, read_cause, read_rows}
+use Rattle.nm_rules.specs.Read.{LosesInRead, read_rows}
 use Rattle.nm_rules.specs.State.{StripeState, copy_start, is_joining, is_last, is_out, leg_state}
-use Rattle.nm_rules.specs.Sync.{LosesInSync, sync_cause, sync_rows}
+use Rattle.nm_rules.specs.Sync.{LosesInSync, sync_rows}
 use Rattle.nm_rules.proofs.CauseLemmas.{none_holds, when_off}
 use Rattle.nm_rules.proofs.CopyLemmas.{may_copy, ready-on}
 use Rattle.nm_rules.proofs.LosesLemmas.{current_attached, copy_write-loses, master_attached, none-loses, push-loses, read-loses, read_attached, sync-loses}

@@ -1,36 +1,34 @@
 -- A leg has gone out after a call of it failed, or on request: the stripe keeps everything, under the
 -- same master or under a new one.
-use Rattle.std.proofs.Common.{◌≡◌, ◌≢◌, ⊎_elim, ℕ, ◌+◌, ◌/◌, ◌<◌, ◌≤◌, ◌==◌, ◌&&◌, ◌||◌, Bool, true, false, not, IsTrue, List, [], ◌∷◌, ◌++◌, map, length, min, Option, None, Some, is_none, is_some, get_or, refl, sym, ap, ◌∙◌, subst, arith, cond, inl, inr, slice_get, slice_set, ne_eqb, eq-eqb}
+use Rattle.std.proofs.Common.{◌≡◌, ◌≢◌, ℕ, ◌+◌, ◌/◌, ◌<◌, ◌&&◌, ◌||◌, Bool, true, false, not, IsTrue, List, [], ◌∷◌, ◌++◌, map, length, min, Option, None, Some, is_none, is_some, get_or, refl, sym, ap, ◌∙◌, subst, arith, inl, inr, slice_get, slice_set}
 use Rattle.std.specs.List.{list_any}
 use Rattle.std.proofs.lemmas.Bool.Decides.{eqb_tells}
-use Rattle.std.proofs.lemmas.List.{get_or-set_same, set-set}
 use Rattle.std.proofs.lemmas.Option.{same_Some}
 use Rattle.nm_replay.specs.declared.block.Block.{Block}
 use Rattle.nm_replay.specs.declared.entry.Entry.{Entry}
-use Rattle.nm_replay.specs.History.{Consistent, EndsIn, Legal, NumberedFrom}
+use Rattle.nm_replay.specs.History.{EndsIn, Legal, NumberedFrom}
 use Rattle.nm_replay.proofs.Endings.{legal-ends_after}
-use Rattle.nm_choice.specs.declared.leg_state.LegState.{LegState}
 use Rattle.nm_choice.specs.declared.leg_state.LegState.TheVariants.{InSync, Out}
 use Rattle.nm_choice.specs.Choice.{elected}
 use Rattle.nm_fanout.specs.declared.write_record.Record.{Record}
 use Rattle.nm_fanout.specs.Record.{is_under_way, owes, without_leg}
 use Rattle.nm_fanout.specs.Records.{find_record, unlanded}
-use Rattle.nm_fanout.proofs.Owed.{finished-owes, owes-without_leg_other, tells}
+use Rattle.nm_fanout.proofs.Owed.{finished-owes, owes-without_leg_other}
 use Rattle.nm_leg.specs.Leg.{LegType}
-use Rattle.nm_regions.specs.LegFlags.{LegRegions, all_marked, is_behind, no_leg}
+use Rattle.nm_regions.specs.LegFlags.{LegRegions, is_behind}
 use Rattle.nm_regions.specs.Table.{leg_at}
 use Rattle.nm_rules.specs.Array.{contents_of, stripe_array}
-use Rattle.nm_rules.specs.Invariant.{HasNumbers, HasRecords, Keeps, LegsAgree}
+use Rattle.nm_rules.specs.Invariant.{HasNumbers, Keeps, LegsAgree}
 use Rattle.nm_rules.specs.Kept.{kept_with}
-use Rattle.nm_rules.specs.Lost.{dirty_and_out, elected_or, failed_over, landed_all, landing, lost, lost_all, settled, without_leg_of}
-use Rattle.nm_rules.specs.State.{StripeState, is_last, is_out, leg_state, next_number, table}
+use Rattle.nm_rules.specs.Lost.{dirty_and_out, elected_or, landed_all, landing}
+use Rattle.nm_rules.specs.State.{StripeState, is_last, leg_state, next_number, table}
 use Rattle.nm_rules.proofs.DirtyLemmas.{Marks}
 use Rattle.nm_rules.proofs.ElectLemmas.{elected-other, gone-other}
 use Rattle.nm_rules.proofs.GoneAgreeLemmas.{gone-agrees}
 use Rattle.nm_rules.proofs.GoneArrayLemmas.{array-all, array-same, old_array-length}
 use Rattle.nm_rules.proofs.GoneLemmas.{IsGone, Rest, gone, gone-chunk, gone-legs, gone-records, gone-writes}
 use Rattle.nm_rules.proofs.KeptLemmas.{kept-consistent, kept-ends, kept-length, kept-numbered, kept-starts, kept_start}
-use Rattle.nm_rules.proofs.LandingLemmas.{WaitsInside, each-found, laid_all, landing-consistent, landing-legal, landing-numbered, length-landing, unlanded-all}
+use Rattle.nm_rules.proofs.LandingLemmas.{WaitsInside, each-found, landing-consistent, landing-legal, landing-numbered, length-landing, unlanded-all}
 use Rattle.nm_rules.proofs.LeftLemmas.{entry-without, landed-entry, landed-left, landing-without, unlanded-without, without-left}
 use Rattle.nm_rules.proofs.RecordLemmas.{both}
 
