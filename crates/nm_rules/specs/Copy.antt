@@ -81,8 +81,9 @@ copy_cause stripe leg = first_cause (copy_rows stripe leg)
 abbrev pub copy_more_cause : {L : Type 0} → StripeState L → ℕ → Option Refusal
 copy_more_cause stripe leg = first_cause (copy_more_rows stripe leg)
 
--- whether a step of a copy is refused for this: for want of a copy, or because it cannot go on
-pub data CopyRefused {L : Type 0} (stripe : StripeState L) (leg : ℕ) (refusal : Refusal) : Type 0 where
+-- a step of a copy is refused so: because none may be asked for, or because it cannot go on
+pub data CopyRefused {L : Type 0} (stripe : StripeState L) (leg : ℕ) (refusal : Refusal)
+    : Type 0 where
   NotAsked : copy_cause stripe leg ≡ Some refusal → CopyRefused stripe leg refusal
   NotOn : copy_cause stripe leg ≡ None → has_behind leg (table stripe) ≡ true
       → copy_more_cause stripe leg ≡ Some refusal → CopyRefused stripe leg refusal

@@ -104,8 +104,8 @@ pub record HoldsArray {L : Type 0} (model : L → Leg) (copy : CopyPlace) (chunk
       (copy_start stripe.place.region copy + i)
       ≡ slice_get (stripe_array model stripe) (copy_start stripe.place.region copy + i)
 
--- honest legs of a stripe that runs: where a leg is clear, it holds a write's bytes unless the write
--- owes it, and elsewhere the stripe's array; the last kept entry on each block is the array's
+-- honest legs of a stripe that runs: where a leg is clear it holds the bytes of the write under way,
+-- unless that owes it, else what the master holds; the last kept entry on each block is the array's
 pub record LegsAgree {L : Type 0} (model : L → Leg) (stripe : StripeState L) : Type 0 where
   pub reached : (t : ℕ) (r : Record) (leg : ℕ) → leg < length stripe.legs
       → find_record t stripe.records ≡ Some r → is_under_way r ≡ true → owes leg r ≡ false

@@ -54,7 +54,8 @@ lands_at leg r stripe = (leg == stripe.master) && is_none r.entry
 -- the stripe after a push
 abbrev pub after_push : {L : Type 0} → StripeState L → List L → Record → ℕ → StripeState L
 after_push old legs r leg =
-    settled (if lands_at leg r old then after_landing old legs r leg else after_reach old legs r leg)
+    settled
+    (if lands_at leg r old then after_landing old legs r leg else after_reach old legs r leg)
 
 -- the write of this ticket may be pushed to the leg, whose call went well or not
 pub record CallsToPush {L : Type 0} (type : LegType L) (succeeded : Bool)
