@@ -17,7 +17,8 @@ pub read-at : (i : ℕ) (rs : List Record) (x : Record) → i < length rs → x 
     → slice_get rs i ≡ Some x
 read-at i rs x lt read = slice_get_read rs (length rs) i x refl lt read
 
-found-own : (i : ℕ) (rs : List Record) (x : Record) → i < length rs → x ≡ get_or rs i x
+-- the record at a place is found by its ticket
+pub found-own : (i : ℕ) (rs : List Record) (x : Record) → i < length rs → x ≡ get_or rs i x
     → IsAt (get_or rs i x).ticket i rs → find_record (get_or rs i x).ticket rs ≡ Some x
 found-own i rs x lt read own = own.found ∙ read-at i rs x lt read
 

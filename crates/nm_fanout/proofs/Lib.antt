@@ -12,4 +12,6 @@ pub mod Members
 pub mod Leaving
 pub mod LandedAll
 pub mod Counts
+pub mod Storing
+pub mod Indexed
 pub mod DataLemmas

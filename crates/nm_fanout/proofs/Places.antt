@@ -69,7 +69,7 @@ comparisons-rise t rs h i j d le lt =
     let rise = tickets-rise rs i j d h le lt in grind (arith, nat_tests)
 
 -- where no place has the ticket, no record is found
-no-place : (t : ℕ) (rs : List Record) (d : Record)
+pub no-place : (t : ℕ) (rs : List Record) (d : Record)
     → ((k : ℕ) → k < length rs → (get_or rs k d).ticket ≡ t → ⊥) → find_record t rs ≡ None
 no-place t [] d h = refl
 no-place t (r ∷ rs) d h =

@@ -1,3 +1,4 @@
 pub mod Data
 pub mod Record
 pub mod Records
+pub mod Stored

@@ -2,9 +2,10 @@ ghost use Rattle.std.specs.Prelude.{◌≡◌, ◌↔◌, IsTrue};
 ghost use Rattle.nm_fanout.specs.Data.{bytes_of, FillsBlock};
 
 use bytes::Bytes;
+use nm_replay::BLOCK_BYTES;
 
 /// 512 zero bytes, which every write of zeroes lends.
-static ZERO_BLOCK: [u8; 512] = [0; 512];
+static ZERO_BLOCK: [u8; BLOCK_BYTES] = [0; BLOCK_BYTES];
 
 /// What a write puts into its block.
 #[derive(Drop)]
@@ -31,6 +32,6 @@ impl Data {
     pub fn fills_block(&self) -> bool
         ensures { IsTrue result ↔ FillsBlock self.now }
     {
-        self.bytes().len() == 512
+        self.bytes().len() == BLOCK_BYTES
     }
 }

@@ -8,9 +8,11 @@
 #![tactic(auto)]
 
 pub use block_data::Data;
-pub use records::{MOST_RECORDS, Records};
+pub use record_list::MOST_RECORDS;
+pub use records::Records;
 pub use write_record::{LEGS, Record};
 
 mod block_data;
+mod record_list;
 mod records;
 mod write_record;

@@ -1,37 +1,40 @@
-ghost use Rattle.std.specs.Prelude.{◌≡◌, ℕ, ◌+◌, ◌-◌, ◌<◌, ◌≤◌, ◌↔◌, [], length, find, slice_get, IsTrue, IsSome, IfSome, IfNone, Some, None, IfOk};
+ghost use Rattle.std.specs.Prelude.{◌≡◌, ℕ, ◌+◌, ◌-◌, ◌<◌, ◌≤◌, ◌↔◌, ◌&&◌, [], length, find, slice_get, IsTrue, IsSome, IfSome, IfNone, Some, None, IfOk};
 ghost use Rattle.std.specs.Option.{option_map, option_copied};
+ghost use Rattle.nm_fanout.specs.declared.write_record.Record.{Record};
 ghost use Rattle.nm_fanout.specs.Data.{FillsBlock};
 ghost use Rattle.nm_fanout.specs.Record.{begun, is_under_way};
-ghost use Rattle.nm_fanout.specs.Records.{AreInOrder, AllBelow, IsAt, find_record, busy_on, busy_among, any_under_way, entry_at, unlanded, first_unlanded, next_owed, first_owed, reached, landed, left_by, without, with_new};
+ghost use Rattle.nm_fanout.specs.Records.{AreInOrder, AllBelow, IsAt, find_record, busy_on, is_among, busy_among, any_under_way, entry_at, unlanded, first_unlanded, next_owed, first_owed, reached, landed, left_by, without, with_new};
 
 use crate::block_data::Data;
+use crate::record_list::{MOST_RECORDS, RecordList};
 use crate::write_record::{LEGS, Record};
 use nm_replay::Memory;
 use std::alloc::Global;
 use std::marker::Model;
 
-/// How many records there may be, counting finished ones that are not yet claimed.
-pub const MOST_RECORDS: usize = 256;
-
 /// The records of writes, by rising ticket.
 #[derive(Drop)]
 pub struct Records {
-    list: Vec<Record>,
+    list: RecordList,
+    /// The ticket of each record, at its place. A search reads these and `blocks` alone.
+    tickets: Vec<u64>,
+    /// The block of each record, at its place.
+    blocks: Vec<u64>,
     /// How many of them have no entry yet.
     without_entry: u64,
 }
 
 impl Model for Records {
-    ghost use Rattle.std.specs.Prelude.{◌≡◌, ◌≤◌, List, vec_capacity};
+    ghost use Rattle.std.specs.Prelude.{◌≤◌, List, vec_capacity};
     ghost use Rattle.nm_fanout.specs.declared.write_record.Record.{Record};
-    ghost use Rattle.nm_fanout.specs.Records.{AreInOrder, unlanded};
+    ghost use Rattle.nm_fanout.specs.Stored.{AreIndexed};
 
     ghost Value = { List Record };
 
-    ghost view = { λ r. r.list.items };
+    ghost view = { λ r. r.list };
 
-    ghost invariant = { λ r. (AreInOrder r.list.items × (r.without_entry ≡ unlanded r.list.items))
-        × (256 ≤ vec_capacity r.list) };
+    ghost invariant = { λ r. AreIndexed r.list r.tickets.items r.blocks.items r.without_entry
+        × (256 ≤ vec_capacity r.tickets) × (256 ≤ vec_capacity r.blocks) };
 }
 
 impl Records {
@@ -40,7 +43,9 @@ impl Records {
         ensures { IfOk result (λ records. records ≡ []) }
     {
         Ok(Records {
-            list: Vec::with_capacity(alloc, MOST_RECORDS)?,
+            list: RecordList::new(alloc)?,
+            tickets: Vec::with_capacity(alloc, MOST_RECORDS)?,
+            blocks: Vec::with_capacity(alloc, MOST_RECORDS)?,
             without_entry: 0,
         })
     }
@@ -57,7 +62,7 @@ impl Records {
     pub fn is_empty(&self) -> bool
         ensures { IsTrue result ↔ (self.now ≡ []) }
     {
-        self.list.is_empty()
+        self.len() == 0
     }
 
     /// Whether no more record may be begun.
@@ -75,7 +80,7 @@ impl Records {
         ensures absent { IfNone result (find_record ticket self.now ≡ None) }
         ensures in_order { AreInOrder self.now }
     {
-        self.list.binary_search_by_key(&ticket, |r| r.ticket).ok()
+        self.tickets.binary_search(&ticket).ok()
     }
 
     /// The record at this place, lent.
@@ -84,7 +89,7 @@ impl Records {
         ensures found { slice_get self.now place ≡ Some result.now }
         ensures in_order { AreInOrder self.now }
     {
-        &self.list[place]
+        self.list.at(place)
     }
 
     /// The record of this ticket, lent.
@@ -101,11 +106,7 @@ impl Records {
         ensures busy { result ≡ option_map (λ r. r.ticket) (busy_on block self.now) }
         ensures in_order { AreInOrder self.now }
     {
-        let record = self
-            .list
-            .iter()
-            .find(|r| r.block == block && r.is_under_way())?;
-        Some(record.ticket)
+        self.busy_among(block, 1)
     }
 
     /// The lowest ticket under way on one of so many blocks, from the first on.
@@ -113,17 +114,19 @@ impl Records {
         ensures busy { result ≡ option_map (λ r. r.ticket) (busy_among first count self.now) }
         ensures in_order { AreInOrder self.now }
     {
-        let record = self.list.iter().find(|r| first <= r.block
-            && r.block - first < count
-            && r.is_under_way())?;
-        Some(record.ticket)
+        for place in 0..self.blocks.len() {
+            if self.is_busy_at(place, first, count) {
+                return Some(self.tickets[place]);
+            }
+        }
+        None
     }
 
     /// Whether some write is under way.
     pub fn is_any_under_way(&self) -> bool
         ensures { result ≡ any_under_way self.now }
     {
-        self.list.iter().any(|r| r.is_under_way())
+        self.first_under_way().is_some()
     }
 
     /// How many of the writes have no entry yet.
@@ -142,7 +145,12 @@ impl Records {
         ensures within { IfSome result (λ place. place < length self.now) }
         ensures in_order { AreInOrder self.now }
     {
-        first_without_entry(&self.list)
+        for place in 0..self.list.len() {
+            if self.list.at(place).entry.is_none() {
+                return Some(place);
+            }
+        }
+        None
     }
 
     /// The lowest leg that this ticket's write has still to reach; none for an unknown ticket.
@@ -156,7 +164,7 @@ impl Records {
     pub fn first_owed(&self) -> Option<(u64, u8)>
         ensures { result ≡ first_owed self.now }
     {
-        let record = first_under_way(&self.list)?;
+        let record = self.first_under_way()?;
         let leg = record.lowest_owed()?;
         Some((record.ticket, leg))
     }
@@ -172,13 +180,15 @@ impl Records {
         requires whole { FillsBlock «data» }
         ensures { self.new ≡ with_new (begun ticket block «data» owed) self.old }
     {
-        self.list.push_reserved(Record {
+        self.list.push(Record {
             ticket,
             block,
             data,
             owed,
             entry: None,
         });
+        self.tickets.push_reserved(ticket);
+        self.blocks.push_reserved(block);
         self.without_entry += 1;
     }
 
@@ -189,14 +199,14 @@ impl Records {
         ensures { (ticket : ℕ) → IsAt ticket place self.old
             → self.new ≡ reached ticket leg self.old }
     {
-        self.list[place].reach(leg);
+        self.list.reach_at(place, leg);
     }
 
     /// Takes the leg out of those that the writes have still to reach.
     pub fn leave(&mut self, leg: u8)
         ensures { self.new ≡ left_by leg self.old }
     {
-        leave_each(&mut self.list, leg);
+        self.list.leave(leg);
     }
 
     /// Gives the write at this place the number of its entry.
@@ -205,10 +215,8 @@ impl Records {
         ensures { (ticket : ℕ) → IsAt ticket place self.old
             → self.new ≡ landed ticket number self.old }
     {
-        if self.list[place].entry.is_none() {
-            self.without_entry -= 1;
-        }
-        self.list[place].land(number);
+        self.without_entry -= self.list.at(place).entry.is_none() as u64;
+        self.list.land_at(place, number);
     }
 
     /// Removes the record of the landed write at this place, and gives its entry's number. The
@@ -219,31 +227,32 @@ impl Records {
         ensures records { (ticket : ℕ) → IsAt ticket place self.old
             → self.new ≡ without ticket self.old }
     {
+        self.tickets.remove(place);
+        self.blocks.remove(place);
         let record = self.list.remove(place);
         record.into_entry().unwrap()
     }
-}
 
-/// Takes the leg out of those that each write has still to reach.
-fn leave_each(list: &mut [Record], leg: u8)
-    ensures { list.new ≡ left_by leg list.old }
-{
-    for pending in list.iter_mut() {
-        pending.reach(leg);
+    /// Whether the record at this place is under way on one of so many blocks, from the first on.
+    fn is_busy_at(&self, place: usize, first: u64, count: u64) -> bool
+        requires { place < length self.now }
+        ensures { (r : Record) → slice_get self.now place ≡ Some r
+            → result ≡ is_among first count r.block && is_under_way r }
+    {
+        let block = self.blocks[place];
+        first <= block && block - first < count && self.list.at(place).is_under_way()
     }
-}
 
-/// The first place of a record without an entry.
-fn first_without_entry(list: &[Record]) -> Option<usize>
-    ensures place { result ≡ first_unlanded list.now }
-    ensures within { IfSome result (λ place. place < length list.now) }
-{
-    list.iter().position(|r| r.entry.is_none())
-}
-
-/// The oldest record under way.
-fn first_under_way(list: &[Record]) -> Option<&Record>
-    ensures { option_copied result ≡ find is_under_way list.now }
-{
-    list.iter().find(|r| r.is_under_way())
+    /// The record of the lowest ticket under way.
+    fn first_under_way(&self) -> Option<&Record>
+        ensures { option_copied result ≡ find is_under_way self.now }
+    {
+        for place in 0..self.list.len() {
+            let record = self.list.at(place);
+            if record.is_under_way() {
+                return Some(record);
+            }
+        }
+        None
+    }
 }
