@@ -1,6 +1,6 @@
 -- Writes without an entry take effect one after the other, over a plain list of records: what the
 -- array becomes, and how far each write and each read is.
-use Rattle.std.proofs.Common.{◌≡◌, ℕ, ◌+◌, ◌<◌, ◌==◌, true, false, List, [], ◌∷◌, ◌++◌, length, length-append, append_assoc, append-nil, Option, None, Some, is_none, refl, sym, ap, ◌∙◌, subst, arith, slice_get, slice_set, length-set, nat_lt, cond, if◌then◌else◌, ne_eqb, MatchBool, inl, inr}
+use Rattle.std.proofs.Common.{◌≡◌, ℕ, ◌+◌, ◌<◌, ◌==◌, true, false, List, [], ◌∷◌, ◌++◌, map, length, length-append, append_assoc, append-nil, Option, None, Some, is_none, refl, sym, ap, ◌∙◌, subst, arith, slice_get, slice_set, length-set, nat_lt, cond, if◌then◌else◌, ne_eqb, MatchBool, inl, inr}
 use Rattle.std.proofs.lemmas.Bool.Decides.{nat_tests, eqb_tells}
 use Rattle.nm_replay.specs.declared.block.Block.{Block}
 use Rattle.nm_replay.specs.declared.entry.Entry.{Entry}
@@ -13,7 +13,7 @@ use Rattle.nm_replay.proofs.Numbering.{numbered-append}
 use Rattle.nm_replay.proofs.Pushing.{consistent-write}
 use Rattle.nm_fanout.specs.declared.write_record.Record.{Record}
 use Rattle.nm_fanout.specs.Record.{is_under_way, with_entry}
-use Rattle.nm_fanout.specs.Records.{Ascends, AllAbove, OneWriterABlock, find_record, busy_on, unlanded}
+use Rattle.nm_fanout.specs.Records.{Ascends, AllAbove, OneWriterABlock, find_record, busy_on, landings, unlanded}
 use Rattle.std.proofs.lemmas.List.Sums.{sum_by-cons}
 use Rattle.nm_fanout.proofs.Landing.{missing, waits}
 use Rattle.nm_fanout.proofs.Busy.{holds, holds-same}
@@ -225,6 +225,16 @@ unlanded-all next (r ∷ rs) =
           let nil : missing r.entry ≡ 0 = ap (λ b. cond b 1 0) has in
           omega (arith, waiting-more r (landed_all next rs), nil, unlanded-all next rs)
     ]) refl
+
+-- they are the entries of the writes that the fan-out lands
+pub landing-landings : (next : ℕ) (rs : List Record) → landing next rs ≡ map (λ (p : ℕ × Record). entry_of_write p.0 p.1.ticket p.1.block (written p.1)) (landings next rs)
+landing-landings next [] = refl
+landing-landings next (r ∷ rs) =
+    let entry : ℕ × Record → Entry = λ p. entry_of_write p.0 p.1.ticket p.1.block (written p.1) in
+    elim (is_none r.entry) as (λ b. cond b (entry_of_write next r.ticket r.block (written r) ∷ landing (next + 1) rs) (landing next rs) ≡ map entry (cond b ((next, r) ∷ landings (next + 1) rs) (landings next rs))) [
+      | true ↦ ap (λ (es : List Entry). entry_of_write next r.ticket r.block (written r) ∷ es) (landing-landings (next + 1) rs)
+      | false ↦ landing-landings next rs
+    ]
 
 -- their numbers rise from the next one
 pub landing-numbered : (next : ℕ) (rs : List Record) → NumberedFrom next (landing next rs)

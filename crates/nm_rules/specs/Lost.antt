@@ -1,13 +1,12 @@
 -- What is left of a stripe once a leg has gone out, and once it has a new master.
-use Rattle.std.specs.Prelude.{ℕ, ◌+◌, ◌==◌, ◌&&◌, Bool, true, if◌then◌else◌}
-use Rattle.std.specs.Prelude.{List, [], ◌∷◌, map, slice_set, Option, None, Some, is_none}
+use Rattle.std.specs.Prelude.{ℕ, ◌+◌, ◌==◌, ◌&&◌, true, if◌then◌else◌}
+use Rattle.std.specs.Prelude.{List, [], ◌∷◌, slice_set, Option, None, Some, is_none}
 use Rattle.nm_replay.specs.declared.entry.Entry.{Entry}
 use Rattle.nm_replay.specs.Events.{entry_of_write}
 use Rattle.nm_choice.specs.declared.leg_state.LegState.TheVariants.{Out}
 use Rattle.nm_choice.specs.Choice.{elected}
 use Rattle.nm_fanout.specs.declared.write_record.Record.{Record}
-use Rattle.nm_fanout.specs.Record.{without_leg, with_entry}
-use Rattle.nm_fanout.specs.Records.{unlanded}
+use Rattle.nm_fanout.specs.Records.{left_by, unlanded}
 pub use Rattle.nm_fanout.specs.Records.{landed_all}
 use Rattle.nm_regions.specs.declared.copy_place.CopyPlace.{CopyPlace}
 use Rattle.nm_regions.specs.LegFlags.{all_marked}
@@ -41,7 +40,7 @@ without_leg_of leg old = record old {
   flags = (with_leg (dirty_and_out (table old).writes) leg (table old)).legs;
   copy = copy_but_of leg old.copy;
   chunk = chunk_but_of leg old.copy old.chunk;
-  records = map (without_leg leg) old.records;
+  records = left_by leg old.records;
 }
 
 -- the stripe once the lowest leg in sync is its master: each write without an entry takes effect,
