@@ -13,3 +13,4 @@ pub mod Motion
 pub mod OneTurn
 pub mod Pieces
 pub mod WholeSessions
+pub mod ReadEvents

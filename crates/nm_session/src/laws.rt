@@ -1,5 +1,5 @@
 //! Laws of the definitions: what the contracts of single calls say, they say of whole sessions.
-ghost use Rattle.nm_session.specs.Laws.{SoFar, AnsweredOnce};
+ghost use Rattle.nm_session.specs.Laws.{SoFar, AnsweredOnce, NextReads, NextReadsOn};
 
 /// However the client's bytes are cut into pieces, and in whatever order requests are answered:
 /// the bytes that were taken and those that wait are the greeting, the haggling's replies and the
@@ -14,4 +14,11 @@ pub fn so_far()
 /// No request is answered twice.
 pub fn answered_once()
     ensures { AnsweredOnce }
+{}
+
+/// What `next` does is that requests are read, whether it answers or runs out of memory; the other
+/// calls are one event each.
+pub fn next_reads()
+    ensures answers { NextReads }
+    ensures refuses { NextReadsOn }
 {}
