@@ -33,7 +33,7 @@ abbrev pub elected_or : ℕ → Option ℕ → ℕ
 elected_or master None = master
 elected_or master (Some leg) = leg
 
--- the stripe once the leg is out: its dirty regions are behind, no write owes it, and it has no copy
+-- the stripe once the leg is out: dirty regions are behind, no write owes it, and it has no copy
 abbrev pub without_leg_of : {L : Type 0} → ℕ → StripeState L → StripeState L
 without_leg_of leg old = record old {
   states = slice_set old.states leg Out;
