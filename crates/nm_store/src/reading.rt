@@ -1,0 +1,45 @@
+//! The changes of a read: a leg is called, and the entry is kept.
+ghost use Rattle.std.specs.Prelude.{◌≡◌, ◌<◌, ◌^◌, length, is_ok};
+ghost use Rattle.nm_leg.specs.Leg.{leg_type};
+ghost use Rattle.nm_leg.specs.LegCalls.{HasBlock, ReadsLegAt};
+ghost use Rattle.nm_rules.specs.State.{next_number};
+ghost use Rattle.nm_rules.specs.Read.{after_read};
+
+use crate::store::Store;
+use nm_choice::next_turn;
+use nm_leg::{LegFault, LegPart, read_leg_at};
+use nm_replay::{Block, Entry, Kind};
+
+impl<L: LegPart> Store<L> {
+    /// Reads a block of a leg. No more than the leg changes.
+    pub fn read_leg(&mut self, leg: u8, block: u64, into: &mut Block) -> Result<(), LegFault>
+        requires leg { leg < length self.old.legs }
+        requires block { HasBlock L.model self.old.legs leg block }
+        ensures reads { ReadsLegAt (leg_type L.model L.honest) (is_ok result) leg block
+            self.old.legs self.new.legs into.old into.new }
+        ensures others { self.new ≡ record self.old { legs = self.new.legs } }
+    {
+        read_leg_at(&mut self.legs, leg, block, into)
+    }
+
+    /// Keeps the entry of a read that found these bytes, and gives its number.
+    pub fn keep_read(&mut self, block: u64, bytes: &Block) -> u64
+        requires block { block < self.old.place.blocks }
+        requires numbers { next_number self.old < 2 ^ 63 }
+        requires turn { self.old.turn < 840 }
+        ensures number { result ≡ next_number self.old }
+        ensures kept { self.new ≡ after_read self.old self.old.legs block bytes.now }
+    {
+        let number = self.first + self.kept.total();
+        self.kept.push(&Entry {
+            seq: number,
+            kind: Kind::Read,
+            block,
+            bytes: *bytes,
+        });
+        if self.regions.is_quiet(self.regions.region_of(block)) {
+            self.turn = next_turn(self.turn);
+        }
+        number
+    }
+}
