@@ -95,3 +95,38 @@ fn as_many_as_256_records_stand_and_each_is_found(rt: HostRuntime) -> Result<(),
     }
     Ok(())
 }
+
+#[test]
+fn a_leg_leaves_and_the_writes_land_by_rising_ticket(rt: HostRuntime) -> Result<(), Fail> {
+    let mut records = Records::new(rt.alloc())?;
+    records.begin(4, 10, Data::Zero, owed_to(0, 1));
+    records.begin(6, 12, Data::Zero, owed_to(0, 0));
+    records.begin(9, 11, Data::Zero, owed_to(1, 2));
+    assert_eq!(rt; records.busy_among(11, 2), Some(6));
+    assert_eq!(rt; records.busy_among(10, 1), Some(4));
+    assert_eq!(rt; records.busy_among(13, u64::MAX), None);
+    records.leave(0);
+    assert_eq!(rt; records.next_owed(4), Some(1));
+    assert_eq!(rt; records.next_owed(6), None);
+    assert_eq!(rt; records.busy_among(11, 2), Some(9));
+    assert!(rt; records.is_any_under_way());
+    for number in 20..23 {
+        let place = records.first_unlanded().ok_or("a write to land")?;
+        records.land_at(place, number);
+    }
+    assert_eq!(rt; records.first_unlanded(), None);
+    assert_eq!(rt; records.unlanded(), 0);
+    assert_eq!(rt;
+        records.get(4).ok_or("the record of ticket 4")?.entry,
+        Some(20)
+    );
+    assert_eq!(rt;
+        records.get(6).ok_or("the record of ticket 6")?.entry,
+        Some(21)
+    );
+    assert_eq!(rt;
+        records.get(9).ok_or("the record of ticket 9")?.entry,
+        Some(22)
+    );
+    Ok(())
+}
