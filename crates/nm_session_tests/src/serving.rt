@@ -1,0 +1,470 @@
+//! Whole sessions over memory, byte for byte: cut anywhere, to each end, and broken off at each read
+//! and each write. The expected bytes were written by hand.
+
+use nm_replies::ReplyWriter;
+use nm_session::{CutReader, CutWriter, End, MemTarget, ServeFault, Served, serve};
+use nm_wire::{Export, Memory, Name};
+use std::alloc::{AllocError, Global};
+use std::process::Abort;
+use std::sync::Wait;
+use std::test::Fail;
+
+// The client's flags.
+const FLAGS: [u8; 4] = *b"\0\0\0\x03";
+
+const GO: [u8; 26] = *b"IHAVEOPT\0\0\0\x07\0\0\0\x0a\0\0\0\x04disk\0\0";
+
+// GO that asks for block sizes.
+const GO_ASKING: [u8; 28] = *b"IHAVEOPT\0\0\0\x07\0\0\0\x0c\0\0\0\x04disk\0\x01\0\x03";
+
+// GO whose name is longer than its data.
+const GO_TOO_SHORT: [u8; 26] = *b"IHAVEOPT\0\0\0\x07\0\0\0\x0a\0\0\0\x05disk\0\0";
+
+const GREETING: [u8; 18] = *b"NBDMAGICIHAVEOPT\0\x03";
+
+// What GO is answered with: size and flags, block sizes, ACK.
+const DESCRIBED: [u8; 86] =
+    *b"\0\x03\xe8\x89\x04\x55\x65\xa9\0\0\0\x07\0\0\0\x03\0\0\0\x0c\0\0\0\0\0\0\0\x10\0\0\x01\x6d\0\x03\xe8\x89\x04\x55\x65\xa9\0\0\0\x07\0\0\0\x03\0\0\0\x0e\0\x03\0\0\0\x01\0\0\x10\0\x02\0\0\0\0\x03\xe8\x89\x04\x55\x65\xa9\0\0\0\x07\0\0\0\x01\0\0\0\0";
+
+// What GO is answered with where its lengths do not add up: INVALID.
+const INVALID_GO: [u8; 20] = *b"\0\x03\xe8\x89\x04\x55\x65\xa9\0\0\0\x07\x80\0\0\x03\0\0\0\0";
+
+const LIST_WITH_DATA: [u8; 17] = *b"IHAVEOPT\0\0\0\x03\0\0\0\x01\0";
+
+const INVALID_LIST: [u8; 20] = *b"\0\x03\xe8\x89\x04\x55\x65\xa9\0\0\0\x03\x80\0\0\x03\0\0\0\0";
+
+const STRUCTURED_REPLY: [u8; 16] = *b"IHAVEOPT\0\0\0\x08\0\0\0\0";
+
+const UNSUPPORTED: [u8; 20] = *b"\0\x03\xe8\x89\x04\x55\x65\xa9\0\0\0\x08\x80\0\0\x01\0\0\0\0";
+
+const ABORT: [u8; 16] = *b"IHAVEOPT\0\0\0\x02\0\0\0\0";
+
+const ABORTED: [u8; 20] = *b"\0\x03\xe8\x89\x04\x55\x65\xa9\0\0\0\x02\0\0\0\x01\0\0\0\0";
+
+const EXPORT_NAME_DISK: [u8; 20] = *b"IHAVEOPT\0\0\0\x01\0\0\0\x04disk";
+
+const EXPORT_NAME_DISC: [u8; 20] = *b"IHAVEOPT\0\0\0\x01\0\0\0\x04disc";
+
+const SIZE_AND_FLAGS: [u8; 10] = *b"\0\0\0\0\0\x10\0\0\x01\x6d";
+
+const DISC: [u8; 28] = *b"\x25\x60\x95\x13\0\0\0\x02\0\0\0\0\0\0\0\x99\0\0\0\0\0\0\0\0\0\0\0\0";
+
+const READ: u8 = 0;
+
+const WRITE: u8 = 1;
+
+const SIZE: usize = 1_048_576;
+
+// What a session left: how it ended, what was written, and block 1 of its target.
+#[derive(Drop)]
+struct Found {
+    ended: Result<Served, ServeFault>,
+    out: Vec<u8>,
+    block: Vec<u8>,
+}
+
+impl Found {
+    fn is(&self, requests: u64, end: End) -> bool {
+        match self.ended {
+            Ok(served) => served.requests == requests && served.end == end,
+            Err(_) => false,
+        }
+    }
+
+    fn broke_off(&self, fault: ServeFault) -> bool {
+        match self.ended {
+            Ok(_) => false,
+            Err(found) => found == fault,
+        }
+    }
+
+    fn block_is_all(&self, byte: u8) -> bool {
+        self.block.len() == 512 && self.block.iter().all(|b| *b == byte)
+    }
+}
+
+// Serves a client over this target.
+fn run<R: Wait>(
+    rt: &R,
+    alloc: Global,
+    target: &mut MemTarget,
+    mut reader: CutReader,
+    writer: CutWriter,
+) -> Result<Found, Memory> {
+    let export = Export {
+        name: Name::new(b"disk".to_vec(alloc)?),
+        blocks: 2_048,
+        read_only: false,
+    };
+    if (target.as_bytes().len() as u64) < export.size() {
+        return Err(Memory);
+    }
+    let mut sender = ReplyWriter::new(writer);
+    let ended = serve(rt, alloc, &mut reader, &mut sender, target, export);
+    let out = sender.device().as_bytes().to_vec(alloc)?;
+    let block = target
+        .as_bytes()
+        .get(512..1_024)
+        .unwrap_or(&[])
+        .to_vec(alloc)?;
+    Ok(Found { ended, out, block })
+}
+
+// These parts in a row.
+fn concat(alloc: Global, parts: &[&[u8]]) -> Result<Vec<u8>, AllocError> {
+    let mut whole = Vec::new(alloc);
+    for part in parts {
+        whole.extend_from_slice(part)?;
+    }
+    Ok(whole)
+}
+
+// A request, its payload so many bytes of one kind.
+fn put_request(
+    out: &mut Vec<u8>,
+    kind: u8,
+    cookie: u8,
+    offset: u64,
+    length: u32,
+) -> Result<(), AllocError> {
+    out.extend_from_slice(&[
+        0x25, 0x60, 0x95, 0x13, 0, 0, 0, kind, 0, 0, 0, 0, 0, 0, 0, cookie,
+    ])?;
+    out.extend_from_slice(&offset.to_be_bytes())?;
+    out.extend_from_slice(&length.to_be_bytes())
+}
+
+fn put_reply(out: &mut Vec<u8>, error: u8, cookie: u8) -> Result<(), AllocError> {
+    out.extend_from_slice(&[
+        0x67, 0x44, 0x66, 0x98, 0, 0, 0, error, 0, 0, 0, 0, 0, 0, 0, cookie,
+    ])
+}
+
+// The handshake, a WRITE of block 1, and a DISC; and what goes out.
+fn one_write(alloc: Global) -> Result<(Vec<u8>, Vec<u8>), AllocError> {
+    let mut stream = concat(alloc, &[&FLAGS, &GO])?;
+    put_request(&mut stream, WRITE, 0x11, 512, 512)?;
+    stream.extend_from_slice(&[0xaa; 512])?;
+    stream.extend_from_slice(&DISC)?;
+    let mut out = concat(alloc, &[&GREETING, &DESCRIBED])?;
+    put_reply(&mut out, 0, 0x11)?;
+    Ok((stream, out))
+}
+
+// The handshake, requests at the export's edges and across its blocks, and a DISC.
+fn requests(alloc: Global) -> Result<Vec<u8>, AllocError> {
+    let mut stream = concat(alloc, &[&FLAGS, &GO])?;
+    put_request(&mut stream, WRITE, 0x11, 512, 512)?;
+    stream.extend_from_slice(&[0xaa; 512])?;
+    put_request(&mut stream, READ, 0x12, 512, 512)?;
+    put_request(&mut stream, READ, 0x13, 0x10_0000, 512)?;
+    put_request(&mut stream, WRITE, 0x14, 0x10_0000, 512)?;
+    stream.extend_from_slice(&[0xbb; 512])?;
+    put_request(&mut stream, READ, 0x15, 1, 512)?;
+    put_request(&mut stream, READ, 0x16, 0, 0)?;
+    put_request(&mut stream, WRITE, 0x17, 1_022, 4)?;
+    stream.extend_from_slice(&[0xcc; 4])?;
+    put_request(&mut stream, READ, 0x18, 1_020, 8)?;
+    stream.extend_from_slice(&DISC)?;
+    Ok(stream)
+}
+
+// What goes out to it.
+fn replies(alloc: Global) -> Result<Vec<u8>, AllocError> {
+    let mut out = concat(alloc, &[&GREETING, &DESCRIBED])?;
+    put_reply(&mut out, 0, 0x11)?;
+    put_reply(&mut out, 0, 0x12)?;
+    out.extend_from_slice(&[0xaa; 512])?;
+    put_reply(&mut out, 0x16, 0x13)?;
+    put_reply(&mut out, 0x1c, 0x14)?;
+    put_reply(&mut out, 0, 0x15)?;
+    out.extend_from_slice(&[0; 511])?;
+    out.extend_from_slice(&[0xaa])?;
+    put_reply(&mut out, 0, 0x16)?;
+    put_reply(&mut out, 0, 0x17)?;
+    put_reply(&mut out, 0, 0x18)?;
+    out.extend_from_slice(&[0xaa, 0xaa, 0xcc, 0xcc, 0xcc, 0xcc, 0, 0])?;
+    Ok(out)
+}
+
+// Where a reader cuts its bytes, and which read fails; 0 for none.
+#[derive(Clone, Copy)]
+struct Cuts {
+    at: usize,
+    longest: usize,
+    fails_at: u64,
+}
+
+const WHOLE: Cuts = Cuts {
+    at: 0,
+    longest: 0,
+    fails_at: 0,
+};
+
+// A reader of these bytes.
+fn reader(alloc: Global, stream: &[u8], cuts: Cuts) -> Result<CutReader, AllocError> {
+    let mut reader = CutReader::new(stream.to_vec(alloc)?);
+    reader.cut_at(cuts.at);
+    if cuts.longest > 0 {
+        reader.serve_at_most(cuts.longest);
+    }
+    if cuts.fails_at > 0 {
+        reader.fail_from(cuts.fails_at);
+    }
+    Ok(reader)
+}
+
+// Serves these bytes, cut so, over 1 MiB of zeroes.
+fn run_cut<R: Wait>(rt: &R, alloc: Global, stream: &[u8], cuts: Cuts) -> Result<Found, Memory> {
+    let mut target = MemTarget::new(alloc, SIZE)?;
+    run_over(rt, alloc, &mut target, stream, cuts)
+}
+
+// Serves them over this target.
+fn run_over<R: Wait>(
+    rt: &R,
+    alloc: Global,
+    target: &mut MemTarget,
+    stream: &[u8],
+    cuts: Cuts,
+) -> Result<Found, Memory> {
+    let reader = reader(alloc, stream, cuts)?;
+    run(rt, alloc, target, reader, CutWriter::new(alloc, 4_096)?)
+}
+
+// The session comes to this end, and these parts go out.
+fn expect<R: Wait + Abort>(
+    rt: &R,
+    alloc: Global,
+    stream: &[&[u8]],
+    out: &[&[u8]],
+    end: End,
+) -> Result<(), Memory> {
+    let stream = concat(alloc, stream)?;
+    let found = run_cut(rt, alloc, stream.as_slice(), WHOLE)?;
+    assert!(rt; found.is(0, end));
+    assert!(rt; found.out.as_slice() == concat(alloc, out)?.as_slice());
+    Ok(())
+}
+
+// Serves the requests cut in two, at each byte of this quarter of their 1,310 bytes. What they find
+// does not change from run to run, so one target serves them all.
+fn expect_cut<R: Wait + Abort>(rt: &R, alloc: Global, quarter: usize) -> Result<(), Memory> {
+    let stream = requests(alloc)?;
+    let out = replies(alloc)?;
+    let mut target = MemTarget::new(alloc, SIZE)?;
+    for place in 0..330 {
+        let at = quarter.wrapping_mul(330).wrapping_add(place);
+        let cuts = Cuts { at, ..WHOLE };
+        let found = run_over(rt, alloc, &mut target, stream.as_slice(), cuts)?;
+        assert!(rt; found.is(9, End::Disc));
+        assert!(rt; found.out.as_slice() == out.as_slice());
+    }
+    Ok(())
+}
+
+#[test]
+fn serves_requests_cut_in_the_first_quarter(rt: HostRuntime) -> Result<(), Fail> {
+    expect_cut(&rt, rt.alloc(), 0)?;
+    Ok(())
+}
+
+#[test]
+fn serves_requests_cut_in_the_second_quarter(rt: HostRuntime) -> Result<(), Fail> {
+    expect_cut(&rt, rt.alloc(), 1)?;
+    Ok(())
+}
+
+#[test]
+fn serves_requests_cut_in_the_third_quarter(rt: HostRuntime) -> Result<(), Fail> {
+    expect_cut(&rt, rt.alloc(), 2)?;
+    Ok(())
+}
+
+#[test]
+fn serves_requests_cut_in_the_last_quarter(rt: HostRuntime) -> Result<(), Fail> {
+    expect_cut(&rt, rt.alloc(), 3)?;
+    Ok(())
+}
+
+#[test]
+fn serves_requests_byte_by_byte(rt: HostRuntime) -> Result<(), Fail> {
+    let alloc = rt.alloc();
+    let bytewise = Cuts {
+        longest: 1,
+        ..WHOLE
+    };
+    let stream = requests(alloc)?;
+    assert!(rt; stream.len() <= 1_320);
+    let found = run_cut(&rt, alloc, stream.as_slice(), bytewise)?;
+    assert!(rt; found.is(9, End::Disc));
+    assert!(rt; found.out.as_slice() == replies(alloc)?.as_slice());
+    Ok(())
+}
+
+#[test]
+fn ends_as_the_client_does(rt: HostRuntime) -> Result<(), Fail> {
+    let alloc = rt.alloc();
+    expect(
+        &rt,
+        alloc,
+        &[&FLAGS, &GO],
+        &[&GREETING, &DESCRIBED],
+        End::EndOfInput,
+    )?;
+    expect(
+        &rt,
+        alloc,
+        &[&FLAGS, &GO_ASKING],
+        &[&GREETING, &DESCRIBED],
+        End::EndOfInput,
+    )?;
+    expect(
+        &rt,
+        alloc,
+        &[&FLAGS, &ABORT],
+        &[&GREETING, &ABORTED],
+        End::Aborted,
+    )?;
+    expect(&rt, alloc, &[b"\0\0\0\x04"], &[&GREETING], End::Protocol)?;
+    expect(
+        &rt,
+        alloc,
+        &[&FLAGS, &EXPORT_NAME_DISC],
+        &[&GREETING],
+        End::Protocol,
+    )?;
+    expect(&rt, alloc, &[], &[&GREETING], End::EndOfInput)?;
+    let named: [&[u8]; 3] = [&GREETING, &SIZE_AND_FLAGS, &[0; 124]];
+    expect(
+        &rt,
+        alloc,
+        &[b"\0\0\0\x01", &EXPORT_NAME_DISK],
+        &named,
+        End::EndOfInput,
+    )?;
+    expect(
+        &rt,
+        alloc,
+        &[&FLAGS, &EXPORT_NAME_DISK],
+        &[&GREETING, &SIZE_AND_FLAGS],
+        End::EndOfInput,
+    )?;
+    Ok(())
+}
+
+#[test]
+fn haggles_on_after_a_refused_option(rt: HostRuntime) -> Result<(), Fail> {
+    let alloc = rt.alloc();
+    let options: [&[u8]; 5] = [
+        &FLAGS,
+        &LIST_WITH_DATA,
+        &STRUCTURED_REPLY,
+        &GO_TOO_SHORT,
+        &GO,
+    ];
+    let out: [&[u8]; 5] = [
+        &GREETING,
+        &INVALID_LIST,
+        &UNSUPPORTED,
+        &INVALID_GO,
+        &DESCRIBED,
+    ];
+    expect(&rt, alloc, &options, &out, End::EndOfInput)?;
+    // A magic number that is none.
+    let broken: [&[u8]; 3] = [&FLAGS, &GO, &[0; 28]];
+    expect(&rt, alloc, &broken, &[&GREETING, &DESCRIBED], End::Protocol)?;
+    Ok(())
+}
+
+#[test]
+fn serves_no_part_of_a_write(rt: HostRuntime) -> Result<(), Fail> {
+    let alloc = rt.alloc();
+    let (stream, out) = one_write(alloc)?;
+    let mut target = MemTarget::new(alloc, SIZE)?;
+    for taken in 31..570 {
+        let front = stream.get(..taken).unwrap_or(&[]);
+        let found = run_over(&rt, alloc, &mut target, front, WHOLE)?;
+        assert!(rt; found.is(0, End::EndOfInput));
+        assert!(rt; found.out.as_slice() == out.get(..104).unwrap_or(&[]));
+        assert!(rt; found.block_is_all(0));
+    }
+    Ok(())
+}
+
+#[test]
+fn a_read_that_fails_breaks_the_session_off(rt: HostRuntime) -> Result<(), Fail> {
+    let alloc = rt.alloc();
+    let (stream, out) = one_write(alloc)?;
+    // 598 bytes by 64 are ten reads; the last one has the DISC.
+    for fails_at in 1..11 {
+        let cuts = Cuts {
+            at: 0,
+            longest: 64,
+            fails_at,
+        };
+        let found = run_cut(&rt, alloc, stream.as_slice(), cuts)?;
+        assert!(rt; found.broke_off(ServeFault::Read));
+        assert!(rt; out.as_slice().starts_with(found.out.as_slice()));
+        assert!(rt; found.block_is_all(if fails_at < 10 { 0 } else { 0xaa }));
+    }
+    let cuts = Cuts {
+        at: 0,
+        longest: 64,
+        fails_at: 11,
+    };
+    assert!(rt; run_cut(&rt, alloc, stream.as_slice(), cuts)?.is(2, End::Disc));
+    Ok(())
+}
+
+// How many bytes went out before the write of this number.
+fn out_before(write: u64) -> usize {
+    match write {
+        1 => 0,
+        2 => 18,
+        _ => 104,
+    }
+}
+
+#[test]
+fn a_write_that_fails_breaks_the_session_off(rt: HostRuntime) -> Result<(), Fail> {
+    let alloc = rt.alloc();
+    let (stream, out) = one_write(alloc)?;
+    for write in 1..4 {
+        for after in [0, 1, 15] {
+            let mut writer = CutWriter::new(alloc, 4_096)?;
+            writer.fail_from(write, after);
+            let mut target = MemTarget::new(alloc, SIZE)?;
+            let reader = reader(alloc, stream.as_slice(), WHOLE)?;
+            let found = run(&rt, alloc, &mut target, reader, writer)?;
+            assert!(rt; found.broke_off(ServeFault::Write(after)));
+            let sent = out_before(write).wrapping_add(after);
+            assert!(rt; out.get(..sent) == Some(found.out.as_slice()));
+            assert!(rt; found.block_is_all(if write < 3 { 0 } else { 0xaa }));
+        }
+    }
+    let mut writer = CutWriter::new(alloc, 4_096)?;
+    writer.fail_from(4, 0);
+    let mut target = MemTarget::new(alloc, SIZE)?;
+    let reader = reader(alloc, stream.as_slice(), WHOLE)?;
+    let found = run(&rt, alloc, &mut target, reader, writer)?;
+    assert!(rt; found.is(2, End::Disc));
+    Ok(())
+}
+
+// Run with each allocation failing in turn: whatever is refused, what went out is a beginning of the
+// right bytes, and the block is old or new as a whole.
+#[test]
+fn no_memory_breaks_the_session_off(rt: HostRuntime) -> Result<(), Fail> {
+    let alloc = rt.alloc();
+    let Ok((stream, out)) = one_write(alloc) else {
+        return Ok(());
+    };
+    let Ok(found) = run_cut(&rt, alloc, stream.as_slice(), WHOLE) else {
+        return Ok(());
+    };
+    assert!(rt; found.is(2, End::Disc) || found.broke_off(ServeFault::Memory));
+    assert!(rt; out.as_slice().starts_with(found.out.as_slice()));
+    assert!(rt; found.block_is_all(0) || found.block_is_all(0xaa));
+    Ok(())
+}
