@@ -1,0 +1,369 @@
+//! A session's core by itself: orders of answers, refusals, and what it holds at most. The expected
+//! bytes were written by hand.
+
+ghost use Rattle.std.specs.Prelude.{◌≤◌};
+
+use nm_requests::Task;
+use nm_session::{EndedBy, Next, Outcome, Phase, Refused, SessionCore};
+use nm_wire::{Export, Name};
+use std::alloc::{AllocError, Global};
+use std::process::Abort;
+use std::test::Fail;
+
+// The client's flags, and GO for any name.
+const HELLO: [u8; 26] = *b"\0\0\0\x03IHAVEOPT\0\0\0\x07\0\0\0\x06\0\0\0\0\0\0";
+
+const DISC: [u8; 28] = *b"\x25\x60\x95\x13\0\0\0\x02\0\0\0\0\0\0\0\x99\0\0\0\0\0\0\0\0\0\0\0\0";
+
+// A READ of no bytes, which the core replies to itself.
+const NOTHING: [u8; 28] = *b"\x25\x60\x95\x13\0\0\0\0\0\0\0\0\0\0\0\x98\0\0\0\0\0\0\0\0\0\0\0\0";
+
+// An option header that is none.
+const NO_OPTION: [u8; 20] = *b"\0\0\0\x03IHAVEOPS\0\0\0\x07\0\0\0\x06";
+
+// The client's flags, and ABORT.
+const ABORT: [u8; 20] = *b"\0\0\0\x03IHAVEOPT\0\0\0\x02\0\0\0\0";
+
+// A READ of 32 MiB at 0, cookie 7.
+const READ_32_MIB: [u8; 28] =
+    *b"\x25\x60\x95\x13\0\0\0\0\0\0\0\0\0\0\0\x07\0\0\0\0\0\0\0\0\x02\0\0\0";
+
+// Done for cookie 98, error 5 for cookie 65, error 12 for cookie 64, all in hexadecimal.
+const REPLIES: [u8; 48] = *b"\x67\x44\x66\x98\0\0\0\0\0\0\0\0\0\0\0\x98\
+    \x67\x44\x66\x98\0\0\0\x05\0\0\0\0\0\0\0\x65\
+    \x67\x44\x66\x98\0\0\0\x0c\0\0\0\0\0\0\0\x64";
+
+const RISING: [u64; 16] = [0, 1, 2, 3, 4, 5, 6, 7, 8, 9, 10, 11, 12, 13, 14, 15];
+
+const FALLING: [u64; 16] = [15, 14, 13, 12, 11, 10, 9, 8, 7, 6, 5, 4, 3, 2, 1, 0];
+
+const MIXED: [u64; 16] = [7, 0, 15, 3, 8, 12, 1, 14, 2, 9, 4, 11, 5, 13, 6, 10];
+
+// A READ with this cookie.
+fn put_read(out: &mut Vec<u8>, cookie: u64, offset: u64, length: u32) -> Result<(), AllocError> {
+    out.extend_from_slice(b"\x25\x60\x95\x13\0\0\0\0")?;
+    out.extend_from_slice(&cookie.to_be_bytes())?;
+    out.extend_from_slice(&offset.to_be_bytes())?;
+    out.extend_from_slice(&length.to_be_bytes())
+}
+
+// The reply to it, with these data.
+fn put_reply(out: &mut Vec<u8>, cookie: u64, bytes: &[u8]) -> Result<(), AllocError> {
+    out.extend_from_slice(b"\x67\x44\x66\x98\0\0\0\0")?;
+    out.extend_from_slice(&cookie.to_be_bytes())?;
+    out.extend_from_slice(bytes)
+}
+
+// A core whose calls say nothing in proofs, so that the tests' goals stay small.
+#[derive(Drop)]
+struct Client {
+    core: SessionCore,
+}
+
+impl Client {
+    // A session over 64 MiB.
+    fn new(alloc: Global, limit: usize) -> Result<Client, Refused>
+        requires some { 1 ≤ limit }
+        requires limit { limit ≤ 16 }
+    {
+        let export = Export {
+            name: Name::new(Vec::new(alloc)),
+            blocks: 131_072,
+            read_only: false,
+        };
+        match SessionCore::new(alloc, export, limit) {
+            Ok(core) => Ok(Client { core }),
+            Err((refused, _export)) => Err(refused),
+        }
+    }
+
+    fn feed(&mut self, alloc: Global, piece: &[u8]) -> Result<(), Refused> {
+        self.core.feed(alloc, piece)
+    }
+
+    fn next(&mut self, alloc: Global) -> Result<Next, Refused> {
+        self.core.next(alloc)
+    }
+
+    // Answers, if the outcome fits.
+    fn answer(
+        &mut self,
+        rt: &impl Abort,
+        alloc: Global,
+        index: u64,
+        outcome: Outcome,
+    ) -> Result<(), (Refused, Outcome)> {
+        assert!(rt; self.core.fits(index, &outcome));
+        self.core.answer(alloc, index, outcome)
+    }
+
+    fn take_out(&mut self) -> Vec<u8> {
+        self.core.take_out()
+    }
+
+    fn waiting(&self) -> usize {
+        self.core.waiting()
+    }
+
+    fn count(&self) -> u64 {
+        self.core.count()
+    }
+
+    fn phase(&self) -> Phase {
+        self.core.phase()
+    }
+
+    fn ended_by(&self) -> Option<EndedBy> {
+        self.core.ended_by()
+    }
+
+    // Gets over the haggling, and takes its 104 bytes of greeting and replies.
+    fn begin(&mut self, rt: &impl Abort, alloc: Global) -> Result<(), Refused> {
+        assert_eq!(rt; self.phase(), Phase::Haggling);
+        self.feed(alloc, &HELLO)?;
+        assert_eq!(rt; self.phase(), Phase::Serving);
+        assert_eq!(rt; self.waiting(), 104);
+        assert_eq!(rt; self.take_out().len(), 104);
+        assert_eq!(rt; self.waiting(), 0);
+        Ok(())
+    }
+
+    // Takes the next request, which is a READ of 3 bytes at ten times its index.
+    fn expect_read(&mut self, rt: &impl Abort, alloc: Global, index: u64) -> Result<(), Refused> {
+        match self.next(alloc)? {
+            Next::Issue(found, task, payload) => {
+                let offset = index.wrapping_mul(10);
+                assert_eq!(rt; found, index);
+                assert_eq!(rt; task, Task::Read { offset, length: 3 });
+                assert_eq!(rt; payload.len(), 0);
+            }
+            _ => assert!(rt; false),
+        }
+        Ok(())
+    }
+
+    fn expect_starved(&mut self, rt: &impl Abort, alloc: Global) -> Result<(), Refused> {
+        assert!(rt; matches!(self.next(alloc)?, Next::Starved));
+        Ok(())
+    }
+
+    fn expect_ended(&mut self, rt: &impl Abort, alloc: Global) -> Result<(), Refused> {
+        assert!(rt; matches!(self.next(alloc)?, Next::Ended));
+        Ok(())
+    }
+
+    fn expect_answered(&mut self, rt: &impl Abort, alloc: Global, index: u64, error: u32) {
+        assert!(rt; self.answer(rt, alloc, index, Outcome::Error(error)).is_ok());
+    }
+
+    // The answer is refused, and its outcome comes back.
+    fn expect_refused(&mut self, rt: &impl Abort, alloc: Global, index: u64, expected: Refused) {
+        match self.answer(rt, alloc, index, Outcome::Error(5)) {
+            Err((refused, Outcome::Error(5))) => assert_eq!(rt; refused, expected),
+            _ => assert!(rt; false),
+        }
+    }
+}
+
+// Seventeen READs at once: sixteen are issued.
+fn ask(rt: &impl Abort, alloc: Global, core: &mut Client) -> Result<(), Fail> {
+    let mut heads = Vec::new(alloc);
+    for index in 0..17u64 {
+        put_read(
+            &mut heads,
+            index.wrapping_add(100),
+            index.wrapping_mul(10),
+            3,
+        )?;
+    }
+    core.feed(alloc, heads.as_slice())?;
+    for index in 0..16 {
+        core.expect_read(rt, alloc, index)?;
+    }
+    assert!(rt; matches!(core.next(alloc)?, Next::Full));
+    Ok(())
+}
+
+// Each is answered with three bytes of its index, and the replies go out in this order.
+fn answer_all(
+    rt: &impl Abort,
+    alloc: Global,
+    core: &mut Client,
+    order: &[u64; 16],
+) -> Result<(), Fail> {
+    let mut expected = Vec::new(alloc);
+    for index in order {
+        let bytes = [index.to_be_bytes()[7]; 3];
+        put_reply(&mut expected, index.wrapping_add(100), &bytes)?;
+        let outcome = Outcome::Data(bytes.to_vec(alloc)?);
+        assert!(rt; core.answer(rt, alloc, *index, outcome).is_ok());
+    }
+    assert!(rt; core.take_out().as_slice() == expected.as_slice());
+    Ok(())
+}
+
+fn answer_in_order(rt: &impl Abort, alloc: Global, order: &[u64; 16]) -> Result<(), Fail> {
+    let mut core = Client::new(alloc, 16)?;
+    core.begin(rt, alloc)?;
+    ask(rt, alloc, &mut core)?;
+    answer_all(rt, alloc, &mut core, order)?;
+    core.expect_read(rt, alloc, 16)?;
+    core.expect_starved(rt, alloc)?;
+    assert_eq!(rt; core.count(), 17);
+    Ok(())
+}
+
+#[test]
+fn answers_sixteen_reads_rising(rt: HostRuntime) -> Result<(), Fail> {
+    answer_in_order(&rt, rt.alloc(), &RISING)
+}
+
+#[test]
+fn answers_sixteen_reads_falling(rt: HostRuntime) -> Result<(), Fail> {
+    answer_in_order(&rt, rt.alloc(), &FALLING)
+}
+
+#[test]
+fn answers_sixteen_reads_mixed(rt: HostRuntime) -> Result<(), Fail> {
+    answer_in_order(&rt, rt.alloc(), &MIXED)
+}
+
+// Two READs, a request of nothing between them, and a DISC; two are outstanding at once.
+fn ask_two(rt: &impl Abort, alloc: Global, core: &mut Client) -> Result<(), Fail> {
+    core.expect_refused(rt, alloc, 0, Refused::UnknownIndex);
+    let mut bytes = Vec::new(alloc);
+    put_read(&mut bytes, 100, 0, 3)?;
+    bytes.extend_from_slice(&NOTHING)?;
+    put_read(&mut bytes, 101, 20, 3)?;
+    bytes.extend_from_slice(&DISC)?;
+    core.feed(alloc, bytes.as_slice())?;
+    core.expect_read(rt, alloc, 0)?;
+    core.expect_read(rt, alloc, 2)?;
+    Ok(())
+}
+
+fn refuse_while_serving(rt: &impl Abort, alloc: Global, core: &mut Client) -> Result<(), Refused> {
+    // The request of nothing was replied to as it was read.
+    core.expect_refused(rt, alloc, 1, Refused::Twice);
+    core.expect_refused(rt, alloc, 3, Refused::UnknownIndex);
+    assert!(rt; matches!(core.next(alloc)?, Next::Full));
+    core.expect_answered(rt, alloc, 2, 5);
+    core.expect_refused(rt, alloc, 2, Refused::Twice);
+    core.expect_ended(rt, alloc)
+}
+
+fn refuse_while_draining(rt: &impl Abort, alloc: Global, core: &mut Client) {
+    assert_eq!(rt; core.phase(), Phase::Draining);
+    assert_eq!(rt; core.feed(alloc, &NOTHING), Err(Refused::Closed));
+    core.expect_refused(rt, alloc, 2, Refused::Twice);
+    core.expect_refused(rt, alloc, 3, Refused::Twice);
+    core.expect_refused(rt, alloc, 4, Refused::UnknownIndex);
+    core.expect_answered(rt, alloc, 0, 12);
+}
+
+fn refuse_once_closed(rt: &impl Abort, alloc: Global, core: &mut Client) -> Result<(), Refused> {
+    assert_eq!(rt; core.phase(), Phase::Closed);
+    assert_eq!(rt; core.feed(alloc, &NOTHING), Err(Refused::Closed));
+    core.expect_refused(rt, alloc, 0, Refused::Twice);
+    core.expect_refused(rt, alloc, 4, Refused::UnknownIndex);
+    core.expect_ended(rt, alloc)?;
+    assert_eq!(rt; core.ended_by(), Some(EndedBy::Disconnect));
+    Ok(())
+}
+
+#[test]
+fn refuses_answers_that_are_not_asked_for(rt: HostRuntime) -> Result<(), Fail> {
+    let alloc = rt.alloc();
+    let mut core = Client::new(alloc, 2)?;
+    core.begin(&rt, alloc)?;
+    ask_two(&rt, alloc, &mut core)?;
+    refuse_while_serving(&rt, alloc, &mut core)?;
+    refuse_while_draining(&rt, alloc, &mut core);
+    refuse_once_closed(&rt, alloc, &mut core)?;
+    assert_eq!(rt; core.take_out().as_slice(), REPLIES.as_slice());
+    Ok(())
+}
+
+fn close(
+    rt: &impl Abort,
+    alloc: Global,
+    core: &mut Client,
+    text: &[u8],
+    by: EndedBy,
+) -> Result<(), Refused> {
+    core.expect_starved(rt, alloc)?;
+    assert_eq!(rt; core.ended_by(), None);
+    core.feed(alloc, text)?;
+    assert_eq!(rt; core.phase(), Phase::Closed);
+    assert_eq!(rt; core.ended_by(), Some(by));
+    core.expect_ended(rt, alloc)?;
+    assert_eq!(rt; core.feed(alloc, &HELLO), Err(Refused::Closed));
+    core.expect_refused(rt, alloc, 0, Refused::UnknownIndex);
+    Ok(())
+}
+
+#[test]
+fn takes_no_bytes_after_abort(rt: HostRuntime) -> Result<(), Fail> {
+    let mut core = Client::new(rt.alloc(), 1)?;
+    close(&rt, rt.alloc(), &mut core, &ABORT, EndedBy::Abort)?;
+    Ok(())
+}
+
+#[test]
+fn takes_no_bytes_after_a_wrong_magic(rt: HostRuntime) -> Result<(), Fail> {
+    let mut core = Client::new(rt.alloc(), 1)?;
+    close(&rt, rt.alloc(), &mut core, &NO_OPTION, EndedBy::Protocol)?;
+    Ok(())
+}
+
+// Feeds a READ of 32 MiB, and tells whether it is issued.
+fn ask_much(rt: &impl Abort, alloc: Global, core: &mut Client) -> Result<bool, Refused> {
+    core.feed(alloc, &READ_32_MIB)?;
+    let is_issued = match core.next(alloc)? {
+        Next::Issue(..) => true,
+        Next::Full => false,
+        _ => {
+            assert!(rt; false);
+            false
+        }
+    };
+    assert_eq!(rt; core.waiting(), 0);
+    Ok(is_issued)
+}
+
+// A client that asks for 320 GB and reads nothing.
+#[test]
+fn holds_no_more_than_its_limit(rt: HostRuntime) -> Result<(), Fail> {
+    let alloc = rt.alloc();
+    let mut core = Client::new(alloc, 16)?;
+    core.begin(&rt, alloc)?;
+    let mut issued = 0u32;
+    for _ in 0..10_000 {
+        if ask_much(&rt, alloc, &mut core)? {
+            issued = issued.wrapping_add(1);
+        }
+    }
+    assert_eq!(rt; issued, 16);
+    assert_eq!(rt; core.count(), 16);
+    Ok(())
+}
+
+#[test]
+fn numbers_and_texts_of_refusals(rt: HostRuntime) -> Result<(), Fail> {
+    let refusals = [
+        (
+            Refused::UnknownIndex,
+            1,
+            "no request of this index was read",
+        ),
+        (Refused::Twice, 2, "the request is not outstanding"),
+        (Refused::Closed, 3, "the session takes no more bytes"),
+        (Refused::Memory, 4, "out of memory"),
+    ];
+    for (refused, number, text) in refusals {
+        assert_eq!(rt; refused.number(), number);
+        let shown = format!(in rt.alloc(); "{refused}")?;
+        assert_eq!(rt; shown.as_str(), text);
+    }
+    Ok(())
+}
