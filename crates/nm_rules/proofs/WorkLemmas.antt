@@ -134,10 +134,13 @@ module _ {L : Type 0} (type : LegType L) (old : StripeState L) (legs : List L) (
     where
       not_same : (a b : ℕ) → (a == b) ≡ false → a ≢ b
       not_same a b is e = let yes = eq-eqb a b e in cc
+
       rest-now : copy_rest (advanced chunk.length (table old)) ≡ length_of copy.region (table old) - (copy.cursor + chunk.length)
       rest-now = rest_is type old legs leg copy chunk bytes k on not_short next w
+
       copy-now : moved chunk.length old.copy ≡ Some (record copy { cursor = copy.cursor + chunk.length })
       copy-now = on_is type old legs leg copy chunk bytes k on not_short next w old.copy (open-copy type old legs leg copy chunk bytes k on not_short next w)
+
       cleared-now : (legs' : List L) (f : List LegRegions) → f ≡ new_flags type old leg copy chunk k (r type old legs leg copy chunk bytes k on not_short next w) (runs type old legs leg copy chunk bytes k on not_short next w) legs bytes all-read next w
           → blocks_behind old.place.region old.place.blocks (get_or f leg no_leg).behind + length_of copy.region (table old) ≡ behind_blocks leg old
       cleared-now legs' f is =
@@ -147,10 +150,11 @@ module _ {L : Type 0} (type : LegType L) (old : StripeState L) (legs : List L) (
           let now : blocks_behind old.place.region old.place.blocks (get_or f copy.leg no_leg).behind ≡ blocks_behind old.place.region old.place.blocks (slice_set (leg_at copy.leg (table old)).behind copy.region false) =
           ap (λ (fs : List LegRegions). blocks_behind old.place.region old.place.blocks (get_or fs copy.leg no_leg).behind) is ∙ ap (λ (l : LegRegions). blocks_behind old.place.region old.place.blocks l.behind) here in
           subst (λ (i : ℕ). blocks_behind old.place.region old.place.blocks (get_or f i no_leg).behind + length_of copy.region (table old) ≡ behind_blocks i old) ready.leg_is (omega (arith, now, parts))
+
       closed-one : chunk.written + 1 ≡ chunk.length → WritesOne leg old (closed type old legs leg copy chunk bytes k on not_short next w)
       closed-one last =
           (elim (copy_rest (advanced chunk.length (table old)) == 0) as (λ b. (copy_rest (advanced chunk.length (table old)) == 0) ≡ b
-              → WritesOne leg old (let t : RegionTable = cond b (region_finished (advanced chunk.length (table old))) (advanced chunk.length (table old)) in record (with_table t old) { legs = legs; chunk = None })) [
+          → WritesOne leg old (let t : RegionTable = cond b (region_finished (advanced chunk.length (table old))) (advanced chunk.length (table old)) in record (with_table t old) { legs = legs; chunk = None })) [
             | true ↦ λ is.
                 let rest : copy_rest (advanced chunk.length (table old)) ≡ 0 = same (copy_rest (advanced chunk.length (table old))) 0 is in
                 subst (λ (o : Option CopyPlace). WritesOne leg old (let s : StripeState L = record old { legs = legs; flags = (cleared_for o (advanced chunk.length (table old))).legs; copy = None; chunk = None } in s))
