@@ -1,5 +1,5 @@
 -- The state that a `Store` stands for.
-use Rattle.std.specs.Prelude.{◌≡◌, ◌≤◌, length}
+use Rattle.std.specs.Prelude.{◌≡◌, length}
 use Rattle.nm_rules.specs.State.{StripeState, table}
 use Rattle.nm_store.specs.declared.store.Store.TheInside.{Inside}
 

@@ -3,7 +3,7 @@ ghost use Rattle.nm_fanout.specs.Records.{next_owed, first_owed, unlanded};
 ghost use Rattle.nm_rules.specs.State.{next_number, is_exhausted, leg_state, is_last, left};
 
 use nm_choice::{LegState, Policy};
-use nm_fanout::{Record, Records};
+use nm_fanout::Records;
 use nm_leg::LegPart;
 use nm_regions::Regions;
 use nm_replay::{Entry, Kept, Memory};
@@ -161,14 +161,6 @@ impl<L: LegPart> Store<L> {
         ensures { result ≡ first_owed self.now.records }
     {
         self.records.first_owed()
-    }
-
-    /// The record at this place, lent.
-    pub fn record(&self, place: usize) -> &Record
-        requires { place < length self.now.records }
-        ensures { slice_get self.now.records place ≡ Some result.now }
-    {
-        self.records.at(place)
     }
 
     /// How many entries the history has had.

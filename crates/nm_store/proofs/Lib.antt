@@ -1,0 +1,4 @@
+pub mod CountLemmas
+pub mod OpeningLemmas
+pub mod RecordLemmas
+pub mod TableLemmas
