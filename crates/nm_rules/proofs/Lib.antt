@@ -43,6 +43,7 @@ pub mod RecordLemmas
 pub mod RelabelLemmas
 pub mod ReplaceLemmas
 pub mod SettledLemmas
+pub mod ShapeLemmas
 pub mod SoundLemmas
 pub mod StateLemmas
 pub mod WorkLemmas

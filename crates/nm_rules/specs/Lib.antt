@@ -16,6 +16,7 @@ pub mod Push
 pub mod Read
 pub mod Receipt
 pub mod Refusal
+pub mod Shape
 pub mod Sound
 pub mod State
 pub mod Sync
