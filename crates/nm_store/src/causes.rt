@@ -1,5 +1,5 @@
 //! Why each step is refused: the first condition that holds.
-ghost use Rattle.std.specs.Prelude.{◌≡◌, ◌+◌, ◌<◌, ◌≤◌, ◌^◌, length, IfOk, OnOk, IfErr, Some, None};
+ghost use Rattle.std.specs.Prelude.{◌≡◌, ◌+◌, ◌<◌, ◌≤◌, ◌^◌, length, max, IfOk, OnOk, IfErr, Some, None};
 ghost use Rattle.std.specs.Option.{option_map};
 ghost use Rattle.nm_fanout.specs.Records.{IsAt, busy_on, unlanded};
 ghost use Rattle.nm_regions.specs.declared.copy_place.CopyPlace.{CopyPlace};
@@ -68,7 +68,7 @@ impl<L: LegPart> Store<L> {
     pub fn begin_cause(&self, block: u64) -> Option<Refusal>
         requires copy { (copy : CopyPlace) → self.now.copy ≡ Some copy
             → copy.cursor < length_of copy.region (table self.now) }
-        requires numbers { next_number self.now + unlanded self.now.records < 2 ^ 64 }
+        requires numbers { next_number self.now + unlanded self.now.records ≤ max (2 ^ 63) self.now.first }
         ensures { result ≡ begin_cause self.now block }
     {
         if self.stopped {
@@ -132,7 +132,7 @@ impl<L: LegPart> Store<L> {
 
     /// Why no block may be read.
     pub fn read_cause(&self) -> Option<Refusal>
-        requires { next_number self.now + unlanded self.now.records < 2 ^ 64 }
+        requires { next_number self.now + unlanded self.now.records ≤ max (2 ^ 63) self.now.first }
         ensures { result ≡ read_cause self.now }
     {
         if self.stopped {

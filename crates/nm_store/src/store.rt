@@ -1,4 +1,4 @@
-ghost use Rattle.std.specs.Prelude.{◌≡◌, ◌+◌, ◌<◌, ◌^◌, length, slice_get, IfOk, Some};
+ghost use Rattle.std.specs.Prelude.{◌≡◌, ◌+◌, ◌-◌, ◌<◌, ◌≤◌, ◌^◌, [], length, max, slice_get, IsOk, IfOk, Some};
 ghost use Rattle.nm_fanout.specs.Records.{next_owed, first_owed, unlanded};
 ghost use Rattle.nm_rules.specs.State.{next_number, is_exhausted, leg_state, is_last, left};
 
@@ -122,7 +122,7 @@ impl<L: LegPart> Store<L> {
 
     /// The number of the next entry.
     pub fn next_number(&self) -> u64
-        requires { next_number self.now < 2 ^ 64 }
+        requires { next_number self.now ≤ max (2 ^ 63) self.now.first }
         ensures { result ≡ next_number self.now }
     {
         self.first + self.kept.total()
@@ -130,7 +130,7 @@ impl<L: LegPart> Store<L> {
 
     /// Whether all numbers are in use, or will be by writes that have no entry yet.
     pub fn is_exhausted(&self) -> bool
-        requires { next_number self.now + unlanded self.now.records < 2 ^ 64 }
+        requires { next_number self.now + unlanded self.now.records ≤ max (2 ^ 63) self.now.first }
         ensures { result ≡ is_exhausted self.now }
     {
         self.first + self.kept.total() + self.records.unlanded() >= NUMBERS
@@ -163,6 +163,20 @@ impl<L: LegPart> Store<L> {
         self.records.first_owed()
     }
 
+    /// How many writes have not been claimed.
+    pub fn records_left(&self) -> u64
+        ensures { result ≡ length self.now.records }
+    {
+        self.records.len() as u64
+    }
+
+    /// How many of those have an entry.
+    pub fn records_landed(&self) -> u64
+        ensures { result ≡ length self.now.records - unlanded self.now.records }
+    {
+        (self.records.len() as u64).saturating_sub(self.records.unlanded())
+    }
+
     /// How many entries the history has had.
     pub fn total(&self) -> u64
         ensures { result ≡ self.now.total }
@@ -172,7 +186,8 @@ impl<L: LegPart> Store<L> {
 
     /// A copy of the kept entries, by rising number.
     pub fn entries(&self, alloc: Global) -> Result<Vec<Entry>, Memory>
-        ensures { IfOk result (λ copy. copy.items ≡ self.now.kept) }
+        ensures ok { IfOk result (λ copy. copy.items ≡ self.now.kept) }
+        ensures memory_only_at_growth { self.now.kept ≡ [] → IsOk result }
     {
         self.kept.entries(alloc)
     }
