@@ -8,6 +8,7 @@
 pub use store::Store;
 
 mod causes;
+mod copying;
 mod joining;
 mod losing;
 mod opening;
