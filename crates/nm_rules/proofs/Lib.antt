@@ -20,6 +20,9 @@ pub mod GoneAgreeLemmas
 pub mod GoneArrayLemmas
 pub mod GoneLemmas
 pub mod HaltLemmas
+pub mod JoiningEndLemmas
+pub mod JoiningLemmas
+pub mod JoiningStepLemmas
 pub mod KeptLemmas
 pub mod LandLemmas
 pub mod LandingLemmas

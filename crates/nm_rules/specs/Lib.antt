@@ -7,6 +7,7 @@ pub mod Claim
 pub mod Copy
 pub mod Failing
 pub mod Invariant
+pub mod Joining
 pub mod Kept
 pub mod Laws
 pub mod Lost
