@@ -1,5 +1,6 @@
 pub mod CopyLemmas
 pub mod CountLemmas
 pub mod OpeningLemmas
+pub mod ReachLemmas
 pub mod RecordLemmas
 pub mod TableLemmas

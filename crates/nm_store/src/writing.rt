@@ -1,16 +1,17 @@
 //! The changes of a write: it begins, reaches a leg, takes effect and is claimed.
-ghost use Rattle.std.specs.Prelude.{◌≡◌, ℕ, ◌+◌, ◌<◌, ◌^◌, length, slice_get, is_ok, false, IsSome, Some};
+ghost use Rattle.std.specs.Prelude.{◌≡◌, ℕ, ◌+◌, ◌<◌, ◌≤◌, ◌^◌, [], ◌∷◌, length, max, slice_get, is_ok, true, Some};
 ghost use Rattle.nm_fanout.specs.Data.{FillsBlock, bytes_of};
 ghost use Rattle.nm_fanout.specs.declared.write_record.Record.{Record};
-ghost use Rattle.nm_fanout.specs.Record.{is_under_way};
-ghost use Rattle.nm_fanout.specs.Records.{AllBelow, IsAt, entry_at};
+ghost use Rattle.nm_fanout.specs.Record.{owes};
+ghost use Rattle.nm_fanout.specs.Records.{AllBelow, AreInOrder, landed, unlanded};
 ghost use Rattle.nm_leg.specs.Leg.{leg_type};
 ghost use Rattle.nm_leg.specs.LegCalls.{HasBlock, WritesLegAt};
 ghost use Rattle.nm_rules.specs.Read.{current_legs};
 ghost use Rattle.nm_rules.specs.Begin.{after_begin};
-ghost use Rattle.nm_rules.specs.Push.{write_entry};
-ghost use Rattle.nm_rules.specs.Claim.{after_claim};
+ghost use Rattle.nm_rules.specs.Kept.{kept_with};
+ghost use Rattle.nm_rules.specs.Push.{after_push, after_reach, lands_at, write_entry};
 ghost use Rattle.nm_rules.specs.Lost.{settled};
+ghost use Rattle.nm_rules.specs.State.{next_number};
 
 use crate::store::Store;
 use nm_fanout::{Data, Record};
@@ -66,6 +67,73 @@ impl<L: LegPart> Store<L> {
     {
         let record = self.records.at(place);
         write_leg_at(&mut self.legs, leg, record.block, record.data.bytes())
+    }
+
+    /// Whether the write at this place takes effect as it reaches the leg.
+    fn lands_at(&self, place: usize, leg: u8) -> bool
+        requires { place < length self.now.records }
+        ensures lands { (r : Record) → slice_get self.now.records place ≡ Some r
+            → result ≡ lands_at leg r self.now }
+        ensures in_order { AreInOrder self.now.records }
+    {
+        self.records.at(place).entry.is_none() && leg == self.master
+    }
+
+    /// The write at this place owes the leg no more. Where it is finished with that, one write fewer
+    /// is under way in its region.
+    fn reach_at(&mut self, place: usize, leg: u8)
+        requires place { place < length self.old.records }
+        requires owed { (r : Record) → slice_get self.old.records place ≡ Some r
+            → owes leg r ≡ true }
+        requires block { (r : Record) → slice_get self.old.records place ≡ Some r
+            → r.block < self.old.place.blocks }
+        ensures { (r : Record) → slice_get self.old.records place ≡ Some r
+            → self.new ≡ after_reach self.old self.old.legs r leg }
+    {
+        let _blocks = self.regions.blocks();
+        let block = self.records.at(place).block;
+        self.records.reach_at(place, leg);
+        if self.records.at(place).is_under_way() {
+            return;
+        }
+        self.regions.finish(block);
+    }
+
+    /// The write at this place takes effect, under the next number.
+    fn land(&mut self, place: usize)
+        requires place { place < length self.old.records }
+        requires numbers { next_number self.old < 2 ^ 63 }
+        ensures { (r : Record) → slice_get self.old.records place ≡ Some r
+            → self.new ≡ record self.old {
+              records = landed r.ticket (next_number self.old) self.old.records;
+              kept = kept_with (write_entry (next_number self.old) r ∷ []) self.old.kept;
+              total = self.old.total + 1;
+            } }
+    {
+        let number = self.first + self.kept.total();
+        self.kept.push(&write_entry(self.records.at(place), number));
+        self.records.land_at(place, number);
+    }
+
+    /// The write at this place has reached the leg. At the master it takes effect, under the next
+    /// number, unless it has before.
+    pub fn reach(&mut self, place: usize, leg: u8)
+        requires place { place < length self.old.records }
+        requires owed { (r : Record) → slice_get self.old.records place ≡ Some r
+            → owes leg r ≡ true }
+        requires block { (r : Record) → slice_get self.old.records place ≡ Some r
+            → r.block < self.old.place.blocks }
+        requires numbers { next_number self.old + unlanded self.old.records
+            ≤ max (2 ^ 63) self.old.first }
+        ensures { (r : Record) → slice_get self.old.records place ≡ Some r
+            → self.new ≡ after_push self.old self.old.legs r leg }
+    {
+        let lands = self.lands_at(place, leg);
+        self.reach_at(place, leg);
+        if lands {
+            self.land(place);
+        }
+        self.settle();
     }
 
     /// A failover is over once no write is under way.
