@@ -9,6 +9,7 @@ pub use store::Store;
 
 mod causes;
 mod copying;
+mod failing_over;
 mod joining;
 mod losing;
 mod opening;

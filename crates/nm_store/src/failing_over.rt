@@ -1,0 +1,45 @@
+//! Another leg becomes the master.
+ghost use Rattle.std.specs.Prelude.{◌≡◌, ◌+◌, ◌≤◌, ◌^◌, max};
+ghost use Rattle.nm_fanout.specs.Records.{unlanded};
+ghost use Rattle.nm_rules.specs.Kept.{kept_with};
+ghost use Rattle.nm_rules.specs.State.{next_number};
+ghost use Rattle.nm_rules.specs.Lost.{landed_all, landing, failed_over};
+
+use crate::store::Store;
+use crate::writing::write_entry;
+use nm_choice::elect;
+use nm_fanout::Records;
+use nm_leg::LegPart;
+use nm_replay::Kept;
+
+/// Each write without an entry takes effect, by rising ticket: it gets the next number, and its
+/// entry is kept.
+fn land_all(records: &mut Records, kept: &mut Kept, first: u64)
+    requires numbers { first + kept.old.total + unlanded records.old ≤ max (2 ^ 63) first }
+    ensures records { records.new ≡ landed_all (first + kept.old.total) records.old }
+    ensures entries { kept.new.entries
+        ≡ kept_with (landing (first + kept.old.total) records.old) kept.old.entries }
+    ensures total { kept.new.total ≡ kept.old.total + unlanded records.old }
+{
+    let mut number = first + kept.total();
+    while let Some(place) = records.first_unlanded() {
+        kept.push(&write_entry(records.at(place), number));
+        records.land_at(place, number);
+        number += 1;
+    }
+}
+
+impl<L: LegPart> Store<L> {
+    /// The lowest leg in sync becomes the master. Each write without an entry takes effect, and no
+    /// read is done until all writes under way are finished.
+    pub(crate) fn fail_over(&mut self)
+        requires numbers { next_number self.old + unlanded self.old.records
+            ≤ max (2 ^ 63) self.old.first }
+        ensures { self.new ≡ failed_over self.old }
+    {
+        let _legs = self.regions.legs();
+        self.master = elect(&self.states).unwrap_or(self.master);
+        land_all(&mut self.records, &mut self.kept, self.first);
+        self.settling = true;
+    }
+}
