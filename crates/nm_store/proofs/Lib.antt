@@ -1,3 +1,4 @@
+pub mod ClaimLemmas
 pub mod CopyLemmas
 pub mod CountLemmas
 pub mod FailoverLemmas

@@ -1,15 +1,16 @@
 //! The changes of a write: it begins, reaches a leg, takes effect and is claimed.
-ghost use Rattle.std.specs.Prelude.{◌≡◌, ℕ, ◌+◌, ◌<◌, ◌≤◌, ◌^◌, [], ◌∷◌, length, max, slice_get, is_ok, true, Some};
+ghost use Rattle.std.specs.Prelude.{◌≡◌, ℕ, ◌+◌, ◌<◌, ◌≤◌, ◌^◌, [], ◌∷◌, length, max, slice_get, is_ok, false, true, IsSome, Some};
 ghost use Rattle.nm_fanout.specs.Data.{FillsBlock, bytes_of};
 ghost use Rattle.nm_fanout.specs.declared.write_record.Record.{Record};
-ghost use Rattle.nm_fanout.specs.Record.{owes};
-ghost use Rattle.nm_fanout.specs.Records.{AllBelow, AreInOrder, landed, unlanded};
+ghost use Rattle.nm_fanout.specs.Record.{is_under_way, owes};
+ghost use Rattle.nm_fanout.specs.Records.{AllBelow, AreInOrder, entry_at, landed, unlanded};
 ghost use Rattle.nm_leg.specs.Leg.{leg_type};
 ghost use Rattle.nm_leg.specs.LegCalls.{HasBlock, WritesLegAt};
 ghost use Rattle.nm_rules.specs.Read.{current_legs};
 ghost use Rattle.nm_rules.specs.Begin.{after_begin};
 ghost use Rattle.nm_rules.specs.Kept.{kept_with};
 ghost use Rattle.nm_rules.specs.Push.{after_push, after_reach, lands_at, write_entry};
+ghost use Rattle.nm_rules.specs.Claim.{after_claim};
 ghost use Rattle.nm_rules.specs.Lost.{settled};
 ghost use Rattle.nm_rules.specs.State.{next_number};
 
@@ -134,6 +135,20 @@ impl<L: LegPart> Store<L> {
             self.land(place);
         }
         self.settle();
+    }
+
+    /// Takes the finished write's record at this place away, and gives the number of its entry.
+    pub fn claim(&mut self, place: usize) -> u64
+        requires landed { IsSome (entry_at place self.old.records) }
+        requires finished { (r : Record) → slice_get self.old.records place ≡ Some r
+            → is_under_way r ≡ false }
+        ensures number { (r : Record) → slice_get self.old.records place ≡ Some r
+            → r.entry ≡ Some result }
+        ensures claimed { (r : Record) → slice_get self.old.records place ≡ Some r
+            → self.new ≡ after_claim self.old r.ticket }
+    {
+        let _records = self.records.len();
+        self.records.claim_at(place)
     }
 
     /// A failover is over once no write is under way.
