@@ -14,8 +14,10 @@ pub mod CopyReadLemmas
 pub mod CopySteps
 pub mod CopyWriteLemmas
 pub mod DirtyLemmas
+pub mod DurableLegLemmas
 pub mod ElectLemmas
 pub mod FailoverLemmas
+pub mod FlushedLemmas
 pub mod GoneAgreeLemmas
 pub mod GoneArrayLemmas
 pub mod GoneLemmas

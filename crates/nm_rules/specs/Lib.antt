@@ -6,6 +6,7 @@ pub mod Cause
 pub mod Claim
 pub mod Copy
 pub mod Failing
+pub mod Flushed
 pub mod Invariant
 pub mod Joining
 pub mod Kept
