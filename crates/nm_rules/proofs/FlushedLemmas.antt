@@ -55,19 +55,26 @@ module _ {L : Type 0} (type : LegType L) (old new : StripeState L) (b : ℕ) (wa
       → slice_get (stripe_array type.model new) b ≡ slice_get (stripe_array type.model old) b
   free-array is_free same = (array-at type.model new b).free is_free ∙ same ∙ sym ((array-at type.model old b).free was_free)
 
-  -- so what is durable stays under the same master and the same states, where no leg's block changed
-  pub same-durable : busy_on b new.records ≡ None → new.master ≡ old.master → new.states ≡ old.states
+  -- under the same master and the same states what is durable stays, where it does on each leg in sync
+  pub legs-durable : busy_on b new.records ≡ None → new.master ≡ old.master → new.states ≡ old.states
       → slice_get (contents_of type.model new.legs old.master) b ≡ slice_get (contents_of type.model old.legs old.master) b
-      → ((j : ℕ) → leg_state j old ≡ InSync → slice_get (durable_of type.model new.legs j) b ≡ slice_get (durable_of type.model old.legs j) b)
+      → ((j : ℕ) → leg_state j old ≡ InSync → slice_get (durable_of type.model old.legs j) b ≡ slice_get (stripe_array type.model old) b → slice_get (durable_of type.model new.legs j) b ≡ slice_get (stripe_array type.model old) b)
       → KeepsDurable type.model b old new
-  same-durable is_free master states contents durable =
+  legs-durable is_free master states contents durable =
       let array = free-array is_free (ap (λ (m : ℕ). slice_get (contents_of type.model new.legs m) b) master ∙ contents) in
       record {
         free = is_free;
         durable = λ j was in_sync.
             let before : leg_state j old ≡ InSync = subst (λ states. slice_index_or states j Out ≡ InSync) states in_sync in
-            durable j before ∙ was before ∙ sym array;
+            durable j before (was before) ∙ sym array;
       }
+
+  -- so it is where no leg's block changed
+  pub same-durable : busy_on b new.records ≡ None → new.master ≡ old.master → new.states ≡ old.states
+      → slice_get (contents_of type.model new.legs old.master) b ≡ slice_get (contents_of type.model old.legs old.master) b
+      → ((j : ℕ) → leg_state j old ≡ InSync → slice_get (durable_of type.model new.legs j) b ≡ slice_get (durable_of type.model old.legs j) b)
+      → KeepsDurable type.model b old new
+  same-durable is_free master states contents durable = legs-durable is_free master states contents (λ j before held. durable j before ∙ held)
 
   -- a step that calls no leg
   no-call : busy_on b new.records ≡ None → new.master ≡ old.master → new.states ≡ old.states → new.legs ≡ old.legs → KeepsDurable type.model b old new

@@ -18,6 +18,8 @@ pub mod DurableLegLemmas
 pub mod ElectLemmas
 pub mod FailoverLemmas
 pub mod FlushedLemmas
+pub mod FlushedLostLemmas
+pub mod FlushedSyncLemmas
 pub mod GoneAgreeLemmas
 pub mod GoneArrayLemmas
 pub mod GoneLemmas
