@@ -1,16 +1,44 @@
-//! The changes of a read: a leg is called, and the entry is kept.
-ghost use Rattle.std.specs.Prelude.{◌≡◌, ◌<◌, ◌^◌, length, is_ok};
+//! Which leg a read takes, and the changes of a read: a leg is called, and the entry is kept.
+ghost use Rattle.std.specs.Prelude.{◌≡◌, ◌<◌, ◌^◌, length, is_ok, Some};
 ghost use Rattle.nm_leg.specs.Leg.{leg_type};
 ghost use Rattle.nm_leg.specs.LegCalls.{HasBlock, ReadsLegAt};
 ghost use Rattle.nm_rules.specs.State.{next_number};
-ghost use Rattle.nm_rules.specs.Read.{after_read};
+ghost use Rattle.nm_rules.specs.Read.{after_read, current_legs, read_leg, true_from};
 
 use crate::store::Store;
-use nm_choice::next_turn;
+use arrayvec::ArrayVec;
+use nm_choice::{next_turn, pick};
 use nm_leg::{LegFault, LegPart, read_leg_at};
+use nm_regions::LEGS;
 use nm_replay::{Block, Entry, Kind};
 
+/// The numbers of the places that are true, by rising number.
+fn true_places(places: &[bool; LEGS]) -> ArrayVec<u8, LEGS>
+    ensures { result.items ≡ true_from 0 places.now }
+{
+    let mut numbers = ArrayVec::new();
+    for place in 0..LEGS {
+        if places[place] {
+            numbers.push(place as u8);
+        }
+    }
+    numbers
+}
+
 impl<L: LegPart> Store<L> {
+    /// The leg that a read of the block takes: in a region with no write under way one of those that
+    /// are current there, by the policy, and else the master.
+    pub fn leg_to_read(&self, block: u64) -> u8
+        requires block { block < self.now.place.blocks }
+        requires current { 0 < length (current_legs block self.now) }
+        ensures { read_leg block self.now ≡ Some result }
+    {
+        let region = self.regions.region_of(block);
+        let quiet = self.regions.is_quiet(region);
+        let current = true_places(&self.regions.targets(block));
+        pick(self.policy, self.turn, region, &current, self.master, quiet)
+    }
+
     /// Reads a block of a leg. No more than the leg changes.
     pub fn read_leg(&mut self, leg: u8, block: u64, into: &mut Block) -> Result<(), LegFault>
         requires leg { leg < length self.old.legs }
