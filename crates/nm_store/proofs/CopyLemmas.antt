@@ -1,19 +1,29 @@
 -- The copy and the chunk that a step of a copy goes on with.
-use Rattle.std.proofs.Common.{◌≡◌, ℕ, ◌*◌, ◌<◌, false, IsFalse, None, Some, Option, length, refl, sym, ap, ◌∙◌, subst, arith, position}
-use Rattle.std.specs.Option.{option_map, option_or}
+use Rattle.std.proofs.Common.{Vec, ◌≡◌, ℕ, ◌*◌, ◌<◌, ◌==◌, Bool, true, false, cond, IsFalse, List, [], ◌∷◌, None, Some, Option, length, nat_lt, refl, sym, ap, ◌∙◌, subst, arith, position}
+use Rattle.std.specs.List.{list_any}
+use Rattle.std.specs.Option.{IsSome, option_map, option_or}
+use Rattle.std.specs.Vec.{with_items}
+use Rattle.std.proofs.lemmas.Bool.Decides.{nat_tests}
+use Rattle.std.proofs.lemmas.List.{length-set, with_items_is}
 use Rattle.std.proofs.lemmas.List.Quantifiers.{position-Some}
 use Rattle.std.proofs.lemmas.Option.{same_Some}
 use Rattle.std.proofs.Math.Nat.{lt_of_mul-lt-mul_right}
+use Rattle.nm_replay.specs.declared.block.Block.{Block}
 use Rattle.nm_leg.specs.Leg.{LegType}
+use Rattle.nm_leg.specs.LegCalls.{ReadsLegAt, WritesLegAt}
 use Rattle.nm_regions.specs.declared.copy_place.CopyPlace.{CopyPlace}
+use Rattle.nm_regions.specs.Changes.{advanced, cleared_for, moved, region_finished}
 use Rattle.nm_regions.specs.LegFlags.{no_leg}
+use Rattle.nm_regions.specs.Links.{before_lowest}
 use Rattle.nm_regions.specs.Sound.{IsRegionTable}
-use Rattle.nm_regions.specs.Table.{RegionTable, is_out, leg_at, lowest_behind, length_of, regions_of}
-use Rattle.nm_rules.specs.Copy.{copy_cause, copy_of}
+use Rattle.nm_regions.specs.Table.{RegionTable, copy_rest, has_behind, is_out, leg_at, lowest_behind, length_of, regions_of}
+use Rattle.nm_regions.proofs.Linking.{lowest-position}
+use Rattle.nm_rules.specs.Copy.{GoesOn, copy_cause, copy_of, chunk_copied}
 use Rattle.nm_rules.specs.Invariant.{IsCopy, Keeps}
-use Rattle.nm_rules.specs.State.{StripeState, table}
+use Rattle.nm_rules.specs.State.{StripeState, Chunk, table}
 use Rattle.nm_rules.proofs.ChunkLemmas.{copy-is}
 use Rattle.nm_rules.proofs.CopyLemmas.{may_copy, region-some}
+use Rattle.nm_rules.proofs.CopySteps.{goes-ready}
 use Rattle.nm_rules.proofs.StateLemmas.{joining_inside, joining_attached}
 
 -- a place before the end of a region is in one of the regions
@@ -52,3 +62,84 @@ module _ {L : Type 0} (type : LegType L) (s : StripeState L) (leg : ℕ) (k : Ke
           let within : found.0 < regions_of s.place.blocks s.place.region = omega (arith, regions, (position-Some (λ behind. behind) (leg_at leg (table s)).behind found.0 false lowest).0) in
           let some : 0 < length_of found.0 (table s) = region-some s.place.blocks s.place.region found.0 k.legs.sizes.some_region within in
           subst (λ (c : CopyPlace). IsCopy c s) found.2 (record { joining = joining; lowest = found.1; within = some })
+
+-- where some of the flags is set, there is a lowest one
+lowest-below : (flags : List Bool) → list_any (λ b. b) flags ≡ true → before_lowest flags < length flags
+lowest-below [] some = cc
+lowest-below (true ∷ flags) some = omega arith
+lowest-below (false ∷ flags) some = omega (arith, lowest-below flags some)
+
+some-first : (flags : List Bool) → list_any (λ b. b) flags ≡ true → IsSome (position (λ b. b) flags)
+some-first flags some =
+    let low : before_lowest flags < length flags = lowest-below flags some in
+    let on : nat_lt (before_lowest flags) (length flags) ≡ true = grind (arith, nat_tests) in
+    rw (lowest-position flags, on) refl
+
+-- a leg that is behind somewhere has a copy to go on with
+pub goes-somewhere : {L : Type 0} (s : StripeState L) (leg : ℕ) → has_behind leg (table s) ≡ true → IsSome (copy_of leg s)
+goes-somewhere s leg behind = or s.copy (lowest_behind leg (table s)) (some-first (leg_at leg (table s)).behind behind)
+  where
+    or : (o : Option CopyPlace) (lowest : Option ℕ) → IsSome lowest → IsSome (option_or o (option_map (λ (r : ℕ). let c : CopyPlace = record { leg = leg; region = r; cursor = 0 } in c) lowest))
+    or (Some c) lowest some = refl
+    or None (Some r) some = refl
+    or None None some = cc
+
+-- the chunk that a step goes on with has some blocks
+pub goes-some : {L : Type 0} (type : LegType L) (s : StripeState L) (leg : ℕ) (copy : CopyPlace) (chunk : Chunk) → Keeps type s → GoesOn s leg copy chunk → nat_lt 0 chunk.length ≡ true
+goes-some type s leg copy chunk k on =
+    let more = (goes-ready type s leg copy chunk k on).more in
+    let some : 0 < chunk.length = omega (arith, more) in
+    grind (arith, nat_tests)
+
+-- a region table behind a chunk: its legs and its copy change, and no more
+behind-chunk : (blocks : ℕ) (t : RegionTable) → chunk_copied blocks t ≡ record { blocks = t.blocks; region = t.region; legs = (chunk_copied blocks t).legs; writes = t.writes; copy = (chunk_copied blocks t).copy }
+behind-chunk blocks t =
+    (elim (copy_rest (advanced blocks t) == 0) as (λ b. let u : RegionTable = cond b (region_finished (advanced blocks t)) (advanced blocks t) in u ≡ record { blocks = t.blocks; region = t.region; legs = u.legs; writes = t.writes; copy = u.copy }) [
+      | true ↦ ends (moved blocks t.copy)
+      | false ↦ refl
+    ])
+  where
+    ends : (o : Option CopyPlace) → let u : RegionTable = record (cleared_for o (advanced blocks t)) { copy = None } in u ≡ record { blocks = t.blocks; region = t.region; legs = u.legs; writes = t.writes; copy = u.copy }
+    ends None = refl
+    ends (Some c) = refl
+
+pub copied-table : (blocks : ℕ) (t new : RegionTable) → new ≡ chunk_copied blocks t → new ≡ record { blocks = t.blocks; region = t.region; legs = new.legs; writes = t.writes; copy = new.copy }
+copied-table blocks t new is = is ∙ behind-chunk blocks t ∙ ap (λ (u : RegionTable). let v : RegionTable = record { blocks = t.blocks; region = t.region; legs = u.legs; writes = t.writes; copy = u.copy } in v) (sym is)
+
+-- and as many legs as before
+pub copied-legs : (blocks : ℕ) (t : RegionTable) → length (chunk_copied blocks t).legs ≡ length t.legs
+copied-legs blocks t =
+    (elim (copy_rest (advanced blocks t) == 0) as (λ b. let u : RegionTable = cond b (region_finished (advanced blocks t)) (advanced blocks t) in length u.legs ≡ length t.legs) [
+      | true ↦ ends (moved blocks t.copy)
+      | false ↦ refl
+    ])
+  where
+    ends : (o : Option CopyPlace) → length (cleared_for o (advanced blocks t)).legs ≡ length t.legs
+    ends None = refl
+    ends (Some c) = length-set t.legs c.leg _
+
+-- a list of legs with other elements, as many
+pub legs-count : {X Z : Type 0} (legs : Vec X Z) (new : List X) → length legs.items ≡ length (with_items legs new).items
+legs-count legs new = sym legs.ok.0 ∙ (with_items legs new).ok.0
+
+stored : {X Z : Type 0} (legs : Vec X Z) (new : List X) → length new ≡ length legs.items → new ≡ (with_items legs new).items
+stored legs new same = sym (with_items_is legs new (same ∙ sym legs.ok.0))
+
+-- a read and a write that failed, in the words of the state
+pub read-failed : {L Z : Type 0} (type : LegType L) (legs : Vec L Z) (lent new : List L) (ok : Bool) (leg at start : ℕ) (target bytes : Block) → ReadsLegAt type ok leg at lent new target bytes → lent ≡ legs.items → ok ≡ false → at ≡ start
+    → ReadsLegAt type false leg start legs.items (with_items legs new).items target bytes
+read-failed type legs lent new ok leg at start target bytes r whole failed is =
+    let same : length new ≡ length legs.items = ap (λ (xs : List _). length xs) r.change.others ∙ length-set lent leg r.after ∙ ap (λ (xs : List _). length xs) whole in
+    let one = subst (λ (b : Bool). ReadsLegAt type b leg at lent new target bytes) failed r in
+    let two = subst (λ (n : ℕ). ReadsLegAt type false leg n lent new target bytes) is one in
+    let three = subst (λ (xs : List _). ReadsLegAt type false leg start xs new target bytes) whole two in
+    subst (λ (xs : List _). ReadsLegAt type false leg start legs.items xs target bytes) (stored legs new same) three
+
+pub write-failed : {L Z : Type 0} (type : LegType L) (legs : Vec L Z) (lent new : List L) (ok : Bool) (leg at start : ℕ) (bytes : List ℕ) → WritesLegAt type ok leg at bytes lent new → lent ≡ legs.items → ok ≡ false → at ≡ start
+    → WritesLegAt type false leg start bytes legs.items (with_items legs new).items
+write-failed type legs lent new ok leg at start bytes w whole failed is =
+    let same : length new ≡ length legs.items = ap (λ (xs : List _). length xs) w.change.others ∙ length-set lent leg w.after ∙ ap (λ (xs : List _). length xs) whole in
+    let one = subst (λ (b : Bool). WritesLegAt type b leg at bytes lent new) failed w in
+    let two = subst (λ (n : ℕ). WritesLegAt type false leg n bytes lent new) is one in
+    let three = subst (λ (xs : List _). WritesLegAt type false leg start bytes xs new) whole two in
+    subst (λ (xs : List _). WritesLegAt type false leg start bytes legs.items xs) (stored legs new same) three

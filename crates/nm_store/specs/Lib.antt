@@ -1,3 +1,4 @@
+pub mod Copying
 pub mod Counting
 pub mod Inside
 pub mod Opening

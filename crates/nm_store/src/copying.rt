@@ -1,16 +1,22 @@
 //! The copy to a leg that joins.
-ghost use Rattle.std.specs.Prelude.{◌≡◌, ◌<◌, length, None, IsFalse};
+ghost use Rattle.std.specs.Prelude.{◌≡◌, ◌⊎◌, ◌<◌, ◌≤◌, [], length, nat_lt, is_ok, true, false, None, Some, IsFalse, OnOk, IfErr};
 ghost use Rattle.std.specs.Option.{option_map};
 ghost use Rattle.nm_leg.specs.Leg.{leg_type};
-ghost use Rattle.nm_regions.specs.Table.{has_behind, length_of, is_out};
+ghost use Rattle.nm_leg.specs.LegCalls.{HasBlock, ReadsLegAt};
+ghost use Rattle.nm_regions.specs.Table.{has_behind, length_of, is_out, copy_rest};
+ghost use Rattle.nm_resync.specs.Chunk.{Chunk};
+ghost use Rattle.nm_resync.specs.Moves.{Reads, next_move, after_read};
 ghost use Rattle.nm_rules.specs.declared.refusal.Refusal.TheVariants.{Busy};
-ghost use Rattle.nm_rules.specs.Copy.{copy_cause, copy_more_cause, copy_of, new_chunk, busy_new_chunk};
+ghost use Rattle.nm_rules.specs.Copy.{CopiesRead, CopiesWrite, GoesOn};
+ghost use Rattle.nm_rules.specs.Copy.{copy_cause, copy_more_cause, copy_of, chunk_of, chunk_or, chunk_copied, new_chunk, busy_new_chunk};
 ghost use Rattle.nm_rules.specs.Invariant.{Keeps};
 ghost use Rattle.nm_rules.specs.State.{table};
+ghost use Rattle.nm_store.specs.Copying.{FailsToCopy};
 
 use crate::store::Store;
-use nm_leg::LegPart;
-use nm_regions::CopyPlace;
+use nm_leg::{LegFault, LegPart, read_leg_at, write_leg_at};
+use nm_regions::{CopyPlace, Regions};
+use nm_resync::{Copy as CopyBuffer, Move};
 use nm_rules::Refusal;
 
 impl<L: LegPart> Store<L> {
@@ -75,5 +81,123 @@ impl<L: LegPart> Store<L> {
             return None;
         }
         self.busy_new_chunk(copy)
+    }
+
+    /// Reads the block of this number in the chunk from the master. With the first block of a chunk
+    /// the chunk opens, and with the first block of a region the copy.
+    fn copy_read(&mut self, copy: CopyPlace, number: u64) -> Result<(), u8>
+        requires keeps { Keeps (leg_type L.model L.honest) self.old }
+        requires on { GoesOn self.old copy.leg copy (chunk_of copy self.old) }
+        requires short { nat_lt number (chunk_of copy self.old).length ≡ true }
+        requires next { number ≡ length (chunk_of copy self.old).blocks }
+        ensures read { OnOk result
+            (CopiesRead (leg_type L.model L.honest) self.old self.new copy.leg) }
+        ensures failed { IfErr result
+            (FailsToCopy (leg_type L.model L.honest) self.old self.new copy.leg) }
+    {
+        let blocks = self.new_length(copy);
+        let at = self.block_of(copy) + number;
+        if read_slot(&mut self.legs, self.master, at, &mut self.buffer).is_err() {
+            return Err(self.master);
+        }
+        keep_slot(&mut self.buffer, blocks);
+        if self.regions.copy().is_none() {
+            self.regions.open_copy(copy.leg, copy.region);
+        }
+        Ok(())
+    }
+
+    /// Writes the block of this number in the chunk to the leg. With its last block the chunk
+    /// closes.
+    fn copy_write(&mut self, copy: CopyPlace, number: u64) -> Result<(), u8>
+        requires keeps { Keeps (leg_type L.model L.honest) self.old }
+        requires on { GoesOn self.old copy.leg copy (chunk_of copy self.old) }
+        requires open { self.old.chunk ≡ Some (chunk_of copy self.old) }
+        requires filled { let chunk = chunk_of copy self.old in
+            nat_lt (length chunk.blocks) chunk.length ≡ false }
+        requires next { number ≡ (chunk_of copy self.old).written }
+        ensures written { OnOk result
+            (CopiesWrite (leg_type L.model L.honest) self.old self.new copy.leg) }
+        ensures failed { IfErr result
+            (FailsToCopy (leg_type L.model L.honest) self.old self.new copy.leg) }
+    {
+        let at = self.block_of(copy) + number;
+        let bytes = &self.buffer.block(number).0;
+        if write_leg_at(&mut self.legs, copy.leg, at, bytes).is_err() {
+            return Err(copy.leg);
+        }
+        if let Some(blocks) = self.buffer.wrote() {
+            end_chunk(&mut self.regions, copy, blocks);
+        }
+        Ok(())
+    }
+
+    /// One step of the copy to the leg, which is behind: the chunk's next block is read from the
+    /// master or, once all of them are read, written to the leg. At a fault, which leg failed.
+    pub fn copy(&mut self, leg: u8) -> Result<(), u8>
+        requires keeps { Keeps (leg_type L.model L.honest) self.old }
+        requires asked { copy_cause self.old leg ≡ None }
+        requires behind { has_behind leg (table self.old) ≡ true }
+        requires free { copy_more_cause self.old leg ≡ None }
+        ensures copied { OnOk result (CopiesRead (leg_type L.model L.honest) self.old self.new leg
+            ⊎ CopiesWrite (leg_type L.model L.honest) self.old self.new leg) }
+        ensures failed { IfErr result
+            (FailsToCopy (leg_type L.model L.honest) self.old self.new leg) }
+    {
+        let copy = self.copy_of(leg).unwrap();
+        match self.buffer.next_move() {
+            Move::Open => self.copy_read(copy, 0),
+            Move::Read(number) => self.copy_read(copy, number),
+            Move::Write(number) => self.copy_write(copy, number),
+        }
+    }
+}
+
+/// Reads a block of a leg into the buffer's slot.
+fn read_slot<L: LegPart>(
+    legs: &mut [L],
+    leg: u8,
+    at: u64,
+    buffer: &mut CopyBuffer,
+) -> Result<(), LegFault>
+    requires leg { leg < length legs.old }
+    requires block { HasBlock L.model legs.old leg at }
+    requires reads { Reads (next_move buffer.old) }
+    ensures reads { ReadsLegAt (leg_type L.model L.honest) (is_ok result) leg at
+        legs.old legs.new buffer.old.slot buffer.new.slot }
+    ensures others { buffer.new ≡ record buffer.old { slot = buffer.new.slot } }
+{
+    read_leg_at(legs, leg, at, buffer.slot())
+}
+
+/// Keeps the block in the buffer's slot as the chunk's next one. Where no chunk is open, one of so
+/// many blocks opens with it.
+fn keep_slot(buffer: &mut CopyBuffer, blocks: u64)
+    requires reads { Reads (next_move buffer.old) }
+    requires some { 0 < blocks }
+    requires most { blocks ≤ buffer.old.most }
+    ensures kept { let new : Chunk = record { length = blocks; blocks = []; written = 0 } in
+        buffer.new.chunk ≡ after_read buffer.old.slot (Some (chunk_or buffer.old.chunk new)) }
+    ensures most { buffer.new.most ≡ buffer.old.most }
+{
+    if buffer.next_move() == Move::Open {
+        buffer.open(blocks);
+    }
+    buffer.fill();
+}
+
+/// A chunk of so many blocks of this copy's region is copied. Where that was its last one, the
+/// region is finished.
+fn end_chunk(regions: &mut Regions, copy: CopyPlace, blocks: u64)
+    requires open { regions.old.copy ≡ Some copy }
+    requires within { copy.cursor < length_of copy.region regions.old }
+    requires rest { blocks ≤ copy_rest regions.old }
+    ensures { regions.new ≡ chunk_copied blocks regions.old }
+{
+    let _blocks = regions.blocks();
+    let rest = regions.length_of(copy.region) - copy.cursor;
+    regions.advance(blocks);
+    if blocks == rest {
+        regions.finish_region();
     }
 }
