@@ -50,7 +50,8 @@ fn finish_without(regions: &mut Regions, records: &Records, leg: u8)
 }
 
 impl<L: LegPart> Store<L> {
-    /// The leg goes out, and so owes no write and has no copy. Its dirty regions are behind.
+    /// The leg goes out: no write owes it any more, its copy is dropped, and its dirty regions are
+    /// behind.
     fn take_out(&mut self, leg: u8)
         requires leg { leg < length self.old.legs }
         requires inside { LieInside self.old.place.blocks self.old.records }
@@ -63,8 +64,9 @@ impl<L: LegPart> Store<L> {
         self.records.leave(leg);
     }
 
-    /// The leg goes out. Where it was the master, the lowest leg in sync becomes the master, and
-    /// each write without an entry takes effect, by rising ticket.
+    /// The leg goes out. Where it was the master, the lowest leg in sync becomes the master, each
+    /// write without an entry takes effect, by rising ticket, and the stripe settles until no write
+    /// is under way.
     pub fn lose(&mut self, leg: u8)
         requires leg { leg < length self.old.legs }
         requires inside { LieInside self.old.place.blocks self.old.records }

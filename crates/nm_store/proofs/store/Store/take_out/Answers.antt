@@ -1,9 +1,7 @@
 -- Each write lies in the table's blocks.
-use Rattle.std.proofs.Common.{◌≡◌, ◌<◌, Some, sym, ap, ◌∙◌, subst}
+use Rattle.std.proofs.Common.{rules, ◌≡◌, ◌<◌, Some, sym, subst}
 use Rattle.nm_fanout.specs.Records.{find_record}
-use Rattle.nm_regions.specs.Changes.{gone_out}
-use Rattle.nm_regions.specs.Table.{RegionTable}
-use Rattle.nm_rules.specs.State.{StripeState, table}
+use Rattle.nm_rules.specs.State.{StripeState}
 use Rattle.nm_store.specs.Inside.{state_of}
 use Rattle.nm_store.proofs.store.Store.take_out.Goals as goal
 
@@ -11,5 +9,4 @@ pub finish_without-requires-clause-inside : goal.finish_without-requires-clause-
 finish_without-requires-clause-inside g c t r found =
     let old = state_of c.self.inside in
     let inside : r.block < old.place.blocks = subst (λ (s : StripeState _). find_record t s.records ≡ Some r → r.block < s.place.blocks) (sym c.self.view_is) (c.requires.inside t r) found in
-    let regions : c.go_out.new.self ≡ gone_out c.args.leg (table old) = c.go_out.ensures ∙ ap (λ (t : RegionTable). gone_out c.args.leg t) c.self.invariant.regions in
-    rw regions inside
+    search (rules, inside)
