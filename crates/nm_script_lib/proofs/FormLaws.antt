@@ -2,8 +2,8 @@
 use Rattle.std.proofs.Common.{◌≡◌, ℕ, Bool, true, false, cond, ◌&&◌, nat_lt, nat_le, ◌==◌, List, [], ◌∷◌, Some, None, Option, codes, refl, ap, subst, ◌∙◌, inl, inr}
 use Rattle.std.proofs.lemmas.Bool.{and_parts, and_from, ltb-true, lt-ltb, leb-true, le-leb, eqb-true, eq-eqb, false_from_ne_true, both_ways}
 use Rattle.std.proofs.lemmas.Option.{same_Some}
-use Rattle.nm_script_lib.specs.declared.policy.Policy.{Policy}
-use Rattle.nm_script_lib.specs.declared.policy.Policy.TheVariants.{RoundRobin, Striped}
+use Rattle.nm_choice.specs.declared.policy.Policy.{Policy}
+use Rattle.nm_choice.specs.declared.policy.Policy.TheVariants.{RoundRobin, Striped}
 use Rattle.nm_script_lib.specs.Forms.{policy_word, Kind, Number, Below, Within, Byte, IsOfKind, Spells, Form, Makes, Then, ThenPolicy, Keyword, NoForm, Make, IsLine}
 use Rattle.nm_script_lib.specs.Reading.{pieces, number_of, value_of, value_at, policy_at, is_word, read, read_line, if_at_end, ◌>>=◌}
 use Rattle.nm_script_lib.proofs.Numbers.{guarded, number_spells, spells_number, byte_says, byte_back}

@@ -1,20 +1,26 @@
 -- The steps of a script name blocks and legs of its stripe, before and after each step.
-use Rattle.std.proofs.Common.{◌≡◌, ℕ, ◌<◌, zero, suc, List, [], ◌∷◌, length, map, get_or, ap, ◌∙◌, arith}
-use Rattle.std.specs.List.{AllByRecursion, AllZip}
+use Rattle.std.proofs.Common.{◌≡◌, ℕ, ◌<◌, zero, suc, List, [], ◌∷◌, length, Some, get_or, refl, sym, ap, subst, ◌∙◌, arith}
+use Rattle.std.specs.List.{AllByRecursion, AllZip, slice_get}
 use Rattle.std.proofs.lemmas.List.{length-replicate}
-use Rattle.nm_replay.specs.declared.block.Block.{Block}
+use Rattle.nm_fanout.proofs.DataLemmas.{length-zero_block}
+use Rattle.nm_leg.specs.LegCalls.{EachHas}
+use Rattle.nm_leg.specs.TestLegs.{of_fuse}
+use Rattle.nm_leg.specs.declared.fuse_leg.FuseLeg.{FuseLeg}
 use Rattle.nm_stripe.specs.declared.answer.Answer.{Answer}
-use Rattle.nm_stripe.specs.declared.step.Step.{Step as StripeStep}
-use Rattle.nm_stripe.specs.Run.{Runs}
-use Rattle.nm_stripe.proofs.RunLemmas.{SameShape, step-shape, asked-later}
+use Rattle.nm_stripe.specs.declared.step.Step.{Step as MachineStep}
+use Rattle.nm_stripe.specs.declared.step.Step.TheVariants.{Replace as ReplaceStep}
+use Rattle.nm_stripe.specs.Run.{MayBeAsked, StepOf}
+use Rattle.nm_stripe.proofs.RunLemmas.{step-shape}
 use Rattle.nm_script_lib.specs.declared.mirror_line.MirrorLine.{MirrorLine}
 use Rattle.nm_script_lib.specs.declared.step.Step.{Step}
-use Rattle.nm_script_lib.specs.Forms.{keywords}
-use Rattle.nm_script_lib.specs.Grammar.{IsStepLine, IsScript, mirror_form, steps_on}
-use Rattle.nm_script_lib.specs.MemStripe.{MemStripe, InRange, in_memory, mem_legs, new_stripe, filled_block, stripe_step, CanTake}
-use Rattle.nm_script_lib.specs.Runs.{Answers}
+use Rattle.nm_script_lib.specs.declared.step.Step.TheVariants.{Ask}
+use Rattle.nm_script_lib.specs.declared.step.StripeStep.{StripeStep}
+use Rattle.nm_script_lib.specs.declared.step.StripeStep.TheVariants.{Begin, Zero, Push, Claim, Read, Replace}
+use Rattle.nm_script_lib.specs.Grammar.{IsStepLine, IsScript, mirror_form, step_form, leg_form, look_form}
+use Rattle.nm_script_lib.specs.MemStripe.{MemStripe, InRange, IsNew, HasShape, IsInside, IsAsked, IsFilled, filled_block, fuse_legs}
 use Rattle.nm_script_lib.proofs.FormLaws.{Always, line_always}
-use Rattle.nm_script_lib.proofs.Legs.{count_legs}
+use Rattle.nm_script_lib.proofs.Legs.{new_lengths, filled_length}
+use Rattle.nm_script_lib.proofs.StepLengths.{step_lengths}
 
 pub at_place : {A : Type 0} (P : A → Type 0) (xs : List A) (k : ℕ) (d : A) → k < length xs →
     AllByRecursion P xs → P (get_or xs k d)
@@ -22,50 +28,86 @@ at_place P [] k d h all = absurd (omega arith)
 at_place P (x ∷ xs) zero d h all = all.0
 at_place P (x ∷ xs) (suc k) d h all = at_place P xs k d (omega arith) all.1
 
--- a run changes neither the stripe's place nor how many legs it has
-runs_shape : (ss : List (StripeStep (List Block))) (xs : List (Answer (List Block)))
-    (old new : MemStripe) → Runs mem_legs old ss xs new → SameShape old new
-runs_shape [] [] old new h = record
-    { place = ap (λ (s : MemStripe). s.place) h; legs = ap (λ (s : MemStripe). length s.legs) h }
-runs_shape [] (x ∷ xs) old new h = absurd h
-runs_shape (s ∷ ss) [] old new h = absurd h
-runs_shape (s ∷ ss) (x ∷ xs) old new (mid, step, rest) =
-    let first = step-shape mem_legs s x old mid step in
-    let later = runs_shape ss xs mid new rest in
-    record { place = later.place ∙ first.place; legs = later.legs ∙ first.legs }
-
--- what a stripe can take, it can take after a run
-pub still_takes : (steps : List Step) (xs : List (Answer (List Block))) (old new : MemStripe)
-    (s : Step) → Answers steps xs old new → CanTake old s → CanTake new s
-still_takes steps xs old new s h can =
-    asked-later in_memory (stripe_step s) old new (runs_shape (map stripe_step steps) xs old new h) can
+-- a new stripe has the mirror's shape
+pub new_shape : (m : MirrorLine) (stripe : MemStripe) → IsNew m stripe → HasShape m stripe
+new_shape m stripe is = record {
+  blocks = ap (λ (s : MemStripe). s.place.blocks) is.state;
+  legs = is.legs.count;
+  each = new_lengths m stripe.legs is.legs;
+}
 
 fills_block : (fill : ℕ) → length (filled_block fill) ≡ 512
 unfolding filled_block
 fills_block fill = length-replicate 512 fill
 
--- each step that a line can say on a mirror, a new stripe of that mirror can take
-steps_fit : (m : MirrorLine) → Always (CanTake (new_stripe m)) (keywords (steps_on m))
+-- what a step inside the mirror asks of the stripe may be asked
+pub may_ask : (m : MirrorLine) (step : StripeStep) (asked : MachineStep FuseLeg) (stripe : MemStripe) →
+    HasShape m stripe → IsInside m (Ask step) → IsAsked m step asked →
+    MayBeAsked of_fuse stripe asked
+may_ask m (Begin block fill) asked stripe has inside is =
+    rw (is, has.blocks) (inside, fills_block fill)
+may_ask m (Zero block) asked stripe has inside is = rw (is, has.blocks) (inside, length-zero_block)
+may_ask m (Push ticket leg) asked stripe has inside is = rw (is, has.legs) inside
+may_ask m (Claim ticket) asked stripe has inside is = rw is tt
+may_ask m (Read block) asked stripe has inside is = rw (is, has.blocks) inside
+may_ask m (Replace leg fill) asked stripe has inside is =
+    rw (is.2, has.legs, has.blocks) (inside, filled_length m.blocks fill is.0 is.1)
+
+pub replacement_asked : (m : MirrorLine) (step : StripeStep) (leg fill : ℕ) (part : FuseLeg) →
+    step ≡ Replace leg fill → IsFilled m.blocks fill part →
+    IsAsked m step (ReplaceStep leg part)
+replacement_asked m step leg fill part is filled =
+    subst (λ s. IsAsked m s (ReplaceStep leg part)) (sym is) (part, filled, refl)
+
+-- a step keeps the mirror's shape
+pub keeps_shape : (m : MirrorLine) (asked : MachineStep FuseLeg) (answer : Answer FuseLeg)
+    (old new : MemStripe) → HasShape m old → MayBeAsked of_fuse old asked →
+    StepOf fuse_legs asked answer old new → HasShape m new
+keeps_shape m asked answer old new has may is =
+    let shape = step-shape fuse_legs asked answer old new is in
+    record {
+      blocks = ap (λ at. at.blocks) shape.place ∙ has.blocks;
+      legs = shape.legs ∙ has.legs;
+      each = step_lengths m.blocks asked answer old new has.blocks may is has.each;
+    }
+
+-- each step that a line can say is inside the mirror
+looks_fit : (m : MirrorLine) → Always (IsInside m) (look_form m)
+unfolding look_form
+looks_fit m = (
+  (λ leg small call most. (small, omega (arith, most.0))),
+  ((λ leg small block low. (small, low)), tt),
+)
+
+leg_steps_fit : (m : MirrorLine) → Always (IsInside m) (leg_form m)
+unfolding leg_form
+leg_steps_fit m = ((λ leg small fill byte. small), looks_fit m)
+
+steps_fit : (m : MirrorLine) → Always (IsInside m) (step_form m)
+unfolding step_form
 steps_fit m = (
-  (λ block small fill byte. (small, fills_block fill)),
+  (λ block small fill byte. small),
   (
-    (λ ticket any leg small. omega (arith, small, count_legs m.legs m.blocks)),
-    ((λ ticket any. tt), ((λ block small. small), tt)),
+    (λ block small. small),
+    (
+      (λ ticket any leg small. small),
+      ((λ ticket any. tt), ((λ block small. small), leg_steps_fit m)),
+    ),
   ),
 )
 
 all_fit : (m : MirrorLine) (others : List (List ℕ)) (steps : List Step) →
-    AllZip (IsStepLine m) others steps → AllByRecursion (CanTake (new_stripe m)) steps
+    AllZip (IsStepLine m) others steps → AllByRecursion (IsInside m) steps
 all_fit m [] [] h = tt
 all_fit m [] (s ∷ steps) h = absurd h
 all_fit m (line ∷ others) [] h = absurd h
 all_fit m (line ∷ others) (s ∷ steps) h = (
-  line_always (CanTake (new_stripe m)) (keywords (steps_on m)) line s (steps_fit m) h.0,
+  line_always (IsInside m) (step_form m) line s (steps_fit m) h.0,
   all_fit m others steps h.1,
 )
 
 pub script_fits : (text : List ℕ) (m : MirrorLine) (steps : List Step) → IsScript text m steps →
-    AllByRecursion (CanTake (new_stripe m)) steps
+    AllByRecursion (IsInside m) steps
 script_fits text m steps h = all_fit m h.others steps h.each_step
 
 mirror_ranges : Always InRange mirror_form

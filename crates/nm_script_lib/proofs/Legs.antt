@@ -1,59 +1,65 @@
--- All legs are the same.
-use Rattle.std.proofs.Common.{◌≡◌, ℕ, ◌+◌, ◌-◌, ◌/◌, ◌<◌, ◌≤◌, ◌^◌, zero, suc, List, [], ◌∷◌, ◌++◌, length, replicate, Some, refl, sym, ap, ◌∙◌, arith}
-use Rattle.std.specs.List.{slice_get}
-use Rattle.std.proofs.lemmas.List.{length-replicate, replicate-append-replicate}
+-- New legs are all alike, and a step changes neither how many legs there are nor how long they are.
+use Rattle.std.proofs.Common.{◌≡◌, ℕ, ◌+◌, ◌-◌, ◌/◌, ◌<◌, ◌≤◌, ◌^◌, zero, suc, List, [], ◌∷◌, ◌++◌, length, Some, refl, sym, ap, subst, ◌∙◌, arith}
+use Rattle.std.specs.List.{AllByRecursion, slice_get}
+use Rattle.std.proofs.lemmas.List.{length-append, length-replicate}
 use Rattle.std.proofs.lemmas.Option.{same_Some}
 use Rattle.nm_replay.specs.declared.block.Block.{Block}
-use Rattle.nm_leg.specs.Leg.{Leg, filled_array}
-use Rattle.nm_stripe.specs.State.{contents_of, contents_at}
-use Rattle.nm_script_lib.specs.MemStripe.{zero_legs}
+use Rattle.nm_leg.specs.Leg.{Leg, filled_array, filled_leg}
+use Rattle.nm_leg.specs.LegCalls.{EachHas}
+use Rattle.nm_leg.specs.TestLegs.{of_fuse}
+use Rattle.nm_leg.specs.declared.fuse_leg.FuseLeg.{FuseLeg}
+use Rattle.nm_stripe.specs.State.{contents_of}
+use Rattle.nm_script_lib.specs.declared.mirror_line.MirrorLine.{MirrorLine}
+use Rattle.nm_script_lib.specs.MemStripe.{IsFilled, AreNewLegs}
 
-one_more : {A : Type 0} (n : ℕ) (a : A) → replicate n a ++ a ∷ [] ≡ replicate (n + 1) a
-one_more n a = replicate-append-replicate n 1 a
+pub at_place : {A : Type 0} (P : A → Type 0) (xs : List A) (k : ℕ) (x : A) → slice_get xs k ≡ Some x →
+    AllByRecursion P xs → P x
+at_place P [] k x h all = cc
+at_place P (y ∷ xs) zero x h all = subst P (same_Some y x h) all.0
+at_place P (y ∷ xs) (suc k) x h all = at_place P xs k x h all.1
 
-get_alike : {A : Type 0} (n : ℕ) (a : A) (k : ℕ) → k < n → slice_get (replicate n a) k ≡ Some a
-get_alike zero a k h = absurd (omega arith)
-get_alike (suc n) a zero h = refl
-get_alike (suc n) a (suc k) h = get_alike n a k (omega arith)
+all_more : {A : Type 0} (P : A → Type 0) (xs : List A) (x : A) → AllByRecursion P xs → P x →
+    AllByRecursion P (xs ++ x ∷ [])
+all_more P [] x all here = (here, tt)
+all_more P (y ∷ xs) x all here = (all.0, all_more P xs x all.1 here)
 
-found_alike : {A : Type 0} (n : ℕ) (a : A) (k : ℕ) (x : A) → slice_get (replicate n a) k ≡ Some x →
-    x ≡ a
-found_alike zero a k x h = cc
-found_alike (suc n) a zero x h = sym (same_Some a x h)
-found_alike (suc n) a (suc k) x h = found_alike n a k x h
+-- the legs so far
+pub record LegsSoFar (n blocks : ℕ) (legs : List FuseLeg) : Type 0 where
+  pub count : length legs ≡ n
+  pub zero : AllByRecursion (IsFilled blocks 0) legs
 
-alike_contents : {L : Type 0} (model : L → Leg) (n : ℕ) (a : L) (leg other : ℕ) → leg < n →
-    other < n →
-    contents_of model (replicate n a) leg ≡ contents_of model (replicate n a) other
-alike_contents model n a leg other h k =
-    ap (contents_at model) (get_alike n a leg h) ∙
-    sym (ap (contents_at model) (get_alike n a other k))
+pub no_legs : (blocks : ℕ) (legs : List FuseLeg) → legs ≡ [] → LegsSoFar 0 blocks legs
+no_legs blocks legs is = rw is (record { count = refl; zero = tt })
 
-pub no_legs : (blocks : ℕ) → [] ≡ zero_legs 0 blocks
-unfolding zero_legs
-no_legs blocks = refl
+pub leg_more : (n blocks : ℕ) (old new : List FuseLeg) (leg : FuseLeg) →
+    LegsSoFar n blocks old → IsFilled blocks 0 leg → new ≡ old ++ leg ∷ [] →
+    LegsSoFar (n + 1) blocks new
+leg_more n blocks old new leg so_far is e = rw e (record {
+  count = length-append old (leg ∷ []) ∙ ap (λ k. k + 1) so_far.count;
+  zero = all_more (IsFilled blocks 0) old leg so_far.zero is;
+})
 
-pub leg_more : (legs blocks : ℕ) (all : List (List Block)) → all ≡ zero_legs legs blocks →
-    all ++ filled_array blocks 0 ∷ [] ≡ zero_legs (legs + 1) blocks
-unfolding zero_legs
-leg_more legs blocks all h = ap (λ r. r ++ filled_array blocks 0 ∷ []) h ∙
-    one_more legs (filled_array blocks 0)
+pub filled_length : (blocks fill : ℕ) (leg : FuseLeg) → IsFilled blocks fill leg →
+    length (of_fuse leg).contents ≡ blocks
+filled_length blocks fill leg is = ap (λ (l : Leg). length l.contents) is ∙ length-replicate blocks _
 
-pub count_legs : (legs blocks : ℕ) → length (zero_legs legs blocks) ≡ legs
-unfolding zero_legs
-count_legs legs blocks = length-replicate legs (filled_array blocks 0)
+pub new_lengths : (m : MirrorLine) (legs : List FuseLeg) → AreNewLegs m legs →
+    EachHas of_fuse legs m.blocks
+new_lengths m legs are = λ place leg found.
+    filled_length m.blocks 0 leg (at_place (IsFilled m.blocks 0) legs place leg found are.zero)
 
-pub long_legs : (legs blocks k : ℕ) (part : List Block) →
-    slice_get (zero_legs legs blocks) k ≡ Some part → length part ≡ blocks
-unfolding zero_legs
-long_legs legs blocks k part h = ap length (found_alike legs (filled_array blocks 0) k part h) ∙
-    length-replicate blocks _
+all_contents : (blocks k : ℕ) (legs : List FuseLeg) → k < length legs →
+    AllByRecursion (IsFilled blocks 0) legs →
+    contents_of of_fuse legs k ≡ filled_array blocks 0
+all_contents blocks k [] h all = absurd (omega arith)
+all_contents blocks zero (leg ∷ legs) h all = ap (λ (l : Leg). l.contents) all.0
+all_contents blocks (suc k) (leg ∷ legs) h all = all_contents blocks k legs (omega arith) all.1
 
-pub equal_legs : (model : List Block → Leg) (legs blocks leg other : ℕ) → leg < legs → other < legs →
-    contents_of model (zero_legs legs blocks) leg ≡ contents_of model (zero_legs legs blocks) other
-unfolding zero_legs
-equal_legs model legs blocks leg other h k = alike_contents model legs (filled_array blocks 0) leg
-    other h k
+pub equal_legs : (m : MirrorLine) (legs : List FuseLeg) (leg other : ℕ) → AreNewLegs m legs →
+    leg < length legs → other < length legs →
+    contents_of of_fuse legs leg ≡ contents_of of_fuse legs other
+equal_legs m legs leg other are h k =
+    all_contents m.blocks leg legs h are.zero ∙ sym (all_contents m.blocks other legs k are.zero)
 
 pub all_bits : (legs : ℕ) → 1 ≤ legs → legs ≤ 8 → 255 / 2 ^ (8 - legs) + 1 ≡ 2 ^ legs
 all_bits zero low high = absurd (omega arith)

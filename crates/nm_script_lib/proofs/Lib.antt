@@ -9,4 +9,6 @@ pub mod Legs
 pub mod RunLaws
 pub mod HistoryLaws
 pub mod EndLaws
+pub mod StepLengths
+pub mod Lines
 pub mod Inside

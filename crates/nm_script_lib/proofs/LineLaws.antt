@@ -5,9 +5,8 @@ use Rattle.std.proofs.lemmas.Bool.{cases_Bool, both_ways}
 use Rattle.std.proofs.lemmas.Option.{same_Some}
 use Rattle.nm_script_lib.specs.declared.mirror_line.MirrorLine.{MirrorLine}
 use Rattle.nm_script_lib.specs.declared.step.Step.{Step}
-use Rattle.nm_script_lib.specs.Grammar.{IsStepLine, steps_on, has_content}
+use Rattle.nm_script_lib.specs.Grammar.{IsStepLine, step_form, has_content}
 use Rattle.nm_script_lib.specs.BadLine.{IsFirst, IsBadStep}
-use Rattle.nm_script_lib.specs.Forms.{keywords}
 use Rattle.nm_script_lib.specs.Reading.{read_line}
 use Rattle.nm_script_lib.specs.ScriptReading.{first_where, content_from, onto_steps, steps_of}
 use Rattle.nm_script_lib.proofs.FormLaws.{line_sound, line_complete}
@@ -18,15 +17,15 @@ chosen true x y z h = inl (refl, h)
 chosen false x y z h = inr (refl, h)
 
 abbrev read_step : MirrorLine → List ℕ → Option Step
-read_step m line = read_line (keywords (steps_on m)) line
+read_step m line = read_line (step_form m) line
 
 step_sound : (m : MirrorLine) (line : List ℕ) (s : Step) → read_step m line ≡ Some s →
     IsStepLine m line s
-step_sound m line s h = line_sound (keywords (steps_on m)) line s h
+step_sound m line s h = line_sound (step_form m) line s h
 
 step_read : (m : MirrorLine) (line : List ℕ) (s : Step) → IsStepLine m line s →
     read_step m line ≡ Some s
-step_read m line s h = line_complete (keywords (steps_on m)) line s h
+step_read m line s h = line_complete (step_form m) line s h
 
 -- the same as the first line of which a fact holds, where the first line here is the n-th
 pub record FirstFrom (Holds : List ℕ →

@@ -1,20 +1,16 @@
 -- A run of steps, one step longer; and what is written of it.
-use Rattle.std.proofs.Common.{◌≡◌, ℕ, List, [], ◌∷◌, ◌++◌, Option, Some, None, Result, Ok, Err, OnOk, OnErr, map, refl, sym, ap, subst, ◌∙◌, append_assoc}
+use Rattle.std.proofs.Common.{◌≡◌, ℕ, List, [], ◌∷◌, ◌++◌, Option, Some, None, Result, Ok, Err, OnOk, OnErr, refl, sym, ap, subst, ◌∙◌, append_assoc}
 use Rattle.std.specs.List.{flat_map}
-use Rattle.std.proofs.lemmas.List.{map-append, flat_map_more, append-nil}
+use Rattle.std.proofs.lemmas.List.{flat_map_more, append-nil}
 use Rattle.std.proofs.lemmas.Grind.{flat_map-append}
 use Rattle.std.specs.Io.KnownBytes.{Appends, Keeps}
 use Rattle.std.proofs.KnownBytes.{Appends-trans, Appends-nil}
-use Rattle.nm_replay.specs.declared.block.Block.{Block}
-use Rattle.nm_stripe.specs.declared.answer.Answer.{Answer}
-use Rattle.nm_stripe.specs.declared.step.Step.{Step as StripeStep}
-use Rattle.nm_stripe.specs.Run.{StepOf, Runs}
 use Rattle.nm_script_lib.specs.declared.mirror_line.MirrorLine.{MirrorLine}
 use Rattle.nm_script_lib.specs.declared.step.Step.{Step}
-use Rattle.nm_script_lib.specs.MemStripe.{MemStripe, mem_legs, new_stripe, stripe_step}
-use Rattle.nm_script_lib.specs.Printing.{answer_line, answer_lines}
+use Rattle.nm_script_lib.specs.MemStripe.{MemStripe, IsNew}
+use Rattle.nm_script_lib.specs.Printing.{ended_line}
 use Rattle.nm_script_lib.specs.Streams.{AppendsPrefix, FlushesPrefix}
-use Rattle.nm_script_lib.specs.Runs.{Answers, history, run_text, RunsSteps, RunsPrefix, WholeRun, PartOfRun, FirstSteps, AllSteps, Writes}
+use Rattle.nm_script_lib.specs.Runs.{Prints, PrintsAll, lines_of, history, run_text, AddsLine, RunsSteps, RunsPrefix, WholeRun, PartOfRun, NoSteps, FirstSteps, AllSteps, Writes}
 
 pub on_err : {T E : Type 0} (r : Result T E) (P : Type 0) → P → OnErr r P
 on_err (Ok x) P p = tt
@@ -22,25 +18,18 @@ on_err (Err e) P p = p
 
 -- one more step of a run
 
-runs_more : (ss : List (StripeStep (List Block))) (xs : List (Answer (List Block)))
-    (a b c : MemStripe) (s : StripeStep (List Block)) (x : Answer (List Block)) →
-    Runs mem_legs a ss xs b → StepOf mem_legs s x b c →
-    Runs mem_legs a (ss ++ s ∷ []) (xs ++ x ∷ []) c
-runs_more [] [] a b c s x e h = (c, rw (← e) h, refl)
-runs_more [] (y ∷ xs) a b c s x e h = absurd e
-runs_more (r ∷ ss) [] a b c s x e h = absurd e
-runs_more (r ∷ ss) (y ∷ xs) a b c s x e h = (e.0, e.1, runs_more ss xs e.0 b c s x e.2 h)
+prints_more : (m : MirrorLine) (ss : List Step) (xs : List (List ℕ)) (a b c : MemStripe) (s : Step)
+    (x : List ℕ) → PrintsAll m ss xs a b → Prints m s x b c →
+    PrintsAll m (ss ++ s ∷ []) (xs ++ x ∷ []) a c
+prints_more m [] [] a b c s x e h = (c, rw (← e) h, refl)
+prints_more m [] (y ∷ xs) a b c s x e h = absurd e
+prints_more m (r ∷ ss) [] a b c s x e h = absurd e
+prints_more m (r ∷ ss) (y ∷ xs) a b c s x e h =
+    (e.0, e.1, prints_more m ss xs e.0 b c s x e.2 h)
 
-pub answers_more : (prefix : List Step) (xs : List (Answer (List Block))) (a b c : MemStripe)
-    (s : Step) (x : Answer (List Block)) →
-    Answers prefix xs a b → StepOf mem_legs (stripe_step s) x b c →
-    Answers (prefix ++ s ∷ []) (xs ++ x ∷ []) a c
-answers_more prefix xs a b c s x e h =
-    rw (map-append stripe_step prefix (s ∷ [])) (runs_more (map stripe_step prefix) xs a b c (stripe_step s) x e h)
-
-lines_more : (before : List ℕ) (xs : List (Answer (List Block))) (x : Answer (List Block)) →
-    before ++ answer_lines (xs ++ x ∷ []) ≡ (before ++ answer_lines xs) ++ answer_line x
-lines_more before xs x = sym (flat_map_more answer_line before xs x)
+lines_more : (before : List ℕ) (xs : List (List ℕ)) (x : List ℕ) →
+    before ++ lines_of (xs ++ x ∷ []) ≡ (before ++ lines_of xs) ++ ended_line x
+lines_more before xs x = sym (flat_map_more ended_line before xs x)
 
 -- what was flushed, and then more
 pub flushes_more : (old cur new : Option (List ℕ)) (all some more kept : List ℕ) →
@@ -69,49 +58,53 @@ pub prefix_flushed : (old new : Option (List ℕ)) (all kept : List ℕ) → Flu
     AppendsPrefix old new all
 prefix_flushed old new all kept h = (h.0, kept, h.1, h.2)
 
-pub steps_more : (prefix : List Step) (before mid after : MemStripe) (s : Step)
-    (a : Answer (List Block)) (old cur new : Option (List ℕ)) (buffer some kept : List ℕ) →
-    RunsSteps prefix before mid (λ text. FlushesPrefix old cur (buffer ++ text) some) →
-    StepOf mem_legs (stripe_step s) a mid after →
-    FlushesPrefix cur new (some ++ answer_line a) kept →
-    RunsSteps (prefix ++ s ∷ []) before after (λ text. FlushesPrefix old new (buffer ++ text) kept)
-steps_more prefix before mid after s a old cur new buffer some kept h step p = record {
-  answers = h.answers ++ a ∷ [];
-  answered = answers_more prefix h.answers before mid after s a h.answered step;
-  written = rw (lines_more buffer h.answers a)
-      (flushes_more old cur new (buffer ++ answer_lines h.answers) some (answer_line a) kept
-      h.written p);
+pub steps_more : (m : MirrorLine) (prefix : List Step) (before mid after : MemStripe) (s : Step)
+    (old cur new : Option (List ℕ)) (buffer some added kept : List ℕ) →
+    RunsSteps m prefix before mid (λ text. FlushesPrefix old cur (buffer ++ text) some) →
+    AddsLine m s mid after some added →
+    FlushesPrefix cur new added kept →
+    RunsSteps m (prefix ++ s ∷ []) before after
+    (λ text. FlushesPrefix old new (buffer ++ text) kept)
+steps_more m prefix before mid after s old cur new buffer some added kept h line p = record {
+  texts = h.texts ++ line.text ∷ [];
+  printed = prints_more m prefix h.texts before mid after s line.text h.printed line.prints;
+  written = rw (lines_more buffer h.texts line.text)
+      (flushes_more old cur new (buffer ++ lines_of h.texts) some (ended_line line.text) kept
+      h.written (rw line.added at p));
 }
 
 -- a run ends early, before or after the line of its last step
-pub stopped_before : (prefix rest steps : List Step) (before mid : MemStripe) (old cur : Option (List ℕ))
-    (buffer some : List ℕ) → steps ≡ prefix ++ rest →
-    RunsSteps prefix before mid (λ text. FlushesPrefix old cur (buffer ++ text) some) → RunsPrefix steps before (λ text. AppendsPrefix old cur (buffer ++ text))
-stopped_before prefix rest steps before mid old cur buffer some e h = record {
+pub stopped_before : (m : MirrorLine) (prefix rest steps : List Step) (before mid : MemStripe)
+    (old cur : Option (List ℕ)) (buffer some : List ℕ) → steps ≡ prefix ++ rest →
+    RunsSteps m prefix before mid (λ text. FlushesPrefix old cur (buffer ++ text) some) →
+    RunsPrefix m steps before (λ text. AppendsPrefix old cur (buffer ++ text))
+stopped_before m prefix rest steps before mid old cur buffer some e h = record {
   prefix = prefix;
   rest = rest;
-  answers = h.answers;
+  texts = h.texts;
   after = mid;
   split = e;
-  answered = h.answered;
-  written = prefix_flushed old cur (buffer ++ answer_lines h.answers) some h.written;
+  printed = h.printed;
+  written = prefix_flushed old cur (buffer ++ lines_of h.texts) some h.written;
 }
 
-pub stopped_after : (prefix rest steps : List Step) (before mid after : MemStripe) (s : Step)
-    (a : Answer (List Block)) (old cur new : Option (List ℕ)) (buffer some : List ℕ) →
-    steps ≡ (prefix ++ s ∷ []) ++ rest → RunsSteps prefix before mid (λ text. FlushesPrefix old cur (buffer ++ text) some) →
-    StepOf mem_legs (stripe_step s) a mid after →
-    AppendsPrefix cur new (some ++ answer_line a) → RunsPrefix steps before (λ text. AppendsPrefix old new (buffer ++ text))
-stopped_after prefix rest steps before mid after s a old cur new buffer some e h step w = record {
+pub stopped_after : (m : MirrorLine) (prefix rest steps : List Step) (before mid after : MemStripe)
+    (s : Step) (old cur new : Option (List ℕ)) (buffer some added : List ℕ) →
+    steps ≡ (prefix ++ s ∷ []) ++ rest →
+    RunsSteps m prefix before mid (λ text. FlushesPrefix old cur (buffer ++ text) some) →
+    AddsLine m s mid after some added →
+    AppendsPrefix cur new added →
+    RunsPrefix m steps before (λ text. AppendsPrefix old new (buffer ++ text))
+stopped_after m prefix rest steps before mid after s old cur new buffer some added e h line w = record {
   prefix = prefix ++ s ∷ [];
   rest = rest;
-  answers = h.answers ++ a ∷ [];
+  texts = h.texts ++ line.text ∷ [];
   after = after;
   split = e;
-  answered = answers_more prefix h.answers before mid after s a h.answered step;
-  written = rw (lines_more buffer h.answers a)
-      (prefix_more old cur new (buffer ++ answer_lines h.answers) some (answer_line a)
-      h.written w);
+  printed = prints_more m prefix h.texts before mid after s line.text h.printed line.prints;
+  written = rw (lines_more buffer h.texts line.text)
+      (prefix_more old cur new (buffer ++ lines_of h.texts) some (ended_line line.text)
+      h.written (rw line.added at w));
 }
 
 -- the lines of a list of things, one thing longer, or cut anywhere
@@ -212,46 +205,46 @@ whole_more old cur new all some more h k =
 
 pub run_not_opened : (m : MirrorLine) (steps : List Step) (a : Option (List ℕ)) →
     Writes (PartOfRun m steps) (AppendsPrefix a a)
-run_not_opened m steps a = ([], FirstSteps [] steps [] (new_stripe m) refl refl, prefix_none a [])
+run_not_opened m steps a = ([], NoSteps, prefix_none a [])
 
-pub run_stopped : (m : MirrorLine) (steps : List Step) (old new : Option (List ℕ)) (buffer : List ℕ) →
-    buffer ≡ [] →
-    RunsPrefix steps (new_stripe m) (λ text. AppendsPrefix old new (buffer ++ text)) →
+pub run_stopped : (m : MirrorLine) (steps : List Step) (start : MemStripe)
+    (old new : Option (List ℕ)) (buffer : List ℕ) → IsNew m start → buffer ≡ [] →
+    RunsPrefix m steps start (λ text. AppendsPrefix old new (buffer ++ text)) →
     Writes (PartOfRun m steps) (AppendsPrefix old new)
-run_stopped m steps old new buffer e h = (
-  answer_lines h.answers,
-  FirstSteps h.prefix h.rest h.answers h.after h.split h.answered,
-  subst (λ (x : List ℕ). AppendsPrefix old new (x ++ answer_lines h.answers)) e h.written,
+run_stopped m steps start old new buffer is e h = (
+  lines_of h.texts,
+  FirstSteps start h.after h.prefix h.rest h.texts is h.split h.printed,
+  subst (λ (x : List ℕ). AppendsPrefix old new (x ++ lines_of h.texts)) e h.written,
 )
 
-abbrev done : (m : MirrorLine) (steps : List Step) (end : MemStripe) (old new : Option (List ℕ))
-    (buffer rest : List ℕ) →
-    (h : RunsSteps steps (new_stripe m) end (λ text. FlushesPrefix old new (buffer ++ text) rest)) →
-    WholeRun m steps (run_text h.answers end)
-done m steps end old new buffer rest h = record
-    { answers = h.answers; end = end; answered = h.answered; whole = refl }
+abbrev done : (m : MirrorLine) (steps : List Step) (start end : MemStripe)
+    (old new : Option (List ℕ)) (buffer rest : List ℕ) → IsNew m start →
+    (h : RunsSteps m steps start end (λ text. FlushesPrefix old new (buffer ++ text) rest)) →
+    WholeRun m steps (run_text h.texts end)
+done m steps start end old new buffer rest is h = record
+    { start = start; new = is; texts = h.texts; end = end; printed = h.printed; whole = refl }
 
-pub run_done : (m : MirrorLine) (steps : List Step) (end : MemStripe) (old cur new : Option (List ℕ))
-    (buffer rest : List ℕ) → buffer ≡ [] →
-    RunsSteps steps (new_stripe m) end (λ text. FlushesPrefix old cur (buffer ++ text) rest) →
+pub run_done : (m : MirrorLine) (steps : List Step) (start end : MemStripe)
+    (old cur new : Option (List ℕ)) (buffer rest : List ℕ) → IsNew m start → buffer ≡ [] →
+    RunsSteps m steps start end (λ text. FlushesPrefix old cur (buffer ++ text) rest) →
     Appends cur new (rest ++ history end) → Writes (WholeRun m steps) (Appends old new)
-run_done m steps end old cur new buffer rest e h w = (
-  run_text h.answers end,
-  done m steps end old cur buffer rest h,
-  subst (λ (x : List ℕ). Appends old new ((x ++ answer_lines h.answers) ++ history end)) e
-      (whole_more old cur new (buffer ++ answer_lines h.answers) rest (history end) h.written w),
+run_done m steps start end old cur new buffer rest is e h w = (
+  run_text h.texts end,
+  done m steps start end old cur buffer rest is h,
+  subst (λ (x : List ℕ). Appends old new ((x ++ lines_of h.texts) ++ history end)) e
+      (whole_more old cur new (buffer ++ lines_of h.texts) rest (history end) h.written w),
 )
 
-pub run_cut : (m : MirrorLine) (steps : List Step) (end : MemStripe) (old cur new : Option (List ℕ))
-    (buffer rest : List ℕ) → buffer ≡ [] →
-    RunsSteps steps (new_stripe m) end (λ text. FlushesPrefix old cur (buffer ++ text) rest) →
+pub run_cut : (m : MirrorLine) (steps : List Step) (start end : MemStripe)
+    (old cur new : Option (List ℕ)) (buffer rest : List ℕ) → IsNew m start → buffer ≡ [] →
+    RunsSteps m steps start end (λ text. FlushesPrefix old cur (buffer ++ text) rest) →
     AppendsPrefix cur new (rest ++ history end) →
     Writes (PartOfRun m steps) (AppendsPrefix old new)
-run_cut m steps end old cur new buffer rest e h w = (
-  run_text h.answers end,
-  AllSteps (run_text h.answers end) (done m steps end old cur buffer rest h),
-  subst (λ (x : List ℕ). AppendsPrefix old new ((x ++ answer_lines h.answers) ++ history end)) e
-      (prefix_more old cur new (buffer ++ answer_lines h.answers) rest (history end) h.written w),
+run_cut m steps start end old cur new buffer rest is e h w = (
+  run_text h.texts end,
+  AllSteps (run_text h.texts end) (done m steps start end old cur buffer rest is h),
+  subst (λ (x : List ℕ). AppendsPrefix old new ((x ++ lines_of h.texts) ++ history end)) e
+      (prefix_more old cur new (buffer ++ lines_of h.texts) rest (history end) h.written w),
 )
 
 pub ok_then : {T E : Type 0} (r : Result T E) (P Q : Type 0) → (P → Q) → OnOk r P → OnOk r Q

@@ -3,8 +3,8 @@ use Rattle.std.specs.Prelude.{◌≡◌, ℕ, ◌^◌, ◌<◌, ◌≤◌, ◌/�
 use Rattle.std.specs.List.{join_with_byte, AllByRecursion}
 use Rattle.std.specs.Fmt.{digit_glyph}
 use Rattle.std.specs.Str.Parse.{IsNumeral, digits_value}
-use Rattle.nm_script_lib.specs.declared.policy.Policy.{Policy}
-use Rattle.nm_script_lib.specs.declared.policy.Policy.TheVariants.{RoundRobin, Striped}
+use Rattle.nm_choice.specs.declared.policy.Policy.{Policy}
+use Rattle.nm_choice.specs.declared.policy.Policy.TheVariants.{RoundRobin, Striped}
 
 -- The pieces of a text: the separator stands between each two, and nowhere else.
 pub record AreSeparated (separator : ℕ) (text : List ℕ) (pieces : List (List ℕ)) : Type 0 where
@@ -63,10 +63,11 @@ one kind make = Then kind (λ n. Makes (make n))
 abbrev pub two : {A : Type 0} → Kind → Kind → (ℕ → ℕ → A) → Form A
 two first second make = Then first (λ m. Then second (λ n. Makes (make m n)))
 
--- The first row whose keyword is the next word, and its form for the words after it.
-abbrev pub keywords : {A : Type 0} → List (List ℕ × Form A) → Form A
-keywords [] = NoForm
-keywords ((name, rest) ∷ rows) = Keyword name rest (keywords rows)
+-- The first row whose keyword is the next word, and its form for the words after it; where there is
+-- none, the other form.
+abbrev pub keywords : {A : Type 0} → List (List ℕ × Form A) → Form A → Form A
+keywords [] other = other
+keywords ((name, rest) ∷ rows) other = Keyword name rest (keywords rows other)
 
 -- The words have this form, and make this.
 abbrev pub Make : {A : Type 0} → Form A → List (List ℕ) → A → Type 0

@@ -1,18 +1,33 @@
 -- The script language: which bytes are a script, and what it says.
-use Rattle.std.specs.Prelude.{◌≡◌, ℕ, ◌^◌, Bool, false, List, [], ◌∷◌, ◌==◌, not, IsUtf8, codes, filter}
+use Rattle.std.specs.Prelude.{◌≡◌, ℕ, ◌^◌, ◌-◌, Bool, false, List, [], ◌∷◌, ◌==◌, not, IsUtf8, codes, filter}
 use Rattle.std.specs.List.{AllZip, AllByRecursion}
 use Rattle.nm_script_lib.specs.declared.mirror_line.MirrorLine.{MirrorLine}
 use Rattle.nm_script_lib.specs.declared.step.Step.{Step}
-use Rattle.nm_script_lib.specs.declared.step.Step.TheVariants.{Begin, Push, Claim, Read}
-use Rattle.nm_script_lib.specs.Forms.{Number, Below, Within, Byte, Form, Makes, Then, ThenPolicy, one, two, keywords, IsLine, AreSeparated}
+use Rattle.nm_script_lib.specs.declared.step.Step.TheVariants.{Ask, Fuse, Peek}
+use Rattle.nm_script_lib.specs.declared.step.StripeStep.TheVariants.{Begin, Zero, Push, Claim, Read, Replace}
+use Rattle.nm_script_lib.specs.Forms.{Number, Below, Within, Byte, Form, Makes, Then, ThenPolicy, NoForm, one, two, keywords, IsLine, AreSeparated}
 
--- The steps on such a mirror: each step's word, its arguments, and the step.
-abbrev pub steps_on : MirrorLine → List (List ℕ × Form Step)
-steps_on m =
-    (codes "begin", two (Below m.blocks) Byte Begin) ∷
-    (codes "push", two Number (Below m.legs) Push) ∷
-    (codes "claim", one Number Claim) ∷
-    (codes "read", one (Below m.blocks) Read) ∷ []
+-- The steps that the stripe has no part in: each one's word, its arguments, and the step.
+unfoldable pub look_form : MirrorLine → Form Step
+look_form m = keywords (
+    (codes "fuse", two (Below m.legs) (Within 1 (2 ^ 64 - 1)) Fuse) ∷
+    (codes "peek", two (Below m.legs) (Below m.blocks) Peek) ∷ []) NoForm
+
+-- The steps of the stripe that bring a leg in or out, and those above.
+unfoldable pub leg_form : MirrorLine → Form Step
+leg_form m = keywords (
+    (codes "replace", two (Below m.legs) Byte (λ leg fill. Ask (Replace leg fill))) ∷ [])
+    (look_form m)
+
+-- All steps on such a mirror: those that write and read blocks, and those above.
+unfoldable pub step_form : MirrorLine → Form Step
+step_form m = keywords (
+    (codes "begin", two (Below m.blocks) Byte (λ block fill. Ask (Begin block fill))) ∷
+    (codes "zero", one (Below m.blocks) (λ block. Ask (Zero block))) ∷
+    (codes "push", two Number (Below m.legs) (λ ticket leg. Ask (Push ticket leg))) ∷
+    (codes "claim", one Number (λ ticket. Ask (Claim ticket))) ∷
+    (codes "read", one (Below m.blocks) (λ block. Ask (Read block))) ∷ [])
+    (leg_form m)
 
 -- The arguments of the mirror line: LEGS BLOCKS REGION CHUNK POLICY FIRST, each in its range.
 abbrev pub mirror_args : Form MirrorLine
@@ -34,11 +49,11 @@ mirror_args =
 
 -- The mirror line.
 abbrev pub mirror_form : Form MirrorLine
-mirror_form = keywords ((codes "mirror", mirror_args) ∷ [])
+mirror_form = keywords ((codes "mirror", mirror_args) ∷ []) NoForm
 
 -- The line of a step on such a mirror.
 abbrev pub IsStepLine : MirrorLine → List ℕ → Step → Type 0
-IsStepLine m line step = IsLine (keywords (steps_on m)) line step
+IsStepLine m line step = IsLine (step_form m) line step
 
 -- The line that says what mirror the steps run on.
 abbrev pub IsMirrorLine : List ℕ → MirrorLine → Type 0

@@ -1,28 +1,29 @@
--- The stripe that a script runs: memory legs of zero bytes, all in sync.
-use Rattle.std.specs.Prelude.{true, ℕ, ◌≤◌, ◌^◌, List, replicate}
-use Rattle.nm_replay.specs.declared.block.Block.{Block}
-use Rattle.nm_fanout.specs.declared.block_data.Data.TheVariants.{Cut}
-use Rattle.nm_leg.specs.Leg.{Leg, filled_array, LegType, leg_type}
-use Rattle.nm_stripe.specs.declared.step.Step.{Step as StripeStep}
-use Rattle.nm_stripe.specs.declared.step.Step.TheVariants.{Begin as BeginStep, Push as PushStep, Claim as ClaimStep, Read as ReadStep}
+-- The stripe that a script runs: legs in memory, each with a fuse, of zero bytes and all in sync.
+use Rattle.std.specs.Prelude.{◌≡◌, true, ℕ, ◌<◌, ◌≤◌, ◌^◌, List, length, replicate}
+use Rattle.std.specs.List.{AllByRecursion}
+use Rattle.nm_fanout.specs.declared.block_data.Data.TheVariants.{Cut, Zero as Zeroes}
+use Rattle.nm_leg.specs.Leg.{LegType, leg_type, filled_leg}
+use Rattle.nm_leg.specs.LegCalls.{EachHas}
+use Rattle.nm_leg.specs.TestLegs.{of_fuse}
+use Rattle.nm_leg.specs.declared.fuse_leg.FuseLeg.{FuseLeg}
+use Rattle.nm_stripe.specs.declared.at.At.{At}
+use Rattle.nm_stripe.specs.declared.step.Step.{Step as MachineStep}
+use Rattle.nm_stripe.specs.declared.step.Step.TheVariants.{Begin as BeginStep, Push as PushStep, Claim as ClaimStep, Read as ReadStep, Replace as ReplaceStep}
 use Rattle.nm_stripe.specs.State.{StripeState}
-use Rattle.nm_stripe.specs.Run.{MayBeAsked}
 use Rattle.nm_stripe.specs.Opening.{opened}
 use Rattle.nm_script_lib.specs.declared.mirror_line.MirrorLine.{MirrorLine}
 use Rattle.nm_script_lib.specs.declared.step.Step.{Step}
-use Rattle.nm_script_lib.specs.declared.step.Step.TheVariants.{Begin, Push, Claim, Read}
+use Rattle.nm_script_lib.specs.declared.step.Step.TheVariants.{Ask, Fuse, Peek}
+use Rattle.nm_script_lib.specs.declared.step.StripeStep.{StripeStep}
+use Rattle.nm_script_lib.specs.declared.step.StripeStep.TheVariants.{Begin, Zero, Push, Claim, Read, Replace}
 
--- A leg in memory holds its blocks, all of them durable, and no call of it fails.
-abbrev pub in_memory : List Block → Leg
-in_memory blocks = record { contents = blocks; durable = blocks; faults = 0 }
-
--- The type of such legs: all of them are honest.
-abbrev pub mem_legs : LegType (List Block)
-mem_legs = leg_type in_memory true
+-- The type of a script's legs: all of them are honest.
+abbrev pub fuse_legs : LegType FuseLeg
+fuse_legs = leg_type of_fuse true
 
 -- The state of a stripe of such legs.
 abbrev pub MemStripe : Type 0
-MemStripe = StripeState (List Block)
+MemStripe = StripeState FuseLeg
 
 -- The numbers of a mirror line are in their ranges.
 pub record InRange (m : MirrorLine) : Type 0 where
@@ -32,27 +33,51 @@ pub record InRange (m : MirrorLine) : Type 0 where
   pub chunk : (1 ≤ m.chunk) × (m.chunk ≤ m.region)
   pub first : m.first ≤ 2 ^ 63
 
--- As many legs of zero bytes as the mirror has, of its length.
-unfoldable pub zero_legs : ℕ → ℕ → List (List Block)
-zero_legs legs blocks = replicate legs (filled_array blocks 0)
+-- A leg of this many blocks of one byte, all of it durable, of which no call has failed.
+abbrev pub IsFilled : ℕ → ℕ → FuseLeg → Type 0
+IsFilled blocks fill leg = of_fuse leg ≡ filled_leg blocks fill
 
--- A new stripe has the mirror's shape, zero bytes on each leg, and the mirror's first number.
-abbrev pub new_stripe : MirrorLine → MemStripe
-new_stripe m = opened
-    (record { stripe = 0; blocks = m.blocks; region = m.region; chunk = m.chunk })
-    (zero_legs m.legs m.blocks) m.first
+-- As many legs of zero bytes as the mirror has, of its length.
+pub record AreNewLegs (m : MirrorLine) (legs : List FuseLeg) : Type 0 where
+  pub count : length legs ≡ m.legs
+  pub zero : AllByRecursion (IsFilled m.blocks 0) legs
+
+-- The place of the stripe.
+abbrev pub place_of : MirrorLine → At
+place_of m = record { stripe = 0; blocks = m.blocks; region = m.region; chunk = m.chunk }
+
+-- A new stripe has the mirror's shape, such legs, and the mirror's first number.
+pub record IsNew (m : MirrorLine) (stripe : MemStripe) : Type 0 where
+  pub legs : AreNewLegs m stripe.legs
+  pub state : stripe ≡ opened (place_of m) stripe.legs m.first
+
+-- The stripe has the mirror's blocks and legs. Every step keeps it so.
+pub record HasShape (m : MirrorLine) (stripe : MemStripe) : Type 0 where
+  pub blocks : stripe.place.blocks ≡ m.blocks
+  pub legs : length stripe.legs ≡ m.legs
+  pub each : EachHas of_fuse stripe.legs m.blocks
+
+-- The step names blocks and legs that the mirror has.
+abbrev pub IsInside : MirrorLine → Step → Type 0
+IsInside m (Ask (Begin block fill)) = block < m.blocks
+IsInside m (Ask (Zero block)) = block < m.blocks
+IsInside m (Ask (Push ticket leg)) = leg < m.legs
+IsInside m (Ask (Claim ticket)) = Unit {0}
+IsInside m (Ask (Read block)) = block < m.blocks
+IsInside m (Ask (Replace leg fill)) = leg < m.legs
+IsInside m (Fuse leg call) = (leg < m.legs) × (0 < call)
+IsInside m (Peek leg block) = (leg < m.legs) × (block < m.blocks)
 
 -- A block of one byte throughout.
 unfoldable pub filled_block : ℕ → List ℕ
 filled_block fill = replicate 512 fill
 
--- The stripe's step for a step of a script. A begin hands in 512 bytes of its fill.
-abbrev pub stripe_step : Step → StripeStep (List Block)
-stripe_step (Begin block fill) = BeginStep block (Cut (filled_block fill))
-stripe_step (Push ticket leg) = PushStep ticket leg
-stripe_step (Claim ticket) = ClaimStep ticket
-stripe_step (Read block) = ReadStep block
-
--- The stripe may be asked for this step: it has the step's block and leg.
-abbrev pub CanTake : MemStripe → Step → Type 0
-CanTake stripe step = MayBeAsked in_memory stripe (stripe_step step)
+-- What a step of a script asks of the stripe. A begin hands in 512 bytes, a replace a new leg.
+abbrev pub IsAsked : MirrorLine → StripeStep → MachineStep FuseLeg → Type 0
+IsAsked m (Begin block fill) asked = asked ≡ BeginStep block (Cut (filled_block fill))
+IsAsked m (Zero block) asked = asked ≡ BeginStep block Zeroes
+IsAsked m (Push ticket leg) asked = asked ≡ PushStep ticket leg
+IsAsked m (Claim ticket) asked = asked ≡ ClaimStep ticket
+IsAsked m (Read block) asked = asked ≡ ReadStep block
+IsAsked m (Replace leg fill) asked =
+    (part : FuseLeg) × IsFilled m.blocks fill part × (asked ≡ ReplaceStep leg part)

@@ -2,6 +2,7 @@
 use Rattle.std.specs.Prelude.{ℕ, List, [], ◌∷◌, ◌++◌, ◌==◌, Bool, true, false, if◌then◌else◌, length, slice_index, codes, decimal}
 use Rattle.std.specs.List.{flat_map, list_all}
 use Rattle.nm_replay.specs.declared.block.Block.{Block}
+use Rattle.nm_leg.specs.declared.fuse_leg.FuseLeg.{FuseLeg}
 use Rattle.nm_replay.specs.declared.entry.Kind.{Kind}
 use Rattle.nm_replay.specs.declared.entry.Kind.TheVariants.{Read, Write}
 use Rattle.nm_replay.specs.declared.entry.Entry.{Entry}
@@ -28,7 +29,7 @@ fill_text (Same byte) = hex_byte byte
 fill_text Mixed = codes "mixed"
 
 -- A step's answer, without the end of its line.
-abbrev pub answer_text : Answer (List Block) → List ℕ
+abbrev pub answer_text : Answer FuseLeg → List ℕ
 answer_text (Begun ticket) = codes "begun " ++ decimal ticket
 answer_text (Pushed owed) = codes "pushed " ++ decimal owed
 answer_text (Complete number) = codes "complete " ++ decimal number
@@ -38,13 +39,9 @@ answer_text (Value value) =
     codes "value " ++ decimal value.entry.number ++ codes " " ++ fill_text (fill_of value.bytes.0)
 answer_text (Refused refusal handed) = codes "refused " ++ text_of refusal
 
--- The line of an answer.
-abbrev pub answer_line : Answer (List Block) → List ℕ
-answer_line answer = ended_line (answer_text answer)
-
--- The lines of answers.
-abbrev pub answer_lines : List (Answer (List Block)) → List ℕ
-answer_lines answers = flat_map answer_line answers
+-- What a leg has in a block.
+abbrev pub holds_text : Block → List ℕ
+holds_text block = codes "holds " ++ fill_text (fill_of block.0)
 
 -- What an entry did, and of which write it is.
 abbrev pub kind_text : Kind → List ℕ

@@ -3,8 +3,8 @@ use Rattle.std.specs.Prelude.{◌≡◌, ℕ, ◌+◌, ◌*◌, ◌-◌, ◌^◌
 use Rattle.std.specs.List.{slice_split}
 use Rattle.std.specs.Option.{option_copied}
 use Rattle.std.specs.Char.{is_ascii_digit}
-use Rattle.nm_script_lib.specs.declared.policy.Policy.{Policy}
-use Rattle.nm_script_lib.specs.declared.policy.Policy.TheVariants.{RoundRobin, Striped}
+use Rattle.nm_choice.specs.declared.policy.Policy.{Policy}
+use Rattle.nm_choice.specs.declared.policy.Policy.TheVariants.{RoundRobin, Striped}
 use Rattle.nm_script_lib.specs.declared.words.Words.{Words}
 use Rattle.nm_script_lib.specs.Forms.{Kind, Number, Below, Within, Byte, Form, Makes, Then, ThenPolicy, Keyword, NoForm}
 

@@ -1,18 +1,56 @@
 -- What a run of a script writes.
-use Rattle.std.specs.Prelude.{◌≡◌, ℕ, List, ◌++◌, ◌↔◌, Bool, true, IsTrue, map}
+use Rattle.std.specs.Prelude.{◌≡◌, ℕ, List, [], ◌∷◌, ◌++◌, ◌↔◌, Bool, true, IsTrue, Some, slice_get, codes}
+use Rattle.std.specs.List.{flat_map}
 use Rattle.nm_replay.specs.History.{Consistent}
 use Rattle.nm_replay.specs.declared.entry.Entry.{Entry}
 use Rattle.nm_replay.specs.declared.block.Block.{Block}
+use Rattle.nm_leg.specs.TestLegs.{of_fuse}
+use Rattle.nm_leg.specs.declared.fuse_leg.FuseLeg.{FuseLeg}
 use Rattle.nm_stripe.specs.declared.answer.Answer.{Answer}
-use Rattle.nm_stripe.specs.Run.{Runs}
+use Rattle.nm_stripe.specs.declared.step.Step.{Step as MachineStep}
+use Rattle.nm_stripe.specs.State.{contents_of}
+use Rattle.nm_stripe.specs.Run.{StepOf}
 use Rattle.nm_script_lib.specs.declared.mirror_line.MirrorLine.{MirrorLine}
 use Rattle.nm_script_lib.specs.declared.step.Step.{Step}
-use Rattle.nm_script_lib.specs.MemStripe.{MemStripe, mem_legs, new_stripe, stripe_step}
-use Rattle.nm_script_lib.specs.Printing.{answer_lines, history_lines}
+use Rattle.nm_script_lib.specs.declared.step.Step.TheVariants.{Ask, Fuse, Peek}
+use Rattle.nm_script_lib.specs.declared.step.StripeStep.{StripeStep}
+use Rattle.nm_script_lib.specs.MemStripe.{MemStripe, IsAsked, IsNew, fuse_legs}
+use Rattle.nm_script_lib.specs.Printing.{ended_line, answer_text, holds_text, history_lines}
 
--- The script's steps had these answers, one a step, one after the other.
-abbrev pub Answers : List Step → List (Answer (List Block)) → MemStripe → MemStripe → Type 0
-Answers steps answers old new = Runs mem_legs old (map stripe_step steps) answers new
+-- The stripe had this answer to what the step asks of it.
+pub record Answers (m : MirrorLine) (step : StripeStep) (answer : Answer FuseLeg)
+    (old new : MemStripe) : Type 0 where
+  pub asked : MachineStep FuseLeg
+  pub is_asked : IsAsked m step asked
+  pub answered : StepOf fuse_legs asked answer old new
+
+-- A step prints this text, and leaves the stripe so: a step of the stripe prints its answer, and
+-- any other changes nothing that a contract sees.
+abbrev pub Prints : MirrorLine → Step → List ℕ → MemStripe → MemStripe → Type 0
+Prints m (Ask step) text old new =
+    (answer : Answer FuseLeg) × Answers m step answer old new × (text ≡ answer_text answer)
+Prints m (Fuse leg call) text old new = (text ≡ codes "fused") × (new ≡ old)
+Prints m (Peek leg block) text old new =
+    (found : Block) × (slice_get (contents_of of_fuse old.legs leg) block ≡ Some found)
+    × (text ≡ holds_text found) × (new ≡ old)
+
+-- The steps print these texts, one a step, one after the other.
+abbrev pub PrintsAll : MirrorLine → List Step → List (List ℕ) → MemStripe → MemStripe → Type 0
+PrintsAll m [] [] old new = new ≡ old
+PrintsAll m (step ∷ steps) (text ∷ texts) old new =
+    (mid : MemStripe) × Prints m step text old mid × PrintsAll m steps texts mid new
+PrintsAll m steps texts old new = ⊥
+
+-- A text for each step, each on a line of its own.
+abbrev pub lines_of : List (List ℕ) → List ℕ
+lines_of texts = flat_map ended_line texts
+
+-- A step's line was added to what was there.
+pub record AddsLine (m : MirrorLine) (step : Step) (old new : MemStripe)
+    (before after : List ℕ) : Type 0 where
+  pub text : List ℕ
+  pub prints : Prints m step text old new
+  pub added : after ≡ before ++ ended_line text
 
 -- A fact about a history's lines, which have `legal yes` exactly where it is consistent.
 abbrev pub JudgesHistory : List Entry → ℕ → (List ℕ → Type 0) → Type 0
@@ -24,41 +62,44 @@ JudgesHistory entries total P =
 abbrev pub history : MemStripe → List ℕ
 history stripe = history_lines stripe.kept stripe.total true
 
--- All that a run writes: a line for each answer, then the history.
-abbrev pub run_text : List (Answer (List Block)) → MemStripe → List ℕ
-run_text answers end = answer_lines answers ++ history end
+-- All that a run writes: a line for each step, then the history.
+abbrev pub run_text : List (List ℕ) → MemStripe → List ℕ
+run_text texts end = lines_of texts ++ history end
 
 -- The whole of a run on a new stripe.
 pub record WholeRun (m : MirrorLine) (steps : List Step) (text : List ℕ) : Type 0 where
-  pub answers : List (Answer (List Block))
+  pub start : MemStripe
+  pub new : IsNew m start
+  pub texts : List (List ℕ)
   pub end : MemStripe
-  pub answered : Answers steps answers (new_stripe m) end
-  pub whole : text ≡ run_text answers end
+  pub printed : PrintsAll m steps texts start end
+  pub whole : text ≡ run_text texts end
 
--- The lines of a run that ends early: those of its first steps, or all lines.
+-- The lines of a run that ends early: none, those of its first steps, or all lines.
 pub data PartOfRun (m : MirrorLine) (steps : List Step) : List ℕ → Type 0 where
-  FirstSteps : (prefix rest : List Step) (answers : List (Answer (List Block))) (end : MemStripe)
-      → steps ≡ prefix ++ rest → Answers prefix answers (new_stripe m) end
-      → PartOfRun m steps (answer_lines answers)
+  NoSteps : PartOfRun m steps []
+  FirstSteps : (start end : MemStripe) (prefix rest : List Step) (texts : List (List ℕ))
+      → IsNew m start → steps ≡ prefix ++ rest → PrintsAll m prefix texts start end
+      → PartOfRun m steps (lines_of texts)
   AllSteps : (text : List ℕ) → WholeRun m steps text → PartOfRun m steps text
 
 -- The steps were done, and their lines were written so.
-pub record RunsSteps (steps : List Step) (before after : MemStripe) (Written : List ℕ → Type 0)
-    : Type 0 where
-  pub answers : List (Answer (List Block))
-  pub answered : Answers steps answers before after
-  pub written : Written (answer_lines answers)
+pub record RunsSteps (m : MirrorLine) (steps : List Step) (before after : MemStripe)
+    (Written : List ℕ → Type 0) : Type 0 where
+  pub texts : List (List ℕ)
+  pub printed : PrintsAll m steps texts before after
+  pub written : Written (lines_of texts)
 
 -- Some first steps were done, and their lines were written so.
-pub record RunsPrefix (steps : List Step) (before : MemStripe) (Written : List ℕ → Type 0)
-    : Type 0 where
+pub record RunsPrefix (m : MirrorLine) (steps : List Step) (before : MemStripe)
+    (Written : List ℕ → Type 0) : Type 0 where
   pub prefix : List Step
   pub rest : List Step
-  pub answers : List (Answer (List Block))
+  pub texts : List (List ℕ)
   pub after : MemStripe
   pub split : steps ≡ prefix ++ rest
-  pub answered : Answers prefix answers before after
-  pub written : Written (answer_lines answers)
+  pub printed : PrintsAll m prefix texts before after
+  pub written : Written (lines_of texts)
 
 -- Some text of this kind was written, whole or in part.
 abbrev pub Writes : (List ℕ → Type 0) → (List ℕ → Type 0) → Type 0

@@ -6,8 +6,7 @@ use Rattle.nm_script_lib.specs.declared.mirror_line.MirrorLine.{MirrorLine}
 use Rattle.nm_script_lib.specs.declared.step.Step.{Step}
 use Rattle.nm_script_lib.specs.declared.parse_error.ParseError.{ParseError}
 use Rattle.nm_script_lib.specs.declared.parse_error.ParseError.TheVariants.{Memory, BadStep}
-use Rattle.nm_script_lib.specs.Forms.{keywords}
-use Rattle.nm_script_lib.specs.Grammar.{has_content, mirror_form, steps_on}
+use Rattle.nm_script_lib.specs.Grammar.{has_content, mirror_form, step_form}
 use Rattle.nm_script_lib.specs.Reading.{pieces, is_word, read_line}
 
 -- the number of the first line that passes a test, where the first line here is the n-th
@@ -32,7 +31,7 @@ abbrev pub steps_of : MirrorLine → ℕ → List (List ℕ) → Result (List St
 steps_of m n [] = Ok []
 steps_of m n (line ∷ lines) =
     if has_content line
-    then onto_steps (read_line (keywords (steps_on m)) line) n (steps_of m (n + 1) lines)
+    then onto_steps (read_line (step_form m) line) n (steps_of m (n + 1) lines)
     else steps_of m (n + 1) lines
 
 -- some steps before those that were read

@@ -1,21 +1,23 @@
 //! Runs the steps of a script, and writes their results.
 ghost use Rattle.std.specs.Prelude.{◌≡◌, ℕ, ◌+◌, ◌<◌, ◌≤◌, List, ◌++◌, length, IfOk, IfErr, OnOk, OnErr};
 ghost use Rattle.std.specs.List.{flat_map, AllByRecursion};
-ghost use Rattle.nm_script_lib.specs.MemStripe.{InRange, CanTake, new_stripe};
+ghost use Rattle.nm_script_lib.specs.MemStripe.{InRange, IsInside, HasShape};
 ghost use Rattle.std.specs.Io.KnownBytes.{Appends};
 ghost use Rattle.nm_script_lib.specs.Streams.{AppendsPrefix, FlushesPrefix};
 ghost use Rattle.nm_script_lib.specs.Printing.{entry_line};
 ghost use Rattle.nm_script_lib.specs.RunErrors.{EndsRun};
 ghost use Rattle.nm_script_lib.specs.Runs.{RunsSteps, RunsPrefix, WholeRun, PartOfRun, JudgesHistory, Writes, history};
 
-use crate::mem_stripe::{open, step};
-use crate::printing::{put_answer, put_counts, put_entry, put_legal};
+use crate::do_step::do_step;
+use crate::mem_stripe::open;
+use crate::mirror_line::MirrorLine;
+use crate::printing::{put_counts, put_entry, put_legal};
 use crate::run_error::RunError;
 use crate::scripts::Script;
 use crate::step::Step;
 use crate::streams::send;
 use crate::write_error::WriteError;
-use nm_leg::MemLeg;
+use nm_leg::FuseLeg;
 use nm_replay::{Entry, check_indexed};
 use nm_stripe::Stripe;
 use std::alloc::Global;
@@ -45,22 +47,23 @@ fn flush_if_full<W: Write>(out: &mut W, buffer: &mut Vec<u8>) -> Result<(), Writ
 /// Does the steps in order, and writes a line for each.
 fn run_steps<W: Write>(
     alloc: Global,
-    stripe: &mut Stripe<MemLeg>,
+    mirror: &MirrorLine,
+    stripe: &mut Stripe<FuseLeg>,
     steps: &[Step],
     out: &mut W,
     buffer: &mut Vec<u8>,
 ) -> Result<(), RunError>
-    requires { AllByRecursion (CanTake stripe.old) steps.now }
-    ensures ok { OnOk result (RunsSteps steps.now stripe.old stripe.new (λ text.
+    requires shape { HasShape mirror.now stripe.old }
+    requires inside { AllByRecursion (IsInside mirror.now) steps.now }
+    ensures ok { OnOk result (RunsSteps mirror.now steps.now stripe.old stripe.new (λ text.
         FlushesPrefix (W.contents out.old) (W.contents out.new)
         (buffer.old.items ++ text) buffer.new.items)) }
-    ensures err { OnErr result (RunsPrefix steps.now stripe.old (λ text.
+    ensures err { OnErr result (RunsPrefix mirror.now steps.now stripe.old (λ text.
         AppendsPrefix (W.contents out.old) (W.contents out.new) (buffer.old.items ++ text))) }
     ensures cause { IfErr result EndsRun }
 {
     for asked in steps {
-        let answer = step(alloc, stripe, *asked)?;
-        put_answer(buffer, &answer)?;
+        do_step(alloc, mirror, stripe, *asked, buffer)?;
         flush_if_full(out, buffer)?;
     }
     Ok(())
@@ -111,7 +114,7 @@ fn put_history<W: Write>(
 /// Writes the buffer, and then the history that the stripe keeps.
 fn finish<W: Write>(
     alloc: Global,
-    stripe: &Stripe<MemLeg>,
+    stripe: &Stripe<FuseLeg>,
     blocks: usize,
     out: &mut W,
     buffer: &mut Vec<u8>,
@@ -137,8 +140,7 @@ fn finish<W: Write>(
 /// Runs a script on a new stripe of memory legs: writes a line a step, and then the history.
 pub fn run<W: Write>(alloc: Global, script: &Script, out: &mut W) -> Result<(), RunError>
     requires range { InRange script.now.mirror }
-    requires inside { AllByRecursion (CanTake (new_stripe script.now.mirror))
-        script.now.steps.items }
+    requires inside { AllByRecursion (IsInside script.now.mirror) script.now.steps.items }
     ensures ok { OnOk result (Writes (WholeRun script.now.mirror script.now.steps.items)
         (Appends (W.contents out.old) (W.contents out.new))) }
     ensures err { OnErr result (Writes (PartOfRun script.now.mirror script.now.steps.items)
@@ -147,7 +149,14 @@ pub fn run<W: Write>(alloc: Global, script: &Script, out: &mut W) -> Result<(), 
 {
     let mut buffer = Vec::with_capacity(alloc, BUFFER_SIZE + LINE_SIZE)?;
     let mut stripe = open(alloc, &script.mirror)?;
-    run_steps(alloc, &mut stripe, &script.steps, out, &mut buffer)?;
+    run_steps(
+        alloc,
+        &script.mirror,
+        &mut stripe,
+        &script.steps,
+        out,
+        &mut buffer,
+    )?;
     let blocks = script.mirror.blocks as usize;
     finish(alloc, &stripe, blocks, out, &mut buffer)
 }

@@ -5,13 +5,13 @@
 //! writes is proved to be the lines of the answers, with `legal yes` as the last line.
 #![tactic(auto)]
 
+mod do_step;
 mod engine;
 mod fill;
 mod input_error;
 mod mem_stripe;
 mod mirror_line;
 mod parse_error;
-mod policy;
 mod printing;
 mod program;
 mod run_error;

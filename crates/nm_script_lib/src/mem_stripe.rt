@@ -1,27 +1,27 @@
-//! The stripe that a script runs: memory legs of zero bytes, all in sync.
-ghost use Rattle.std.specs.Prelude.{◌≡◌, ℕ, ◌<◌, ◌≤◌, ◌+◌, ◌^◌, true, IfOk, IfErr};
-ghost use Rattle.nm_stripe.specs.Run.{StepOf, MayBeAsked};
-ghost use Rattle.nm_script_lib.specs.MemStripe.{InRange};
+//! The stripe that a script runs: legs in memory, each with a fuse, of zero bytes and all in sync.
+ghost use Rattle.std.specs.Prelude.{◌≡◌, ℕ, ◌<◌, ◌≤◌, ◌+◌, ◌^◌, length, IfOk, IfErr};
+ghost use Rattle.nm_script_lib.specs.declared.step.Step.TheVariants.{Ask};
+ghost use Rattle.nm_script_lib.specs.MemStripe.{InRange, AreNewLegs, IsNew, HasShape, IsInside, IsAsked, filled_block};
 ghost use Rattle.nm_script_lib.specs.RunErrors.{EndsRun};
-ghost use Rattle.nm_script_lib.specs.MemStripe.{mem_legs, new_stripe, zero_legs, filled_block, stripe_step, CanTake};
+ghost use Rattle.nm_script_lib.specs.Runs.{Answers};
 
 use crate::mirror_line::MirrorLine;
 use crate::run_error::RunError;
-use crate::step::Step;
+use crate::step::StripeStep;
 use bytes::Bytes;
 use nm_fanout::Data;
-use nm_leg::MemLeg;
-use nm_stripe::{Answer, At, Stripe};
-use std::alloc::{AllocError, Global};
+use nm_leg::FuseLeg;
+use nm_stripe::{Answer, At, Step, Stripe};
+use std::alloc::Global;
 
-/// This many legs of this many zero blocks.
-fn zero_legs(alloc: Global, legs: u8, blocks: u64) -> Result<Vec<MemLeg>, RunError>
-    ensures legs { IfOk result (λ v. v.items ≡ zero_legs legs blocks) }
+/// The mirror's legs, of zero blocks.
+fn new_legs(alloc: Global, mirror: &MirrorLine) -> Result<Vec<FuseLeg>, RunError>
+    ensures legs { IfOk result (λ v. AreNewLegs mirror.now v.items) }
     ensures cause { IfErr result EndsRun }
 {
     let mut all = Vec::new(alloc);
-    for _ in 0..legs {
-        all.push(MemLeg::new(alloc, blocks)?)?;
+    for _ in 0..mirror.legs {
+        all.push(FuseLeg::new(alloc, mirror.blocks)?)?;
     }
     Ok(all)
 }
@@ -35,12 +35,12 @@ fn all_in_sync(legs: u8) -> u8
 }
 
 /// A new stripe for this mirror.
-pub fn open(alloc: Global, mirror: &MirrorLine) -> Result<Stripe<MemLeg>, RunError>
+pub fn open(alloc: Global, mirror: &MirrorLine) -> Result<Stripe<FuseLeg>, RunError>
     requires { InRange mirror.now }
-    ensures opened { IfOk result (λ stripe. stripe ≡ new_stripe mirror.now) }
+    ensures opened { IfOk result (λ stripe. IsNew mirror.now stripe) }
     ensures cause { IfErr result EndsRun }
 {
-    let legs = zero_legs(alloc, mirror.legs, mirror.blocks)?;
+    let legs = new_legs(alloc, mirror)?;
     let in_sync = all_in_sync(mirror.legs);
     let place = At {
         stripe: 0,
@@ -62,32 +62,41 @@ fn filled_block(fill: u8) -> [u8; 512]
     [fill; 512]
 }
 
-/// The step of the stripe for a step of the script, with its data.
-fn stripe_step(alloc: Global, step: Step) -> Result<nm_stripe::Step<MemLeg>, AllocError>
-    ensures { IfOk result (λ s. s ≡ stripe_step step) }
+/// What a step of a script asks of the stripe.
+fn asked(alloc: Global, mirror: &MirrorLine, step: StripeStep) -> Result<Step<FuseLeg>, RunError>
+    ensures asked { IfOk result (λ s. IsAsked mirror.now step s) }
+    ensures cause { IfErr result EndsRun }
 {
-    Ok(match step {
-        Step::Begin { block, fill } => {
+    match step {
+        StripeStep::Begin { block, fill } => {
             let bytes = Bytes::copy_from_slice(alloc, &filled_block(fill))?;
-            nm_stripe::Step::Begin(block, Data::Cut(bytes))
+            Ok(Step::Begin(block, Data::Cut(bytes)))
         }
-        Step::Push { ticket, leg } => nm_stripe::Step::Push(ticket, leg),
-        Step::Claim { ticket } => nm_stripe::Step::Claim(ticket),
-        Step::Read { block } => nm_stripe::Step::Read(block),
-    })
+        StripeStep::Zero { block } => Ok(Step::Begin(block, Data::Zero)),
+        StripeStep::Push { ticket, leg } => Ok(Step::Push(ticket, leg)),
+        StripeStep::Claim { ticket } => Ok(Step::Claim(ticket)),
+        StripeStep::Read { block } => Ok(Step::Read(block)),
+        StripeStep::Replace { leg, fill } => {
+            let part = FuseLeg::filled(alloc, mirror.blocks, fill)?;
+            Ok(Step::Replace(leg, part))
+        }
+    }
 }
 
-/// Does one step of a script. The data of a write are allocated before the step.
+/// Does one step of the stripe. What it hands in is allocated before the step.
 pub fn step(
     alloc: Global,
-    stripe: &mut Stripe<MemLeg>,
-    step: Step,
-) -> Result<Answer<MemLeg>, AllocError>
-    requires { CanTake stripe.old step }
-    ensures { IfOk result (λ answer.
-        StepOf mem_legs (stripe_step step) answer stripe.old stripe.new) }
+    mirror: &MirrorLine,
+    stripe: &mut Stripe<FuseLeg>,
+    step: StripeStep,
+) -> Result<Answer<FuseLeg>, RunError>
+    requires shape { HasShape mirror.now stripe.old }
+    requires inside { IsInside mirror.now (Ask step) }
+    ensures ok { IfOk result (λ answer. Answers mirror.now step answer stripe.old stripe.new) }
+    ensures shape { HasShape mirror.now stripe.new }
+    ensures cause { IfErr result EndsRun }
 {
-    let step = stripe_step(alloc, step)?;
-    let answer = stripe.step(step);
+    let asked = asked(alloc, mirror, step)?;
+    let answer = stripe.step(asked);
     Ok(answer)
 }

@@ -2,8 +2,8 @@ ghost use Rattle.std.specs.Prelude.{◌≡◌, ℕ, ◌<◌, List, Option};
 ghost use Rattle.nm_script_lib.specs.Grammar.{mirror_form};
 ghost use Rattle.nm_script_lib.specs.Reading.{Gives, read, read_line, rest_words};
 
-use crate::policy::Policy;
 use crate::words::{Words, is_word};
+use nm_choice::Policy;
 
 /// A script's first line: `mirror LEGS BLOCKS REGION CHUNK POLICY FIRST`.
 #[derive(Clone, Copy, Debug, PartialEq, Eq)]

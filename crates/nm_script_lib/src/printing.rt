@@ -3,11 +3,11 @@ ghost use Rattle.std.specs.Prelude.{◌≡◌, ℕ, ◌+◌, ◌<◌, List, [], 
 ghost use Rattle.std.specs.Fmt.{digit_glyph};
 ghost use Rattle.nm_script_lib.specs.Forms.{hex_byte};
 ghost use Rattle.nm_stripe.specs.Refusal.{text_of};
-ghost use Rattle.nm_script_lib.specs.Printing.{fill_text, answer_line, kind_text, entry_line, counts_line, legal_line};
+ghost use Rattle.nm_script_lib.specs.Printing.{fill_text, ended_line, answer_text, holds_text, kind_text, entry_line, counts_line, legal_line};
 
 use crate::fill::{Fill, fill_of};
-use nm_leg::MemLeg;
-use nm_replay::{Entry, Kind};
+use nm_leg::FuseLeg;
+use nm_replay::{Block, Entry, Kind};
 use nm_stripe::{Answer, Refusal};
 use std::alloc::AllocError;
 
@@ -64,8 +64,9 @@ fn put_refusal(text: &mut Vec<u8>, refusal: Refusal) -> Result<(), AllocError>
 }
 
 /// Adds the line of an answer to a text.
-pub fn put_answer(text: &mut Vec<u8>, answer: &Answer<MemLeg>) -> Result<(), AllocError>
-    ensures { OnOk result (text.new.items ≡ text.old.items ++ answer_line answer.now) }
+pub fn put_answer(text: &mut Vec<u8>, answer: &Answer<FuseLeg>) -> Result<(), AllocError>
+    ensures { OnOk result (text.new.items
+        ≡ text.old.items ++ ended_line (answer_text answer.now)) }
 {
     match answer {
         Answer::Begun(ticket) => {
@@ -96,6 +97,22 @@ pub fn put_answer(text: &mut Vec<u8>, answer: &Answer<MemLeg>) -> Result<(), All
             put_refusal(text, *refusal)?;
         }
     }
+    put(text, b"\n")
+}
+
+/// Adds the line of a fuse that was set to a text.
+pub fn put_fused(text: &mut Vec<u8>) -> Result<(), AllocError>
+    ensures { OnOk result (text.new.items ≡ text.old.items ++ ended_line (codes "fused")) }
+{
+    put(text, b"fused\n")
+}
+
+/// Adds the line of what a leg has in a block to a text.
+pub fn put_holds(text: &mut Vec<u8>, block: &Block) -> Result<(), AllocError>
+    ensures { OnOk result (text.new.items ≡ text.old.items ++ ended_line (holds_text block.now)) }
+{
+    put(text, b"holds ")?;
+    put_fill(text, fill_of(block))?;
     put(text, b"\n")
 }
 

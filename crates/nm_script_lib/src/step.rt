@@ -1,53 +1,114 @@
-ghost use Rattle.std.specs.Prelude.{◌≡◌, ℕ, ◌<◌, List, Option};
-ghost use Rattle.nm_script_lib.specs.Forms.{keywords};
-ghost use Rattle.nm_script_lib.specs.Grammar.{steps_on};
+ghost use Rattle.std.specs.Prelude.{◌≡◌, ℕ, ◌<◌, ◌∷◌, List, Option};
+ghost use Rattle.nm_script_lib.specs.Grammar.{step_form, leg_form, look_form};
 ghost use Rattle.nm_script_lib.specs.Reading.{Gives, read, read_line, rest_words};
 
 use crate::mirror_line::MirrorLine;
 use crate::words::{Words, is_word};
 
-/// A step of a script.
+/// A step of a script: what one of its lines asks for.
 #[derive(Clone, Copy, Debug, PartialEq, Eq)]
 pub enum Step {
+    /// A step of the stripe.
+    Ask(StripeStep),
+    /// `fuse L K`: the K-th call of leg L from now fails, once.
+    Fuse { leg: u8, call: u64 },
+    /// `peek L B`: what leg L has in block B, without a call of the leg.
+    Peek { leg: u8, block: u64 },
+}
+
+/// A step of the stripe, as a script asks for it.
+#[derive(Clone, Copy, Debug, PartialEq, Eq)]
+pub enum StripeStep {
     /// `begin B HH`: a write of 512 bytes HH to block B begins.
     Begin { block: u64, fill: u8 },
+    /// `zero B`: a write of zeroes to block B begins.
+    Zero { block: u64 },
     /// `push T L`: the write of ticket T goes to leg L.
     Push { ticket: u64, leg: u8 },
     /// `claim T`: the finished write of ticket T is taken away.
     Claim { ticket: u64 },
     /// `read B`: block B is read.
     Read { block: u64 },
+    /// `replace L HH`: a leg of bytes HH takes the place of leg L, which is out.
+    Replace { leg: u8, fill: u8 },
 }
 
-/// The next step, by its word and its arguments.
-fn next_step(mirror: &MirrorLine, words: &mut Words<'_>) -> Option<Step>
+/// The step that this word begins, of those that the stripe has no part in, with its arguments.
+#[tactic(auto, unfolding(crate::specs::Grammar::look_form))]
+fn look_of(mirror: &MirrorLine, word: &[u8], words: &mut Words<'_>) -> Option<Step>
     ensures { Gives result (rest_words words.new)
-        (read (keywords (steps_on mirror.now)) (rest_words words.old)) }
+        (read (look_form mirror.now) (word.now ∷ rest_words words.old)) }
 {
-    let word = words.next()?;
-    Some(if is_word(word, b"begin") {
-        let block = words.below(mirror.blocks)?;
-        let fill = words.byte()?;
-        Step::Begin { block, fill }
-    } else if is_word(word, b"push") {
-        let ticket = words.number()?;
+    Some(if is_word(word, b"fuse") {
         let leg = words.below_u8(mirror.legs)?;
-        Step::Push { ticket, leg }
-    } else if is_word(word, b"claim") {
-        let ticket = words.number()?;
-        Step::Claim { ticket }
-    } else if is_word(word, b"read") {
+        let call = words.within(1, u64::MAX)?;
+        Step::Fuse { leg, call }
+    } else if is_word(word, b"peek") {
+        let leg = words.below_u8(mirror.legs)?;
         let block = words.below(mirror.blocks)?;
-        Step::Read { block }
+        Step::Peek { leg, block }
     } else {
         return None;
     })
 }
 
+/// The step that this word begins, of those that bring a leg in or out and of `look_of`'s.
+#[tactic(auto, unfolding(crate::specs::Grammar::leg_form))]
+fn leg_step_of(mirror: &MirrorLine, word: &[u8], words: &mut Words<'_>) -> Option<Step>
+    ensures { Gives result (rest_words words.new)
+        (read (leg_form mirror.now) (word.now ∷ rest_words words.old)) }
+{
+    Some(Step::Ask(if is_word(word, b"replace") {
+        let leg = words.below_u8(mirror.legs)?;
+        let fill = words.byte()?;
+        StripeStep::Replace { leg, fill }
+    } else {
+        return look_of(mirror, word, words);
+    }))
+}
+
+/// The step that this word begins, with its arguments.
+#[tactic(auto, unfolding(crate::specs::Grammar::step_form))]
+fn any_step_of(mirror: &MirrorLine, word: &[u8], words: &mut Words<'_>) -> Option<Step>
+    ensures { Gives result (rest_words words.new)
+        (read (step_form mirror.now) (word.now ∷ rest_words words.old)) }
+{
+    Some(Step::Ask(if is_word(word, b"begin") {
+        let block = words.below(mirror.blocks)?;
+        let fill = words.byte()?;
+        StripeStep::Begin { block, fill }
+    } else if is_word(word, b"zero") {
+        let block = words.below(mirror.blocks)?;
+        StripeStep::Zero { block }
+    } else if is_word(word, b"push") {
+        let ticket = words.number()?;
+        let leg = words.below_u8(mirror.legs)?;
+        StripeStep::Push { ticket, leg }
+    } else if is_word(word, b"claim") {
+        let ticket = words.number()?;
+        StripeStep::Claim { ticket }
+    } else if is_word(word, b"read") {
+        let block = words.below(mirror.blocks)?;
+        StripeStep::Read { block }
+    } else {
+        return leg_step_of(mirror, word, words);
+    }))
+}
+
+/// The next words, as a step.
+#[tactic(auto, unfolding(crate::specs::Grammar::step_form))]
+fn next_step(mirror: &MirrorLine, words: &mut Words<'_>) -> Option<Step>
+    ensures { Gives result (rest_words words.new)
+        (read (step_form mirror.now) (rest_words words.old)) }
+{
+    let word = words.next()?;
+    any_step_of(mirror, word, words)
+}
+
 /// The step of a line, on such a mirror.
 #[tactic(auto, unfolding(crate::specs::Reading::read_line))]
 pub fn step_of(mirror: &MirrorLine, line: &[u8]) -> Option<Step>
-    ensures { result ≡ read_line (keywords (steps_on mirror.now)) line.now }
+    ensures { result ≡ read_line (step_form mirror.now) line.now }
 {
     let mut words = Words::of(line);
     let step = next_step(mirror, &mut words)?;

@@ -4,7 +4,7 @@ ghost use Rattle.std.specs.Option.{option_copied};
 ghost use Rattle.nm_script_lib.specs.Forms.{Number, Below, Within, Byte};
 ghost use Rattle.nm_script_lib.specs.Reading.{pieces, pieces_of_rest, rest_size, number_of, byte_of, hex_digit_of, digits_on, word_at, value_at, policy_at, is_word, Gives, rest_words};
 
-use crate::policy::Policy;
+use nm_choice::Policy;
 
 /// The index of the first byte `at`.
 fn place_of(text: &[u8], at: u8) -> Option<usize>
@@ -92,8 +92,10 @@ impl<'a> Words<'a> {
 
     /// The next word.
     pub fn next(&mut self) -> Option<&'a [u8]>
-        ensures { Gives (option_copied result) (rest_words self.new)
+        ensures first { Gives (option_copied result) (rest_words self.new)
             (word_at (rest_words self.old)) }
+        ensures words { IfSome result (λ word.
+            rest_words self.old ≡ word.now ∷ rest_words self.new) }
     {
         let (word, rest) = cut(self.rest?, b' ');
         self.rest = rest;

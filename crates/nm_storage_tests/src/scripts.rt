@@ -28,7 +28,7 @@ const WRITE: (&[u8], &[u8]) = (
 );
 
 /// Scripts, each with all that it prints.
-const SCRIPTS: [(&[u8], &[u8]); 8] = [
+const SCRIPTS: [(&[u8], &[u8]); 9] = [
     WRITE,
     (b"mirror 1 1 1 1 rr 0\n", b"history 0 of 0\nlegal yes\n"),
     // The largest number of an entry.
@@ -62,6 +62,15 @@ const SCRIPTS: [(&[u8], &[u8]); 8] = [
         b"mirror 1 8 4 2 rr 0\nbegin 0 aa\npush 0 0\nclaim 0\nbegin 0 bb\nclaim 0\n",
         b"begun 0\ncomplete 0\nwritten 0\nbegun 1\nrefused 7 NoTicket\n\
           history 1 of 1\n0 write 0 0 aa\nlegal yes\n",
+    ),
+    // A fuse fails one call, and a later one takes its place. A failed write is torn.
+    (
+        b"mirror 1 8 4 2 rr 0\nzero 5\nfuse 0 1\nread 0\nread 0\nbegin 3 aa\npeek 0 3\n\
+          push 1 0\npeek 0 3\nreplace 0 ff\nbegin 3 bb\nfuse 0 2\nfuse 0 1\npush 2 0\n\
+          peek 0 3\nread 0\n",
+        b"begun 0\nfused\nrefused 10 Fault\nvalue 0 00\nbegun 1\nholds 00\ncomplete 1\n\
+          holds aa\nrefused 13 NotOut\nbegun 2\nfused\nfused\nhalted\nholds mixed\n\
+          refused 5 Stopped\nhistory 2 of 2\n0 read 0 00\n1 write 1 3 aa\nlegal yes\n",
     ),
     // A ticket may be any number of 64 bits.
     (
@@ -185,7 +194,7 @@ const NO_MIRROR: [&[u8]; 21] = [
 ];
 
 /// Lines that are no step on a mirror of 2 legs of 16 blocks.
-const NO_STEP: [&[u8]; 42] = [
+const NO_STEP: [&[u8]; 48] = [
     b"begin",
     b"begin 0",
     b"begin 16 aa",
@@ -224,7 +233,13 @@ const NO_STEP: [&[u8]; 42] = [
     b" read 0",
     b" ",
     b" # x",
-    b"zero 0",
+    b"zero 16",
+    b"zero 0 00",
+    b"replace 2 ff",
+    b"fuse 0 0",
+    b"fuse 2 1",
+    b"peek 0 16",
+    b"peek 2 0",
     b"state",
     b"mirror 2 16 8 4 rr 0",
     b"\r",

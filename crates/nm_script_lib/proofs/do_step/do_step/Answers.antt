@@ -1,0 +1,14 @@
+-- What a step prints that asks nothing of the stripe.
+use Rattle.nm_script_lib.proofs.Lines.{fused_line, holds_line}
+use Rattle.nm_script_lib.proofs.do_step.do_step.Goals as goal
+
+pub returns-in_ok-put_fused-in-Fuse-clause-ok : goal.returns-in_ok-put_fused-in-Fuse-clause-ok
+returns-in_ok-put_fused-in-Fuse-clause-ok c =
+    fused_line c.args.mirror.now c.args.step c.in-Fuse.leg c.in-Fuse.call c.args.stripe.now _ _
+    c.in-Fuse.is c.in_ok-put_fused-in-Fuse.ensures
+
+pub returns-in_ok-put_holds-in-Peek-clause-ok : goal.returns-in_ok-put_holds-in-Peek-clause-ok
+returns-in_ok-put_holds-in-Peek-clause-ok c =
+    holds_line c.args.mirror.now c.args.step c.in-Peek.leg c.in-Peek.block c.args.stripe.now
+    c.part-in-Peek.result.now c.block.result.now _ _
+    c.in-Peek.is c.part-in-Peek.ensures c.block.ensures c.in_ok-put_holds-in-Peek.ensures
