@@ -1,0 +1,19 @@
+/// What the thread that reads from the client sends.
+#[derive(Debug, Drop)]
+pub enum Piece {
+    /// Bytes that were read.
+    Bytes(Vec<u8>),
+    /// The client's bytes have ended.
+    Ended,
+    /// A read failed.
+    Failed,
+}
+
+/// What is received: a piece, or the outcome of a request.
+#[derive(Debug, Drop)]
+pub enum Message<O: Drop> {
+    /// A piece of what the client sent.
+    Piece(Piece),
+    /// The outcome of a request.
+    Outcome(O),
+}
