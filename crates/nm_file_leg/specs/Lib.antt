@@ -1,0 +1,5 @@
+pub mod Blocks
+pub mod FileLeg
+pub mod Media
+pub mod Medium
+pub mod Places

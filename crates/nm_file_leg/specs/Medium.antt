@@ -1,0 +1,61 @@
+-- What a medium holds, and what one call does to it.
+use Rattle.std.specs.Prelude.{◌≡◌, ℕ, ◌+◌, ◌<◌, ◌≤◌, ◌⊎◌, Bool, IsTrue, IsFalse}
+use Rattle.std.specs.Prelude.{List, ◌++◌, length, take, drop, Result, IfOk, OnOk}
+
+-- so many bytes from a place on
+unfoldable pub window : ℕ → ℕ → List ℕ → List ℕ
+window at n bytes = take n (drop at bytes)
+
+-- the bytes of which a part, from a place on, is changed
+unfoldable pub spliced : ℕ → List ℕ → List ℕ → List ℕ
+spliced at part bytes = take at bytes ++ (part ++ drop (at + length part) bytes)
+
+-- The bytes as reads find them, the same bytes as a loss of power would leave them, and whether the
+-- byte at a place is lost to later syncs, since one failed that was to make it durable.
+pub record Held : Type 0 where
+  pub contents : List ℕ
+  pub durable : List ℕ
+  pub lost : ℕ → Bool
+
+-- the next sync that succeeds makes these bytes durable
+abbrev pub Kept : Held → ℕ → ℕ → Type 0
+Kept held from n = (at : ℕ) → from ≤ at → at < from + n → IsFalse (held.lost at)
+
+-- the bytes from `at` on, so many of them, and the others have no place in common
+abbrev pub Apart : ℕ → ℕ → ℕ → ℕ → Type 0
+Apart at n from many = (from + many ≤ at) ⊎ (at + n ≤ from)
+
+-- A read from `at` on. It says how many bytes it found, and leaves the medium as it was.
+pub record ReadsMedium {E : Type 0} (honest : Bool) (result : Result ℕ E) (at : ℕ)
+    (old new : Held) (filled : List ℕ) : Type 0 where
+  pub bound : IfOk result (λ n. n ≤ length filled)
+  pub found : IsTrue honest → IfOk result (λ n. take n filled ≡ window at n old.contents)
+  pub same : IsTrue honest → new ≡ old
+
+-- A write from `at` on. It says how many bytes it wrote; a fault leaves any bytes in their place.
+pub record WritesMedium {E : Type 0} (honest : Bool) (result : Result ℕ E) (at : ℕ)
+    (bytes : List ℕ) (old new : Held) : Type 0 where
+  pub written : IsTrue honest → IfOk result (λ n. window at n new.contents ≡ take n bytes)
+  pub kept : IsTrue honest → IfOk result (λ n. Kept new at n)
+  pub others : IsTrue honest → (from many : ℕ) → Apart at (length bytes) from many
+      → window from many new.contents ≡ window from many old.contents
+  pub durable_others : IsTrue honest → (from many : ℕ) → Apart at (length bytes) from many
+      → window from many new.durable ≡ window from many old.durable
+  pub kept_others : IsTrue honest → (from many : ℕ) → Kept old from many → Kept new from many
+
+-- A sync. Success makes all durable but what an earlier failure lost, and loses nothing more.
+-- A fault may lose every byte that was not durable.
+pub record SyncsMedium {E : Type 0} (honest : Bool) (result : Result (Unit {0}) E)
+    (old new : Held) : Type 0 where
+  pub durable : IsTrue honest → OnOk result ((from many : ℕ) → Kept old from many
+      → window from many new.durable ≡ window from many old.contents)
+  pub kept : IsTrue honest → OnOk result ((from many : ℕ) → Kept old from many
+      → Kept new from many)
+  pub contents : IsTrue honest → new.contents ≡ old.contents
+  pub durable_kept : IsTrue honest → (from many : ℕ)
+      → window from many old.durable ≡ window from many old.contents
+      → window from many new.durable ≡ window from many old.durable
+
+-- The length of the medium.
+abbrev pub TellsLength : {E : Type 0} → Bool → Result ℕ E → Held → Type 0
+TellsLength honest result held = IsTrue honest → IfOk result (λ n. n ≡ length held.contents)

@@ -1,0 +1,68 @@
+ghost use Rattle.std.specs.Prelude.{◌≡◌, true};
+
+use crate::Medium;
+use crate::splice::splice;
+use std::io;
+
+/// An honest medium in memory, which never fails.
+///
+/// It keeps the length that it is made with: what is written behind its end is not kept. A sync
+/// does nothing: what the medium holds counts as durable at once.
+#[derive(Drop)]
+pub struct MemMedium {
+    bytes: Vec<u8>,
+}
+
+impl MemMedium {
+    ghost use Rattle.nm_file_leg.specs.Media.{of_mem, steady};
+
+    /// A medium of these bytes.
+    pub fn new(bytes: Vec<u8>) -> Self
+        ensures { of_mem result ≡ steady bytes.items }
+    {
+        MemMedium { bytes }
+    }
+
+    /// What the medium holds.
+    pub fn bytes(&self) -> &[u8]
+        ensures { of_mem self.now ≡ steady result.now }
+    {
+        &self.bytes
+    }
+}
+
+impl Medium for MemMedium {
+    ghost use Rattle.nm_file_leg.specs.Media.{of_mem};
+
+    ghost honest = { true };
+
+    ghost held = { of_mem };
+
+    fn read_at(&mut self, at: u64, into: &mut [u8]) -> io::Result<usize> {
+        if at >= self.bytes.len() as u64 {
+            return Ok(0);
+        }
+        let from = at as usize;
+        let many = into.len().min(self.bytes.len() - from);
+        into[..many].copy_from_slice(&self.bytes[from..from + many]);
+        Ok(many)
+    }
+
+    fn write_at(&mut self, at: u64, bytes: &[u8]) -> io::Result<usize> {
+        if at >= self.bytes.len() as u64 {
+            return Ok(0);
+        }
+        let from = at as usize;
+        let many = bytes.len().min(self.bytes.len() - from);
+        splice(&mut self.bytes, from, &bytes[..many]);
+        Ok(many)
+    }
+
+    fn sync(&mut self) -> io::Result<()> {
+        Ok(())
+    }
+
+    fn len(&self) -> io::Result<u64> {
+        Ok(self.bytes.len() as u64)
+    }
+}
