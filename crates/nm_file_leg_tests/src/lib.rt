@@ -1,0 +1,7 @@
+//! Tests of legs on media through their public surface: what no clause of theirs says.
+#![tactic(auto)]
+
+#[cfg(test)]
+mod files;
+#[cfg(test)]
+mod media;
