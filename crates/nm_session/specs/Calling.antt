@@ -1,14 +1,17 @@
 -- The calls of a target that a task asks for, and what comes of them.
-use Rattle.std.specs.Prelude.{◌≡◌, ℕ, ◌+◌, ◌≤◌, ◌⊎◌, Bool, true, false, List, [], ◌∷◌, length, Result, Ok, Err}
+use Rattle.std.specs.Prelude.{◌≡◌, ℕ, ◌+◌, ◌≤◌, ◌⊎◌, Bool, true, false}
+use Rattle.std.specs.Prelude.{List, [], ◌∷◌, length, Result, Ok, Err}
 use Rattle.nm_session.specs.declared.target_fault.TargetFault.{TargetFault}
 use Rattle.nm_session.specs.declared.target_fault.TargetFault.TheVariants as fault
 use Rattle.nm_requests.specs.declared.task.Task.{Task}
-use Rattle.nm_requests.specs.declared.task.Task.TheVariants.{Read, Write, Zero, Flush, Nothing, Disconnect}
-use Rattle.nm_session.specs.Target.{Answer, TargetCall, Reads, Writes, Zeroes, Flushes, Syncs, error_of}
+use Rattle.nm_requests.specs.declared.task.Task.TheVariants.{Read, Write, Zero}
+use Rattle.nm_requests.specs.declared.task.Task.TheVariants.{Flush, Nothing, Disconnect}
+use Rattle.nm_session.specs.Target.{Answer, TargetCall, error_of}
+use Rattle.nm_session.specs.Target.{Reads, Writes, Zeroes, Flushes, Syncs}
 
 -- what came of a task: the bytes that were read, none but by a READ, or the error
-abbrev pub Outcome : Type 0
-Outcome = Result (List ℕ) ℕ
+abbrev pub TaskResult : Type 0
+TaskResult = Result (List ℕ) ℕ
 
 -- a READ, WRITE, zeroing or FLUSH of bytes that a target of this size has; a WRITE's payload fills
 -- them
@@ -22,22 +25,22 @@ IsCallable size Nothing payload = ⊥
 IsCallable size Disconnect payload = ⊥
 
 -- what comes of a call that gives no bytes
-abbrev pub outcome_of : Answer → Outcome
+abbrev pub outcome_of : Answer → TaskResult
 outcome_of (Ok _) = Ok []
 outcome_of (Err fault) = Err (error_of fault)
 
 -- what comes of a read that gave these bytes
-abbrev pub read_outcome : List ℕ → Answer → Outcome
+abbrev pub read_outcome : List ℕ → Answer → TaskResult
 read_outcome bytes (Ok _) = Ok bytes
 read_outcome bytes (Err fault) = Err (error_of fault)
 
 -- the buffer was refused, and no call was made
-pub record HasNoBuffer (calls : List TargetCall) (outcome : Outcome) : Type 0 where
+pub record HasNoBuffer (calls : List TargetCall) (outcome : TaskResult) : Type 0 where
   pub calls_are : calls ≡ []
   pub outcome_is : outcome ≡ Err (error_of fault.Memory)
 
 -- one read of so many bytes from the offset on; what it gave is what came of it
-pub record ReadsOnce (offset count : ℕ) (calls : List TargetCall) (outcome : Outcome)
+pub record ReadsOnce (offset count : ℕ) (calls : List TargetCall) (outcome : TaskResult)
     : Type 0 where
   pub bytes : List ℕ
   pub answer : Answer
@@ -46,14 +49,14 @@ pub record ReadsOnce (offset count : ℕ) (calls : List TargetCall) (outcome : O
   pub outcome_is : outcome ≡ read_outcome bytes answer
 
 -- this one call; its answer is what came of it
-pub record CallsOnce (call : Answer → TargetCall) (calls : List TargetCall) (outcome : Outcome)
+pub record CallsOnce (call : Answer → TargetCall) (calls : List TargetCall) (outcome : TaskResult)
     : Type 0 where
   pub answer : Answer
   pub calls_are : calls ≡ call answer ∷ []
   pub outcome_is : outcome ≡ outcome_of answer
 
 -- this one call, which failed
-pub record Fails (call : Answer → TargetCall) (calls : List TargetCall) (outcome : Outcome)
+pub record Fails (call : Answer → TargetCall) (calls : List TargetCall) (outcome : TaskResult)
     : Type 0 where
   pub found : TargetFault
   pub calls_are : calls ≡ call (Err found) ∷ []
@@ -61,20 +64,21 @@ pub record Fails (call : Answer → TargetCall) (calls : List TargetCall) (outco
 
 -- this change, which succeeded, and after it this sync, whose answer is what came of both
 pub record SyncsAfter
-    (change sync : Answer → TargetCall) (calls : List TargetCall) (outcome : Outcome)
+    (change sync : Answer → TargetCall) (calls : List TargetCall) (outcome : TaskResult)
     : Type 0 where
   pub answer : Answer
   pub calls_are : calls ≡ change (Ok tt) ∷ sync answer ∷ []
   pub outcome_is : outcome ≡ outcome_of answer
 
 -- a change alone or, where it is to be durable and succeeds, with a sync of the same bytes
-abbrev pub Changes : Bool → (change sync : Answer → TargetCall) → List TargetCall → Outcome → Type 0
+abbrev pub Changes : Bool → (change sync : Answer → TargetCall)
+    → List TargetCall → TaskResult → Type 0
 Changes false change sync calls outcome = CallsOnce change calls outcome
 Changes true change sync calls outcome =
     Fails change calls outcome ⊎ SyncsAfter change sync calls outcome
 
 -- the calls that the task asks for, each answered, and what came of them
-abbrev pub AreCallsOf : Task → List ℕ → List TargetCall → Outcome → Type 0
+abbrev pub AreCallsOf : Task → List ℕ → List TargetCall → TaskResult → Type 0
 AreCallsOf (Read offset count) payload calls outcome =
     HasNoBuffer calls outcome ⊎ ReadsOnce offset count calls outcome
 AreCallsOf (Write offset count fua) payload calls outcome =
@@ -86,7 +90,7 @@ AreCallsOf Nothing payload calls outcome = ⊥
 AreCallsOf Disconnect payload calls outcome = ⊥
 
 -- calls of a task lead a target, by what it follows, to where it is now
-pub record Calls (task : Task) (payload : List ℕ) (outcome : Outcome)
+pub record Calls (task : Task) (payload : List ℕ) (outcome : TaskResult)
     (Leads : List TargetCall → Type 0) : Type 0 where
   pub calls : List TargetCall
   pub are : AreCallsOf task payload calls outcome

@@ -1,6 +1,7 @@
 -- How a session moves on: what its core did, what its target was called for, and what became of its
 -- reader and its writer.
-use Rattle.std.specs.Prelude.{◌≡◌, ℕ, ◌<◌, List, [], ◌∷◌, ◌++◌, length, take, Result, Ok, Err, Option, Some, None}
+use Rattle.std.specs.Prelude.{◌≡◌, ℕ, ◌<◌, List, [], ◌∷◌, ◌++◌, length, take}
+use Rattle.std.specs.Prelude.{Result, Ok, Err, Option, Some, None}
 use Rattle.std.specs.Io.KnownBytes.{Appends, Consumes}
 use Rattle.nm_requests.specs.declared.request.Request.{Request}
 use Rattle.nm_requests.specs.declared.task.Task.{Task}
@@ -11,7 +12,7 @@ use Rattle.nm_session.specs.Session.{Session}
 use Rattle.nm_session.specs.Event.{Event, Asked, Answered, Runs, fed, taken}
 use Rattle.nm_session.specs.Outcome.{says}
 use Rattle.nm_session.specs.Target.{TargetCall}
-use Rattle.nm_session.specs.Calling.{Outcome, AreCallsOf}
+use Rattle.nm_session.specs.Calling.{TaskResult, AreCallsOf}
 
 -- a session at one moment: its core, its target, what its reader has left and what its writer
 -- holds, where they tell it
@@ -32,7 +33,7 @@ pub record Waiting : Type 0 where
   pub task : Task
 
 -- these calls are made for the request, and this came of them
-abbrev pub AreCallsFor : Waiting → List TargetCall → Outcome → Type 0
+abbrev pub AreCallsFor : Waiting → List TargetCall → TaskResult → Type 0
 AreCallsFor waiting calls outcome =
     AreCallsOf waiting.task waiting.request.payload calls outcome
 
@@ -52,7 +53,7 @@ InTurn None (Asked request result ∷ events) calls after =
 InTurn None (Answered index outcome ∷ events) calls after = ⊥
 InTurn None (_ ∷ events) calls after = InTurn None events calls after
 InTurn (Some waiting) [] calls after =
-    (outcome : Outcome) × AreCallsFor waiting calls outcome × (after ≡ Some waiting)
+    (outcome : TaskResult) × AreCallsFor waiting calls outcome × (after ≡ Some waiting)
 InTurn (Some waiting) (Answered index outcome ∷ events) calls after =
     (own : List TargetCall) × (more : List TargetCall) × (calls ≡ own ++ more)
     × (index ≡ waiting.request.index) × AreCallsFor waiting own (says outcome)

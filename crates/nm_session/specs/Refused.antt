@@ -1,7 +1,8 @@
 -- The numbers and the texts of the refusals.
 use Rattle.std.specs.Prelude.{ℕ, List, codes}
 use Rattle.nm_session.specs.declared.refused.Refused.{Refused}
-use Rattle.nm_session.specs.declared.refused.Refused.TheVariants.{UnknownIndex, Twice, Closed, Memory}
+use Rattle.nm_session.specs.declared.refused.Refused.TheVariants.{UnknownIndex, Twice}
+use Rattle.nm_session.specs.declared.refused.Refused.TheVariants.{Closed, Memory}
 
 -- the number of a refusal
 abbrev pub number_of : Refused → ℕ

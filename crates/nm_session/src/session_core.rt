@@ -192,7 +192,8 @@ impl SessionCore {
     ) -> Result<(), (Refused, Outcome)>
         requires { FitsAt index outcome self.old.outstanding }
         ensures ok { OnOk result (Answers self.old index outcome self.new) }
-        ensures unknown { (result ≡ Err (Refused.UnknownIndex, outcome)) ↔ (self.old.count ≤ index) }
+        ensures unknown { (result ≡ Err (Refused.UnknownIndex, outcome))
+            ↔ (self.old.count ≤ index) }
         ensures twice { (result ≡ Err (Refused.Twice, outcome)) ↔ IsSettled self.old index }
         ensures back { IfErr result (λ e. e.1 ≡ outcome) }
         ensures only { IfErr result (λ e. e.0 ≢ Refused.Closed) }

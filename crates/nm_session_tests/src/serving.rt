@@ -1,5 +1,5 @@
-//! Whole sessions over memory, byte for byte: cut anywhere, to each end, and broken off at each read
-//! and each write. The expected bytes were written by hand.
+//! Whole sessions over memory, byte for byte: cut anywhere, to each end, and broken off at each
+//! read and each write. The expected bytes were written by hand.
 
 use nm_replies::ReplyWriter;
 use nm_session::{CutReader, CutWriter, End, MemTarget, ServeFault, Served, serve};
@@ -23,8 +23,11 @@ const GO_TOO_SHORT: [u8; 26] = *b"IHAVEOPT\0\0\0\x07\0\0\0\x0a\0\0\0\x05disk\0\0
 const GREETING: [u8; 18] = *b"NBDMAGICIHAVEOPT\0\x03";
 
 // What GO is answered with: size and flags, block sizes, ACK.
-const DESCRIBED: [u8; 86] =
-    *b"\0\x03\xe8\x89\x04\x55\x65\xa9\0\0\0\x07\0\0\0\x03\0\0\0\x0c\0\0\0\0\0\0\0\x10\0\0\x01\x6d\0\x03\xe8\x89\x04\x55\x65\xa9\0\0\0\x07\0\0\0\x03\0\0\0\x0e\0\x03\0\0\0\x01\0\0\x10\0\x02\0\0\0\0\x03\xe8\x89\x04\x55\x65\xa9\0\0\0\x07\0\0\0\x01\0\0\0\0";
+const DESCRIBED: [u8; 86] = *b"\0\x03\xe8\x89\x04\x55\x65\xa9\0\0\0\x07\0\0\0\x03\0\0\0\x0c\
+    \0\0\0\0\0\0\0\x10\0\0\x01\x6d\
+    \0\x03\xe8\x89\x04\x55\x65\xa9\0\0\0\x07\0\0\0\x03\0\0\0\x0e\
+    \0\x03\0\0\0\x01\0\0\x10\0\x02\0\0\0\
+    \0\x03\xe8\x89\x04\x55\x65\xa9\0\0\0\x07\0\0\0\x01\0\0\0\0";
 
 // What GO is answered with where its lengths do not add up: INVALID.
 const INVALID_GO: [u8; 20] = *b"\0\x03\xe8\x89\x04\x55\x65\xa9\0\0\0\x07\x80\0\0\x03\0\0\0\0";
@@ -452,19 +455,39 @@ fn a_write_that_fails_breaks_the_session_off(rt: HostRuntime) -> Result<(), Fail
     Ok(())
 }
 
-// Run with each allocation failing in turn: whatever is refused, what went out is a beginning of the
-// right bytes, and the block is old or new as a whole.
+// The handshake, a WRITE of block 1, a READ of it, and a DISC; what goes out; and what goes out
+// where there is no memory for the READ's bytes.
+fn write_and_read(alloc: Global) -> Result<(Vec<u8>, Vec<u8>, Vec<u8>), AllocError> {
+    let mut stream = concat(alloc, &[&FLAGS, &GO])?;
+    put_request(&mut stream, WRITE, 0x11, 512, 512)?;
+    stream.extend_from_slice(&[0xaa; 512])?;
+    put_request(&mut stream, READ, 0x12, 512, 512)?;
+    stream.extend_from_slice(&DISC)?;
+    let mut out = concat(alloc, &[&GREETING, &DESCRIBED])?;
+    put_reply(&mut out, 0, 0x11)?;
+    let mut out_of_memory = concat(alloc, &[out.as_slice()])?;
+    put_reply(&mut out, 0, 0x12)?;
+    out.extend_from_slice(&[0xaa; 512])?;
+    put_reply(&mut out_of_memory, 0x0c, 0x12)?;
+    Ok((stream, out, out_of_memory))
+}
+
+// Run with each allocation failing in turn: whatever is refused, what went out is a beginning of
+// the right bytes, and the block is old or new as a whole; new once its WRITE was replied to.
 #[test]
 fn no_memory_breaks_the_session_off(rt: HostRuntime) -> Result<(), Fail> {
     let alloc = rt.alloc();
-    let Ok((stream, out)) = one_write(alloc) else {
+    let Ok((stream, out, out_of_memory)) = write_and_read(alloc) else {
         return Ok(());
     };
     let Ok(found) = run_cut(&rt, alloc, stream.as_slice(), WHOLE) else {
         return Ok(());
     };
-    assert!(rt; found.is(2, End::Disc) || found.broke_off(ServeFault::Memory));
-    assert!(rt; out.as_slice().starts_with(found.out.as_slice()));
-    assert!(rt; found.block_is_all(0) || found.block_is_all(0xaa));
+    let went_out = found.out.as_slice();
+    assert!(rt; found.is(3, End::Disc) || found.broke_off(ServeFault::Memory));
+    assert!(rt;
+        out.as_slice().starts_with(went_out) || out_of_memory.as_slice().starts_with(went_out)
+    );
+    assert!(rt; found.block_is_all(0xaa) || found.block_is_all(0) && went_out.len() < 120);
     Ok(())
 }
