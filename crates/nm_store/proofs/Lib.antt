@@ -1,4 +1,5 @@
 pub mod ClaimLemmas
+pub mod CopyFailLemmas
 pub mod CopyLemmas
 pub mod CountLemmas
 pub mod FailoverLemmas
