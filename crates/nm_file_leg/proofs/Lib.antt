@@ -3,4 +3,5 @@ pub mod LegLemmas
 pub mod MediaLemmas
 pub mod PlaceLemmas
 pub mod RuleLemmas
+pub mod RunLemmas
 pub mod WindowLemmas

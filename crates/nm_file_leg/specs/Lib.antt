@@ -3,3 +3,4 @@ pub mod FileLeg
 pub mod Media
 pub mod Medium
 pub mod Places
+pub mod Run

@@ -1,0 +1,19 @@
+use Rattle.std.proofs.Common.{◌≡◌, ℕ, ◌+◌, ◌-◌, List, ◌∙◌, ap, arith, length, take, drop}
+use Rattle.nm_file_leg.specs.Medium.{window}
+use Rattle.nm_file_leg.proofs.RunLemmas.{window-read}
+use Rattle.nm_file_leg.proofs.run.Run.find.Goals as goal
+
+pub returns-in-Some : goal.returns-in-Some
+unfolding window
+returns-in-Some c = record {
+  found = λ _ contents read.
+      let run = c.args.self.now in
+      let place = c.in-Some.place in
+      let many = length c.args.into.now in
+      let span : place + many - place ≡ many = omega arith in
+      c.copy_from_slice.ensures.after
+      ∙ ap (λ (n : ℕ). take n (drop place c.deref.result.now)) span
+      ∙ ap (λ (xs : List ℕ). take many (drop place xs)) c.deref.ensures.value
+      ∙ window-read run.first run.kept place many run.bytes.items contents c.in-Some.ensures.inside.1 read
+      ∙ ap (λ (i : ℕ). window i many contents) c.in-Some.ensures.inside.0;
+}

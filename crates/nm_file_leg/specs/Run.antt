@@ -1,0 +1,20 @@
+-- Bytes of a medium that were read ahead.
+use Rattle.std.specs.Prelude.{◌≡◌, ℕ, ◌-◌, ◌&&◌, Bool, false, nat_le, Option, None, Some}
+use Rattle.std.specs.Prelude.{List, length, take}
+use Rattle.nm_file_leg.specs.declared.run.Run.{Run}
+use Rattle.nm_file_leg.specs.Medium.{window, Apart}
+
+-- the bytes that are kept are those that the medium has there
+abbrev pub IsRunOf : Run → List ℕ → Type 0
+IsRunOf run contents = take run.kept run.bytes.items ≡ window run.first run.kept contents
+
+-- a part of the contents, from `at` on, has become these bytes, and the rest is as it was
+pub record Changes (at : ℕ) (part old new : List ℕ) : Type 0 where
+  pub here : window at (length part) new ≡ part
+  pub others : (from many : ℕ) → Apart at (length part) from many
+      → window from many new ≡ window from many old
+
+-- a read follows the last one, which ended at `next`: at most 8 blocks lie between the two
+abbrev pub follows : ℕ → Option ℕ → Bool
+follows at None = false
+follows at (Some next) = nat_le next at && nat_le (at - next) 4096

@@ -1,0 +1,132 @@
+ghost use Rattle.std.specs.Prelude.{◌≡◌, ◌≢◌, ◌+◌, ◌%◌, ◌<◌, ◌≤◌, length, IsTrue, Ok, OnErr, IfOk};
+ghost use Rattle.nm_file_leg.specs.Run.{IsRunOf, follows};
+ghost use Rattle.nm_file_leg.specs.Medium.{ReadsMedium, WritesMedium, SyncsMedium};
+
+use crate::Medium;
+use crate::run::Run;
+use nm_replay::Memory;
+use std::alloc::Global;
+use std::io;
+
+/// How many bytes may lie between two reads that follow one another: 8 blocks.
+const NEAR: u64 = 8 * 512;
+
+/// A medium that reads ahead where reads follow one another.
+///
+/// It reads to the end of a region at once, and keeps what it found for the reads to come. It holds
+/// no write back, and behind a call that failed it keeps nothing.
+#[derive(Drop)]
+pub struct ReadAhead<M: Medium> {
+    medium: M,
+    run: Run,
+    /// How many bytes a region has.
+    region: u64,
+    /// Where the last read ended, if it succeeded.
+    next: Option<u64>,
+    ghost some: { 0 < region },
+    ghost room: { region ≡ length run.bytes.items },
+    ghost inside: { run.first % region + run.kept ≤ region },
+    ghost rules: { IsTrue M.honest → IsRunOf run (M.held medium).contents },
+}
+
+impl<M: Medium> ReadAhead<M> {
+    /// A medium over this one, which reads ahead inside regions of so many bytes. All of its memory
+    /// is allocated here.
+    pub fn new(alloc: Global, medium: M, region: u64) -> Result<Self, Memory>
+        requires { 0 < region }
+        ensures { IfOk result (λ ahead. ahead.medium ≡ medium) }
+    {
+        let mut bytes = Vec::with_capacity(alloc, region as usize)?;
+        bytes.resize(region as usize, 0)?;
+        Ok(ReadAhead {
+            medium,
+            run: Run {
+                bytes,
+                first: 0,
+                kept: 0,
+            },
+            region,
+            next: None,
+        })
+    }
+
+    /// The medium inside.
+    pub fn inner(&self) -> &M
+        ensures { result.now ≡ self.now.medium }
+    {
+        &self.medium
+    }
+
+    /// Whether a read at this place follows the last one.
+    fn follows(&self, at: u64) -> bool
+        ensures { result ≡ follows at self.now.next }
+    {
+        match self.next {
+            Some(next) => at >= next && at - next <= NEAR,
+            None => false,
+        }
+    }
+
+    /// Reads to the end of the region that has this place.
+    fn fill(&mut self, at: u64)
+        ensures { IsTrue M.honest → M.held self.new.medium ≡ M.held self.old.medium }
+    {
+        let left = self.region - at % self.region;
+        self.run.fill(&mut self.medium, at, left as usize);
+    }
+}
+
+impl<M: Medium> Medium for ReadAhead<M> {
+    ghost honest = { M.honest };
+
+    ghost held = { λ ahead. M.held ahead.medium };
+
+    fn read_at(&mut self, at: u64, into: &mut [u8]) -> io::Result<usize>
+        ensures drops { result ≢ Ok (length into.new) → self.new.run.kept ≡ 0 }
+        ensures reads { ReadsMedium M.honest result at (M.held self.old.medium)
+            (M.held self.new.medium) into.new }
+    {
+        if self.follows(at) && !self.run.keeps(at, into.len()) {
+            self.fill(at);
+        }
+        if self.run.find(at, into) {
+            self.next = at.checked_add(into.len() as u64);
+            return Ok(into.len());
+        }
+        let many = self.medium.read_at(at, into);
+        match many {
+            Ok(many) if many == into.len() => self.next = at.checked_add(many as u64),
+            _ => self.run.clear(),
+        }
+        many
+    }
+
+    fn write_at(&mut self, at: u64, bytes: &[u8]) -> io::Result<usize>
+        ensures drops { result ≢ Ok (length bytes.now) → self.new.run.kept ≡ 0 }
+        ensures writes { WritesMedium M.honest result at bytes.now (M.held self.old.medium)
+            (M.held self.new.medium) }
+    {
+        let many = self.medium.write_at(at, bytes);
+        match many {
+            Ok(many) if many == bytes.len() => self.run.patch(at, bytes),
+            _ => self.run.clear(),
+        }
+        many
+    }
+
+    fn sync(&mut self) -> io::Result<()>
+        ensures drops { OnErr result (self.new.run.kept ≡ 0) }
+        ensures syncs { SyncsMedium M.honest result (M.held self.old.medium)
+            (M.held self.new.medium) }
+    {
+        let done = self.medium.sync();
+        if done.is_err() {
+            self.run.clear();
+        }
+        done
+    }
+
+    fn len(&self) -> io::Result<u64> {
+        self.medium.len()
+    }
+}
