@@ -4,7 +4,7 @@ use crate::Medium;
 use crate::splice::splice;
 use std::io;
 
-/// An honest medium in memory, which never fails.
+/// An honest medium in memory.
 ///
 /// It keeps the length that it is made with: what is written behind its end is not kept. A sync
 /// does nothing: what the medium holds counts as durable at once.
