@@ -12,6 +12,7 @@ pub keeps-sound : {L : Type 0} (type : LegType L) (stripe : StripeState L) → K
 keeps-sound type stripe k = record {
   in_order = k.records.in_order;
   one_writer = k.records.one_writer;
+  kept = k.numbers.most;
   numbers = numbered-somewhere k.numbers.start stripe.kept k.numbers.numbered;
   consistent = k.consistent;
   in_sync = λ is_honest runs.

@@ -1,5 +1,5 @@
 -- Each step of a copy that went well leaves one leg call fewer to do.
-use Rattle.std.proofs.Common.{◌≡◌, ◌≢◌, ℕ, zero, suc, ◌+◌, ◌-◌, ◌*◌, ◌<◌, ◌≤◌, ◌==◌, Bool, true, false, List, [], ◌∷◌, ◌++◌, None, Some, Option, length, length-append, min, refl, sym, ap, ◌∙◌, subst, arith, cond, nat_lt, get_or, position, slice_get, slice_set, eq-eqb}
+use Rattle.std.proofs.Common.{◌≡◌, ◌≢◌, ℕ, zero, suc, ◌+◌, ◌-◌, ◌*◌, ◌<◌, ◌≤◌, ◌==◌, true, false, List, [], ◌∷◌, ◌++◌, None, Some, Option, length, length-append, refl, sym, ap, ◌∙◌, subst, arith, cond, nat_lt, get_or, slice_get, slice_set, eq-eqb}
 use Rattle.std.proofs.lemmas.Bool.Decides.{nat_tests}
 use Rattle.std.proofs.lemmas.List.Quantifiers.{position-Some}
 use Rattle.nm_replay.specs.declared.block.Block.{Block}
@@ -7,14 +7,14 @@ use Rattle.nm_leg.specs.Leg.{LegType}
 use Rattle.nm_leg.specs.LegCalls.{WritesLegAt}
 use Rattle.nm_regions.specs.declared.copy_place.CopyPlace.{CopyPlace}
 use Rattle.nm_regions.specs.LegFlags.{LegRegions, no_leg}
-use Rattle.nm_regions.specs.Table.{RegionTable, leg_at, length_of, blocks_behind, copied, copy_rest}
+use Rattle.nm_regions.specs.Table.{RegionTable, leg_at, length_of, blocks_behind, copy_rest}
 use Rattle.nm_regions.specs.Changes.{advanced, cleared_for, moved, region_finished}
 use Rattle.nm_regions.proofs.LeftLaws.{blocks-cleared}
 use Rattle.nm_regions.proofs.Sizes.{length-behind}
 use Rattle.nm_rules.specs.declared.at.At.{At}
 use Rattle.nm_rules.specs.Copy.{GoesOn, CopiesRead, CopiesWrite, after_copy_read, after_copy_write}
 use Rattle.nm_rules.specs.Invariant.{Keeps}
-use Rattle.nm_rules.specs.State.{StripeState, Chunk, copy_start, chunk_written, chunk_buffered, left, work, table, with_table}
+use Rattle.nm_rules.specs.State.{StripeState, Chunk, copy_start, left, work, table, with_table}
 use Rattle.nm_rules.proofs.CopyLemmas.{Ready, Counts, counts-none, counts-new, counts-open}
 use Rattle.nm_rules.proofs.CopySteps.{goes-ready, r, runs, filled, closed, going, on_is, rest_is, open-copy}
 use Rattle.nm_rules.proofs.CopyEndLemmas.{new_flags, flags-here}

@@ -1,5 +1,5 @@
 -- A sound stripe: what holds of it between any two steps.
-use Rattle.std.specs.Prelude.{◌≡◌, ℕ, ◌<◌, true, false, IsTrue, None, length, slice_get}
+use Rattle.std.specs.Prelude.{◌≡◌, ℕ, ◌<◌, true, false, IsTrue, None, length, min, slice_get}
 use Rattle.nm_replay.specs.History.{Consistent, EndsIn, IsNumbered}
 use Rattle.nm_choice.specs.declared.leg_state.LegState.TheVariants.{InSync}
 use Rattle.nm_fanout.specs.Records.{AreInOrder, OneWriterABlock, busy_on}
@@ -31,10 +31,12 @@ CurrentLegs model stripe =
     → Holds model stripe leg block
 
 -- a sound stripe: at most 256 records by rising ticket, so one a ticket, and at most one under way
--- a block; what is said of contents is said of honest legs, the last three while the stripe runs
+-- a block; 1,024 entries are kept, or all where there were fewer; what is said of contents is said
+-- of honest legs, the last three while the stripe runs
 pub record IsSound {L : Type 0} (type : LegType L) (stripe : StripeState L) : Type 0 where
   pub in_order : AreInOrder stripe.records
   pub one_writer : OneWriterABlock stripe.records
+  pub kept : length stripe.kept ≡ min 1024 stripe.total
   pub numbers : IsNumbered stripe.kept
   pub consistent : IsTrue type.honest → Consistent stripe.kept
   pub in_sync : IsTrue type.honest → stripe.stopped ≡ false → LegsInSync type.model stripe

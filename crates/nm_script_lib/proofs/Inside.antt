@@ -15,7 +15,7 @@ use Rattle.nm_script_lib.specs.declared.mirror_line.MirrorLine.{MirrorLine}
 use Rattle.nm_script_lib.specs.declared.step.Step.{Step}
 use Rattle.nm_script_lib.specs.declared.step.Step.TheVariants.{Ask}
 use Rattle.nm_script_lib.specs.declared.step.StripeStep.{StripeStep}
-use Rattle.nm_script_lib.specs.declared.step.StripeStep.TheVariants.{Begin, Zero, Push, Claim, Read, Replace}
+use Rattle.nm_script_lib.specs.declared.step.StripeStep.TheVariants.{Begin, Zero, Push, Claim, Read, Fail, Attach, Replace, Copy, Promote, Sync}
 use Rattle.nm_script_lib.specs.Grammar.{IsStepLine, IsScript, mirror_form, step_form, leg_form, look_form}
 use Rattle.nm_script_lib.specs.MemStripe.{MemStripe, InRange, IsNew, HasShape, IsInside, IsAsked, IsFilled, filled_block, fuse_legs}
 use Rattle.nm_script_lib.proofs.FormLaws.{Always, line_always}
@@ -50,6 +50,11 @@ may_ask m (Zero block) asked stripe has inside is = rw (is, has.blocks) (inside,
 may_ask m (Push ticket leg) asked stripe has inside is = rw (is, has.legs) inside
 may_ask m (Claim ticket) asked stripe has inside is = rw is tt
 may_ask m (Read block) asked stripe has inside is = rw (is, has.blocks) inside
+may_ask m (Fail leg) asked stripe has inside is = rw (is, has.legs) inside
+may_ask m (Attach leg) asked stripe has inside is = rw (is, has.legs) inside
+may_ask m (Copy leg) asked stripe has inside is = rw (is, has.legs) inside
+may_ask m (Promote leg) asked stripe has inside is = rw (is, has.legs) inside
+may_ask m (Sync leg) asked stripe has inside is = rw (is, has.legs) inside
 may_ask m (Replace leg fill) asked stripe has inside is =
     rw (is.2, has.legs, has.blocks) (inside, filled_length m.blocks fill is.0 is.1)
 
@@ -76,12 +81,21 @@ looks_fit : (m : MirrorLine) → Always (IsInside m) (look_form m)
 unfolding look_form
 looks_fit m = (
   (λ leg small call most. (small, omega (arith, most.0))),
-  ((λ leg small block low. (small, low)), tt),
+  ((λ leg small block low. (small, low)), (tt, tt)),
 )
 
 leg_steps_fit : (m : MirrorLine) → Always (IsInside m) (leg_form m)
 unfolding leg_form
-leg_steps_fit m = ((λ leg small fill byte. small), looks_fit m)
+leg_steps_fit m = (
+  (λ leg small. small),
+  (
+    (λ leg small. small),
+    (
+      (λ leg small fill byte. small),
+      ((λ leg small. small), ((λ leg small. small), ((λ leg small. small), looks_fit m))),
+    ),
+  ),
+)
 
 steps_fit : (m : MirrorLine) → Always (IsInside m) (step_form m)
 unfolding step_form

@@ -1,5 +1,5 @@
 -- New legs are all alike, and a step changes neither how many legs there are nor how long they are.
-use Rattle.std.proofs.Common.{◌≡◌, ℕ, ◌+◌, ◌-◌, ◌/◌, ◌<◌, ◌≤◌, ◌^◌, zero, suc, List, [], ◌∷◌, ◌++◌, length, Some, refl, sym, ap, subst, ◌∙◌, arith}
+use Rattle.std.proofs.Common.{◌≡◌, true, ℕ, ◌+◌, ◌-◌, ◌/◌, ◌<◌, ◌≤◌, ◌^◌, zero, suc, List, [], ◌∷◌, ◌++◌, length, Some, refl, sym, ap, subst, ◌∙◌, arith}
 use Rattle.std.specs.List.{AllByRecursion, slice_get}
 use Rattle.std.proofs.lemmas.List.{length-append, length-replicate}
 use Rattle.std.proofs.lemmas.Option.{same_Some}
@@ -8,8 +8,10 @@ use Rattle.nm_leg.specs.Leg.{Leg, filled_array, filled_leg}
 use Rattle.nm_leg.specs.LegCalls.{EachHas}
 use Rattle.nm_leg.specs.TestLegs.{of_fuse}
 use Rattle.nm_leg.specs.declared.fuse_leg.FuseLeg.{FuseLeg}
-use Rattle.nm_stripe.specs.State.{contents_of}
+use Rattle.nm_rules.specs.Array.{contents_of}
 use Rattle.nm_script_lib.specs.declared.mirror_line.MirrorLine.{MirrorLine}
+use Rattle.nm_rules.specs.Opening.{has_bit}
+use Rattle.nm_stripe.specs.Opening.{NamesALeg}
 use Rattle.nm_script_lib.specs.MemStripe.{IsFilled, AreNewLegs}
 
 pub at_place : {A : Type 0} (P : A → Type 0) (xs : List A) (k : ℕ) (x : A) → slice_get xs k ≡ Some x →
@@ -61,7 +63,7 @@ pub equal_legs : (m : MirrorLine) (legs : List FuseLeg) (leg other : ℕ) → Ar
 equal_legs m legs leg other are h k =
     all_contents m.blocks leg legs h are.zero ∙ sym (all_contents m.blocks other legs k are.zero)
 
-pub all_bits : (legs : ℕ) → 1 ≤ legs → legs ≤ 8 → 255 / 2 ^ (8 - legs) + 1 ≡ 2 ^ legs
+pub all_bits : (legs : ℕ) → 1 ≤ legs → legs ≤ 8 → 255 / 2 ^ (8 - legs) ≡ 2 ^ legs - 1
 all_bits zero low high = absurd (omega arith)
 all_bits (suc zero) low high = refl
 all_bits (suc (suc zero)) low high = refl
@@ -72,3 +74,24 @@ all_bits (suc (suc (suc (suc (suc (suc zero)))))) low high = refl
 all_bits (suc (suc (suc (suc (suc (suc (suc zero))))))) low high = refl
 all_bits (suc (suc (suc (suc (suc (suc (suc (suc zero)))))))) low high = refl
 all_bits (suc (suc (suc (suc (suc (suc (suc (suc (suc n))))))))) low high = absurd (omega arith)
+
+first_bit : (legs : ℕ) → 1 ≤ legs → legs ≤ 8 → has_bit (2 ^ legs - 1) 0 ≡ true
+first_bit zero low high = absurd (omega arith)
+first_bit (suc zero) low high = refl
+first_bit (suc (suc zero)) low high = refl
+first_bit (suc (suc (suc zero))) low high = refl
+first_bit (suc (suc (suc (suc zero)))) low high = refl
+first_bit (suc (suc (suc (suc (suc zero))))) low high = refl
+first_bit (suc (suc (suc (suc (suc (suc zero)))))) low high = refl
+first_bit (suc (suc (suc (suc (suc (suc (suc zero))))))) low high = refl
+first_bit (suc (suc (suc (suc (suc (suc (suc (suc zero)))))))) low high = refl
+first_bit (suc (suc (suc (suc (suc (suc (suc (suc (suc n))))))))) low high = absurd (omega arith)
+
+-- leg 0 is among the legs in sync
+pub names_first : (bits legs count : ℕ) → 1 ≤ legs → legs ≤ 8 → bits ≡ 2 ^ legs - 1 →
+    count ≡ legs → NamesALeg bits count
+names_first bits legs count low high e c = record {
+  leg = 0;
+  inside = omega (arith, low, c);
+  named = ap (λ b. has_bit b 0) e ∙ first_bit legs low high;
+}

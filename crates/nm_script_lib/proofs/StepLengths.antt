@@ -1,14 +1,21 @@
 -- A step changes no leg's length.
-use Rattle.std.proofs.Common.{◌≡◌, ℕ, ◌<◌, Option, None, Some, ap, subst, sym, length}
+use Rattle.std.proofs.Common.{◌≡◌, ⊎_elim, ℕ, ◌<◌, ◌==◌, true, false, cond, List, Some, length, slice_set, inl, inr, refl, sym, ap, subst, ◌∙◌}
+use Rattle.std.specs.List.{slice_get}
+use Rattle.std.proofs.lemmas.Bool.{cases_Bool, eqb-true, eqb-false}
+use Rattle.std.proofs.lemmas.Option.{same_Some}
+use Rattle.nm_replay.proofs.Arrays.{slice_get-set_same, slice_get-set_other}
 use Rattle.nm_leg.specs.LegCalls.{EachHas}
 use Rattle.nm_leg.specs.TestLegs.{of_fuse}
 use Rattle.nm_leg.specs.declared.fuse_leg.FuseLeg.{FuseLeg}
+use Rattle.nm_rules.specs.declared.refusal.Refusal.{Refusal}
+use Rattle.nm_rules.specs.Lost.{failed_over, lost, settled, without_leg_of}
 use Rattle.nm_stripe.specs.declared.answer.Answer.{Answer}
-use Rattle.nm_stripe.specs.declared.answer.Answer.TheVariants.{Begun, Pushed, Complete, Halted, Written, Value, Refused}
-use Rattle.nm_stripe.specs.declared.refusal.Refusal.{Refusal}
+use Rattle.nm_stripe.specs.declared.answer.Answer.TheVariants.{Begun, Pushed, Complete, Halted, Written, Value, Failed, MasterChanged, Joining, Copied, Nothing, InSync, Synced, LegLost, Refused}
 use Rattle.nm_stripe.specs.declared.step.Step.{Step as MachineStep}
-use Rattle.nm_stripe.specs.declared.step.Step.TheVariants.{Begin, Push, Claim, Read, Replace}
-use Rattle.nm_stripe.specs.Read.{ReadRefused, read_cause}
+use Rattle.nm_stripe.specs.declared.step.Step.TheVariants.{Begin, Push, Claim, Read, Fail, Attach, Replace, Copy, Promote, Sync}
+use Rattle.nm_stripe.specs.Copy.{RefusesCopy, ForCause as CopyCause, ForFault as CopyFault}
+use Rattle.nm_stripe.specs.Read.{RefusesRead, ForCause as ReadCause, ForFault as ReadFault}
+use Rattle.nm_stripe.specs.Sync.{RefusesSync, ForCause as SyncCause, ForFault as SyncFault}
 use Rattle.nm_stripe.specs.Run.{MayBeAsked, StepOf}
 use Rattle.nm_script_lib.specs.MemStripe.{MemStripe, fuse_legs}
 
@@ -16,30 +23,76 @@ use Rattle.nm_script_lib.specs.MemStripe.{MemStripe, fuse_legs}
 abbrev Long : ℕ → MemStripe → Type 0
 Long blocks stripe = EachHas of_fuse stripe.legs blocks
 
-same : (blocks : ℕ) (old new : MemStripe) → new ≡ old → Long blocks old → Long blocks new
-same blocks old new e long = subst (Long blocks) (sym e) long
-
 same_legs : (blocks : ℕ) (old new : MemStripe) → new.legs ≡ old.legs → Long blocks old →
     Long blocks new
-same_legs blocks old new e long = subst (λ legs. EachHas of_fuse legs blocks) (sym e) long
+same_legs blocks old new e long = subst (λ (legs : List FuseLeg). EachHas of_fuse legs blocks) (sym e) long
 
-refused : (blocks : ℕ) (old new : MemStripe) (block : ℕ) (cause : Option Refusal) (given : Refusal) →
-    ReadRefused fuse_legs old new block cause given → Long blocks old → Long blocks new
-refused blocks old new block (Some cause) given is long = same blocks old new is.1 long
-refused blocks old new block None given is long = is.1.reads.change.lengths blocks long
+same : (blocks : ℕ) (old new : MemStripe) → new ≡ old → Long blocks old → Long blocks new
+same blocks old new e long = same_legs blocks old new (ap (λ (s : MemStripe). s.legs) e) long
+
+-- a leg that goes out leaves the list of legs
+lost_legs : (leg : ℕ) (old : MemStripe) → (lost leg old).legs ≡ old.legs
+lost_legs leg old =
+    elim (leg == old.master) as (λ b. (settled (cond b (failed_over (without_leg_of leg old)) (without_leg_of leg old))).legs ≡ old.legs) [ true ↦ refl | false ↦ refl ]
+
+-- a leg in the place of another is as long
+set_long : (blocks : ℕ) (legs : List FuseLeg) (leg : ℕ) (part : FuseLeg) → leg < length legs →
+    length (of_fuse part).contents ≡ blocks → EachHas of_fuse legs blocks →
+    EachHas of_fuse (slice_set legs leg part) blocks
+set_long blocks legs leg part inside e long = λ place x found. elim (cases_Bool (leg == place)) [
+  | inl same ↦
+      let there : slice_get (slice_set legs leg part) leg ≡ Some x =
+      subst (λ k. slice_get (slice_set legs leg part) k ≡ Some x) (sym (eqb-true leg place same)) found in
+      let is : Some part ≡ Some x = sym (slice_get-set_same legs leg part inside) ∙ there in
+      ap (λ (l : FuseLeg). length (of_fuse l).contents) (sym (same_Some part x is)) ∙ e
+  | inr other ↦
+      long place x (sym (slice_get-set_other legs leg place part (eqb-false leg place other)) ∙ found)
+]
+
+read_refused : (blocks : ℕ) (old new : MemStripe) (block : ℕ) (given : Refusal) → RefusesRead fuse_legs old new block given → Long blocks old → Long blocks new
+read_refused blocks old new block given (ReadCause cause is) long = same blocks old new is long
+read_refused blocks old new block given (ReadFault is found fails) long = fails.called.reads.change.lengths blocks long
+
+copy_refused : (blocks : ℕ) (old new : MemStripe) (leg : ℕ) (given : Refusal) → RefusesCopy fuse_legs old new leg given → Long blocks old → Long blocks new
+copy_refused blocks old new leg given (CopyCause cause is) long = same blocks old new is long
+copy_refused blocks old new leg given (CopyFault is fails) long = fails.called.reads.change.lengths blocks long
+
+sync_refused : (blocks : ℕ) (old new : MemStripe) (leg : ℕ) (given : Refusal) → RefusesSync fuse_legs old new leg given → Long blocks old → Long blocks new
+sync_refused blocks old new leg given (SyncCause cause is) long = same blocks old new is long
+sync_refused blocks old new leg given (SyncFault is fails) long = fails.called.syncs.change.lengths blocks long
 
 pub step_lengths : (blocks : ℕ) (step : MachineStep FuseLeg) (answer : Answer FuseLeg)
     (old new : MemStripe) → old.place.blocks ≡ blocks → MayBeAsked of_fuse old step →
     StepOf fuse_legs step answer old new → Long blocks old → Long blocks new
 step_lengths blocks (Begin block bytes) (Begun ticket) old new size may is long = same_legs blocks old new (ap (λ (s : MemStripe). s.legs) is.after) long
 step_lengths blocks (Begin block bytes) (Refused cause handed) old new size may is long = same blocks old new is.2 long
-step_lengths blocks (Push ticket leg) (Pushed count) old new size may is long = is.0.writes.change.lengths blocks long
-step_lengths blocks (Push ticket leg) (Complete number) old new size may is long = is.0.writes.change.lengths blocks long
-step_lengths blocks (Push ticket leg) Halted old new size may is long = is.writes.change.lengths blocks long
+step_lengths blocks (Push ticket leg) (Pushed count) old new size may is long = is.0.called.writes.change.lengths blocks long
+step_lengths blocks (Push ticket leg) (Complete number) old new size may is long = is.0.called.writes.change.lengths blocks long
+step_lengths blocks (Push ticket leg) (LegLost gone handed) old new size may is long = is.0.1.called.writes.change.lengths blocks long
+step_lengths blocks (Push ticket leg) Halted old new size may is long = is.called.writes.change.lengths blocks long
 step_lengths blocks (Push ticket leg) (Refused cause handed) old new size may is long = same blocks old new is.2 long
 step_lengths blocks (Claim ticket) (Written written) old new size may is long = same_legs blocks old new (ap (λ (s : MemStripe). s.legs) is.after) long
 step_lengths blocks (Claim ticket) (Refused cause handed) old new size may is long = same blocks old new is.2 long
-step_lengths blocks (Read block) (Value value) old new size may is long = is.reads.change.lengths blocks long
-step_lengths blocks (Read block) (Refused cause handed) old new size may is long = refused blocks old new block (read_cause old) cause is.0 long
+step_lengths blocks (Read block) (Value value) old new size may is long = is.called.reads.change.lengths blocks long
+step_lengths blocks (Read block) (LegLost gone handed) old new size may is long = is.1.1.called.reads.change.lengths blocks long
+step_lengths blocks (Read block) (Refused cause handed) old new size may is long = read_refused blocks old new block cause is.0 long
+step_lengths blocks (Fail leg) Failed old new size may is long = same_legs blocks old new (ap (λ (s : MemStripe). s.legs) is.0.after ∙ lost_legs leg old) long
+step_lengths blocks (Fail leg) (MasterChanged master) old new size may is long = same_legs blocks old new (ap (λ (s : MemStripe). s.legs) is.0.after ∙ lost_legs leg old) long
+step_lengths blocks (Fail leg) (Refused cause handed) old new size may is long = same blocks old new is.2 long
+step_lengths blocks (Attach leg) (Joining left) old new size may is long = same_legs blocks old new (ap (λ (s : MemStripe). s.legs) is.0.after) long
+step_lengths blocks (Attach leg) (Refused cause handed) old new size may is long = same blocks old new is.2 long
+step_lengths blocks (Replace leg part) (Joining left) old new size may is long =
+    subst (λ (legs : List FuseLeg). EachHas of_fuse legs blocks) (sym (ap (λ (s : MemStripe). s.legs) is.0.after))
+    (set_long blocks old.legs leg part may.0 (may.1 ∙ size) long)
 step_lengths blocks (Replace leg part) (Refused cause handed) old new size may is long = same blocks old new is.2 long
+step_lengths blocks (Copy leg) (Copied left) old new size may is long = ⊎_elim (λ read. read.called.reads.change.lengths blocks long) (λ write. write.called.writes.change.lengths blocks long) is.0
+step_lengths blocks (Copy leg) Nothing old new size may is long = same blocks old new is.1 long
+step_lengths blocks (Copy leg) (LegLost gone handed) old new size may is long = ⊎_elim (λ read. read.1.reads.change.lengths blocks long) (λ write. write.1.writes.change.lengths blocks long) is.0.called
+step_lengths blocks (Copy leg) (Refused cause handed) old new size may is long = copy_refused blocks old new leg cause is.0 long
+step_lengths blocks (Promote leg) InSync old new size may is long = is.called.syncs.change.lengths blocks long
+step_lengths blocks (Promote leg) (LegLost gone handed) old new size may is long = is.0.1.called.syncs.change.lengths blocks long
+step_lengths blocks (Promote leg) (Refused cause handed) old new size may is long = same blocks old new is.2 long
+step_lengths blocks (Sync leg) Synced old new size may is long = is.called.syncs.change.lengths blocks long
+step_lengths blocks (Sync leg) (LegLost gone handed) old new size may is long = is.0.1.called.syncs.change.lengths blocks long
+step_lengths blocks (Sync leg) (Refused cause handed) old new size may is long = sync_refused blocks old new leg cause is.0 long
 step_lengths blocks step answer old new size may is long = absurd is

@@ -3,20 +3,26 @@ use Rattle.std.specs.Prelude.{◌≡◌, ℕ, ◌^◌, ◌-◌, Bool, false, Lis
 use Rattle.std.specs.List.{AllZip, AllByRecursion}
 use Rattle.nm_script_lib.specs.declared.mirror_line.MirrorLine.{MirrorLine}
 use Rattle.nm_script_lib.specs.declared.step.Step.{Step}
-use Rattle.nm_script_lib.specs.declared.step.Step.TheVariants.{Ask, Fuse, Peek}
-use Rattle.nm_script_lib.specs.declared.step.StripeStep.TheVariants.{Begin, Zero, Push, Claim, Read, Replace}
+use Rattle.nm_script_lib.specs.declared.step.Step.TheVariants.{Ask, Fuse, Peek, State}
+use Rattle.nm_script_lib.specs.declared.step.StripeStep.TheVariants.{Begin, Zero, Push, Claim, Read, Fail, Attach, Replace, Copy, Promote, Sync}
 use Rattle.nm_script_lib.specs.Forms.{Number, Below, Within, Byte, Form, Makes, Then, ThenPolicy, NoForm, one, two, keywords, IsLine, AreSeparated}
 
 -- The steps that the stripe has no part in: each one's word, its arguments, and the step.
 unfoldable pub look_form : MirrorLine → Form Step
 look_form m = keywords (
     (codes "fuse", two (Below m.legs) (Within 1 (2 ^ 64 - 1)) Fuse) ∷
-    (codes "peek", two (Below m.legs) (Below m.blocks) Peek) ∷ []) NoForm
+    (codes "peek", two (Below m.legs) (Below m.blocks) Peek) ∷
+    (codes "state", Makes State) ∷ []) NoForm
 
--- The steps of the stripe that bring a leg in or out, and those above.
+-- The steps of the stripe that change a leg, and those above.
 unfoldable pub leg_form : MirrorLine → Form Step
 leg_form m = keywords (
-    (codes "replace", two (Below m.legs) Byte (λ leg fill. Ask (Replace leg fill))) ∷ [])
+    (codes "fail", one (Below m.legs) (λ leg. Ask (Fail leg))) ∷
+    (codes "attach", one (Below m.legs) (λ leg. Ask (Attach leg))) ∷
+    (codes "replace", two (Below m.legs) Byte (λ leg fill. Ask (Replace leg fill))) ∷
+    (codes "copy", one (Below m.legs) (λ leg. Ask (Copy leg))) ∷
+    (codes "promote", one (Below m.legs) (λ leg. Ask (Promote leg))) ∷
+    (codes "sync", one (Below m.legs) (λ leg. Ask (Sync leg))) ∷ [])
     (look_form m)
 
 -- All steps on such a mirror: those that write and read blocks, and those above.

@@ -6,6 +6,7 @@ pub mod BadLine
 pub mod Printing
 pub mod Streams
 pub mod MemStripe
+pub mod StateLine
 pub mod RunErrors
 pub mod Runs
 pub mod Ending

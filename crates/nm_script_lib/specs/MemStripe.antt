@@ -1,21 +1,23 @@
 -- The stripe that a script runs: legs in memory, each with a fuse, of zero bytes and all in sync.
-use Rattle.std.specs.Prelude.{◌≡◌, true, ℕ, ◌<◌, ◌≤◌, ◌^◌, List, length, replicate}
+use Rattle.std.specs.Prelude.{◌≡◌, true, ℕ, ◌<◌, ◌≤◌, ◌^◌, ◌-◌, List, length, replicate, Option, None, Some}
 use Rattle.std.specs.List.{AllByRecursion}
 use Rattle.nm_fanout.specs.declared.block_data.Data.TheVariants.{Cut, Zero as Zeroes}
 use Rattle.nm_leg.specs.Leg.{LegType, leg_type, filled_leg}
 use Rattle.nm_leg.specs.LegCalls.{EachHas}
 use Rattle.nm_leg.specs.TestLegs.{of_fuse}
 use Rattle.nm_leg.specs.declared.fuse_leg.FuseLeg.{FuseLeg}
-use Rattle.nm_stripe.specs.declared.at.At.{At}
+use Rattle.nm_rules.specs.declared.at.At.{At}
 use Rattle.nm_stripe.specs.declared.step.Step.{Step as MachineStep}
-use Rattle.nm_stripe.specs.declared.step.Step.TheVariants.{Begin as BeginStep, Push as PushStep, Claim as ClaimStep, Read as ReadStep, Replace as ReplaceStep}
-use Rattle.nm_stripe.specs.State.{StripeState}
-use Rattle.nm_stripe.specs.Opening.{opened}
+use Rattle.nm_stripe.specs.declared.step.Step.TheVariants.{Begin as BeginStep, Push as PushStep, Claim as ClaimStep, Read as ReadStep}
+use Rattle.nm_stripe.specs.declared.step.Step.TheVariants.{Fail as FailStep, Attach as AttachStep, Replace as ReplaceStep, Copy as CopyStep, Promote as PromoteStep, Sync as SyncStep}
+use Rattle.nm_rules.specs.State.{StripeState}
+use Rattle.nm_rules.specs.Opening.{opened}
+use Rattle.nm_script_lib.specs.declared.fused_call.FusedCall.{FusedCall}
 use Rattle.nm_script_lib.specs.declared.mirror_line.MirrorLine.{MirrorLine}
 use Rattle.nm_script_lib.specs.declared.step.Step.{Step}
-use Rattle.nm_script_lib.specs.declared.step.Step.TheVariants.{Ask, Fuse, Peek}
+use Rattle.nm_script_lib.specs.declared.step.Step.TheVariants.{Ask, Fuse, Peek, State}
 use Rattle.nm_script_lib.specs.declared.step.StripeStep.{StripeStep}
-use Rattle.nm_script_lib.specs.declared.step.StripeStep.TheVariants.{Begin, Zero, Push, Claim, Read, Replace}
+use Rattle.nm_script_lib.specs.declared.step.StripeStep.TheVariants.{Begin, Zero, Push, Claim, Read, Fail, Attach, Replace, Copy, Promote, Sync}
 
 -- The type of a script's legs: all of them are honest.
 abbrev pub fuse_legs : LegType FuseLeg
@@ -46,10 +48,16 @@ pub record AreNewLegs (m : MirrorLine) (legs : List FuseLeg) : Type 0 where
 abbrev pub place_of : MirrorLine → At
 place_of m = record { stripe = 0; blocks = m.blocks; region = m.region; chunk = m.chunk }
 
--- A new stripe has the mirror's shape, such legs, and the mirror's first number.
+-- The mirror has the leg of this call, and the call is not call 0.
+abbrev pub HasCall : MirrorLine → Option FusedCall → Type 0
+HasCall m None = Unit {0}
+HasCall m (Some fused) = (fused.leg < m.legs) × (0 < fused.call)
+
+-- A new stripe has the mirror's shape, such legs, all of them in sync, and the mirror's first
+-- number and policy.
 pub record IsNew (m : MirrorLine) (stripe : MemStripe) : Type 0 where
   pub legs : AreNewLegs m stripe.legs
-  pub state : stripe ≡ opened (place_of m) stripe.legs m.first
+  pub state : stripe ≡ opened (place_of m) stripe.legs (2 ^ m.legs - 1) m.first m.policy
 
 -- The stripe has the mirror's blocks and legs. Every step keeps it so.
 pub record HasShape (m : MirrorLine) (stripe : MemStripe) : Type 0 where
@@ -64,9 +72,15 @@ IsInside m (Ask (Zero block)) = block < m.blocks
 IsInside m (Ask (Push ticket leg)) = leg < m.legs
 IsInside m (Ask (Claim ticket)) = Unit {0}
 IsInside m (Ask (Read block)) = block < m.blocks
+IsInside m (Ask (Fail leg)) = leg < m.legs
+IsInside m (Ask (Attach leg)) = leg < m.legs
 IsInside m (Ask (Replace leg fill)) = leg < m.legs
+IsInside m (Ask (Copy leg)) = leg < m.legs
+IsInside m (Ask (Promote leg)) = leg < m.legs
+IsInside m (Ask (Sync leg)) = leg < m.legs
 IsInside m (Fuse leg call) = (leg < m.legs) × (0 < call)
 IsInside m (Peek leg block) = (leg < m.legs) × (block < m.blocks)
+IsInside m State = Unit {0}
 
 -- A block of one byte throughout.
 unfoldable pub filled_block : ℕ → List ℕ
@@ -79,5 +93,10 @@ IsAsked m (Zero block) asked = asked ≡ BeginStep block Zeroes
 IsAsked m (Push ticket leg) asked = asked ≡ PushStep ticket leg
 IsAsked m (Claim ticket) asked = asked ≡ ClaimStep ticket
 IsAsked m (Read block) asked = asked ≡ ReadStep block
+IsAsked m (Fail leg) asked = asked ≡ FailStep leg
+IsAsked m (Attach leg) asked = asked ≡ AttachStep leg
+IsAsked m (Copy leg) asked = asked ≡ CopyStep leg
+IsAsked m (Promote leg) asked = asked ≡ PromoteStep leg
+IsAsked m (Sync leg) asked = asked ≡ SyncStep leg
 IsAsked m (Replace leg fill) asked =
     (part : FuseLeg) × IsFilled m.blocks fill part × (asked ≡ ReplaceStep leg part)

@@ -7,8 +7,9 @@ use Rattle.nm_replay.specs.declared.entry.Kind.{Kind}
 use Rattle.nm_replay.specs.declared.entry.Kind.TheVariants.{Read, Write}
 use Rattle.nm_replay.specs.declared.entry.Entry.{Entry}
 use Rattle.nm_stripe.specs.declared.answer.Answer.{Answer}
-use Rattle.nm_stripe.specs.declared.answer.Answer.TheVariants.{Begun, Pushed, Complete, Halted, Written, Value, Refused}
-use Rattle.nm_stripe.specs.Refusal.{text_of}
+use Rattle.nm_stripe.specs.declared.answer.Answer.TheVariants.{Begun, Pushed, Complete, Halted, Written, Value}
+use Rattle.nm_stripe.specs.declared.answer.Answer.TheVariants.{Failed, MasterChanged, Joining, Copied, Nothing, InSync, Synced, LegLost, Refused}
+use Rattle.nm_rules.specs.Refusal.{text_of}
 use Rattle.nm_script_lib.specs.declared.fill.Fill.{Fill}
 use Rattle.nm_script_lib.specs.declared.fill.Fill.TheVariants.{Same, Mixed}
 use Rattle.nm_script_lib.specs.Forms.{hex_byte}
@@ -37,6 +38,14 @@ answer_text Halted = codes "halted"
 answer_text (Written written) = codes "written " ++ decimal written.number
 answer_text (Value value) =
     codes "value " ++ decimal value.entry.number ++ codes " " ++ fill_text (fill_of value.bytes.0)
+answer_text Failed = codes "failed"
+answer_text (MasterChanged master) = codes "master " ++ decimal master
+answer_text (Joining blocks) = codes "joining " ++ decimal blocks
+answer_text (Copied blocks) = codes "copied " ++ decimal blocks
+answer_text Nothing = codes "nothing"
+answer_text InSync = codes "insync"
+answer_text Synced = codes "synced"
+answer_text (LegLost leg handed) = codes "lost " ++ decimal leg
 answer_text (Refused refusal handed) = codes "refused " ++ text_of refusal
 
 -- What a leg has in a block.

@@ -8,14 +8,15 @@ use Rattle.nm_leg.specs.TestLegs.{of_fuse}
 use Rattle.nm_leg.specs.declared.fuse_leg.FuseLeg.{FuseLeg}
 use Rattle.nm_stripe.specs.declared.answer.Answer.{Answer}
 use Rattle.nm_stripe.specs.declared.step.Step.{Step as MachineStep}
-use Rattle.nm_stripe.specs.State.{contents_of}
+use Rattle.nm_rules.specs.Array.{contents_of}
 use Rattle.nm_stripe.specs.Run.{StepOf}
 use Rattle.nm_script_lib.specs.declared.mirror_line.MirrorLine.{MirrorLine}
 use Rattle.nm_script_lib.specs.declared.step.Step.{Step}
-use Rattle.nm_script_lib.specs.declared.step.Step.TheVariants.{Ask, Fuse, Peek}
+use Rattle.nm_script_lib.specs.declared.step.Step.TheVariants.{Ask, Fuse, Peek, State}
 use Rattle.nm_script_lib.specs.declared.step.StripeStep.{StripeStep}
 use Rattle.nm_script_lib.specs.MemStripe.{MemStripe, IsAsked, IsNew, fuse_legs}
 use Rattle.nm_script_lib.specs.Printing.{ended_line, answer_text, holds_text, history_lines}
+use Rattle.nm_script_lib.specs.StateLine.{state_text}
 
 -- The stripe had this answer to what the step asks of it.
 pub record Answers (m : MirrorLine) (step : StripeStep) (answer : Answer FuseLeg)
@@ -33,6 +34,7 @@ Prints m (Fuse leg call) text old new = (text ≡ codes "fused") × (new ≡ old
 Prints m (Peek leg block) text old new =
     (found : Block) × (slice_get (contents_of of_fuse old.legs leg) block ≡ Some found)
     × (text ≡ holds_text found) × (new ≡ old)
+Prints m State text old new = (text ≡ state_text old) × (new ≡ old)
 
 -- The steps print these texts, one a step, one after the other.
 abbrev pub PrintsAll : MirrorLine → List Step → List (List ℕ) → MemStripe → MemStripe → Type 0

@@ -8,6 +8,7 @@ use crate::mem_stripe::step as ask;
 use crate::mirror_line::MirrorLine;
 use crate::printing::{put_answer, put_fused, put_holds};
 use crate::run_error::RunError;
+use crate::state_line::put_state;
 use crate::step::Step;
 use nm_leg::FuseLeg;
 use nm_stripe::Stripe;
@@ -38,6 +39,7 @@ pub fn do_step(
             put_fused(text)?;
         }
         Step::Peek { leg, block } => put_holds(text, stripe.part(leg).block(block))?,
+        Step::State => put_state(text, stripe, mirror.legs)?,
     }
     Ok(())
 }

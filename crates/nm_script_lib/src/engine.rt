@@ -1,7 +1,7 @@
 //! Runs the steps of a script, and writes their results.
 ghost use Rattle.std.specs.Prelude.{◌≡◌, ℕ, ◌+◌, ◌<◌, ◌≤◌, List, ◌++◌, length, IfOk, IfErr, OnOk, OnErr};
 ghost use Rattle.std.specs.List.{flat_map, AllByRecursion};
-ghost use Rattle.nm_script_lib.specs.MemStripe.{InRange, IsInside, HasShape};
+ghost use Rattle.nm_script_lib.specs.MemStripe.{InRange, IsInside, HasShape, HasCall};
 ghost use Rattle.std.specs.Io.KnownBytes.{Appends};
 ghost use Rattle.nm_script_lib.specs.Streams.{AppendsPrefix, FlushesPrefix};
 ghost use Rattle.nm_script_lib.specs.Printing.{entry_line};
@@ -9,7 +9,8 @@ ghost use Rattle.nm_script_lib.specs.RunErrors.{EndsRun};
 ghost use Rattle.nm_script_lib.specs.Runs.{RunsSteps, RunsPrefix, WholeRun, PartOfRun, JudgesHistory, Writes, history};
 
 use crate::do_step::do_step;
-use crate::mem_stripe::open;
+use crate::fused_call::FusedCall;
+use crate::mem_stripe::open_fused;
 use crate::mirror_line::MirrorLine;
 use crate::printing::{put_counts, put_entry, put_legal};
 use crate::run_error::RunError;
@@ -137,9 +138,16 @@ fn finish<W: Write>(
     Ok(())
 }
 
-/// Runs a script on a new stripe of memory legs: writes a line a step, and then the history.
-pub fn run<W: Write>(alloc: Global, script: &Script, out: &mut W) -> Result<(), RunError>
+/// Runs a script on a new stripe of memory legs: writes a line a step, and then the history. One
+/// call of a leg may be set to fail before the first step.
+pub fn run<W: Write>(
+    alloc: Global,
+    script: &Script,
+    fuse: Option<FusedCall>,
+    out: &mut W,
+) -> Result<(), RunError>
     requires range { InRange script.now.mirror }
+    requires call { HasCall script.now.mirror fuse }
     requires inside { AllByRecursion (IsInside script.now.mirror) script.now.steps.items }
     ensures ok { OnOk result (Writes (WholeRun script.now.mirror script.now.steps.items)
         (Appends (W.contents out.old) (W.contents out.new))) }
@@ -148,7 +156,7 @@ pub fn run<W: Write>(alloc: Global, script: &Script, out: &mut W) -> Result<(), 
     ensures cause { IfErr result EndsRun }
 {
     let mut buffer = Vec::with_capacity(alloc, BUFFER_SIZE + LINE_SIZE)?;
-    let mut stripe = open(alloc, &script.mirror)?;
+    let mut stripe = open_fused(alloc, &script.mirror, fuse)?;
     run_steps(
         alloc,
         &script.mirror,

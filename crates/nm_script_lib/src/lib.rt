@@ -2,12 +2,14 @@
 //!
 //! `run_script` reads the whole script, does its steps one after the other, and writes a line for
 //! each answer, the history that the stripe keeps, and whether that history is legal. What it
-//! writes is proved to be the lines of the answers, with `legal yes` as the last line.
+//! writes is proved to be the lines of the answers, with `legal yes` as the last line. `run_fused`
+//! does the same while one call of a leg fails.
 #![tactic(auto)]
 
 mod do_step;
 mod engine;
 mod fill;
+mod fused_call;
 mod input_error;
 mod mem_stripe;
 mod mirror_line;
@@ -16,9 +18,10 @@ mod printing;
 mod program;
 mod run_error;
 mod scripts;
+mod state_line;
 mod step;
 mod streams;
 mod words;
 mod write_error;
 
-pub use crate::program::run_script;
+pub use crate::program::{run_fused, run_script};

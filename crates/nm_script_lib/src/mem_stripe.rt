@@ -1,10 +1,11 @@
 //! The stripe that a script runs: legs in memory, each with a fuse, of zero bytes and all in sync.
-ghost use Rattle.std.specs.Prelude.{◌≡◌, ℕ, ◌<◌, ◌≤◌, ◌+◌, ◌^◌, length, IfOk, IfErr};
+ghost use Rattle.std.specs.Prelude.{◌≡◌, ℕ, ◌<◌, ◌≤◌, ◌-◌, ◌^◌, length, IfOk, IfErr};
 ghost use Rattle.nm_script_lib.specs.declared.step.Step.TheVariants.{Ask};
-ghost use Rattle.nm_script_lib.specs.MemStripe.{InRange, AreNewLegs, IsNew, HasShape, IsInside, IsAsked, filled_block};
+ghost use Rattle.nm_script_lib.specs.MemStripe.{InRange, AreNewLegs, IsNew, HasCall, HasShape, IsInside, IsAsked, filled_block};
 ghost use Rattle.nm_script_lib.specs.RunErrors.{EndsRun};
 ghost use Rattle.nm_script_lib.specs.Runs.{Answers};
 
+use crate::fused_call::FusedCall;
 use crate::mirror_line::MirrorLine;
 use crate::run_error::RunError;
 use crate::step::StripeStep;
@@ -29,13 +30,13 @@ fn new_legs(alloc: Global, mirror: &MirrorLine) -> Result<Vec<FuseLeg>, RunError
 /// The bits of this many legs, from leg 0 on.
 fn all_in_sync(legs: u8) -> u8
     requires { (1 ≤ legs) × (legs ≤ 8) }
-    ensures { result + 1 ≡ 2 ^ legs }
+    ensures { result ≡ 2 ^ legs - 1 }
 {
     u8::MAX >> (8 - legs)
 }
 
 /// A new stripe for this mirror.
-pub fn open(alloc: Global, mirror: &MirrorLine) -> Result<Stripe<FuseLeg>, RunError>
+fn open(alloc: Global, mirror: &MirrorLine) -> Result<Stripe<FuseLeg>, RunError>
     requires { InRange mirror.now }
     ensures opened { IfOk result (λ stripe. IsNew mirror.now stripe) }
     ensures cause { IfErr result EndsRun }
@@ -48,10 +49,28 @@ pub fn open(alloc: Global, mirror: &MirrorLine) -> Result<Stripe<FuseLeg>, RunEr
         region: mirror.region,
         chunk: mirror.chunk,
     };
-    match Stripe::open(alloc, place, legs, in_sync, mirror.first) {
+    match Stripe::open(alloc, place, legs, in_sync, mirror.first, mirror.policy) {
         Ok(stripe) => Ok(stripe),
         Err((memory, _)) => Err(RunError::from(memory)),
     }
+}
+
+/// A new stripe for this mirror, of whose legs one call fails.
+pub fn open_fused(
+    alloc: Global,
+    mirror: &MirrorLine,
+    fuse: Option<FusedCall>,
+) -> Result<Stripe<FuseLeg>, RunError>
+    requires range { InRange mirror.now }
+    requires call { HasCall mirror.now fuse }
+    ensures opened { IfOk result (λ stripe. IsNew mirror.now stripe) }
+    ensures cause { IfErr result EndsRun }
+{
+    let stripe = open(alloc, mirror)?;
+    if let Some(fused) = fuse {
+        stripe.part(fused.leg).set(fused.call);
+    }
+    Ok(stripe)
 }
 
 /// A block of one byte throughout.
@@ -76,6 +95,11 @@ fn asked(alloc: Global, mirror: &MirrorLine, step: StripeStep) -> Result<Step<Fu
         StripeStep::Push { ticket, leg } => Ok(Step::Push(ticket, leg)),
         StripeStep::Claim { ticket } => Ok(Step::Claim(ticket)),
         StripeStep::Read { block } => Ok(Step::Read(block)),
+        StripeStep::Fail { leg } => Ok(Step::Fail(leg)),
+        StripeStep::Attach { leg } => Ok(Step::Attach(leg)),
+        StripeStep::Copy { leg } => Ok(Step::Copy(leg)),
+        StripeStep::Promote { leg } => Ok(Step::Promote(leg)),
+        StripeStep::Sync { leg } => Ok(Step::Sync(leg)),
         StripeStep::Replace { leg, fill } => {
             let part = FuseLeg::filled(alloc, mirror.blocks, fill)?;
             Ok(Step::Replace(leg, part))

@@ -2,7 +2,7 @@
 ghost use Rattle.std.specs.Prelude.{◌≡◌, ℕ, ◌+◌, ◌<◌, List, [], ◌∷◌, ◌++◌, false, codes, decimal, OnOk};
 ghost use Rattle.std.specs.Fmt.{digit_glyph};
 ghost use Rattle.nm_script_lib.specs.Forms.{hex_byte};
-ghost use Rattle.nm_stripe.specs.Refusal.{text_of};
+ghost use Rattle.nm_rules.specs.Refusal.{text_of};
 ghost use Rattle.nm_script_lib.specs.Printing.{fill_text, ended_line, answer_text, holds_text, kind_text, entry_line, counts_line, legal_line};
 
 use crate::fill::{Fill, fill_of};
@@ -12,14 +12,14 @@ use nm_stripe::{Answer, Refusal};
 use std::alloc::AllocError;
 
 /// Adds bytes to a text.
-fn put(text: &mut Vec<u8>, bytes: &[u8]) -> Result<(), AllocError>
+pub fn put(text: &mut Vec<u8>, bytes: &[u8]) -> Result<(), AllocError>
     ensures { OnOk result (text.new.items ≡ text.old.items ++ bytes.now) }
 {
     text.extend_from_slice(bytes)
 }
 
 /// Adds a number to a text, in decimal digits.
-fn put_number(text: &mut Vec<u8>, number: u64) -> Result<(), AllocError>
+pub fn put_number(text: &mut Vec<u8>, number: u64) -> Result<(), AllocError>
     ensures { OnOk result (text.new.items ≡ text.old.items ++ decimal number) }
 {
     let mut digits = itoa::Buffer::new();
@@ -63,40 +63,50 @@ fn put_refusal(text: &mut Vec<u8>, refusal: Refusal) -> Result<(), AllocError>
     put(text, printed.as_bytes())
 }
 
+/// Adds a word and a number to a text.
+fn put_counted(text: &mut Vec<u8>, word: &[u8], number: u64) -> Result<(), AllocError>
+    ensures { OnOk result (text.new.items ≡ text.old.items ++ word.now ++ decimal number) }
+{
+    put(text, word)?;
+    put_number(text, number)
+}
+
+/// Adds an answer to a text.
+fn put_answer_text(text: &mut Vec<u8>, answer: &Answer<FuseLeg>) -> Result<(), AllocError>
+    ensures { OnOk result (text.new.items ≡ text.old.items ++ answer_text answer.now) }
+{
+    match answer {
+        Answer::Begun(ticket) => put_counted(text, b"begun ", *ticket),
+        Answer::Pushed(owed) => put_counted(text, b"pushed ", *owed),
+        Answer::Complete(number) => put_counted(text, b"complete ", *number),
+        Answer::Halted => put(text, b"halted"),
+        Answer::Written(written) => put_counted(text, b"written ", written.number()),
+        Answer::Value(value) => {
+            put_counted(text, b"value ", value.number())?;
+            put(text, b" ")?;
+            put_fill(text, fill_of(value.bytes()))
+        }
+        Answer::Failed => put(text, b"failed"),
+        Answer::MasterChanged(master) => put_counted(text, b"master ", u64::from(*master)),
+        Answer::Joining(blocks) => put_counted(text, b"joining ", *blocks),
+        Answer::Copied(blocks) => put_counted(text, b"copied ", *blocks),
+        Answer::Nothing => put(text, b"nothing"),
+        Answer::InSync => put(text, b"insync"),
+        Answer::Synced => put(text, b"synced"),
+        Answer::LegLost(leg, _) => put_counted(text, b"lost ", u64::from(*leg)),
+        Answer::Refused(refusal, _) => {
+            put(text, b"refused ")?;
+            put_refusal(text, *refusal)
+        }
+    }
+}
+
 /// Adds the line of an answer to a text.
 pub fn put_answer(text: &mut Vec<u8>, answer: &Answer<FuseLeg>) -> Result<(), AllocError>
     ensures { OnOk result (text.new.items
         ≡ text.old.items ++ ended_line (answer_text answer.now)) }
 {
-    match answer {
-        Answer::Begun(ticket) => {
-            put(text, b"begun ")?;
-            put_number(text, *ticket)?;
-        }
-        Answer::Pushed(owed) => {
-            put(text, b"pushed ")?;
-            put_number(text, *owed)?;
-        }
-        Answer::Complete(number) => {
-            put(text, b"complete ")?;
-            put_number(text, *number)?;
-        }
-        Answer::Halted => put(text, b"halted")?,
-        Answer::Written(written) => {
-            put(text, b"written ")?;
-            put_number(text, written.number())?;
-        }
-        Answer::Value(value) => {
-            put(text, b"value ")?;
-            put_number(text, value.number())?;
-            put(text, b" ")?;
-            put_fill(text, fill_of(value.bytes()))?;
-        }
-        Answer::Refused(refusal, _) => {
-            put(text, b"refused ")?;
-            put_refusal(text, *refusal)?;
-        }
-    }
+    put_answer_text(text, answer)?;
     put(text, b"\n")
 }
 

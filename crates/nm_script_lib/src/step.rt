@@ -14,6 +14,8 @@ pub enum Step {
     Fuse { leg: u8, call: u64 },
     /// `peek L B`: what leg L has in block B, without a call of the leg.
     Peek { leg: u8, block: u64 },
+    /// `state`: the stripe's master and its legs' states.
+    State,
 }
 
 /// A step of the stripe, as a script asks for it.
@@ -29,8 +31,18 @@ pub enum StripeStep {
     Claim { ticket: u64 },
     /// `read B`: block B is read.
     Read { block: u64 },
-    /// `replace L HH`: a leg of bytes HH takes the place of leg L, which is out.
+    /// `fail L`: leg L goes out.
+    Fail { leg: u8 },
+    /// `attach L`: leg L, which is out, joins again.
+    Attach { leg: u8 },
+    /// `replace L HH`: a leg of bytes HH takes the place of leg L, which is out, and joins.
     Replace { leg: u8, fill: u8 },
+    /// `copy L`: one block is read or written for leg L, which is joining.
+    Copy { leg: u8 },
+    /// `promote L`: leg L, which is joining, is called in sync.
+    Promote { leg: u8 },
+    /// `sync L`: what leg L holds is made durable.
+    Sync { leg: u8 },
 }
 
 /// The step that this word begins, of those that the stripe has no part in, with its arguments.
@@ -47,21 +59,38 @@ fn look_of(mirror: &MirrorLine, word: &[u8], words: &mut Words<'_>) -> Option<St
         let leg = words.below_u8(mirror.legs)?;
         let block = words.below(mirror.blocks)?;
         Step::Peek { leg, block }
+    } else if is_word(word, b"state") {
+        Step::State
     } else {
         return None;
     })
 }
 
-/// The step that this word begins, of those that bring a leg in or out and of `look_of`'s.
+/// The step that this word begins, of those that change a leg and of `look_of`'s.
 #[tactic(auto, unfolding(crate::specs::Grammar::leg_form))]
 fn leg_step_of(mirror: &MirrorLine, word: &[u8], words: &mut Words<'_>) -> Option<Step>
     ensures { Gives result (rest_words words.new)
         (read (leg_form mirror.now) (word.now ∷ rest_words words.old)) }
 {
-    Some(Step::Ask(if is_word(word, b"replace") {
+    Some(Step::Ask(if is_word(word, b"fail") {
+        let leg = words.below_u8(mirror.legs)?;
+        StripeStep::Fail { leg }
+    } else if is_word(word, b"attach") {
+        let leg = words.below_u8(mirror.legs)?;
+        StripeStep::Attach { leg }
+    } else if is_word(word, b"replace") {
         let leg = words.below_u8(mirror.legs)?;
         let fill = words.byte()?;
         StripeStep::Replace { leg, fill }
+    } else if is_word(word, b"copy") {
+        let leg = words.below_u8(mirror.legs)?;
+        StripeStep::Copy { leg }
+    } else if is_word(word, b"promote") {
+        let leg = words.below_u8(mirror.legs)?;
+        StripeStep::Promote { leg }
+    } else if is_word(word, b"sync") {
+        let leg = words.below_u8(mirror.legs)?;
+        StripeStep::Sync { leg }
     } else {
         return look_of(mirror, word, words);
     }))

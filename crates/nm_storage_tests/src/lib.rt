@@ -14,6 +14,6 @@ mod regions;
 #[cfg(test)]
 mod resync;
 #[cfg(test)]
-mod scripts;
+mod rows;
 #[cfg(test)]
-mod stripes;
+mod scripts;

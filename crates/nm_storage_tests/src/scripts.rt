@@ -28,17 +28,7 @@ const WRITE: (&[u8], &[u8]) = (
 );
 
 /// Scripts, each with all that it prints.
-const SCRIPTS: [(&[u8], &[u8]); 9] = [
-    WRITE,
-    (b"mirror 1 1 1 1 rr 0\n", b"history 0 of 0\nlegal yes\n"),
-    // The largest number of an entry.
-    (
-        b"mirror 1 8 4 2 rr 9223372036854775807\nbegin 0 aa\nbegin 1 bb\nread 0\npush 0 0\n\
-          claim 0\n",
-        b"begun 0\nrefused 6 Exhausted\nrefused 6 Exhausted\n\
-          complete 9223372036854775807\nwritten 9223372036854775807\n\
-          history 1 of 1\n9223372036854775807 write 0 0 aa\nlegal yes\n",
-    ),
+const SCRIPTS: [(&[u8], &[u8]); 5] = [
     // All numbers are in use from the start.
     (
         b"mirror 8 65536 65536 65536 st 9223372036854775808\nbegin 65535 00\nread 0",
@@ -56,12 +46,6 @@ const SCRIPTS: [(&[u8], &[u8]); 9] = [
     (
         b"\n# one\r\nmirror 2 16 8 4 rr 0\n\n#\x0b\xe2\x80\xa8 mirror\n\nread 007\n#",
         b"value 0 00\nhistory 1 of 1\n0 read 7 00\nlegal yes\n",
-    ),
-    // A ticket is given once: once claimed it names no record.
-    (
-        b"mirror 1 8 4 2 rr 0\nbegin 0 aa\npush 0 0\nclaim 0\nbegin 0 bb\nclaim 0\n",
-        b"begun 0\ncomplete 0\nwritten 0\nbegun 1\nrefused 7 NoTicket\n\
-          history 1 of 1\n0 write 0 0 aa\nlegal yes\n",
     ),
     // A fuse fails one call, and a later one takes its place. A failed write is torn.
     (
@@ -87,46 +71,6 @@ fn prints_the_answers(rt: HostRuntime) {
         assert_eq!(rt; ran.err.as_slice(), b"".as_slice());
         assert_eq!(rt; ran.status, 0);
     }
-}
-
-/// All records of a stripe are in use, and a claim makes room for another write.
-#[test]
-fn fills_the_records(rt: HostRuntime) -> Result<(), Fail> {
-    let mut text = Vec::from_slice(rt.alloc(), b"mirror 1 300 128 8 rr 0\n")?;
-    let mut printed = Vec::new(rt.alloc());
-    for block in 0..256u32 {
-        writeln!(text, "begin {block} aa")?;
-        writeln!(printed, "begun {block}")?;
-    }
-    text.extend_from_slice(b"begin 256 aa\npush 0 0\nbegin 256 aa\nclaim 0\nbegin 256 aa\n")?;
-    printed.extend_from_slice(
-        b"refused 4 Full\ncomplete 0\nrefused 4 Full\nwritten 0\nbegun 256\n",
-    )?;
-    printed.extend_from_slice(b"history 1 of 1\n0 write 0 0 aa\nlegal yes\n")?;
-    let ran = run_text(rt.alloc(), &text);
-    assert_eq!(rt; ran.out.as_slice(), printed.as_slice());
-    assert_eq!(rt; ran.status, 0);
-    Ok(())
-}
-
-/// Of 1,025 reads the last 1,024 are kept, and all are counted.
-#[test]
-fn keeps_the_last_1024_entries(rt: HostRuntime) -> Result<(), Fail> {
-    let mut text = Vec::from_slice(rt.alloc(), b"mirror 1 8 4 2 rr 0\n")?;
-    let mut printed = Vec::new(rt.alloc());
-    for number in 0..1_025u32 {
-        text.extend_from_slice(b"read 0\n")?;
-        writeln!(printed, "value {number} 00")?;
-    }
-    printed.extend_from_slice(b"history 1024 of 1025\n")?;
-    for number in 1..1_025u32 {
-        writeln!(printed, "{number} read 0 00")?;
-    }
-    printed.extend_from_slice(b"legal yes\n")?;
-    let ran = run_text(rt.alloc(), &text);
-    assert_eq!(rt; ran.out.as_slice(), printed.as_slice());
-    assert_eq!(rt; ran.status, 0);
-    Ok(())
 }
 
 /// A writer that takes five bytes a call.
@@ -194,7 +138,7 @@ const NO_MIRROR: [&[u8]; 21] = [
 ];
 
 /// Lines that are no step on a mirror of 2 legs of 16 blocks.
-const NO_STEP: [&[u8]; 48] = [
+const NO_STEP: [&[u8]; 50] = [
     b"begin",
     b"begin 0",
     b"begin 16 aa",
@@ -240,7 +184,9 @@ const NO_STEP: [&[u8]; 48] = [
     b"fuse 2 1",
     b"peek 0 16",
     b"peek 2 0",
-    b"state",
+    b"state 0",
+    b"fail 2",
+    b"copy",
     b"mirror 2 16 8 4 rr 0",
     b"\r",
 ];

@@ -1,117 +1,144 @@
--- A push: at the master the write takes effect, at every other leg nothing is observable.
-use Rattle.std.proofs.Common.{◌≡◌, ◌≢◌, ⊎_elim, ℕ, ◌==◌, true, false, not, IsTrue, List, [], ◌∷◌, Option, None, Some, is_some, refl, sym, ap, ◌∙◌, subst, arith, nat_lt, cond}
-use Rattle.nm_replay.specs.History.{EndsIn}
-use Rattle.nm_fanout.proofs.Owed.{owes-without_leg_other}
-use Rattle.nm_fanout.proofs.Landing.{unlanded-reached}
-use Rattle.nm_fanout.proofs.Finding.{find_record-changed_other}
+-- A push, from what its calls say to what it keeps, does and answers.
+use Rattle.std.proofs.Common.{◌≡◌, ℕ, ◌<◌, Bool, true, false, cond, List, [], length, Option, Some, None, is_some, slice_get, IsTrue, refl, sym, ap, ◌∙◌, subst, arith}
 use Rattle.nm_fanout.specs.declared.write_record.Record.{Record}
 use Rattle.nm_fanout.specs.Data.{bytes_of}
-use Rattle.nm_fanout.specs.Record.{owes, without_leg, with_entry}
-use Rattle.nm_fanout.specs.Records.{find_record, changed, reached, landed}
+use Rattle.nm_fanout.specs.Record.{is_under_way}
+use Rattle.nm_fanout.specs.Records.{IsAt, reached}
+use Rattle.nm_fanout.proofs.Finding.{find_record-ticket}
 use Rattle.nm_fanout.proofs.InOrder.{AreInOrder-reached}
-use Rattle.nm_leg.specs.Leg.{LegType}
+use Rattle.nm_fanout.proofs.Places.{IsAt-reached, IsAt-landed}
+use Rattle.nm_leg.specs.Leg.{Leg, LegType}
 use Rattle.nm_leg.specs.LegCalls.{WritesLegAt}
-use Rattle.nm_replay.specs.WriteLives.{WriteLife, NotBegun}
-use Rattle.nm_stripe.specs.State.{StripeState, contents_of, write_life, life_of}
-use Rattle.nm_stripe.specs.Push.{after_reach}
-use Rattle.nm_stripe.specs.Invariant.{HasLegs, HasRecords, LegsAgree, Keeps}
-use Rattle.nm_stripe.specs.Acts.{Acts}
-use Rattle.nm_stripe.proofs.ActsLemmas.{kept-none}
-use Rattle.nm_stripe.proofs.ArrayLemmas.{array_is_master}
-use Rattle.nm_stripe.proofs.LegLemmas.{writes-other}
-use Rattle.nm_stripe.proofs.ReachLemmas.{Reaches, moved-legs, moved-records, moved-agrees}
-use Rattle.nm_stripe.proofs.RecordLemmas.{one_or_two, find-changed_same}
+use Rattle.nm_rules.specs.Acts.{IsExplainedStep}
+use Rattle.nm_rules.specs.Invariant.{Keeps}
+use Rattle.nm_rules.specs.Lost.{lost, settled}
+use Rattle.nm_rules.specs.Push.{push_cause, after_push, after_landing, after_reach, lands_at, CallsToPush, Pushes, LosesInPush, Halts}
+use Rattle.nm_rules.specs.State.{StripeState, is_last, next_number}
+use Rattle.nm_rules.proofs.ClaimLemmas.{finished_landed}
+use Rattle.nm_rules.proofs.HaltLemmas.{halt-keeps}
+use Rattle.nm_rules.proofs.LegLemmas.{calls-length}
+use Rattle.nm_rules.proofs.LostStepLemmas.{push_lost-keeps, push_lost-acts}
+use Rattle.nm_rules.proofs.PushLemmas.{may_push}
+use Rattle.nm_rules.proofs.PushedLemmas.{pushes-keeps, pushes-explained}
+use Rattle.nm_stripe.specs.declared.push.Reach.{Reach}
+use Rattle.nm_stripe.specs.declared.push.Reach.TheVariants.{Pushed, Complete, LegLost, Halted}
+use Rattle.nm_stripe.specs.Push.{Reaches, IsReached, IsExplainedReach}
+use Rattle.nm_stripe.proofs.LostLemmas.{lost-after, lost-legs_after}
 
--- a leg is reached, and the entry comes
-abbrev pub landing : ℕ → ℕ → Record → Record
-landing number leg r = with_entry number (without_leg leg r)
+module _ {L : Type 0} (type : LegType L) (succeeded : Bool) (old : StripeState L) (ticket leg place : ℕ) (legs : List L) where
+  -- what is known once a push has called its leg
+  pub record Called : Type 0 where
+    pub pushed : Record
+    pub at : IsAt ticket place old.records
+    pub here : slice_get old.records place ≡ Some pushed
+    pub called : CallsToPush type succeeded old legs ticket leg pushed
 
-pub without-reaches : (leg : ℕ) → Reaches leg (without_leg leg)
-without-reaches leg = record { ticket = λ r. refl; block = λ r. refl; bytes = λ r. refl; owed = λ r. refl }
+  pub has-called : IsAt ticket place old.records → push_cause old ticket leg ≡ None
+      → ((r : Record) → slice_get old.records place ≡ Some r → WritesLegAt type succeeded leg r.block (bytes_of r.data) old.legs legs) → Called
+  has-called at none writes =
+      let may = may_push old ticket leg none in
+      let here : slice_get old.records place ≡ Some may.pushed = sym at.found ∙ may.found in
+      record {
+        pushed = may.pushed;
+        at = at;
+        here = here;
+        called = record { no_cause = none; found = may.found; writes = writes may.pushed here };
+      }
 
-pub landing-reaches : (number leg : ℕ) → Reaches leg (landing number leg)
-landing-reaches number leg = record { ticket = λ r. refl; block = λ r. refl; bytes = λ r. refl; owed = λ r. refl }
+-- the write at the place reaches the leg of a stripe of which no more than the legs changed
+pub reached-after : {L : Type 0} (old mid new : StripeState L) (place leg : ℕ) (r : Record) → mid ≡ record old { legs = mid.legs } → slice_get old.records place ≡ Some r
+    → ((q : Record) → slice_get mid.records place ≡ Some q → new ≡ after_push mid mid.legs q leg) → new ≡ after_push old mid.legs r leg
+reached-after old mid new place leg r others here reach =
+    reach r (ap (λ (s : StripeState _). slice_get s.records place) others ∙ here) ∙ ap (λ (m : StripeState _). after_push m mid.legs r leg) others
 
--- two changes of one record are one
-pub changed-twice : (number leg t : ℕ) (rs : List Record) → landed t number (reached t leg rs) ≡ changed (landing number leg) t rs
-changed-twice number leg t [] = refl
-changed-twice number leg t (q ∷ rs) =
-    (elim (q.ticket == t) as (λ b. (q.ticket == t) ≡ b → landed t number (cond b (without_leg leg q) q ∷ reached t leg rs) ≡ cond b (landing number leg q) q ∷ changed (landing number leg) t rs) [
-      | true ↦ λ is. rw is (ap (λ xs. landing number leg q ∷ xs) (changed-twice number leg t rs))
-      | false ↦ λ is. rw is (ap (λ xs. q ∷ xs) (changed-twice number leg t rs))
-    ]) refl
+-- a leg that was there is there
+pub still-inside : {L : Type 0} (type : LegType L) (succeeded : Bool) (old : StripeState L) (ticket leg place : ℕ) (legs : List L) → Called type succeeded old ticket leg place legs → leg < length old.legs → leg < length legs
+still-inside type succeeded old ticket leg place legs c inside =
+    let w = c.called.writes in
+    omega (arith, inside, calls-length type.model old.legs legs leg w.before w.after w.change)
 
--- what is owed has not landed at the master
-pub not_landed : (e : Option ℕ) → is_some e ≡ false → e ≡ None
-not_landed None h = refl
-not_landed (Some n) h = cc
+-- a push leaves the legs that its call left
+pushed-legs : {L : Type 0} (old : StripeState L) (legs : List L) (r : Record) (leg : ℕ) → (after_push old legs r leg).legs ≡ legs
+pushed-legs old legs r leg = elim (lands_at leg r old) as (λ b. (settled (cond b (after_landing old legs r leg) (after_reach old legs r leg))).legs ≡ legs) [ true ↦ refl | false ↦ refl ]
 
-module _ {L : Type 0} (type : LegType L) (old : StripeState L) (legs : List L) (r : Record) (leg : ℕ) where
-  -- what is known where a write has reached a leg that it owed
-  pub record Reached : Type 0 where
-    pub keeps : Keeps type old
-    pub runs : old.stopped ≡ false
-    pub found : find_record r.ticket old.records ≡ Some r
-    pub owed : owes leg r ≡ true
-    pub writes : WritesLegAt type true leg r.block (bytes_of r.data) old.legs legs
+-- and each record at its place
+pushed-at : {L : Type 0} (type : LegType L) (old : StripeState L) (legs : List L) (r : Record) (leg place : ℕ) → Keeps type old → IsAt r.ticket place old.records → IsAt r.ticket place (after_push old legs r leg).records
+pushed-at type old legs r leg place k at =
+    let there = IsAt-reached r.ticket leg place old.records k.records.in_order.ascending at in
+    elim (lands_at leg r old) as (λ b. IsAt r.ticket place (settled (cond b (after_landing old legs r leg) (after_reach old legs r leg))).records) [
+      | true ↦ IsAt-landed r.ticket (next_number old) place (reached r.ticket leg old.records) (AreInOrder-reached r.ticket leg old.records k.records.in_order).ascending there
+      | false ↦ there
+    ]
 
-  -- at a leg that is not the master
-  module _ (c : Reached) (ne : old.master ≢ leg) where
-    reach-records : HasRecords (after_reach old legs r leg)
-    reach-records =
-        moved-records type old legs r leg (without_leg leg) old.kept old.total (without-reaches leg) c.keeps.records c.writes c.found
-        (AreInOrder-reached r.ticket leg old.records c.keeps.records.in_order)
-        (c.keeps.records.landed r.ticket r c.found ∙ ap (λ b. not b) (sym (owes-without_leg_other leg old.master r ne)))
+module _ {L : Type 0} (type : LegType L) (old new : StripeState L) (ticket leg place : ℕ) (legs : List L) (k : Keeps type old) where
+  -- a push whose leg wrote the block
+  module _ (c : Called type true old ticket leg place legs) (after : new ≡ after_push old legs c.pushed leg) where
+    pub pushes : Pushes type old new ticket leg
+    pushes =
+        let same : new.legs ≡ legs = ap (λ (s : StripeState L). s.legs) after ∙ pushed-legs old legs c.pushed leg in
+        record {
+          pushed = c.pushed;
+          called = subst (λ (ls : List L). CallsToPush type true old ls ticket leg c.pushed) (sym same) c.called;
+          after = after ∙ ap (λ (ls : List L). after_push old ls c.pushed leg) (sym same);
+        }
 
-    reach-legs : HasLegs type.model (after_reach old legs r leg)
-    reach-legs = moved-legs type old legs r leg (without_leg leg) old.kept old.total c.keeps.legs c.writes
+    pub went-keeps : Keeps type new
+    went-keeps = pushes-keeps type old new ticket leg k pushes
 
-    reach-master : contents_of type.model legs old.master ≡ contents_of type.model old.legs old.master
-    reach-master = writes-other type true old.legs legs leg r.block old.master (bytes_of r.data) c.writes ne
+    pub went-explained : IsTrue type.honest → IsExplainedStep type.model [] old new
+    went-explained is_honest = pushes-explained type old new ticket leg is_honest k pushes
 
-    reach-agrees : IsTrue type.honest → LegsAgree type.model (after_reach old legs r leg)
-    reach-agrees is_honest =
-        let agree = c.keeps.agrees is_honest c.runs in
-        moved-agrees type old legs r leg (without_leg leg) old.kept old.total (without-reaches leg) is_honest c.keeps.legs c.keeps.records agree c.writes c.found c.owed
-        (subst (λ xs. EndsIn old.kept xs) (sym reach-master) agree.last)
+    pub went-at : IsAt ticket place new.records
+    went-at =
+        let own : c.pushed.ticket ≡ ticket = find_record-ticket ticket old.records c.pushed c.called.found in
+        let at_own : IsAt c.pushed.ticket place old.records = subst (λ (t : ℕ). IsAt t place old.records) (sym own) c.at in
+        subst (λ (s : StripeState L). IsAt ticket place s.records) (sym after)
+        (subst (λ (t : ℕ). IsAt t place (after_push old legs c.pushed leg).records) own (pushed-at type old legs c.pushed leg place k at_own))
 
-    pub reach-keeps : Keeps type (after_reach old legs r leg)
-    reach-keeps = record {
-      legs = reach-legs;
-      records = reach-records;
-      numbers = record {
-        numbered = c.keeps.numbers.numbered;
-        kept = c.keeps.numbers.kept;
-        given = omega (arith, c.keeps.numbers.given, unlanded-reached r.ticket leg old.records);
-        below = omega (arith, c.keeps.numbers.below, unlanded-reached r.ticket leg old.records);
-      };
-      consistent = c.keeps.consistent;
-      agrees = λ is_honest runs. reach-agrees is_honest;
+    -- the write at the place has its entry once it is finished
+    pub went-landed : (r : Record) → slice_get new.records place ≡ Some r → is_under_way r ≡ false → is_some r.entry ≡ true
+    went-landed r here over = ap (λ (e : Option ℕ). is_some e) (finished_landed type new ticket r (went-at.found ∙ here) over went-keeps.records).1
+
+  -- a push whose leg failed, and has gone out
+  module _ (c : Called type false old ticket leg place legs) (not_last : is_last leg old ≡ false) (after : new ≡ lost leg (record old { legs = legs })) where
+    pub loses : LosesInPush type old new ticket leg
+    loses = record {
+      pushed = c.pushed;
+      called = subst (λ (ls : List L). CallsToPush type false old ls ticket leg c.pushed) (sym (lost-legs_after leg old new legs after)) c.called;
+      not_last = not_last;
+      after = lost-after leg old new legs after;
     }
 
-    reach-lives : (t : ℕ) → write_life (after_reach old legs r leg) t ≡ write_life old t
-    reach-lives t =
-        ap (λ (w : WriteLife). cond (nat_lt t old.tickets) w NotBegun)
-        (⊎_elim
-        (λ is.
-        let at : find_record t (reached r.ticket leg old.records) ≡ Some (without_leg leg r) = subst (λ (u : ℕ). find_record u (reached r.ticket leg old.records) ≡ Some (without_leg leg r)) (sym is) (find-changed_same (without_leg leg) (λ x. refl) r.ticket old.records r c.found) in
-        let was : find_record t old.records ≡ Some r = subst (λ (u : ℕ). find_record u old.records ≡ Some r) (sym is) c.found in
-        ap (λ o. life_of o) at ∙ ap (λ o. life_of o) (sym was))
-        (λ other. ap (λ o. life_of o) (find_record-changed_other (without_leg leg) (λ x. refl) r.ticket t old.records other))
-        (one_or_two t r.ticket))
+    pub lost-keeps : Keeps type new
+    lost-keeps = push_lost-keeps type old new k ticket leg loses
 
-    pub reach-acts : IsTrue type.honest → Acts type.model old (after_reach old legs r leg) []
-    reach-acts is_honest =
-        let before = array_is_master type.model old c.keeps.legs c.keeps.records (c.keeps.agrees is_honest c.runs) in
-        let after = array_is_master type.model (after_reach old legs r leg) reach-legs reach-records (reach-agrees is_honest) in
+    pub lost-explained : IsTrue type.honest → IsExplainedStep type.model [] old new
+    lost-explained is_honest = push_lost-acts type old new k ticket leg loses is_honest
+
+  -- a push whose leg failed, the only one in sync
+  module _ (c : Called type false old ticket leg place legs) (last : is_last leg old ≡ true) (after : new ≡ record old { legs = legs; stopped = true }) where
+    pub halts : Halts type old new ticket leg
+    halts =
+        let same : new.legs ≡ legs = ap (λ (s : StripeState L). s.legs) after in
         record {
-          explained = record {
-            legal = after ∙ reach-master ∙ sym before;
-            next = omega arith;
-            each_write = reach-lives;
-            each_read = λ n. refl;
-          };
-          kept = kept-none old c.keeps.numbers.kept;
-          total = omega arith;
-          first = refl;
+          pushed = c.pushed;
+          called = subst (λ (ls : List L). CallsToPush type false old ls ticket leg c.pushed) (sym same) c.called;
+          last = last;
+          after = after ∙ ap (λ (ls : List L). let s : StripeState L = record old { legs = ls; stopped = true } in s) (sym same);
         }
+
+    pub halted-keeps : Keeps type new
+    halted-keeps = halt-keeps type old new k ticket leg halts
+
+-- a push that reached its leg, with its answer
+pub reaches : {L : Type 0} (type : LegType L) (old new : StripeState L) (ticket leg : ℕ) (answer : Reach) → Pushes type old new ticket leg → IsReached new ticket answer → Reaches type old new ticket leg answer
+reaches type old new ticket leg (Pushed count) p is = (p, is)
+reaches type old new ticket leg (Complete number) p is = (p, is)
+reaches type old new ticket leg (LegLost gone) p is = absurd is
+reaches type old new ticket leg Halted p is = absurd is
+
+pub explained-reach : {L : Type 0} (model : L → Leg) (old new : StripeState L) (answer : Reach) → IsExplainedStep model [] old new → IsExplainedReach model old new answer
+explained-reach model old new (Pushed count) one = one
+explained-reach model old new (Complete number) one = one
+explained-reach model old new (LegLost gone) one = one
+explained-reach model old new Halted one = tt

@@ -1,23 +1,25 @@
 -- Steps one after the other: runs and interleavings, with one step more.
-use Rattle.std.proofs.Common.{◌≡◌, ℕ, IsTrue, List, [], ◌∷◌, ◌++◌, refl, sym, ap, ◌∙◌, subst, append_assoc, append-nil}
-use Rattle.std.proofs.Common.{min, length, reverse, true, false, cond, ◌==◌, Option, None, Some}
+use Rattle.std.proofs.Common.{◌≡◌, ⊎_elim, ℕ, IsTrue, List, [], ◌∷◌, ◌++◌, refl, sym, ap, ◌∙◌, subst, append_assoc, append-nil}
+use Rattle.std.proofs.Common.{min, length, reverse}
 use Rattle.std.proofs.lemmas.List.{reverse-append}
-use Rattle.nm_fanout.specs.declared.write_record.Record.{Record}
-use Rattle.nm_stripe.specs.declared.refusal.Refusal.{Refusal}
-use Rattle.nm_stripe.specs.Read.{read_cause}
-use Rattle.nm_stripe.specs.Push.{Pushes, after_push, after_landing, after_reach}
-use Rattle.nm_stripe.specs.Read.{ReadRefused}
-use Rattle.nm_stripe.proofs.LegLemmas.{calls-length}
 use Rattle.nm_leg.specs.Leg.{Leg, LegType}
-use Rattle.nm_stripe.specs.declared.step.Step.{Step}
-use Rattle.nm_stripe.specs.declared.step.Step.TheVariants.{Begin, Push, Claim, Read, Replace}
-use Rattle.nm_stripe.specs.declared.answer.Answer.{Answer}
-use Rattle.nm_stripe.specs.declared.answer.Answer.TheVariants.{Begun, Pushed, Complete, Halted, Written, Value, Refused}
 use Rattle.nm_replay.specs.Events.{Event, marks_of}
-use Rattle.nm_stripe.specs.State.{StripeState}
-use Rattle.nm_stripe.specs.Acts.{Acts, IsExplainedStep}
+use Rattle.nm_rules.specs.declared.refusal.Refusal.{Refusal}
+use Rattle.nm_rules.specs.Acts.{Acts, IsExplainedStep}
+use Rattle.nm_rules.specs.Shape.{SameShape}
+use Rattle.nm_rules.specs.State.{StripeState}
+use Rattle.nm_rules.proofs.ActsLemmas.{acts-none, acts-append}
+use Rattle.nm_rules.proofs.ShapeLemmas.{begins-shape, pushes-shape, loses_in_push-shape, halts-shape, claims-shape, finds-shape, loses_in_read-shape, fails_in_read-shape, goes_out-shape, attaches-shape, replaces-shape}
+use Rattle.nm_rules.proofs.ShapeLemmas.{copies_read-shape, copies_write-shape, loses_in_copy-shape, fails_in_copy-shape, promotes-shape, loses_in_promote-shape, synchronizes-shape, loses_in_sync-shape, fails_in_sync-shape}
+use Rattle.nm_stripe.specs.declared.answer.Answer.{Answer}
+use Rattle.nm_stripe.specs.declared.answer.Answer.TheVariants.{Begun, Pushed, Complete, Halted, Written, Value, Failed, MasterChanged, Joining, Copied, InSync, Synced, LegLost, Refused}
+use Rattle.nm_stripe.specs.declared.answer.Answer.TheVariants.{Nothing as NothingLeft}
+use Rattle.nm_stripe.specs.declared.step.Step.{Step}
+use Rattle.nm_stripe.specs.declared.step.Step.TheVariants.{Begin, Push, Claim, Read, Fail, Attach, Replace, Copy, Promote, Sync}
+use Rattle.nm_stripe.specs.Copy.{RefusesCopy, ForCause as CopyCause, ForFault as CopyFault}
+use Rattle.nm_stripe.specs.Read.{RefusesRead, ForCause as ReadCause, ForFault as ReadFault}
+use Rattle.nm_stripe.specs.Sync.{RefusesSync, ForCause as SyncCause, ForFault as SyncFault}
 use Rattle.nm_stripe.specs.Run.{StepOf, MayBeAsked, AllAsked, Runs, marks, IsInterleaving, concat, NoneHalted, ActOnOneArray}
-use Rattle.nm_stripe.proofs.ActsLemmas.{acts-none, acts-append}
 
 -- one step more
 pub runs-push : {L : Type 0} (type : LegType L) (old mid new : StripeState L) (steps : List (Step L)) (answers : List (Answer L)) (step : Step L) (answer : Answer L)
@@ -62,6 +64,14 @@ halted-front (Pushed n ∷ answers) answer none = halted-front answers answer no
 halted-front (Complete n ∷ answers) answer none = halted-front answers answer none
 halted-front (Written r ∷ answers) answer none = halted-front answers answer none
 halted-front (Value v ∷ answers) answer none = halted-front answers answer none
+halted-front (Failed ∷ answers) answer none = halted-front answers answer none
+halted-front (MasterChanged m ∷ answers) answer none = halted-front answers answer none
+halted-front (Joining n ∷ answers) answer none = halted-front answers answer none
+halted-front (Copied n ∷ answers) answer none = halted-front answers answer none
+halted-front (NothingLeft ∷ answers) answer none = halted-front answers answer none
+halted-front (InSync ∷ answers) answer none = halted-front answers answer none
+halted-front (Synced ∷ answers) answer none = halted-front answers answer none
+halted-front (LegLost l h ∷ answers) answer none = halted-front answers answer none
 halted-front (Refused c h ∷ answers) answer none = halted-front answers answer none
 
 pub halted-last : {L : Type 0} (answers : List (Answer L)) (answer : Answer L) → NoneHalted (answers ++ answer ∷ []) → NoneHalted (answer ∷ [])
@@ -72,6 +82,14 @@ halted-last (Pushed n ∷ answers) answer none = halted-last answers answer none
 halted-last (Complete n ∷ answers) answer none = halted-last answers answer none
 halted-last (Written r ∷ answers) answer none = halted-last answers answer none
 halted-last (Value v ∷ answers) answer none = halted-last answers answer none
+halted-last (Failed ∷ answers) answer none = halted-last answers answer none
+halted-last (MasterChanged m ∷ answers) answer none = halted-last answers answer none
+halted-last (Joining n ∷ answers) answer none = halted-last answers answer none
+halted-last (Copied n ∷ answers) answer none = halted-last answers answer none
+halted-last (NothingLeft ∷ answers) answer none = halted-last answers answer none
+halted-last (InSync ∷ answers) answer none = halted-last answers answer none
+halted-last (Synced ∷ answers) answer none = halted-last answers answer none
+halted-last (LegLost l h ∷ answers) answer none = halted-last answers answer none
 halted-last (Refused c h ∷ answers) answer none = halted-last answers answer none
 
 -- a list turned round, and turned round again
@@ -83,50 +101,51 @@ reverse-reverse [] = refl
 reverse-reverse (x ∷ xs) = ap (λ ys. reverse ys) (reverse-append (x ∷ []) xs) ∙ reverse-push (reverse xs) x ∙ ap (λ ys. x ∷ ys) (reverse-reverse xs)
 
 -- a step leaves the stripe's place, and as many legs
-pub record SameShape {L : Type 0} (old new : StripeState L) : Type 0 where
-  pub place : new.place ≡ old.place
-  pub legs : length new.legs ≡ length old.legs
-
 same : {L : Type 0} (old new : StripeState L) → new ≡ old → SameShape old new
 same old new is = record { place = ap (λ s. s.place) is; legs = ap (λ s. length s.legs) is }
 
--- a push leaves the place, whichever leg it reached
-push-place : {L : Type 0} (old : StripeState L) (legs : List L) (r : Record) (leg : ℕ) → (after_push old legs r leg).place ≡ old.place
-push-place old legs r leg =
-    elim (leg == old.master) as (λ b. (cond b (after_landing old legs r leg) (after_reach old legs r leg)).place ≡ old.place) [ true ↦ refl | false ↦ refl ]
+read-refused : {L : Type 0} (type : LegType L) (old new : StripeState L) (block : ℕ) (given : Refusal) → RefusesRead type old new block given → SameShape old new
+read-refused type old new block given (ReadCause cause is) = same old new is
+read-refused type old new block given (ReadFault is found fails) = fails_in_read-shape type old new block found fails
 
-push-shape : {L : Type 0} (type : LegType L) (old new : StripeState L) (ticket leg : ℕ) → Pushes type old new ticket leg → SameShape old new
-push-shape type old new ticket leg p = record {
-  place = ap (λ s. s.place) p.after ∙ push-place old new.legs p.pushed leg;
-  legs = calls-length type.model old.legs new.legs leg p.writes.before p.writes.after p.writes.change;
-}
+copy-refused : {L : Type 0} (type : LegType L) (old new : StripeState L) (leg : ℕ) (given : Refusal) → RefusesCopy type old new leg given → SameShape old new
+copy-refused type old new leg given (CopyCause cause is) = same old new is
+copy-refused type old new leg given (CopyFault is fails) = fails_in_copy-shape type old new leg fails
 
--- a read that is refused
-refused-shape : {L : Type 0} (type : LegType L) (old new : StripeState L) (block : ℕ) (cause : Option Refusal) (given : Refusal) → ReadRefused type old new block cause given → SameShape old new
-refused-shape type old new block (Some cause) given is = same old new is.1
-refused-shape type old new block None given is = record {
-  place = ap (λ s. s.place) is.1.after;
-  legs = calls-length type.model old.legs new.legs old.master is.1.reads.before is.1.reads.after is.1.reads.change;
-}
+sync-refused : {L : Type 0} (type : LegType L) (old new : StripeState L) (leg : ℕ) (given : Refusal) → RefusesSync type old new leg given → SameShape old new
+sync-refused type old new leg given (SyncCause cause is) = same old new is
+sync-refused type old new leg given (SyncFault is fails) = fails_in_sync-shape type old new leg fails
 
 pub step-shape : {L : Type 0} (type : LegType L) (step : Step L) (answer : Answer L) (old new : StripeState L) → StepOf type step answer old new → SameShape old new
-step-shape type (Begin block bytes) (Begun ticket) old new is = record { place = ap (λ s. s.place) is.after; legs = ap (λ s. length s.legs) is.after }
+step-shape type (Begin block bytes) (Begun ticket) old new is = begins-shape type old new block bytes ticket is
 step-shape type (Begin block bytes) (Refused cause handed) old new is = same old new is.2
-step-shape type (Push ticket leg) (Pushed count) old new is = push-shape type old new ticket leg is.0
-step-shape type (Push ticket leg) (Complete number) old new is = push-shape type old new ticket leg is.0
-step-shape type (Push ticket leg) Halted old new is = record {
-  place = ap (λ s. s.place) is.after;
-  legs = calls-length type.model old.legs new.legs leg is.writes.before is.writes.after is.writes.change;
-}
+step-shape type (Push ticket leg) (Pushed count) old new is = pushes-shape type old new ticket leg is.0
+step-shape type (Push ticket leg) (Complete number) old new is = pushes-shape type old new ticket leg is.0
+step-shape type (Push ticket leg) (LegLost gone handed) old new is = loses_in_push-shape type old new ticket leg is.0.1
+step-shape type (Push ticket leg) Halted old new is = halts-shape type old new ticket leg is
 step-shape type (Push ticket leg) (Refused cause handed) old new is = same old new is.2
-step-shape type (Claim ticket) (Written written) old new is = record { place = ap (λ s. s.place) is.after; legs = ap (λ s. length s.legs) is.after }
+step-shape type (Claim ticket) (Written written) old new is = claims-shape type old new ticket written is
 step-shape type (Claim ticket) (Refused cause handed) old new is = same old new is.2
-step-shape type (Read block) (Value value) old new is = record {
-  place = ap (λ s. s.place) is.after;
-  legs = calls-length type.model old.legs new.legs old.master is.reads.before is.reads.after is.reads.change;
-}
-step-shape type (Read block) (Refused cause handed) old new is = refused-shape type old new block (read_cause old) cause is.0
+step-shape type (Read block) (Value value) old new is = finds-shape type old new block value.bytes value.entry is
+step-shape type (Read block) (LegLost gone handed) old new is = loses_in_read-shape type old new block gone is.1.0 is.1.1
+step-shape type (Read block) (Refused cause handed) old new is = read-refused type old new block cause is.0
+step-shape type (Fail leg) Failed old new is = goes_out-shape type old new leg is.0
+step-shape type (Fail leg) (MasterChanged master) old new is = goes_out-shape type old new leg is.0
+step-shape type (Fail leg) (Refused cause handed) old new is = same old new is.2
+step-shape type (Attach leg) (Joining blocks) old new is = attaches-shape type old new leg is.0
+step-shape type (Attach leg) (Refused cause handed) old new is = same old new is.2
+step-shape type (Replace leg part) (Joining blocks) old new is = replaces-shape type old new leg part is.0
 step-shape type (Replace leg part) (Refused cause handed) old new is = same old new is.2
+step-shape type (Copy leg) (Copied blocks) old new is = ⊎_elim (λ read. copies_read-shape type old new leg read) (λ write. copies_write-shape type old new leg write) is.0
+step-shape type (Copy leg) NothingLeft old new is = same old new is.1
+step-shape type (Copy leg) (LegLost gone handed) old new is = loses_in_copy-shape type old new leg gone is.0
+step-shape type (Copy leg) (Refused cause handed) old new is = copy-refused type old new leg cause is.0
+step-shape type (Promote leg) InSync old new is = promotes-shape type old new leg is
+step-shape type (Promote leg) (LegLost gone handed) old new is = loses_in_promote-shape type old new leg is.0.1
+step-shape type (Promote leg) (Refused cause handed) old new is = same old new is.2
+step-shape type (Sync leg) Synced old new is = synchronizes-shape type old new leg is
+step-shape type (Sync leg) (LegLost gone handed) old new is = loses_in_sync-shape type old new leg is.0.1
+step-shape type (Sync leg) (Refused cause handed) old new is = sync-refused type old new leg cause is.0
 step-shape type step answer old new is = absurd is
 
 -- what may be asked for may still be
@@ -135,7 +154,12 @@ asked-later model (Begin block bytes) old new shape asked = (rw shape.place aske
 asked-later model (Push ticket leg) old new shape asked = rw shape.legs asked
 asked-later model (Claim ticket) old new shape asked = tt
 asked-later model (Read block) old new shape asked = rw shape.place asked
+asked-later model (Fail leg) old new shape asked = rw shape.legs asked
+asked-later model (Attach leg) old new shape asked = rw shape.legs asked
 asked-later model (Replace leg part) old new shape asked = (rw shape.legs asked.0, rw shape.place asked.1)
+asked-later model (Copy leg) old new shape asked = rw shape.legs asked
+asked-later model (Promote leg) old new shape asked = rw shape.legs asked
+asked-later model (Sync leg) old new shape asked = rw shape.legs asked
 
 pub all_asked-later : {L : Type 0} (model : L → Leg) (steps : List (Step L)) (old new : StripeState L) → SameShape old new → AllAsked model old steps → AllAsked model new steps
 all_asked-later model [] old new shape asked = tt
@@ -173,3 +197,10 @@ run-on type old steps rest step answers answer now new run is shows = record {
 pub all_asked-push : {L : Type 0} (model : L → Leg) (stripe : StripeState L) (steps : List (Step L)) (step : Step L) → AllAsked model stripe steps → MayBeAsked model stripe step → AllAsked model stripe (steps ++ step ∷ [])
 all_asked-push model stripe [] step all one = (one, tt)
 all_asked-push model stripe (s ∷ steps) step all one = (all.0, all_asked-push model stripe steps step all.1 one)
+
+-- a run that is over has done all of its steps
+pub run-over : {L : Type 0} (type : LegType L) (old : StripeState L) (steps rest : List (Step L)) (answers : List (Answer L)) (now : StripeState L)
+    → HasRun type old steps rest answers now → rest ≡ [] → IsTrue type.honest → NoneHalted answers → ActOnOneArray type.model steps answers old now
+run-over type old steps rest answers now run none is_honest halted =
+    let all : run.done ≡ steps = sym (append-nil run.done) ∙ ap (λ (rs : List (Step _)). run.done ++ reverse rs) (sym none) ∙ run.split in
+    subst (λ (ss : List (Step _)). ActOnOneArray type.model ss answers old now) all (run.acts is_honest halted)

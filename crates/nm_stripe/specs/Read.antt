@@ -1,55 +1,43 @@
--- A read of a block: why it is refused, and what it does.
-use Rattle.std.specs.Prelude.{◌≡◌, ℕ, ◌+◌, true, false, List, [], ◌∷◌, ◌++◌, Option, None, Some}
+-- What a read answers.
+use Rattle.std.specs.Prelude.{◌≡◌, ℕ, [], ◌∷◌, Some, Result, Ok, Err, slice_get}
 use Rattle.nm_replay.specs.declared.block.Block.{Block}
-use Rattle.nm_replay.specs.Events.{entry_of_read}
-use Rattle.nm_replay.specs.Kept.{last_kept}
-use Rattle.nm_leg.specs.Leg.{LegType}
-use Rattle.nm_leg.specs.LegCalls.{ReadsLegAt}
-use Rattle.nm_stripe.specs.declared.refusal.Refusal.{Refusal}
-use Rattle.nm_stripe.specs.declared.refusal.Refusal.TheVariants.{Stopped, Exhausted, Fault}
-use Rattle.nm_stripe.specs.Receipt.{EntryName}
-use Rattle.nm_stripe.specs.State.{StripeState, next_number, is_exhausted}
-use Rattle.nm_stripe.specs.Cause.{when, first_cause}
+use Rattle.nm_replay.specs.Events.{BeginsRead, RepliesRead}
+use Rattle.nm_leg.specs.Leg.{Leg, LegType}
+use Rattle.nm_rules.specs.declared.refusal.Refusal.{Refusal}
+use Rattle.nm_rules.specs.declared.refusal.Refusal.TheVariants.{Fault}
+use Rattle.nm_rules.specs.Acts.{IsExplainedStep}
+use Rattle.nm_rules.specs.Array.{stripe_array}
+use Rattle.nm_rules.specs.Read.{Finds, LosesInRead, FailsInRead, read_cause}
+use Rattle.nm_rules.specs.State.{StripeState}
+use Rattle.nm_stripe.specs.declared.read.Reading.{Reading}
+use Rattle.nm_stripe.specs.declared.read.Reading.TheVariants.{Value, LegLost}
 
--- the conditions for a refusal of a read, in the order in which they are tested
-abbrev pub read_rows : {L : Type 0} → StripeState L → List (Option Refusal)
-read_rows stripe =
-    when stripe.stopped Stopped
-    ∷ when (is_exhausted stripe) Exhausted
-    ∷ []
+-- a read of this block into these bytes, with its answer
+abbrev pub Reads : {L : Type 0} → LegType L → StripeState L → StripeState L → ℕ → Block
+    → Reading L → Type 0
+Reads type old new block bytes (Value receipt) = Finds type old new block bytes receipt
+Reads type old new block bytes (LegLost leg) =
+    (found : Block) × LosesInRead type old new block leg found
 
--- why no block may be read
-abbrev pub read_cause : {L : Type 0} → StripeState L → Option Refusal
-read_cause stripe = first_cause (read_rows stripe)
+-- a read that is refused: for its cause, which changes nothing; or because the only leg in sync
+-- failed
+pub data RefusesRead {L : Type 0} (type : LegType L) (old new : StripeState L) (block : ℕ)
+    (refusal : Refusal) : Type 0 where
+  ForCause : read_cause old ≡ Some refusal → new ≡ old → RefusesRead type old new block refusal
+  ForFault : refusal ≡ Fault → (found : Block) → FailsInRead type old new block found
+      → RefusesRead type old new block refusal
 
--- the stripe after a read of this block found the bytes, and its call left these legs
-abbrev pub after_read : {L : Type 0} → StripeState L → List L → ℕ → Block → StripeState L
-after_read old legs block bytes = record old {
-  legs = legs;
-  kept = last_kept (old.kept ++ entry_of_read (next_number old) block bytes ∷ []);
-  total = old.total + 1;
-}
+-- the bytes are the array's, and the read is explained by its begin and its reply; or a leg was lost
+abbrev pub IsExplainedReading : {L : Type 0} → (L → Leg) → StripeState L → StripeState L → ℕ
+    → Block → Reading L → Type 0
+IsExplainedReading model old new block bytes (Value receipt) =
+    (slice_get (stripe_array model old) block ≡ Some bytes)
+    × IsExplainedStep model
+    (BeginsRead receipt.number block ∷ RepliesRead receipt.number bytes ∷ []) old new
+IsExplainedReading model old new block bytes (LegLost leg) = IsExplainedStep model [] old new
 
--- a read: the master's call gives the bytes, and the history gets the entry that the receipt names
-pub record Finds {L : Type 0} (type : LegType L) (old new : StripeState L)
-    (block : ℕ) (bytes : Block) (receipt : EntryName) : Type 0 where
-  pub no_cause : read_cause old ≡ None
-  pub target : Block
-  pub reads : ReadsLegAt type true old.master block old.legs new.legs target bytes
-  pub names : receipt
-      ≡ record { stripe = old.place.stripe; block = block; number = next_number old }
-  pub after : new ≡ after_read old new.legs block bytes
-
--- a read whose leg failed: its count of faults changed, and nothing else
-pub record Fails {L : Type 0} (type : LegType L) (old new : StripeState L)
-    (block : ℕ) : Type 0 where
-  pub no_cause : read_cause old ≡ None
-  pub target : Block
-  pub reads : ReadsLegAt type false old.master block old.legs new.legs target target
-  pub after : new ≡ record old { legs = new.legs }
-
--- a read is refused: for the first condition that holds, or, where none does, by a leg that failed
-abbrev pub ReadRefused : {L : Type 0} → LegType L → StripeState L → StripeState L
-    → ℕ → Option Refusal → Refusal → Type 0
-ReadRefused type old new block (Some cause) refusal = (refusal ≡ cause) × (new ≡ old)
-ReadRefused type old new block None refusal = (refusal ≡ Fault) × Fails type old new block
+-- but for a value the target is as it was
+abbrev pub LeavesTarget : {L : Type 0} → Result (Reading L) Refusal → Block → Block → Type 0
+LeavesTarget (Ok (Value receipt)) was is = Unit {0}
+LeavesTarget (Ok (LegLost leg)) was is = is ≡ was
+LeavesTarget (Err refusal) was is = is ≡ was

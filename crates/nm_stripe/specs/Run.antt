@@ -1,31 +1,49 @@
 -- A list of steps: which answers each may have, and that its operations act on one array.
 use Rattle.std.specs.Prelude.{◌≡◌, ◌<◌, List, [], ◌∷◌, ◌++◌, Some, length}
 use Rattle.nm_replay.specs.Events.{Event, BeginsRead, BeginsWrite, RepliesRead, RepliesWrite, marks_of}
+use Rattle.nm_replay.specs.declared.block.Block.{Block}
 use Rattle.nm_fanout.specs.Data.{bytes_of, FillsBlock}
 use Rattle.nm_leg.specs.Leg.{Leg, block_of, LegType}
-use Rattle.nm_stripe.specs.declared.step.Step.{Step}
-use Rattle.nm_stripe.specs.declared.step.Step.TheVariants.{Begin, Push, Claim, Read, Replace}
+use Rattle.nm_rules.specs.Acts.{Acts}
+use Rattle.nm_rules.specs.Attach.{Attaches, Replaces, attach_cause}
+use Rattle.nm_rules.specs.Begin.{Begins, begin_cause}
+use Rattle.nm_rules.specs.Claim.{Claims, claim_cause}
+use Rattle.nm_rules.specs.Failing.{fail_cause}
+use Rattle.nm_rules.specs.Promote.{promote_cause}
+use Rattle.nm_rules.specs.Push.{push_cause}
+use Rattle.nm_rules.specs.State.{StripeState, left}
 use Rattle.nm_stripe.specs.declared.answer.Answer.{Answer}
-use Rattle.nm_stripe.specs.declared.answer.Answer.TheVariants.{Begun, Pushed, Complete, Halted, Written, Value, Refused}
+use Rattle.nm_stripe.specs.declared.answer.Answer.TheVariants.{Begun, Pushed, Complete, Halted, Written, Value, Failed, MasterChanged, Joining, Copied, InSync, Synced, LegLost, Refused}
+use Rattle.nm_stripe.specs.declared.answer.Answer.TheVariants.{Nothing as NothingLeft}
 use Rattle.nm_stripe.specs.declared.answer.Handed.TheVariants.{Nothing, Data, Replacement}
-use Rattle.nm_stripe.specs.State.{StripeState}
-use Rattle.nm_stripe.specs.Begin.{Begins, begin_cause}
-use Rattle.nm_stripe.specs.Push.{Pushes, StillOwes, IsComplete, Halts, push_cause}
-use Rattle.nm_stripe.specs.Claim.{Claims, claim_cause}
-use Rattle.nm_stripe.specs.Read.{Finds, ReadRefused, read_cause}
-use Rattle.nm_stripe.specs.Replace.{replace_cause}
-use Rattle.nm_stripe.specs.Acts.{Acts}
+use Rattle.nm_stripe.specs.declared.copy.Copying.TheVariants as copying
+use Rattle.nm_stripe.specs.declared.fail.Failing.TheVariants as failing
+use Rattle.nm_stripe.specs.declared.push.Reach.TheVariants as reach
+use Rattle.nm_stripe.specs.declared.read.Reading.TheVariants as reading
+use Rattle.nm_stripe.specs.declared.step.Step.{Step}
+use Rattle.nm_stripe.specs.declared.step.Step.TheVariants.{Begin, Push, Claim, Read, Fail, Attach, Replace, Copy, Promote, Sync}
+use Rattle.nm_stripe.specs.declared.sync.Promotion.TheVariants as promotion
+use Rattle.nm_stripe.specs.declared.sync.Syncing.TheVariants as syncing
+use Rattle.nm_stripe.specs.Copy.{Copies, RefusesCopy}
+use Rattle.nm_stripe.specs.Fail.{Fails}
+use Rattle.nm_stripe.specs.Push.{Reaches}
+use Rattle.nm_stripe.specs.Read.{Reads, RefusesRead}
+use Rattle.nm_stripe.specs.Sync.{EndsJoining, Syncs, RefusesSync}
 
--- a step that may be asked for: its block lies in the stripe, its leg is there, and its data fill a
--- block
+-- a step that may be asked for: its block lies in the stripe, its leg is there, its data fill a
+-- block, and a new leg is as long as the stripe
 abbrev pub MayBeAsked : {L : Type 0} → (L → Leg) → StripeState L → Step L → Type 0
 MayBeAsked model stripe (Begin block bytes) = (block < stripe.place.blocks) × FillsBlock bytes
 MayBeAsked model stripe (Push ticket leg) = leg < length stripe.legs
 MayBeAsked model stripe (Claim ticket) = Unit {0}
 MayBeAsked model stripe (Read block) = block < stripe.place.blocks
-MayBeAsked model stripe (Replace leg replacement) =
-    (leg < length stripe.legs)
-    × (length (model replacement).contents ≡ stripe.place.blocks)
+MayBeAsked model stripe (Fail leg) = leg < length stripe.legs
+MayBeAsked model stripe (Attach leg) = leg < length stripe.legs
+MayBeAsked model stripe (Replace leg part) =
+    (leg < length stripe.legs) × (length (model part).contents ≡ stripe.place.blocks)
+MayBeAsked model stripe (Copy leg) = leg < length stripe.legs
+MayBeAsked model stripe (Promote leg) = leg < length stripe.legs
+MayBeAsked model stripe (Sync leg) = leg < length stripe.legs
 
 -- each of the steps may be asked for
 abbrev pub AllAsked : {L : Type 0} → (L → Leg) → StripeState L → List (Step L) → Type 0
@@ -39,21 +57,52 @@ StepOf type (Begin block bytes) (Begun ticket) old new = Begins old new block by
 StepOf type (Begin block bytes) (Refused refusal handed) old new =
     (begin_cause old block ≡ Some refusal) × (handed ≡ Data bytes) × (new ≡ old)
 StepOf type (Push ticket leg) (Pushed count) old new =
-    Pushes type old new ticket leg × StillOwes new ticket count
+    Reaches type old new ticket leg (reach.Pushed count)
 StepOf type (Push ticket leg) (Complete number) old new =
-    Pushes type old new ticket leg × IsComplete new ticket number
-StepOf type (Push ticket leg) Halted old new = Halts type old new ticket leg
+    Reaches type old new ticket leg (reach.Complete number)
+StepOf type (Push ticket leg) (LegLost gone handed) old new =
+    Reaches type old new ticket leg (reach.LegLost gone) × (handed ≡ Nothing)
+StepOf type (Push ticket leg) Halted old new = Reaches type old new ticket leg reach.Halted
 StepOf type (Push ticket leg) (Refused refusal handed) old new =
     (push_cause old ticket leg ≡ Some refusal) × (handed ≡ Nothing) × (new ≡ old)
 StepOf type (Claim ticket) (Written written) old new = Claims old new ticket written
 StepOf type (Claim ticket) (Refused refusal handed) old new =
     (claim_cause old ticket ≡ Some refusal) × (handed ≡ Nothing) × (new ≡ old)
 StepOf type (Read block) (Value value) old new =
-    Finds type old new block value.bytes value.entry
+    Reads type old new block value.bytes (reading.Value value.entry)
+StepOf type (Read block) (LegLost gone handed) old new =
+    (found : Block)
+    × Reads type old new block found (reading.LegLost gone) × (handed ≡ Nothing)
 StepOf type (Read block) (Refused refusal handed) old new =
-    ReadRefused type old new block (read_cause old) refusal × (handed ≡ Nothing)
-StepOf type (Replace leg replacement) (Refused refusal handed) old new =
-    (replace_cause old ≡ Some refusal) × (handed ≡ Replacement replacement) × (new ≡ old)
+    RefusesRead type old new block refusal × (handed ≡ Nothing)
+StepOf type (Fail leg) Failed old new = Fails old new leg failing.Failed
+StepOf type (Fail leg) (MasterChanged master) old new =
+    Fails old new leg (failing.MasterChanged master)
+StepOf type (Fail leg) (Refused refusal handed) old new =
+    (fail_cause old leg ≡ Some refusal) × (handed ≡ Nothing) × (new ≡ old)
+StepOf type (Attach leg) (Joining blocks) old new = Attaches old new leg × (blocks ≡ left leg new)
+StepOf type (Attach leg) (Refused refusal handed) old new =
+    (attach_cause old leg ≡ Some refusal) × (handed ≡ Nothing) × (new ≡ old)
+StepOf type (Replace leg part) (Joining blocks) old new =
+    Replaces old new leg part × (blocks ≡ left leg new)
+StepOf type (Replace leg part) (Refused refusal handed) old new =
+    (attach_cause old leg ≡ Some refusal) × (handed ≡ Replacement part) × (new ≡ old)
+StepOf type (Copy leg) (Copied blocks) old new = Copies type old new leg (copying.Copied blocks)
+StepOf type (Copy leg) NothingLeft old new = Copies type old new leg copying.Nothing
+StepOf type (Copy leg) (LegLost gone handed) old new =
+    Copies type old new leg (copying.LegLost gone) × (handed ≡ Nothing)
+StepOf type (Copy leg) (Refused refusal handed) old new =
+    RefusesCopy type old new leg refusal × (handed ≡ Nothing)
+StepOf type (Promote leg) InSync old new = EndsJoining type old new leg promotion.InSync
+StepOf type (Promote leg) (LegLost gone handed) old new =
+    EndsJoining type old new leg (promotion.LegLost gone) × (handed ≡ Nothing)
+StepOf type (Promote leg) (Refused refusal handed) old new =
+    (promote_cause old leg ≡ Some refusal) × (handed ≡ Nothing) × (new ≡ old)
+StepOf type (Sync leg) Synced old new = Syncs type old new leg syncing.Synced
+StepOf type (Sync leg) (LegLost gone handed) old new =
+    Syncs type old new leg (syncing.LegLost gone) × (handed ≡ Nothing)
+StepOf type (Sync leg) (Refused refusal handed) old new =
+    RefusesSync type old new leg refusal × (handed ≡ Nothing)
 StepOf type step answer old new = ⊥
 
 -- the steps may have these answers, one after the other

@@ -1,7 +1,7 @@
-use crate::refusal::Refusal;
 use crate::value::Value;
 use crate::written::Written;
 use nm_fanout::Data;
+use nm_rules::Refusal;
 
 /// What a step answers.
 #[derive(Drop)]
@@ -12,17 +12,33 @@ pub enum Answer<L> {
     Pushed(u64),
     /// The write reached its last leg. Its entry has this number.
     Complete(u64),
-    /// The leg failed, and the stripe has stopped.
+    /// The leg failed, the only one in sync, and the stripe has stopped.
     Halted,
     /// The write is done.
     Written(Written<L>),
     /// The block's bytes, as they were read.
     Value(Value<L>),
+    /// The leg has gone out. It was not the master.
+    Failed,
+    /// The master has gone out, and this leg is the master now.
+    MasterChanged(u8),
+    /// The leg joins, and so many blocks are left to copy to it.
+    Joining(u64),
+    /// A block was copied halfway or whole; so many are left.
+    Copied(u64),
+    /// The leg is behind in no region.
+    Nothing,
+    /// The leg is in sync.
+    InSync,
+    /// What the leg held is durable.
+    Synced,
+    /// This leg failed, and has gone out. What was handed in comes back.
+    LegLost(u8, Handed<L>),
     /// The step was refused, and what was handed in comes back.
     Refused(Refusal, Handed<L>),
 }
 
-/// What a refused step hands back.
+/// What a step that was not done hands back.
 #[derive(Drop)]
 pub enum Handed<L> {
     /// Nothing was handed in.

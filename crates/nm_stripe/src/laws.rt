@@ -1,5 +1,6 @@
 //! What the array of a stripe is, at a block and as the stripe is opened.
-ghost use Rattle.nm_stripe.specs.Laws.{ArrayAtEachBlock, OpensWithTheMaster};
+ghost use Rattle.nm_rules.specs.Laws.{ArrayAtEachBlock};
+ghost use Rattle.nm_stripe.specs.Laws.{OpensWithTheMaster};
 
 use nm_leg::LegPart;
 

@@ -1,30 +1,40 @@
 //! A stripe: one lock shard of the mirror, whose every list of steps acts on one array.
 //!
-//! `Stripe::run` promises, for every list of steps, that each block read or written acts once,
-//! between its begin and its reply, on one array, and that the kept history grows by those acts.
+//! Its legs may fail, come back and be copied again. `Stripe::run` promises, for every list of
+//! steps, that each block read or written acts once, between its begin and its reply, on one array,
+//! that the kept history grows by those acts, and that each leg in sync holds that array outside
+//! writes under way.
 #![tactic(auto)]
 
 pub use answer::{Answer, Handed};
-pub use at::At;
+pub use copy::Copying;
+pub use end::End;
+pub use fail::Failing;
+pub use nm_choice::{LegState, Policy};
+pub use nm_rules::{At, Refusal};
 pub use push::Reach;
+pub use read::Reading;
 pub use receipt::Receipt;
-pub use refusal::Refusal;
 pub use step::Step;
-pub use stripe::{LegState, Stripe};
+pub use stripe::Stripe;
+pub use sync::{Promotion, Syncing};
 pub use value::Value;
 pub use written::Written;
 
 mod answer;
-mod at;
+mod attach;
 mod begin;
 mod claim;
+mod copy;
+mod end;
+mod fail;
 pub mod laws;
 mod push;
 mod read;
 mod receipt;
-mod refusal;
 mod run;
 mod step;
 mod stripe;
+mod sync;
 mod value;
 mod written;

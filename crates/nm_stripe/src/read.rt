@@ -1,64 +1,56 @@
 //! Reads a block.
 ghost use Rattle.nm_leg.specs.Leg.{leg_type};
-ghost use Rattle.std.specs.Prelude.{◌≡◌, ℕ, ◌<◌, [], ◌∷◌, IsTrue, IfOk, IfErr, OnErr, Some, slice_get};
-ghost use Rattle.nm_stripe.specs.State.{stripe_array};
-ghost use Rattle.nm_replay.specs.Events.{BeginsRead, RepliesRead};
-ghost use Rattle.nm_stripe.specs.Read.{Finds, ReadRefused, read_cause};
-ghost use Rattle.nm_stripe.specs.Acts.{IsExplainedStep};
+ghost use Rattle.std.specs.Prelude.{◌≡◌, ◌<◌, [], IsTrue, IfOk, IfErr, OnErr};
+ghost use Rattle.nm_rules.specs.Acts.{IsExplainedStep};
+ghost use Rattle.nm_stripe.specs.Read.{Reads, IsExplainedReading, RefusesRead, LeavesTarget};
 
 use crate::receipt::Receipt;
-use crate::refusal::Refusal;
 use crate::stripe::Stripe;
-use nm_leg::{LegPart, read_leg_at};
-use nm_replay::{Block, Entry, Kind};
+use nm_leg::LegPart;
+use nm_replay::Block;
+use nm_rules::Refusal;
+
+/// What a read answers.
+#[derive(Drop)]
+pub enum Reading<L> {
+    /// The block was read. The receipt names its entry.
+    Value(Receipt<L>),
+    /// The leg failed, and has gone out. Nothing was read.
+    LegLost(u8),
+}
 
 impl<L: LegPart> Stripe<L> {
-    /// Why no block may be read.
-    fn read_cause(&self) -> Option<Refusal>
-        ensures { result ≡ read_cause self.now }
-    {
-        if self.stopped {
-            return Some(Refusal::Stopped);
-        }
-        if self.is_exhausted() {
-            return Some(Refusal::Exhausted);
-        }
-        None
-    }
-
-    /// Reads a block from the master into `into`, and keeps the read's entry under the next number.
+    /// Reads a block into `into`, and keeps the read's entry under the next number. Where no write
+    /// is under way in the block's region it takes one of the legs that are current there, as the
+    /// stripe's policy says, and else the master.
     ///
-    /// Refused as `Stopped`, `Exhausted` or `Fault`, the first whose condition holds; then `into`
-    /// is as it was.
-    pub fn read(&mut self, block: u64, into: &mut Block) -> Result<Receipt<L>, Refusal>
+    /// Refused as `Stopped`, `Settling`, `Exhausted` or `Fault` (the only leg in sync failed), the
+    /// first whose condition holds. But for a `Value` `into` is as it was.
+    pub fn read(&mut self, block: u64, into: &mut Block) -> Result<Reading<L>, Refusal>
         requires { block < self.old.place.blocks }
-        ensures ok { IfOk result (Finds (leg_type L.model L.honest) self.old self.new
+        ensures ok { IfOk result (Reads (leg_type L.model L.honest) self.old self.new
             block into.new) }
-        ensures array { IsTrue L.honest → IfOk result (λ _.
-            slice_get (stripe_array L.model self.old) block ≡ Some into.new) }
-        ensures acts { IsTrue L.honest → IfOk result (λ receipt. IsExplainedStep L.model
-            (BeginsRead receipt.number block ∷ RepliesRead receipt.number into.new ∷ [])
-            self.old self.new) }
-        ensures refused { IfErr result (ReadRefused (leg_type L.model L.honest) self.old self.new
-            block (read_cause self.old)) }
+        ensures acts { IsTrue L.honest
+            → IfOk result (IsExplainedReading L.model self.old self.new block into.new) }
+        ensures refused { IfErr result (RefusesRead (leg_type L.model L.honest) self.old self.new
+            block) }
         ensures refused_acts { IsTrue L.honest
             → OnErr result (IsExplainedStep L.model [] self.old self.new) }
-        ensures target_left { OnErr result (into.new ≡ into.old) }
+        ensures target { LeavesTarget result into.old into.new }
     {
-        let stripe = self.place.stripe;
-        if let Some(refusal) = self.read_cause() {
+        if let Some(refusal) = self.store.read_cause() {
             return Err(refusal);
         }
-        let number = self.next_number();
-        if read_leg_at(&mut self.legs, self.master, block, into).is_err() {
+        let leg = self.store.leg_to_read(block);
+        if self.store.read_leg(leg, block, into).is_ok() {
+            let number = self.store.keep_read(block, into);
+            let receipt = Receipt::new(self.store.place().stripe, block, number);
+            return Ok(Reading::Value(receipt));
+        }
+        if self.store.is_last(leg) {
             return Err(Refusal::Fault);
         }
-        self.kept.push(&Entry {
-            seq: number,
-            kind: Kind::Read,
-            block,
-            bytes: *into,
-        });
-        Ok(Receipt::new(stripe, block, number))
+        self.store.lose(leg);
+        Ok(Reading::LegLost(leg))
     }
 }

@@ -14,7 +14,7 @@ pub struct Receipt<L> {
 }
 
 impl<L> Model for Receipt<L> {
-    ghost use Rattle.nm_stripe.specs.Receipt.{EntryName};
+    ghost use Rattle.nm_rules.specs.Receipt.{EntryName};
 
     ghost Value = { EntryName };
 

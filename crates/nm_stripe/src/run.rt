@@ -1,7 +1,7 @@
 //! Does a list of steps.
 ghost use Rattle.nm_leg.specs.Leg.{leg_type};
 ghost use Rattle.std.specs.Prelude.{◌≡◌, [], IsTrue, IsOk, IfOk, IfErr, OnErr};
-ghost use Rattle.nm_stripe.specs.Sound.{IsSound};
+ghost use Rattle.nm_rules.specs.Sound.{IsSound};
 ghost use Rattle.nm_stripe.specs.Run.{AllAsked, Runs, NoneHalted, ActOnOneArray};
 
 use crate::answer::Answer;

@@ -1,18 +1,21 @@
 //! Does one step.
 ghost use Rattle.nm_leg.specs.Leg.{leg_type};
-ghost use Rattle.std.specs.Prelude.{◌≡◌, ◌<◌, [], ◌∷◌, IsTrue, Some};
-ghost use Rattle.nm_stripe.specs.Replace.{replace_cause};
-ghost use Rattle.nm_stripe.specs.Acts.{IsExplainedStep};
+ghost use Rattle.std.specs.Prelude.{◌≡◌, ◌<◌, [], ◌∷◌, length, IsTrue, Some};
+ghost use Rattle.nm_rules.specs.Acts.{IsExplainedStep};
 ghost use Rattle.nm_stripe.specs.Run.{MayBeAsked, StepOf, NoneHalted, marks};
 
 use crate::answer::{Answer, Handed};
+use crate::copy::Copying;
+use crate::fail::Failing;
 use crate::push::Reach;
-use crate::refusal::Refusal;
+use crate::read::Reading;
 use crate::stripe::Stripe;
+use crate::sync::{Promotion, Syncing};
 use crate::value::Value;
 use nm_fanout::Data;
 use nm_leg::LegPart;
 use nm_replay::Block;
+use nm_rules::Refusal;
 use std::marker::PhantomData;
 
 /// One step of a stripe: one hold of its lock, with at most one call of a leg.
@@ -26,8 +29,18 @@ pub enum Step<L> {
     Claim(u64),
     /// Reads this block.
     Read(u64),
-    /// Puts another leg in the place of one that is out. None goes out yet.
+    /// Takes this leg out.
+    Fail(u8),
+    /// Lets this leg join again.
+    Attach(u8),
+    /// Puts another leg in the place of this one, which is out.
     Replace(u8, L),
+    /// Copies to this joining leg: one block is read or written.
+    Copy(u8),
+    /// Calls this joining leg in sync, behind a sync.
+    Promote(u8),
+    /// Syncs this leg.
+    Sync(u8),
 }
 
 /// A refusal with nothing to hand back.
@@ -35,6 +48,13 @@ fn refused<L: LegPart>(refusal: Refusal) -> Answer<L>
     ensures { result ≡ Answer.Refused refusal Handed.Nothing }
 {
     Answer::Refused(refusal, Handed::Nothing)
+}
+
+/// A lost leg with nothing to hand back.
+fn lost<L: LegPart>(leg: u8) -> Answer<L>
+    ensures { result ≡ Answer.LegLost leg Handed.Nothing }
+{
+    Answer::LegLost(leg, Handed::Nothing)
 }
 
 impl<L: LegPart> Stripe<L> {
@@ -48,25 +68,94 @@ impl<L: LegPart> Stripe<L> {
     {
         let mut bytes = Block::ZERO;
         match self.read(block, &mut bytes) {
-            Ok(receipt) => Answer::Value(Value {
+            Ok(Reading::Value(receipt)) => Answer::Value(Value {
                 stripe: receipt.stripe(),
                 block: receipt.block(),
                 number: receipt.number(),
                 bytes,
                 of: PhantomData,
             }),
+            Ok(Reading::LegLost(leg)) => lost(leg),
             Err(refusal) => refused(refusal),
         }
     }
 
-    /// Why no leg is replaced: none is out.
-    fn replace_cause(&self) -> Refusal
-        ensures { replace_cause self.now ≡ Some result }
+    /// A push.
+    fn step_push(&mut self, ticket: u64, leg: u8) -> Answer<L>
+        requires { leg < length self.old.legs }
+        ensures step { StepOf (leg_type L.model L.honest) (Step.Push ticket leg) result
+            self.old self.new }
+        ensures acts { IsTrue L.honest → NoneHalted (result ∷ [])
+            → IsExplainedStep L.model (marks (Step.Push ticket leg) result) self.old self.new }
     {
-        if self.stopped {
-            Refusal::Stopped
-        } else {
-            Refusal::NotOut
+        self.sound();
+        match self.push(ticket, leg) {
+            Ok(Reach::Pushed(owed)) => Answer::Pushed(owed),
+            Ok(Reach::Complete(number)) => Answer::Complete(number),
+            Ok(Reach::LegLost(leg)) => lost(leg),
+            Ok(Reach::Halted) => Answer::Halted,
+            Err(refusal) => refused(refusal),
+        }
+    }
+
+    /// A leg is taken out.
+    fn step_fail(&mut self, leg: u8) -> Answer<L>
+        requires { leg < length self.old.legs }
+        ensures step { StepOf (leg_type L.model L.honest) (Step.Fail leg) result
+            self.old self.new }
+        ensures acts { IsTrue L.honest
+            → IsExplainedStep L.model (marks (Step.Fail leg) result) self.old self.new }
+    {
+        match self.fail(leg) {
+            Ok(Failing::Failed) => Answer::Failed,
+            Ok(Failing::MasterChanged(master)) => Answer::MasterChanged(master),
+            Err(refusal) => refused(refusal),
+        }
+    }
+
+    /// A step of a copy.
+    fn step_copy(&mut self, leg: u8) -> Answer<L>
+        requires { leg < length self.old.legs }
+        ensures step { StepOf (leg_type L.model L.honest) (Step.Copy leg) result
+            self.old self.new }
+        ensures acts { IsTrue L.honest
+            → IsExplainedStep L.model (marks (Step.Copy leg) result) self.old self.new }
+    {
+        match self.copy(leg) {
+            Ok(Copying::Copied(left)) => Answer::Copied(left),
+            Ok(Copying::Nothing) => Answer::Nothing,
+            Ok(Copying::LegLost(leg)) => lost(leg),
+            Err(refusal) => refused(refusal),
+        }
+    }
+
+    /// A promotion.
+    fn step_promote(&mut self, leg: u8) -> Answer<L>
+        requires { leg < length self.old.legs }
+        ensures step { StepOf (leg_type L.model L.honest) (Step.Promote leg) result
+            self.old self.new }
+        ensures acts { IsTrue L.honest
+            → IsExplainedStep L.model (marks (Step.Promote leg) result) self.old self.new }
+    {
+        match self.promote(leg) {
+            Ok(Promotion::InSync) => Answer::InSync,
+            Ok(Promotion::LegLost(leg)) => lost(leg),
+            Err(refusal) => refused(refusal),
+        }
+    }
+
+    /// A sync.
+    fn step_sync(&mut self, leg: u8) -> Answer<L>
+        requires { leg < length self.old.legs }
+        ensures step { StepOf (leg_type L.model L.honest) (Step.Sync leg) result
+            self.old self.new }
+        ensures acts { IsTrue L.honest
+            → IsExplainedStep L.model (marks (Step.Sync leg) result) self.old self.new }
+    {
+        match self.sync(leg) {
+            Ok(Syncing::Synced) => Answer::Synced,
+            Ok(Syncing::LegLost(leg)) => lost(leg),
+            Err(refusal) => refused(refusal),
         }
     }
 
@@ -84,21 +173,24 @@ impl<L: LegPart> Stripe<L> {
                 Ok(ticket) => Answer::Begun(ticket),
                 Err((refusal, data)) => Answer::Refused(refusal, Handed::Data(data)),
             },
-            Step::Push(ticket, leg) => match self.push(ticket, leg) {
-                Ok(Reach::Pushed(owed)) => Answer::Pushed(owed),
-                Ok(Reach::Complete(number)) => Answer::Complete(number),
-                Ok(Reach::Halted) => Answer::Halted,
-                Err(refusal) => refused(refusal),
-            },
+            Step::Push(ticket, leg) => self.step_push(ticket, leg),
             Step::Claim(ticket) => match self.claim(ticket) {
                 Ok(written) => Answer::Written(written),
                 Err(refusal) => refused(refusal),
             },
             Step::Read(block) => self.step_read(block),
-            Step::Replace(_, leg) => Answer::Refused(
-                self.replace_cause(),
-                Handed::Replacement(leg),
-            ),
+            Step::Fail(leg) => self.step_fail(leg),
+            Step::Attach(leg) => match self.attach(leg) {
+                Ok(left) => Answer::Joining(left),
+                Err(refusal) => refused(refusal),
+            },
+            Step::Replace(leg, part) => match self.replace(leg, part) {
+                Ok(left) => Answer::Joining(left),
+                Err((refusal, part)) => Answer::Refused(refusal, Handed::Replacement(part)),
+            },
+            Step::Copy(leg) => self.step_copy(leg),
+            Step::Promote(leg) => self.step_promote(leg),
+            Step::Sync(leg) => self.step_sync(leg),
         }
     }
 }

@@ -16,7 +16,7 @@ pub struct Value<L> {
 }
 
 impl<L> Model for Value<L> {
-    ghost use Rattle.nm_stripe.specs.Receipt.{ReadBlock};
+    ghost use Rattle.nm_rules.specs.Receipt.{ReadBlock};
 
     ghost Value = { ReadBlock };
 

@@ -1,5 +1,5 @@
 -- The array is read block by block.
-use Rattle.nm_stripe.proofs.ArrayLemmas.{array-at}
+use Rattle.nm_rules.proofs.ArrayLemmas.{array-at}
 use Rattle.nm_stripe.proofs.laws.array_at_each_block.Goals as goal
 
 pub returns : goal.returns

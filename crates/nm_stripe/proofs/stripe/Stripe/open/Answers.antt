@@ -1,23 +1,14 @@
 -- An opened stripe has no record and no entry, and its honest legs hold equal contents.
-use Rattle.std.proofs.Common.{rules, arith}
-use Rattle.std.proofs.lemmas.Grind.{common_steps}
-use Rattle.nm_stripe.proofs.OpenLemmas.{all_equal, opened-lengths}
+use Rattle.std.proofs.Common.{rules, ◌≡◌, sym, subst}
+use Rattle.nm_leg.specs.Leg.{leg_type}
+use Rattle.nm_rules.specs.Invariant.{Keeps}
+use Rattle.nm_rules.specs.Opening.{opened}
+use Rattle.nm_rules.specs.State.{StripeState}
+use Rattle.nm_stripe.proofs.OpeningLemmas.{opening-keeps}
 use Rattle.nm_stripe.proofs.stripe.Stripe.open.Goals as goal
-use Rattle.std.proofs.Common.{ap, slice_get}
 
 pub invariant_of-result : goal.invariant_of-result
-invariant_of-result g c = record {
-  legs = record {
-    few = c.requires.few;
-    master = c.requires.some;
-    lengths = λ leg inside. opened-lengths g.L.LegPart.model c.args.legs.items c.args.place.blocks leg c.requires.lengths inside;
-  };
-  records = search rules;
-  numbers = search rules;
-  consistent = λ is_honest. grind (arith, common_steps);
-  agrees = λ is_honest runs. record {
-    reached = search rules;
-    alike = λ leg block inside none. ap (λ xs. slice_get xs block) (all_equal g.L.LegPart.model c.args.legs.items c.args.in_sync leg 0 c.requires.all_in_sync (c.requires.equal is_honest) inside c.requires.some);
-    last = search rules;
-  };
-}
+invariant_of-result g c =
+    let is : c.in_ok-store.store ≡ opened c.args.place c.args.legs.items c.args.in_sync c.args.first c.args.policy = search rules in
+    subst (λ (s : StripeState _). Keeps (leg_type g.L.LegPart.model g.L.LegPart.honest) s) (sym is)
+    (opening-keeps (leg_type g.L.LegPart.model g.L.LegPart.honest) c.args.place c.args.legs.items c.args.in_sync c.args.first c.args.policy c.requires.sizes c.requires.chunk c.requires.lengths c.requires.some_in_sync c.requires.equal)

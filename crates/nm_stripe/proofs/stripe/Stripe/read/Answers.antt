@@ -1,92 +1,206 @@
--- A read is read off its fields, and the lemmas on reads do the rest.
+-- A read is read off its calls once, and the lemmas on reads do the rest.
 use Rattle.nm_leg.specs.Leg.{leg_type}
-use Rattle.std.proofs.Common.{rules, ◌≡◌, ◌+◌, true, false, is_ok, None, [], ◌∷◌, ◌++◌, refl, ap, ◌∙◌}
-use Rattle.std.specs.Vec.{with_items}
-use Rattle.std.proofs.lemmas.List.{with_items_is}
-use Rattle.nm_leg.specs.LegCalls.{ReadsLegAt}
-use Rattle.nm_stripe.specs.Read.{read_cause}
-use Rattle.nm_stripe.specs.State.{state_of}
-use Rattle.nm_replay.specs.Events.{entry_of_read}
-use Rattle.nm_replay.specs.Kept.{last_kept}
-use Rattle.nm_stripe.proofs.ActsLemmas.{explained-stays}
-use Rattle.nm_stripe.proofs.ReadLemmas.{may_read, read_events, read-keeps, read-acts, read-array, fails-keeps, fails-acts, read-state, failed-state}
+use Rattle.std.proofs.Common.{rules, ◌≡◌, ◌<◌, true, false, is_ok, length, None, refl, sym, ◌∙◌, subst}
+use Rattle.nm_rules.specs.Read.{CallsToRead, Finds, LosesInRead, FailsInRead, read_cause}
+use Rattle.nm_rules.specs.Receipt.{EntryName}
+use Rattle.nm_rules.specs.State.{StripeState, is_last}
+use Rattle.nm_rules.proofs.ActsLemmas.{explained-stays}
+use Rattle.nm_rules.proofs.HaltLemmas.{read_fault-keeps}
+use Rattle.nm_rules.proofs.LostStepLemmas.{read_lost-keeps, read_lost-acts}
+use Rattle.nm_rules.proofs.ReadLegLemmas.{some_current}
+use Rattle.nm_rules.proofs.ReadLegLemmas as legs
+use Rattle.nm_rules.proofs.ReadLemmas.{finds-keeps, finds-array, finds-explained, fails_in_read-explained}
+use Rattle.nm_stripe.specs.Read.{ForFault}
+use Rattle.nm_stripe.proofs.LostLemmas.{last-from}
+use Rattle.nm_stripe.proofs.ReadLemmas.{has-block, read-inside, finds, loses, fails}
 use Rattle.nm_stripe.proofs.stripe.Stripe.read.Goals as goal
 
--- refused for a cause: the stripe is as it was
 pub returns-in-Some-clause-refused_acts : goal.returns-in-Some-clause-refused_acts
-returns-in-Some-clause-refused_acts g c =
-    let i = c.self.inside in
-    let old = state_of i.place i.legs.items i.master i.records i.tickets i.kept i.first i.stopped in
-    λ is_honest. rw (← c.self.view_is) (explained-stays g.L.LegPart.model old c.self.invariant.numbers.kept)
+returns-in-Some-clause-refused_acts g c is_honest =
+    rw (← c.self.view_is) (explained-stays g.L.LegPart.model c.self.inside.store c.self.invariant.numbers.most)
 
--- the leg failed
+pub leg_to_read-leg-requires-clause-current : goal.leg_to_read-leg-requires-clause-current
+leg_to_read-leg-requires-clause-current g c =
+    some_current (leg_type g.L.LegPart.model g.L.LegPart.honest) c.self.inside.store c.args.block c.self.invariant.legs
+
+pub read_leg-requires-clause-leg : goal.read_leg-requires-clause-leg
+read_leg-requires-clause-leg g c =
+    let type = leg_type g.L.LegPart.model g.L.LegPart.honest in
+    let s = c.self.inside.store in
+    let leg = c.leg_to_read-leg.result in
+    legs.read-inside type s c.args.block c.self.invariant.legs c.self.invariant.chunk leg c.leg_to_read-leg.ensures
+
+pub read_leg-requires-clause-block : goal.read_leg-requires-clause-block
+read_leg-requires-clause-block g c =
+    let type = leg_type g.L.LegPart.model g.L.LegPart.honest in
+    let s = c.self.inside.store in
+    let leg = c.leg_to_read-leg.result in
+    let inside : leg < length s.legs = legs.read-inside type s c.args.block c.self.invariant.legs c.self.invariant.chunk leg c.leg_to_read-leg.ensures in
+    let within : c.args.block < s.place.blocks = subst (λ (s : StripeState _). c.args.block < s.place.blocks) (sym c.self.view_is) c.requires in
+    has-block g.L.LegPart.model s leg c.args.block c.self.invariant.legs inside within
+
 pub invariant_of-self : goal.invariant_of-self
 invariant_of-self g c =
-    let i = c.self.inside in
-    let old = state_of i.place i.legs.items i.master i.records i.tickets i.kept i.first i.stopped in
-    let same : (with_items i.legs c.read_leg_at.new.legs).items ≡ c.read_leg_at.new.legs = with_items_is i.legs c.read_leg_at.new.legs (search rules) in
-    let was : c.deref_mut.result.now ≡ i.legs.items = c.deref_mut.ensures.value in
-    let failed : is_ok c.read_leg_at.result ≡ false = search rules in
-    let reads : ReadsLegAt (leg_type g.L.LegPart.model g.L.LegPart.honest) false i.master c.args.block i.legs.items c.read_leg_at.new.legs c.args.into.now c.read_leg_at.new.into = rw (← failed, ← was) c.read_leg_at.ensures in
-    let is = failed-state i.place i.legs.items c.read_leg_at.new.legs i.master i.records i.tickets i.kept i.kept i.first i.stopped refl refl in
-    rw (same, is) (fails-keeps (leg_type g.L.LegPart.model g.L.LegPart.honest) false old c.read_leg_at.new.legs c.args.block c.args.into.now c.read_leg_at.new.into c.self.invariant reads)
+    let type = leg_type g.L.LegPart.model g.L.LegPart.honest in
+    let s = c.self.inside.store in
+    let leg = c.leg_to_read-leg.result in
+    let mid = c.read_leg.new.self in
+    let bytes = c.read_leg.new.into in
+    let none : read_cause s ≡ None = search rules in
+    let ok : is_ok c.read_leg.result ≡ true = search rules in
+    let called : CallsToRead type true s mid.legs c.args.block leg bytes = record { no_cause = none; leg_is = c.leg_to_read-leg.ensures; target = c.args.into.now; reads = rw (← ok) c.read_leg.ensures.reads } in
+    let within : c.args.block < s.place.blocks = subst (λ (s : StripeState _). c.args.block < s.place.blocks) (sym c.self.view_is) c.requires in
+    let new = c.keep_read-number.new.self in
+    let entry : EntryName = record { stripe = new.place.stripe; block = c.args.block; number = c.keep_read-number.result } in
+    let is : Finds type s new c.args.block bytes entry = finds type s mid new c.args.block leg bytes c.read_leg.ensures.others entry new.place.stripe c.keep_read-number.result called c.keep_read-number.ensures.kept refl refl c.keep_read-number.ensures.number in
+    finds-keeps type s new c.args.block bytes entry c.self.invariant is within
 
-pub returns-then-is_err-clause-refused_acts : goal.returns-then-is_err-clause-refused_acts
-returns-then-is_err-clause-refused_acts g c =
-    λ is_honest.
-    let i = c.self.inside in
-    let old = state_of i.place i.legs.items i.master i.records i.tickets i.kept i.first i.stopped in
-    let none : read_cause c.args.self.now ≡ None = search rules in
-    let may = may_read old (ap (λ s. read_cause s) c.self.view_is ∙ none) in
-    let same : (with_items i.legs c.read_leg_at.new.legs).items ≡ c.read_leg_at.new.legs = with_items_is i.legs c.read_leg_at.new.legs (search rules) in
-    let was : c.deref_mut.result.now ≡ i.legs.items = c.deref_mut.ensures.value in
-    let failed : is_ok c.read_leg_at.result ≡ false = search rules in
-    let reads : ReadsLegAt (leg_type g.L.LegPart.model g.L.LegPart.honest) false i.master c.args.block i.legs.items c.read_leg_at.new.legs c.args.into.now c.read_leg_at.new.into = rw (← failed, ← was) c.read_leg_at.ensures in
-    let is = failed-state i.place i.legs.items c.read_leg_at.new.legs i.master i.records i.tickets i.kept i.kept i.first i.stopped refl refl in
-    let acts = fails-acts (leg_type g.L.LegPart.model g.L.LegPart.honest) false old c.read_leg_at.new.legs c.args.block c.args.into.now c.read_leg_at.new.into c.self.invariant reads is_honest may.runs in
-    rw (same, is, ← c.self.view_is) (record { events = []; marked = refl; acts = acts })
+pub returns-then-is_ok-clause-ok : goal.returns-then-is_ok-clause-ok
+returns-then-is_ok-clause-ok g c =
+    let type = leg_type g.L.LegPart.model g.L.LegPart.honest in
+    let s = c.self.inside.store in
+    let leg = c.leg_to_read-leg.result in
+    let mid = c.read_leg.new.self in
+    let bytes = c.read_leg.new.into in
+    let none : read_cause s ≡ None = search rules in
+    let ok : is_ok c.read_leg.result ≡ true = search rules in
+    let called : CallsToRead type true s mid.legs c.args.block leg bytes = record { no_cause = none; leg_is = c.leg_to_read-leg.ensures; target = c.args.into.now; reads = rw (← ok) c.read_leg.ensures.reads } in
+    let within : c.args.block < s.place.blocks = subst (λ (s : StripeState _). c.args.block < s.place.blocks) (sym c.self.view_is) c.requires in
+    let new = c.keep_read-number.new.self in
+    let is : Finds type s new c.args.block bytes c.new-receipt.result = finds type s mid new c.args.block leg bytes c.read_leg.ensures.others c.new-receipt.result c.place.result.stripe c.keep_read-number.result called c.keep_read-number.ensures.kept c.new-receipt.ensures (search rules) c.keep_read-number.ensures.number in
+    rw (← c.self.view_is) is
+
+pub returns-then-is_ok-clause-acts : goal.returns-then-is_ok-clause-acts
+returns-then-is_ok-clause-acts g c is_honest =
+    let type = leg_type g.L.LegPart.model g.L.LegPart.honest in
+    let s = c.self.inside.store in
+    let leg = c.leg_to_read-leg.result in
+    let mid = c.read_leg.new.self in
+    let bytes = c.read_leg.new.into in
+    let none : read_cause s ≡ None = search rules in
+    let ok : is_ok c.read_leg.result ≡ true = search rules in
+    let called : CallsToRead type true s mid.legs c.args.block leg bytes = record { no_cause = none; leg_is = c.leg_to_read-leg.ensures; target = c.args.into.now; reads = rw (← ok) c.read_leg.ensures.reads } in
+    let within : c.args.block < s.place.blocks = subst (λ (s : StripeState _). c.args.block < s.place.blocks) (sym c.self.view_is) c.requires in
+    let new = c.keep_read-number.new.self in
+    let is : Finds type s new c.args.block bytes c.new-receipt.result = finds type s mid new c.args.block leg bytes c.read_leg.ensures.others c.new-receipt.result c.place.result.stripe c.keep_read-number.result called c.keep_read-number.ensures.kept c.new-receipt.ensures (search rules) c.keep_read-number.ensures.number in
+    rw (← c.self.view_is) (finds-array type s new c.args.block bytes c.new-receipt.result c.self.invariant is is_honest within, finds-explained type s new c.args.block bytes c.new-receipt.result c.self.invariant is is_honest within)
+
+-- the leg failed
+pub is_last-requires : goal.is_last-requires
+is_last-requires g c =
+    let type = leg_type g.L.LegPart.model g.L.LegPart.honest in
+    let s = c.self.inside.store in
+    let leg = c.leg_to_read-leg.result in
+    let mid = c.read_leg.new.self in
+    let bytes = c.read_leg.new.into in
+    let none : read_cause s ≡ None = search rules in
+    let ok : is_ok c.read_leg.result ≡ false = search rules in
+    let called : CallsToRead type false s mid.legs c.args.block leg bytes = record { no_cause = none; leg_is = c.leg_to_read-leg.ensures; target = c.args.into.now; reads = rw (← ok) c.read_leg.ensures.reads } in
+    let inside : leg < length s.legs = legs.read-inside type s c.args.block c.self.invariant.legs c.self.invariant.chunk leg c.leg_to_read-leg.ensures in
+    read-inside type false s mid.legs c.args.block leg bytes called inside
+
+pub invariant_of-self-then-is_last : goal.invariant_of-self-then-is_last
+invariant_of-self-then-is_last g c =
+    let type = leg_type g.L.LegPart.model g.L.LegPart.honest in
+    let s = c.self.inside.store in
+    let leg = c.leg_to_read-leg.result in
+    let mid = c.read_leg.new.self in
+    let bytes = c.read_leg.new.into in
+    let none : read_cause s ≡ None = search rules in
+    let ok : is_ok c.read_leg.result ≡ false = search rules in
+    let called : CallsToRead type false s mid.legs c.args.block leg bytes = record { no_cause = none; leg_is = c.leg_to_read-leg.ensures; target = c.args.into.now; reads = rw (← ok) c.read_leg.ensures.reads } in
+    let given : c.is_last.result ≡ true = search rules in
+    let last : is_last leg s ≡ true = last-from leg s mid c.is_last.result c.read_leg.ensures.others c.is_last.ensures ∙ given in
+    let is : FailsInRead type s mid c.args.block bytes = fails type s mid c.args.block leg bytes c.read_leg.ensures.others called last in
+    read_fault-keeps type s mid c.self.invariant c.args.block bytes is
+
+pub returns-then-is_last-clause-refused : goal.returns-then-is_last-clause-refused
+returns-then-is_last-clause-refused g c =
+    let type = leg_type g.L.LegPart.model g.L.LegPart.honest in
+    let s = c.self.inside.store in
+    let leg = c.leg_to_read-leg.result in
+    let mid = c.read_leg.new.self in
+    let bytes = c.read_leg.new.into in
+    let none : read_cause s ≡ None = search rules in
+    let ok : is_ok c.read_leg.result ≡ false = search rules in
+    let called : CallsToRead type false s mid.legs c.args.block leg bytes = record { no_cause = none; leg_is = c.leg_to_read-leg.ensures; target = c.args.into.now; reads = rw (← ok) c.read_leg.ensures.reads } in
+    let given : c.is_last.result ≡ true = search rules in
+    let last : is_last leg s ≡ true = last-from leg s mid c.is_last.result c.read_leg.ensures.others c.is_last.ensures ∙ given in
+    let is : FailsInRead type s mid c.args.block bytes = fails type s mid c.args.block leg bytes c.read_leg.ensures.others called last in
+    rw (← c.self.view_is) (ForFault refl bytes is)
+
+pub returns-then-is_last-clause-refused_acts : goal.returns-then-is_last-clause-refused_acts
+returns-then-is_last-clause-refused_acts g c is_honest =
+    let type = leg_type g.L.LegPart.model g.L.LegPart.honest in
+    let s = c.self.inside.store in
+    let leg = c.leg_to_read-leg.result in
+    let mid = c.read_leg.new.self in
+    let bytes = c.read_leg.new.into in
+    let none : read_cause s ≡ None = search rules in
+    let ok : is_ok c.read_leg.result ≡ false = search rules in
+    let called : CallsToRead type false s mid.legs c.args.block leg bytes = record { no_cause = none; leg_is = c.leg_to_read-leg.ensures; target = c.args.into.now; reads = rw (← ok) c.read_leg.ensures.reads } in
+    let given : c.is_last.result ≡ true = search rules in
+    let last : is_last leg s ≡ true = last-from leg s mid c.is_last.result c.read_leg.ensures.others c.is_last.ensures ∙ given in
+    let is : FailsInRead type s mid c.args.block bytes = fails type s mid c.args.block leg bytes c.read_leg.ensures.others called last in
+    rw (← c.self.view_is) (fails_in_read-explained type s mid c.args.block bytes is_honest c.self.invariant is)
+
+pub lose-requires-clause-leg : goal.lose-requires-clause-leg
+lose-requires-clause-leg g c =
+    let type = leg_type g.L.LegPart.model g.L.LegPart.honest in
+    let s = c.self.inside.store in
+    let leg = c.leg_to_read-leg.result in
+    let mid = c.read_leg.new.self in
+    let bytes = c.read_leg.new.into in
+    let none : read_cause s ≡ None = search rules in
+    let ok : is_ok c.read_leg.result ≡ false = search rules in
+    let called : CallsToRead type false s mid.legs c.args.block leg bytes = record { no_cause = none; leg_is = c.leg_to_read-leg.ensures; target = c.args.into.now; reads = rw (← ok) c.read_leg.ensures.reads } in
+    let inside : leg < length s.legs = legs.read-inside type s c.args.block c.self.invariant.legs c.self.invariant.chunk leg c.leg_to_read-leg.ensures in
+    read-inside type false s mid.legs c.args.block leg bytes called inside
 
 pub invariant_of-self-2 : goal.invariant_of-self-2
 invariant_of-self-2 g c =
-    let i = c.self.inside in
-    let old = state_of i.place i.legs.items i.master i.records i.tickets i.kept i.first i.stopped in
-    let none : read_cause c.args.self.now ≡ None = search rules in
-    let may = may_read old (ap (λ s. read_cause s) c.self.view_is ∙ none) in
-    let same : (with_items i.legs c.read_leg_at.new.legs).items ≡ c.read_leg_at.new.legs = with_items_is i.legs c.read_leg_at.new.legs (search rules) in
-    let was : c.deref_mut.result.now ≡ i.legs.items = c.deref_mut.ensures.value in
-    let ok : is_ok c.read_leg_at.result ≡ true = search rules in
-    let reads : ReadsLegAt (leg_type g.L.LegPart.model g.L.LegPart.honest) true i.master c.args.block i.legs.items c.read_leg_at.new.legs c.args.into.now c.read_leg_at.new.into = rw (← ok, ← was) c.read_leg_at.ensures in
-    let number : c.next_number-number.result ≡ i.first + i.kept.total = search rules in
-    let entries : c.push.new.self.entries ≡ last_kept (i.kept.entries ++ entry_of_read (i.first + i.kept.total) c.args.block c.read_leg_at.new.into ∷ []) = rw (← number) c.push.ensures.entries in
-    let is = read-state i.place i.legs.items c.read_leg_at.new.legs i.master i.records i.tickets i.kept c.push.new.self i.first i.stopped c.args.block c.read_leg_at.new.into entries c.push.ensures.total in
-    rw (same, is) (read-keeps (leg_type g.L.LegPart.model g.L.LegPart.honest) old c.read_leg_at.new.legs c.args.block c.args.into.now c.read_leg_at.new.into c.self.invariant may reads)
+    let type = leg_type g.L.LegPart.model g.L.LegPart.honest in
+    let s = c.self.inside.store in
+    let leg = c.leg_to_read-leg.result in
+    let mid = c.read_leg.new.self in
+    let bytes = c.read_leg.new.into in
+    let none : read_cause s ≡ None = search rules in
+    let ok : is_ok c.read_leg.result ≡ false = search rules in
+    let called : CallsToRead type false s mid.legs c.args.block leg bytes = record { no_cause = none; leg_is = c.leg_to_read-leg.ensures; target = c.args.into.now; reads = rw (← ok) c.read_leg.ensures.reads } in
+    let given : c.is_last.result ≡ false = search rules in
+    let last : is_last leg s ≡ false = last-from leg s mid c.is_last.result c.read_leg.ensures.others c.is_last.ensures ∙ given in
+    let new = c.lose.new.self in
+    let is : LosesInRead type s new c.args.block leg bytes = loses type s mid new c.args.block leg bytes c.read_leg.ensures.others called last c.lose.ensures in
+    read_lost-keeps type s new c.self.invariant c.args.block leg bytes is
 
-pub returns-clause-array : goal.returns-clause-array
-returns-clause-array g c =
-    λ is_honest.
-    let i = c.self.inside in
-    let old = state_of i.place i.legs.items i.master i.records i.tickets i.kept i.first i.stopped in
-    let none : read_cause c.args.self.now ≡ None = search rules in
-    let may = may_read old (ap (λ s. read_cause s) c.self.view_is ∙ none) in
-    let same : (with_items i.legs c.read_leg_at.new.legs).items ≡ c.read_leg_at.new.legs = with_items_is i.legs c.read_leg_at.new.legs (search rules) in
-    let was : c.deref_mut.result.now ≡ i.legs.items = c.deref_mut.ensures.value in
-    let ok : is_ok c.read_leg_at.result ≡ true = search rules in
-    let reads : ReadsLegAt (leg_type g.L.LegPart.model g.L.LegPart.honest) true i.master c.args.block i.legs.items c.read_leg_at.new.legs c.args.into.now c.read_leg_at.new.into = rw (← ok, ← was) c.read_leg_at.ensures in
-    rw (← c.self.view_is) (read-array (leg_type g.L.LegPart.model g.L.LegPart.honest) old c.read_leg_at.new.legs c.args.block c.args.into.now c.read_leg_at.new.into c.self.invariant may reads is_honest)
+pub returns-clause-ok : goal.returns-clause-ok
+returns-clause-ok g c =
+    let type = leg_type g.L.LegPart.model g.L.LegPart.honest in
+    let s = c.self.inside.store in
+    let leg = c.leg_to_read-leg.result in
+    let mid = c.read_leg.new.self in
+    let bytes = c.read_leg.new.into in
+    let none : read_cause s ≡ None = search rules in
+    let ok : is_ok c.read_leg.result ≡ false = search rules in
+    let called : CallsToRead type false s mid.legs c.args.block leg bytes = record { no_cause = none; leg_is = c.leg_to_read-leg.ensures; target = c.args.into.now; reads = rw (← ok) c.read_leg.ensures.reads } in
+    let given : c.is_last.result ≡ false = search rules in
+    let last : is_last leg s ≡ false = last-from leg s mid c.is_last.result c.read_leg.ensures.others c.is_last.ensures ∙ given in
+    let new = c.lose.new.self in
+    let is : LosesInRead type s new c.args.block leg bytes = loses type s mid new c.args.block leg bytes c.read_leg.ensures.others called last c.lose.ensures in
+    rw (← c.self.view_is) (bytes, is)
 
 pub returns-clause-acts : goal.returns-clause-acts
-returns-clause-acts g c =
-    λ is_honest.
-    let i = c.self.inside in
-    let old = state_of i.place i.legs.items i.master i.records i.tickets i.kept i.first i.stopped in
-    let none : read_cause c.args.self.now ≡ None = search rules in
-    let may = may_read old (ap (λ s. read_cause s) c.self.view_is ∙ none) in
-    let same : (with_items i.legs c.read_leg_at.new.legs).items ≡ c.read_leg_at.new.legs = with_items_is i.legs c.read_leg_at.new.legs (search rules) in
-    let was : c.deref_mut.result.now ≡ i.legs.items = c.deref_mut.ensures.value in
-    let ok : is_ok c.read_leg_at.result ≡ true = search rules in
-    let reads : ReadsLegAt (leg_type g.L.LegPart.model g.L.LegPart.honest) true i.master c.args.block i.legs.items c.read_leg_at.new.legs c.args.into.now c.read_leg_at.new.into = rw (← ok, ← was) c.read_leg_at.ensures in
-    let number : c.next_number-number.result ≡ i.first + i.kept.total = search rules in
-    let entries : c.push.new.self.entries ≡ last_kept (i.kept.entries ++ entry_of_read (i.first + i.kept.total) c.args.block c.read_leg_at.new.into ∷ []) = rw (← number) c.push.ensures.entries in
-    let is = read-state i.place i.legs.items c.read_leg_at.new.legs i.master i.records i.tickets i.kept c.push.new.self i.first i.stopped c.args.block c.read_leg_at.new.into entries c.push.ensures.total in
-    let acts = read-acts (leg_type g.L.LegPart.model g.L.LegPart.honest) old c.read_leg_at.new.legs c.args.block c.args.into.now c.read_leg_at.new.into c.self.invariant may reads is_honest in
-    rw (c.new.ensures, number, same, is, ← c.self.view_is) (record { events = read_events (i.first + i.kept.total) c.args.block c.read_leg_at.new.into; marked = refl; acts = acts })
+returns-clause-acts g c is_honest =
+    let type = leg_type g.L.LegPart.model g.L.LegPart.honest in
+    let s = c.self.inside.store in
+    let leg = c.leg_to_read-leg.result in
+    let mid = c.read_leg.new.self in
+    let bytes = c.read_leg.new.into in
+    let none : read_cause s ≡ None = search rules in
+    let ok : is_ok c.read_leg.result ≡ false = search rules in
+    let called : CallsToRead type false s mid.legs c.args.block leg bytes = record { no_cause = none; leg_is = c.leg_to_read-leg.ensures; target = c.args.into.now; reads = rw (← ok) c.read_leg.ensures.reads } in
+    let given : c.is_last.result ≡ false = search rules in
+    let last : is_last leg s ≡ false = last-from leg s mid c.is_last.result c.read_leg.ensures.others c.is_last.ensures ∙ given in
+    let new = c.lose.new.self in
+    let is : LosesInRead type s new c.args.block leg bytes = loses type s mid new c.args.block leg bytes c.read_leg.ensures.others called last c.lose.ensures in
+    rw (← c.self.view_is) (read_lost-acts type s new c.self.invariant c.args.block leg bytes is is_honest)

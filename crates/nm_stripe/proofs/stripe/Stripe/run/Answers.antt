@@ -1,7 +1,7 @@
 -- One turn of the loop is one step more.
 use Rattle.nm_leg.specs.Leg.{leg_type}
 use Rattle.std.proofs.Common.{rules, ◌≡◌, [], ◌∷◌, ◌++◌, reverse}
-use Rattle.nm_stripe.proofs.RunLemmas.{run-begins, run-on}
+use Rattle.nm_stripe.proofs.RunLemmas.{run-begins, run-on, run-over}
 use Rattle.nm_stripe.proofs.stripe.Stripe.run.Goals as goal
 
 pub loop-step-init : goal.loop-step-init
@@ -22,3 +22,8 @@ loop-step-preserved g c =
           (rw last at c.loop-step.invariant.run) c.step.ensures.step c.step.ensures.acts);
       room = search rules;
     }
+
+pub returns-clause-headline : goal.returns-clause-headline
+returns-clause-headline g c is_honest halted =
+    let none : c.loop-step.rest.items ≡ [] = search rules in
+    run-over (leg_type g.L.LegPart.model g.L.LegPart.honest) c.args.self.now c.args.steps.items c.loop-step.rest.items c.loop-step.answers.items c.loop-step.self c.loop-step.invariant.run none is_honest halted

@@ -1,6 +1,6 @@
 -- A refused step is explained by no events, and leaves the stripe as it was.
 use Rattle.std.proofs.Common.{rules, ◌≡◌}
-use Rattle.nm_stripe.proofs.ActsLemmas.{explained-stays}
+use Rattle.nm_rules.proofs.ActsLemmas.{explained-stays}
 use Rattle.nm_stripe.proofs.stripe.Stripe.step.Goals as goal
 
 pub returns-in-Err-clause-acts : goal.returns-in-Err-clause-acts
@@ -8,12 +8,17 @@ returns-in-Err-clause-acts g c =
     let same : c.begin.new.self ≡ c.args.self.now = search rules in
     rw (c.in-Begin.is, same) (λ is_honest running. explained-stays g.L.LegPart.model c.args.self.now c.sound.ensures.kept)
 
-pub returns-in-Err-push-clause-acts : goal.returns-in-Err-push-clause-acts
-returns-in-Err-push-clause-acts g c =
-    let same : c.push.new.self ≡ c.args.self.now = search rules in
-    rw (c.in-Push.is, c.refused.ensures, same) (λ is_honest running. explained-stays g.L.LegPart.model c.args.self.now c.sound.ensures.kept)
-
 pub returns-in-Err-claim-clause-acts : goal.returns-in-Err-claim-clause-acts
 returns-in-Err-claim-clause-acts g c =
     let same : c.claim.new.self ≡ c.args.self.now = search rules in
-    rw (c.in-Claim.is, c.refused-in-Err-claim.ensures, same) (λ is_honest running. explained-stays g.L.LegPart.model c.args.self.now c.sound.ensures.kept)
+    rw (c.in-Claim.is, c.refused.ensures, same) (λ is_honest running. explained-stays g.L.LegPart.model c.args.self.now c.sound.ensures.kept)
+
+pub returns-in-Err-attach-clause-acts : goal.returns-in-Err-attach-clause-acts
+returns-in-Err-attach-clause-acts g c =
+    let same : c.attach.new.self ≡ c.args.self.now = search rules in
+    rw (c.in-Attach.is, c.refused-in-Err-attach.ensures, same) (λ is_honest running. explained-stays g.L.LegPart.model c.args.self.now c.sound.ensures.kept)
+
+pub returns-in-Err-replace-clause-acts : goal.returns-in-Err-replace-clause-acts
+returns-in-Err-replace-clause-acts g c =
+    let same : c.replace.new.self ≡ c.args.self.now = search rules in
+    rw (c.in-Replace.is, same) (λ is_honest running. explained-stays g.L.LegPart.model c.args.self.now c.sound.ensures.kept)

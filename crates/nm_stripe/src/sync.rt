@@ -1,0 +1,76 @@
+//! Syncs a leg, and calls a joining leg in sync.
+ghost use Rattle.nm_leg.specs.Leg.{leg_type};
+ghost use Rattle.std.specs.Prelude.{◌≡◌, ◌<◌, [], length, IsTrue, IfOk, IfErr, OnErr, Some};
+ghost use Rattle.nm_rules.specs.Acts.{IsExplainedStep};
+ghost use Rattle.nm_rules.specs.Promote.{promote_cause};
+ghost use Rattle.nm_stripe.specs.Sync.{EndsJoining, RefusesSync, Syncs};
+
+use crate::stripe::Stripe;
+use nm_leg::LegPart;
+use nm_rules::Refusal;
+
+/// What a promotion answers.
+#[derive(Clone, Copy, Debug, PartialEq, Eq)]
+pub enum Promotion {
+    /// The leg is in sync.
+    InSync,
+    /// The leg's sync failed: it has gone out, and all of its regions are behind.
+    LegLost(u8),
+}
+
+/// What a sync answers.
+#[derive(Clone, Copy, Debug, PartialEq, Eq)]
+pub enum Syncing {
+    /// What the leg held is durable.
+    Synced,
+    /// The leg's sync failed: it has gone out, and all of its regions are behind.
+    LegLost(u8),
+}
+
+impl<L: LegPart> Stripe<L> {
+    /// Syncs a joining leg that is behind nowhere, and calls it in sync.
+    ///
+    /// Refused as `Stopped`, `NotJoining` or `NotYet`, the first whose condition holds.
+    pub fn promote(&mut self, leg: u8) -> Result<Promotion, Refusal>
+        requires { leg < length self.old.legs }
+        ensures ok { IfOk result (EndsJoining (leg_type L.model L.honest) self.old self.new leg) }
+        ensures acts { IsTrue L.honest → IsExplainedStep L.model [] self.old self.new }
+        ensures cause { IfErr result (λ refusal. promote_cause self.old leg ≡ Some refusal) }
+        ensures stays { OnErr result (self.new ≡ self.old) }
+    {
+        if let Some(refusal) = self.store.promote_cause(leg) {
+            return Err(refusal);
+        }
+        if self.store.sync_leg(leg).is_ok() {
+            self.store.promote(leg);
+            Ok(Promotion::InSync)
+        } else {
+            self.store.lose_all(leg);
+            Ok(Promotion::LegLost(leg))
+        }
+    }
+
+    /// Syncs a leg that is not out.
+    ///
+    /// Refused as `Stopped`, `AlreadyOut` or `Fault` (it is the only leg in sync, and failed), the
+    /// first whose condition holds.
+    pub fn sync(&mut self, leg: u8) -> Result<Syncing, Refusal>
+        requires { leg < length self.old.legs }
+        ensures ok { IfOk result (Syncs (leg_type L.model L.honest) self.old self.new leg) }
+        ensures acts { IsTrue L.honest → IsExplainedStep L.model [] self.old self.new }
+        ensures refused { IfErr result (RefusesSync (leg_type L.model L.honest) self.old self.new
+            leg) }
+    {
+        if let Some(refusal) = self.store.sync_cause(leg) {
+            return Err(refusal);
+        }
+        if self.store.sync_leg(leg).is_ok() {
+            return Ok(Syncing::Synced);
+        }
+        if self.store.is_last(leg) {
+            return Err(Refusal::Fault);
+        }
+        self.store.lose_all(leg);
+        Ok(Syncing::LegLost(leg))
+    }
+}

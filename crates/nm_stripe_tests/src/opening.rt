@@ -1,0 +1,76 @@
+//! Stripes to test, of legs in memory that each have a fuse.
+
+use nm_leg::FuseLeg;
+use nm_stripe::{At, Policy, Stripe};
+use std::alloc::Global;
+use std::process::Abort;
+use std::test::Fail;
+
+/// What a stripe is opened with.
+#[derive(Clone, Copy, Debug)]
+pub struct Mirror {
+    pub legs: u8,
+    pub in_sync: u8,
+    pub fill: u8,
+    pub blocks: u64,
+    pub region: u64,
+    pub chunk: u64,
+    pub policy: Policy,
+    pub first: u64,
+}
+
+/// One leg, that reads in turn, and whose first entry has number 0.
+pub const ONE_LEG: Mirror = Mirror {
+    legs: 1,
+    in_sync: 1,
+    fill: 0,
+    blocks: 8,
+    region: 4,
+    chunk: 2,
+    policy: Policy::RoundRobin,
+    first: 0,
+};
+
+/// Two legs of two regions.
+pub const TWO_LEGS: Mirror = Mirror {
+    legs: 2,
+    in_sync: 3,
+    ..ONE_LEG
+};
+
+/// Opens stripe 7, on legs that are all alike; leg 0 must be in sync. Where memory is refused the
+/// legs come back.
+pub fn try_open(
+    rt: &impl Abort,
+    alloc: Global,
+    mirror: Mirror,
+) -> Result<Result<Stripe<FuseLeg>, Vec<FuseLeg>>, Fail> {
+    let legs = mirror.legs;
+    let blocks = mirror.blocks;
+    let fill = mirror.fill;
+    let in_sync = mirror.in_sync;
+    let region = mirror.region;
+    let chunk = mirror.chunk;
+    assert!(rt; 1 <= legs && legs <= 8 && in_sync % 2 == 1);
+    assert!(rt; 1 <= blocks && blocks <= 65536);
+    assert!(rt; 1 <= region && region <= 65536 && 1 <= chunk && chunk <= 65536);
+    let mut all = Vec::new(alloc);
+    for _ in 0..legs {
+        all.push(FuseLeg::filled(alloc, blocks, fill)?)?;
+    }
+    let place = At {
+        stripe: 7,
+        blocks,
+        region,
+        chunk,
+    };
+    match Stripe::open(alloc, place, all, in_sync, mirror.first, mirror.policy) {
+        Ok(stripe) => Ok(Ok(stripe)),
+        Err((_memory, legs)) => Ok(Err(legs)),
+    }
+}
+
+/// As `try_open`, where memory is ample.
+pub fn opened(rt: &impl Abort, alloc: Global, mirror: Mirror) -> Result<Stripe<FuseLeg>, Fail> {
+    Ok(try_open(rt, alloc, mirror)?.ok().ok_or("no memory")?)
+}
