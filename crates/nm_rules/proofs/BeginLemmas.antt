@@ -34,6 +34,7 @@ use Rattle.nm_rules.proofs.MarkLemmas.{mark-leg, mark-out, mark-stays, mark-behi
 use Rattle.nm_rules.proofs.OwedLemmas.{owes_current, current_owed, master_owed}
 use Rattle.nm_rules.proofs.RecordLemmas.{same, new_cases, find-new_same, busy-front}
 use Rattle.nm_rules.proofs.StateLemmas.{in_sync_attached, joining_attached}
+use Rattle.nm_rules.proofs.LowLemmas.{low-with_new}
 
 -- a write may begin on the block
 pub record MayBegin {L : Type 0} (stripe : StripeState L) (block : ℕ) : Type 0 where
@@ -170,6 +171,7 @@ module _ {L : Type 0} (type : LegType L) (old : StripeState L) (block : ℕ) (by
     most = k.most;
     given = omega (arith, k.given, unlanded-with_new new_record old.records refl);
     below = omega (arith, may.below, unlanded-with_new new_record old.records refl);
+    low = low-with_new old.first old.records new_record k.low (omega (arith, may.below));
   }
 
   -- the array stays

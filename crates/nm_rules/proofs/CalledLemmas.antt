@@ -76,7 +76,7 @@ module _ {L : Type 0} (type : LegType L) (old : StripeState L) (legs : List L) w
       records = record { in_order = k.records.in_order; tickets = k.records.tickets; one_writer = k.records.one_writer; inside = k.records.inside; landed = k.records.landed; settling = k.records.settling };
       writes = record { owed = k.writes.owed; apart = k.writes.apart; marked = λ t r leg at inside. k.writes.marked t r leg at (omega (arith, inside, same.count)) };
       chunk = called-chunk old.copy old.chunk k.chunk;
-      numbers = record { start = k.numbers.start; starts = k.numbers.starts; numbered = k.numbers.numbered; most = k.numbers.most; given = k.numbers.given; below = k.numbers.below };
+      numbers = record { start = k.numbers.start; starts = k.numbers.starts; numbered = k.numbers.numbered; most = k.numbers.most; given = k.numbers.given; below = k.numbers.below; low = k.numbers.low };
       turn = k.turn;
       consistent = k.consistent;
       agrees = λ is_honest runs. called-agrees is_honest (k.agrees is_honest runs);

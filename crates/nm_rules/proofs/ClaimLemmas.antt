@@ -32,6 +32,7 @@ use Rattle.nm_rules.proofs.CauseLemmas.{none_holds, when_off, is_there}
 use Rattle.nm_rules.proofs.ChunkLemmas.{chunk-stays}
 use Rattle.nm_rules.proofs.RecordLemmas.{same, without_cases}
 use Rattle.nm_rules.proofs.SettledLemmas.{or_true, and_false}
+use Rattle.nm_rules.proofs.LowLemmas.{low-some}
 
 -- the write of this ticket may be claimed
 pub record MayClaim {L : Type 0} (stripe : StripeState L) (ticket : ℕ) : Type 0 where
@@ -137,6 +138,7 @@ module _ {L : Type 0} (type : LegType L) (old : StripeState L) (ticket : ℕ) (r
         most = k.most;
         given = omega (arith, k.given, stays);
         below = omega (arith, k.below, stays);
+        low = low-some old.first (λ (q : Record). not (q.ticket == ticket)) old.records k.low;
       }
 
   -- what was under way on a block still is

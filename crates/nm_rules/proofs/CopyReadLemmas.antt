@@ -110,7 +110,7 @@ module _ {L : Type 0} (type : LegType L) (s : StripeState L) (leg : ℕ) (copy :
         record { joining = r.is_copy.joining; lowest = r.is_copy.lowest; within = r.is_copy.within },
         record { long = r.long; some = omega (arith, long-by-one); most = omega (arith, long-by-one, not_filled); more = r.more; read_first = λ some. absurd (omega (arith, some, not_written)) },
       );
-      numbers = record { start = k.numbers.start; starts = k.numbers.starts; numbered = k.numbers.numbered; most = k.numbers.most; given = k.numbers.given; below = k.numbers.below };
+      numbers = record { start = k.numbers.start; starts = k.numbers.starts; numbered = k.numbers.numbered; most = k.numbers.most; given = k.numbers.given; below = k.numbers.below; low = k.numbers.low };
       turn = k.turn;
       consistent = k.consistent;
       agrees = λ is_honest runs. grown-agrees is_honest (k.agrees is_honest runs);

@@ -152,7 +152,7 @@ module _ {L : Type 0} (type : LegType L) (s : StripeState L) (leg : ℕ) (copy :
         records = record { in_order = k.records.in_order; tickets = k.records.tickets; one_writer = k.records.one_writer; inside = k.records.inside; landed = k.records.landed; settling = k.records.settling };
         writes = f.has_writes;
         chunk = f.has_chunk;
-        numbers = record { start = k.numbers.start; starts = k.numbers.starts; numbered = k.numbers.numbered; most = k.numbers.most; given = k.numbers.given; below = k.numbers.below };
+        numbers = record { start = k.numbers.start; starts = k.numbers.starts; numbered = k.numbers.numbered; most = k.numbers.most; given = k.numbers.given; below = k.numbers.below; low = k.numbers.low };
         turn = k.turn;
         consistent = k.consistent;
         agrees = λ is_honest going. further-agrees is_honest (k.agrees is_honest going);

@@ -56,6 +56,7 @@ module _ {L : Type 0} (type : LegType L) (old : StripeState L) where
       most = k.numbers.most;
       given = k.numbers.given;
       below = k.numbers.below;
+      low = k.numbers.low;
     };
     turn = k.turn;
     consistent = k.consistent;

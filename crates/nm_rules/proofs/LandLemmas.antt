@@ -1,6 +1,6 @@
 -- A push to the master of a write that has no entry: it takes effect, and its entry is the next of the
 -- history.
-use Rattle.std.proofs.Common.{◌≡◌, ◌≢◌, ⊎_elim, ℕ, ◌+◌, ◌<◌, ◌==◌, ◌||◌, true, false, not, IsTrue, List, [], ◌∷◌, length, Option, None, Some, is_none, refl, sym, ap, ◌∙◌, subst, arith, slice_get, slice_set, nat_lt, cond, MatchBool}
+use Rattle.std.proofs.Common.{◌^◌, ◌≡◌, ◌≢◌, ⊎_elim, ℕ, ◌+◌, ◌<◌, ◌==◌, ◌||◌, true, false, not, IsTrue, List, [], ◌∷◌, length, Option, None, Some, is_none, refl, sym, ap, ◌∙◌, subst, arith, slice_get, slice_set, nat_lt, cond, MatchBool}
 use Rattle.std.proofs.lemmas.Bool.Decides.{nat_tests}
 use Rattle.nm_replay.specs.declared.entry.Entry.{Entry}
 use Rattle.nm_replay.specs.Events.{Lands}
@@ -16,7 +16,7 @@ use Rattle.nm_fanout.specs.Records.{AreInOrder, find_record, unlanded, changed, 
 use Rattle.nm_leg.specs.Leg.{LegType}
 use Rattle.nm_rules.specs.Acts.{Acts}
 use Rattle.nm_rules.specs.Array.{stripe_array, write_life, read_life, life_of, recorded_life, written}
-use Rattle.nm_rules.specs.Invariant.{HasNumbers, Keeps, LegsAgree}
+use Rattle.nm_rules.specs.Invariant.{HasNumbers, IsLow, Keeps, LegsAgree}
 use Rattle.nm_rules.specs.Kept.{kept_with}
 use Rattle.nm_rules.specs.Lost.{settled}
 use Rattle.nm_rules.specs.Push.{after_landing, lands_at, write_entry}
@@ -27,6 +27,7 @@ use Rattle.nm_rules.proofs.MovedLemmas.{here-landed, others-array, moved-agrees,
 use Rattle.nm_rules.proofs.ReachLemmas.{Reaches, Reached, moved, moved-legs, moved-in_records, moved-writes, moved-chunk, leg_free}
 use Rattle.nm_rules.proofs.RecordLemmas.{one_or_two, same, find-changed_same, unlanded-landed}
 use Rattle.nm_rules.proofs.SettledLemmas.{both_hold, or_true}
+use Rattle.nm_rules.proofs.LowLemmas.{low-changed, low-found}
 
 -- a leg is reached, and the entry comes
 abbrev pub landing : ℕ → ℕ → Record → Record
@@ -109,6 +110,11 @@ module _ {L : Type 0} (type : LegType L) (old : StripeState L) (legs : List L) (
   one_less : unlanded (changed (landing number leg) r.ticket old.records) + 1 ≡ unlanded old.records
   one_less = unlanded-landed (landing number leg) r.ticket old.records r number c.keeps.records.in_order.ascending c.found no_entry refl
 
+  low_number : number < 2 ^ 63
+  low_number =
+      let low : old.first < 2 ^ 63 = subst (λ (e : Option ℕ). IsLow old.first e) no_entry (low-found old.first r.ticket old.records r c.keeps.numbers.low c.found) in
+      omega (arith, low, c.keeps.numbers.below, one_less)
+
   land-numbers : HasNumbers new
   land-numbers =
       let k = c.keeps.numbers in
@@ -119,6 +125,7 @@ module _ {L : Type 0} (type : LegType L) (old : StripeState L) (legs : List L) (
         most = kept-length old.total old.kept (entry ∷ []) k.most;
         given = omega (arith, k.given, one_less);
         below = omega (arith, k.below, one_less);
+        low = low-changed old.first (landing number leg) r.ticket old.records (λ q is. low_number) k.low;
       }
 
   land-kept : Keeps type new

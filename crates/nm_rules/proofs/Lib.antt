@@ -35,6 +35,7 @@ pub mod LegLemmas
 pub mod LosesLemmas
 pub mod LostLemmas
 pub mod LostStepLemmas
+pub mod LowLemmas
 pub mod MarkLemmas
 pub mod MovedLemmas
 pub mod OpeningLemmas

@@ -165,7 +165,7 @@ module _ {L : Type 0} (type : LegType L) (place : At) (legs : List L) (bits firs
     records = record { in_order = record { few = omega arith; ascending = tt; whole = tt }; tickets = tt; one_writer = tt; inside = λ t r at. cc; landed = λ t r at. cc; settling = λ is. cc };
     writes = record { owed = λ t r j at. cc; apart = λ t r at. cc; marked = λ t r j at. cc };
     chunk = tt;
-    numbers = record { start = first; starts = omega arith; numbered = tt; most = omega arith; given = omega arith; below = omega arith };
+    numbers = record { start = first; starts = omega arith; numbered = tt; most = omega arith; given = omega arith; below = omega arith; low = tt };
     turn = omega arith;
     consistent = λ is_honest. consistent-empty;
     agrees = λ is_honest runs. opened-agrees is_honest;

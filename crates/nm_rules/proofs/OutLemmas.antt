@@ -31,6 +31,7 @@ use Rattle.nm_rules.proofs.KeptLemmas.{kept-consistent, kept-ends, kept-length, 
 use Rattle.nm_rules.proofs.LandingLemmas.{WaitsInside, each-found, landing-consistent, landing-legal, landing-numbered, length-landing, unlanded-all}
 use Rattle.nm_rules.proofs.LeftLemmas.{entry-without, landed-entry, landed-left, landing-without, unlanded-without, without-left}
 use Rattle.nm_rules.proofs.RecordLemmas.{both}
+use Rattle.nm_rules.proofs.LowLemmas.{low-all, low-map}
 
 -- what the calls of a leg that goes out left of the legs: no other leg changed, and the leg, where it
 -- is honest, only where it is behind then
@@ -154,6 +155,7 @@ module _ {L : Type 0} (type : LegType L) (old : StripeState L) (legs : List L) (
             most = k.most;
             given = omega (arith, k.given, same_count);
             below = omega (arith, k.below, same_count);
+            low = low-map old.first (without_leg leg) old.records (λ q. refl) k.low;
           }
 
       pub same-array : LegsAgree type.model old → stripe_array type.model (gone old (same_rest old legs leg regions)) ≡ stripe_array type.model old
@@ -223,6 +225,7 @@ module _ {L : Type 0} (type : LegType L) (old : StripeState L) (legs : List L) (
             most = kept-length old.total old.kept more k.most ∙ ap (λ (n : ℕ). min 1024 (old.total + n)) many;
             given = omega (arith, k.given, same_count, none);
             below = omega (arith, k.below, same_count, none);
+            low = low-all old.first next rs (omega (arith, k.below, same_count)) (low-map old.first (without_leg leg) old.records (λ q. refl) k.low);
           }
 
       -- the entries are legal from the old array to the new one

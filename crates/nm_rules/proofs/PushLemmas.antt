@@ -29,6 +29,7 @@ use Rattle.nm_rules.proofs.MovedLemmas.{was_on, still_on, here-landed, was-lande
 use Rattle.nm_rules.proofs.ReachLemmas.{Reaches, Reached, moved-legs, moved-in_records, moved-writes, moved-chunk, leg_free, others_owed}
 use Rattle.nm_rules.proofs.RecordLemmas.{one_or_two, find-changed_same}
 use Rattle.nm_rules.proofs.SettledLemmas.{or_true}
+use Rattle.nm_rules.proofs.LowLemmas.{low-changed}
 
 -- the write of this ticket may be pushed to the leg
 pub record MayPush {L : Type 0} (stripe : StripeState L) (ticket leg : ℕ) : Type 0 where
@@ -139,6 +140,7 @@ module _ {L : Type 0} (type : LegType L) (old : StripeState L) (legs : List L) (
           most = k.numbers.most;
           given = omega (arith, k.numbers.given, unlanded-reached r.ticket leg old.records);
           below = omega (arith, k.numbers.below, unlanded-reached r.ticket leg old.records);
+          low = low-changed old.first (without_leg leg) r.ticket old.records (λ q is. is) k.numbers.low;
         };
         turn = k.turn;
         consistent = k.consistent;

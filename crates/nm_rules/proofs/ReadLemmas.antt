@@ -91,6 +91,7 @@ module _ {L : Type 0} (type : LegType L) (old : StripeState L) (legs : List L) (
         most = kept-length old.total old.kept (entry ∷ []) was.most;
         given = omega (arith, was.given);
         below = omega (arith, may.below);
+        low = was.low;
       }
 
   read-ends : IsTrue type.honest → block < old.place.blocks → EndsIn new.kept (stripe_array type.model old)

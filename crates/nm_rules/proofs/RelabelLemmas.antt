@@ -106,7 +106,7 @@ module _ {L : Type 0} (type : LegType L) (old : StripeState L) (states : List Le
       records = record { in_order = k.records.in_order; tickets = k.records.tickets; one_writer = k.records.one_writer; inside = k.records.inside; landed = k.records.landed; settling = k.records.settling };
       writes = relabel-writes k;
       chunk = relabel-chunk old.copy old.chunk refl k.chunk;
-      numbers = record { start = k.numbers.start; starts = k.numbers.starts; numbered = k.numbers.numbered; most = k.numbers.most; given = k.numbers.given; below = k.numbers.below };
+      numbers = record { start = k.numbers.start; starts = k.numbers.starts; numbered = k.numbers.numbered; most = k.numbers.most; given = k.numbers.given; below = k.numbers.below; low = k.numbers.low };
       turn = k.turn;
       consistent = k.consistent;
       agrees = λ is_honest runs. relabel-agrees (k.agrees is_honest runs);

@@ -1,6 +1,6 @@
 -- What every stripe keeps between its steps, from which its soundness follows.
 use Rattle.std.specs.Prelude.{◌≡◌, ℕ, ◌+◌, ◌-◌, ◌<◌, ◌≤◌, ◌^◌, ◌||◌, Bool, true, false, not, IsTrue}
-use Rattle.std.specs.Prelude.{length, Option, None, Some, is_some, max, min, slice_get}
+use Rattle.std.specs.Prelude.{List, [], ◌∷◌, length, Option, None, Some, is_some, max, min, slice_get}
 use Rattle.nm_replay.specs.History.{Consistent, EndsIn, NumberedFrom}
 use Rattle.nm_choice.specs.declared.leg_state.LegState.TheVariants.{InSync, Joining}
 use Rattle.nm_fanout.specs.declared.write_record.Record.{Record}
@@ -82,6 +82,16 @@ HasChunk None (Some chunk) stripe = ⊥
 HasChunk (Some copy) None stripe = IsCopy copy stripe
 HasChunk (Some copy) (Some chunk) stripe = IsCopy copy stripe × IsChunk copy chunk stripe
 
+-- an entry's number is below 2^63; where there is none yet, the first number is
+abbrev pub IsLow : ℕ → Option ℕ → Type 0
+IsLow first None = first < 2 ^ 63
+IsLow first (Some number) = number < 2 ^ 63
+
+-- so it is of each write
+abbrev pub AllLow : ℕ → List Record → Type 0
+AllLow first [] = Unit {0}
+AllLow first (r ∷ rs) = IsLow first r.entry × AllLow first rs
+
 -- the numbers: the kept entries have the last of those given, each write has one or will get one,
 -- and none reaches 2^63
 pub record HasNumbers {L : Type 0} (stripe : StripeState L) : Type 0 where
@@ -91,6 +101,7 @@ pub record HasNumbers {L : Type 0} (stripe : StripeState L) : Type 0 where
   pub most : length stripe.kept ≡ min 1024 stripe.total
   pub given : stripe.tickets ≤ stripe.total + unlanded stripe.records
   pub below : next_number stripe + unlanded stripe.records ≤ max (2 ^ 63) stripe.first
+  pub low : AllLow stripe.first stripe.records
 
 -- the blocks of an open chunk that are read are the array's, and so are those that are written, on
 -- the copy's leg

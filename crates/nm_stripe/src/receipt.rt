@@ -1,4 +1,4 @@
-ghost use Rattle.std.specs.Prelude.{◌≡◌};
+ghost use Rattle.std.specs.Prelude.{◌≡◌, ◌<◌, ◌^◌};
 
 use std::marker::{Model, PhantomData};
 
@@ -14,15 +14,19 @@ pub struct Receipt<L> {
 }
 
 impl<L> Model for Receipt<L> {
+    ghost use Rattle.std.specs.Prelude.{◌<◌, ◌^◌};
     ghost use Rattle.nm_rules.specs.Receipt.{EntryName};
 
     ghost Value = { EntryName };
 
     ghost view = { λ r. record { stripe = r.stripe; block = r.block; number = r.number } };
+
+    ghost invariant = { λ r. r.number < 2 ^ 63 };
 }
 
 impl<L> Receipt<L> {
     pub(crate) fn new(stripe: u32, block: u64, number: u64) -> Self
+        requires { number < 2 ^ 63 }
         ensures { result ≡ record { stripe = stripe; block = block; number = number } }
     {
         Receipt {
@@ -47,9 +51,10 @@ impl<L> Receipt<L> {
         self.block
     }
 
-    /// The number of the read's entry.
+    /// The number of the read's entry, which is below 2^63.
     pub fn number(&self) -> u64
-        ensures { result ≡ self.now.number }
+        ensures number { result ≡ self.now.number }
+        ensures below { result < 2 ^ 63 }
     {
         self.number
     }

@@ -1,4 +1,4 @@
-ghost use Rattle.std.specs.Prelude.{◌≡◌};
+ghost use Rattle.std.specs.Prelude.{◌≡◌, ◌<◌, ◌^◌};
 
 use nm_replay::Block;
 use std::marker::{Model, PhantomData};
@@ -16,6 +16,7 @@ pub struct Value<L> {
 }
 
 impl<L> Model for Value<L> {
+    ghost use Rattle.std.specs.Prelude.{◌<◌, ◌^◌};
     ghost use Rattle.nm_rules.specs.Receipt.{ReadBlock};
 
     ghost Value = { ReadBlock };
@@ -24,6 +25,8 @@ impl<L> Model for Value<L> {
       entry = record { stripe = v.stripe; block = v.block; number = v.number };
       bytes = v.bytes;
     } };
+
+    ghost invariant = { λ v. v.number < 2 ^ 63 };
 }
 
 impl<L> Value<L> {
@@ -41,9 +44,10 @@ impl<L> Value<L> {
         self.block
     }
 
-    /// The number of the read's entry.
+    /// The number of the read's entry, which is below 2^63.
     pub fn number(&self) -> u64
-        ensures { result ≡ self.now.entry.number }
+        ensures number { result ≡ self.now.entry.number }
+        ensures below { result < 2 ^ 63 }
     {
         self.number
     }
