@@ -1,3 +1,4 @@
+pub mod BoundLemmas
 pub mod ClaimLemmas
 pub mod CopyLemmas
 pub mod LostLemmas
@@ -5,4 +6,5 @@ pub mod OpeningLemmas
 pub mod PushLemmas
 pub mod ReadLemmas
 pub mod RunLemmas
+pub mod StepLemmas
 pub mod SyncLemmas

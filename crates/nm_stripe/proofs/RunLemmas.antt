@@ -204,3 +204,8 @@ pub run-over : {L : Type 0} (type : LegType L) (old : StripeState L) (steps rest
 run-over type old steps rest answers now run none is_honest halted =
     let all : run.done ≡ steps = sym (append-nil run.done) ∙ ap (λ (rs : List (Step _)). run.done ++ reverse rs) (sym none) ∙ run.split in
     subst (λ (ss : List (Step _)). ActOnOneArray type.model ss answers old now) all (run.acts is_honest halted)
+
+pub run-all : {L : Type 0} (type : LegType L) (old : StripeState L) (steps rest : List (Step L)) (answers : List (Answer L)) (now : StripeState L) → HasRun type old steps rest answers now → rest ≡ [] → Runs type old steps answers now
+run-all type old steps rest answers now run none =
+    let all : run.done ≡ steps = sym (append-nil run.done) ∙ ap (λ (rs : List (Step _)). run.done ++ reverse rs) (sym none) ∙ run.split in
+    subst (λ (ss : List (Step _)). Runs type old ss answers now) all run.runs

@@ -1,3 +1,4 @@
+pub mod Bound
 pub mod Copy
 pub mod End
 pub mod Fail

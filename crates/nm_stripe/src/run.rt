@@ -2,6 +2,7 @@
 ghost use Rattle.nm_leg.specs.Leg.{leg_type};
 ghost use Rattle.std.specs.Prelude.{◌≡◌, [], IsTrue, IsOk, IfOk, IfErr, OnErr};
 ghost use Rattle.nm_rules.specs.Sound.{IsSound};
+ghost use Rattle.nm_stripe.specs.Bound.{BoundsCopies};
 ghost use Rattle.nm_stripe.specs.Run.{AllAsked, Runs, NoneHalted, ActOnOneArray};
 
 use crate::answer::Answer;
@@ -14,8 +15,10 @@ impl<L: LegPart> Stripe<L> {
     /// Does the steps one after the other, and gives one answer a step.
     ///
     /// Over honest legs, while no answer is `Halted`, each block read or written acts once, between
-    /// its begin and its reply, on one array, and the kept history grows by just those acts. Room
-    /// for all answers is made first: where it is refused the steps come back and nothing was done.
+    /// its begin and its reply, on one array, and the kept history grows by just those acts. A leg
+    /// that joins all the while has been copied to by as many calls of legs as its answers say, two
+    /// for each block at most. Room for all answers is made first: where it is refused the steps
+    /// come back and nothing was done.
     pub fn run(
         &mut self,
         alloc: Global,
@@ -26,12 +29,14 @@ impl<L: LegPart> Stripe<L> {
             steps.items answers.items self.new) }
         ensures headline { IsTrue L.honest → IfOk result (λ answers. NoneHalted answers.items
             → ActOnOneArray L.model steps.items answers.items self.old self.new) }
+        ensures bound { IfOk result (λ answers.
+            BoundsCopies steps.items answers.items self.old self.new) }
         ensures sound { IsSound (leg_type L.model L.honest) self.new }
         ensures handed_back { IfErr result (λ back. back.items ≡ steps.items) }
         ensures stays { OnErr result (self.new ≡ self.old) }
         ensures memory_only_at_growth { steps.items ≡ [] → IsOk result }
     {
-        self.sound();
+        self.keeps();
         let mut answers = Vec::new(alloc);
         if answers.reserve(steps.len()).is_err() {
             return Err(steps);

@@ -1,12 +1,15 @@
 ghost use Rattle.nm_leg.specs.Leg.{leg_type};
 ghost use Rattle.std.specs.Prelude.{◌≡◌, ℕ, ◌<◌, ◌≤◌, [], length, slice_get, IsTrue, IsOk, IfOk, IfErr, Some};
+ghost use Rattle.nm_choice.specs.declared.leg_state.LegState.TheVariants.{Joining};
 ghost use Rattle.nm_fanout.specs.Records.{next_owed, first_owed};
 ghost use Rattle.nm_leg.specs.LegCalls.{EachHas};
 ghost use Rattle.nm_regions.specs.Sound.{AreSizes};
 ghost use Rattle.nm_resync.specs.Chunk.{IsChunkSize};
+ghost use Rattle.nm_rules.specs.Invariant.{Keeps};
 ghost use Rattle.nm_rules.specs.Opening.{opened, HoldEqual};
 ghost use Rattle.nm_rules.specs.Sound.{IsSound};
 ghost use Rattle.nm_rules.specs.State.{next_number, leg_state, left};
+ghost use Rattle.nm_stripe.specs.Bound.{IsCopied};
 ghost use Rattle.nm_stripe.specs.Opening.{NamesALeg};
 
 use nm_choice::{LegState, Policy};
@@ -82,9 +85,12 @@ impl<L: LegPart> Stripe<L> {
     }
 
     /// How many blocks are left to copy to the leg.
+    ///
+    /// A joining leg to which nothing is left may be called in sync, unless the stripe has stopped.
     pub fn left(&self, leg: u8) -> u64
         requires { leg < length self.now.legs }
-        ensures { result ≡ left leg self.now }
+        ensures left { result ≡ left leg self.now }
+        ensures copied { result ≡ 0 → leg_state leg self.now ≡ Joining → IsCopied leg self.now }
     {
         self.store.left(leg)
     }
@@ -142,6 +148,13 @@ impl<L: LegPart> Stripe<L> {
     /// Says that the stripe is sound, and does nothing: for proofs, which see no invariant.
     pub fn sound(&self)
         ensures { IsSound (leg_type L.model L.honest) self.now }
+    {
+        let _stopped = self.store.is_stopped();
+    }
+
+    /// Says what the stripe keeps, and does nothing: for proofs of lists of steps.
+    pub(crate) fn keeps(&self)
+        ensures { Keeps (leg_type L.model L.honest) self.now }
     {
         let _stopped = self.store.is_stopped();
     }

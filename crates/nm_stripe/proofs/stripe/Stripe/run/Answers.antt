@@ -1,7 +1,9 @@
 -- One turn of the loop is one step more.
 use Rattle.nm_leg.specs.Leg.{leg_type}
 use Rattle.std.proofs.Common.{rules, ◌≡◌, [], ◌∷◌, ◌++◌, reverse}
-use Rattle.nm_stripe.proofs.RunLemmas.{run-begins, run-on, run-over}
+use Rattle.nm_rules.proofs.SoundLemmas.{keeps-sound}
+use Rattle.nm_stripe.proofs.BoundLemmas.{runs-bound}
+use Rattle.nm_stripe.proofs.RunLemmas.{run-begins, run-on, run-over, run-all}
 use Rattle.nm_stripe.proofs.stripe.Stripe.run.Goals as goal
 
 pub loop-step-init : goal.loop-step-init
@@ -9,7 +11,7 @@ loop-step-init g c =
     let turned : c.reverse.new.self.items ≡ reverse c.args.steps.items = search rules in
     let none : c.reserve.new.self.items ≡ [] = search rules in
     record {
-      run = rw (turned, none) (run-begins (leg_type g.L.LegPart.model g.L.LegPart.honest) c.args.self.now c.args.steps.items c.sound.ensures.kept c.requires);
+      run = rw (turned, none) (run-begins (leg_type g.L.LegPart.model g.L.LegPart.honest) c.args.self.now c.args.steps.items c.keeps.ensures.numbers.most c.requires);
       room = search rules;
     }
 
@@ -23,7 +25,20 @@ loop-step-preserved g c =
       room = search rules;
     }
 
+pub returns-then-is_err-clause-sound : goal.returns-then-is_err-clause-sound
+returns-then-is_err-clause-sound g c = keeps-sound (leg_type g.L.LegPart.model g.L.LegPart.honest) c.args.self.now c.keeps.ensures
+
+pub returns-then-is_err-clause-memory_only_at_growth : goal.returns-then-is_err-clause-memory_only_at_growth
+returns-then-is_err-clause-memory_only_at_growth g c = search rules
+
 pub returns-clause-headline : goal.returns-clause-headline
 returns-clause-headline g c is_honest halted =
     let none : c.loop-step.rest.items ≡ [] = search rules in
     run-over (leg_type g.L.LegPart.model g.L.LegPart.honest) c.args.self.now c.args.steps.items c.loop-step.rest.items c.loop-step.answers.items c.loop-step.self c.loop-step.invariant.run none is_honest halted
+
+pub returns-clause-bound : goal.returns-clause-bound
+returns-clause-bound g c leg joined stays =
+    let type = leg_type g.L.LegPart.model g.L.LegPart.honest in
+    let none : c.loop-step.rest.items ≡ [] = search rules in
+    let runs = run-all type c.args.self.now c.args.steps.items c.loop-step.rest.items c.loop-step.answers.items c.loop-step.self c.loop-step.invariant.run none in
+    runs-bound type c.args.steps.items c.loop-step.answers.items c.args.self.now c.loop-step.self leg c.keeps.ensures c.requires runs joined stays

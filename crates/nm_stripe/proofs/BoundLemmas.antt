@@ -1,0 +1,204 @@
+-- A leg that joins and stays joining: each step that copies to it is one leg call fewer to make, and no other step changes how many there are.
+use Rattle.std.proofs.Common.{◌≡◌, ◌≢◌, ◌⊎◌, ⊎_elim, ℕ, ◌+◌, ◌*◌, ◌-◌, ◌≤◌, ◌==◌, cond, true, false, inl, inr, None, Some, slice_set, List, [], ◌∷◌, get_or, refl, sym, ap, ◌∙◌, subst, arith}
+use Rattle.std.proofs.lemmas.Bool.Decides.{eqb_tells}
+use Rattle.nm_choice.specs.declared.leg_state.LegState.{LegState}
+use Rattle.nm_choice.specs.declared.leg_state.LegState.TheVariants as state
+use Rattle.nm_choice.specs.declared.leg_state.LegState.TheVariants.{Out}
+use Rattle.nm_fanout.specs.declared.write_record.Record.{Record}
+use Rattle.nm_leg.specs.Leg.{LegType}
+use Rattle.nm_rules.specs.declared.refusal.Refusal.{Refusal}
+use Rattle.nm_rules.specs.Attach.{attach_cause}
+use Rattle.nm_rules.specs.Copy.{CopiesRead, CopiesWrite, after_copy_write, chunk_copied}
+use Rattle.nm_rules.specs.Invariant.{Keeps}
+use Rattle.nm_rules.specs.Joining.{KeepsWork}
+use Rattle.nm_rules.specs.Lost.{lost, lost_all, settled}
+use Rattle.nm_rules.specs.Push.{after_landing, after_push, after_reach, lands_at}
+use Rattle.nm_rules.specs.State.{Chunk, StripeState, chunk_buffered, is_out, left, leg_state, table, with_table, work}
+use Rattle.nm_rules.proofs.AttachLemmas.{may_attach, set-other}
+use Rattle.nm_rules.proofs.ElectLemmas.{gone-other}
+use Rattle.nm_rules.proofs.JoiningEndLemmas.{nothing-behind, nothing-promotes, nothing-refused, nothing-left}
+use Rattle.nm_rules.proofs.JoiningLemmas.{fields-work, lost-parts}
+use Rattle.nm_rules.proofs.JoiningStepLemmas.{begins-work, pushes-work, loses_in_push-work, halts-work, claims-work, finds-work, loses_in_read-work, fails_in_read-work, goes_out-work, attaches-work, replaces-work}
+use Rattle.nm_rules.proofs.JoiningStepLemmas.{copies_read-work, copies_write-work, loses_in_copy-work, fails_in_copy-work, promotes-work, loses_in_promote-work, synchronizes-work, loses_in_sync-work, fails_in_sync-work}
+use Rattle.nm_rules.proofs.WorkLemmas.{copies-read-work, copies-write-work}
+use Rattle.nm_stripe.specs.declared.answer.Answer.{Answer}
+use Rattle.nm_stripe.specs.declared.answer.Answer.TheVariants.{Begun, Pushed, Complete, Halted, Written, Value, Failed, MasterChanged, Joining, Copied, InSync, Synced, LegLost, Refused}
+use Rattle.nm_stripe.specs.declared.answer.Answer.TheVariants.{Nothing as NothingLeft}
+use Rattle.nm_stripe.specs.declared.step.Step.{Step}
+use Rattle.nm_stripe.specs.declared.step.Step.TheVariants.{Begin, Push, Claim, Read, Fail, Attach, Replace, Copy, Promote, Sync}
+use Rattle.nm_stripe.specs.Bound.{copies, copied_count, StaysBehind, StaysJoining, IsBounded, IsCopied}
+use Rattle.nm_stripe.specs.Copy.{RefusesCopy, ForCause as CopyCause, ForFault as CopyFault}
+use Rattle.nm_stripe.specs.Read.{RefusesRead, ForCause as ReadCause, ForFault as ReadFault}
+use Rattle.nm_stripe.specs.Run.{StepOf, AllAsked, Runs}
+use Rattle.nm_stripe.specs.Sync.{RefusesSync, ForCause as SyncCause, ForFault as SyncFault}
+use Rattle.nm_stripe.proofs.RunLemmas.{step-shape, all_asked-later}
+use Rattle.nm_stripe.proofs.StepLemmas.{step-keeps}
+
+-- nothing is left to copy to a joining leg
+pub copied-is : {L : Type 0} (type : LegType L) (s : StripeState L) (leg : ℕ) → Keeps type s → left leg s ≡ 0 → leg_state leg s ≡ state.Joining → IsCopied leg s
+copied-is type s leg k none joins = record {
+  nowhere = nothing-behind type s leg k joins none;
+  promotes = λ runs. nothing-promotes type s leg k joins none runs;
+  refused = λ refusal is. nothing-refused type s leg refusal k joins none is;
+  nothing = λ runs steady. nothing-left type s leg k joins none runs steady;
+}
+
+-- a push changes no leg's state, nor does a step of a copy
+push-states : {L : Type 0} (old : StripeState L) (legs : List L) (r : Record) (leg : ℕ) → (after_push old legs r leg).states ≡ old.states
+push-states old legs r leg =
+    elim (lands_at leg r old) as (λ b. (settled (cond b (after_landing old legs r leg) (after_reach old legs r leg))).states ≡ old.states) [ true ↦ refl | false ↦ refl ]
+
+written-states : {L : Type 0} (old : StripeState L) (legs : List L) (chunk : Chunk) → (after_copy_write old legs chunk).states ≡ old.states
+written-states old legs chunk =
+    elim (chunk.written + 1 == chunk.length) as (λ b. (cond b (let s : StripeState _ = record (with_table (chunk_copied chunk.length (table old)) old) { legs = legs; chunk = None } in s)
+    (let s : StripeState _ = record old { legs = legs; chunk = Some (record chunk { written = chunk.written + 1 }) } in s)).states ≡ old.states) [ true ↦ refl | false ↦ refl ]
+
+module _ {L : Type 0} (type : LegType L) (old new : StripeState L) (j : ℕ) (joined : leg_state j old ≡ state.Joining) where
+  -- the leg joins where its state is as it was
+  still : new.states ≡ old.states → leg_state j new ≡ state.Joining
+  still states = ap (λ (xs : List LegState). get_or xs j Out) states ∙ joined
+
+  -- or where another went out
+  still-lost : (legs : List L) (gone : ℕ) → gone ≢ j → new ≡ lost gone (record old { legs = legs }) → leg_state j new ≡ state.Joining
+  still-lost legs gone ne after =
+      ap (λ (s : StripeState L). leg_state j s) after ∙ ap (λ (xs : List LegState). get_or xs j Out) (lost-parts gone (record old { legs = legs })).states ∙ gone-other old.states gone j (λ e. ne (sym e)) ∙ joined
+
+  still-lost_all : (gone : ℕ) → gone ≢ j → new ≡ lost_all gone (record old { legs = new.legs }) → leg_state j new ≡ state.Joining
+  still-lost_all gone ne after =
+      ap (λ (s : StripeState L). leg_state j s) after ∙ ap (λ (xs : List LegState). get_or xs j Out) (lost-parts gone (record old { legs = new.legs })).states ∙ gone-other old.states gone j (λ e. ne (sym e)) ∙ joined
+
+  -- a leg that may be attached is another one
+  attached-ne : (leg : ℕ) → attach_cause old leg ≡ None → j ≢ leg
+  attached-ne leg none e =
+      let out : is_out (leg_state j old) ≡ true = subst (λ (i : ℕ). is_out (leg_state i old) ≡ true) (sym e) (may_attach old leg none).out in
+      let attached : is_out (leg_state j old) ≡ false = ap (λ (s : LegState). is_out s) joined in
+      let clash : true ≡ false = sym out ∙ attached in
+      cc
+
+  still-set : (leg : ℕ) (to : LegState) → j ≢ leg → new.states ≡ slice_set old.states leg to → leg_state j new ≡ state.Joining
+  still-set leg to ne states = ap (λ (xs : List LegState). get_or xs j Out) states ∙ set-other old.states leg j to Out ne ∙ joined
+
+  -- a step that copies nothing to the leg
+  uncounted : KeepsWork j old new → work j new + 0 ≡ work j old
+  uncounted w = plus-none (work j new) (work j old) w.work_same
+    where
+      plus-none : (a b : ℕ) → a ≡ b → a + 0 ≡ b
+      plus-none a b e = omega (arith, e)
+
+  same-states : new ≡ old → leg_state j new ≡ state.Joining
+  same-states is = ap (λ (s : StripeState L). leg_state j s) is ∙ joined
+
+  same-work : new ≡ old → KeepsWork j old new
+  same-work is = fields-work j old new (ap (λ (s : StripeState L). s.place) is) (ap (λ (s : StripeState L). s.flags) is) (ap (λ (s : StripeState L). s.copy) is) (ap (λ (s : StripeState L). s.chunk) is)
+
+  read-refused : (block : ℕ) (given : Refusal) → RefusesRead type old new block given → (leg_state j new ≡ state.Joining) × KeepsWork j old new
+  read-refused block given (ReadCause cause is) = (same-states is, same-work is)
+  read-refused block given (ReadFault is found fails) = (ap (λ (s : StripeState L). leg_state j s) fails.after ∙ joined, fails_in_read-work j old new type block found fails)
+
+  copy-refused : (leg : ℕ) (given : Refusal) → RefusesCopy type old new leg given → (leg_state j new ≡ state.Joining) × KeepsWork j old new
+  copy-refused leg given (CopyCause cause is) = (same-states is, same-work is)
+  copy-refused leg given (CopyFault is fails) = (ap (λ (s : StripeState L). leg_state j s) fails.after ∙ joined, fails_in_copy-work j old new type leg fails)
+
+  sync-refused : (leg : ℕ) (given : Refusal) → RefusesSync type old new leg given → (leg_state j new ≡ state.Joining) × KeepsWork j old new
+  sync-refused leg given (SyncCause cause is) = (same-states is, same-work is)
+  sync-refused leg given (SyncFault is fails) = (ap (λ (s : StripeState L). leg_state j s) fails.after ∙ joined, fails_in_sync-work j old new type leg fails)
+
+  -- a step of a copy, of this leg or another
+  copied-states : (leg : ℕ) → (CopiesRead type old new leg ⊎ CopiesWrite type old new leg) → leg_state j new ≡ state.Joining
+  copied-states leg copied = ⊎_elim
+      (λ read. ap (λ (s : StripeState L). leg_state j s) read.after ∙ joined)
+      (λ write. still (ap (λ (s : StripeState L). s.states) write.after ∙ written-states old new.legs write.chunk))
+      copied
+
+  copied-less : Keeps type old → (CopiesRead type old new j ⊎ CopiesWrite type old new j) → work j new + 1 ≡ work j old
+  copied-less k copied = ⊎_elim (λ read. (copies-read-work type old new j k read).work_less) (λ write. (copies-write-work type old new j k write).work_less) copied
+
+  copied-work : (leg : ℕ) → Keeps type old → j ≢ leg → (CopiesRead type old new leg ⊎ CopiesWrite type old new leg) → KeepsWork j old new
+  copied-work leg k ne copied = ⊎_elim (λ read. copies_read-work j old new type leg k ne read) (λ write. copies_write-work j old new type leg ne write) copied
+
+  copied-counts : (leg : ℕ) → Keeps type old → (CopiesRead type old new leg ⊎ CopiesWrite type old new leg) → work j new + cond (leg == j) 1 0 ≡ work j old
+  copied-counts leg k copied =
+      elim (eqb_tells leg j) [
+        | inl w ↦ rw w.0 (copied-less k (subst (λ (i : ℕ). CopiesRead type old new i ⊎ CopiesWrite type old new i) w.1 copied))
+        | inr w ↦ rw w.0 (uncounted (copied-work leg k (λ e. w.1 (sym e)) copied))
+      ]
+
+  -- a step that is not counted
+  quiet : (leg_state j new ≡ state.Joining) × KeepsWork j old new → (leg_state j new ≡ state.Joining) × (work j new + 0 ≡ work j old)
+  quiet both = (both.0, uncounted both.1)
+
+  lost-quiet : (leg_state j new ≡ state.Joining) → ((leg_state j new ≡ state.Joining) → KeepsWork j old new) → (leg_state j new ≡ state.Joining) × (work j new + 0 ≡ work j old)
+  lost-quiet joins kept = (joins, uncounted (kept joins))
+
+  pub steps-bound : (step : Step L) (answer : Answer L) → Keeps type old → StaysBehind j step answer → StepOf type step answer old new → (leg_state j new ≡ state.Joining) × (work j new + copies j step answer ≡ work j old)
+  steps-bound (Begin block bytes) (Begun ticket) k stays is = quiet (ap (λ (s : StripeState L). leg_state j s) is.after ∙ joined, begins-work j old new type block bytes ticket k joined is)
+  steps-bound (Begin block bytes) (Refused cause handed) k stays is = quiet (same-states is.2, same-work is.2)
+  steps-bound (Push ticket leg) (Pushed count) k stays is = quiet (still (ap (λ (s : StripeState L). s.states) is.0.after ∙ push-states old new.legs is.0.pushed leg), pushes-work j old new type ticket leg is.0)
+  steps-bound (Push ticket leg) (Complete number) k stays is = quiet (still (ap (λ (s : StripeState L). s.states) is.0.after ∙ push-states old new.legs is.0.pushed leg), pushes-work j old new type ticket leg is.0)
+  steps-bound (Push ticket leg) (LegLost gone handed) k stays is =
+      lost-quiet (still-lost new.legs leg (λ e. stays (is.0.0 ∙ e)) is.0.1.after) (λ joins. loses_in_push-work j old new type ticket leg joins is.0.1)
+  steps-bound (Push ticket leg) Halted k stays is = quiet (ap (λ (s : StripeState L). leg_state j s) is.after ∙ joined, halts-work j old new type ticket leg is)
+  steps-bound (Push ticket leg) (Refused cause handed) k stays is = quiet (same-states is.2, same-work is.2)
+  steps-bound (Claim ticket) (Written written) k stays is = quiet (ap (λ (s : StripeState L). leg_state j s) is.after ∙ joined, claims-work j old new ticket written is)
+  steps-bound (Claim ticket) (Refused cause handed) k stays is = quiet (same-states is.2, same-work is.2)
+  steps-bound (Read block) (Value value) k stays is = quiet (ap (λ (s : StripeState L). leg_state j s) is.after ∙ joined, finds-work j old new type block value.bytes value.entry is)
+  steps-bound (Read block) (LegLost gone handed) k stays is =
+      lost-quiet (still-lost new.legs gone stays is.1.1.after) (λ joins. loses_in_read-work j old new type block gone is.1.0 joins is.1.1)
+  steps-bound (Read block) (Refused cause handed) k stays is = quiet (read-refused block cause is.0)
+  steps-bound (Fail leg) Failed k stays is = lost-quiet (still-lost old.legs leg stays is.0.after) (λ joins. goes_out-work j old new leg joins is.0)
+  steps-bound (Fail leg) (MasterChanged master) k stays is = lost-quiet (still-lost old.legs leg stays is.0.after) (λ joins. goes_out-work j old new leg joins is.0)
+  steps-bound (Fail leg) (Refused cause handed) k stays is = quiet (same-states is.2, same-work is.2)
+  steps-bound (Attach leg) (Joining blocks) k stays is =
+      quiet (still-set leg state.Joining (attached-ne leg is.0.no_cause) (ap (λ (s : StripeState L). s.states) is.0.after), attaches-work j old new leg joined is.0)
+  steps-bound (Attach leg) (Refused cause handed) k stays is = quiet (same-states is.2, same-work is.2)
+  steps-bound (Replace leg part) (Joining blocks) k stays is =
+      quiet (still-set leg state.Joining (attached-ne leg is.0.no_cause) (ap (λ (s : StripeState L). s.states) is.0.after), replaces-work j old new leg part joined is.0)
+  steps-bound (Replace leg part) (Refused cause handed) k stays is = quiet (same-states is.2, same-work is.2)
+  steps-bound (Copy leg) (Copied blocks) k stays is = (copied-states leg is.0, copied-counts leg k is.0)
+  steps-bound (Copy leg) NothingLeft k stays is = quiet (same-states is.1, same-work is.1)
+  steps-bound (Copy leg) (LegLost gone handed) k stays is =
+      lost-quiet (still-lost new.legs gone stays is.0.after) (λ joins. loses_in_copy-work j old new type leg gone joins is.0)
+  steps-bound (Copy leg) (Refused cause handed) k stays is = quiet (copy-refused leg cause is.0)
+  steps-bound (Promote leg) InSync k stays is =
+      quiet (still-set leg state.InSync (λ e. stays (sym e)) (ap (λ (s : StripeState L). s.states) is.after), promotes-work j old new type leg is)
+  steps-bound (Promote leg) (LegLost gone handed) k stays is =
+      lost-quiet (still-lost_all leg (λ e. stays (is.0.0 ∙ e)) is.0.1.after) (λ joins. loses_in_promote-work j old new type leg joins is.0.1)
+  steps-bound (Promote leg) (Refused cause handed) k stays is = quiet (same-states is.2, same-work is.2)
+  steps-bound (Sync leg) Synced k stays is = quiet (ap (λ (s : StripeState L). leg_state j s) is.after ∙ joined, synchronizes-work j old new type leg is)
+  steps-bound (Sync leg) (LegLost gone handed) k stays is =
+      lost-quiet (still-lost_all leg (λ e. stays (is.0.0 ∙ e)) is.0.1.after) (λ joins. loses_in_sync-work j old new type leg joins is.0.1)
+  steps-bound (Sync leg) (Refused cause handed) k stays is = quiet (sync-refused leg cause is.0)
+  steps-bound step answer k stays is = absurd is
+
+-- over all of the steps
+runs-counts : {L : Type 0} (type : LegType L) (j : ℕ) (steps : List (Step L)) (answers : List (Answer L)) (old new : StripeState L)
+    → Keeps type old → AllAsked type.model old steps → Runs type old steps answers new → leg_state j old ≡ state.Joining → StaysJoining j steps answers
+    → (leg_state j new ≡ state.Joining) × (work j new + copied_count j steps answers ≡ work j old)
+runs-counts type j [] [] old new k asked runs joined stays =
+    (ap (λ (s : StripeState _). leg_state j s) runs ∙ joined, plus-none (work j new) (work j old) (ap (λ (s : StripeState _). work j s) runs))
+  where
+    plus-none : (a b : ℕ) → a ≡ b → a + 0 ≡ b
+    plus-none a b e = omega (arith, e)
+runs-counts type j (step ∷ steps) (answer ∷ answers) old new k asked runs joined stays =
+    let mid = runs.0 in
+    let one = steps-bound type old mid j joined step answer k stays.0 runs.1 in
+    let later = all_asked-later type.model steps old mid (step-shape type step answer old mid runs.1) asked.1 in
+    let more = runs-counts type j steps answers mid new (step-keeps type step answer old mid k asked.0 runs.1) later runs.2 one.0 stays.1 in
+    (more.0, chain (work j new) (work j mid) (work j old) (copies j step answer) (copied_count j steps answers) one.1 more.1)
+  where
+    chain : (n m o a b : ℕ) → m + a ≡ o → n + b ≡ m → n + (a + b) ≡ o
+    chain n m o a b one more = omega (arith, one, more)
+runs-counts type j [] (answer ∷ answers) old new k asked runs joined stays = absurd runs
+runs-counts type j (step ∷ steps) [] old new k asked runs joined stays = absurd runs
+
+pub runs-bound : {L : Type 0} (type : LegType L) (steps : List (Step L)) (answers : List (Answer L)) (old new : StripeState L) (j : ℕ)
+    → Keeps type old → AllAsked type.model old steps → Runs type old steps answers new → leg_state j old ≡ state.Joining → StaysJoining j steps answers → IsBounded j steps answers old new
+runs-bound type steps answers old new j k asked runs joined stays =
+    let both = runs-counts type j steps answers old new k asked runs joined stays in
+    record { joining = both.0; counts = both.1; most = at-most (work j new) (work j old) (copied_count j steps answers) (2 * left j old) both.1 (less (2 * left j old) (chunk_buffered j old.copy old.chunk) (work j old) refl) }
+  where
+    at-most : (n o c most : ℕ) → n + c ≡ o → o ≤ most → c ≤ most
+    at-most n o c most counts below = omega (arith, counts, below)
+
+    less : (a b o : ℕ) → o ≡ a - b → o ≤ a
+    less a b o is = omega (arith, is)

@@ -1,0 +1,81 @@
+-- Each step keeps what every stripe keeps, whatever it answers.
+use Rattle.std.proofs.Common.{◌≡◌, ℕ, ◌<◌, length, sym, subst}
+use Rattle.nm_leg.specs.Leg.{LegType}
+use Rattle.nm_rules.specs.declared.refusal.Refusal.{Refusal}
+use Rattle.nm_rules.specs.Attach.{Attaches, Replaces}
+use Rattle.nm_rules.specs.Invariant.{Keeps}
+use Rattle.nm_rules.specs.State.{StripeState}
+use Rattle.nm_rules.proofs.AttachLemmas.{may_attach, attach-keeps}
+use Rattle.nm_rules.proofs.BeginLemmas.{begins-keeps}
+use Rattle.nm_rules.proofs.ClaimLemmas.{claims-keeps}
+use Rattle.nm_rules.proofs.HaltLemmas.{halt-keeps, read_fault-keeps, sync_fault-keeps, copy_fault-keeps}
+use Rattle.nm_rules.proofs.LostStepLemmas.{read_lost-keeps, push_lost-keeps, sync_lost-keeps, promote_lost-keeps, copy_lost-keeps, fail-keeps}
+use Rattle.nm_rules.proofs.PushedLemmas.{pushes-keeps}
+use Rattle.nm_rules.proofs.ReadLemmas.{finds-keeps}
+use Rattle.nm_rules.proofs.ReplaceLemmas.{replace-keeps}
+use Rattle.nm_stripe.specs.declared.answer.Answer.{Answer}
+use Rattle.nm_stripe.specs.declared.answer.Answer.TheVariants.{Begun, Pushed, Complete, Halted, Written, Value, Failed, MasterChanged, Joining, Copied, InSync, Synced, LegLost, Refused}
+use Rattle.nm_stripe.specs.declared.answer.Answer.TheVariants.{Nothing as NothingLeft}
+use Rattle.nm_stripe.specs.declared.step.Step.{Step}
+use Rattle.nm_stripe.specs.declared.step.Step.TheVariants.{Begin, Push, Claim, Read, Fail, Attach, Replace, Copy, Promote, Sync}
+use Rattle.nm_stripe.specs.Copy.{RefusesCopy, ForCause as CopyCause, ForFault as CopyFault}
+use Rattle.nm_stripe.specs.Read.{RefusesRead, ForCause as ReadCause, ForFault as ReadFault}
+use Rattle.nm_stripe.specs.Sync.{RefusesSync, ForCause as SyncCause, ForFault as SyncFault}
+use Rattle.nm_stripe.specs.Run.{StepOf, MayBeAsked}
+use Rattle.nm_stripe.proofs.CopyLemmas.{copied-keeps}
+use Rattle.nm_stripe.proofs.SyncLemmas.{synced-keeps, promoted-keeps}
+
+module _ {L : Type 0} (type : LegType L) (old new : StripeState L) (k : Keeps type old) where
+  -- a step that changes nothing
+  same : new ≡ old → Keeps type new
+  same is = subst (λ (s : StripeState L). Keeps type s) (sym is) k
+
+  read-refused : (block : ℕ) (given : Refusal) → RefusesRead type old new block given → Keeps type new
+  read-refused block given (ReadCause cause is) = same is
+  read-refused block given (ReadFault is found fails) = read_fault-keeps type old new k block found fails
+
+  copy-refused : (leg : ℕ) (given : Refusal) → RefusesCopy type old new leg given → Keeps type new
+  copy-refused leg given (CopyCause cause is) = same is
+  copy-refused leg given (CopyFault is fails) = copy_fault-keeps type old new k leg fails
+
+  sync-refused : (leg : ℕ) (given : Refusal) → RefusesSync type old new leg given → Keeps type new
+  sync-refused leg given (SyncCause cause is) = same is
+  sync-refused leg given (SyncFault is fails) = sync_fault-keeps type old new k leg fails
+
+  attaches : (leg : ℕ) → leg < length old.legs → Attaches old new leg → Keeps type new
+  attaches leg inside a = subst (λ (s : StripeState L). Keeps type s) (sym a.after) (attach-keeps type old leg inside k (may_attach old leg a.no_cause).out)
+
+  replaces : (leg : ℕ) (part : L) → leg < length old.legs → length (type.model part).contents ≡ old.place.blocks → Replaces old new leg part → Keeps type new
+  replaces leg part inside long r = subst (λ (s : StripeState L). Keeps type s) (sym r.after) (replace-keeps type old leg part inside k (may_attach old leg r.no_cause).out long)
+
+pub step-keeps : {L : Type 0} (type : LegType L) (step : Step L) (answer : Answer L) (old new : StripeState L) → Keeps type old → MayBeAsked type.model old step → StepOf type step answer old new → Keeps type new
+step-keeps type (Begin block bytes) (Begun ticket) old new k asked is = begins-keeps type old new block bytes ticket k is asked.0 asked.1
+step-keeps type (Begin block bytes) (Refused cause handed) old new k asked is = same type old new k is.2
+step-keeps type (Push ticket leg) (Pushed count) old new k asked is = pushes-keeps type old new ticket leg k is.0
+step-keeps type (Push ticket leg) (Complete number) old new k asked is = pushes-keeps type old new ticket leg k is.0
+step-keeps type (Push ticket leg) (LegLost gone handed) old new k asked is = push_lost-keeps type old new k ticket leg is.0.1
+step-keeps type (Push ticket leg) Halted old new k asked is = halt-keeps type old new k ticket leg is
+step-keeps type (Push ticket leg) (Refused cause handed) old new k asked is = same type old new k is.2
+step-keeps type (Claim ticket) (Written written) old new k asked is = claims-keeps type old new ticket written k is
+step-keeps type (Claim ticket) (Refused cause handed) old new k asked is = same type old new k is.2
+step-keeps type (Read block) (Value value) old new k asked is = finds-keeps type old new block value.bytes value.entry k is asked
+step-keeps type (Read block) (LegLost gone handed) old new k asked is = read_lost-keeps type old new k block gone is.1.0 is.1.1
+step-keeps type (Read block) (Refused cause handed) old new k asked is = read-refused type old new k block cause is.0
+step-keeps type (Fail leg) Failed old new k asked is = fail-keeps type old new k leg is.0
+step-keeps type (Fail leg) (MasterChanged master) old new k asked is = fail-keeps type old new k leg is.0
+step-keeps type (Fail leg) (Refused cause handed) old new k asked is = same type old new k is.2
+step-keeps type (Attach leg) (Joining blocks) old new k asked is = attaches type old new k leg asked is.0
+step-keeps type (Attach leg) (Refused cause handed) old new k asked is = same type old new k is.2
+step-keeps type (Replace leg part) (Joining blocks) old new k asked is = replaces type old new k leg part asked.0 asked.1 is.0
+step-keeps type (Replace leg part) (Refused cause handed) old new k asked is = same type old new k is.2
+step-keeps type (Copy leg) (Copied blocks) old new k asked is = copied-keeps type old new leg k is.0
+step-keeps type (Copy leg) NothingLeft old new k asked is = same type old new k is.1
+step-keeps type (Copy leg) (LegLost gone handed) old new k asked is = copy_lost-keeps type old new k leg gone is.0
+step-keeps type (Copy leg) (Refused cause handed) old new k asked is = copy-refused type old new k leg cause is.0
+step-keeps type (Promote leg) InSync old new k asked is = promoted-keeps type old new leg new.legs k is.called asked is.after
+step-keeps type (Promote leg) (LegLost gone handed) old new k asked is = promote_lost-keeps type old new k leg is.0.1
+step-keeps type (Promote leg) (Refused cause handed) old new k asked is = same type old new k is.2
+step-keeps type (Sync leg) Synced old new k asked is = synced-keeps type old new leg new.legs k is.called is.after
+step-keeps type (Sync leg) (LegLost gone handed) old new k asked is = sync_lost-keeps type old new k leg is.0.1
+step-keeps type (Sync leg) (Refused cause handed) old new k asked is = sync-refused type old new k leg cause is.0
+step-keeps type step answer old new k asked is = absurd is
