@@ -1,6 +1,7 @@
 pub mod BoundLemmas
 pub mod ClaimLemmas
 pub mod CopyLemmas
+pub mod FlushLemmas
 pub mod LostLemmas
 pub mod OpeningLemmas
 pub mod PushLemmas

@@ -9,7 +9,8 @@ use Rattle.nm_rules.specs.Copy.{CopyRefused, HasNothing}
 use Rattle.nm_rules.specs.Promote.{promote_cause}
 use Rattle.nm_rules.specs.State.{StripeState, left, leg_state, table, work}
 use Rattle.nm_stripe.specs.declared.answer.Answer.{Answer}
-use Rattle.nm_stripe.specs.declared.answer.Answer.TheVariants.{Failed, MasterChanged, Copied, InSync, LegLost}
+use Rattle.nm_stripe.specs.declared.answer.Answer.TheVariants.{Failed, MasterChanged, Copied}
+use Rattle.nm_stripe.specs.declared.answer.Answer.TheVariants.{InSync, LegLost}
 use Rattle.nm_stripe.specs.declared.step.Step.{Step}
 use Rattle.nm_stripe.specs.declared.step.Step.TheVariants.{Fail, Copy, Promote}
 

@@ -2,6 +2,7 @@ pub mod Bound
 pub mod Copy
 pub mod End
 pub mod Fail
+pub mod Flush
 pub mod Laws
 pub mod Opening
 pub mod Push

@@ -3,6 +3,7 @@ ghost use Rattle.nm_leg.specs.Leg.{leg_type};
 ghost use Rattle.std.specs.Prelude.{◌≡◌, [], IsTrue, IsOk, IfOk, IfErr, OnErr};
 ghost use Rattle.nm_rules.specs.Sound.{IsSound};
 ghost use Rattle.nm_stripe.specs.Bound.{BoundsCopies};
+ghost use Rattle.nm_stripe.specs.Flush.{Flushes};
 ghost use Rattle.nm_stripe.specs.Run.{AllAsked, Runs, NoneHalted, ActOnOneArray};
 
 use crate::answer::Answer;
@@ -15,10 +16,14 @@ impl<L: LegPart> Stripe<L> {
     /// Does the steps one after the other, and gives one answer a step.
     ///
     /// Over honest legs, while no answer is `Halted`, each block read or written acts once, between
-    /// its begin and its reply, on one array, and the kept history grows by just those acts. A leg
-    /// that joins all the while has been copied to by as many calls of legs as its answers say, two
-    /// for each block at most. Room for all answers is made first: where it is refused the steps
-    /// come back and nothing was done.
+    /// its begin and its reply, on one array, and the kept history grows by just those acts.
+    ///
+    /// A leg that joins all the while has been copied to by as many calls of legs as its answers
+    /// say, two for each block at most. After a flush, in which each leg was synced or was out, the
+    /// legs in sync hold durably what they hold, on each block with no write under way.
+    ///
+    /// Room for all answers is made first: where it is refused the steps come back and nothing was
+    /// done.
     pub fn run(
         &mut self,
         alloc: Global,
@@ -31,6 +36,8 @@ impl<L: LegPart> Stripe<L> {
             → ActOnOneArray L.model steps.items answers.items self.old self.new) }
         ensures bound { IfOk result (λ answers.
             BoundsCopies steps.items answers.items self.old self.new) }
+        ensures flushed { IsTrue L.honest → IfOk result (λ answers.
+            Flushes L.model steps.items answers.items self.old self.new) }
         ensures sound { IsSound (leg_type L.model L.honest) self.new }
         ensures handed_back { IfErr result (λ back. back.items ≡ steps.items) }
         ensures stays { OnErr result (self.new ≡ self.old) }

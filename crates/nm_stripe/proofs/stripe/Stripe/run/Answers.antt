@@ -3,6 +3,7 @@ use Rattle.nm_leg.specs.Leg.{leg_type}
 use Rattle.std.proofs.Common.{rules, ◌≡◌, [], ◌∷◌, ◌++◌, reverse}
 use Rattle.nm_rules.proofs.SoundLemmas.{keeps-sound}
 use Rattle.nm_stripe.proofs.BoundLemmas.{runs-bound}
+use Rattle.nm_stripe.proofs.FlushLemmas.{runs-flushed}
 use Rattle.nm_stripe.proofs.RunLemmas.{run-begins, run-on, run-over, run-all}
 use Rattle.nm_stripe.proofs.stripe.Stripe.run.Goals as goal
 
@@ -42,3 +43,10 @@ returns-clause-bound g c leg joined stays =
     let none : c.loop-step.rest.items ≡ [] = search rules in
     let runs = run-all type c.args.self.now c.args.steps.items c.loop-step.rest.items c.loop-step.answers.items c.loop-step.self c.loop-step.invariant.run none in
     runs-bound type c.args.steps.items c.loop-step.answers.items c.args.self.now c.loop-step.self leg c.keeps.ensures c.requires runs joined stays
+
+pub returns-clause-flushed : goal.returns-clause-flushed
+returns-clause-flushed g c is_honest flush leg block inside free leaves in_sync =
+    let type = leg_type g.L.LegPart.model g.L.LegPart.honest in
+    let none : c.loop-step.rest.items ≡ [] = search rules in
+    let runs = run-all type c.args.self.now c.args.steps.items c.loop-step.rest.items c.loop-step.answers.items c.loop-step.self c.loop-step.invariant.run none in
+    runs-flushed type c.args.steps.items c.loop-step.answers.items c.args.self.now c.loop-step.self c.keeps.ensures c.requires runs is_honest flush leg block inside free leaves in_sync
