@@ -1,9 +1,10 @@
 //! The legs: what they answer at run time, by themselves and called by generic code.
 use nm_leg::{
-    CachedLeg, CountingLeg, FailingLeg, Fuse, FuseLeg, LegFault, LegPart, LyingLeg, MemLeg,
-    read_leg_at, sync_leg_at, write_leg_at,
+    CachedLeg, CountingLeg, FailingLeg, Fuse, FuseLeg, Hold, HoldLeg, LegFault, LegPart, LyingLeg,
+    MemLeg, read_leg_at, sync_leg_at, write_leg_at,
 };
 use nm_replay::{Block, Memory};
+use std::cell::Cell;
 use std::process::Abort;
 use std::test::Fail;
 
@@ -219,4 +220,47 @@ fn a_fuse_counts_calls(rt: HostRuntime) {
     assert!(rt; !lasting.burn());
     assert!(rt; lasting.burn());
     assert!(rt; lasting.burn());
+}
+
+// Holds a call for so many questions, and counts all questions.
+#[derive(Drop)]
+struct Countdown {
+    left: Cell<u32>,
+    asked: Cell<u32>,
+}
+
+impl Hold for Countdown {
+    fn is_held(&self) -> bool {
+        let left = self.left.get();
+        self.left.set(left.saturating_sub(1));
+        self.asked.set(self.asked.get().saturating_add(1));
+        left > 0
+    }
+}
+
+// How often a leg that may wait for so many turns asked its hold, which held it for so many, before
+// its next write was done.
+fn asked(rt: &impl Abort, leg: MemLeg, held: u32, turns: u32) -> u32 {
+    let hold = Countdown {
+        left: Cell::new(held),
+        asked: Cell::new(0),
+    };
+    let mut leg = HoldLeg::new(leg, hold, turns);
+    assert!(rt; leg.len() > 1);
+    assert!(rt; leg.write(1, &[0xaa; 512]).is_ok());
+    leg.hold().asked.get()
+}
+
+#[test]
+fn a_held_call_waits_until_it_is_let_go(rt: HostRuntime) -> Result<(), Fail> {
+    let leg = MemLeg::new(rt.alloc(), 3)?;
+    assert_eq!(rt; asked(&rt, leg, 3, 10), 4);
+    Ok(())
+}
+
+#[test]
+fn a_held_call_waits_for_its_turns_at_most(rt: HostRuntime) -> Result<(), Fail> {
+    let leg = MemLeg::new(rt.alloc(), 3)?;
+    assert_eq!(rt; asked(&rt, leg, 10, 3), 3);
+    Ok(())
 }
