@@ -1,6 +1,7 @@
 // The same work in plain Rust, with the standard library alone: the same rules are asked, and the
 // same records, regions, history and open copy are kept.
 use std::collections::VecDeque;
+use std::hint::black_box;
 use std::ops::Range;
 use std::sync::Arc;
 use std::time::Instant;
@@ -181,8 +182,10 @@ struct LegFlags {
     lowest: usize,
 }
 
-// For each region the writes under way, and for each leg the regions that it is behind in.
+// For each region the writes under way, and for each leg the regions that it is behind in. The
+// region's size is known at run time only, as it is to the proved stripe.
 struct Regions {
+    region: u64,
     legs: Vec<LegFlags>,
     writes: Vec<u16>,
     copy: Option<CopyPlace>,
@@ -198,6 +201,7 @@ impl Regions {
             lowest: if in_sync { regions } else { 0 },
         };
         Regions {
+            region: black_box(REGION),
             legs: in_sync.map(flags).into(),
             writes: vec![0; regions],
             copy: None,
@@ -205,12 +209,12 @@ impl Regions {
     }
 
     fn is_current(&self, leg: usize, block: u64) -> bool {
-        let region = block / REGION;
+        let region = block / self.region;
         let Some(flags) = self.legs.get(leg) else {
             return false;
         };
         let is_copied = |copy: CopyPlace| {
-            copy.leg as usize == leg && copy.region == region && block % REGION < copy.cursor
+            copy.leg as usize == leg && copy.region == region && block % self.region < copy.cursor
         };
         (!flags.out && !flags.behind[region as usize]) || self.copy.is_some_and(is_copied)
     }
@@ -220,11 +224,11 @@ impl Regions {
     }
 
     fn is_quiet(&self, block: u64) -> bool {
-        self.writes[(block / REGION) as usize] == 0
+        self.writes[(block / self.region) as usize] == 0
     }
 
     fn begin(&mut self, block: u64) {
-        let region = (block / REGION) as usize;
+        let region = (block / self.region) as usize;
         self.writes[region] += 1;
         for leg in self.legs.iter_mut().filter(|leg| leg.out) {
             leg.count += u64::from(!leg.behind[region]);
@@ -233,7 +237,7 @@ impl Regions {
     }
 
     fn finish(&mut self, block: u64) {
-        self.writes[(block / REGION) as usize] -= 1;
+        self.writes[(block / self.region) as usize] -= 1;
     }
 
     // Blocks left to copy, without those of the open chunk.
@@ -242,13 +246,13 @@ impl Regions {
             Some(copy) if copy.leg as usize == leg => copy.cursor,
             _ => 0,
         };
-        self.legs[leg].count * REGION - copied
+        self.legs[leg].count * self.region - copied
     }
 
     fn advance(&mut self, copy: CopyPlace, blocks: u64) {
         let cursor = copy.cursor + blocks;
         self.copy = Some(CopyPlace { cursor, ..copy });
-        if cursor == REGION {
+        if cursor == self.region {
             let leg = &mut self.legs[copy.leg as usize];
             self.copy = None;
             leg.behind[copy.region as usize] = false;
@@ -296,7 +300,7 @@ impl Stripe {
             states: in_sync.map(state).into(),
             regions: Regions::new(in_sync),
             buffer: Buffer {
-                slots: vec![Block([0; 512]); CHUNK as usize],
+                slots: vec![Block([0; 512]); black_box(CHUNK) as usize],
                 blocks: 0,
                 read: 0,
                 written: 0,
@@ -319,7 +323,7 @@ impl Stripe {
 
     fn copying_on(&self, block: u64) -> Option<u8> {
         let copy = self.regions.copy?;
-        let start = copy.region * REGION + copy.cursor;
+        let start = copy.region * self.regions.region + copy.cursor;
         (start..start + self.buffer.blocks).contains(&block).then_some(copy.leg)
     }
 
@@ -469,9 +473,10 @@ impl Stripe {
         if copy.leg as usize != leg {
             return Err(Refusal::OtherCopy(copy.leg));
         }
-        let start = copy.region * REGION + copy.cursor;
+        let start = copy.region * self.regions.region + copy.cursor;
         if self.buffer.blocks == 0 {
-            let blocks = CHUNK.min(REGION - copy.cursor);
+            let most = self.buffer.slots.len() as u64;
+            let blocks = most.min(self.regions.region - copy.cursor);
             if let Some(ticket) = self.records.busy_among(start..start + blocks) {
                 return Err(Refusal::Busy(ticket));
             }
