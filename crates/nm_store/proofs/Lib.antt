@@ -1,5 +1,4 @@
 pub mod ClaimLemmas
-pub mod CopyFailLemmas
 pub mod CopyLemmas
 pub mod CountLemmas
 pub mod FailoverLemmas
