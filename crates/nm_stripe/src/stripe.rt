@@ -189,7 +189,8 @@ impl<L: LegPart> Stripe<L> {
 
     /// A copy of the kept entries, by rising number.
     pub fn entries(&self, alloc: Global) -> Result<Vec<Entry>, Memory>
-        ensures { IfOk result (λ copy. copy.items ≡ self.now.kept) }
+        ensures ok { IfOk result (λ copy. copy.items ≡ self.now.kept) }
+        ensures memory_only_at_growth { self.now.kept ≡ [] → IsOk result }
     {
         self.store.entries(alloc)
     }

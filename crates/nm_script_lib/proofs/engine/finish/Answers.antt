@@ -17,11 +17,11 @@ returns-in_err-entries-clause-err g c =
 pub returns-in_err-put_history-clause-err : goal.returns-in_err-put_history-clause-err
 returns-in_err-put_history-clause-err g c =
     let copied : Copied c.args.stripe.now c.deref-2.result.now c.total.result = record {
-      entries_are = c.deref-2.ensures.value ∙ c.in_ok-entries.ensures;
+      entries_are = c.deref-2.ensures.value ∙ c.in_ok-entries.ensures.ok;
       total_is = c.total.ensures;
       consistent = rw (
         c.deref-2.ensures.value,
-        c.in_ok-entries.ensures,
+        c.in_ok-entries.ensures.ok,
       ) (c.sound.ensures.consistent refl);
     } in
     on_err _ _ (prefix_finished c.args.stripe.now c.deref-2.result.now c.total.result _ _ _
@@ -32,11 +32,11 @@ returns-in_err-put_history-clause-err g c =
 pub returns-then-is_err-clause-err : goal.returns-then-is_err-clause-err
 returns-then-is_err-clause-err g c =
     let copied : Copied c.args.stripe.now c.deref-2.result.now c.total.result = record {
-      entries_are = c.deref-2.ensures.value ∙ c.in_ok-entries.ensures;
+      entries_are = c.deref-2.ensures.value ∙ c.in_ok-entries.ensures.ok;
       total_is = c.total.ensures;
       consistent = rw (
         c.deref-2.ensures.value,
-        c.in_ok-entries.ensures,
+        c.in_ok-entries.ensures.ok,
       ) (c.sound.ensures.consistent refl);
     } in
     prefix_whole _ _ _ (whole_finished c.args.stripe.now c.deref-2.result.now c.total.result _ _ _ _
@@ -47,11 +47,11 @@ returns-then-is_err-clause-err g c =
 pub returns-clause-ok : goal.returns-clause-ok
 returns-clause-ok g c =
     let copied : Copied c.args.stripe.now c.deref-2.result.now c.total.result = record {
-      entries_are = c.deref-2.ensures.value ∙ c.in_ok-entries.ensures;
+      entries_are = c.deref-2.ensures.value ∙ c.in_ok-entries.ensures.ok;
       total_is = c.total.ensures;
       consistent = rw (
         c.deref-2.ensures.value,
-        c.in_ok-entries.ensures,
+        c.in_ok-entries.ensures.ok,
       ) (c.sound.ensures.consistent refl);
     } in
     whole_finished c.args.stripe.now c.deref-2.result.now c.total.result _ _ _ _
