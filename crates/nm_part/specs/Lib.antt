@@ -1,0 +1,2 @@
+pub mod PartState
+pub mod Parts
