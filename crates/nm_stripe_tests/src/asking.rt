@@ -55,7 +55,7 @@ pub fn filled(alloc: Global, byte: u8) -> Result<Data, AllocError> {
 }
 
 /// The step, whose leg that takes another's place is the last of `spare`.
-fn step_of<L: LegPart>(alloc: Global, spare: &mut Vec<L>, ask: Ask) -> Result<Step<L>, Fail> {
+pub fn step_of<L: LegPart>(alloc: Global, spare: &mut Vec<L>, ask: Ask) -> Result<Step<L>, Fail> {
     Ok(match ask {
         Ask::Begin(block, byte) => Step::Begin(block, filled(alloc, byte)?),
         Ask::Push(ticket, leg) => Step::Push(ticket, leg),
@@ -112,6 +112,19 @@ pub fn summary_of<L: LegPart>(answer: &Answer<L>) -> Summary {
     }
 }
 
+/// The steps of the rows. The last of `spare` goes in first.
+pub fn steps_of<L: LegPart>(
+    alloc: Global,
+    mut spare: Vec<L>,
+    rows: &[(Ask, Summary)],
+) -> Result<Vec<Step<L>>, Fail> {
+    let mut steps = Vec::new(alloc);
+    for (ask, _) in rows {
+        steps.push(step_of(alloc, &mut spare, *ask)?)?;
+    }
+    Ok(steps)
+}
+
 /// Gives the steps to `run` as one list, and compares its answers, one a step.
 pub fn compare<L: LegPart>(
     rt: &impl Abort,
@@ -143,4 +156,20 @@ pub fn compare_with<L: LegPart>(
         assert_eq!(rt; summary_of(answer), *want, "at {ask:?}");
     }
     Ok(())
+}
+
+/// Does the steps one by one, and compares their answers. It allocates nothing.
+pub fn compare_each<L: LegPart>(
+    rt: &impl Abort,
+    stripe: &mut Stripe<L>,
+    mut steps: Vec<Step<L>>,
+    rows: &[(Ask, Summary)],
+) {
+    steps.reverse();
+    for (ask, want) in rows {
+        let step = steps.pop().unwrap_or(Step::Claim(u64::MAX));
+        may_ask(rt, stripe, &step);
+        let answer = stripe.step(step);
+        assert_eq!(rt; summary_of(&answer), *want, "at {ask:?}");
+    }
 }

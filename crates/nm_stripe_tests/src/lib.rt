@@ -1,9 +1,15 @@
-//! Tests of nm_stripe through its public surface: worked lists of steps with their answers.
+//! Tests of nm_stripe and nm_part through their public surface: worked lists of steps with their answers.
 #![tactic(auto)]
 
 #[cfg(test)]
 mod asking;
 #[cfg(test)]
+mod calls;
+#[cfg(test)]
 mod opening;
+#[cfg(test)]
+mod parts;
+#[cfg(test)]
+mod rows;
 #[cfg(test)]
 mod stripes;

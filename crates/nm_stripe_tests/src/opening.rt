@@ -38,6 +38,13 @@ pub const TWO_LEGS: Mirror = Mirror {
     ..ONE_LEG
 };
 
+/// Three legs of two regions.
+pub const THREE_LEGS: Mirror = Mirror {
+    legs: 3,
+    in_sync: 7,
+    ..ONE_LEG
+};
+
 /// Opens stripe 7, on legs that are all alike; leg 0 must be in sync. Where memory is refused the
 /// legs come back.
 pub fn try_open(

@@ -1,10 +1,10 @@
 //! The stripe: worked lists of steps with their answers, and what each call of a leg is for.
-ghost use Rattle.std.specs.Prelude.{◌≡◌};
+ghost use Rattle.std.specs.Prelude.{◌≡◌, ◌<◌, ◌≤◌, length};
 
-use crate::asking::{Ask, Summary, compare};
+use crate::asking::{Ask, Summary, compare, compare_each, steps_of};
 use crate::opening::{Mirror, ONE_LEG, TWO_LEGS, opened, try_open};
 use nm_leg::{FailingLeg, LegPart, LyingLeg};
-use nm_replay::Block;
+use nm_replay::{Block, Entry, Kind, check};
 use nm_stripe::{At, Policy, Refusal, Stripe};
 use std::alloc::{AllocError, Global};
 use std::process::Abort;
@@ -95,17 +95,36 @@ const LONG: Mirror = Mirror {
 #[test]
 fn a_write_takes_effect_at_the_master(rt: HostRuntime) -> Result<(), Fail> {
     let mut stripe = opened(&rt, rt.alloc(), TWO_LEGS)?;
-    compare(&rt, rt.alloc(), &mut stripe, &WRITE_AND_READS)
+    compare(&rt, rt.alloc(), &mut stripe, &WRITE_AND_READS)?;
+    let kept = stripe.entries(rt.alloc())?;
+    assert_eq!(rt; stripe.total(), 4);
+    assert_eq!(rt; kept.len(), 4);
+    assert!(rt; check(&kept));
+    let want = [
+        (Kind::Read, 0x00),
+        (Kind::Write(0), 0xaa),
+        (Kind::Read, 0xaa),
+        (Kind::Read, 0xaa),
+    ];
+    for ((entry, (kind, byte)), seq) in kept.iter().zip(want).zip(0..) {
+        let bytes = Block([byte; 512]);
+        assert_eq!(rt;
+            *entry,
+            Entry {
+                seq,
+                kind,
+                block: 3,
+                bytes
+            }
+        );
+    }
+    Ok(())
 }
 
 #[test]
 fn no_number_reaches_two_to_the_63(rt: HostRuntime) -> Result<(), Fail> {
     let mut stripe = opened(&rt, rt.alloc(), LAST_FIRST)?;
-    compare(&rt, rt.alloc(), &mut stripe, &LAST_NUMBER)
-}
-
-#[test]
-fn past_two_to_the_63_no_number_is_left(rt: HostRuntime) -> Result<(), Fail> {
+    compare(&rt, rt.alloc(), &mut stripe, &LAST_NUMBER)?;
     let mut past = opened(&rt, rt.alloc(), PAST_FIRST)?;
     compare(&rt, rt.alloc(), &mut past, &NO_NUMBER_LEFT)
 }
@@ -168,6 +187,29 @@ fn a_leg_that_fails_stops_the_stripe(rt: HostRuntime) -> Result<(), Fail> {
 #[test]
 fn a_leg_that_lies_is_believed(rt: HostRuntime) -> Result<(), Fail> {
     read_begin_push(&rt, rt.alloc(), LyingLeg::new(4), &LYING)
+}
+
+// With one allocation after another refused (`rt try --test --fail-alloc N`) this ends without a
+// stripe or has the same answers: after `open` nothing is allocated.
+fn same_answers(
+    rt: &impl Abort,
+    alloc: Global,
+    mirror: Mirror,
+    rows: &[(Ask, Summary)],
+) -> Result<(), Fail> {
+    let steps = steps_of(alloc, Vec::new(alloc), rows)?;
+    let mut stripe = opened(rt, alloc, mirror)?;
+    compare_each(rt, &mut stripe, steps, rows);
+    Ok(())
+}
+
+#[test]
+fn steps_take_no_memory(rt: HostRuntime) -> Result<(), Fail> {
+    let alloc = rt.alloc();
+    same_answers(&rt, alloc, TWO_LEGS, &WRITE_AND_READS)?;
+    same_answers(&rt, alloc, LAST_FIRST, &LAST_NUMBER)?;
+    let rows = full_and_after(alloc)?;
+    same_answers(&rt, alloc, LONG, &rows)
 }
 
 // Refused memory (`rt try --test --fail-alloc N`), `open` gives back the legs as they were.

@@ -1,0 +1,236 @@
+//! Single calls of a stripe, and which legs a step calls.
+use crate::asking::{Ask, Summary, filled, may_ask, step_of, summary_of};
+use crate::opening::{Mirror, ONE_LEG, TWO_LEGS, opened};
+use nm_leg::{CountingLeg, FuseLeg, LegPart, MemLeg};
+use nm_replay::Block;
+use nm_stripe::{
+    Answer, At, Copying, Failing, Handed, LegState, Policy, Promotion, Reach, Reading, Refusal,
+    Step, Stripe, Syncing,
+};
+use std::alloc::Global;
+use std::process::Abort;
+use std::test::Fail;
+
+#[test]
+fn a_new_stripe_has_no_write(rt: HostRuntime) -> Result<(), Fail> {
+    let stripe = opened(&rt, rt.alloc(), TWO_LEGS)?;
+    assert!(rt; stripe.legs() == 2);
+    assert_eq!(rt; stripe.state(1), LegState::InSync);
+    assert_eq!(rt; stripe.left(1), 0);
+    assert_eq!(rt; stripe.master(), 0);
+    assert!(rt; !stripe.is_stopped() && !stripe.is_settling());
+    assert_eq!(rt; stripe.next_owed(0), None);
+    assert_eq!(rt; stripe.first_owed(), None);
+    assert_eq!(rt; (stripe.total(), stripe.next_number()), (0, 0));
+    Ok(())
+}
+
+#[test]
+fn a_write_by_its_own_calls(rt: HostRuntime) -> Result<(), Fail> {
+    let mut stripe = opened(&rt, rt.alloc(), ONE_LEG)?;
+    let data = filled(rt.alloc(), 0xaa)?;
+    assert!(rt; stripe.blocks() == 8 && data.fills_block());
+    let ticket = stripe.begin(2, data).ok().ok_or("begin")?;
+    assert_eq!(rt; stripe.next_owed(ticket), Some(0));
+    assert_eq!(rt; stripe.first_owed(), Some((0, 0)));
+    assert!(rt; stripe.legs() == 1);
+    assert_eq!(rt; stripe.push(ticket, 0), Ok(Reach::Complete(0)));
+    let written = stripe.claim(ticket).ok().ok_or("claim")?;
+    assert_eq!(rt;
+        (written.stripe(), written.block(), written.number()),
+        (7, 2, 0)
+    );
+    Ok(())
+}
+
+#[test]
+fn a_read_by_its_own_call(rt: HostRuntime) -> Result<(), Fail> {
+    let mut stripe = opened(
+        &rt,
+        rt.alloc(),
+        Mirror {
+            first: 5,
+            ..TWO_LEGS
+        },
+    )?;
+    let mut into = Block([9; 512]);
+    assert!(rt; stripe.place().blocks == 8);
+    let Ok(Reading::Value(receipt)) = stripe.read(2, &mut into) else {
+        return Err(Fail::new("read"));
+    };
+    assert_eq!(rt;
+        (receipt.stripe(), receipt.block(), receipt.number()),
+        (7, 2, 5)
+    );
+    assert_eq!(rt; into, Block::ZERO);
+    Ok(())
+}
+
+#[test]
+fn a_leg_that_is_not_out_is_not_replaced(rt: HostRuntime) -> Result<(), Fail> {
+    let mut stripe = opened(&rt, rt.alloc(), TWO_LEGS)?;
+    let step = Step::Replace(1, FuseLeg::filled(rt.alloc(), 8, 0xff)?);
+    may_ask(&rt, &stripe, &step);
+    match stripe.step(step) {
+        Answer::Refused(refusal, Handed::Replacement(leg)) => {
+            assert_eq!(rt; refusal, Refusal::NotOut);
+            assert_eq!(rt; leg.len(), 8);
+        }
+        _other => assert!(rt; false, "a leg was replaced"),
+    }
+    Ok(())
+}
+
+/// Two legs of which the second joins.
+const JOINING: Mirror = Mirror {
+    in_sync: 1,
+    ..TWO_LEGS
+};
+
+#[test]
+fn a_leg_goes_out_and_comes_back(rt: HostRuntime) -> Result<(), Fail> {
+    let mut stripe = opened(&rt, rt.alloc(), TWO_LEGS)?;
+    assert!(rt; stripe.legs() == 2);
+    assert_eq!(rt; stripe.fail(1), Ok(Failing::Failed));
+    assert!(rt; stripe.legs() == 2);
+    assert_eq!(rt; stripe.fail(1), Err(Refusal::AlreadyOut));
+    assert!(rt; stripe.legs() == 2);
+    assert_eq!(rt; stripe.attach(1), Ok(0));
+    assert!(rt; stripe.legs() == 2);
+    assert_eq!(rt; stripe.state(1), LegState::Joining);
+    Ok(())
+}
+
+#[test]
+fn a_leg_that_joins_is_copied_first(rt: HostRuntime) -> Result<(), Fail> {
+    let mut stripe = opened(&rt, rt.alloc(), JOINING)?;
+    assert!(rt; stripe.legs() == 2);
+    assert_eq!(rt; stripe.promote(1), Err(Refusal::NotYet));
+    assert!(rt; stripe.legs() == 2);
+    assert_eq!(rt; stripe.copy(1), Ok(Copying::Copied(8)));
+    assert!(rt; stripe.legs() == 2);
+    assert_eq!(rt; stripe.copy(0), Err(Refusal::NotJoining));
+    Ok(())
+}
+
+#[test]
+fn a_synced_leg_stays_as_it_is(rt: HostRuntime) -> Result<(), Fail> {
+    let mut stripe = opened(&rt, rt.alloc(), TWO_LEGS)?;
+    assert!(rt; stripe.legs() == 2);
+    assert_eq!(rt; stripe.sync(1), Ok(Syncing::Synced));
+    assert!(rt; stripe.legs() == 2);
+    assert_eq!(rt; stripe.promote(1), Err(Refusal::NotJoining));
+    Ok(())
+}
+
+#[test]
+fn a_leg_is_replaced_by_a_new_one(rt: HostRuntime) -> Result<(), Fail> {
+    let mut stripe = opened(&rt, rt.alloc(), TWO_LEGS)?;
+    assert!(rt; stripe.legs() == 2);
+    assert_eq!(rt; stripe.fail(1), Ok(Failing::Failed));
+    let part = FuseLeg::filled(rt.alloc(), 8, 0xff)?;
+    assert!(rt; stripe.legs() == 2 && stripe.blocks() == 8 && part.len() == 8);
+    match stripe.replace(1, part) {
+        Ok(left) => assert_eq!(rt; left, 8),
+        Err((_refusal, _part)) => assert!(rt; false, "not replaced"),
+    }
+    Ok(())
+}
+
+#[test]
+fn an_end_counts_the_writes_that_are_left(rt: HostRuntime) -> Result<(), Fail> {
+    let mut stripe = opened(&rt, rt.alloc(), TWO_LEGS)?;
+    let data = filled(rt.alloc(), 0xaa)?;
+    assert!(rt; stripe.blocks() == 8 && data.fills_block());
+    let ticket = stripe.begin(2, data).ok().ok_or("begin")?;
+    assert!(rt; stripe.legs() == 2);
+    assert_eq!(rt; stripe.push(ticket, 0), Ok(Reach::Pushed(1)));
+    let end = stripe.end();
+    assert_eq!(rt;
+        (end.stripe(), end.total(), end.left(), end.landed()),
+        (7, 1, 1, 1)
+    );
+    assert_eq!(rt; stripe.number(), 7);
+    Ok(())
+}
+
+const HEALING: [(Ask, Summary); 19] = [
+    (Ask::Fail(1), Summary::Failed),
+    (Ask::Begin(0, 0xaa), Summary::Begun(0)),
+    (Ask::Push(0, 0), Summary::Complete(0)),
+    (Ask::Claim(0), Summary::Written(0)),
+    (Ask::Attach(1), Summary::Joining(4)),
+    (Ask::Copy(1), Summary::Copied(4)),
+    (Ask::Copy(1), Summary::Copied(4)),
+    (Ask::Copy(1), Summary::Copied(3)),
+    (Ask::Copy(1), Summary::Copied(2)),
+    (Ask::Copy(1), Summary::Copied(2)),
+    (Ask::Copy(1), Summary::Copied(2)),
+    (Ask::Copy(1), Summary::Copied(1)),
+    (Ask::Copy(1), Summary::Copied(0)),
+    (Ask::Copy(1), Summary::Nothing),
+    (Ask::Promote(1), Summary::InSync),
+    (Ask::Sync(0), Summary::Synced),
+    (Ask::Read(0), Summary::Value(1, 0xaa)),
+    (Ask::Read(0), Summary::Value(2, 0xaa)),
+    (Ask::Read(0), Summary::Value(3, 0xaa)),
+];
+
+/// How many calls each leg has had after each of the steps above: at most one a step.
+const CALLS: [(u64, u64); 19] = [
+    (0, 0),
+    (0, 0),
+    (1, 0),
+    (1, 0),
+    (1, 0),
+    (2, 0),
+    (3, 0),
+    (3, 1),
+    (3, 2),
+    (4, 2),
+    (5, 2),
+    (5, 3),
+    (5, 4),
+    (5, 4),
+    (5, 5),
+    (6, 5),
+    (7, 5),
+    (7, 6),
+    (8, 6),
+];
+
+/// Does the steps one by one, and compares their answers and the calls of the two legs.
+fn compare_calls(
+    rt: &impl Abort,
+    alloc: Global,
+    stripe: &mut Stripe<CountingLeg<MemLeg>>,
+) -> Result<(), Fail> {
+    for ((ask, want), calls) in HEALING.iter().zip(CALLS) {
+        let step = step_of(alloc, &mut Vec::new(alloc), *ask)?;
+        may_ask(rt, stripe, &step);
+        let answer = stripe.step(step);
+        assert_eq!(rt; summary_of(&answer), *want, "at {ask:?}");
+        assert!(rt; stripe.legs() == 2);
+        let made = (stripe.part(0).calls(), stripe.part(1).calls());
+        assert_eq!(rt; made, calls, "at {ask:?}");
+    }
+    Ok(())
+}
+
+#[test]
+fn a_step_makes_at_most_one_call_of_a_leg(rt: HostRuntime) -> Result<(), Fail> {
+    let alloc = rt.alloc();
+    let mut legs = Vec::new(alloc);
+    legs.push(CountingLeg::new(MemLeg::new(alloc, 8)?))?;
+    legs.push(CountingLeg::new(MemLeg::new(alloc, 8)?))?;
+    let place = At {
+        stripe: 7,
+        blocks: 8,
+        region: 4,
+        chunk: 2,
+    };
+    let mut stripe = Stripe::open(alloc, place, legs, 3, 0, Policy::RoundRobin)
+        .ok()
+        .ok_or("no memory")?;
+    compare_calls(&rt, alloc, &mut stripe)
+}

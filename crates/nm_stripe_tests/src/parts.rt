@@ -1,0 +1,61 @@
+//! The part of a pass in one stripe: what it counts, and when it refuses a step.
+use crate::asking::{Ask, Summary, may_ask, step_of, summary_of};
+use crate::opening::{ONE_LEG, opened};
+use nm_leg::FuseLeg;
+use nm_part::Part;
+use nm_stripe::{Refusal, Stripe};
+use std::alloc::Global;
+use std::process::Abort;
+use std::test::Fail;
+
+/// Does one step through the part, and compares the answer.
+fn compare_step(
+    rt: &impl Abort,
+    alloc: Global,
+    part: &mut Part<FuseLeg>,
+    stripe: &mut Stripe<FuseLeg>,
+    row: (Ask, Summary),
+) -> Result<(), Fail> {
+    let (ask, want) = row;
+    let step = step_of(alloc, &mut Vec::new(alloc), ask)?;
+    may_ask(rt, stripe, &step);
+    let answer = part.step(stripe, step);
+    assert_eq!(rt; summary_of(&answer), want, "at {ask:?}");
+    Ok(())
+}
+
+const WRITE_AND_READ: [(Ask, Summary); 4] = [
+    (Ask::Begin(0, 0xaa), Summary::Begun(0)),
+    (Ask::Push(0, 0), Summary::Complete(0)),
+    (Ask::Claim(0), Summary::Written(0)),
+    (Ask::Read(0), Summary::Value(1, 0xaa)),
+];
+
+/// The part's front and count after each of the steps above.
+const COUNTED: [(u64, u64); 4] = [(0, 0), (0, 0), (1, 1), (2, 2)];
+
+#[test]
+fn a_part_counts_values_and_finished_writes(rt: HostRuntime) -> Result<(), Fail> {
+    let mut stripe = opened(&rt, rt.alloc(), ONE_LEG)?;
+    let mut part = Part::of(&stripe);
+    assert_eq!(rt; part.stripe(), 7);
+    for (row, counted) in WRITE_AND_READ.iter().zip(COUNTED) {
+        compare_step(&rt, rt.alloc(), &mut part, &mut stripe, *row)?;
+        assert_eq!(rt; (part.front(), part.count()), counted);
+    }
+    Ok(())
+}
+
+#[test]
+fn a_part_is_astray_in_a_stripe_that_is_behind_it(rt: HostRuntime) -> Result<(), Fail> {
+    let alloc = rt.alloc();
+    let mut own = opened(&rt, alloc, ONE_LEG)?;
+    let mut other = opened(&rt, alloc, ONE_LEG)?;
+    let mut part = Part::of(&own);
+    let value = (Ask::Read(0), Summary::Value(0, 0x00));
+    compare_step(&rt, alloc, &mut part, &mut own, value)?;
+    let astray = (Ask::Read(0), Summary::Refused(Refusal::Astray));
+    compare_step(&rt, alloc, &mut part, &mut other, astray)?;
+    assert_eq!(rt; (part.front(), part.count(), other.total()), (1, 1, 0));
+    Ok(())
+}

@@ -1,0 +1,309 @@
+//! Worked lists of steps, with a leg that fails or is copied, and what the stripe is after them.
+use crate::asking::{Ask, Summary, compare, compare_with};
+use crate::opening::{Mirror, ONE_LEG, THREE_LEGS, TWO_LEGS, opened};
+use nm_leg::{FuseLeg, LegPart};
+use nm_replay::{Block, Kind, check};
+use nm_stripe::{LegState, Policy, Refusal, Stripe};
+use std::alloc::Global;
+use std::process::Abort;
+use std::test::Fail;
+
+const SETTLING: Summary = Summary::Refused(Refusal::Settling);
+
+/// 16 blocks in regions of 8.
+const LONGER: Mirror = Mirror {
+    blocks: 16,
+    region: 8,
+    chunk: 4,
+    ..TWO_LEGS
+};
+
+/// Sets the leg's fuse, whose call of this number from now fails.
+fn fuse(rt: &impl Abort, stripe: &Stripe<FuseLeg>, leg: u8, call: u64) {
+    assert!(rt; (leg as usize) < stripe.legs() && 0 < call);
+    stripe.part(leg).set(call);
+}
+
+/// Compares how a leg stands, and how many blocks are left to copy to it.
+fn stands(rt: &impl Abort, stripe: &Stripe<FuseLeg>, leg: u8, state: LegState, left: u64) {
+    assert!(rt; (leg as usize) < stripe.legs());
+    assert_eq!(rt; stripe.state(leg), state);
+    assert_eq!(rt; stripe.left(leg), left);
+}
+
+/// Compares the first and the last byte of a block of a leg.
+fn holds(rt: &impl Abort, stripe: &Stripe<FuseLeg>, leg: u8, block: u64, want: (u8, u8)) {
+    assert!(rt; (leg as usize) < stripe.legs());
+    let part = stripe.part(leg);
+    assert!(rt; block < part.len());
+    let bytes = part.block(block);
+    assert_eq!(rt; (bytes.0[0], bytes.0[511]), want);
+}
+
+const MASTER_HAD_IT: [(Ask, Summary); 8] = [
+    (Ask::Begin(3, 0xaa), Summary::Begun(0)),
+    (Ask::Push(0, 0), Summary::Pushed(1)),
+    (Ask::Read(3), Summary::Value(1, 0xaa)),
+    (Ask::Fail(0), Summary::MasterChanged(1)),
+    (Ask::Read(3), SETTLING),
+    (Ask::Push(0, 1), Summary::Complete(0)),
+    (Ask::Read(3), Summary::Value(2, 0xaa)),
+    (Ask::Claim(0), Summary::Written(0)),
+];
+
+#[test]
+fn the_master_fails_after_it_had_the_write(rt: HostRuntime) -> Result<(), Fail> {
+    let mut stripe = opened(&rt, rt.alloc(), LONGER)?;
+    compare(&rt, rt.alloc(), &mut stripe, &MASTER_HAD_IT)?;
+    assert_eq!(rt; (stripe.master(), stripe.is_settling()), (1, false));
+    stands(&rt, &stripe, 0, LegState::Out, 8);
+    Ok(())
+}
+
+const OTHER_HAD_IT: [(Ask, Summary); 7] = [
+    (Ask::Begin(3, 0xaa), Summary::Begun(0)),
+    (Ask::Push(0, 1), Summary::Pushed(1)),
+    (Ask::Read(3), Summary::Value(0, 0x00)),
+    (Ask::Fail(0), Summary::MasterChanged(1)),
+    (Ask::Read(3), Summary::Value(2, 0xaa)),
+    (Ask::Claim(0), Summary::Written(1)),
+    (Ask::Push(0, 0), Summary::Refused(Refusal::NoTicket)),
+];
+
+#[test]
+fn the_other_leg_alone_had_the_write(rt: HostRuntime) -> Result<(), Fail> {
+    let mut stripe = opened(&rt, rt.alloc(), LONGER)?;
+    compare(&rt, rt.alloc(), &mut stripe, &OTHER_HAD_IT)
+}
+
+const THREE_UNDER_WAY: [(Ask, Summary); 15] = [
+    (Ask::Begin(1, 0xa1), Summary::Begun(0)),
+    (Ask::Begin(2, 0xb2), Summary::Begun(1)),
+    (Ask::Begin(9, 0xc3), Summary::Begun(2)),
+    (Ask::Push(0, 0), Summary::Pushed(2)),
+    (Ask::Push(1, 2), Summary::Pushed(2)),
+    (Ask::Fail(0), Summary::MasterChanged(1)),
+    (Ask::Begin(4, 0xdd), SETTLING),
+    (Ask::Push(0, 1), Summary::Pushed(1)),
+    (Ask::Push(0, 2), Summary::Complete(0)),
+    (Ask::Push(1, 1), Summary::Complete(1)),
+    (Ask::Push(2, 1), Summary::Pushed(1)),
+    (Ask::Read(9), SETTLING),
+    (Ask::Push(2, 2), Summary::Complete(2)),
+    (Ask::Read(9), Summary::Value(3, 0xc3)),
+    (Ask::Claim(1), Summary::Written(1)),
+];
+
+const THREE_KEPT: [(Kind, u64, u8); 4] = [
+    (Kind::Write(0), 1, 0xa1),
+    (Kind::Write(1), 2, 0xb2),
+    (Kind::Write(2), 9, 0xc3),
+    (Kind::Read, 9, 0xc3),
+];
+
+#[test]
+fn three_writes_under_way_take_effect_by_ticket(rt: HostRuntime) -> Result<(), Fail> {
+    let mut stripe = opened(
+        &rt,
+        rt.alloc(),
+        Mirror {
+            legs: 3,
+            in_sync: 7,
+            ..LONGER
+        },
+    )?;
+    compare(&rt, rt.alloc(), &mut stripe, &THREE_UNDER_WAY)?;
+    let kept = stripe.entries(rt.alloc())?;
+    assert!(rt; check(&kept));
+    assert_eq!(rt; kept.len(), 4);
+    for (entry, want) in kept.iter().zip(THREE_KEPT) {
+        assert_eq!(rt; (entry.kind, entry.block, entry.bytes.0[511]), want);
+    }
+    Ok(())
+}
+
+const TO_REPLACED: [(Ask, Summary); 16] = [
+    (Ask::Fail(1), Summary::Failed),
+    (Ask::Replace(1), Summary::Joining(8)),
+    (Ask::Copy(1), Summary::Copied(8)),
+    (Ask::Copy(1), Summary::Copied(8)),
+    (Ask::Copy(1), Summary::Copied(7)),
+    (Ask::Copy(1), Summary::Copied(6)),
+    (Ask::Copy(1), Summary::Copied(6)),
+    (Ask::Begin(1, 0xaa), Summary::Begun(0)),
+    (Ask::Begin(3, 0xbb), Summary::Refused(Refusal::Copying(1))),
+    (Ask::Begin(5, 0xcc), Summary::Begun(1)),
+    (Ask::Push(0, 0), Summary::Pushed(1)),
+    (Ask::Push(1, 0), Summary::Complete(1)),
+    (Ask::Push(0, 1), Summary::Complete(0)),
+    (Ask::Push(1, 1), Summary::Refused(Refusal::NotOwed)),
+    (Ask::Claim(0), Summary::Written(0)),
+    (Ask::Claim(1), Summary::Written(1)),
+];
+
+const TO_THE_END: [(Ask, Summary); 14] = [
+    (Ask::Copy(1), Summary::Copied(6)),
+    (Ask::Copy(1), Summary::Copied(5)),
+    (Ask::Copy(1), Summary::Copied(4)),
+    (Ask::Copy(1), Summary::Copied(4)),
+    (Ask::Copy(1), Summary::Copied(4)),
+    (Ask::Copy(1), Summary::Copied(3)),
+    (Ask::Copy(1), Summary::Copied(2)),
+    (Ask::Copy(1), Summary::Copied(2)),
+    (Ask::Copy(1), Summary::Copied(2)),
+    (Ask::Copy(1), Summary::Copied(1)),
+    (Ask::Promote(1), Summary::Refused(Refusal::NotYet)),
+    (Ask::Copy(1), Summary::Copied(0)),
+    (Ask::Copy(1), Summary::Nothing),
+    (Ask::Promote(1), Summary::InSync),
+];
+
+#[test]
+fn a_new_leg_is_copied_while_writes_go_on(rt: HostRuntime) -> Result<(), Fail> {
+    let mut stripe = opened(&rt, rt.alloc(), TWO_LEGS)?;
+    let mut spare = Vec::new(rt.alloc());
+    spare.push(FuseLeg::filled(rt.alloc(), 8, 0xff)?)?;
+    compare_with(&rt, rt.alloc(), &mut stripe, spare, &TO_REPLACED)?;
+    stands(&rt, &stripe, 1, LegState::Joining, 6);
+    compare(&rt, rt.alloc(), &mut stripe, &TO_THE_END)?;
+    stands(&rt, &stripe, 1, LegState::InSync, 0);
+    holds(&rt, &stripe, 1, 1, (0xaa, 0xaa));
+    holds(&rt, &stripe, 1, 5, (0xcc, 0xcc));
+    Ok(())
+}
+
+const SHORT_REGION: [(Ask, Summary); 10] = [
+    (Ask::Fail(1), Summary::Failed),
+    (Ask::Begin(0, 0xaa), Summary::Begun(0)),
+    (Ask::Push(0, 0), Summary::Complete(0)),
+    (Ask::Begin(9, 0xbb), Summary::Begun(1)),
+    (Ask::Push(1, 0), Summary::Complete(1)),
+    (Ask::Attach(1), Summary::Joining(6)),
+    (Ask::Read(5), Summary::Value(2, 0x00)),
+    (Ask::Read(5), Summary::Value(3, 0x00)),
+    (Ask::Read(9), Summary::Value(4, 0xbb)),
+    (Ask::Attach(1), Summary::Refused(Refusal::NotOut)),
+];
+
+#[test]
+fn the_last_region_may_be_short(rt: HostRuntime) -> Result<(), Fail> {
+    let mut stripe = opened(
+        &rt,
+        rt.alloc(),
+        Mirror {
+            blocks: 10,
+            ..TWO_LEGS
+        },
+    )?;
+    compare(&rt, rt.alloc(), &mut stripe, &SHORT_REGION)
+}
+
+const LAST_LEG_READS: [(Ask, Summary); 4] = [
+    (Ask::Read(0), Summary::Refused(Refusal::Fault)),
+    (Ask::Read(0), Summary::Value(0, 0x00)),
+    (Ask::Fail(0), Summary::Refused(Refusal::LastLeg)),
+    (Ask::Begin(0, 0xaa), Summary::Begun(0)),
+];
+
+const LAST_LEG_HALTS: [(Ask, Summary); 2] = [
+    (Ask::Push(0, 0), Summary::Halted),
+    (Ask::Read(0), Summary::Refused(Refusal::Stopped)),
+];
+
+#[test]
+fn the_last_leg_is_not_lost(rt: HostRuntime) -> Result<(), Fail> {
+    let mut stripe = opened(&rt, rt.alloc(), TWO_LEGS)?;
+    compare(
+        &rt,
+        rt.alloc(),
+        &mut stripe,
+        &[(Ask::Fail(1), Summary::Failed)],
+    )?;
+    fuse(&rt, &stripe, 0, 1);
+    compare(&rt, rt.alloc(), &mut stripe, &LAST_LEG_READS)?;
+    fuse(&rt, &stripe, 0, 1);
+    compare(&rt, rt.alloc(), &mut stripe, &LAST_LEG_HALTS)?;
+    assert!(rt; stripe.is_stopped());
+    Ok(())
+}
+
+const TORN_BEGINS: [(Ask, Summary); 2] = [
+    (Ask::Begin(0, 0xaa), Summary::Begun(0)),
+    (Ask::Begin(0, 0xbb), Summary::Refused(Refusal::Busy(0))),
+];
+
+const TORN: [(Ask, Summary); 2] = [
+    (Ask::Push(0, 1), Summary::LegLost(1)),
+    (Ask::Push(0, 0), Summary::Complete(0)),
+];
+
+const AFTER_TORN: [(Ask, Summary); 6] = [
+    (Ask::Attach(1), Summary::Joining(4)),
+    (Ask::Begin(1, 0xbb), Summary::Begun(1)),
+    (Ask::Copy(1), Summary::Refused(Refusal::Busy(1))),
+    (Ask::Copy(0), Summary::Refused(Refusal::NotJoining)),
+    (Ask::Fail(1), Summary::Failed),
+    (Ask::Fail(1), Summary::Refused(Refusal::AlreadyOut)),
+];
+
+#[test]
+fn a_write_that_fails_is_torn(rt: HostRuntime) -> Result<(), Fail> {
+    let mut stripe = opened(&rt, rt.alloc(), TWO_LEGS)?;
+    compare(&rt, rt.alloc(), &mut stripe, &TORN_BEGINS)?;
+    fuse(&rt, &stripe, 1, 1);
+    compare(&rt, rt.alloc(), &mut stripe, &TORN)?;
+    holds(&rt, &stripe, 1, 0, (0xaa, 0x00));
+    compare(&rt, rt.alloc(), &mut stripe, &AFTER_TORN)
+}
+
+const SYNCED: [(Ask, Summary); 3] = [
+    (Ask::Begin(0, 0xaa), Summary::Begun(0)),
+    (Ask::Push(0, 0), Summary::Pushed(1)),
+    (Ask::Sync(0), Summary::Synced),
+];
+
+const SYNC_FAILS: [(Ask, Summary); 3] = [
+    (Ask::Sync(1), Summary::LegLost(1)),
+    (Ask::Claim(0), Summary::Written(0)),
+    (Ask::Attach(1), Summary::Joining(8)),
+];
+
+#[test]
+fn a_sync_that_fails_leaves_all_to_copy(rt: HostRuntime) -> Result<(), Fail> {
+    let mut stripe = opened(&rt, rt.alloc(), TWO_LEGS)?;
+    compare(&rt, rt.alloc(), &mut stripe, &SYNCED)?;
+    fuse(&rt, &stripe, 1, 1);
+    compare(&rt, rt.alloc(), &mut stripe, &SYNC_FAILS)
+}
+
+const STRIPED: [(Ask, Summary); 2] = [
+    (Ask::Read(0), Summary::Value(0, 0x00)),
+    (Ask::Read(4), Summary::LegLost(1)),
+];
+
+#[test]
+fn the_second_region_is_read_from_the_second_leg(rt: HostRuntime) -> Result<(), Fail> {
+    let mirror = Mirror {
+        policy: Policy::Striped,
+        ..TWO_LEGS
+    };
+    let mut stripe = opened(&rt, rt.alloc(), mirror)?;
+    fuse(&rt, &stripe, 1, 1);
+    compare(&rt, rt.alloc(), &mut stripe, &STRIPED)
+}
+
+const MASTER_LOST: [(Ask, Summary); 2] = [
+    (Ask::Read(0), Summary::LegLost(0)),
+    (Ask::Read(0), Summary::Value(0, 0x00)),
+];
+
+#[test]
+fn a_read_loses_the_master(rt: HostRuntime) -> Result<(), Fail> {
+    let mut stripe = opened(&rt, rt.alloc(), TWO_LEGS)?;
+    fuse(&rt, &stripe, 0, 1);
+    compare(&rt, rt.alloc(), &mut stripe, &MASTER_LOST)?;
+    assert_eq!(rt; (stripe.master(), stripe.is_settling()), (1, false));
+    stands(&rt, &stripe, 0, LegState::Out, 0);
+    stands(&rt, &stripe, 1, LegState::InSync, 0);
+    Ok(())
+}
