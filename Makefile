@@ -22,7 +22,7 @@ run:
 
 check:
 	@echo 'Proving every crate and its tests from nothing, then the must-fail edits, the tests and the programs.'
-	@echo 'This took 45 minutes on 4 cores that had other work; a line comes as each crate, edit and run ends, and out/gate.log has the rest.'
+	@echo 'This takes about 50 minutes on 4 cores; a line comes as each crate, edit and run ends, and out/gate.log has the rest.'
 	@tools/gate
 
 gate-cost:
