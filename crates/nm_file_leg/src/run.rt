@@ -4,7 +4,7 @@ ghost use Rattle.nm_file_leg.specs.Medium.{window, Apart};
 use crate::Medium;
 use crate::splice::splice;
 
-/// Bytes of a medium that were read ahead: the first `kept` of them stand for those from `first` on.
+/// Bytes of a medium that were read ahead: the first `kept` of them are those from `first` on.
 #[derive(Drop)]
 pub(crate) struct Run {
     pub(crate) bytes: Vec<u8>,

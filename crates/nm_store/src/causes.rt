@@ -68,7 +68,8 @@ impl<L: LegPart> Store<L> {
     pub fn begin_cause(&self, block: u64) -> Option<Refusal>
         requires copy { (copy : CopyPlace) → self.now.copy ≡ Some copy
             → copy.cursor < length_of copy.region (table self.now) }
-        requires numbers { next_number self.now + unlanded self.now.records ≤ max (2 ^ 63) self.now.first }
+        requires numbers { next_number self.now + unlanded self.now.records
+            ≤ max (2 ^ 63) self.now.first }
         ensures { result ≡ begin_cause self.now block }
     {
         if self.stopped {

@@ -90,7 +90,8 @@ impl<L: LegPart> Store<L> {
     ) -> Result<Store<L>, (Memory, Vec<L>)>
         requires sizes { AreSizes place.blocks place.region (length legs.items) }
         requires chunk { IsChunkSize place.chunk }
-        ensures opened { IfOk result (λ store. store ≡ opened place legs.items in_sync first policy) }
+        ensures opened { IfOk result (λ store.
+            store ≡ opened place legs.items in_sync first policy) }
         ensures handed_back { IfErr result (λ refused. refused.1.items ≡ legs.items) }
     {
         let Ok(room) = Room::take(alloc, place, legs.len(), in_sync) else {

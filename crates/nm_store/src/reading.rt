@@ -26,8 +26,8 @@ fn true_places(places: &[bool; LEGS]) -> ArrayVec<u8, LEGS>
 }
 
 impl<L: LegPart> Store<L> {
-    /// The leg that a read of the block takes: in a region with no write under way one of those that
-    /// are current there, by the policy, and else the master.
+    /// The leg that a read of the block takes: in a region with no write under way one of those
+    /// that are current there, by the policy, and else the master.
     pub fn leg_to_read(&self, block: u64) -> u8
         requires block { block < self.now.place.blocks }
         requires current { 0 < length (current_legs block self.now) }

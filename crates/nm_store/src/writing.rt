@@ -80,8 +80,8 @@ impl<L: LegPart> Store<L> {
         self.records.at(place).entry.is_none() && leg == self.master
     }
 
-    /// The write at this place owes the leg no more. Where it is finished with that, one write fewer
-    /// is under way in its region.
+    /// The write at this place owes the leg no more. Where it is finished with that, one write
+    /// fewer is under way in its region.
     fn reach_at(&mut self, place: usize, leg: u8)
         requires place { place < length self.old.records }
         requires owed { (r : Record) → slice_get self.old.records place ≡ Some r

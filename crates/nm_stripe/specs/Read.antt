@@ -27,7 +27,8 @@ pub data RefusesRead {L : Type 0} (type : LegType L) (old new : StripeState L) (
   ForFault : refusal ≡ Fault → (found : Block) → FailsInRead type old new block found
       → RefusesRead type old new block refusal
 
--- the bytes are the array's, and the read is explained by its begin and its reply; or a leg was lost
+-- the bytes are the array's, and the read is explained by its begin and its reply; or a leg was
+-- lost
 abbrev pub IsExplainedReading : {L : Type 0} → (L → Leg) → StripeState L → StripeState L → ℕ
     → Block → Reading L → Type 0
 IsExplainedReading model old new block bytes (Value receipt) =

@@ -1,4 +1,5 @@
-//! Tests of nm_stripe and nm_part through their public surface: worked lists of steps with their answers.
+//! Tests of nm_stripe and nm_part through their public surface: worked lists of steps with their
+//! answers.
 #![tactic(auto)]
 
 #[cfg(test)]
