@@ -15,3 +15,4 @@ pub mod Counts
 pub mod Storing
 pub mod Indexed
 pub mod DataLemmas
+pub mod Merged

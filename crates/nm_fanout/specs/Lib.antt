@@ -1,4 +1,6 @@
 pub mod Data
+pub mod Laying
 pub mod Record
+pub mod RecordData
 pub mod Records
 pub mod Stored

@@ -1,7 +1,8 @@
 -- Records that stay where they are stored, each under a key, and the order of their keys.
-use Rattle.std.specs.Prelude.{◌≡◌, ◌≢◌, ℕ, ◌≤◌, List, [], ◌∷◌, length, map, Option, None, Some, IsSome}
+use Rattle.std.specs.Prelude.{◌≡◌, ◌≢◌, ℕ, ◌+◌, ◌≤◌, List, [], ◌∷◌, length, map, Option, None, Some, IsSome}
 use Rattle.slab.specs.Slab.{Slab, get, slab_len}
 use Rattle.nm_fanout.specs.declared.write_record.Record.{Record}
+use Rattle.nm_fanout.specs.RecordData.{blocks_of}
 use Rattle.nm_fanout.specs.Records.{AreInOrder, unlanded}
 
 -- what a key has, before the records of the later keys
@@ -35,6 +36,11 @@ pub record AreStored (slab : Slab Record) (keys : List ℕ) : Type 0 where
   pub apart : AllApart keys
   pub counted : slab_len slab ≡ length keys
   pub room : 256 ≤ slab.capacity
+
+-- how many blocks the records' data have
+abbrev pub merged : List Record → ℕ
+merged [] = 0
+merged (r ∷ rs) = blocks_of r.data + merged rs
 
 -- the records in order, with their tickets and their blocks at the same places, and how many have
 -- no entry yet

@@ -8,11 +8,16 @@
 #![tactic(auto)]
 
 pub use block_data::Data;
+pub use own_block::OwnBlock;
+pub use record_data::RecordData;
 pub use record_list::MOST_RECORDS;
 pub use records::Records;
 pub use write_record::{LEGS, Record};
 
 mod block_data;
+mod own_block;
+mod record_data;
 mod record_list;
 mod records;
+mod spare_blocks;
 mod write_record;

@@ -1,14 +1,16 @@
 ghost use Rattle.std.specs.Prelude.{◌≡◌, ℕ, ◌+◌, ◌-◌, ◌<◌, ◌≤◌, ◌↔◌, ◌&&◌, [], length, find, slice_get, IsTrue, IsSome, IfSome, IfNone, Some, None, IfOk};
 ghost use Rattle.std.specs.Option.{option_map, option_copied};
 ghost use Rattle.nm_fanout.specs.declared.write_record.Record.{Record};
-ghost use Rattle.nm_fanout.specs.Data.{FillsBlock};
+ghost use Rattle.nm_fanout.specs.Data.{FitsBlock};
+ghost use Rattle.nm_fanout.specs.Laying.{data_over};
 ghost use Rattle.nm_fanout.specs.Record.{begun, is_under_way};
 ghost use Rattle.nm_fanout.specs.Records.{AreInOrder, AllBelow, IsAt, find_record, busy_on, is_among, busy_among, any_under_way, entry_at, unlanded, first_unlanded, next_owed, first_owed, reached, landed, left_by, without, with_new};
 
 use crate::block_data::Data;
 use crate::record_list::{MOST_RECORDS, RecordList};
+use crate::spare_blocks::SpareBlocks;
 use crate::write_record::{LEGS, Record};
-use nm_replay::Memory;
+use nm_replay::{Block, Memory};
 use std::alloc::Global;
 use std::marker::Model;
 
@@ -22,19 +24,22 @@ pub struct Records {
     blocks: Vec<u64>,
     /// How many of them have no entry yet.
     without_entry: u64,
+    /// A block for each record that has none of its own.
+    spare: SpareBlocks,
 }
 
 impl Model for Records {
-    ghost use Rattle.std.specs.Prelude.{◌≤◌, List, vec_capacity};
+    ghost use Rattle.std.specs.Prelude.{◌≡◌, ◌+◌, ◌≤◌, List, vec_capacity};
     ghost use Rattle.nm_fanout.specs.declared.write_record.Record.{Record};
-    ghost use Rattle.nm_fanout.specs.Stored.{AreIndexed};
+    ghost use Rattle.nm_fanout.specs.Stored.{AreIndexed, merged};
 
     ghost Value = { List Record };
 
     ghost view = { λ r. r.list };
 
     ghost invariant = { λ r. AreIndexed r.list r.tickets.items r.blocks.items r.without_entry
-        × (256 ≤ vec_capacity r.tickets) × (256 ≤ vec_capacity r.blocks) };
+        × (256 ≤ vec_capacity r.tickets) × (256 ≤ vec_capacity r.blocks)
+        × (r.spare + merged r.list ≡ 256) };
 }
 
 impl Records {
@@ -47,6 +52,7 @@ impl Records {
             tickets: Vec::with_capacity(alloc, MOST_RECORDS)?,
             blocks: Vec::with_capacity(alloc, MOST_RECORDS)?,
             without_entry: 0,
+            spare: SpareBlocks::new(alloc)?,
         })
     }
 
@@ -172,14 +178,18 @@ impl Records {
     /// Begins a write: adds its record, with these legs owed and no entry. The ticket is above all
     /// earlier ones.
     ///
-    /// `is_full` tells whether one more record is allowed, and `Data::fills_block` whether the data
-    /// are a block's worth.
-    pub fn begin(&mut self, ticket: u64, block: u64, data: Data, owed: [bool; LEGS])
+    /// A part is laid over `base`, what the block holds; whole data leave `base` unread.
+    ///
+    /// `is_full` tells whether one more record is allowed, and `Data::fits_block` whether the data
+    /// fit.
+    pub fn begin(&mut self, ticket: u64, block: u64, data: Data, base: &Block, owed: [bool; LEGS])
         requires few { length self.old < 256 }
         requires next { AllBelow ticket self.old }
-        requires whole { FillsBlock «data» }
-        ensures { self.new ≡ with_new (begun ticket block «data» owed) self.old }
+        requires fits { FitsBlock «data» }
+        ensures { self.new ≡ with_new (begun ticket block (data_over «data» base.now) owed)
+            self.old }
     {
+        let data = self.spare.keep(data, base);
         self.list.push(Record {
             ticket,
             block,
@@ -230,7 +240,8 @@ impl Records {
         self.tickets.remove(place);
         self.blocks.remove(place);
         let record = self.list.remove(place);
-        record.into_entry().unwrap()
+        self.spare.take_back(record.data);
+        record.entry.unwrap()
     }
 
     /// Whether the record at this place is under way on one of so many blocks, from the first on.

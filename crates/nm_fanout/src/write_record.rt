@@ -1,7 +1,7 @@
 ghost use Rattle.std.specs.Prelude.{◌≡◌, ◌<◌, ◌≤◌, length, position, IfSome};
 ghost use Rattle.nm_fanout.specs.Record.{owes, owed_count, is_under_way, lowest_owed, without_leg, with_entry};
 
-use crate::block_data::Data;
+use crate::record_data::RecordData;
 
 /// How many legs a record has places for.
 pub const LEGS: usize = 8;
@@ -17,7 +17,7 @@ pub struct Record {
     /// The block that is written.
     pub block: u64,
     /// The block's new bytes.
-    pub data: Data,
+    pub data: RecordData,
     /// For each leg, by its number, whether the write has still to reach it.
     pub owed: [bool; LEGS],
     /// The number of the write's entry, once the write has taken effect.
@@ -69,13 +69,6 @@ impl Record {
         ensures { self.new ≡ with_entry number self.old }
     {
         self.entry = Some(number);
-    }
-
-    /// Drops the record, and gives its entry's number.
-    pub(crate) fn into_entry(self) -> Option<u64>
-        ensures { result ≡ self.entry }
-    {
-        self.entry
     }
 }
 

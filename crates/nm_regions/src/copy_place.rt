@@ -24,6 +24,7 @@ pub(crate) fn copies(copy: Option<CopyPlace>, region: u64) -> bool
 }
 
 /// Whether the copy is of this leg and region, and has passed this place in it.
+#[inline(always)]
 pub(crate) fn has_copied(copy: Option<CopyPlace>, leg: u8, region: u64, place: u64) -> bool
     ensures { result ≡ has_copied leg region place copy }
 {

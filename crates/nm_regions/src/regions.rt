@@ -94,6 +94,7 @@ impl Regions {
     }
 
     /// The region that the block lies in.
+    #[inline(always)]
     pub fn region_of(&self, block: u64) -> u64
         requires block { block < self.now.blocks }
         ensures region { result ≡ region_of block self.now }
@@ -125,6 +126,7 @@ impl Regions {
     }
 
     /// Whether no write under way lies in this region.
+    #[inline(always)]
     pub fn is_quiet(&self, region: u64) -> bool
         requires region { region < length self.now.writes }
         ensures { result ≡ is_quiet region self.now }
@@ -133,6 +135,7 @@ impl Regions {
     }
 
     /// Whether the leg is out. A leg that the table does not have is.
+    #[inline(always)]
     pub fn is_out(&self, leg: u8) -> bool
         ensures { result ≡ is_out leg self.now }
     {
@@ -141,6 +144,7 @@ impl Regions {
     }
 
     /// Whether the leg is not out, and not behind in this region.
+    #[inline(always)]
     fn has_region(&self, leg: u8, region: u64) -> bool
         requires region { region < length self.now.writes }
         ensures { result ≡ has_region leg region self.now }
@@ -149,6 +153,7 @@ impl Regions {
     }
 
     /// Whether the leg is current at this place of this region.
+    #[inline(always)]
     fn is_current_at(&self, leg: u8, region: u64, place: u64) -> bool
         requires region { region < length self.now.writes }
         ensures { result ≡ is_current_at leg region place self.now }
@@ -166,6 +171,7 @@ impl Regions {
     }
 
     /// For each of eight legs, whether it is current at the block: a write there has to reach it.
+    #[inline(always)]
     pub fn targets(&self, block: u64) -> [bool; LEGS]
         requires block { block < self.now.blocks }
         ensures targets { result ≡ targets block self.now }

@@ -4,7 +4,7 @@ use Rattle.std.specs.Prelude.{Option, None, Some, IfSome}
 use Rattle.std.specs.Option.{option_or}
 use Rattle.nm_replay.specs.declared.block.Block.{Block}
 use Rattle.nm_replay.specs.declared.entry.Entry.{Entry}
-use Rattle.nm_replay.specs.History.{last_on, Agrees, IsNumbered, Consistent}
+use Rattle.nm_replay.specs.History.{last_on, MayReplace, Agrees, IsNumbered, Consistent}
 use Rattle.nm_replay.proofs.LastOn.{last_on-append}
 
 -- after `before`, each of the entries agrees with all that stand before it
@@ -53,9 +53,9 @@ later (Some bytes) earlier P all = all
 
 -- entries agree with fewer entries before them
 agrees-fewer : (front before : List Entry) (e : Entry) → Agrees (front ++ before) e → Agrees before e
-agrees-fewer front before e agrees = λ read.
-    later (last_on e.block before) (last_on e.block front) (λ last. e.bytes ≡ last)
-    (subst (λ o. IfSome o (λ last. e.bytes ≡ last)) (last_on-append e.block front before) (agrees read))
+agrees-fewer front before e agrees =
+    later (last_on e.block before) (last_on e.block front) (λ last. MayReplace e.kind last e.bytes)
+    (subst (λ o. IfSome o (λ last. MayReplace e.kind last e.bytes)) (last_on-append e.block front before) agrees)
 
 pub agree-fewer : (es front before : List Entry) → AgreeAfter (front ++ before) es → AgreeAfter before es
 agree-fewer [] front before all = tt
@@ -66,7 +66,7 @@ agree-fewer (x ∷ xs) front before all = (
 
 -- the two forms of consistency
 pub consistent-agree : (es : List Entry) → Consistent es → AgreeAfter [] es
-consistent-agree es consistent = agree-from es [] es consistent.reads refl
+consistent-agree es consistent = agree-from es [] es consistent.agree refl
 
 pub agree-consistent : (es : List Entry) → IsNumbered es → AgreeAfter [] es → Consistent es
-agree-consistent es numbers agree = record { numbers = numbers; reads = λ front e later cut. agree-at es [] front e later agree cut }
+agree-consistent es numbers agree = record { numbers = numbers; agree = λ front e later cut. agree-at es [] front e later agree cut }

@@ -2,13 +2,13 @@
 use Rattle.std.proofs.Common.{◌≡◌, ℕ, ◌+◌, inl, inr, List, [], ◌∷◌, ◌++◌, append_assoc, append-nil, refl, sym, ap, ◌∙◌, subst, slice_get}
 use Rattle.std.specs.Prelude.{Option, Some, IfSome}
 use Rattle.std.proofs.lemmas.Bool.{cases_eq}
-use Rattle.std.proofs.lemmas.Option.{IfSome_then, same_Some}
+use Rattle.std.proofs.lemmas.Option.{IfSome_then, same_Some, slice_get_within}
 use Rattle.nm_replay.specs.declared.block.Block.{Block}
 use Rattle.nm_replay.specs.declared.entry.Kind.{Kind}
-use Rattle.nm_replay.specs.declared.entry.Kind.TheVariants.{Read, Write}
+use Rattle.nm_replay.specs.declared.entry.Kind.TheVariants.{Read, Write, Patch}
 use Rattle.nm_replay.specs.declared.entry.Entry.{Entry}
-use Rattle.nm_replay.specs.Array.{Array, after}
-use Rattle.nm_replay.specs.History.{operation, Fits, EntryFits, after_entry, Legal, last_on, Agrees, Consistent, EndsIn}
+use Rattle.nm_replay.specs.Array.{Array, after, SameOutside}
+use Rattle.nm_replay.specs.History.{operation, MayReplace, Fits, EntryFits, after_entry, Legal, last_on, Agrees, Consistent, EndsIn}
 use Rattle.nm_replay.proofs.Agreement.{AgreeAfter, agree-consistent}
 use Rattle.nm_replay.proofs.Arrays.{slice_get-set_same, slice_get-set_other}
 use Rattle.nm_replay.proofs.LastOn.{last_on-push_same, last_on-push_other}
@@ -19,15 +19,32 @@ use Rattle.nm_replay.proofs.Numbering.{numbered-somewhere}
 pub after-same : (kind : Kind) (block : ℕ) (bytes : Block) (array : Array) → Fits kind block bytes array → slice_get (after (operation kind block bytes) array) block ≡ Some bytes
 after-same Read block bytes array fits = fits
 after-same (Write ticket) block bytes array fits = slice_get-set_same array block bytes fits
+after-same (Patch ticket start len) block bytes array fits = slice_get-set_same array block bytes (slice_get_within array block fits.0 fits.1)
 
 -- and every other block as it was
 pub after-other : (kind : Kind) (block : ℕ) (bytes : Block) (array : Array) (other : ℕ) → (block ≡ other → ⊥) → slice_get (after (operation kind block bytes) array) other ≡ slice_get array other
 after-other Read block bytes array other apart = refl
 after-other (Write ticket) block bytes array other apart = slice_get-set_other array block other bytes apart
+after-other (Patch ticket start len) block bytes array other apart = slice_get-set_other array block other bytes apart
 
--- a read that fits finds its bytes
-pub read-fits : (e : Entry) (array : Array) → EntryFits e array → e.kind ≡ Read → slice_get array e.block ≡ Some e.bytes
-read-fits e array fits read = subst (λ kind. Fits kind e.block e.bytes array) read fits
+-- the bytes of an entry that fits may stand where those did that are there
+pub fits-replaces : (kind : Kind) (block : ℕ) (bytes old : Block) (array : Array) → slice_get array block ≡ Some old → Fits kind block bytes array → MayReplace kind old bytes
+fits-replaces Read block bytes old array there fits = same_Some bytes old (sym fits ∙ there)
+fits-replaces (Write ticket) block bytes old array there fits = tt
+fits-replaces (Patch ticket start len) block bytes old array there fits =
+    subst (λ was. SameOutside start len was bytes) (same_Some fits.0 old (sym fits.1 ∙ there)) fits.2
+
+-- and an entry whose bytes may stand there fits
+pub replaces-fits : (kind : Kind) (block : ℕ) (bytes old : Block) (array : Array) → slice_get array block ≡ Some old → MayReplace kind old bytes → Fits kind block bytes array
+replaces-fits Read block bytes old array there same = there ∙ ap (λ b. Some b) (sym same)
+replaces-fits (Write ticket) block bytes old array there any = slice_get_within array block old there
+replaces-fits (Patch ticket start len) block bytes old array there same = (old, there, same)
+
+-- the bytes of any entry may stand where the same stood
+pub replaces-same : (kind : Kind) (bytes : Block) → MayReplace kind bytes bytes
+replaces-same Read bytes = refl
+replaces-same (Write ticket) bytes = tt
+replaces-same (Patch ticket start len) bytes = record { before = refl; rest = refl }
 
 -- no entries end in any array
 pub ends-empty : (array : Array) → EndsIn [] array
@@ -49,8 +66,8 @@ ends-push es e array ends fits = λ block.
 
 -- an entry that fits the array that others end in agrees with them
 pub agrees-fitting : (es : List Entry) (e : Entry) (array : Array) → EndsIn es array → EntryFits e array → Agrees es e
-agrees-fitting es e array ends fits = λ read.
-    IfSome_then (last_on e.block es) (ends e.block) (λ last there. same_Some e.bytes last (sym (read-fits e array fits read) ∙ there))
+agrees-fitting es e array ends fits =
+    IfSome_then (last_on e.block es) (ends e.block) (λ last there. fits-replaces e.kind e.block e.bytes last array there fits)
 
 -- legal entries end in what they leave
 pub legal-ends_after : (es : List Entry) (next : ℕ) (array to : Array) (before : List Entry) → Legal next es array to → EndsIn before array → EndsIn (before ++ es) to

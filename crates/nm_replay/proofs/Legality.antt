@@ -2,7 +2,7 @@
 use Rattle.std.proofs.Common.{◌≡◌, ℕ, suc, ◌+◌, List, [], ◌∷◌, ◌++◌, length, length-set, refl, arith, subst}
 use Rattle.nm_replay.specs.declared.block.Block.{Block}
 use Rattle.nm_replay.specs.declared.entry.Kind.{Kind}
-use Rattle.nm_replay.specs.declared.entry.Kind.TheVariants.{Read, Write}
+use Rattle.nm_replay.specs.declared.entry.Kind.TheVariants.{Read, Write, Patch}
 use Rattle.nm_replay.specs.declared.entry.Entry.{Entry}
 use Rattle.nm_replay.specs.Array.{Array, after}
 use Rattle.nm_replay.specs.History.{operation, Legal, NumberedFrom}
@@ -11,6 +11,7 @@ use Rattle.nm_replay.specs.History.{operation, Legal, NumberedFrom}
 pub length-after : (kind : Kind) (block : ℕ) (bytes : Block) (array : Array) → length (after (operation kind block bytes) array) ≡ length array
 length-after Read block bytes array = refl
 length-after (Write ticket) block bytes array = length-set array block bytes
+length-after (Patch ticket start len) block bytes array = length-set array block bytes
 
 -- legal entries followed by legal entries are legal
 pub legal-append : (front piece : List Entry) (next : ℕ) (array middle to : Array) → Legal next front array middle → Legal (next + length front) piece middle to → Legal next (front ++ piece) array to

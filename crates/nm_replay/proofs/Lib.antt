@@ -11,6 +11,7 @@ pub mod Lives
 pub mod Numbering
 pub mod Openings
 pub mod Ordering
+pub mod Parts
 pub mod Places
 pub mod Pushing
 pub mod ReadStages

@@ -8,14 +8,13 @@ use Rattle.std.proofs.lemmas.Option.{MatchOption-at_some, slice_get_within}
 use Rattle.std.specs.Bool.{⊤}
 use Rattle.nm_replay.specs.declared.block.Block.{Block}
 use Rattle.nm_replay.specs.declared.entry.Kind.{Kind}
-use Rattle.nm_replay.specs.declared.entry.Kind.TheVariants.{Read, Write}
 use Rattle.nm_replay.specs.declared.entry.Entry.{Entry}
 use Rattle.nm_replay.specs.Array.{Array}
-use Rattle.nm_replay.specs.History.{Fits, EntryFits, after_entry, Legal, NumberedFrom, IsNumbered, last_on, Consistent, EndsIn}
+use Rattle.nm_replay.specs.History.{MayReplace, EntryFits, after_entry, Legal, NumberedFrom, IsNumbered, last_on, Consistent, EndsIn}
 use Rattle.nm_replay.specs.Laws.{HasOpening}
 use Rattle.nm_replay.proofs.Agreement.{AgreeAfter, consistent-agree}
 use Rattle.nm_replay.proofs.Arrays.{slice_get-set_same, slice_get-set_other, same_by_slice_get}
-use Rattle.nm_replay.proofs.Endings.{after-same, after-other}
+use Rattle.nm_replay.proofs.Endings.{after-same, after-other, replaces-fits, replaces-same}
 use Rattle.nm_replay.proofs.LastOn.{last_on-append, last_on-front_later, last_on-front_same, last_on-push_same, last_on-push_other}
 use Rattle.nm_replay.proofs.Legality.{length-after}
 
@@ -42,17 +41,13 @@ inside before e es to ends =
     let whole : last_on e.block (before ++ e ∷ es) ≡ Some last.0 = last_on-append e.block before (e ∷ es) ∙ ap (λ o. option_or o (last_on e.block before)) last.1 in
     slice_get_within to e.block last.0 (MatchOption-at_some ⊤ (λ bytes. slice_get to e.block ≡ Some bytes) last.0 whole (ends e.block))
 
-over_same : (o : Option Block) (bytes : Block) → IfSome o (λ last. bytes ≡ last) → option_or o (Some bytes) ≡ Some bytes
-over_same None bytes same = refl
-over_same (Some last) bytes same = ap (λ b. Some b) (sym same)
+over_replaced : (o : Option Block) (kind : Kind) (bytes : Block) → IfSome o (λ last. MayReplace kind last bytes) → (old : Block) × (option_or o (Some bytes) ≡ Some old) × MayReplace kind old bytes
+over_replaced None kind bytes any = (bytes, refl, replaces-same kind bytes)
+over_replaced (Some last) kind bytes replaces = (last, refl, replaces)
 
 over_there : (o p : Option Block) → IfSome o (λ bytes. p ≡ Some bytes) → option_or o p ≡ p
 over_there None p there = refl
 over_there (Some bytes) p there = sym there
-
-fits_by_kind : (kind : Kind) (block : ℕ) (bytes : Block) (array : Array) → block < length array → (kind ≡ Read → slice_get array block ≡ Some bytes) → Fits kind block bytes array
-fits_by_kind Read block bytes array within read = read refl
-fits_by_kind (Write ticket) block bytes array within read = within
 
 -- after `before`, the array that has the last entries of `before` over the opening of the others
 -- makes the others legal
@@ -64,8 +59,9 @@ replays (e ∷ es) before next array to numbers agree ends size state =
     let within : e.block < length to = inside before e es to ends in
     let opened : slice_get (opening (e ∷ es) to) e.block ≡ Some e.bytes =
     slice_get-set_same (opening es to) e.block e.bytes (omega (arith, within, length-opening es to)) in
-    let fits : EntryFits e array = fits_by_kind e.kind e.block e.bytes array (omega (arith, within, size))
-    (λ read. state e.block ∙ (ap (λ o. option_or (last_on e.block before) o) opened ∙ over_same (last_on e.block before) e.bytes (agree.0 read))) in
+    let old = over_replaced (last_on e.block before) e.kind e.bytes agree.0 in
+    let fits : EntryFits e array = replaces-fits e.kind e.block e.bytes old.0 array
+    (state e.block ∙ (ap (λ o. option_or (last_on e.block before) o) opened ∙ old.1)) old.2 in
     let ended : EndsIn (before ++ e ∷ [] ++ es) to = subst (λ b. EndsIn b to) (sym (append_assoc before (e ∷ []) es)) ends in
     (numbers.0, fits, replays es (before ++ e ∷ []) (next + 1) (after_entry e array) to numbers.1 agree.1 ended (length-after e.kind e.block e.bytes array ∙ size) (stepped e es before array to fits state))
   where

@@ -1,14 +1,14 @@
 -- Entries of explained events have the numbers of their places, so a later one has a higher number;
--- and a read's entry has the last bytes before it on its block.
+-- and a read's entry has the last bytes before it on its block, a patch's the rest of them.
 use Rattle.std.proofs.Common.{◌≡◌, ℕ, ◌+◌, ◌<◌, ◌==◌, inl, inr, List, [], ◌∷◌, ◌++◌, length, sym, ap, ◌∙◌, subst, arith, eq-eqb, append_assoc, length-append, slice_get}
 use Rattle.std.specs.Prelude.{None, Some, if◌then◌else◌}
 use Rattle.std.specs.Option.{option_or}
 use Rattle.std.proofs.lemmas.Bool.{cases_eq, ne_eqb, cond-true, cond-false}
 use Rattle.nm_replay.specs.declared.block.Block.{Block}
 use Rattle.nm_replay.specs.declared.entry.Entry.{Entry}
-use Rattle.nm_replay.specs.Array.{Array}
+use Rattle.nm_replay.specs.Array.{Array, Piece, SameOutside}
 use Rattle.nm_replay.specs.History.{NumberedFrom, Legal, last_on, after_entry}
-use Rattle.nm_replay.specs.Events.{Event, Lands, entry_of_read, entries_of}
+use Rattle.nm_replay.specs.Events.{Event, Lands, entry_of_read, entry_of_write, entries_of}
 use Rattle.nm_replay.specs.Explained.{Point, Explained}
 use Rattle.nm_replay.proofs.Endings.{after-same, after-other}
 use Rattle.nm_replay.proofs.LastOn.{option_or_assoc}
@@ -58,3 +58,12 @@ read-finds_last from to number block bytes front later explained =
     let split : entries_of (front ++ Lands e ∷ later) ≡ entries_of front ++ e ∷ entries_of later = entries_of-append front (Lands e ∷ later) in
     let cut = legal-split (entries_of front) (e ∷ entries_of later) from.next from.array to.array (subst (λ es. Legal from.next es from.array to.array) split explained.legal) in
     sym (legal-reads_last (entries_of front) from.next block from.array cut.0 cut.1) ∙ (cut.2).1
+
+-- and a patch's entry has them outside its part
+pub patch-keeps_rest : (from to : Point) (number ticket block start len : ℕ) (bytes : Block) (front later : List Event) → Explained from to (front ++ Lands (entry_of_write number ticket block (Piece start len) bytes) ∷ later) → (old : Block) × (option_or (last_on block (entries_of front)) (slice_get from.array block) ≡ Some old) × SameOutside start len old bytes
+patch-keeps_rest from to number ticket block start len bytes front later explained =
+    let e : Entry = entry_of_write number ticket block (Piece start len) bytes in
+    let split : entries_of (front ++ Lands e ∷ later) ≡ entries_of front ++ e ∷ entries_of later = entries_of-append front (Lands e ∷ later) in
+    let cut = legal-split (entries_of front) (e ∷ entries_of later) from.next from.array to.array (subst (λ es. Legal from.next es from.array to.array) split explained.legal) in
+    let fits = (cut.2).1 in
+    (fits.0, sym (legal-reads_last (entries_of front) from.next block from.array cut.0 cut.1) ∙ fits.1, fits.2)

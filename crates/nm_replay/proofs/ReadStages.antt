@@ -3,7 +3,7 @@ use Rattle.std.proofs.Common.{◌≡◌, ◌⊎◌, inl, inr, ⊎_elim, ℕ, ◌
 use Rattle.std.proofs.lemmas.Bool.{eqb-true}
 use Rattle.nm_replay.specs.declared.block.Block.{Block}
 use Rattle.nm_replay.specs.declared.entry.Kind.{Kind}
-use Rattle.nm_replay.specs.declared.entry.Kind.TheVariants.{Read, Write}
+use Rattle.nm_replay.specs.declared.entry.Kind.TheVariants.{Read, Write, Patch}
 use Rattle.nm_replay.specs.Events.{Event, BeginsRead, BeginsWrite, Lands, RepliesRead, RepliesWrite, entry_of_read}
 use Rattle.nm_replay.specs.ReadLives.{ReadLife, NotBegun, Begun, Landed, Closed, ReadLands, ReadStep, ReadLives}
 use Rattle.nm_replay.specs.ReadLaws.{ReadTookEffect}
@@ -35,6 +35,7 @@ read-move number old mid (Lands e) step =
         let kinds : Lands e ≡ Lands (entry_of_read e.seq e.block e.bytes) = ap (λ (kind : Kind). Lands (record { seq = e.seq; kind = kind; block = e.block; bytes = e.bytes })) of in
         Enters e.block e.bytes (kinds ∙ ap (λ (m : ℕ). Lands (entry_of_read m e.block e.bytes)) (eqb-true e.seq number at)) s.0 s.1
     by_kind at (Write u) of s = Closes s.0 s.1
+    by_kind at (Patch u start len) of s = Closes s.0 s.1
 read-move number old mid (RepliesRead n bytes) step =
     (elim (n == number) as (λ b. (n == number) ≡ b → MatchBool b ((old ≡ Landed bytes) × (mid ≡ Closed)) (mid ≡ old) → ReadMove number old (RepliesRead n bytes) mid) [
       | true ↦ λ at s. Ends bytes (ap (λ (m : ℕ). RepliesRead m bytes) (eqb-true n number at)) s.0 s.1

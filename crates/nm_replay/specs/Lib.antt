@@ -6,6 +6,7 @@ pub mod History
 pub mod Kept
 pub mod Laws
 pub mod OrderLaws
+pub mod PartLaws
 pub mod ReadLaws
 pub mod ReadLives
 pub mod WriteLaws

@@ -2,7 +2,7 @@
 use Rattle.std.specs.Prelude.{◌≡◌, ℕ, ◌==◌, List, [], ◌∷◌, MatchBool}
 use Rattle.nm_replay.specs.declared.block.Block.{Block}
 use Rattle.nm_replay.specs.declared.entry.Kind.{Kind}
-use Rattle.nm_replay.specs.declared.entry.Kind.TheVariants.{Read, Write}
+use Rattle.nm_replay.specs.declared.entry.Kind.TheVariants.{Read, Write, Patch}
 use Rattle.nm_replay.specs.declared.entry.Entry.{Entry}
 use Rattle.nm_replay.specs.Events.{Event, BeginsRead, BeginsWrite, Lands, RepliesRead, RepliesWrite}
 
@@ -20,12 +20,13 @@ pub data ReadLife : Type 0 where
 abbrev pub ReadLands : ReadLife → Entry → Kind → ReadLife → Type 0
 ReadLands old entry Read new = (old ≡ Begun entry.block) × (new ≡ Landed entry.bytes)
 ReadLands old entry (Write ticket) new = (old ≡ NotBegun) × (new ≡ Closed)
+ReadLands old entry (Patch ticket from len) new = (old ≡ NotBegun) × (new ≡ Closed)
 
 -- what an event does to the read of this number: its own take it one stage on, all others nothing
 abbrev pub ReadStep : ℕ → ReadLife → Event → ReadLife → Type 0
 ReadStep number old (BeginsRead other block) new =
     MatchBool (other == number) ((old ≡ NotBegun) × (new ≡ Begun block)) (new ≡ old)
-ReadStep number old (BeginsWrite ticket block bytes) new = new ≡ old
+ReadStep number old (BeginsWrite ticket block put) new = new ≡ old
 ReadStep number old (Lands entry) new =
     MatchBool (entry.seq == number) (ReadLands old entry entry.kind new) (new ≡ old)
 ReadStep number old (RepliesRead other bytes) new =

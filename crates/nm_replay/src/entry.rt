@@ -7,6 +7,9 @@ pub enum Kind {
     Read,
     /// The block was written, by the write that holds this ticket.
     Write(u64),
+    /// A part of the block was written, by the write that holds this ticket: from this place on, so
+    /// many bytes.
+    Patch(u64, u16, u16),
 }
 
 /// One operation on one block of an array, as a history keeps it.
@@ -18,6 +21,6 @@ pub struct Entry {
     pub kind: Kind,
     /// Which block of the array, counted from 0.
     pub block: u64,
-    /// The bytes that a read found there, or that a write put there.
+    /// The bytes that a read found there, or that a write left there: those of the whole block.
     pub bytes: Block,
 }

@@ -5,6 +5,7 @@ ghost use Rattle.nm_replay.specs.History.{Agrees, Consistent, last_on};
 
 use crate::block::Block;
 use crate::entry::{Entry, Kind};
+use crate::replacing::may_replace;
 use std::alloc::{AllocError, Global};
 
 /// The bytes of the last entry on a block, if there is one: the search stops there.
@@ -33,27 +34,25 @@ fn bytes_at(entries: &[Entry], place: usize) -> Option<&Block>
     Some(&entries[place - 1].bytes)
 }
 
-/// Where an entry is a read, the bytes of the last of the entries before it on its block.
+/// Where an entry is no write of a whole block, the bytes of the last of the entries before it on
+/// its block.
 fn latest_for<'a>(before: &'a [Entry], entry: &Entry) -> Option<&'a Block>
     ensures { IsLastFor before.now entry.now (option_copied result) }
 {
     match entry.kind {
-        Kind::Read => latest(before, entry.block),
+        Kind::Read | Kind::Patch(..) => latest(before, entry.block),
         Kind::Write(_) => None,
     }
 }
 
-/// Whether an entry is a write, or a read of `last`, if that is there.
+/// Whether an entry's bytes may stand where `last` stood, if that is there.
 fn agrees(before: &[Entry], entry: &Entry, last: Option<&Block>) -> bool
     requires { IsLastFor before.now entry.now (option_copied last) }
     ensures { IsTrue result ↔ Agrees before.now entry.now }
 {
-    match entry.kind {
-        Kind::Read => match last {
-            Some(last) => entry.bytes == *last,
-            None => true,
-        },
-        Kind::Write(_) => true,
+    match last {
+        Some(last) => may_replace(entry.kind, last, &entry.bytes),
+        None => true,
     }
 }
 
@@ -67,8 +66,8 @@ fn is_next(before: &[Entry], entry: &Entry) -> bool
     }
 }
 
-/// Whether an entry may follow those before it. If it is a read, `last` has the bytes of the last
-/// of them on its block.
+/// Whether an entry may follow those before it. If it is no write of a whole block, `last` has the
+/// bytes of the last of them on its block.
 fn may_follow(before: &[Entry], entry: &Entry, last: Option<&Block>) -> bool
     requires { IsLastFor before.now entry.now (option_copied last) }
     ensures { IsTrue result ↔ MayFollow before.now entry.now }
@@ -77,11 +76,12 @@ fn may_follow(before: &[Entry], entry: &Entry, last: Option<&Block>) -> bool
 }
 
 /// Whether the entries are consistent: their numbers rise by one, and each read has the bytes of
-/// the entry before it on its block, where there is one. Then, and only then, some array makes
-/// them legal (`laws::consistent_is_explained`).
+/// the entry before it on its block, where there is one, and each write of a part has them outside
+/// the part. Then, and only then, some array makes them legal (`laws::consistent_is_explained`).
 ///
-/// It takes no memory. For each read it looks back to that entry, or to the front, so its time may
-/// grow with the square of the number of entries. `check_indexed` says the same and does not.
+/// It takes no memory. For each read and each write of a part it looks back to that entry, or to
+/// the front, so its time may grow with the square of the number of entries. `check_indexed` says
+/// the same and does not.
 pub fn check(entries: &[Entry]) -> bool
     ensures { IsTrue result ↔ Consistent entries.now }
 {

@@ -2,8 +2,11 @@
 //! history and every list of events.
 ghost use Rattle.nm_replay.specs.Laws.{ConsistentIsExplained, ConsistentIsLegal};
 ghost use Rattle.nm_replay.specs.Laws.{EndPieceIsLegal, KeptIsConsistent, LegalThenLegal};
-ghost use Rattle.nm_replay.specs.OrderLaws.{ReadBeforeRead, ReadBeforeWrite, ReadFindsTheLastBytes};
+ghost use Rattle.nm_replay.specs.OrderLaws.{PatchKeepsTheRest, ReadFindsTheLastBytes};
+ghost use Rattle.nm_replay.specs.OrderLaws.{ReadBeforeRead, ReadBeforeWrite};
 ghost use Rattle.nm_replay.specs.OrderLaws.{WriteBeforeRead, WriteBeforeWrite};
+ghost use Rattle.nm_replay.specs.PartLaws.{LayingKeepsTheLength, LayingKeepsTheRest};
+ghost use Rattle.nm_replay.specs.PartLaws.{PartIsWhereLaid, SameOutsideIsLaid};
 ghost use Rattle.nm_replay.specs.ReadLaws.{NoReadEntryBeforeItsBegin, NoReadReplyBeforeItsEntry};
 ghost use Rattle.nm_replay.specs.ReadLaws.{NoSecondReadBegin, NoSecondReadEntry, NoSecondReadReply};
 ghost use Rattle.nm_replay.specs.ReadLaws.{ReadLandsAfterItsBegin, ReadLandsAsItBegan};
@@ -72,7 +75,8 @@ pub fn no_second_reply()
     ensures read { NoSecondReadReply }
 {}
 
-/// A write's entry has the block and bytes that the write began with, a read's entry its block.
+/// A write's entry has the block that the write began with and puts there what it began with; a
+/// read's entry has its block.
 pub fn lands_as_it_began()
     ensures write { WriteLandsAsItBegan }
     ensures read { ReadLandsAsItBegan }
@@ -102,6 +106,12 @@ pub fn reads_find_the_last_bytes()
     ensures { ReadFindsTheLastBytes }
 {}
 
+/// A write of a part leaves the rest of its block as the last entry before its own on the block
+/// left it, or, where there is none, as the array had it at first.
+pub fn patches_keep_the_rest()
+    ensures { PatchKeepsTheRest }
+{}
+
 /// Real-time order: an operation that was replied to before another began has the lower number,
 /// whether or not the other has been replied to.
 pub fn replied_before_begun()
@@ -109,4 +119,20 @@ pub fn replied_before_begun()
     ensures write_read { WriteBeforeRead }
     ensures read_write { ReadBeforeWrite }
     ensures read_read { ReadBeforeRead }
+{}
+
+/// Bytes that were laid over a block, inside it, are found in their place.
+pub fn part_is_where_laid()
+    ensures { PartIsWhereLaid }
+{}
+
+/// Bytes laid over a block leave the rest of it as it was, and its length.
+pub fn laying_keeps_the_rest()
+    ensures rest { LayingKeepsTheRest }
+    ensures length { LayingKeepsTheLength }
+{}
+
+/// A block that is the same as another outside a part is that other one with the part laid over it.
+pub fn same_outside_is_laid()
+    ensures { SameOutsideIsLaid }
 {}

@@ -20,3 +20,4 @@ mod kept;
 pub mod laws;
 mod memory;
 mod plain_array;
+mod replacing;

@@ -4,6 +4,7 @@ ghost use Rattle.nm_replay.specs.History.{EntryFits, after_entry};
 use crate::block::Block;
 use crate::entry::{Entry, Kind};
 use crate::memory::Memory;
+use crate::replacing::may_replace;
 use std::alloc::Global;
 use std::marker::Model;
 
@@ -50,12 +51,10 @@ impl PlainArray {
         let Some(place) = self.blocks.get_mut(block) else {
             return false;
         };
-        match entry.kind {
-            Kind::Read => *place == entry.bytes,
-            Kind::Write(_) => {
-                *place = entry.bytes;
-                true
-            }
+        let fits = may_replace(entry.kind, place, &entry.bytes);
+        if fits && entry.kind != Kind::Read {
+            *place = entry.bytes;
         }
+        fits
     }
 }

@@ -1,6 +1,6 @@
 -- A begin: the new write owes each leg that is current at its block, so no contents and no entry
 -- change; and the block's region falls behind on each leg that is out.
-use Rattle.std.proofs.Common.{◌≡◌, ◌≢◌, ⊎_elim, ℕ, ◌+◌, ◌<◌, ◌^◌, ◌/◌, ◌==◌, ◌&&◌, ◌||◌, Bool, true, false, not, [], ◌∷◌, length, None, Some, is_some, refl, sym, ap, ◌∙◌, subst, arith, slice_get, nat_lt, MatchBool}
+use Rattle.std.proofs.Common.{◌≡◌, ◌≢◌, ⊎_elim, ℕ, ◌+◌, ◌<◌, ◌^◌, ◌/◌, ◌==◌, ◌&&◌, ◌||◌, Bool, true, false, not, IsTrue, [], ◌∷◌, length, None, Some, is_some, refl, sym, ap, ◌∙◌, subst, arith, slice_get, nat_lt, MatchBool}
 use Rattle.std.proofs.lemmas.Bool.Decides.{nat_tests}
 use Rattle.std.proofs.lemmas.List.{length-map}
 use Rattle.nm_fanout.proofs.Landing.{unlanded-with_new}
@@ -8,32 +8,42 @@ use Rattle.nm_fanout.proofs.Finding.{find_record-with_new_other}
 use Rattle.nm_fanout.proofs.InOrder.{AllBelow-with_new, AreInOrder-with_new}
 use Rattle.nm_fanout.proofs.Writers.{OneWriterABlock-with_new}
 use Rattle.nm_fanout.specs.declared.block_data.Data.{Data}
+use Rattle.nm_fanout.specs.declared.record_data.RecordData.{RecordData}
 use Rattle.nm_fanout.specs.declared.write_record.Record.{Record}
-use Rattle.nm_fanout.specs.Data.{FillsBlock, bytes_of}
+use Rattle.nm_fanout.specs.Data.{FitsBlock, is_part, put_of_data}
+use Rattle.nm_fanout.specs.Laying.{data_over}
+use Rattle.nm_fanout.specs.RecordData.{FillsBlock, LiesInside, span_of}
+use Rattle.nm_fanout.proofs.DataLemmas.{FillsBlock-data_over, LiesInside-data_over}
 use Rattle.nm_fanout.specs.Record.{owes, begun}
 use Rattle.nm_fanout.specs.Records.{find_record, busy_on, unlanded, with_new}
-use Rattle.nm_leg.specs.Leg.{LegType, block_of}
+use Rattle.nm_leg.specs.Leg.{LegType}
 use Rattle.nm_replay.specs.WriteLives.{NotBegun, Begun, WriteLives}
-use Rattle.nm_replay.specs.Events.{BeginsWrite}
+use Rattle.nm_replay.specs.Array.{Put}
+use Rattle.nm_replay.specs.declared.block.Block.{Block}
+use Rattle.nm_replay.specs.Events.{Event, BeginsWrite}
 use Rattle.nm_replay.specs.History.{EndsIn}
 use Rattle.nm_regions.specs.LegFlags as leg_flags
 use Rattle.nm_regions.specs.LegFlags.{LegRegions, no_leg, is_behind, marked_if_out}
 use Rattle.nm_regions.specs.Table.{leg_at, region_of, place_of, regions_of, has_copied, targets}
 use Rattle.nm_rules.specs.declared.refusal.Refusal.TheVariants.{Busy, Full, Stopped, Settling, Exhausted}
-use Rattle.nm_rules.specs.Array.{contents_of, stripe_array, read_life, write_life, written}
+use Rattle.nm_rules.specs.Array.{contents_of, stripe_array, put_by, read_life, write_life}
 use Rattle.nm_rules.specs.Acts.{Acts, IsExplainedStep}
-use Rattle.nm_rules.specs.Begin.{Begins, after_begin, begin_cause, begin_rows, is_full}
+use Rattle.nm_rules.specs.Begin.{Begins, FailsInBegin, ReadsBase, after_begin, begin_cause, begin_rows, is_full}
 use Rattle.nm_rules.specs.Invariant.{HasLegs, HasRecords, HasWrites, HasNumbers, HasChunk, LegsAgree, Keeps, is_clear}
 use Rattle.nm_rules.specs.State.{StripeState, next_number, is_exhausted, is_copied_now, is_current, is_out, leg_state, copy_start, table}
-use Rattle.nm_rules.proofs.ActsLemmas.{kept-stays}
-use Rattle.nm_rules.proofs.ArrayLemmas.{laid-begun}
+use Rattle.nm_rules.proofs.ActsLemmas.{acts-append, kept-stays}
+use Rattle.nm_rules.proofs.ArrayLemmas.{array-at, laid-begun, length-array}
+use Rattle.nm_rules.proofs.CalledLemmas.{SameContents, called-acts, called-keeps, read-same}
 use Rattle.nm_rules.proofs.CauseLemmas.{none_holds, when_off, map_off, below}
 use Rattle.nm_rules.proofs.ChunkLemmas.{chunk-stays, not_copied, not_copying, region_within}
 use Rattle.nm_rules.proofs.ClearLemmas.{clear-current}
+use Rattle.nm_rules.proofs.DataLemmas.{fits-over, put-over}
+use Rattle.nm_rules.proofs.LegLemmas.{reads-found}
 use Rattle.nm_rules.proofs.MarkLemmas.{mark-leg, mark-out, mark-stays, mark-behind, mark-here, mark-current, mark-regions, clear-less}
 use Rattle.nm_rules.proofs.OwedLemmas.{owes_current, current_owed, master_owed}
 use Rattle.nm_rules.proofs.RecordLemmas.{same, new_cases, find-new_same, busy-front}
-use Rattle.nm_rules.proofs.StateLemmas.{in_sync_attached, joining_attached}
+use Rattle.nm_rules.proofs.SpanLemmas.{RecordFits}
+use Rattle.nm_rules.proofs.StateLemmas.{in_sync_attached, joining_attached, master_inside}
 use Rattle.nm_rules.proofs.LowLemmas.{low-with_new}
 
 -- a write may begin on the block
@@ -62,7 +72,7 @@ unclear : (now was : Bool) → (now ≡ true → was ≡ true) → was ≡ false
 unclear true was back not_was = absurd (let is = back refl in let clash : true ≡ false = sym is ∙ not_was in cc)
 unclear false was back not_was = refl
 
-module _ {L : Type 0} (type : LegType L) (old : StripeState L) (block : ℕ) (bytes : Data) where
+module _ {L : Type 0} (type : LegType L) (old : StripeState L) (block : ℕ) (bytes : RecordData) where
   -- the new write's record
   abbrev pub new_record : Record
   new_record = begun old.tickets block bytes (targets block (table old))
@@ -110,9 +120,9 @@ module _ {L : Type 0} (type : LegType L) (old : StripeState L) (block : ℕ) (by
     in_sync = λ leg is. ap (λ (l : LegRegions). leg_flags.has_behind l) (begin-attached leg (in_sync_attached type.model old k leg is)) ∙ k.in_sync leg is;
   }
 
-  begin-records : HasLegs type.model old → HasRecords old → MayBegin old block → block < old.place.blocks → FillsBlock bytes → HasRecords begun_state
-  begin-records has_legs k may inside fills = record {
-    in_order = AreInOrder-with_new new_record old.records may.few k.tickets (record { filled = fills; places = refl }) k.in_order;
+  begin-records : HasLegs type.model old → HasRecords old → MayBegin old block → block < old.place.blocks → FillsBlock bytes → LiesInside (span_of bytes) → HasRecords begun_state
+  begin-records has_legs k may inside fills lies = record {
+    in_order = AreInOrder-with_new new_record old.records may.few k.tickets (record { filled = fills; inside = lies; places = refl }) k.in_order;
     tickets = AllBelow-with_new new_record old.records k.tickets;
     one_writer = OneWriterABlock-with_new new_record old.records may.free k.one_writer;
     inside = λ t r at. ⊎_elim
@@ -189,14 +199,18 @@ module _ {L : Type 0} (type : LegType L) (old : StripeState L) (block : ℕ) (by
             cc
       ]) refl
 
-  begin-agrees : HasLegs type.model old → HasRecords old → HasChunk old.copy old.chunk old → LegsAgree type.model old → block < old.place.blocks → LegsAgree type.model begun_state
-  begin-agrees has_legs records chunk k inside = record {
+  begin-agrees : HasLegs type.model old → HasRecords old → HasChunk old.copy old.chunk old → LegsAgree type.model old → block < old.place.blocks → RecordFits new_record (stripe_array type.model old) → LegsAgree type.model begun_state
+  begin-agrees has_legs records chunk k inside fits = record {
     reached = λ t r leg is_leg at going free clear. ⊎_elim
         (λ new. absurd (begin-not_reached has_legs chunk inside leg is_leg (subst (λ (x : Record). owes leg x ≡ false) new.1 free) (subst (λ (x : Record). is_clear leg x.block begun_state ≡ true) new.1 clear)))
         (λ was. k.reached t r leg is_leg was.1 going free (begin-clear leg r.block clear))
         (new_cases old.tickets t old.records new_record r records.tickets refl at);
     alike = λ leg b is_leg inside_b none clear. k.alike leg b is_leg inside_b (busy-front b old.records (new_record ∷ []) none) (begin-clear leg b clear);
     last = subst (λ xs. EndsIn old.kept xs) (sym begin-array) k.last;
+    unlanded = λ t r at none. subst (λ xs. RecordFits r xs) (sym begin-array) (⊎_elim
+        (λ new. subst (λ (x : Record). RecordFits x (stripe_array type.model old)) (sym new.1) fits)
+        (λ was. k.unlanded t r was.1 none)
+        (new_cases old.tickets t old.records new_record r records.tickets refl at));
     buffer = λ c h copy_is chunk_is.
         let was = k.buffer c h copy_is chunk_is in
         record {
@@ -205,23 +219,23 @@ module _ {L : Type 0} (type : LegType L) (old : StripeState L) (block : ℕ) (by
         };
   }
 
-  pub begin-keeps : Keeps type old → MayBegin old block → block < old.place.blocks → FillsBlock bytes → Keeps type begun_state
-  begin-keeps k may inside fills = record {
+  pub begin-keeps : Keeps type old → MayBegin old block → block < old.place.blocks → FillsBlock bytes → LiesInside (span_of bytes) → (IsTrue type.honest → RecordFits new_record (stripe_array type.model old)) → Keeps type begun_state
+  begin-keeps k may inside fills lies fits = record {
     legs = begin-legs k.legs;
-    records = begin-records k.legs k.records may inside fills;
+    records = begin-records k.legs k.records may inside fills lies;
     writes = begin-writes k.legs k.records k.chunk k.writes may inside;
     chunk = begin-chunk k.legs k.chunk;
     numbers = begin-numbers k.numbers may;
     turn = k.turn;
     consistent = k.consistent;
-    agrees = λ is_honest runs. begin-agrees k.legs k.records k.chunk (k.agrees is_honest runs) inside;
+    agrees = λ is_honest runs. begin-agrees k.legs k.records k.chunk (k.agrees is_honest runs) inside (fits is_honest);
   }
 
   -- the life of each write goes on by this begin alone
-  begin-lives : HasRecords old → (t : ℕ) → WriteLives t (write_life old t) (BeginsWrite old.tickets block (written new_record) ∷ []) (write_life begun_state t)
+  begin-lives : HasRecords old → (t : ℕ) → WriteLives t (write_life old t) (BeginsWrite old.tickets block (put_by new_record) ∷ []) (write_life begun_state t)
   begin-lives k t = (
     write_life begun_state t,
-    (elim (old.tickets == t) as (λ b. (old.tickets == t) ≡ b → MatchBool b ((write_life old t ≡ NotBegun) × (write_life begun_state t ≡ Begun block (written new_record))) (write_life begun_state t ≡ write_life old t)) [
+    (elim (old.tickets == t) as (λ b. (old.tickets == t) ≡ b → MatchBool b ((write_life old t ≡ NotBegun) × (write_life begun_state t ≡ Begun block (put_by new_record))) (write_life begun_state t ≡ write_life old t)) [
       | true ↦ λ is.
           let at : old.tickets ≡ t = same old.tickets t is in
           let not_given : nat_lt t old.tickets ≡ false = grind (arith, nat_tests) in
@@ -237,7 +251,7 @@ module _ {L : Type 0} (type : LegType L) (old : StripeState L) (block : ℕ) (by
     refl,
   )
 
-  pub begin-acts : Keeps type old → Acts type.model old begun_state (BeginsWrite old.tickets block (written new_record) ∷ [])
+  pub begin-acts : Keeps type old → Acts type.model old begun_state (BeginsWrite old.tickets block (put_by new_record) ∷ [])
   begin-acts k = record {
     explained = record {
       legal = begin-array;
@@ -250,20 +264,76 @@ module _ {L : Type 0} (type : LegType L) (old : StripeState L) (block : ℕ) (by
     first = refl;
   }
 
--- a begin keeps what every stripe keeps
-pub begins-keeps : {L : Type 0} (type : LegType L) (old new : StripeState L) (block : ℕ) (bytes : Data) (ticket : ℕ) → Keeps type old → Begins old new block bytes ticket → block < old.place.blocks → FillsBlock bytes → Keeps type new
-begins-keeps type old new block bytes ticket k begins inside fills =
-    subst (λ s. Keeps type s) (sym begins.after) (begin-keeps type old block bytes k (may_begin old block begins.no_cause) inside fills)
+module _ {L : Type 0} (type : LegType L) (old new : StripeState L) (block : ℕ) (bytes : Data) where
+  -- the read of a part's block changed no contents, and whole data call no leg
+  base-same : (part : Bool) (base : Block) → ReadsBase type part old new.legs block base → SameContents type old new.legs
+  base-same false base same = record {
+    count = ap (λ xs. length xs) same;
+    lengths = λ leg. ap (λ xs. length (contents_of type.model xs leg)) same;
+    contents = λ is_honest leg. ap (λ xs. contents_of type.model xs leg) same;
+  }
+  base-same true base reads = read-same type old new.legs true old.master block reads.0 base reads.1
 
--- and is explained by the begin of its write
-pub begins-acts : {L : Type 0} (type : LegType L) (old new : StripeState L) (block : ℕ) (bytes : Data) (ticket : ℕ) → Keeps type old → Begins old new block bytes ticket → Acts type.model old new (BeginsWrite ticket block (block_of (bytes_of bytes)) ∷ [])
-begins-acts type old new block bytes ticket k begins =
-    subst (λ s. Acts type.model old s (BeginsWrite ticket block (block_of (bytes_of bytes)) ∷ [])) (sym begins.after)
-    (subst (λ (t : ℕ). Acts type.model old (after_begin old block bytes) (BeginsWrite t block (block_of (bytes_of bytes)) ∷ [])) (sym begins.next) (begin-acts type old block bytes k))
+  module _ (ticket : ℕ) (k : Keeps type old) (b : Begins type old new block bytes ticket) where
+    -- the stripe with the legs that the read left
+    abbrev mid : StripeState L
+    mid = record old { legs = new.legs }
 
-pub begins-explained : {L : Type 0} (type : LegType L) (old new : StripeState L) (block : ℕ) (bytes : Data) (ticket : ℕ) → Keeps type old → Begins old new block bytes ticket → IsExplainedStep type.model (BeginsWrite ticket block (block_of (bytes_of bytes)) ∷ []) old new
-begins-explained type old new block bytes ticket k begins = record {
-  events = BeginsWrite ticket block (block_of (bytes_of bytes)) ∷ [];
+    mid-same : SameContents type old new.legs
+    mid-same = base-same (is_part bytes) b.base b.reads
+
+    mid-keeps : Keeps type mid
+    mid-keeps = called-keeps type old new.legs mid-same k
+
+    may : MayBegin mid block
+    may = may_begin mid block b.no_cause
+
+    -- the base is what the array has at the block
+    base-at : IsTrue type.honest → is_part bytes ≡ true → slice_get (stripe_array type.model mid) block ≡ Some b.base
+    base-at is_honest part =
+        let reads : ReadsBase type true old new.legs block b.base = subst (λ (p : Bool). ReadsBase type p old new.legs block b.base) part b.reads in
+        (array-at type.model mid block).free may.free
+        ∙ ap (λ xs. slice_get xs block) (mid-same.contents is_honest old.master)
+        ∙ reads-found type old.legs new.legs old.master block reads.0 b.base is_honest reads.1
+
+    base-inside : block < old.place.blocks → block < length (stripe_array type.model mid)
+    base-inside inside = omega (arith, inside, length-array type.model mid, mid-keeps.legs.lengths old.master (master_inside type.model mid mid-keeps.legs))
+
+    -- a begin keeps what every stripe keeps
+    begun-keeps : block < old.place.blocks → FitsBlock bytes → Keeps type new
+    begun-keeps inside fits =
+        subst (λ s. Keeps type s) (sym b.after)
+        (begin-keeps type mid block (data_over bytes b.base) mid-keeps may inside (FillsBlock-data_over bytes b.base b.filled fits) (LiesInside-data_over bytes b.base fits)
+        (λ is_honest. fits-over old.tickets block bytes b.base (stripe_array type.model mid) b.filled fits (base-inside inside) (base-at is_honest)))
+
+    -- and is explained by the begin of its write
+    begun-acts : FitsBlock bytes → IsTrue type.honest → Acts type.model old new (BeginsWrite ticket block (put_of_data bytes) ∷ [])
+    begun-acts fits is_honest =
+        let begin : Event = BeginsWrite old.tickets block (put_by (new_record type mid block (data_over bytes b.base))) in
+        let acts : Acts type.model old new (begin ∷ []) = subst (λ s. Acts type.model old s (begin ∷ [])) (sym b.after)
+        (acts-append type.model old mid (after_begin mid block (data_over bytes b.base)) [] (begin ∷ []) (called-acts type old new.legs mid-same is_honest k) (begin-acts type mid block (data_over bytes b.base) mid-keeps)) in
+        let put = put-over bytes b.base b.filled fits in
+        subst (λ (t : ℕ). Acts type.model old new (BeginsWrite t block (put_of_data bytes) ∷ [])) (sym b.next)
+        (subst (λ (p : Put). Acts type.model old new (BeginsWrite old.tickets block p ∷ [])) put acts)
+
+pub begins-keeps : {L : Type 0} (type : LegType L) (old new : StripeState L) (block : ℕ) (bytes : Data) (ticket : ℕ) → Keeps type old → Begins type old new block bytes ticket → block < old.place.blocks → FitsBlock bytes → Keeps type new
+begins-keeps type old new block bytes ticket k begins = begun-keeps type old new block bytes ticket k begins
+
+pub begins-acts : {L : Type 0} (type : LegType L) (old new : StripeState L) (block : ℕ) (bytes : Data) (ticket : ℕ) → Keeps type old → Begins type old new block bytes ticket → FitsBlock bytes → IsTrue type.honest → Acts type.model old new (BeginsWrite ticket block (put_of_data bytes) ∷ [])
+begins-acts type old new block bytes ticket k begins = begun-acts type old new block bytes ticket k begins
+
+pub begins-explained : {L : Type 0} (type : LegType L) (old new : StripeState L) (block : ℕ) (bytes : Data) (ticket : ℕ) → Keeps type old → Begins type old new block bytes ticket → FitsBlock bytes → IsTrue type.honest → IsExplainedStep type.model (BeginsWrite ticket block (put_of_data bytes) ∷ []) old new
+begins-explained type old new block bytes ticket k begins fits is_honest = record {
+  events = BeginsWrite ticket block (put_of_data bytes) ∷ [];
   marked = refl;
-  acts = begins-acts type old new block bytes ticket k begins;
+  acts = begins-acts type old new block bytes ticket k begins fits is_honest;
+}
+
+-- a part's begin that failed at the last leg in sync changes no more than the leg's count of faults
+pub fails_in_begin-explained : {L : Type 0} (type : LegType L) (old new : StripeState L) (block : ℕ) (bytes : Data) → IsTrue type.honest → Keeps type old → FailsInBegin type old new block bytes → IsExplainedStep type.model [] old new
+fails_in_begin-explained type old new block bytes is_honest k f = record {
+  events = [];
+  marked = refl;
+  acts = subst (λ s. Acts type.model old s []) (sym f.after)
+      (called-acts type old new.legs (read-same type old new.legs false old.master block f.called.target f.called.found f.called.reads) is_honest k);
 }

@@ -27,6 +27,7 @@ use Rattle.nm_rules.proofs.CopyReadLemmas.{chunk-free, chunk-master}
 use Rattle.nm_rules.proofs.LegLemmas.{calls-length, calls-lengths, writes-contents, writes-other, writes-other_block}
 use Rattle.nm_rules.proofs.RecordLemmas.{busy_none, one_or_two}
 use Rattle.nm_rules.proofs.StateLemmas.{joining_inside}
+use Rattle.nm_rules.proofs.SpanLemmas.{AllFit}
 
 module _ {L : Type 0} (type : LegType L) (s : StripeState L) (leg : ℕ) (copy : CopyPlace) (chunk : Chunk) (k : Keeps type s) (r : Ready type s leg copy chunk)
     (runs : s.stopped ≡ false) (legs : List L) (bytes : Block) (filled : length chunk.blocks ≡ chunk.length) (next : slice_get chunk.blocks chunk.written ≡ Some bytes)
@@ -143,6 +144,7 @@ module _ {L : Type 0} (type : LegType L) (s : StripeState L) (leg : ℕ) (copy :
             (here ∙ ap (λ (xs : List Block). slice_get xs (copy_start s.place.region copy + i)) (sym master-same))))
             (f.clear j block within clear);
         last = subst (λ (xs : List Block). EndsIn s.kept xs) (sym (array-same s.records)) agree.last;
+        unlanded = subst (λ (xs : List Block). AllFit s.records xs) (sym (array-same s.records)) agree.unlanded;
         buffer = f.buffer is_honest;
       }
 

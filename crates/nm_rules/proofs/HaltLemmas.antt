@@ -2,10 +2,12 @@
 -- leg; a read, a sync and a copy's read leave the stripe as it was, but for the leg.
 use Rattle.std.proofs.Common.{◌≡◌, ℕ, true, false, IsTrue, List, [], length, ◌+◌, sym, ◌∙◌, subst, arith}
 use Rattle.nm_replay.specs.declared.block.Block.{Block}
+use Rattle.nm_fanout.specs.declared.block_data.Data.{Data}
 use Rattle.nm_leg.specs.Leg.{LegType}
 use Rattle.nm_regions.specs.Sound.{AreSizes}
 use Rattle.nm_rules.specs.Acts.{Acts}
 use Rattle.nm_rules.specs.Array.{contents_of}
+use Rattle.nm_rules.specs.Begin.{FailsInBegin}
 use Rattle.nm_rules.specs.Copy.{FailsInCopy}
 use Rattle.nm_rules.specs.Invariant.{Keeps}
 use Rattle.nm_rules.specs.Push.{Halts}
@@ -88,6 +90,16 @@ module _ {L : Type 0} (type : LegType L) (old : StripeState L) where
 
     pub read_fault-acts : (block : ℕ) (bytes : Block) → FailsInRead type old new block bytes → IsTrue type.honest → Acts type.model old new []
     read_fault-acts block bytes f = fault-acts (in_read block bytes f) f.after
+
+    -- a begin of a part, whose block is read from the master
+    in_begin : (block : ℕ) (bytes : Data) → FailsInBegin type old new block bytes → SameContents type old new.legs
+    in_begin block bytes f = read-same type old new.legs false old.master block f.called.target f.called.found f.called.reads
+
+    pub begin_fault-keeps : (block : ℕ) (bytes : Data) → FailsInBegin type old new block bytes → Keeps type new
+    begin_fault-keeps block bytes f = fault-keeps (in_begin block bytes f) f.after
+
+    pub begin_fault-acts : (block : ℕ) (bytes : Data) → FailsInBegin type old new block bytes → IsTrue type.honest → Acts type.model old new []
+    begin_fault-acts block bytes f = fault-acts (in_begin block bytes f) f.after
 
     -- a sync
     pub sync_fault-keeps : (leg : ℕ) → FailsInSync type old new leg → Keeps type new

@@ -13,6 +13,7 @@ pub mod CopyMoveLemmas
 pub mod CopyReadLemmas
 pub mod CopySteps
 pub mod CopyWriteLemmas
+pub mod DataLemmas
 pub mod DirtyLemmas
 pub mod DurableLegLemmas
 pub mod ElectLemmas
@@ -53,5 +54,6 @@ pub mod ReplaceLemmas
 pub mod SettledLemmas
 pub mod ShapeLemmas
 pub mod SoundLemmas
+pub mod SpanLemmas
 pub mod StateLemmas
 pub mod WorkLemmas

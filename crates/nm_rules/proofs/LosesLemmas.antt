@@ -8,7 +8,7 @@ use Rattle.nm_replay.specs.declared.block.Block.{Block}
 use Rattle.nm_choice.specs.declared.leg_state.LegState.{LegState}
 use Rattle.nm_choice.specs.Choice.{place_of}
 use Rattle.nm_fanout.specs.declared.write_record.Record.{Record}
-use Rattle.nm_fanout.specs.Data.{bytes_of}
+use Rattle.nm_fanout.specs.RecordData.{bytes_of}
 use Rattle.nm_fanout.specs.Record.{owes}
 use Rattle.nm_fanout.proofs.Owed.{owes-under_way}
 use Rattle.nm_leg.specs.Leg.{CallsLeg, LegType}

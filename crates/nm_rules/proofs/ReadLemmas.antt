@@ -106,6 +106,7 @@ module _ {L : Type 0} (type : LegType L) (old : StripeState L) (legs : List L) (
         reached = agree.reached;
         alike = agree.alike;
         last = subst (λ xs. EndsIn new.kept xs) (sym (array_stays is_honest)) (read-ends is_honest inside);
+        unlanded = agree.unlanded;
         buffer = λ copy chunk copy_at chunk_at.
             let was = agree.buffer copy chunk copy_at chunk_at in
             record { read = was.read; written = was.written };

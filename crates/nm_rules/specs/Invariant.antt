@@ -12,7 +12,7 @@ use Rattle.nm_regions.specs.LegFlags.{is_behind}
 use Rattle.nm_regions.specs.Sound.{AreSizes, AllHave}
 use Rattle.nm_regions.specs.Table.{leg_at, region_of, place_of, regions_of, length_of, lowest_behind, has_behind, has_copied}
 use Rattle.nm_rules.specs.State.{StripeState, Chunk, copy_start, leg_state, is_current, is_copied_now, is_out, is_writing, next_number, table}
-use Rattle.nm_rules.specs.Array.{contents_of, stripe_array, written}
+use Rattle.nm_rules.specs.Array.{contents_of, stripe_array, written, UnlandedFit}
 
 -- whether the leg is not behind at the block, were it out or not
 abbrev pub is_clear : {L : Type 0} → ℕ → ℕ → StripeState L → Bool
@@ -115,8 +115,9 @@ pub record HoldsArray {L : Type 0} (model : L → Leg) (copy : CopyPlace) (chunk
       (copy_start stripe.place.region copy + i)
       ≡ slice_get (stripe_array model stripe) (copy_start stripe.place.region copy + i)
 
--- honest legs of a stripe that runs: where a leg is clear it holds the bytes of the write under way,
--- unless that owes it, else what the master holds; the last kept entry on each block is the array's
+-- honest legs of a stripe that runs: where a leg is clear it holds the bytes of the write under
+-- way, unless that owes it, else what the master holds; the last kept entry on each block is the
+-- array's, and each write that has no entry yet fits the array
 pub record LegsAgree {L : Type 0} (model : L → Leg) (stripe : StripeState L) : Type 0 where
   pub reached : (t : ℕ) (r : Record) (leg : ℕ) → leg < length stripe.legs
       → find_record t stripe.records ≡ Some r → is_under_way r ≡ true → owes leg r ≡ false
@@ -127,6 +128,7 @@ pub record LegsAgree {L : Type 0} (model : L → Leg) (stripe : StripeState L) :
       → slice_get (contents_of model stripe.legs leg) block
       ≡ slice_get (contents_of model stripe.legs stripe.master) block
   pub last : EndsIn stripe.kept (stripe_array model stripe)
+  pub unlanded : UnlandedFit model stripe
   pub buffer : (copy : CopyPlace) (chunk : Chunk) → stripe.copy ≡ Some copy
       → stripe.chunk ≡ Some chunk → HoldsArray model copy chunk stripe
 

@@ -1,9 +1,9 @@
 -- The steps of a script name blocks and legs of its stripe, before and after each step.
-use Rattle.std.proofs.Common.{◌≡◌, ℕ, ◌<◌, zero, suc, List, [], ◌∷◌, length, Some, get_or, refl, sym, ap, subst, ◌∙◌, arith}
-use Rattle.std.specs.List.{AllByRecursion, AllZip, slice_get}
-use Rattle.std.proofs.lemmas.List.{length-replicate}
-use Rattle.nm_fanout.proofs.DataLemmas.{length-zero_block}
-use Rattle.nm_leg.specs.LegCalls.{EachHas}
+use Rattle.std.proofs.Common.{◌≡◌, ℕ, ◌<◌, ◌≤◌, zero, suc, List, [], ◌∷◌, length, take, replicate, get_or, refl, sym, ap, subst, ◌∙◌, arith}
+use Rattle.std.specs.List.{AllByRecursion, AllZip}
+use Rattle.std.proofs.lemmas.List.{length-replicate, take-replicate}
+use Rattle.nm_fanout.specs.declared.block_data.Data.{Data}
+use Rattle.nm_fanout.specs.declared.block_data.Data.TheVariants.{Part}
 use Rattle.nm_leg.specs.TestLegs.{of_fuse}
 use Rattle.nm_leg.specs.declared.fuse_leg.FuseLeg.{FuseLeg}
 use Rattle.nm_stripe.specs.declared.answer.Answer.{Answer}
@@ -15,8 +15,8 @@ use Rattle.nm_script_lib.specs.declared.mirror_line.MirrorLine.{MirrorLine}
 use Rattle.nm_script_lib.specs.declared.step.Step.{Step}
 use Rattle.nm_script_lib.specs.declared.step.Step.TheVariants.{Ask}
 use Rattle.nm_script_lib.specs.declared.step.StripeStep.{StripeStep}
-use Rattle.nm_script_lib.specs.declared.step.StripeStep.TheVariants.{Begin, Zero, Push, Claim, Read, Fail, Attach, Replace, Copy, Promote, Sync}
-use Rattle.nm_script_lib.specs.Grammar.{IsStepLine, IsScript, mirror_form, step_form, leg_form, look_form}
+use Rattle.nm_script_lib.specs.declared.step.StripeStep.TheVariants.{Begin, Zero, Patch, Push, Claim, Read, Fail, Attach, Replace, Copy, Promote, Sync}
+use Rattle.nm_script_lib.specs.Grammar.{IsStepLine, IsScript, mirror_form, step_form, patch_args, leg_form, look_form}
 use Rattle.nm_script_lib.specs.MemStripe.{MemStripe, InRange, IsNew, HasShape, IsInside, IsAsked, IsFilled, filled_block, fuse_legs}
 use Rattle.nm_script_lib.proofs.FormLaws.{Always, line_always}
 use Rattle.nm_script_lib.proofs.Legs.{new_lengths, filled_length}
@@ -40,13 +40,25 @@ fills_block : (fill : ℕ) → length (filled_block fill) ≡ 512
 unfolding filled_block
 fills_block fill = length-replicate 512 fill
 
+-- the front of a block of one byte
+pub cut_filled : (start len fill : ℕ) (whole bytes : List ℕ) → len ≤ 512 →
+    whole ≡ filled_block fill → bytes ≡ take len whole →
+    Part start bytes ≡ Part start (replicate len fill)
+unfolding filled_block
+cut_filled start len fill whole bytes few is cut =
+    ap (λ (xs : List ℕ). let made : Data = Part start xs in made)
+    (cut ∙ (ap (λ xs. take len xs) is ∙ take-replicate len 512 fill few))
+
 -- what a step inside the mirror asks of the stripe may be asked
 pub may_ask : (m : MirrorLine) (step : StripeStep) (asked : MachineStep FuseLeg) (stripe : MemStripe) →
     HasShape m stripe → IsInside m (Ask step) → IsAsked m step asked →
     MayBeAsked of_fuse stripe asked
 may_ask m (Begin block fill) asked stripe has inside is =
     rw (is, has.blocks) (inside, fills_block fill)
-may_ask m (Zero block) asked stripe has inside is = rw (is, has.blocks) (inside, length-zero_block)
+may_ask m (Zero block) asked stripe has inside is = rw (is, has.blocks) (inside, tt)
+may_ask m (Patch block start len fill) asked stripe has inside is =
+    let size : length (replicate len fill) ≡ len = length-replicate len fill in
+    rw (is, has.blocks) (inside.0, (omega (arith, inside.1, size), omega (arith, inside.2, size)))
 may_ask m (Push ticket leg) asked stripe has inside is = rw (is, has.legs) inside
 may_ask m (Claim ticket) asked stripe has inside is = rw is tt
 may_ask m (Read block) asked stripe has inside is = rw (is, has.blocks) inside
@@ -97,6 +109,10 @@ leg_steps_fit m = (
   ),
 )
 
+patch_fits : (m : MirrorLine) → Always (IsInside m) (patch_args m)
+unfolding patch_args
+patch_fits m = λ block low start small len within fill byte. (low, omega (arith, within.0), omega (arith, within.1, small))
+
 steps_fit : (m : MirrorLine) → Always (IsInside m) (step_form m)
 unfolding step_form
 steps_fit m = (
@@ -104,8 +120,11 @@ steps_fit m = (
   (
     (λ block small. small),
     (
-      (λ ticket any leg small. small),
-      ((λ ticket any. tt), ((λ block small. small), leg_steps_fit m)),
+      patch_fits m,
+      (
+        (λ ticket any leg small. small),
+        ((λ ticket any. tt), ((λ block small. small), leg_steps_fit m)),
+      ),
     ),
   ),
 )

@@ -3,8 +3,7 @@ use Rattle.std.proofs.Common.{◌≡◌, true, ℕ, ◌+◌, ◌-◌, ◌/◌, �
 use Rattle.std.specs.List.{AllByRecursion, slice_get}
 use Rattle.std.proofs.lemmas.List.{length-append, length-replicate}
 use Rattle.std.proofs.lemmas.Option.{same_Some}
-use Rattle.nm_replay.specs.declared.block.Block.{Block}
-use Rattle.nm_leg.specs.Leg.{Leg, filled_array, filled_leg}
+use Rattle.nm_leg.specs.Leg.{Leg, filled_array}
 use Rattle.nm_leg.specs.LegCalls.{EachHas}
 use Rattle.nm_leg.specs.TestLegs.{of_fuse}
 use Rattle.nm_leg.specs.declared.fuse_leg.FuseLeg.{FuseLeg}

@@ -1,18 +1,23 @@
 -- A step changes no leg's length.
-use Rattle.std.proofs.Common.{◌≡◌, ⊎_elim, ℕ, ◌<◌, ◌==◌, true, false, cond, List, Some, length, slice_set, inl, inr, refl, sym, ap, subst, ◌∙◌}
+use Rattle.std.proofs.Common.{◌≡◌, ⊎_elim, ℕ, ◌<◌, ◌==◌, Bool, true, false, cond, List, Some, length, slice_set, inl, inr, refl, sym, ap, subst, ◌∙◌}
 use Rattle.std.specs.List.{slice_get}
 use Rattle.std.proofs.lemmas.Bool.{cases_Bool, eqb-true, eqb-false}
 use Rattle.std.proofs.lemmas.Option.{same_Some}
 use Rattle.nm_replay.proofs.Arrays.{slice_get-set_same, slice_get-set_other}
+use Rattle.nm_replay.specs.declared.block.Block.{Block}
+use Rattle.nm_fanout.specs.declared.block_data.Data.{Data}
+use Rattle.nm_fanout.specs.Data.{is_part}
 use Rattle.nm_leg.specs.LegCalls.{EachHas}
 use Rattle.nm_leg.specs.TestLegs.{of_fuse}
 use Rattle.nm_leg.specs.declared.fuse_leg.FuseLeg.{FuseLeg}
 use Rattle.nm_rules.specs.declared.refusal.Refusal.{Refusal}
+use Rattle.nm_rules.specs.Begin.{ReadsBase}
 use Rattle.nm_rules.specs.Lost.{failed_over, lost, settled, without_leg_of}
 use Rattle.nm_stripe.specs.declared.answer.Answer.{Answer}
 use Rattle.nm_stripe.specs.declared.answer.Answer.TheVariants.{Begun, Pushed, Complete, Halted, Written, Value, Failed, MasterChanged, Joining, Copied, Nothing, InSync, Synced, LegLost, Refused}
 use Rattle.nm_stripe.specs.declared.step.Step.{Step as MachineStep}
 use Rattle.nm_stripe.specs.declared.step.Step.TheVariants.{Begin, Push, Claim, Read, Fail, Attach, Replace, Copy, Promote, Sync}
+use Rattle.nm_stripe.specs.Begin.{RefusesBegin, ForCause as BeginCause, ForFault as BeginFault}
 use Rattle.nm_stripe.specs.Copy.{RefusesCopy, ForCause as CopyCause, ForFault as CopyFault}
 use Rattle.nm_stripe.specs.Read.{RefusesRead, ForCause as ReadCause, ForFault as ReadFault}
 use Rattle.nm_stripe.specs.Sync.{RefusesSync, ForCause as SyncCause, ForFault as SyncFault}
@@ -49,6 +54,15 @@ set_long blocks legs leg part inside e long = λ place x found. elim (cases_Bool
       long place x (sym (slice_get-set_other legs leg place part (eqb-false leg place other)) ∙ found)
 ]
 
+begin_refused : (blocks : ℕ) (old new : MemStripe) (block : ℕ) (bytes : Data) (given : Refusal) → RefusesBegin fuse_legs old new block bytes given → Long blocks old → Long blocks new
+begin_refused blocks old new block bytes given (BeginCause cause is) long = same blocks old new is long
+begin_refused blocks old new block bytes given (BeginFault is fails) long = fails.called.reads.change.lengths blocks long
+
+-- a begin reads a leg, or none
+begin_long : (blocks : ℕ) (part : Bool) (old : MemStripe) (legs : List FuseLeg) (block : ℕ) (base : Block) → ReadsBase fuse_legs part old legs block base → EachHas of_fuse old.legs blocks → EachHas of_fuse legs blocks
+begin_long blocks false old legs block base stays long = subst (λ (ls : List FuseLeg). EachHas of_fuse ls blocks) (sym stays) long
+begin_long blocks true old legs block base reads long = reads.1.change.lengths blocks long
+
 read_refused : (blocks : ℕ) (old new : MemStripe) (block : ℕ) (given : Refusal) → RefusesRead fuse_legs old new block given → Long blocks old → Long blocks new
 read_refused blocks old new block given (ReadCause cause is) long = same blocks old new is long
 read_refused blocks old new block given (ReadFault is found fails) long = fails.called.reads.change.lengths blocks long
@@ -64,8 +78,9 @@ sync_refused blocks old new leg given (SyncFault is fails) long = fails.called.s
 pub step_lengths : (blocks : ℕ) (step : MachineStep FuseLeg) (answer : Answer FuseLeg)
     (old new : MemStripe) → old.place.blocks ≡ blocks → MayBeAsked of_fuse old step →
     StepOf fuse_legs step answer old new → Long blocks old → Long blocks new
-step_lengths blocks (Begin block bytes) (Begun ticket) old new size may is long = same_legs blocks old new (ap (λ (s : MemStripe). s.legs) is.after) long
-step_lengths blocks (Begin block bytes) (Refused cause handed) old new size may is long = same blocks old new is.2 long
+step_lengths blocks (Begin block bytes) (Begun ticket) old new size may is long = begin_long blocks (is_part bytes) old new.legs block is.base is.reads long
+step_lengths blocks (Begin block bytes) (LegLost gone handed) old new size may is long = is.0.called.reads.change.lengths blocks long
+step_lengths blocks (Begin block bytes) (Refused cause handed) old new size may is long = begin_refused blocks old new block bytes cause is.0 long
 step_lengths blocks (Push ticket leg) (Pushed count) old new size may is long = is.0.called.writes.change.lengths blocks long
 step_lengths blocks (Push ticket leg) (Complete number) old new size may is long = is.0.called.writes.change.lengths blocks long
 step_lengths blocks (Push ticket leg) (LegLost gone handed) old new size may is long = is.0.1.called.writes.change.lengths blocks long

@@ -4,8 +4,17 @@ use Rattle.std.specs.List.{AllZip, AllByRecursion}
 use Rattle.nm_script_lib.specs.declared.mirror_line.MirrorLine.{MirrorLine}
 use Rattle.nm_script_lib.specs.declared.step.Step.{Step}
 use Rattle.nm_script_lib.specs.declared.step.Step.TheVariants.{Ask, Fuse, Peek, State}
-use Rattle.nm_script_lib.specs.declared.step.StripeStep.TheVariants.{Begin, Zero, Push, Claim, Read, Fail, Attach, Replace, Copy, Promote, Sync}
+use Rattle.nm_script_lib.specs.declared.step.StripeStep.TheVariants.{Begin, Zero, Patch, Push, Claim, Read, Fail, Attach, Replace, Copy, Promote, Sync}
 use Rattle.nm_script_lib.specs.Forms.{Number, Below, Within, Byte, Form, Makes, Then, ThenPolicy, NoForm, one, two, keywords, IsLine, AreSeparated}
+
+-- The arguments of a write of a part of a block: which block, from which of its bytes on, how many
+-- bytes, which end inside the block, and the byte that they all are.
+unfoldable pub patch_args : MirrorLine → Form Step
+patch_args m =
+    Then (Below m.blocks) (λ block.
+    Then (Below 512) (λ start.
+    Then (Within 1 (512 - start)) (λ len.
+    Then Byte (λ fill. Makes (Ask (Patch block start len fill))))))
 
 -- The steps that the stripe has no part in: each one's word, its arguments, and the step.
 unfoldable pub look_form : MirrorLine → Form Step
@@ -30,6 +39,7 @@ unfoldable pub step_form : MirrorLine → Form Step
 step_form m = keywords (
     (codes "begin", two (Below m.blocks) Byte (λ block fill. Ask (Begin block fill))) ∷
     (codes "zero", one (Below m.blocks) (λ block. Ask (Zero block))) ∷
+    (codes "patch", patch_args m) ∷
     (codes "push", two Number (Below m.legs) (λ ticket leg. Ask (Push ticket leg))) ∷
     (codes "claim", one Number (λ ticket. Ask (Claim ticket))) ∷
     (codes "read", one (Below m.blocks) (λ block. Ask (Read block))) ∷ [])

@@ -1,7 +1,7 @@
 -- The stripe that a script runs: legs in memory, each with a fuse, of zero bytes and all in sync.
-use Rattle.std.specs.Prelude.{◌≡◌, true, ℕ, ◌<◌, ◌≤◌, ◌^◌, ◌-◌, List, length, replicate, Option, None, Some}
+use Rattle.std.specs.Prelude.{◌≡◌, true, ℕ, ◌+◌, ◌<◌, ◌≤◌, ◌^◌, ◌-◌, List, length, replicate, Option, None, Some}
 use Rattle.std.specs.List.{AllByRecursion}
-use Rattle.nm_fanout.specs.declared.block_data.Data.TheVariants.{Cut, Zero as Zeroes}
+use Rattle.nm_fanout.specs.declared.block_data.Data.TheVariants.{Cut, Zero as Zeroes, Part}
 use Rattle.nm_leg.specs.Leg.{LegType, leg_type, filled_leg}
 use Rattle.nm_leg.specs.LegCalls.{EachHas}
 use Rattle.nm_leg.specs.TestLegs.{of_fuse}
@@ -17,7 +17,7 @@ use Rattle.nm_script_lib.specs.declared.mirror_line.MirrorLine.{MirrorLine}
 use Rattle.nm_script_lib.specs.declared.step.Step.{Step}
 use Rattle.nm_script_lib.specs.declared.step.Step.TheVariants.{Ask, Fuse, Peek, State}
 use Rattle.nm_script_lib.specs.declared.step.StripeStep.{StripeStep}
-use Rattle.nm_script_lib.specs.declared.step.StripeStep.TheVariants.{Begin, Zero, Push, Claim, Read, Fail, Attach, Replace, Copy, Promote, Sync}
+use Rattle.nm_script_lib.specs.declared.step.StripeStep.TheVariants.{Begin, Zero, Patch, Push, Claim, Read, Fail, Attach, Replace, Copy, Promote, Sync}
 
 -- The type of a script's legs: all of them are honest.
 abbrev pub fuse_legs : LegType FuseLeg
@@ -65,10 +65,12 @@ pub record HasShape (m : MirrorLine) (stripe : MemStripe) : Type 0 where
   pub legs : length stripe.legs ≡ m.legs
   pub each : EachHas of_fuse stripe.legs m.blocks
 
--- The step names blocks and legs that the mirror has.
+-- The step names blocks and legs that the mirror has, and bytes that a block has.
 abbrev pub IsInside : MirrorLine → Step → Type 0
 IsInside m (Ask (Begin block fill)) = block < m.blocks
 IsInside m (Ask (Zero block)) = block < m.blocks
+IsInside m (Ask (Patch block start len fill)) =
+    (block < m.blocks) × (0 < len) × (start + len ≤ 512)
 IsInside m (Ask (Push ticket leg)) = leg < m.legs
 IsInside m (Ask (Claim ticket)) = Unit {0}
 IsInside m (Ask (Read block)) = block < m.blocks
@@ -86,10 +88,13 @@ IsInside m State = Unit {0}
 unfoldable pub filled_block : ℕ → List ℕ
 filled_block fill = replicate 512 fill
 
--- What a step of a script asks of the stripe. A begin hands in 512 bytes, a replace a new leg.
+-- What a step of a script asks of the stripe. A begin hands in 512 bytes, a patch as many as it
+-- names, a replace a new leg.
 abbrev pub IsAsked : MirrorLine → StripeStep → MachineStep FuseLeg → Type 0
 IsAsked m (Begin block fill) asked = asked ≡ BeginStep block (Cut (filled_block fill))
 IsAsked m (Zero block) asked = asked ≡ BeginStep block Zeroes
+IsAsked m (Patch block start len fill) asked =
+    asked ≡ BeginStep block (Part start (replicate len fill))
 IsAsked m (Push ticket leg) asked = asked ≡ PushStep ticket leg
 IsAsked m (Claim ticket) asked = asked ≡ ClaimStep ticket
 IsAsked m (Read block) asked = asked ≡ ReadStep block

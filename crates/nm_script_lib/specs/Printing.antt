@@ -4,7 +4,7 @@ use Rattle.std.specs.List.{flat_map, list_all}
 use Rattle.nm_replay.specs.declared.block.Block.{Block}
 use Rattle.nm_leg.specs.declared.fuse_leg.FuseLeg.{FuseLeg}
 use Rattle.nm_replay.specs.declared.entry.Kind.{Kind}
-use Rattle.nm_replay.specs.declared.entry.Kind.TheVariants.{Read, Write}
+use Rattle.nm_replay.specs.declared.entry.Kind.TheVariants.{Read, Write, Patch}
 use Rattle.nm_replay.specs.declared.entry.Entry.{Entry}
 use Rattle.nm_stripe.specs.declared.answer.Answer.{Answer}
 use Rattle.nm_stripe.specs.declared.answer.Answer.TheVariants.{Begun, Pushed, Complete, Halted, Written, Value}
@@ -56,11 +56,22 @@ holds_text block = codes "holds " ++ fill_text (fill_of block.0)
 abbrev pub kind_text : Kind → List ℕ
 kind_text Read = codes " read "
 kind_text (Write ticket) = codes " write " ++ decimal ticket ++ codes " "
+kind_text (Patch ticket start len) = codes " patch " ++ decimal ticket ++ codes " "
+
+-- Which bytes of its block an entry is of, where it is not of all.
+abbrev pub span_text : Kind → List ℕ
+span_text Read = []
+span_text (Write ticket) = []
+span_text (Patch ticket start len) = decimal start ++ codes " " ++ decimal len ++ codes " "
+
+-- Which block an entry is of, and which of its bytes, where it is not of all.
+abbrev pub place_text : Kind → ℕ → List ℕ
+place_text kind block = decimal block ++ codes " " ++ span_text kind
 
 -- The line of an entry.
 abbrev pub entry_line : Entry → List ℕ
 entry_line e = ended_line
-    (decimal e.seq ++ kind_text e.kind ++ decimal e.block ++ codes " "
+    (decimal e.seq ++ kind_text e.kind ++ place_text e.kind e.block
     ++ fill_text (fill_of e.bytes.0))
 
 -- The line that counts entries: those kept, and all.

@@ -1,5 +1,6 @@
 //! The stripe that a script runs: legs in memory, each with a fuse, of zero bytes and all in sync.
-ghost use Rattle.std.specs.Prelude.{◌≡◌, ℕ, ◌<◌, ◌≤◌, ◌-◌, ◌^◌, length, IfOk, IfErr};
+ghost use Rattle.std.specs.Prelude.{◌≡◌, ℕ, ◌<◌, ◌≤◌, ◌-◌, ◌^◌, length, replicate, IfOk, IfErr};
+ghost use Rattle.nm_fanout.specs.declared.block_data.Data.TheVariants.{Part};
 ghost use Rattle.nm_script_lib.specs.declared.step.Step.TheVariants.{Ask};
 ghost use Rattle.nm_script_lib.specs.MemStripe.{InRange, AreNewLegs, IsNew, HasCall, HasShape, IsInside, IsAsked, filled_block};
 ghost use Rattle.nm_script_lib.specs.RunErrors.{EndsRun};
@@ -81,8 +82,19 @@ fn filled_block(fill: u8) -> [u8; 512]
     [fill; 512]
 }
 
+/// A write of so many bytes of a block, all of them this one, from a place on.
+fn patch(alloc: Global, from: u16, len: u16, fill: u8) -> Result<Data, RunError>
+    requires { len ≤ 512 }
+    ensures part { IfOk result (λ «data». «data» ≡ Part from (replicate len fill)) }
+    ensures cause { IfErr result EndsRun }
+{
+    let bytes = Bytes::copy_from_slice(alloc, &filled_block(fill)[..len as usize])?;
+    Ok(Data::Part { from, bytes })
+}
+
 /// What a step of a script asks of the stripe.
 fn asked(alloc: Global, mirror: &MirrorLine, step: StripeStep) -> Result<Step<FuseLeg>, RunError>
+    requires { IsInside mirror.now (Ask step) }
     ensures asked { IfOk result (λ s. IsAsked mirror.now step s) }
     ensures cause { IfErr result EndsRun }
 {
@@ -92,6 +104,12 @@ fn asked(alloc: Global, mirror: &MirrorLine, step: StripeStep) -> Result<Step<Fu
             Ok(Step::Begin(block, Data::Cut(bytes)))
         }
         StripeStep::Zero { block } => Ok(Step::Begin(block, Data::Zero)),
+        StripeStep::Patch {
+            block,
+            from,
+            len,
+            fill,
+        } => Ok(Step::Begin(block, patch(alloc, from, len, fill)?)),
         StripeStep::Push { ticket, leg } => Ok(Step::Push(ticket, leg)),
         StripeStep::Claim { ticket } => Ok(Step::Claim(ticket)),
         StripeStep::Read { block } => Ok(Step::Read(block)),

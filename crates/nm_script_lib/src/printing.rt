@@ -3,7 +3,7 @@ ghost use Rattle.std.specs.Prelude.{◌≡◌, ℕ, ◌+◌, ◌<◌, List, [], 
 ghost use Rattle.std.specs.Fmt.{digit_glyph};
 ghost use Rattle.nm_script_lib.specs.Forms.{hex_byte};
 ghost use Rattle.nm_rules.specs.Refusal.{text_of};
-ghost use Rattle.nm_script_lib.specs.Printing.{fill_text, ended_line, answer_text, holds_text, kind_text, entry_line, counts_line, legal_line};
+ghost use Rattle.nm_script_lib.specs.Printing.{fill_text, ended_line, answer_text, holds_text, kind_text, span_text, place_text, entry_line, counts_line, legal_line};
 
 use crate::fill::{Fill, fill_of};
 use nm_leg::FuseLeg;
@@ -137,7 +137,34 @@ fn put_kind(text: &mut Vec<u8>, kind: Kind) -> Result<(), AllocError>
             put_number(text, ticket)?;
             put(text, b" ")
         }
+        Kind::Patch(ticket, ..) => {
+            put(text, b" patch ")?;
+            put_number(text, ticket)?;
+            put(text, b" ")
+        }
     }
+}
+
+/// Adds to a text which bytes of its block an entry of this kind is of, where it is not of all.
+fn put_span(text: &mut Vec<u8>, kind: Kind) -> Result<(), AllocError>
+    ensures { OnOk result (text.new.items ≡ text.old.items ++ span_text kind) }
+{
+    if let Kind::Patch(_, from, len) = kind {
+        put_number(text, u64::from(from))?;
+        put(text, b" ")?;
+        put_number(text, u64::from(len))?;
+        put(text, b" ")?;
+    }
+    Ok(())
+}
+
+/// Adds to a text which block an entry of this kind is of, and which of its bytes.
+fn put_place(text: &mut Vec<u8>, kind: Kind, block: u64) -> Result<(), AllocError>
+    ensures { OnOk result (text.new.items ≡ text.old.items ++ place_text kind block) }
+{
+    put_number(text, block)?;
+    put(text, b" ")?;
+    put_span(text, kind)
 }
 
 /// Adds the line of an entry to a text.
@@ -146,8 +173,7 @@ pub fn put_entry(text: &mut Vec<u8>, entry: &Entry) -> Result<(), AllocError>
 {
     put_number(text, entry.seq)?;
     put_kind(text, entry.kind)?;
-    put_number(text, entry.block)?;
-    put(text, b" ")?;
+    put_place(text, entry.kind, entry.block)?;
     put_fill(text, fill_of(&entry.bytes))?;
     put(text, b"\n")
 }

@@ -1,5 +1,5 @@
 ghost use Rattle.std.specs.Prelude.{◌≡◌, ℕ, ◌<◌, ◌∷◌, List, Option};
-ghost use Rattle.nm_script_lib.specs.Grammar.{step_form, leg_form, look_form};
+ghost use Rattle.nm_script_lib.specs.Grammar.{step_form, patch_args, leg_form, look_form};
 ghost use Rattle.nm_script_lib.specs.Reading.{Gives, read, read_line, rest_words};
 
 use crate::mirror_line::MirrorLine;
@@ -22,27 +22,59 @@ pub enum Step {
 #[derive(Clone, Copy, Debug, PartialEq, Eq)]
 pub enum StripeStep {
     /// `begin B HH`: a write of 512 bytes HH to block B begins.
-    Begin { block: u64, fill: u8 },
+    Begin {
+        block: u64,
+        fill: u8,
+    },
     /// `zero B`: a write of zeroes to block B begins.
-    Zero { block: u64 },
+    Zero {
+        block: u64,
+    },
+    /// `patch B FROM LEN HH`: a write of LEN bytes HH to block B, from its byte FROM on, begins.
+    Patch {
+        block: u64,
+        from: u16,
+        len: u16,
+        fill: u8,
+    },
     /// `push T L`: the write of ticket T goes to leg L.
-    Push { ticket: u64, leg: u8 },
+    Push {
+        ticket: u64,
+        leg: u8,
+    },
     /// `claim T`: the finished write of ticket T is taken away.
-    Claim { ticket: u64 },
+    Claim {
+        ticket: u64,
+    },
     /// `read B`: block B is read.
-    Read { block: u64 },
+    Read {
+        block: u64,
+    },
     /// `fail L`: leg L goes out.
-    Fail { leg: u8 },
+    Fail {
+        leg: u8,
+    },
     /// `attach L`: leg L, which is out, joins again.
-    Attach { leg: u8 },
+    Attach {
+        leg: u8,
+    },
     /// `replace L HH`: a leg of bytes HH takes the place of leg L, which is out, and joins.
-    Replace { leg: u8, fill: u8 },
+    Replace {
+        leg: u8,
+        fill: u8,
+    },
     /// `copy L`: one block is read or written for leg L, which is joining.
-    Copy { leg: u8 },
+    Copy {
+        leg: u8,
+    },
     /// `promote L`: leg L, which is joining, is called in sync.
-    Promote { leg: u8 },
+    Promote {
+        leg: u8,
+    },
     /// `sync L`: what leg L holds is made durable.
-    Sync { leg: u8 },
+    Sync {
+        leg: u8,
+    },
 }
 
 /// The step that this word begins, of those that the stripe has no part in, with its arguments.
@@ -96,6 +128,24 @@ fn leg_step_of(mirror: &MirrorLine, word: &[u8], words: &mut Words<'_>) -> Optio
     }))
 }
 
+/// The next words, as the arguments of a write of a part of a block.
+#[tactic(auto, unfolding(crate::specs::Grammar::patch_args))]
+fn patch_of(mirror: &MirrorLine, words: &mut Words<'_>) -> Option<Step>
+    ensures { Gives result (rest_words words.new)
+        (read (patch_args mirror.now) (rest_words words.old)) }
+{
+    let block = words.below(mirror.blocks)?;
+    let from = words.below_u16(512)?;
+    let len = words.within_u16(1, 512 - from)?;
+    let fill = words.byte()?;
+    Some(Step::Ask(StripeStep::Patch {
+        block,
+        from,
+        len,
+        fill,
+    }))
+}
+
 /// The step that this word begins, with its arguments.
 #[tactic(auto, unfolding(crate::specs::Grammar::step_form))]
 fn any_step_of(mirror: &MirrorLine, word: &[u8], words: &mut Words<'_>) -> Option<Step>
@@ -109,6 +159,8 @@ fn any_step_of(mirror: &MirrorLine, word: &[u8], words: &mut Words<'_>) -> Optio
     } else if is_word(word, b"zero") {
         let block = words.below(mirror.blocks)?;
         StripeStep::Zero { block }
+    } else if is_word(word, b"patch") {
+        return patch_of(mirror, words);
     } else if is_word(word, b"push") {
         let ticket = words.number()?;
         let leg = words.below_u8(mirror.legs)?;

@@ -138,6 +138,26 @@ impl<'a> Words<'a> {
         if number < limit { Some(number) } else { None }
     }
 
+    /// The next word, as a number from `least` to `most`, of 16 bits.
+    pub fn within_u16(&mut self, least: u16, most: u16) -> Option<u16>
+        ensures read { Gives result (rest_words self.new)
+            (value_at (Within least most) (rest_words self.old)) }
+        ensures range { IfSome result (λ n. (least ≤ n) × (n ≤ most)) }
+    {
+        let number = self.within(u64::from(least), u64::from(most))?;
+        Some(number as u16)
+    }
+
+    /// The next word, as a number below a limit of 16 bits.
+    pub fn below_u16(&mut self, limit: u16) -> Option<u16>
+        ensures read { Gives result (rest_words self.new)
+            (value_at (Below limit) (rest_words self.old)) }
+        ensures range { IfSome result (λ n. n < limit) }
+    {
+        let found = self.below(u64::from(limit))?;
+        Some(found as u16)
+    }
+
     /// The next word, as a number below a limit of 8 bits.
     pub fn below_u8(&mut self, limit: u8) -> Option<u8>
         ensures { Gives result (rest_words self.new)

@@ -1,4 +1,4 @@
-use nm_replay::Kind::{Read, Write};
+use nm_replay::Kind::{Patch, Read, Write};
 use nm_replay::{BLOCK_BYTES, Block, Entry, Kept, Kind, PlainArray, check, check_indexed};
 use std::alloc::{AllocError, Global};
 use std::test::Fail;
@@ -21,7 +21,7 @@ fn entries(alloc: Global, rows: &[Row]) -> Result<Vec<Entry>, AllocError> {
 }
 
 // Lists judged by hand: what the block holds when an entry comes, and so what it must say.
-const CONSISTENT: [(&str, &[Row]); 10] = [
+const CONSISTENT: [(&str, &[Row]); 14] = [
     ("no entry", &[]),
     ("one read of anything", &[(0, Read, 3, 0x5a)]),
     (
@@ -78,9 +78,37 @@ const CONSISTENT: [(&str, &[Row]); 10] = [
             (2, Read, 3, 0xbb),
         ],
     ),
+    (
+        "a part that is the whole block",
+        &[
+            (0, Write(0), 3, 0xaa),
+            (1, Patch(1, 0, 512), 3, 0xbb),
+            (2, Read, 3, 0xbb),
+        ],
+    ),
+    (
+        "a part of a block that no entry was on",
+        &[(0, Patch(0, 5, 1), 3, 0xaa), (1, Read, 3, 0xaa)],
+    ),
+    (
+        "a part whose bytes were there before",
+        &[
+            (0, Read, 3, 0xaa),
+            (1, Patch(0, 510, 2), 3, 0xaa),
+            (2, Write(1), 3, 0xbb),
+        ],
+    ),
+    (
+        "parts of blocks side by side",
+        &[
+            (0, Write(0), 3, 0xaa),
+            (1, Patch(1, 0, 4), 4, 0xbb),
+            (2, Patch(2, 4, 4), 3, 0xaa),
+        ],
+    ),
 ];
 
-const INCONSISTENT: [(&str, &[Row]); 10] = [
+const INCONSISTENT: [(&str, &[Row]); 15] = [
     (
         "the first of two writes, read again",
         &[
@@ -120,6 +148,38 @@ const INCONSISTENT: [(&str, &[Row]); 10] = [
             (0, Write(0), 3, 0xaa),
             (1, Write(1), 9, 0xbb),
             (2, Read, 9, 0xaa),
+        ],
+    ),
+    (
+        "a part that changes the byte after it",
+        &[(0, Write(0), 3, 0xaa), (1, Patch(1, 0, 511), 3, 0xbb)],
+    ),
+    (
+        "a part that changes the byte before it",
+        &[(0, Write(0), 3, 0xaa), (1, Patch(1, 1, 511), 3, 0xbb)],
+    ),
+    (
+        "a part laid over an older block",
+        &[
+            (0, Write(0), 3, 0xaa),
+            (1, Write(1), 3, 0xbb),
+            (2, Patch(2, 0, 1), 3, 0xaa),
+        ],
+    ),
+    (
+        "a part laid over another part's old block",
+        &[
+            (0, Write(0), 3, 0xaa),
+            (1, Patch(1, 0, 512), 3, 0xbb),
+            (2, Patch(2, 256, 256), 3, 0xaa),
+        ],
+    ),
+    (
+        "the old block, read after a part",
+        &[
+            (0, Write(0), 3, 0xaa),
+            (1, Patch(1, 0, 512), 3, 0xbb),
+            (2, Read, 3, 0xaa),
         ],
     ),
     ("a number left out", &[(0, Read, 3, 0), (2, Read, 3, 0)]),
@@ -227,7 +287,35 @@ fn keeps_what_is_pushed(rt: HostRuntime) -> Result<(), Fail> {
     Ok(())
 }
 
-// An array of zeroes on which four operations are done in order; then what does not fit it.
+// Where one byte of a block changed, a part's entry is right if the byte lies in the part.
+#[test]
+fn finds_each_byte_that_changed_outside_a_part(rt: HostRuntime) -> Result<(), Fail> {
+    for (from, len) in [
+        (0, 1),
+        (511, 1),
+        (5, 7),
+        (1, 511),
+        (0, 511),
+        (0, 512),
+        (510, 2),
+    ] {
+        for place in 0..BLOCK_BYTES {
+            let mut changed = Block::ZERO;
+            changed.0[place] = 1;
+            let patch = Entry {
+                bytes: changed,
+                ..entry((1, Patch(1, from, len), 0, 0))
+            };
+            let list = [entry((0, Write(0), 0, 0)), patch];
+            let is_inside = (from as usize..(from + len) as usize).contains(&place);
+            assert_eq!(rt; check(&list), is_inside);
+            assert_eq!(rt; check_indexed(rt.alloc(), &list, 1)?, is_inside);
+        }
+    }
+    Ok(())
+}
+
+// An array of zeroes on which operations are done in order, with some that do not fit it between.
 #[test]
 fn does_operations_in_order(rt: HostRuntime) -> Result<(), Fail> {
     let mut array = PlainArray::new(rt.alloc(), 4)?;
@@ -239,6 +327,12 @@ fn does_operations_in_order(rt: HostRuntime) -> Result<(), Fail> {
         ((4, Read, 3, 0), false),
         ((4, Read, 4, 0), false),
         ((4, Write(1), 4, 0xbb), false),
+        ((4, Patch(1, 0, 511), 3, 0xbb), false),
+        ((4, Patch(1, 1, 511), 3, 0xbb), false),
+        ((4, Patch(1, 0, 512), 4, 0xbb), false),
+        ((4, Patch(1, 3, 4), 3, 0xaa), true),
+        ((5, Patch(2, 0, 512), 1, 0xcc), true),
+        ((6, Read, 1, 0xcc), true),
         ((4, Write(1), 18_446_744_073_709_551_615, 0xbb), false),
     ];
     for (row, fits) in cases {
@@ -246,7 +340,7 @@ fn does_operations_in_order(rt: HostRuntime) -> Result<(), Fail> {
     }
     let end = [
         Block::ZERO,
-        Block::ZERO,
+        Block([0xcc; BLOCK_BYTES]),
         Block::ZERO,
         Block([0xaa; BLOCK_BYTES]),
     ];

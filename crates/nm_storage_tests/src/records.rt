@@ -1,8 +1,9 @@
 //! The records of writes: one write from its beginning until it is claimed, and a full list.
-ghost use Rattle.std.specs.Prelude.{◌≡◌, length, IfOk};
+ghost use Rattle.std.specs.Prelude.{◌≡◌, ◌≤◌, length, IfOk};
 
 use bytes::{Bytes, BytesMut};
-use nm_fanout::{Data, LEGS, MOST_RECORDS, Records};
+use nm_fanout::{Data, LEGS, MOST_RECORDS, RecordData, Records};
+use nm_replay::Block;
 use std::alloc::{AllocError, Global};
 use std::test::Fail;
 
@@ -10,9 +11,17 @@ use std::test::Fail;
 fn cut(alloc: Global, byte: u8) -> Result<Bytes, AllocError>
     ensures { IfOk result (λ b. length b ≡ 512) }
 {
+    cut_of(alloc, byte, 512)
+}
+
+/// A cut of a receive buffer: so many bytes of one value, 512 at most.
+fn cut_of(alloc: Global, byte: u8, len: usize) -> Result<Bytes, AllocError>
+    requires { len ≤ 512 }
+    ensures { IfOk result (λ b. length b ≡ len) }
+{
     let mut buffer = BytesMut::new(alloc);
     buffer.extend_from_slice(&[byte; 512])?;
-    buffer.freeze_to(512)
+    buffer.freeze_to(len)
 }
 
 /// The places of the eight legs, with these two owed.
@@ -28,7 +37,13 @@ fn owed_to(low: usize, high: usize) -> [bool; LEGS] {
 fn a_write_reaches_its_legs(rt: HostRuntime) -> Result<(), Fail> {
     let mut records = Records::new(rt.alloc())?;
     assert!(rt; records.is_empty());
-    records.begin(7, 3, Data::Cut(cut(rt.alloc(), 0xaa)?), owed_to(0, 1));
+    records.begin(
+        7,
+        3,
+        Data::Cut(cut(rt.alloc(), 0xaa)?),
+        &Block::ZERO,
+        owed_to(0, 1),
+    );
     assert_eq!(rt; records.len(), 1);
     assert_eq!(rt; records.unlanded(), 1);
     assert_eq!(rt; records.busy_on(3), Some(7));
@@ -56,7 +71,13 @@ fn a_write_reaches_its_legs(rt: HostRuntime) -> Result<(), Fail> {
 #[test]
 fn a_record_lends_what_it_holds(rt: HostRuntime) -> Result<(), Fail> {
     let mut records = Records::new(rt.alloc())?;
-    records.begin(7, 3, Data::Cut(cut(rt.alloc(), 0xaa)?), owed_to(2, 7));
+    records.begin(
+        7,
+        3,
+        Data::Cut(cut(rt.alloc(), 0xaa)?),
+        &Block::ZERO,
+        owed_to(2, 7),
+    );
     let record = records.get(7).ok_or("the record of ticket 7")?;
     assert_eq!(rt; record.block, 3);
     assert_eq!(rt; record.data.bytes(), [0xaa; 512].as_slice());
@@ -72,9 +93,89 @@ fn a_record_lends_what_it_holds(rt: HostRuntime) -> Result<(), Fail> {
 
 #[test]
 fn a_write_of_zeroes_needs_no_buffer(rt: HostRuntime) -> Result<(), Fail> {
-    assert!(rt; Data::Zero.fills_block());
-    assert_eq!(rt; Data::Zero.bytes(), [0; 512].as_slice());
-    assert!(rt; !Data::Cut(Bytes::new()).fills_block());
+    assert!(rt; Data::Zero.fits_block());
+    assert!(rt; !Data::Zero.is_part());
+    assert_eq!(rt; RecordData::Zero.bytes(), [0; 512].as_slice());
+    assert!(rt; !Data::Cut(Bytes::new()).fits_block());
+    Ok(())
+}
+
+#[test]
+fn a_part_fits_where_it_ends_inside_the_block(rt: HostRuntime) -> Result<(), Fail> {
+    assert!(rt; Data::ZeroPart { from: 0, len: 512 }.fits_block());
+    assert!(rt; Data::ZeroPart { from: 511, len: 1 }.fits_block());
+    assert!(rt; !Data::ZeroPart { from: 511, len: 2 }.fits_block());
+    assert!(rt; !Data::ZeroPart { from: 512, len: 0 }.fits_block());
+    let long = cut(rt.alloc(), 0xaa)?;
+    assert!(rt;
+        Data::Part {
+            from: 0,
+            bytes: long
+        }
+        .fits_block()
+    );
+    let long = cut(rt.alloc(), 0xaa)?;
+    assert!(rt;
+        !Data::Part {
+            from: 1,
+            bytes: long
+        }
+        .fits_block()
+    );
+    let none = Bytes::new();
+    assert!(rt;
+        !Data::Part {
+            from: 0,
+            bytes: none
+        }
+        .fits_block()
+    );
+    Ok(())
+}
+
+#[test]
+fn a_part_is_laid_over_what_the_block_holds(rt: HostRuntime) -> Result<(), Fail> {
+    let mut records = Records::new(rt.alloc())?;
+    let base = Block([0xaa; 512]);
+    let part = Data::Part {
+        from: 510,
+        bytes: cut_of(rt.alloc(), 0xbb, 2)?,
+    };
+    assert!(rt; part.is_part() && part.fits_block());
+    records.begin(7, 3, part, &base, owed_to(0, 1));
+    records.begin(
+        8,
+        4,
+        Data::ZeroPart { from: 1, len: 510 },
+        &base,
+        owed_to(0, 1),
+    );
+    let mut laid = [0xaa; 512];
+    laid[510] = 0xbb;
+    laid[511] = 0xbb;
+    let first = records.get(7).ok_or("the record of ticket 7")?;
+    assert_eq!(rt; first.data.bytes(), laid.as_slice());
+    let mut cleared = [0; 512];
+    cleared[0] = 0xaa;
+    cleared[511] = 0xaa;
+    let second = records.get(8).ok_or("the record of ticket 8")?;
+    assert_eq!(rt; second.data.bytes(), cleared.as_slice());
+    Ok(())
+}
+
+#[test]
+fn a_claim_gives_the_block_of_a_part_back(rt: HostRuntime) -> Result<(), Fail> {
+    let mut records = Records::new(rt.alloc())?;
+    for count in 0..300 {
+        assert!(rt; records.is_empty());
+        let part = Data::ZeroPart { from: 0, len: 1 };
+        records.begin(count, 3, part, &Block::ZERO, owed_to(0, 0));
+        let place = records.first_unlanded().ok_or("a write to land")?;
+        records.land_at(place, count);
+        assert!(rt; place < records.len());
+        assert_eq!(rt; records.at(place).entry, Some(count));
+        assert_eq!(rt; records.claim_at(place), count);
+    }
     Ok(())
 }
 
@@ -84,7 +185,7 @@ fn as_many_as_256_records_stand_and_each_is_found(rt: HostRuntime) -> Result<(),
     assert_eq!(rt; records.find(0), None);
     for count in 0..256 {
         assert!(rt; !records.is_full());
-        records.begin(2 * count, count, Data::Zero, owed_to(0, 0));
+        records.begin(2 * count, count, Data::Zero, &Block::ZERO, owed_to(0, 0));
     }
     assert_eq!(rt; records.len(), MOST_RECORDS);
     assert_eq!(rt; records.unlanded(), 256);
@@ -99,9 +200,9 @@ fn as_many_as_256_records_stand_and_each_is_found(rt: HostRuntime) -> Result<(),
 #[test]
 fn a_leg_leaves_and_the_writes_land_by_rising_ticket(rt: HostRuntime) -> Result<(), Fail> {
     let mut records = Records::new(rt.alloc())?;
-    records.begin(4, 10, Data::Zero, owed_to(0, 1));
-    records.begin(6, 12, Data::Zero, owed_to(0, 0));
-    records.begin(9, 11, Data::Zero, owed_to(1, 2));
+    records.begin(4, 10, Data::Zero, &Block::ZERO, owed_to(0, 1));
+    records.begin(6, 12, Data::Zero, &Block::ZERO, owed_to(0, 0));
+    records.begin(9, 11, Data::Zero, &Block::ZERO, owed_to(1, 2));
     assert_eq!(rt; records.busy_among(11, 2), Some(6));
     assert_eq!(rt; records.busy_among(10, 1), Some(4));
     assert_eq!(rt; records.busy_among(13, u64::MAX), None);

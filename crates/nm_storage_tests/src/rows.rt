@@ -8,7 +8,7 @@ use std::test::Fail;
 type Row = (u8, &'static [u8], &'static [u8]);
 
 /// Scripts in which no leg's call fails.
-const PLAIN: [Row; 11] = [
+const PLAIN: [Row; 13] = [
     // A write to two legs, with reads before, between and after.
     (
         2,
@@ -107,10 +107,33 @@ const PLAIN: [Row; 11] = [
         b"begun 0\ncomplete 0\nwritten 0\nbegun 1\nrefused 7 NoTicket\nhistory 1 of 1\n\
           0 write 0 0 aa\nlegal yes\n",
     ),
+    // A part of a block is written, and the master that it was laid over goes out.
+    (
+        2,
+        b"mirror 2 8 4 2 rr 0\nbegin 0 aa\npatch 0 0 4 bb\npush 0 0\npush 0 1\n\
+          patch 0 510 2 bb\nfail 0\npush 1 1\nread 0\nclaim 1\n",
+        b"begun 0\nrefused 1 Busy 0\npushed 1\ncomplete 0\nbegun 1\nmaster 1\n\
+          complete 1\nvalue 2 mixed\nwritten 1\nhistory 3 of 3\n0 write 0 0 aa\n\
+          1 patch 1 0 510 2 mixed\n2 read 0 mixed\nlegal yes\n",
+    ),
+    PARTS,
 ];
 
+/// A part of a block is written, and then its old bytes again.
+const PARTS: Row = (
+    3,
+    b"mirror 3 8 4 2 rr 0\nbegin 0 aa\npush 0 0\npush 0 1\npush 0 2\npatch 0 510 2 bb\n\
+      patch 0 0 1 cc\npush 1 2\nread 0\npush 1 0\nread 0\npush 1 1\nclaim 1\n\
+      patch 0 510 2 aa\npush 2 1\npush 2 0\npush 2 2\nread 0\nread 0\nread 0\n",
+    b"begun 0\npushed 2\npushed 1\ncomplete 0\nbegun 1\nrefused 1 Busy 1\npushed 2\n\
+      value 1 aa\npushed 1\nvalue 3 mixed\ncomplete 2\nwritten 2\nbegun 2\npushed 2\n\
+      pushed 1\ncomplete 4\nvalue 5 aa\nvalue 6 aa\nvalue 7 aa\nhistory 8 of 8\n\
+      0 write 0 0 aa\n1 read 0 aa\n2 patch 1 0 510 2 mixed\n3 read 0 mixed\n\
+      4 patch 2 0 510 2 aa\n5 read 0 aa\n6 read 0 aa\n7 read 0 aa\nlegal yes\n",
+);
+
 /// Scripts in which a leg's call fails.
-const FUSED: [Row; 8] = [
+const FUSED: [Row; 10] = [
     // The last leg fails in a read, and then in a write.
     (
         2,
@@ -173,6 +196,18 @@ const FUSED: [Row; 8] = [
         b"mirror 3 4 4 2 rr 0\nfail 2\nreplace 2 ff\nfuse 0 1\ncopy 2\ncopy 2\nstate\n",
         b"failed\njoining 4\nfused\nlost 0\ncopied 4\n\
           master 1 settling no legs out in join(4)\nhistory 0 of 0\nlegal yes\n",
+    ),
+    // The only leg fails as a part's block is read, and no write begins.
+    (
+        1,
+        b"mirror 1 8 4 2 rr 0\nfuse 0 1\npatch 0 0 1 bb\npatch 0 0 1 bb\n",
+        b"fused\nrefused 10 Fault\nbegun 0\nhistory 0 of 0\nlegal yes\n",
+    ),
+    // The master is lost as a part's block is read, and no write begins.
+    (
+        2,
+        b"mirror 2 8 4 2 rr 0\nfuse 0 1\npatch 0 0 1 bb\npatch 0 0 1 bb\n",
+        b"fused\nlost 0\nbegun 0\nhistory 0 of 0\nlegal yes\n",
     ),
 ];
 
@@ -286,4 +321,37 @@ fn each_call_of_each_leg_may_fail(rt: HostRuntime) {
             }
         }
     }
+}
+
+/// Whether the state of the legs was printed, and then what each holds: the same for each that is
+/// in sync.
+fn legs_in_sync_hold_alike(printed: &str) -> bool {
+    let mut lines = printed.lines();
+    let Some(state) = lines.find(|line| line.contains(" settling ")) else {
+        return false;
+    };
+    let mut held = None;
+    for (leg, holds) in state.split(' ').skip(5).zip(lines) {
+        if leg == "in" && *held.get_or_insert(holds) != holds {
+            return false;
+        }
+    }
+    held.is_some()
+}
+
+/// Whichever call of whichever leg fails while parts are written, the legs in sync agree.
+#[test]
+fn parts_leave_the_legs_in_sync_alike(rt: HostRuntime) -> Result<(), Fail> {
+    let (legs, script, _) = PARTS;
+    let mut text = Vec::from_slice(rt.alloc(), script)?;
+    text.extend_from_slice(b"state\npeek 0 0\npeek 1 0\npeek 2 0\n")?;
+    for leg in 0..legs {
+        for call in 1..12 {
+            let ran = run_with_fuse(rt.alloc(), &text, leg, call);
+            assert_eq!(rt; ran.status, 0);
+            assert!(rt; legs_in_sync_hold_alike(std::str::from_utf8(&ran.out)?));
+            assert!(rt; ran.out.as_slice().ends_with(b"legal yes\n"));
+        }
+    }
+    Ok(())
 }

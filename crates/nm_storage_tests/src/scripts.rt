@@ -28,7 +28,7 @@ const WRITE: (&[u8], &[u8]) = (
 );
 
 /// Scripts, each with all that it prints.
-const SCRIPTS: [(&[u8], &[u8]); 5] = [
+const SCRIPTS: [(&[u8], &[u8]); 6] = [
     // All numbers are in use from the start.
     (
         b"mirror 8 65536 65536 65536 st 9223372036854775808\nbegin 65535 00\nread 0",
@@ -55,6 +55,14 @@ const SCRIPTS: [(&[u8], &[u8]); 5] = [
         b"begun 0\nfused\nrefused 10 Fault\nvalue 0 00\nbegun 1\nholds 00\ncomplete 1\n\
           holds aa\nrefused 13 NotOut\nbegun 2\nfused\nfused\nhalted\nholds mixed\n\
           refused 5 Stopped\nhistory 2 of 2\n0 read 0 00\n1 write 1 3 aa\nlegal yes\n",
+    ),
+    // A part may be all of a block, or its last byte.
+    (
+        b"mirror 1 8 4 2 rr 0\npatch 0 0 512 aa\npush 0 0\npatch 0 00511 01 0f\npush 1 0\n\
+          read 0\npatch 0 511 1 aa\npush 2 0\npeek 0 0\n",
+        b"begun 0\ncomplete 0\nbegun 1\ncomplete 1\nvalue 2 mixed\nbegun 2\ncomplete 3\n\
+          holds aa\nhistory 4 of 4\n0 patch 0 0 0 512 aa\n1 patch 1 0 511 1 mixed\n\
+          2 read 0 mixed\n3 patch 2 0 511 1 aa\nlegal yes\n",
     ),
     // A ticket may be any number of 64 bits.
     (
@@ -138,7 +146,7 @@ const NO_MIRROR: [&[u8]; 21] = [
 ];
 
 /// Lines that are no step on a mirror of 2 legs of 16 blocks.
-const NO_STEP: [&[u8]; 50] = [
+const NO_STEP: [&[u8]; 60] = [
     b"begin",
     b"begin 0",
     b"begin 16 aa",
@@ -179,6 +187,16 @@ const NO_STEP: [&[u8]; 50] = [
     b" # x",
     b"zero 16",
     b"zero 0 00",
+    b"patch 0 0 1",
+    b"patch 16 0 1 aa",
+    b"patch 0 512 1 aa",
+    b"patch 0 0 0 aa",
+    b"patch 0 0 513 aa",
+    b"patch 0 511 2 aa",
+    b"patch 0 1 512 aa",
+    b"patch 0 65536 1 aa",
+    b"patch 0 0 65537 aa",
+    b"patch 0 0 1 aa 0",
     b"replace 2 ff",
     b"fuse 0 0",
     b"fuse 2 1",

@@ -4,7 +4,6 @@ use Rattle.std.proofs.Common.{◌≡◌, ℕ, ◌+◌, ◌≤◌, true, false, c
 use Rattle.std.proofs.lemmas.List.Sums.{sum_by-cons}
 use Rattle.std.proofs.lemmas.Option.{same_Some}
 use Rattle.nm_replay.specs.declared.entry.Entry.{Entry}
-use Rattle.nm_replay.specs.Events.{entry_of_write}
 use Rattle.nm_replay.specs.Kept.{last_kept}
 use Rattle.nm_fanout.specs.declared.write_record.Record.{Record}
 use Rattle.nm_fanout.specs.Record.{with_entry}
@@ -12,7 +11,6 @@ use Rattle.nm_fanout.specs.Records.{Ascends, IsAt, first_unlanded, landed, lande
 use Rattle.nm_fanout.proofs.Landing.{unlanded-landed}
 use Rattle.nm_fanout.proofs.LandedAll.{NextToLand, next_to_land, none_to_land}
 use Rattle.nm_regions.specs.Table.{RegionTable, regions_of}
-use Rattle.nm_rules.specs.Array.{written}
 use Rattle.nm_rules.specs.Kept.{kept_with}
 use Rattle.nm_rules.specs.Lost.{landing}
 use Rattle.nm_rules.specs.Push.{write_entry}
@@ -31,7 +29,7 @@ pub record OneLands (next place : ℕ) (rs : List Record) (r : Record) (kept : L
 
 lands-first : (next place : ℕ) (rs : List Record) (kept : List Entry) → (n : NextToLand next place rs) → landing next rs ≡ write_entry next n.lands ∷ landing (next + 1) (landed n.lands.ticket next rs)
 lands-first next place rs kept n =
-    let entry : ℕ × Record → Entry = λ p. entry_of_write p.0 p.1.ticket p.1.block (written p.1) in
+    let entry : ℕ × Record → Entry = λ p. write_entry p.0 p.1 in
     landing-landings next rs ∙ ap (λ (l : List (ℕ × Record)). map entry l) n.first ∙ ap (λ (es : List Entry). write_entry next n.lands ∷ es) (sym (landing-landings (next + 1) (landed n.lands.ticket next rs)))
 
 one-lands-of : (next place : ℕ) (rs : List Record) (kept : List Entry) → Ascends rs → (n : NextToLand next place rs) → OneLands next place rs n.lands kept
@@ -54,7 +52,7 @@ one-lands next place rs r kept up first there =
 pub all-landed : (next : ℕ) (rs : List Record) (kept : List Entry) → length kept ≤ 1024 → first_unlanded rs ≡ None
     → (landed_all next rs ≡ rs) × (kept_with (landing next rs) kept ≡ kept) × (unlanded rs ≡ 0)
 all-landed next rs kept few none =
-    let entry : ℕ × Record → Entry = λ p. entry_of_write p.0 p.1.ticket p.1.block (written p.1) in
+    let entry : ℕ × Record → Entry = λ p. write_entry p.0 p.1 in
     let done = none_to_land next rs none in
     let no_entries : landing next rs ≡ [] = landing-landings next rs ∙ ap (λ (l : List (ℕ × Record)). map entry l) done.1 in (
       done.0,

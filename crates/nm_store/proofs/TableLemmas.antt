@@ -1,7 +1,7 @@
 -- The region table of the state that a change leaves is the table that the change leaves.
 use Rattle.std.proofs.Common.{◌≡◌, ℕ, zero, suc, map, ◌+◌, ◌<◌, ◌/◌, Bool, true, false, List, [], ◌∷◌, length, refl, sym, ap, ◌∙◌, arith, get_or, slice_set}
 use Rattle.std.specs.List.{list_any}
-use Rattle.nm_fanout.specs.declared.block_data.Data.{Data}
+use Rattle.nm_fanout.specs.declared.record_data.RecordData.{RecordData}
 use Rattle.nm_fanout.specs.declared.write_record.Record.{Record}
 use Rattle.nm_fanout.specs.Record.{is_under_way, begun as begun_record}
 use Rattle.nm_fanout.specs.Records.{with_new}
@@ -21,7 +21,7 @@ some-true i (true ∷ places) some = refl
 some-true i (false ∷ places) some = some-true (i + 1) places some
 
 -- a write begins
-pub begun-table : {L : Type 0} (old : StripeState L) (block : ℕ) (bytes : Data) → 0 < length (current_legs block old) → block < old.place.blocks → 0 < old.place.region
+pub begun-table : {L : Type 0} (old : StripeState L) (block : ℕ) (bytes : RecordData) → 0 < length (current_legs block old) → block < old.place.blocks → 0 < old.place.region
     → begun block (table old) ≡ table (after_begin old block bytes)
 begun-table old block bytes some inside size =
     let regions = regions_of old.place.blocks old.place.region in

@@ -13,6 +13,7 @@ use nm_regions::LEGS;
 use nm_replay::{Block, Entry, Kind};
 
 /// The numbers of the places that are true, by rising number.
+#[inline(always)]
 fn true_places(places: &[bool; LEGS]) -> ArrayVec<u8, LEGS>
     ensures { result.items ≡ true_from 0 places.now }
 {

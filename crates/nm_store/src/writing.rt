@@ -1,9 +1,12 @@
 //! The changes of a write: it begins, reaches a leg, takes effect and is claimed.
 ghost use Rattle.std.specs.Prelude.{◌≡◌, ℕ, ◌+◌, ◌<◌, ◌≤◌, ◌^◌, [], ◌∷◌, length, max, slice_get, is_ok, false, true, IsSome, Some};
-ghost use Rattle.nm_fanout.specs.Data.{FillsBlock, bytes_of};
+ghost use Rattle.nm_fanout.specs.Data.{FitsBlock};
+ghost use Rattle.nm_fanout.specs.Laying.{data_over};
+ghost use Rattle.nm_fanout.specs.RecordData.{FillsBlock, bytes_of, span_of};
 ghost use Rattle.nm_fanout.specs.declared.write_record.Record.{Record};
 ghost use Rattle.nm_fanout.specs.Record.{is_under_way, owes};
 ghost use Rattle.nm_fanout.specs.Records.{AllBelow, AreInOrder, entry_at, landed, unlanded};
+ghost use Rattle.nm_replay.specs.Events.{write_kind};
 ghost use Rattle.nm_leg.specs.Leg.{leg_type};
 ghost use Rattle.nm_leg.specs.LegCalls.{HasBlock, WritesLegAt};
 ghost use Rattle.nm_rules.specs.Read.{current_legs};
@@ -15,9 +18,28 @@ ghost use Rattle.nm_rules.specs.Lost.{settled};
 ghost use Rattle.nm_rules.specs.State.{next_number};
 
 use crate::store::Store;
-use nm_fanout::{Data, Record};
+use nm_fanout::{Data, Record, RecordData};
 use nm_leg::{LegFault, LegPart, write_leg_at};
 use nm_replay::{Block, Entry, Kind};
+
+/// The kind of the entry of a write of these data, under this ticket.
+fn write_kind(ticket: u64, data: &RecordData) -> Kind
+    ensures { result ≡ write_kind ticket (span_of «data».now) }
+{
+    match data {
+        RecordData::Cut(_) | RecordData::Zero => Kind::Write(ticket),
+        RecordData::Merged { from, len, .. } => Kind::Patch(ticket, *from, *len),
+    }
+}
+
+/// How many bytes a block has.
+fn block_len(block: &Block) -> usize
+    ensures len { result ≡ length block.now.0 }
+    ensures whole { result ≡ 512 }
+{
+    let bytes: &[u8] = &block.0;
+    bytes.len()
+}
 
 /// The entry of a write, under this number.
 pub(crate) fn write_entry(record: &Record, number: u64) -> Entry
@@ -28,7 +50,7 @@ pub(crate) fn write_entry(record: &Record, number: u64) -> Entry
     bytes.0.copy_from_slice(record.data.bytes());
     Entry {
         seq: number,
-        kind: Kind::Write(record.ticket),
+        kind: write_kind(record.ticket, &record.data),
         block: record.block,
         bytes,
     }
@@ -36,21 +58,23 @@ pub(crate) fn write_entry(record: &Record, number: u64) -> Entry
 
 impl<L: LegPart> Store<L> {
     /// A write of this block begins, under the next ticket, which is the result: it owes each leg
-    /// that is current there.
-    pub fn begin(&mut self, block: u64, data: Data) -> u64
+    /// that is current there. A part is laid over `base`, what the block holds.
+    pub fn begin(&mut self, block: u64, data: Data, base: &Block) -> u64
         requires block { block < self.old.place.blocks }
         requires current { 0 < length (current_legs block self.old) }
-        requires whole { FillsBlock «data» }
+        requires fits { FitsBlock «data» }
         requires few { length self.old.records < 256 }
         requires next { AllBelow self.old.tickets self.old.records }
         requires more { self.old.tickets + 1 < 2 ^ 64 }
         ensures ticket { result ≡ self.old.tickets }
-        ensures begun { self.new ≡ after_begin self.old block «data» }
+        ensures filled { length base.now.0 ≡ 512 }
+        ensures begun { self.new ≡ after_begin self.old block (data_over «data» base.now) }
     {
+        let _whole = block_len(base);
         let ticket = self.tickets;
         let owed = self.regions.targets(block);
         self.regions.begin(block);
-        self.records.begin(ticket, block, data, owed);
+        self.records.begin(ticket, block, data, base, owed);
         self.tickets += 1;
         ticket
     }

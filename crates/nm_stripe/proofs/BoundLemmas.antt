@@ -4,6 +4,7 @@ use Rattle.std.proofs.lemmas.Bool.Decides.{eqb_tells}
 use Rattle.nm_choice.specs.declared.leg_state.LegState.{LegState}
 use Rattle.nm_choice.specs.declared.leg_state.LegState.TheVariants as state
 use Rattle.nm_choice.specs.declared.leg_state.LegState.TheVariants.{Out}
+use Rattle.nm_fanout.specs.declared.block_data.Data.{Data}
 use Rattle.nm_fanout.specs.declared.write_record.Record.{Record}
 use Rattle.nm_leg.specs.Leg.{LegType}
 use Rattle.nm_rules.specs.declared.refusal.Refusal.{Refusal}
@@ -18,7 +19,7 @@ use Rattle.nm_rules.proofs.AttachLemmas.{may_attach, set-other}
 use Rattle.nm_rules.proofs.ElectLemmas.{gone-other}
 use Rattle.nm_rules.proofs.JoiningEndLemmas.{nothing-behind, nothing-promotes, nothing-refused, nothing-left}
 use Rattle.nm_rules.proofs.JoiningLemmas.{fields-work, lost-parts}
-use Rattle.nm_rules.proofs.JoiningStepLemmas.{begins-work, pushes-work, loses_in_push-work, halts-work, claims-work, finds-work, loses_in_read-work, fails_in_read-work, goes_out-work, attaches-work, replaces-work}
+use Rattle.nm_rules.proofs.JoiningStepLemmas.{begins-work, loses_in_begin-work, fails_in_begin-work, pushes-work, loses_in_push-work, halts-work, claims-work, finds-work, loses_in_read-work, fails_in_read-work, goes_out-work, attaches-work, replaces-work}
 use Rattle.nm_rules.proofs.JoiningStepLemmas.{copies_read-work, copies_write-work, loses_in_copy-work, fails_in_copy-work, promotes-work, loses_in_promote-work, synchronizes-work, loses_in_sync-work, fails_in_sync-work}
 use Rattle.nm_rules.proofs.WorkLemmas.{copies-read-work, copies-write-work}
 use Rattle.nm_stripe.specs.declared.answer.Answer.{Answer}
@@ -27,6 +28,7 @@ use Rattle.nm_stripe.specs.declared.answer.Answer.TheVariants.{Nothing as Nothin
 use Rattle.nm_stripe.specs.declared.step.Step.{Step}
 use Rattle.nm_stripe.specs.declared.step.Step.TheVariants.{Begin, Push, Claim, Read, Fail, Attach, Replace, Copy, Promote, Sync}
 use Rattle.nm_stripe.specs.Bound.{copies, copied_count, StaysBehind, StaysJoining, IsBounded, IsCopied}
+use Rattle.nm_stripe.specs.Begin.{RefusesBegin, ForCause as BeginCause, ForFault as BeginFault}
 use Rattle.nm_stripe.specs.Copy.{RefusesCopy, ForCause as CopyCause, ForFault as CopyFault}
 use Rattle.nm_stripe.specs.Read.{RefusesRead, ForCause as ReadCause, ForFault as ReadFault}
 use Rattle.nm_stripe.specs.Run.{StepOf, AllAsked, Runs}
@@ -91,6 +93,10 @@ module _ {L : Type 0} (type : LegType L) (old new : StripeState L) (j : ℕ) (jo
   same-work : new ≡ old → KeepsWork j old new
   same-work is = fields-work j old new (ap (λ (s : StripeState L). s.place) is) (ap (λ (s : StripeState L). s.flags) is) (ap (λ (s : StripeState L). s.copy) is) (ap (λ (s : StripeState L). s.chunk) is)
 
+  begin-refused : (block : ℕ) (bytes : Data) (given : Refusal) → RefusesBegin type old new block bytes given → (leg_state j new ≡ state.Joining) × KeepsWork j old new
+  begin-refused block bytes given (BeginCause cause is) = (same-states is, same-work is)
+  begin-refused block bytes given (BeginFault is fails) = (ap (λ (s : StripeState L). leg_state j s) fails.after ∙ joined, fails_in_begin-work j old new type block bytes fails)
+
   read-refused : (block : ℕ) (given : Refusal) → RefusesRead type old new block given → (leg_state j new ≡ state.Joining) × KeepsWork j old new
   read-refused block given (ReadCause cause is) = (same-states is, same-work is)
   read-refused block given (ReadFault is found fails) = (ap (λ (s : StripeState L). leg_state j s) fails.after ∙ joined, fails_in_read-work j old new type block found fails)
@@ -132,7 +138,9 @@ module _ {L : Type 0} (type : LegType L) (old new : StripeState L) (j : ℕ) (jo
 
   pub steps-bound : (step : Step L) (answer : Answer L) → Keeps type old → StaysBehind j step answer → StepOf type step answer old new → (leg_state j new ≡ state.Joining) × (work j new + copies j step answer ≡ work j old)
   steps-bound (Begin block bytes) (Begun ticket) k stays is = quiet (ap (λ (s : StripeState L). leg_state j s) is.after ∙ joined, begins-work j old new type block bytes ticket k joined is)
-  steps-bound (Begin block bytes) (Refused cause handed) k stays is = quiet (same-states is.2, same-work is.2)
+  steps-bound (Begin block bytes) (LegLost gone handed) k stays is =
+      lost-quiet (still-lost new.legs old.master (λ e. stays (is.0.names ∙ e)) is.0.after) (λ joins. loses_in_begin-work j old new type block bytes gone joins is.0)
+  steps-bound (Begin block bytes) (Refused cause handed) k stays is = quiet (begin-refused block bytes cause is.0)
   steps-bound (Push ticket leg) (Pushed count) k stays is = quiet (still (ap (λ (s : StripeState L). s.states) is.0.after ∙ push-states old new.legs is.0.pushed leg), pushes-work j old new type ticket leg is.0)
   steps-bound (Push ticket leg) (Complete number) k stays is = quiet (still (ap (λ (s : StripeState L). s.states) is.0.after ∙ push-states old new.legs is.0.pushed leg), pushes-work j old new type ticket leg is.0)
   steps-bound (Push ticket leg) (LegLost gone handed) k stays is =

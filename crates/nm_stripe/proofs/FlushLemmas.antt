@@ -3,6 +3,7 @@ use Rattle.std.proofs.Common.{length, ◌∙◌, ap, arith, sym, subst, ◌<◌,
 use Rattle.nm_choice.specs.declared.leg_state.LegState.{LegState}
 use Rattle.nm_choice.specs.declared.leg_state.LegState.TheVariants.{Out}
 use Rattle.nm_choice.specs.declared.leg_state.LegState.TheVariants as state
+use Rattle.nm_fanout.specs.declared.block_data.Data.{Data}
 use Rattle.nm_fanout.specs.Records.{busy_on}
 use Rattle.nm_leg.specs.Leg.{LegType}
 use Rattle.nm_rules.specs.declared.refusal.Refusal.{Refusal}
@@ -12,8 +13,8 @@ use Rattle.nm_rules.specs.Copy.{CopiesRead, CopiesWrite}
 use Rattle.nm_rules.specs.Flushed.{DurableAt, KeepsDurable}
 use Rattle.nm_rules.specs.Invariant.{Keeps}
 use Rattle.nm_rules.specs.State.{StripeState, is_out, leg_state}
-use Rattle.nm_rules.proofs.FlushedLemmas.{begins-durable, claims-durable, pushes-durable, halts-durable, finds-durable, fails_in_read-durable, copies_read-durable, fails_in_copy-durable}
-use Rattle.nm_rules.proofs.FlushedLostLemmas.{loses_in_push-durable, loses_in_read-durable, loses_in_copy-durable, loses_in_promote-durable, loses_in_sync-durable, goes_out-durable, loses_in_sync-makes, attaches-durable, replaces-durable}
+use Rattle.nm_rules.proofs.FlushedLemmas.{begins-durable, fails_in_begin-durable, claims-durable, pushes-durable, halts-durable, finds-durable, fails_in_read-durable, copies_read-durable, fails_in_copy-durable}
+use Rattle.nm_rules.proofs.FlushedLostLemmas.{loses_in_begin-durable, loses_in_push-durable, loses_in_read-durable, loses_in_copy-durable, loses_in_promote-durable, loses_in_sync-durable, goes_out-durable, loses_in_sync-makes, attaches-durable, replaces-durable}
 use Rattle.nm_rules.proofs.FlushedSyncLemmas.{copies_write-durable, synchronizes-durable, synchronizes-makes, fails_in_sync-durable, promotes-durable, out-durable}
 use Rattle.nm_rules.proofs.StateLemmas.{in_sync_inside}
 use Rattle.nm_stripe.specs.declared.answer.Answer.{Answer}
@@ -21,6 +22,7 @@ use Rattle.nm_stripe.specs.declared.answer.Answer.TheVariants.{Begun, Pushed, Co
 use Rattle.nm_stripe.specs.declared.answer.Answer.TheVariants.{Nothing as NothingLeft}
 use Rattle.nm_stripe.specs.declared.step.Step.{Step}
 use Rattle.nm_stripe.specs.declared.step.Step.TheVariants.{Begin, Push, Claim, Read, Fail, Attach, Replace, Copy, Promote, Sync}
+use Rattle.nm_stripe.specs.Begin.{RefusesBegin, ForCause as BeginCause, ForFault as BeginFault}
 use Rattle.nm_stripe.specs.Copy.{RefusesCopy, ForCause as CopyCause, ForFault as CopyFault}
 use Rattle.nm_stripe.specs.Flush.{Flushes, LeavesBlock, NoneBegins, SyncsLeg, HasSynced}
 use Rattle.nm_stripe.specs.Read.{RefusesRead, ForCause as ReadCause, ForFault as ReadFault}
@@ -46,6 +48,10 @@ module _ {L : Type 0} (type : LegType L) (old new : StripeState L) (b : ℕ) (wa
   same is = subst (λ (s : StripeState L). KeepsDurable type.model b old s) (sym is) (record { free = was_free; durable = λ j held. held })
 
   module _ (kn : Keeps type new) (is_honest : IsTrue type.honest) (inside : b < old.place.blocks) where
+    begin-refused : (block : ℕ) (bytes : Data) (given : Refusal) → RefusesBegin type old new block bytes given → KeepsDurable type.model b old new
+    begin-refused block bytes given (BeginCause cause is) = same is
+    begin-refused block bytes given (BeginFault is fails) = fails_in_begin-durable type old new b was_free is_honest block bytes fails
+
     read-refused : (block : ℕ) (given : Refusal) → RefusesRead type old new block given → KeepsDurable type.model b old new
     read-refused block given (ReadCause cause is) = same is
     read-refused block given (ReadFault is found fails) = fails_in_read-durable type old new b was_free is_honest block found fails
@@ -63,8 +69,9 @@ module _ {L : Type 0} (type : LegType L) (old new : StripeState L) (b : ℕ) (wa
 
     -- each step that begins no write of the block keeps what is durable of it
     pub step-durable : (step : Step L) (answer : Answer L) → LeavesBlock b step answer → StepOf type step answer old new → KeepsDurable type.model b old new
-    step-durable (Begin block bytes) (Begun ticket) leaves is = begins-durable type old new b was_free block bytes ticket leaves is
-    step-durable (Begin block bytes) (Refused cause handed) leaves is = same is.2
+    step-durable (Begin block bytes) (Begun ticket) leaves is = begins-durable type old new b was_free is_honest block bytes ticket leaves is
+    step-durable (Begin block bytes) (LegLost gone handed) leaves is = loses_in_begin-durable type old new b was_free k kn is_honest inside block bytes gone is.0
+    step-durable (Begin block bytes) (Refused cause handed) leaves is = begin-refused block bytes cause is.0
     step-durable (Push ticket leg) (Pushed count) leaves is = pushes-durable type old new b was_free is_honest ticket leg is.0
     step-durable (Push ticket leg) (Complete number) leaves is = pushes-durable type old new b was_free is_honest ticket leg is.0
     step-durable (Push ticket leg) (LegLost gone handed) leaves is = loses_in_push-durable type old new b was_free k kn is_honest inside ticket leg is.0.1

@@ -1,3 +1,4 @@
+pub mod BeginLemmas
 pub mod BoundLemmas
 pub mod ClaimLemmas
 pub mod CopyLemmas

@@ -1,7 +1,7 @@
 -- A push, from what its calls say to what it keeps, does and answers.
 use Rattle.std.proofs.Common.{◌≡◌, ℕ, ◌<◌, Bool, true, false, cond, List, [], length, Option, Some, None, is_some, slice_get, IsTrue, refl, sym, ap, ◌∙◌, subst, arith}
 use Rattle.nm_fanout.specs.declared.write_record.Record.{Record}
-use Rattle.nm_fanout.specs.Data.{bytes_of}
+use Rattle.nm_fanout.specs.RecordData.{bytes_of}
 use Rattle.nm_fanout.specs.Record.{is_under_way}
 use Rattle.nm_fanout.specs.Records.{IsAt, reached}
 use Rattle.nm_fanout.proofs.Finding.{find_record-ticket}

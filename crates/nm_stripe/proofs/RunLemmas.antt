@@ -4,18 +4,20 @@ use Rattle.std.proofs.Common.{min, length, reverse}
 use Rattle.std.proofs.lemmas.List.{reverse-append}
 use Rattle.nm_leg.specs.Leg.{Leg, LegType}
 use Rattle.nm_replay.specs.Events.{Event, marks_of}
+use Rattle.nm_fanout.specs.declared.block_data.Data.{Data}
 use Rattle.nm_rules.specs.declared.refusal.Refusal.{Refusal}
 use Rattle.nm_rules.specs.Acts.{Acts, IsExplainedStep}
 use Rattle.nm_rules.specs.Shape.{SameShape}
 use Rattle.nm_rules.specs.State.{StripeState}
 use Rattle.nm_rules.proofs.ActsLemmas.{acts-none, acts-append}
-use Rattle.nm_rules.proofs.ShapeLemmas.{begins-shape, pushes-shape, loses_in_push-shape, halts-shape, claims-shape, finds-shape, loses_in_read-shape, fails_in_read-shape, goes_out-shape, attaches-shape, replaces-shape}
+use Rattle.nm_rules.proofs.ShapeLemmas.{begins-shape, loses_in_begin-shape, fails_in_begin-shape, pushes-shape, loses_in_push-shape, halts-shape, claims-shape, finds-shape, loses_in_read-shape, fails_in_read-shape, goes_out-shape, attaches-shape, replaces-shape}
 use Rattle.nm_rules.proofs.ShapeLemmas.{copies_read-shape, copies_write-shape, loses_in_copy-shape, fails_in_copy-shape, promotes-shape, loses_in_promote-shape, synchronizes-shape, loses_in_sync-shape, fails_in_sync-shape}
 use Rattle.nm_stripe.specs.declared.answer.Answer.{Answer}
 use Rattle.nm_stripe.specs.declared.answer.Answer.TheVariants.{Begun, Pushed, Complete, Halted, Written, Value, Failed, MasterChanged, Joining, Copied, InSync, Synced, LegLost, Refused}
 use Rattle.nm_stripe.specs.declared.answer.Answer.TheVariants.{Nothing as NothingLeft}
 use Rattle.nm_stripe.specs.declared.step.Step.{Step}
 use Rattle.nm_stripe.specs.declared.step.Step.TheVariants.{Begin, Push, Claim, Read, Fail, Attach, Replace, Copy, Promote, Sync}
+use Rattle.nm_stripe.specs.Begin.{RefusesBegin, ForCause as BeginCause, ForFault as BeginFault}
 use Rattle.nm_stripe.specs.Copy.{RefusesCopy, ForCause as CopyCause, ForFault as CopyFault}
 use Rattle.nm_stripe.specs.Read.{RefusesRead, ForCause as ReadCause, ForFault as ReadFault}
 use Rattle.nm_stripe.specs.Sync.{RefusesSync, ForCause as SyncCause, ForFault as SyncFault}
@@ -104,6 +106,10 @@ reverse-reverse (x ∷ xs) = ap (λ ys. reverse ys) (reverse-append (x ∷ []) x
 same : {L : Type 0} (old new : StripeState L) → new ≡ old → SameShape old new
 same old new is = record { place = ap (λ s. s.place) is; legs = ap (λ s. length s.legs) is }
 
+begin-refused : {L : Type 0} (type : LegType L) (old new : StripeState L) (block : ℕ) (bytes : Data) (given : Refusal) → RefusesBegin type old new block bytes given → SameShape old new
+begin-refused type old new block bytes given (BeginCause cause is) = same old new is
+begin-refused type old new block bytes given (BeginFault is fails) = fails_in_begin-shape type old new block bytes fails
+
 read-refused : {L : Type 0} (type : LegType L) (old new : StripeState L) (block : ℕ) (given : Refusal) → RefusesRead type old new block given → SameShape old new
 read-refused type old new block given (ReadCause cause is) = same old new is
 read-refused type old new block given (ReadFault is found fails) = fails_in_read-shape type old new block found fails
@@ -118,7 +124,8 @@ sync-refused type old new leg given (SyncFault is fails) = fails_in_sync-shape t
 
 pub step-shape : {L : Type 0} (type : LegType L) (step : Step L) (answer : Answer L) (old new : StripeState L) → StepOf type step answer old new → SameShape old new
 step-shape type (Begin block bytes) (Begun ticket) old new is = begins-shape type old new block bytes ticket is
-step-shape type (Begin block bytes) (Refused cause handed) old new is = same old new is.2
+step-shape type (Begin block bytes) (LegLost gone handed) old new is = loses_in_begin-shape type old new block bytes gone is.0
+step-shape type (Begin block bytes) (Refused cause handed) old new is = begin-refused type old new block bytes cause is.0
 step-shape type (Push ticket leg) (Pushed count) old new is = pushes-shape type old new ticket leg is.0
 step-shape type (Push ticket leg) (Complete number) old new is = pushes-shape type old new ticket leg is.0
 step-shape type (Push ticket leg) (LegLost gone handed) old new is = loses_in_push-shape type old new ticket leg is.0.1

@@ -1,6 +1,7 @@
 -- Each step keeps what every stripe keeps, whatever it answers.
 use Rattle.std.proofs.Common.{◌≡◌, ℕ, ◌<◌, length, sym, subst}
 use Rattle.nm_leg.specs.Leg.{LegType}
+use Rattle.nm_fanout.specs.declared.block_data.Data.{Data}
 use Rattle.nm_rules.specs.declared.refusal.Refusal.{Refusal}
 use Rattle.nm_rules.specs.Attach.{Attaches, Replaces}
 use Rattle.nm_rules.specs.Invariant.{Keeps}
@@ -8,8 +9,8 @@ use Rattle.nm_rules.specs.State.{StripeState}
 use Rattle.nm_rules.proofs.AttachLemmas.{may_attach, attach-keeps}
 use Rattle.nm_rules.proofs.BeginLemmas.{begins-keeps}
 use Rattle.nm_rules.proofs.ClaimLemmas.{claims-keeps}
-use Rattle.nm_rules.proofs.HaltLemmas.{halt-keeps, read_fault-keeps, sync_fault-keeps, copy_fault-keeps}
-use Rattle.nm_rules.proofs.LostStepLemmas.{read_lost-keeps, push_lost-keeps, sync_lost-keeps, promote_lost-keeps, copy_lost-keeps, fail-keeps}
+use Rattle.nm_rules.proofs.HaltLemmas.{halt-keeps, begin_fault-keeps, read_fault-keeps, sync_fault-keeps, copy_fault-keeps}
+use Rattle.nm_rules.proofs.LostStepLemmas.{begin_lost-keeps, read_lost-keeps, push_lost-keeps, sync_lost-keeps, promote_lost-keeps, copy_lost-keeps, fail-keeps}
 use Rattle.nm_rules.proofs.PushedLemmas.{pushes-keeps}
 use Rattle.nm_rules.proofs.ReadLemmas.{finds-keeps}
 use Rattle.nm_rules.proofs.ReplaceLemmas.{replace-keeps}
@@ -18,6 +19,7 @@ use Rattle.nm_stripe.specs.declared.answer.Answer.TheVariants.{Begun, Pushed, Co
 use Rattle.nm_stripe.specs.declared.answer.Answer.TheVariants.{Nothing as NothingLeft}
 use Rattle.nm_stripe.specs.declared.step.Step.{Step}
 use Rattle.nm_stripe.specs.declared.step.Step.TheVariants.{Begin, Push, Claim, Read, Fail, Attach, Replace, Copy, Promote, Sync}
+use Rattle.nm_stripe.specs.Begin.{RefusesBegin, ForCause as BeginCause, ForFault as BeginFault}
 use Rattle.nm_stripe.specs.Copy.{RefusesCopy, ForCause as CopyCause, ForFault as CopyFault}
 use Rattle.nm_stripe.specs.Read.{RefusesRead, ForCause as ReadCause, ForFault as ReadFault}
 use Rattle.nm_stripe.specs.Sync.{RefusesSync, ForCause as SyncCause, ForFault as SyncFault}
@@ -29,6 +31,10 @@ module _ {L : Type 0} (type : LegType L) (old new : StripeState L) (k : Keeps ty
   -- a step that changes nothing
   same : new ≡ old → Keeps type new
   same is = subst (λ (s : StripeState L). Keeps type s) (sym is) k
+
+  begin-refused : (block : ℕ) (bytes : Data) (given : Refusal) → RefusesBegin type old new block bytes given → Keeps type new
+  begin-refused block bytes given (BeginCause cause is) = same is
+  begin-refused block bytes given (BeginFault is fails) = begin_fault-keeps type old new k block bytes fails
 
   read-refused : (block : ℕ) (given : Refusal) → RefusesRead type old new block given → Keeps type new
   read-refused block given (ReadCause cause is) = same is
@@ -50,7 +56,8 @@ module _ {L : Type 0} (type : LegType L) (old new : StripeState L) (k : Keeps ty
 
 pub step-keeps : {L : Type 0} (type : LegType L) (step : Step L) (answer : Answer L) (old new : StripeState L) → Keeps type old → MayBeAsked type.model old step → StepOf type step answer old new → Keeps type new
 step-keeps type (Begin block bytes) (Begun ticket) old new k asked is = begins-keeps type old new block bytes ticket k is asked.0 asked.1
-step-keeps type (Begin block bytes) (Refused cause handed) old new k asked is = same type old new k is.2
+step-keeps type (Begin block bytes) (LegLost gone handed) old new k asked is = begin_lost-keeps type old new k block bytes gone is.0
+step-keeps type (Begin block bytes) (Refused cause handed) old new k asked is = begin-refused type old new k block bytes cause is.0
 step-keeps type (Push ticket leg) (Pushed count) old new k asked is = pushes-keeps type old new ticket leg k is.0
 step-keeps type (Push ticket leg) (Complete number) old new k asked is = pushes-keeps type old new ticket leg k is.0
 step-keeps type (Push ticket leg) (LegLost gone handed) old new k asked is = push_lost-keeps type old new k ticket leg is.0.1

@@ -1,3 +1,4 @@
+pub mod Begin
 pub mod Bound
 pub mod Copy
 pub mod End

@@ -2,11 +2,11 @@
 use Rattle.std.specs.Prelude.{◌≡◌, ◌<◌, List, [], ◌∷◌, ◌++◌, Some, length}
 use Rattle.nm_replay.specs.Events.{Event, BeginsRead, BeginsWrite, RepliesRead, RepliesWrite, marks_of}
 use Rattle.nm_replay.specs.declared.block.Block.{Block}
-use Rattle.nm_fanout.specs.Data.{bytes_of, FillsBlock}
-use Rattle.nm_leg.specs.Leg.{Leg, block_of, LegType}
+use Rattle.nm_fanout.specs.Data.{put_of_data, FitsBlock}
+use Rattle.nm_leg.specs.Leg.{Leg, LegType}
 use Rattle.nm_rules.specs.Acts.{Acts}
 use Rattle.nm_rules.specs.Attach.{Attaches, Replaces, attach_cause}
-use Rattle.nm_rules.specs.Begin.{Begins, begin_cause}
+use Rattle.nm_rules.specs.Begin.{Begins, LosesInBegin}
 use Rattle.nm_rules.specs.Claim.{Claims, claim_cause}
 use Rattle.nm_rules.specs.Failing.{fail_cause}
 use Rattle.nm_rules.specs.Promote.{promote_cause}
@@ -24,16 +24,17 @@ use Rattle.nm_stripe.specs.declared.step.Step.{Step}
 use Rattle.nm_stripe.specs.declared.step.Step.TheVariants.{Begin, Push, Claim, Read, Fail, Attach, Replace, Copy, Promote, Sync}
 use Rattle.nm_stripe.specs.declared.sync.Promotion.TheVariants as promotion
 use Rattle.nm_stripe.specs.declared.sync.Syncing.TheVariants as syncing
+use Rattle.nm_stripe.specs.Begin.{RefusesBegin}
 use Rattle.nm_stripe.specs.Copy.{Copies, RefusesCopy}
 use Rattle.nm_stripe.specs.Fail.{Fails}
 use Rattle.nm_stripe.specs.Push.{Reaches}
 use Rattle.nm_stripe.specs.Read.{Reads, RefusesRead}
 use Rattle.nm_stripe.specs.Sync.{EndsJoining, Syncs, RefusesSync}
 
--- a step that may be asked for: its block lies in the stripe, its leg is there, its data fill a
+-- a step that may be asked for: its block lies in the stripe, its leg is there, its data fit a
 -- block, and a new leg is as long as the stripe
 abbrev pub MayBeAsked : {L : Type 0} → (L → Leg) → StripeState L → Step L → Type 0
-MayBeAsked model stripe (Begin block bytes) = (block < stripe.place.blocks) × FillsBlock bytes
+MayBeAsked model stripe (Begin block bytes) = (block < stripe.place.blocks) × FitsBlock bytes
 MayBeAsked model stripe (Push ticket leg) = leg < length stripe.legs
 MayBeAsked model stripe (Claim ticket) = Unit {0}
 MayBeAsked model stripe (Read block) = block < stripe.place.blocks
@@ -53,9 +54,11 @@ AllAsked model stripe (step ∷ steps) = MayBeAsked model stripe step × AllAske
 -- a step with its answer: these answers and no others
 abbrev pub StepOf : {L : Type 0} → LegType L → Step L → Answer L
     → StripeState L → StripeState L → Type 0
-StepOf type (Begin block bytes) (Begun ticket) old new = Begins old new block bytes ticket
+StepOf type (Begin block bytes) (Begun ticket) old new = Begins type old new block bytes ticket
+StepOf type (Begin block bytes) (LegLost gone handed) old new =
+    LosesInBegin type old new block bytes gone × (handed ≡ Data bytes)
 StepOf type (Begin block bytes) (Refused refusal handed) old new =
-    (begin_cause old block ≡ Some refusal) × (handed ≡ Data bytes) × (new ≡ old)
+    RefusesBegin type old new block bytes refusal × (handed ≡ Data bytes)
 StepOf type (Push ticket leg) (Pushed count) old new =
     Reaches type old new ticket leg (reach.Pushed count)
 StepOf type (Push ticket leg) (Complete number) old new =
@@ -117,7 +120,7 @@ Runs type old steps answers new = ⊥
 -- the begins and replies of a step with its answer
 abbrev pub marks : {L : Type 0} → Step L → Answer L → List Event
 marks (Begin block bytes) (Begun ticket) =
-    BeginsWrite ticket block (block_of (bytes_of bytes)) ∷ []
+    BeginsWrite ticket block (put_of_data bytes) ∷ []
 marks (Claim ticket) (Written written) = RepliesWrite ticket written.number ∷ []
 marks (Read block) (Value value) =
     BeginsRead value.entry.number block ∷ RepliesRead value.entry.number value.bytes ∷ []

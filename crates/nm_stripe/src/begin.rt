@@ -1,36 +1,82 @@
 //! Begins a write.
-ghost use Rattle.std.specs.Prelude.{◌≡◌, ◌<◌, [], ◌∷◌, IsTrue, IfOk, IfErr, OnErr, Some};
-ghost use Rattle.nm_replay.specs.Events.{BeginsWrite};
-ghost use Rattle.nm_fanout.specs.Data.{FillsBlock, bytes_of};
-ghost use Rattle.nm_leg.specs.Leg.{block_of};
+ghost use Rattle.nm_leg.specs.Leg.{leg_type};
+ghost use Rattle.std.specs.Prelude.{◌<◌, ◌≡◌, [], true, IsTrue, IfOk, IfErr, OnErr, None};
+ghost use Rattle.nm_fanout.specs.Data.{FitsBlock, is_part};
 ghost use Rattle.nm_rules.specs.Acts.{IsExplainedStep};
-ghost use Rattle.nm_rules.specs.Begin.{Begins, begin_cause};
+ghost use Rattle.nm_rules.specs.Begin.{begin_cause};
+ghost use Rattle.nm_stripe.specs.Begin.{BeginsOrLoses, IsExplainedBegin, RefusesBegin};
 
 use crate::stripe::Stripe;
 use nm_fanout::Data;
 use nm_leg::LegPart;
+use nm_replay::Block;
 use nm_rules::Refusal;
 
+/// What a begin answers.
+#[derive(Drop)]
+pub enum Beginning {
+    /// The write began, under this ticket.
+    Begun(u64),
+    /// The leg, the master, failed as a part's block was read, and has gone out. No write began;
+    /// the data come back.
+    LegLost(u8, Data),
+}
+
 impl<L: LegPart> Stripe<L> {
-    /// Begins a write of a block. It gets the next ticket, owes each leg that is current there, and
-    /// takes effect later. The block's region falls behind on each leg that is out.
-    ///
-    /// Refused as `Stopped`, `Settling`, `Busy`, `Copying`, `Full` or `Exhausted`, the first whose
-    /// condition holds; the data come back.
-    pub fn begin(&mut self, block: u64, data: Data) -> Result<u64, (Refusal, Data)>
+    /// Begins a write of a part where nothing forbids it: the block is read from the master, and
+    /// the part is laid over it.
+    fn begin_part(&mut self, block: u64, data: Data) -> Result<Beginning, (Refusal, Data)>
         requires inside { block < self.old.place.blocks }
-        requires whole { FillsBlock «data» }
-        ensures ok { IfOk result (λ ticket. Begins self.old self.new block «data» ticket) }
-        ensures acts { IsTrue L.honest → IfOk result (λ ticket. IsExplainedStep L.model
-            (BeginsWrite ticket block (block_of (bytes_of «data»)) ∷ []) self.old self.new) }
-        ensures cause { IfErr result (λ refused.
-            begin_cause self.old block ≡ Some refused.0) }
+        requires fits { FitsBlock «data» }
+        requires part { is_part «data» ≡ true }
+        requires no_cause { begin_cause self.old block ≡ None }
+        ensures ok { IfOk result
+            (BeginsOrLoses (leg_type L.model L.honest) self.old self.new block «data») }
+        ensures acts { IsTrue L.honest
+            → IfOk result (IsExplainedBegin L.model self.old self.new block «data») }
+        ensures refused { IfErr result (λ refused. RefusesBegin (leg_type L.model L.honest)
+            self.old self.new block «data» refused.0) }
+        ensures refused_acts { IsTrue L.honest
+            → OnErr result (IsExplainedStep L.model [] self.old self.new) }
         ensures handed_back { IfErr result (λ refused. refused.1 ≡ «data») }
-        ensures stays { OnErr result (self.new ≡ self.old) }
     {
-        match self.store.begin_cause(block) {
-            Some(refusal) => Err((refusal, data)),
-            None => Ok(self.store.begin(block, data)),
+        let mut base = Block::ZERO;
+        let master = self.store.master();
+        if self.store.read_leg(master, block, &mut base).is_ok() {
+            return Ok(Beginning::Begun(self.store.begin(block, data, &base)));
         }
+        if self.store.is_last(master) {
+            return Err((Refusal::Fault, data));
+        }
+        self.store.lose(master);
+        Ok(Beginning::LegLost(master, data))
+    }
+
+    /// Begins a write of a block. It gets the next ticket, owes each leg that is current there, and
+    /// takes effect later. The block's region falls behind on each leg that is out. A part is laid
+    /// over what the master holds, in this one step.
+    ///
+    /// Refused as `Stopped`, `Settling`, `Busy`, `Copying`, `Full`, `Exhausted` or, for a part,
+    /// `Fault` (the only leg in sync failed), the first whose condition holds; the data come back.
+    pub fn begin(&mut self, block: u64, data: Data) -> Result<Beginning, (Refusal, Data)>
+        requires inside { block < self.old.place.blocks }
+        requires fits { FitsBlock «data» }
+        ensures ok { IfOk result
+            (BeginsOrLoses (leg_type L.model L.honest) self.old self.new block «data») }
+        ensures acts { IsTrue L.honest
+            → IfOk result (IsExplainedBegin L.model self.old self.new block «data») }
+        ensures refused { IfErr result (λ refused. RefusesBegin (leg_type L.model L.honest)
+            self.old self.new block «data» refused.0) }
+        ensures refused_acts { IsTrue L.honest
+            → OnErr result (IsExplainedStep L.model [] self.old self.new) }
+        ensures handed_back { IfErr result (λ refused. refused.1 ≡ «data») }
+    {
+        if let Some(refusal) = self.store.begin_cause(block) {
+            return Err((refusal, data));
+        }
+        if !data.is_part() {
+            return Ok(Beginning::Begun(self.store.begin(block, data, &Block::ZERO)));
+        }
+        self.begin_part(block, data)
     }
 }

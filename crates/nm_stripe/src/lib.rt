@@ -7,6 +7,7 @@
 #![tactic(auto)]
 
 pub use answer::{Answer, Handed};
+pub use begin::Beginning;
 pub use copy::Copying;
 pub use end::End;
 pub use fail::Failing;

@@ -1,10 +1,12 @@
 //! Does one step.
 ghost use Rattle.nm_leg.specs.Leg.{leg_type};
 ghost use Rattle.std.specs.Prelude.{◌≡◌, ◌<◌, [], ◌∷◌, length, IsTrue, Some};
+ghost use Rattle.nm_fanout.specs.Data.{FitsBlock};
 ghost use Rattle.nm_rules.specs.Acts.{IsExplainedStep};
 ghost use Rattle.nm_stripe.specs.Run.{MayBeAsked, StepOf, NoneHalted, marks};
 
 use crate::answer::{Answer, Handed};
+use crate::begin::Beginning;
 use crate::copy::Copying;
 use crate::fail::Failing;
 use crate::push::Reach;
@@ -21,7 +23,7 @@ use std::marker::PhantomData;
 /// One step of a stripe: one hold of its lock, with at most one call of a leg.
 #[derive(Drop)]
 pub enum Step<L> {
-    /// Begins a write of this block.
+    /// Begins a write of this block, or of a part of it.
     Begin(u64, Data),
     /// Pushes the write of this ticket to this leg.
     Push(u64, u8),
@@ -58,6 +60,23 @@ fn lost<L: LegPart>(leg: u8) -> Answer<L>
 }
 
 impl<L: LegPart> Stripe<L> {
+    /// A begin. The data come back with every answer but `Begun`.
+    fn step_begin(&mut self, block: u64, data: Data) -> Answer<L>
+        requires inside { block < self.old.place.blocks }
+        requires fits { FitsBlock «data» }
+        ensures step { StepOf (leg_type L.model L.honest) (Step.Begin block «data») result
+            self.old self.new }
+        ensures acts { IsTrue L.honest
+            → IsExplainedStep L.model (marks (Step.Begin block «data») result)
+            self.old self.new }
+    {
+        match self.begin(block, data) {
+            Ok(Beginning::Begun(ticket)) => Answer::Begun(ticket),
+            Ok(Beginning::LegLost(leg, data)) => Answer::LegLost(leg, Handed::Data(data)),
+            Err((refusal, data)) => Answer::Refused(refusal, Handed::Data(data)),
+        }
+    }
+
     /// A read, whose answer carries the block.
     fn step_read(&mut self, block: u64) -> Answer<L>
         requires { block < self.old.place.blocks }
@@ -169,10 +188,7 @@ impl<L: LegPart> Stripe<L> {
     {
         self.sound();
         match step {
-            Step::Begin(block, data) => match self.begin(block, data) {
-                Ok(ticket) => Answer::Begun(ticket),
-                Err((refusal, data)) => Answer::Refused(refusal, Handed::Data(data)),
-            },
+            Step::Begin(block, data) => self.step_begin(block, data),
             Step::Push(ticket, leg) => self.step_push(ticket, leg),
             Step::Claim(ticket) => match self.claim(ticket) {
                 Ok(written) => Answer::Written(written),

@@ -13,6 +13,8 @@ use std::test::Fail;
 #[derive(Clone, Copy, Debug)]
 pub enum Ask {
     Begin(u64, u8),
+    /// So many bytes of this block from a place on: block, place, how many, byte.
+    Patch(u64, u16, u16, u8),
     Push(u64, u8),
     Claim(u64),
     Read(u64),
@@ -54,10 +56,22 @@ pub fn filled(alloc: Global, byte: u8) -> Result<Data, AllocError> {
     Ok(Data::Cut(buffer.freeze_to(512)?))
 }
 
+/// At most 512 bytes of one value for a part of a block, from this place on.
+pub fn part(alloc: Global, from: u16, len: u16, byte: u8) -> Result<Data, AllocError> {
+    if byte == 0 {
+        return Ok(Data::ZeroPart { from, len });
+    }
+    let mut buffer = BytesMut::new(alloc);
+    buffer.extend_from_slice(&[byte; 512])?;
+    let bytes = buffer.freeze_to((len as usize).min(512))?;
+    Ok(Data::Part { from, bytes })
+}
+
 /// The step, whose leg that takes another's place is the last of `spare`.
 pub fn step_of<L: LegPart>(alloc: Global, spare: &mut Vec<L>, ask: Ask) -> Result<Step<L>, Fail> {
     Ok(match ask {
         Ask::Begin(block, byte) => Step::Begin(block, filled(alloc, byte)?),
+        Ask::Patch(block, from, len, byte) => Step::Begin(block, part(alloc, from, len, byte)?),
         Ask::Push(ticket, leg) => Step::Push(ticket, leg),
         Ask::Claim(ticket) => Step::Claim(ticket),
         Ask::Read(block) => Step::Read(block),
@@ -76,7 +90,7 @@ pub fn may_ask<L: LegPart>(rt: &impl Abort, stripe: &Stripe<L>, step: &Step<L>)
 {
     match step {
         Step::Begin(block, data) => {
-            assert!(rt; *block < stripe.blocks() && data.fills_block());
+            assert!(rt; *block < stripe.blocks() && data.fits_block());
         }
         Step::Claim(_) => {}
         Step::Read(block) => assert!(rt; *block < stripe.blocks()),

@@ -4,7 +4,7 @@ use crate::opening::{Mirror, ONE_LEG, TWO_LEGS, opened};
 use nm_leg::{CountingLeg, FuseLeg, LegPart, MemLeg};
 use nm_replay::Block;
 use nm_stripe::{
-    Answer, At, Copying, Failing, Handed, LegState, Policy, Promotion, Reach, Reading, Refusal,
+    Answer, At, Beginning, Copying, Failing, Handed, LegState, Policy, Reach, Reading, Refusal,
     Step, Stripe, Syncing,
 };
 use std::alloc::Global;
@@ -25,22 +25,63 @@ fn a_new_stripe_has_no_write(rt: HostRuntime) -> Result<(), Fail> {
     Ok(())
 }
 
-#[test]
-fn a_write_by_its_own_calls(rt: HostRuntime) -> Result<(), Fail> {
-    let mut stripe = opened(&rt, rt.alloc(), ONE_LEG)?;
-    let data = filled(rt.alloc(), 0xaa)?;
-    assert!(rt; stripe.blocks() == 8 && data.fills_block());
-    let ticket = stripe.begin(2, data).ok().ok_or("begin")?;
-    assert_eq!(rt; stripe.next_owed(ticket), Some(0));
-    assert_eq!(rt; stripe.first_owed(), Some((0, 0)));
-    assert!(rt; stripe.legs() == 1);
-    assert_eq!(rt; stripe.push(ticket, 0), Ok(Reach::Complete(0)));
+/// Begins a write of this block, and answers with its ticket.
+fn begun(
+    rt: &impl Abort,
+    alloc: Global,
+    stripe: &mut Stripe<FuseLeg>,
+    block: u64,
+) -> Result<u64, Fail> {
+    let data = filled(alloc, 0xaa)?;
+    assert!(rt; block < stripe.blocks() && data.fits_block());
+    match stripe.begin(block, data) {
+        Ok(Beginning::Begun(ticket)) => Ok(ticket),
+        _other => Err(Fail::new("begin")),
+    }
+}
+
+fn pushes(rt: &impl Abort, stripe: &mut Stripe<FuseLeg>, ticket: u64, want: Reach) {
+    assert!(rt; 0 < stripe.legs());
+    assert_eq!(rt; stripe.push(ticket, 0), Ok(want));
+}
+
+fn claims(rt: &impl Abort, stripe: &mut Stripe<FuseLeg>, ticket: u64) -> Result<(), Fail> {
     let written = stripe.claim(ticket).ok().ok_or("claim")?;
     assert_eq!(rt;
         (written.stripe(), written.block(), written.number()),
         (7, 2, 0)
     );
     Ok(())
+}
+
+fn fails(rt: &impl Abort, stripe: &mut Stripe<FuseLeg>, want: Result<Failing, Refusal>) {
+    assert!(rt; stripe.legs() == 2);
+    assert_eq!(rt; stripe.fail(1), want);
+}
+
+fn attaches(rt: &impl Abort, stripe: &mut Stripe<FuseLeg>, want: Result<u64, Refusal>) {
+    assert!(rt; stripe.legs() == 2);
+    assert_eq!(rt; stripe.attach(1), want);
+}
+
+fn copies(rt: &impl Abort, stripe: &mut Stripe<FuseLeg>, leg: u8, want: Result<Copying, Refusal>) {
+    assert!(rt; (leg as usize) < stripe.legs());
+    assert_eq!(rt; stripe.copy(leg), want);
+}
+
+fn is_not_promoted(rt: &impl Abort, stripe: &mut Stripe<FuseLeg>, why: Refusal) {
+    assert!(rt; stripe.legs() == 2);
+    assert_eq!(rt; stripe.promote(1), Err(why));
+}
+
+#[test]
+fn a_write_by_its_own_calls(rt: HostRuntime) -> Result<(), Fail> {
+    let mut stripe = opened(&rt, rt.alloc(), ONE_LEG)?;
+    let ticket = begun(&rt, rt.alloc(), &mut stripe, 2)?;
+    assert_eq!(rt; stripe.next_owed(ticket), Some(0));
+    assert_eq!(rt; stripe.first_owed(), Some((0, 0)));
+    pushes(&rt, &mut stripe, ticket, Reach::Complete(0));
+    claims(&rt, &mut stripe, ticket)
 }
 
 #[test]
@@ -90,12 +131,9 @@ const JOINING: Mirror = Mirror {
 #[test]
 fn a_leg_goes_out_and_comes_back(rt: HostRuntime) -> Result<(), Fail> {
     let mut stripe = opened(&rt, rt.alloc(), TWO_LEGS)?;
-    assert!(rt; stripe.legs() == 2);
-    assert_eq!(rt; stripe.fail(1), Ok(Failing::Failed));
-    assert!(rt; stripe.legs() == 2);
-    assert_eq!(rt; stripe.fail(1), Err(Refusal::AlreadyOut));
-    assert!(rt; stripe.legs() == 2);
-    assert_eq!(rt; stripe.attach(1), Ok(0));
+    fails(&rt, &mut stripe, Ok(Failing::Failed));
+    fails(&rt, &mut stripe, Err(Refusal::AlreadyOut));
+    attaches(&rt, &mut stripe, Ok(0));
     assert!(rt; stripe.legs() == 2);
     assert_eq!(rt; stripe.state(1), LegState::Joining);
     Ok(())
@@ -104,12 +142,9 @@ fn a_leg_goes_out_and_comes_back(rt: HostRuntime) -> Result<(), Fail> {
 #[test]
 fn a_leg_that_joins_is_copied_first(rt: HostRuntime) -> Result<(), Fail> {
     let mut stripe = opened(&rt, rt.alloc(), JOINING)?;
-    assert!(rt; stripe.legs() == 2);
-    assert_eq!(rt; stripe.promote(1), Err(Refusal::NotYet));
-    assert!(rt; stripe.legs() == 2);
-    assert_eq!(rt; stripe.copy(1), Ok(Copying::Copied(8)));
-    assert!(rt; stripe.legs() == 2);
-    assert_eq!(rt; stripe.copy(0), Err(Refusal::NotJoining));
+    is_not_promoted(&rt, &mut stripe, Refusal::NotYet);
+    copies(&rt, &mut stripe, 1, Ok(Copying::Copied(8)));
+    copies(&rt, &mut stripe, 0, Err(Refusal::NotJoining));
     Ok(())
 }
 
@@ -118,16 +153,14 @@ fn a_synced_leg_stays_as_it_is(rt: HostRuntime) -> Result<(), Fail> {
     let mut stripe = opened(&rt, rt.alloc(), TWO_LEGS)?;
     assert!(rt; stripe.legs() == 2);
     assert_eq!(rt; stripe.sync(1), Ok(Syncing::Synced));
-    assert!(rt; stripe.legs() == 2);
-    assert_eq!(rt; stripe.promote(1), Err(Refusal::NotJoining));
+    is_not_promoted(&rt, &mut stripe, Refusal::NotJoining);
     Ok(())
 }
 
 #[test]
 fn a_leg_is_replaced_by_a_new_one(rt: HostRuntime) -> Result<(), Fail> {
     let mut stripe = opened(&rt, rt.alloc(), TWO_LEGS)?;
-    assert!(rt; stripe.legs() == 2);
-    assert_eq!(rt; stripe.fail(1), Ok(Failing::Failed));
+    fails(&rt, &mut stripe, Ok(Failing::Failed));
     let part = FuseLeg::filled(rt.alloc(), 8, 0xff)?;
     assert!(rt; stripe.legs() == 2 && stripe.blocks() == 8 && part.len() == 8);
     match stripe.replace(1, part) {
@@ -140,11 +173,8 @@ fn a_leg_is_replaced_by_a_new_one(rt: HostRuntime) -> Result<(), Fail> {
 #[test]
 fn an_end_counts_the_writes_that_are_left(rt: HostRuntime) -> Result<(), Fail> {
     let mut stripe = opened(&rt, rt.alloc(), TWO_LEGS)?;
-    let data = filled(rt.alloc(), 0xaa)?;
-    assert!(rt; stripe.blocks() == 8 && data.fills_block());
-    let ticket = stripe.begin(2, data).ok().ok_or("begin")?;
-    assert!(rt; stripe.legs() == 2);
-    assert_eq!(rt; stripe.push(ticket, 0), Ok(Reach::Pushed(1)));
+    let ticket = begun(&rt, rt.alloc(), &mut stripe, 2)?;
+    pushes(&rt, &mut stripe, ticket, Reach::Pushed(1));
     let end = stripe.end();
     assert_eq!(rt;
         (end.stripe(), end.total(), end.left(), end.landed()),
@@ -199,27 +229,8 @@ const CALLS: [(u64, u64); 19] = [
     (8, 6),
 ];
 
-/// Does the steps one by one, and compares their answers and the calls of the two legs.
-fn compare_calls(
-    rt: &impl Abort,
-    alloc: Global,
-    stripe: &mut Stripe<CountingLeg<MemLeg>>,
-) -> Result<(), Fail> {
-    for ((ask, want), calls) in HEALING.iter().zip(CALLS) {
-        let step = step_of(alloc, &mut Vec::new(alloc), *ask)?;
-        may_ask(rt, stripe, &step);
-        let answer = stripe.step(step);
-        assert_eq!(rt; summary_of(&answer), *want, "at {ask:?}");
-        assert!(rt; stripe.legs() == 2);
-        let made = (stripe.part(0).calls(), stripe.part(1).calls());
-        assert_eq!(rt; made, calls, "at {ask:?}");
-    }
-    Ok(())
-}
-
-#[test]
-fn a_step_makes_at_most_one_call_of_a_leg(rt: HostRuntime) -> Result<(), Fail> {
-    let alloc = rt.alloc();
+/// Two legs that count their calls.
+fn counting(alloc: Global) -> Result<Stripe<CountingLeg<MemLeg>>, Fail> {
     let mut legs = Vec::new(alloc);
     legs.push(CountingLeg::new(MemLeg::new(alloc, 8)?))?;
     legs.push(CountingLeg::new(MemLeg::new(alloc, 8)?))?;
@@ -229,8 +240,34 @@ fn a_step_makes_at_most_one_call_of_a_leg(rt: HostRuntime) -> Result<(), Fail> {
         region: 4,
         chunk: 2,
     };
-    let mut stripe = Stripe::open(alloc, place, legs, 3, 0, Policy::RoundRobin)
-        .ok()
-        .ok_or("no memory")?;
-    compare_calls(&rt, alloc, &mut stripe)
+    Ok(
+        Stripe::open(alloc, place, legs, 3, 0, Policy::RoundRobin)
+            .ok()
+            .ok_or("no memory")?,
+    )
+}
+
+/// Does the steps one by one on two legs, and compares their answers and the calls of each leg.
+pub fn compare_calls(
+    rt: &impl Abort,
+    alloc: Global,
+    rows: &[(Ask, Summary)],
+    calls: &[(u64, u64)],
+) -> Result<(), Fail> {
+    let mut stripe = counting(alloc)?;
+    for ((ask, want), calls) in rows.iter().zip(calls) {
+        let step = step_of(alloc, &mut Vec::new(alloc), *ask)?;
+        may_ask(rt, &stripe, &step);
+        let answer = stripe.step(step);
+        assert_eq!(rt; summary_of(&answer), *want, "at {ask:?}");
+        assert!(rt; stripe.legs() == 2);
+        let made = (stripe.part(0).calls(), stripe.part(1).calls());
+        assert_eq!(rt; made, *calls, "at {ask:?}");
+    }
+    Ok(())
+}
+
+#[test]
+fn a_step_makes_at_most_one_call_of_a_leg(rt: HostRuntime) -> Result<(), Fail> {
+    compare_calls(&rt, rt.alloc(), &HEALING, &CALLS)
 }

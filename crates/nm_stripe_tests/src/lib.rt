@@ -7,10 +7,18 @@ mod asking;
 #[cfg(test)]
 mod calls;
 #[cfg(test)]
+mod healing;
+#[cfg(test)]
 mod opening;
 #[cfg(test)]
 mod parts;
 #[cfg(test)]
+mod patches;
+#[cfg(test)]
+mod refusals;
+#[cfg(test)]
 mod rows;
 #[cfg(test)]
 mod stripes;
+#[cfg(test)]
+mod worked;

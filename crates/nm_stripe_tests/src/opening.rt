@@ -7,7 +7,7 @@ use std::process::Abort;
 use std::test::Fail;
 
 /// What a stripe is opened with.
-#[derive(Clone, Copy, Debug)]
+#[derive(Clone, Copy)]
 pub struct Mirror {
     pub legs: u8,
     pub in_sync: u8,
@@ -17,9 +17,11 @@ pub struct Mirror {
     pub chunk: u64,
     pub policy: Policy,
     pub first: u64,
+    /// Which leg fails one of its calls, and which of them, from 1 on.
+    pub fuse: Option<(u8, u64)>,
 }
 
-/// One leg, that reads in turn, and whose first entry has number 0.
+/// One leg that fails no call, that reads in turn, and whose first entry has number 0.
 pub const ONE_LEG: Mirror = Mirror {
     legs: 1,
     in_sync: 1,
@@ -29,6 +31,7 @@ pub const ONE_LEG: Mirror = Mirror {
     chunk: 2,
     policy: Policy::RoundRobin,
     first: 0,
+    fuse: None,
 };
 
 /// Two legs of two regions.
@@ -77,7 +80,17 @@ pub fn try_open(
     }
 }
 
-/// As `try_open`, where memory is ample.
+/// Sets the leg's fuse, whose call of this number from now fails.
+pub fn fuse(rt: &impl Abort, stripe: &Stripe<FuseLeg>, leg: u8, call: u64) {
+    assert!(rt; (leg as usize) < stripe.legs() && 0 < call);
+    stripe.part(leg).set(call);
+}
+
+/// As `try_open`, where memory is ample, and with the fuse set.
 pub fn opened(rt: &impl Abort, alloc: Global, mirror: Mirror) -> Result<Stripe<FuseLeg>, Fail> {
-    Ok(try_open(rt, alloc, mirror)?.ok().ok_or("no memory")?)
+    let stripe = try_open(rt, alloc, mirror)?.ok().ok_or("no memory")?;
+    if let Some((leg, call)) = mirror.fuse {
+        fuse(rt, &stripe, leg, call);
+    }
+    Ok(stripe)
 }

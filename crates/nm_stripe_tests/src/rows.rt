@@ -1,11 +1,9 @@
 //! Worked lists of steps, with a leg that fails or is copied, and what the stripe is after them.
-use crate::asking::{Ask, Summary, compare, compare_with};
-use crate::opening::{Mirror, ONE_LEG, THREE_LEGS, TWO_LEGS, opened};
-use nm_leg::{FuseLeg, LegPart};
-use nm_replay::{Block, Kind, check};
-use nm_stripe::{LegState, Policy, Refusal, Stripe};
-use std::alloc::Global;
-use std::process::Abort;
+use crate::asking::{Ask, Summary, compare};
+use crate::opening::{Mirror, TWO_LEGS, fuse, opened};
+use crate::worked::{after, has, holds, stand};
+use nm_replay::{Kind, check};
+use nm_stripe::{LegState, Policy, Refusal};
 use std::test::Fail;
 
 const SETTLING: Summary = Summary::Refused(Refusal::Settling);
@@ -18,27 +16,36 @@ const LONGER: Mirror = Mirror {
     ..TWO_LEGS
 };
 
-/// Sets the leg's fuse, whose call of this number from now fails.
-fn fuse(rt: &impl Abort, stripe: &Stripe<FuseLeg>, leg: u8, call: u64) {
-    assert!(rt; (leg as usize) < stripe.legs() && 0 < call);
-    stripe.part(leg).set(call);
-}
+/// As `LONGER`, on three legs.
+const LONGER_OF_THREE: Mirror = Mirror {
+    legs: 3,
+    in_sync: 7,
+    ..LONGER
+};
 
-/// Compares how a leg stands, and how many blocks are left to copy to it.
-fn stands(rt: &impl Abort, stripe: &Stripe<FuseLeg>, leg: u8, state: LegState, left: u64) {
-    assert!(rt; (leg as usize) < stripe.legs());
-    assert_eq!(rt; stripe.state(leg), state);
-    assert_eq!(rt; stripe.left(leg), left);
-}
+/// 10 blocks in regions of 4: the last region is short.
+const SHORTER: Mirror = Mirror {
+    blocks: 10,
+    ..TWO_LEGS
+};
 
-/// Compares the first and the last byte of a block of a leg.
-fn holds(rt: &impl Abort, stripe: &Stripe<FuseLeg>, leg: u8, block: u64, want: (u8, u8)) {
-    assert!(rt; (leg as usize) < stripe.legs());
-    let part = stripe.part(leg);
-    assert!(rt; block < part.len());
-    let bytes = part.block(block);
-    assert_eq!(rt; (bytes.0[0], bytes.0[511]), want);
-}
+/// Two legs, of which the first fails its first call.
+const FIRST_FAILS: Mirror = Mirror {
+    fuse: Some((0, 1)),
+    ..TWO_LEGS
+};
+
+/// Two legs, of which the second fails its first call.
+const SECOND_FAILS: Mirror = Mirror {
+    fuse: Some((1, 1)),
+    ..TWO_LEGS
+};
+
+/// Two legs, of which each region has its own, and the second fails its first call.
+const SECOND_OF_STRIPED_FAILS: Mirror = Mirror {
+    policy: Policy::Striped,
+    ..SECOND_FAILS
+};
 
 const MASTER_HAD_IT: [(Ask, Summary); 8] = [
     (Ask::Begin(3, 0xaa), Summary::Begun(0)),
@@ -53,10 +60,8 @@ const MASTER_HAD_IT: [(Ask, Summary); 8] = [
 
 #[test]
 fn the_master_fails_after_it_had_the_write(rt: HostRuntime) -> Result<(), Fail> {
-    let mut stripe = opened(&rt, rt.alloc(), LONGER)?;
-    compare(&rt, rt.alloc(), &mut stripe, &MASTER_HAD_IT)?;
-    assert_eq!(rt; (stripe.master(), stripe.is_settling()), (1, false));
-    stands(&rt, &stripe, 0, LegState::Out, 8);
+    let stripe = after(&rt, rt.alloc(), LONGER, &MASTER_HAD_IT)?;
+    stand(&rt, &stripe, 1, &[(LegState::Out, 8)]);
     Ok(())
 }
 
@@ -72,8 +77,7 @@ const OTHER_HAD_IT: [(Ask, Summary); 7] = [
 
 #[test]
 fn the_other_leg_alone_had_the_write(rt: HostRuntime) -> Result<(), Fail> {
-    let mut stripe = opened(&rt, rt.alloc(), LONGER)?;
-    compare(&rt, rt.alloc(), &mut stripe, &OTHER_HAD_IT)
+    has(&rt, rt.alloc(), LONGER, &OTHER_HAD_IT)
 }
 
 const THREE_UNDER_WAY: [(Ask, Summary); 15] = [
@@ -103,16 +107,7 @@ const THREE_KEPT: [(Kind, u64, u8); 4] = [
 
 #[test]
 fn three_writes_under_way_take_effect_by_ticket(rt: HostRuntime) -> Result<(), Fail> {
-    let mut stripe = opened(
-        &rt,
-        rt.alloc(),
-        Mirror {
-            legs: 3,
-            in_sync: 7,
-            ..LONGER
-        },
-    )?;
-    compare(&rt, rt.alloc(), &mut stripe, &THREE_UNDER_WAY)?;
+    let stripe = after(&rt, rt.alloc(), LONGER_OF_THREE, &THREE_UNDER_WAY)?;
     let kept = stripe.entries(rt.alloc())?;
     assert!(rt; check(&kept));
     assert_eq!(rt; kept.len(), 4);
@@ -122,7 +117,7 @@ fn three_writes_under_way_take_effect_by_ticket(rt: HostRuntime) -> Result<(), F
     Ok(())
 }
 
-const TO_REPLACED: [(Ask, Summary); 16] = [
+const TO_REPLACED: [(Ask, Summary); 30] = [
     (Ask::Fail(1), Summary::Failed),
     (Ask::Replace(1), Summary::Joining(8)),
     (Ask::Copy(1), Summary::Copied(8)),
@@ -139,9 +134,6 @@ const TO_REPLACED: [(Ask, Summary); 16] = [
     (Ask::Push(1, 1), Summary::Refused(Refusal::NotOwed)),
     (Ask::Claim(0), Summary::Written(0)),
     (Ask::Claim(1), Summary::Written(1)),
-];
-
-const TO_THE_END: [(Ask, Summary); 14] = [
     (Ask::Copy(1), Summary::Copied(6)),
     (Ask::Copy(1), Summary::Copied(5)),
     (Ask::Copy(1), Summary::Copied(4)),
@@ -160,13 +152,13 @@ const TO_THE_END: [(Ask, Summary); 14] = [
 
 #[test]
 fn a_new_leg_is_copied_while_writes_go_on(rt: HostRuntime) -> Result<(), Fail> {
-    let mut stripe = opened(&rt, rt.alloc(), TWO_LEGS)?;
-    let mut spare = Vec::new(rt.alloc());
-    spare.push(FuseLeg::filled(rt.alloc(), 8, 0xff)?)?;
-    compare_with(&rt, rt.alloc(), &mut stripe, spare, &TO_REPLACED)?;
-    stands(&rt, &stripe, 1, LegState::Joining, 6);
-    compare(&rt, rt.alloc(), &mut stripe, &TO_THE_END)?;
-    stands(&rt, &stripe, 1, LegState::InSync, 0);
+    let stripe = after(&rt, rt.alloc(), TWO_LEGS, &TO_REPLACED)?;
+    stand(
+        &rt,
+        &stripe,
+        0,
+        &[(LegState::InSync, 0), (LegState::InSync, 0)],
+    );
     holds(&rt, &stripe, 1, 1, (0xaa, 0xaa));
     holds(&rt, &stripe, 1, 5, (0xcc, 0xcc));
     Ok(())
@@ -187,18 +179,11 @@ const SHORT_REGION: [(Ask, Summary); 10] = [
 
 #[test]
 fn the_last_region_may_be_short(rt: HostRuntime) -> Result<(), Fail> {
-    let mut stripe = opened(
-        &rt,
-        rt.alloc(),
-        Mirror {
-            blocks: 10,
-            ..TWO_LEGS
-        },
-    )?;
-    compare(&rt, rt.alloc(), &mut stripe, &SHORT_REGION)
+    has(&rt, rt.alloc(), SHORTER, &SHORT_REGION)
 }
 
-const LAST_LEG_READS: [(Ask, Summary); 4] = [
+const LAST_LEG_READS: [(Ask, Summary); 5] = [
+    (Ask::Fail(1), Summary::Failed),
     (Ask::Read(0), Summary::Refused(Refusal::Fault)),
     (Ask::Read(0), Summary::Value(0, 0x00)),
     (Ask::Fail(0), Summary::Refused(Refusal::LastLeg)),
@@ -212,14 +197,7 @@ const LAST_LEG_HALTS: [(Ask, Summary); 2] = [
 
 #[test]
 fn the_last_leg_is_not_lost(rt: HostRuntime) -> Result<(), Fail> {
-    let mut stripe = opened(&rt, rt.alloc(), TWO_LEGS)?;
-    compare(
-        &rt,
-        rt.alloc(),
-        &mut stripe,
-        &[(Ask::Fail(1), Summary::Failed)],
-    )?;
-    fuse(&rt, &stripe, 0, 1);
+    let mut stripe = opened(&rt, rt.alloc(), FIRST_FAILS)?;
     compare(&rt, rt.alloc(), &mut stripe, &LAST_LEG_READS)?;
     fuse(&rt, &stripe, 0, 1);
     compare(&rt, rt.alloc(), &mut stripe, &LAST_LEG_HALTS)?;
@@ -227,17 +205,11 @@ fn the_last_leg_is_not_lost(rt: HostRuntime) -> Result<(), Fail> {
     Ok(())
 }
 
-const TORN_BEGINS: [(Ask, Summary); 2] = [
+const TORN: [(Ask, Summary); 10] = [
     (Ask::Begin(0, 0xaa), Summary::Begun(0)),
     (Ask::Begin(0, 0xbb), Summary::Refused(Refusal::Busy(0))),
-];
-
-const TORN: [(Ask, Summary); 2] = [
     (Ask::Push(0, 1), Summary::LegLost(1)),
     (Ask::Push(0, 0), Summary::Complete(0)),
-];
-
-const AFTER_TORN: [(Ask, Summary); 6] = [
     (Ask::Attach(1), Summary::Joining(4)),
     (Ask::Begin(1, 0xbb), Summary::Begun(1)),
     (Ask::Copy(1), Summary::Refused(Refusal::Busy(1))),
@@ -248,21 +220,15 @@ const AFTER_TORN: [(Ask, Summary); 6] = [
 
 #[test]
 fn a_write_that_fails_is_torn(rt: HostRuntime) -> Result<(), Fail> {
-    let mut stripe = opened(&rt, rt.alloc(), TWO_LEGS)?;
-    compare(&rt, rt.alloc(), &mut stripe, &TORN_BEGINS)?;
-    fuse(&rt, &stripe, 1, 1);
-    compare(&rt, rt.alloc(), &mut stripe, &TORN)?;
+    let stripe = after(&rt, rt.alloc(), SECOND_FAILS, &TORN)?;
     holds(&rt, &stripe, 1, 0, (0xaa, 0x00));
-    compare(&rt, rt.alloc(), &mut stripe, &AFTER_TORN)
+    Ok(())
 }
 
-const SYNCED: [(Ask, Summary); 3] = [
+const SYNC_FAILS: [(Ask, Summary); 6] = [
     (Ask::Begin(0, 0xaa), Summary::Begun(0)),
     (Ask::Push(0, 0), Summary::Pushed(1)),
     (Ask::Sync(0), Summary::Synced),
-];
-
-const SYNC_FAILS: [(Ask, Summary); 3] = [
     (Ask::Sync(1), Summary::LegLost(1)),
     (Ask::Claim(0), Summary::Written(0)),
     (Ask::Attach(1), Summary::Joining(8)),
@@ -270,10 +236,7 @@ const SYNC_FAILS: [(Ask, Summary); 3] = [
 
 #[test]
 fn a_sync_that_fails_leaves_all_to_copy(rt: HostRuntime) -> Result<(), Fail> {
-    let mut stripe = opened(&rt, rt.alloc(), TWO_LEGS)?;
-    compare(&rt, rt.alloc(), &mut stripe, &SYNCED)?;
-    fuse(&rt, &stripe, 1, 1);
-    compare(&rt, rt.alloc(), &mut stripe, &SYNC_FAILS)
+    has(&rt, rt.alloc(), SECOND_FAILS, &SYNC_FAILS)
 }
 
 const STRIPED: [(Ask, Summary); 2] = [
@@ -283,13 +246,7 @@ const STRIPED: [(Ask, Summary); 2] = [
 
 #[test]
 fn the_second_region_is_read_from_the_second_leg(rt: HostRuntime) -> Result<(), Fail> {
-    let mirror = Mirror {
-        policy: Policy::Striped,
-        ..TWO_LEGS
-    };
-    let mut stripe = opened(&rt, rt.alloc(), mirror)?;
-    fuse(&rt, &stripe, 1, 1);
-    compare(&rt, rt.alloc(), &mut stripe, &STRIPED)
+    has(&rt, rt.alloc(), SECOND_OF_STRIPED_FAILS, &STRIPED)
 }
 
 const MASTER_LOST: [(Ask, Summary); 2] = [
@@ -299,11 +256,12 @@ const MASTER_LOST: [(Ask, Summary); 2] = [
 
 #[test]
 fn a_read_loses_the_master(rt: HostRuntime) -> Result<(), Fail> {
-    let mut stripe = opened(&rt, rt.alloc(), TWO_LEGS)?;
-    fuse(&rt, &stripe, 0, 1);
-    compare(&rt, rt.alloc(), &mut stripe, &MASTER_LOST)?;
-    assert_eq!(rt; (stripe.master(), stripe.is_settling()), (1, false));
-    stands(&rt, &stripe, 0, LegState::Out, 0);
-    stands(&rt, &stripe, 1, LegState::InSync, 0);
+    let stripe = after(&rt, rt.alloc(), FIRST_FAILS, &MASTER_LOST)?;
+    stand(
+        &rt,
+        &stripe,
+        1,
+        &[(LegState::Out, 0), (LegState::InSync, 0)],
+    );
     Ok(())
 }

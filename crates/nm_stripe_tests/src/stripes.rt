@@ -1,8 +1,9 @@
 //! The stripe: worked lists of steps with their answers, and what each call of a leg is for.
 ghost use Rattle.std.specs.Prelude.{◌≡◌, ◌<◌, ◌≤◌, length};
 
-use crate::asking::{Ask, Summary, compare, compare_each, steps_of};
-use crate::opening::{Mirror, ONE_LEG, TWO_LEGS, opened, try_open};
+use crate::asking::{Ask, Summary, compare};
+use crate::opening::{Mirror, ONE_LEG, TWO_LEGS, try_open};
+use crate::worked::{after, has};
 use nm_leg::{FailingLeg, LegPart, LyingLeg};
 use nm_replay::{Block, Entry, Kind, check};
 use nm_stripe::{At, Policy, Refusal, Stripe};
@@ -29,11 +30,6 @@ const LAST_NUMBER: [(Ask, Summary); 5] = [
         Summary::Complete(9_223_372_036_854_775_807),
     ),
     (Ask::Claim(0), Summary::Written(9_223_372_036_854_775_807)),
-];
-
-const NO_NUMBER_LEFT: [(Ask, Summary); 2] = [
-    (Ask::Begin(0, 0xaa), Summary::Refused(Refusal::Exhausted)),
-    (Ask::Read(0), Summary::Refused(Refusal::Exhausted)),
 ];
 
 const FIRST_CONDITIONS: [(Ask, Summary); 12] = [
@@ -80,11 +76,6 @@ const LAST_FIRST: Mirror = Mirror {
     ..ONE_LEG
 };
 
-const PAST_FIRST: Mirror = Mirror {
-    first: 9_223_372_036_854_775_808,
-    ..ONE_LEG
-};
-
 const LONG: Mirror = Mirror {
     blocks: 300,
     region: 128,
@@ -94,8 +85,7 @@ const LONG: Mirror = Mirror {
 
 #[test]
 fn a_write_takes_effect_at_the_master(rt: HostRuntime) -> Result<(), Fail> {
-    let mut stripe = opened(&rt, rt.alloc(), TWO_LEGS)?;
-    compare(&rt, rt.alloc(), &mut stripe, &WRITE_AND_READS)?;
+    let stripe = after(&rt, rt.alloc(), TWO_LEGS, &WRITE_AND_READS)?;
     let kept = stripe.entries(rt.alloc())?;
     assert_eq!(rt; stripe.total(), 4);
     assert_eq!(rt; kept.len(), 4);
@@ -122,11 +112,8 @@ fn a_write_takes_effect_at_the_master(rt: HostRuntime) -> Result<(), Fail> {
 }
 
 #[test]
-fn no_number_reaches_two_to_the_63(rt: HostRuntime) -> Result<(), Fail> {
-    let mut stripe = opened(&rt, rt.alloc(), LAST_FIRST)?;
-    compare(&rt, rt.alloc(), &mut stripe, &LAST_NUMBER)?;
-    let mut past = opened(&rt, rt.alloc(), PAST_FIRST)?;
-    compare(&rt, rt.alloc(), &mut past, &NO_NUMBER_LEFT)
+fn the_last_number_is_given_to_one_entry(rt: HostRuntime) -> Result<(), Fail> {
+    has(&rt, rt.alloc(), LAST_FIRST, &LAST_NUMBER)
 }
 
 /// 256 begins, and the steps after them.
@@ -141,14 +128,12 @@ fn full_and_after(alloc: Global) -> Result<Vec<(Ask, Summary)>, AllocError> {
 
 #[test]
 fn no_more_than_256_records_stand(rt: HostRuntime) -> Result<(), Fail> {
-    let mut stripe = opened(&rt, rt.alloc(), LONG)?;
-    compare(&rt, rt.alloc(), &mut stripe, &full_and_after(rt.alloc())?)
+    has(&rt, rt.alloc(), LONG, &full_and_after(rt.alloc())?)
 }
 
 #[test]
 fn the_first_condition_that_holds_is_answered(rt: HostRuntime) -> Result<(), Fail> {
-    let mut stripe = opened(&rt, rt.alloc(), TWO_LEGS)?;
-    compare(&rt, rt.alloc(), &mut stripe, &FIRST_CONDITIONS)
+    has(&rt, rt.alloc(), TWO_LEGS, &FIRST_CONDITIONS)
 }
 
 fn at(blocks: u64) -> At
@@ -187,29 +172,6 @@ fn a_leg_that_fails_stops_the_stripe(rt: HostRuntime) -> Result<(), Fail> {
 #[test]
 fn a_leg_that_lies_is_believed(rt: HostRuntime) -> Result<(), Fail> {
     read_begin_push(&rt, rt.alloc(), LyingLeg::new(4), &LYING)
-}
-
-// With one allocation after another refused (`rt try --test --fail-alloc N`) this ends without a
-// stripe or has the same answers: after `open` nothing is allocated.
-fn same_answers(
-    rt: &impl Abort,
-    alloc: Global,
-    mirror: Mirror,
-    rows: &[(Ask, Summary)],
-) -> Result<(), Fail> {
-    let steps = steps_of(alloc, Vec::new(alloc), rows)?;
-    let mut stripe = opened(rt, alloc, mirror)?;
-    compare_each(rt, &mut stripe, steps, rows);
-    Ok(())
-}
-
-#[test]
-fn steps_take_no_memory(rt: HostRuntime) -> Result<(), Fail> {
-    let alloc = rt.alloc();
-    same_answers(&rt, alloc, TWO_LEGS, &WRITE_AND_READS)?;
-    same_answers(&rt, alloc, LAST_FIRST, &LAST_NUMBER)?;
-    let rows = full_and_after(alloc)?;
-    same_answers(&rt, alloc, LONG, &rows)
 }
 
 // Refused memory (`rt try --test --fail-alloc N`), `open` gives back the legs as they were.

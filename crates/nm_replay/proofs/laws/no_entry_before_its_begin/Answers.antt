@@ -6,10 +6,10 @@ use Rattle.nm_replay.proofs.ReadStages.{read_stage, read-forward, read-between, 
 use Rattle.nm_replay.proofs.laws.no_entry_before_its_begin.Goals as goal
 
 pub returns-clause-write : goal.returns-clause-write
-returns-clause-write c ticket number block other bytes others front between later from to x =
-    let two = write-between ticket (from.writes ticket) (to.writes ticket) front between later (Lands (entry_of_write number ticket block bytes)) (BeginsWrite ticket other others) (x.each_write ticket) in
-    let opens = write-lands number ticket block bytes two.before two.after two.opens in
-    let closes = write-begins ticket other others two.found two.end two.closes in
+returns-clause-write c ticket number block other span bytes put front between later from to x =
+    let two = write-between ticket (from.writes ticket) (to.writes ticket) front between later (Lands (entry_of_write number ticket block span bytes)) (BeginsWrite ticket other put) (x.each_write ticket) in
+    let opens = write-lands number ticket block span bytes two.before two.after two.opens in
+    let closes = write-begins ticket other put two.found two.end two.closes in
     omega (arith, write-forward ticket two.after two.found between two.lives, ap (λ w. write_stage w) opens.1, ap (λ w. write_stage w) closes.0)
 
 pub returns-clause-read : goal.returns-clause-read

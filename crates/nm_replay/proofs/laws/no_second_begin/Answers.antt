@@ -6,9 +6,9 @@ use Rattle.nm_replay.proofs.ReadStages.{read_stage, read-forward, read-between, 
 use Rattle.nm_replay.proofs.laws.no_second_begin.Goals as goal
 
 pub returns-clause-write : goal.returns-clause-write
-returns-clause-write c ticket block other bytes others front between later from to x =
-    let two = write-between ticket (from.writes ticket) (to.writes ticket) front between later (BeginsWrite ticket block bytes) (BeginsWrite ticket other others) (x.each_write ticket) in
-    let opens = write-begins ticket block bytes two.before two.after two.opens in
+returns-clause-write c ticket block other put others front between later from to x =
+    let two = write-between ticket (from.writes ticket) (to.writes ticket) front between later (BeginsWrite ticket block put) (BeginsWrite ticket other others) (x.each_write ticket) in
+    let opens = write-begins ticket block put two.before two.after two.opens in
     let closes = write-begins ticket other others two.found two.end two.closes in
     omega (arith, write-forward ticket two.after two.found between two.lives, ap (λ w. write_stage w) opens.1, ap (λ w. write_stage w) closes.0)
 

@@ -5,9 +5,9 @@ use Rattle.nm_replay.proofs.ReadStages.{read-between, read-lands, read-replies, 
 use Rattle.nm_replay.proofs.laws.replied_with_its_entry.Goals as goal
 
 pub returns-clause-write : goal.returns-clause-write
-returns-clause-write c from to ticket number other block bytes front between later x =
-    let two = write-between ticket (from.writes ticket) (to.writes ticket) front between later (Lands (entry_of_write number ticket block bytes)) (RepliesWrite ticket other) (x.each_write ticket) in
-    let opens = write-lands number ticket block bytes two.before two.after two.opens in
+returns-clause-write c from to ticket number other block span bytes front between later x =
+    let two = write-between ticket (from.writes ticket) (to.writes ticket) front between later (Lands (entry_of_write number ticket block span bytes)) (RepliesWrite ticket other) (x.each_write ticket) in
+    let opens = write-lands number ticket block span bytes two.before two.after two.opens in
     let closes = write-replies ticket other two.found two.end two.closes in
     write-keeps_number ticket number other two.after two.found between two.lives opens.1 closes.0
 

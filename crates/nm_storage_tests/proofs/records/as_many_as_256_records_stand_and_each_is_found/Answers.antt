@@ -1,12 +1,8 @@
 use Rattle.std.proofs.Common.{◌+◌, ◌*◌, arith}
 use Rattle.nm_fanout.specs.Record.{begun}
-use Rattle.nm_fanout.specs.declared.block_data.Data.TheVariants.{Zero}
-use Rattle.nm_fanout.proofs.DataLemmas.{FillsBlock-Zero}
+use Rattle.nm_fanout.specs.declared.record_data.RecordData.TheVariants.{Zero}
 use Rattle.nm_fanout.proofs.InOrder.{AllBelow-with_new, AllBelow-rise}
 use Rattle.nm_storage_tests.proofs.records.as_many_as_256_records_stand_and_each_is_found.Goals as goal
-
-pub begin-requires-clause-whole : goal.begin-requires-clause-whole
-begin-requires-clause-whole g c = FillsBlock-Zero
 
 -- the next ticket is above the one that was given last
 pub loop-count-preserved : goal.loop-count-preserved

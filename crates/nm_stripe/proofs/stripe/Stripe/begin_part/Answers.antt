@@ -1,0 +1,223 @@
+-- A begin of a part is read off its calls once, and the lemmas on begins do the rest.
+use Rattle.nm_leg.specs.Leg.{leg_type}
+use Rattle.std.proofs.Common.{rules, ◌≡◌, ◌<◌, true, false, is_ok, length, None, refl, sym, ◌∙◌, subst}
+use Rattle.nm_rules.specs.Begin.{Begins, LosesInBegin, FailsInBegin, begin_cause}
+use Rattle.nm_rules.specs.Read.{current_legs}
+use Rattle.nm_rules.specs.State.{StripeState, is_last}
+use Rattle.nm_rules.proofs.BeginLemmas.{begins-keeps, begins-explained, fails_in_begin-explained}
+use Rattle.nm_rules.proofs.HaltLemmas.{begin_fault-keeps}
+use Rattle.nm_rules.proofs.LostStepLemmas.{begin_lost-keeps, begin_lost-acts}
+use Rattle.nm_rules.proofs.ReadLegLemmas.{some_current}
+use Rattle.nm_rules.proofs.StateLemmas.{master_inside}
+use Rattle.nm_stripe.specs.Begin.{ForFault}
+use Rattle.nm_stripe.proofs.LostLemmas.{last-from}
+use Rattle.nm_stripe.proofs.ReadLemmas.{has-block}
+use Rattle.nm_stripe.proofs.BeginLemmas.{reads-at, master-read, room, begins-part, loses, fails}
+use Rattle.nm_stripe.proofs.stripe.Stripe.begin_part.Goals as goal
+
+pub read_leg-requires-clause-leg : goal.read_leg-requires-clause-leg
+read_leg-requires-clause-leg g c =
+    let type = leg_type g.L.LegPart.model g.L.LegPart.honest in
+    let s = c.self.inside.store in
+    let here : c.master-master.result ≡ s.master = search rules in
+    rw here (master_inside g.L.LegPart.model s c.self.invariant.legs)
+
+pub read_leg-requires-clause-block : goal.read_leg-requires-clause-block
+read_leg-requires-clause-block g c =
+    let type = leg_type g.L.LegPart.model g.L.LegPart.honest in
+    let s = c.self.inside.store in
+    let within : c.args.block < s.place.blocks = subst (λ (s : StripeState _). c.args.block < s.place.blocks) (sym c.self.view_is) c.requires.inside in
+    let here : c.master-master.result ≡ s.master = search rules in
+    rw here (has-block g.L.LegPart.model s s.master c.args.block c.self.invariant.legs (master_inside g.L.LegPart.model s c.self.invariant.legs) within)
+
+pub begin-requires-clause-current : goal.begin-requires-clause-current
+begin-requires-clause-current g c =
+    let type = leg_type g.L.LegPart.model g.L.LegPart.honest in
+    let s = c.self.inside.store in
+    let mid = c.read_leg.new.self in
+    let base = c.read_leg.new.into in
+    let none : begin_cause s c.args.block ≡ None = subst (λ (s : StripeState _). begin_cause s c.args.block ≡ None) (sym c.self.view_is) c.requires.no_cause in
+    subst (λ (m : StripeState _). 0 < length (current_legs c.args.block m)) (sym c.read_leg.ensures.others) (some_current type s c.args.block c.self.invariant.legs)
+
+pub begin-requires-clause-few : goal.begin-requires-clause-few
+begin-requires-clause-few g c =
+    let type = leg_type g.L.LegPart.model g.L.LegPart.honest in
+    let s = c.self.inside.store in
+    let none : begin_cause s c.args.block ≡ None = subst (λ (s : StripeState _). begin_cause s c.args.block ≡ None) (sym c.self.view_is) c.requires.no_cause in
+    (room type s c.read_leg.new.self c.args.block c.self.invariant none c.read_leg.ensures.others).0
+
+pub begin-requires-clause-next : goal.begin-requires-clause-next
+begin-requires-clause-next g c =
+    let type = leg_type g.L.LegPart.model g.L.LegPart.honest in
+    let s = c.self.inside.store in
+    let none : begin_cause s c.args.block ≡ None = subst (λ (s : StripeState _). begin_cause s c.args.block ≡ None) (sym c.self.view_is) c.requires.no_cause in
+    (room type s c.read_leg.new.self c.args.block c.self.invariant none c.read_leg.ensures.others).1
+
+pub begin-requires-clause-more : goal.begin-requires-clause-more
+begin-requires-clause-more g c =
+    let type = leg_type g.L.LegPart.model g.L.LegPart.honest in
+    let s = c.self.inside.store in
+    let none : begin_cause s c.args.block ≡ None = subst (λ (s : StripeState _). begin_cause s c.args.block ≡ None) (sym c.self.view_is) c.requires.no_cause in
+    (room type s c.read_leg.new.self c.args.block c.self.invariant none c.read_leg.ensures.others).2
+
+pub invariant_of-self : goal.invariant_of-self
+invariant_of-self g c =
+    let type = leg_type g.L.LegPart.model g.L.LegPart.honest in
+    let s = c.self.inside.store in
+    let mid = c.read_leg.new.self in
+    let base = c.read_leg.new.into in
+    let none : begin_cause s c.args.block ≡ None = subst (λ (s : StripeState _). begin_cause s c.args.block ≡ None) (sym c.self.view_is) c.requires.no_cause in
+    let ok : is_ok c.read_leg.result ≡ true = search rules in
+    let here : c.master-master.result ≡ s.master = search rules in
+    let reads = reads-at type true s mid c.args.block base ok here c.read_leg.ensures.reads in
+    let within : c.args.block < s.place.blocks = subst (λ (s : StripeState _). c.args.block < s.place.blocks) (sym c.self.view_is) c.requires.inside in
+    let new = c.begin.new.self in
+    let is : Begins type s new c.args.block c.args.data c.begin.result = begins-part type s mid new c.args.block c.args.data reads.0 base c.read_leg.ensures.others none c.requires.part c.begin.result c.begin.ensures.filled reads.1 c.begin.ensures.ticket c.begin.ensures.begun in
+    begins-keeps type s new c.args.block c.args.data c.begin.result c.self.invariant is within c.requires.fits
+
+pub returns-then-is_ok-clause-ok : goal.returns-then-is_ok-clause-ok
+returns-then-is_ok-clause-ok g c =
+    let type = leg_type g.L.LegPart.model g.L.LegPart.honest in
+    let s = c.self.inside.store in
+    let mid = c.read_leg.new.self in
+    let base = c.read_leg.new.into in
+    let none : begin_cause s c.args.block ≡ None = subst (λ (s : StripeState _). begin_cause s c.args.block ≡ None) (sym c.self.view_is) c.requires.no_cause in
+    let ok : is_ok c.read_leg.result ≡ true = search rules in
+    let here : c.master-master.result ≡ s.master = search rules in
+    let reads = reads-at type true s mid c.args.block base ok here c.read_leg.ensures.reads in
+    let within : c.args.block < s.place.blocks = subst (λ (s : StripeState _). c.args.block < s.place.blocks) (sym c.self.view_is) c.requires.inside in
+    let new = c.begin.new.self in
+    let is : Begins type s new c.args.block c.args.data c.begin.result = begins-part type s mid new c.args.block c.args.data reads.0 base c.read_leg.ensures.others none c.requires.part c.begin.result c.begin.ensures.filled reads.1 c.begin.ensures.ticket c.begin.ensures.begun in
+    rw (← c.self.view_is) is
+
+pub returns-then-is_ok-clause-acts : goal.returns-then-is_ok-clause-acts
+returns-then-is_ok-clause-acts g c is_honest =
+    let type = leg_type g.L.LegPart.model g.L.LegPart.honest in
+    let s = c.self.inside.store in
+    let mid = c.read_leg.new.self in
+    let base = c.read_leg.new.into in
+    let none : begin_cause s c.args.block ≡ None = subst (λ (s : StripeState _). begin_cause s c.args.block ≡ None) (sym c.self.view_is) c.requires.no_cause in
+    let ok : is_ok c.read_leg.result ≡ true = search rules in
+    let here : c.master-master.result ≡ s.master = search rules in
+    let reads = reads-at type true s mid c.args.block base ok here c.read_leg.ensures.reads in
+    let within : c.args.block < s.place.blocks = subst (λ (s : StripeState _). c.args.block < s.place.blocks) (sym c.self.view_is) c.requires.inside in
+    let new = c.begin.new.self in
+    let is : Begins type s new c.args.block c.args.data c.begin.result = begins-part type s mid new c.args.block c.args.data reads.0 base c.read_leg.ensures.others none c.requires.part c.begin.result c.begin.ensures.filled reads.1 c.begin.ensures.ticket c.begin.ensures.begun in
+    rw (← c.self.view_is) (begins-explained type s new c.args.block c.args.data c.begin.result c.self.invariant is c.requires.fits is_honest)
+
+pub is_last-requires : goal.is_last-requires
+is_last-requires g c =
+    let type = leg_type g.L.LegPart.model g.L.LegPart.honest in
+    let s = c.self.inside.store in
+    let mid = c.read_leg.new.self in
+    let base = c.read_leg.new.into in
+    let none : begin_cause s c.args.block ≡ None = subst (λ (s : StripeState _). begin_cause s c.args.block ≡ None) (sym c.self.view_is) c.requires.no_cause in
+    let ok : is_ok c.read_leg.result ≡ false = search rules in
+    let here : c.master-master.result ≡ s.master = search rules in
+    let reads = reads-at type false s mid c.args.block base ok here c.read_leg.ensures.reads in
+    rw here (master-read type false s mid c.args.block reads.0 base c.self.invariant.legs reads.1)
+
+pub invariant_of-self-then-is_last : goal.invariant_of-self-then-is_last
+invariant_of-self-then-is_last g c =
+    let type = leg_type g.L.LegPart.model g.L.LegPart.honest in
+    let s = c.self.inside.store in
+    let mid = c.read_leg.new.self in
+    let base = c.read_leg.new.into in
+    let none : begin_cause s c.args.block ≡ None = subst (λ (s : StripeState _). begin_cause s c.args.block ≡ None) (sym c.self.view_is) c.requires.no_cause in
+    let ok : is_ok c.read_leg.result ≡ false = search rules in
+    let here : c.master-master.result ≡ s.master = search rules in
+    let reads = reads-at type false s mid c.args.block base ok here c.read_leg.ensures.reads in
+    let given : c.is_last.result ≡ true = search rules in
+    let last : is_last s.master s ≡ true = last-from s.master s mid c.is_last.result c.read_leg.ensures.others (rw (← here) c.is_last.ensures) ∙ given in
+    let is : FailsInBegin type s mid c.args.block c.args.data = fails type s mid c.args.block c.args.data reads.0 base c.read_leg.ensures.others none c.requires.part reads.1 last in
+    begin_fault-keeps type s mid c.self.invariant c.args.block c.args.data is
+
+pub returns-then-is_last-clause-refused : goal.returns-then-is_last-clause-refused
+returns-then-is_last-clause-refused g c =
+    let type = leg_type g.L.LegPart.model g.L.LegPart.honest in
+    let s = c.self.inside.store in
+    let mid = c.read_leg.new.self in
+    let base = c.read_leg.new.into in
+    let none : begin_cause s c.args.block ≡ None = subst (λ (s : StripeState _). begin_cause s c.args.block ≡ None) (sym c.self.view_is) c.requires.no_cause in
+    let ok : is_ok c.read_leg.result ≡ false = search rules in
+    let here : c.master-master.result ≡ s.master = search rules in
+    let reads = reads-at type false s mid c.args.block base ok here c.read_leg.ensures.reads in
+    let given : c.is_last.result ≡ true = search rules in
+    let last : is_last s.master s ≡ true = last-from s.master s mid c.is_last.result c.read_leg.ensures.others (rw (← here) c.is_last.ensures) ∙ given in
+    let is : FailsInBegin type s mid c.args.block c.args.data = fails type s mid c.args.block c.args.data reads.0 base c.read_leg.ensures.others none c.requires.part reads.1 last in
+    rw (← c.self.view_is) (ForFault refl is)
+
+pub returns-then-is_last-clause-refused_acts : goal.returns-then-is_last-clause-refused_acts
+returns-then-is_last-clause-refused_acts g c is_honest =
+    let type = leg_type g.L.LegPart.model g.L.LegPart.honest in
+    let s = c.self.inside.store in
+    let mid = c.read_leg.new.self in
+    let base = c.read_leg.new.into in
+    let none : begin_cause s c.args.block ≡ None = subst (λ (s : StripeState _). begin_cause s c.args.block ≡ None) (sym c.self.view_is) c.requires.no_cause in
+    let ok : is_ok c.read_leg.result ≡ false = search rules in
+    let here : c.master-master.result ≡ s.master = search rules in
+    let reads = reads-at type false s mid c.args.block base ok here c.read_leg.ensures.reads in
+    let given : c.is_last.result ≡ true = search rules in
+    let last : is_last s.master s ≡ true = last-from s.master s mid c.is_last.result c.read_leg.ensures.others (rw (← here) c.is_last.ensures) ∙ given in
+    let is : FailsInBegin type s mid c.args.block c.args.data = fails type s mid c.args.block c.args.data reads.0 base c.read_leg.ensures.others none c.requires.part reads.1 last in
+    rw (← c.self.view_is) (fails_in_begin-explained type s mid c.args.block c.args.data is_honest c.self.invariant is)
+
+pub lose-requires-clause-leg : goal.lose-requires-clause-leg
+lose-requires-clause-leg g c =
+    let type = leg_type g.L.LegPart.model g.L.LegPart.honest in
+    let s = c.self.inside.store in
+    let mid = c.read_leg.new.self in
+    let base = c.read_leg.new.into in
+    let none : begin_cause s c.args.block ≡ None = subst (λ (s : StripeState _). begin_cause s c.args.block ≡ None) (sym c.self.view_is) c.requires.no_cause in
+    let ok : is_ok c.read_leg.result ≡ false = search rules in
+    let here : c.master-master.result ≡ s.master = search rules in
+    let reads = reads-at type false s mid c.args.block base ok here c.read_leg.ensures.reads in
+    rw here (master-read type false s mid c.args.block reads.0 base c.self.invariant.legs reads.1)
+
+pub invariant_of-self-2 : goal.invariant_of-self-2
+invariant_of-self-2 g c =
+    let type = leg_type g.L.LegPart.model g.L.LegPart.honest in
+    let s = c.self.inside.store in
+    let mid = c.read_leg.new.self in
+    let base = c.read_leg.new.into in
+    let none : begin_cause s c.args.block ≡ None = subst (λ (s : StripeState _). begin_cause s c.args.block ≡ None) (sym c.self.view_is) c.requires.no_cause in
+    let ok : is_ok c.read_leg.result ≡ false = search rules in
+    let here : c.master-master.result ≡ s.master = search rules in
+    let reads = reads-at type false s mid c.args.block base ok here c.read_leg.ensures.reads in
+    let given : c.is_last.result ≡ false = search rules in
+    let last : is_last s.master s ≡ false = last-from s.master s mid c.is_last.result c.read_leg.ensures.others (rw (← here) c.is_last.ensures) ∙ given in
+    let new = c.lose.new.self in
+    let is : LosesInBegin type s new c.args.block c.args.data s.master = loses type s mid new c.args.block c.args.data reads.0 base c.read_leg.ensures.others none c.requires.part reads.1 last (rw (← here) c.lose.ensures) in
+    begin_lost-keeps type s new c.self.invariant c.args.block c.args.data s.master is
+
+pub returns-clause-ok : goal.returns-clause-ok
+returns-clause-ok g c =
+    let type = leg_type g.L.LegPart.model g.L.LegPart.honest in
+    let s = c.self.inside.store in
+    let mid = c.read_leg.new.self in
+    let base = c.read_leg.new.into in
+    let none : begin_cause s c.args.block ≡ None = subst (λ (s : StripeState _). begin_cause s c.args.block ≡ None) (sym c.self.view_is) c.requires.no_cause in
+    let ok : is_ok c.read_leg.result ≡ false = search rules in
+    let here : c.master-master.result ≡ s.master = search rules in
+    let reads = reads-at type false s mid c.args.block base ok here c.read_leg.ensures.reads in
+    let given : c.is_last.result ≡ false = search rules in
+    let last : is_last s.master s ≡ false = last-from s.master s mid c.is_last.result c.read_leg.ensures.others (rw (← here) c.is_last.ensures) ∙ given in
+    let new = c.lose.new.self in
+    let is : LosesInBegin type s new c.args.block c.args.data s.master = loses type s mid new c.args.block c.args.data reads.0 base c.read_leg.ensures.others none c.requires.part reads.1 last (rw (← here) c.lose.ensures) in
+    rw (← c.self.view_is, here) (is, refl)
+
+pub returns-clause-acts : goal.returns-clause-acts
+returns-clause-acts g c is_honest =
+    let type = leg_type g.L.LegPart.model g.L.LegPart.honest in
+    let s = c.self.inside.store in
+    let mid = c.read_leg.new.self in
+    let base = c.read_leg.new.into in
+    let none : begin_cause s c.args.block ≡ None = subst (λ (s : StripeState _). begin_cause s c.args.block ≡ None) (sym c.self.view_is) c.requires.no_cause in
+    let ok : is_ok c.read_leg.result ≡ false = search rules in
+    let here : c.master-master.result ≡ s.master = search rules in
+    let reads = reads-at type false s mid c.args.block base ok here c.read_leg.ensures.reads in
+    let given : c.is_last.result ≡ false = search rules in
+    let last : is_last s.master s ≡ false = last-from s.master s mid c.is_last.result c.read_leg.ensures.others (rw (← here) c.is_last.ensures) ∙ given in
+    let new = c.lose.new.self in
+    let is : LosesInBegin type s new c.args.block c.args.data s.master = loses type s mid new c.args.block c.args.data reads.0 base c.read_leg.ensures.others none c.requires.part reads.1 last (rw (← here) c.lose.ensures) in
+    rw (← c.self.view_is) (begin_lost-acts type s new c.self.invariant c.args.block c.args.data s.master is is_honest)

@@ -1,0 +1,179 @@
+//! More worked lists of steps: regions, masters that are lost, copies over a change of the master,
+//! and a history that is longer than what is kept of it.
+use crate::asking::{Ask, Summary, compare};
+use crate::opening::{Mirror, ONE_LEG, THREE_LEGS, TWO_LEGS, opened};
+use crate::worked::{after, has, holds, stand};
+use nm_replay::check;
+use nm_stripe::{LegState, Policy, Refusal};
+use std::alloc::{AllocError, Global};
+use std::test::Fail;
+
+/// Two legs, of which each region has its own.
+const STRIPED_LEGS: Mirror = Mirror {
+    policy: Policy::Striped,
+    ..TWO_LEGS
+};
+
+/// Two legs, of which the first fails its first call.
+const FIRST_FAILS: Mirror = Mirror {
+    fuse: Some((0, 1)),
+    ..TWO_LEGS
+};
+
+/// Three legs, of which the second fails its first call.
+const SECOND_FAILS: Mirror = Mirror {
+    fuse: Some((1, 1)),
+    ..THREE_LEGS
+};
+
+/// Four blocks in one region, on three legs.
+const ONE_REGION: Mirror = Mirror {
+    blocks: 4,
+    ..THREE_LEGS
+};
+
+/// As `ONE_REGION`, where the first leg fails its first call.
+const FIRST_OF_THREE_FAILS: Mirror = Mirror {
+    fuse: Some((0, 1)),
+    ..ONE_REGION
+};
+
+const DIRTY_REGION: [(Ask, Summary); 5] = [
+    (Ask::Begin(5, 0x00), Summary::Begun(0)),
+    (Ask::Read(7), Summary::Value(0, 0x00)),
+    (Ask::Push(0, 0), Summary::Pushed(1)),
+    (Ask::Push(0, 1), Summary::Complete(1)),
+    (Ask::Claim(0), Summary::Written(1)),
+];
+
+#[test]
+fn a_region_that_is_written_is_read_from_the_master(rt: HostRuntime) -> Result<(), Fail> {
+    has(&rt, rt.alloc(), STRIPED_LEGS, &DIRTY_REGION)
+}
+
+const PUSH_LOSES_THE_MASTER: [(Ask, Summary); 7] = [
+    (Ask::Begin(0, 0xaa), Summary::Begun(0)),
+    (Ask::Begin(1, 0xbb), Summary::Begun(1)),
+    (Ask::Push(0, 0), Summary::LegLost(0)),
+    (Ask::Read(5), Summary::Refused(Refusal::Settling)),
+    (Ask::Push(1, 1), Summary::Complete(1)),
+    (Ask::Push(0, 1), Summary::Complete(0)),
+    (Ask::Read(0), Summary::Value(2, 0xaa)),
+];
+
+#[test]
+fn a_push_loses_the_master(rt: HostRuntime) -> Result<(), Fail> {
+    let stripe = after(&rt, rt.alloc(), FIRST_FAILS, &PUSH_LOSES_THE_MASTER)?;
+    stand(
+        &rt,
+        &stripe,
+        1,
+        &[(LegState::Out, 4), (LegState::InSync, 0)],
+    );
+    Ok(())
+}
+
+const LAST_IS_MASTER: [(Ask, Summary); 7] = [
+    (Ask::Begin(0, 0xaa), Summary::Begun(0)),
+    (Ask::Push(0, 2), Summary::Pushed(2)),
+    (Ask::Push(0, 1), Summary::LegLost(1)),
+    (Ask::Push(0, 0), Summary::Complete(0)),
+    (Ask::Claim(0), Summary::Written(0)),
+    (Ask::Fail(0), Summary::MasterChanged(2)),
+    (Ask::Read(0), Summary::Value(1, 0xaa)),
+];
+
+#[test]
+fn a_leg_whose_write_was_torn_does_not_become_master(rt: HostRuntime) -> Result<(), Fail> {
+    let stripe = after(&rt, rt.alloc(), SECOND_FAILS, &LAST_IS_MASTER)?;
+    holds(&rt, &stripe, 1, 0, (0xaa, 0x00));
+    Ok(())
+}
+
+const OVER_A_CHANGE: [(Ask, Summary); 19] = [
+    (Ask::Begin(0, 0xaa), Summary::Begun(0)),
+    (Ask::Push(0, 0), Summary::Pushed(2)),
+    (Ask::Push(0, 1), Summary::Pushed(1)),
+    (Ask::Push(0, 2), Summary::Complete(0)),
+    (Ask::Fail(2), Summary::Failed),
+    (Ask::Replace(2), Summary::Joining(4)),
+    (Ask::Copy(2), Summary::Copied(4)),
+    (Ask::Copy(2), Summary::Copied(4)),
+    (Ask::Fail(0), Summary::MasterChanged(1)),
+    (Ask::Replace(0), Summary::Joining(4)),
+    (Ask::Copy(0), Summary::Refused(Refusal::OtherCopy(2))),
+    (Ask::Copy(2), Summary::Copied(3)),
+    (Ask::Copy(2), Summary::Copied(2)),
+    (Ask::Copy(2), Summary::Copied(2)),
+    (Ask::Copy(2), Summary::Copied(2)),
+    (Ask::Copy(2), Summary::Copied(1)),
+    (Ask::Copy(2), Summary::Copied(0)),
+    (Ask::Copy(2), Summary::Nothing),
+    (Ask::Promote(2), Summary::InSync),
+];
+
+#[test]
+fn a_copy_goes_on_over_a_change_of_the_master(rt: HostRuntime) -> Result<(), Fail> {
+    let stripe = after(&rt, rt.alloc(), ONE_REGION, &OVER_A_CHANGE)?;
+    holds(&rt, &stripe, 2, 0, (0xaa, 0xaa));
+    Ok(())
+}
+
+const COPY_LOSES_THE_MASTER: [(Ask, Summary); 4] = [
+    (Ask::Fail(2), Summary::Failed),
+    (Ask::Replace(2), Summary::Joining(4)),
+    (Ask::Copy(2), Summary::LegLost(0)),
+    (Ask::Copy(2), Summary::Copied(4)),
+];
+
+#[test]
+fn a_copy_loses_the_master(rt: HostRuntime) -> Result<(), Fail> {
+    let stripe = after(
+        &rt,
+        rt.alloc(),
+        FIRST_OF_THREE_FAILS,
+        &COPY_LOSES_THE_MASTER,
+    )?;
+    let stood = [
+        (LegState::Out, 0),
+        (LegState::InSync, 0),
+        (LegState::Joining, 4),
+    ];
+    stand(&rt, &stripe, 1, &stood);
+    Ok(())
+}
+
+const TICKETS_ARE_NO_PLACES: [(Ask, Summary); 5] = [
+    (Ask::Begin(0, 0xaa), Summary::Begun(0)),
+    (Ask::Push(0, 0), Summary::Complete(0)),
+    (Ask::Claim(0), Summary::Written(0)),
+    (Ask::Begin(0, 0xbb), Summary::Begun(1)),
+    (Ask::Claim(0), Summary::Refused(Refusal::NoTicket)),
+];
+
+#[test]
+fn a_ticket_is_not_given_again(rt: HostRuntime) -> Result<(), Fail> {
+    has(&rt, rt.alloc(), ONE_LEG, &TICKETS_ARE_NO_PLACES)
+}
+
+/// One read more than entries are kept.
+fn many_reads(alloc: Global) -> Result<Vec<(Ask, Summary)>, AllocError> {
+    let mut rows = Vec::new(alloc);
+    for number in 0..1025 {
+        rows.push((Ask::Read(0), Summary::Value(number, 0x00)))?;
+    }
+    Ok(rows)
+}
+
+#[test]
+fn the_last_1024_entries_are_kept(rt: HostRuntime) -> Result<(), Fail> {
+    let mut stripe = opened(&rt, rt.alloc(), ONE_LEG)?;
+    compare(&rt, rt.alloc(), &mut stripe, &many_reads(rt.alloc())?)?;
+    let kept = stripe.entries(rt.alloc())?;
+    assert_eq!(rt; (stripe.total(), kept.len()), (1025, 1024));
+    assert!(rt; check(&kept));
+    for (entry, number) in kept.iter().zip(1..) {
+        assert_eq!(rt; entry.seq, number);
+    }
+    Ok(())
+}

@@ -1,0 +1,180 @@
+//! Writes of parts of a block: worked lists of steps, what comes back, and which legs are called.
+use crate::asking::{Ask, Summary, may_ask, part};
+use crate::calls::compare_calls;
+use crate::opening::{Mirror, ONE_LEG, TWO_LEGS, fuse, opened};
+use crate::worked::{after, has};
+use nm_fanout::Data;
+use nm_leg::LegPart;
+use nm_replay::{Kind, check};
+use nm_stripe::{Answer, Handed, Refusal, Step, Stripe};
+use std::alloc::Global;
+use std::process::Abort;
+use std::test::Fail;
+
+const OVER_A_WRITE: [(Ask, Summary); 9] = [
+    (Ask::Begin(0, 0xaa), Summary::Begun(0)),
+    (
+        Ask::Patch(0, 0, 4, 0xbb),
+        Summary::Refused(Refusal::Busy(0)),
+    ),
+    (Ask::Push(0, 0), Summary::Pushed(1)),
+    (Ask::Push(0, 1), Summary::Complete(0)),
+    (Ask::Patch(0, 510, 2, 0xbb), Summary::Begun(1)),
+    (Ask::Fail(0), Summary::MasterChanged(1)),
+    (Ask::Push(1, 1), Summary::Complete(1)),
+    (Ask::Read(0), Summary::Value(2, 0xbb)),
+    (Ask::Claim(1), Summary::Written(1)),
+];
+
+/// The kinds of the entries, and the bytes of the block at 0, 509 and 511.
+const KEPT: [(Kind, (u8, u8, u8)); 3] = [
+    (Kind::Write(0), (0xaa, 0xaa, 0xaa)),
+    (Kind::Patch(1, 510, 2), (0xaa, 0xaa, 0xbb)),
+    (Kind::Read, (0xaa, 0xaa, 0xbb)),
+];
+
+#[test]
+fn a_part_is_laid_over_what_the_block_holds(rt: HostRuntime) -> Result<(), Fail> {
+    let stripe = after(&rt, rt.alloc(), TWO_LEGS, &OVER_A_WRITE)?;
+    let kept = stripe.entries(rt.alloc())?;
+    assert!(rt; check(&kept));
+    assert_eq!(rt; kept.len(), 3);
+    for ((entry, (kind, bytes)), seq) in kept.iter().zip(KEPT).zip(0..) {
+        assert_eq!(rt; (entry.seq, entry.kind, entry.block), (seq, kind, 0));
+        let found = (entry.bytes.0[0], entry.bytes.0[509], entry.bytes.0[511]);
+        assert_eq!(rt; found, bytes);
+    }
+    Ok(())
+}
+
+/// One leg, that fails its first call.
+const LAST_LEG_FAILS: Mirror = Mirror {
+    fuse: Some((0, 1)),
+    ..ONE_LEG
+};
+
+const NOT_READ: [(Ask, Summary); 2] = [
+    (Ask::Patch(0, 0, 1, 0xbb), Summary::Refused(Refusal::Fault)),
+    (Ask::Patch(0, 0, 1, 0xbb), Summary::Begun(0)),
+];
+
+#[test]
+fn a_part_whose_block_is_not_read_does_not_begin(rt: HostRuntime) -> Result<(), Fail> {
+    has(&rt, rt.alloc(), LAST_LEG_FAILS, &NOT_READ)
+}
+
+/// Two legs, of which the first fails its first call.
+const MASTER_FAILS: Mirror = Mirror {
+    fuse: Some((0, 1)),
+    ..TWO_LEGS
+};
+
+/// The leg that fails goes out, and no ticket is taken.
+const MASTER_LOST: [(Ask, Summary); 3] = [
+    (Ask::Patch(0, 0, 1, 0xbb), Summary::LegLost(0)),
+    (Ask::Patch(0, 0, 1, 0xbb), Summary::Begun(0)),
+    (Ask::Push(0, 1), Summary::Complete(0)),
+];
+
+#[test]
+fn a_part_loses_the_master_that_is_not_read(rt: HostRuntime) -> Result<(), Fail> {
+    let stripe = after(&rt, rt.alloc(), MASTER_FAILS, &MASTER_LOST)?;
+    assert_eq!(rt; (stripe.master(), stripe.is_settling()), (1, false));
+    Ok(())
+}
+
+/// What is under way settles before a part begins; what is refused takes no ticket.
+const SETTLING: [(Ask, Summary); 6] = [
+    (Ask::Begin(0, 0xaa), Summary::Begun(0)),
+    (Ask::Push(0, 0), Summary::Pushed(1)),
+    (Ask::Fail(0), Summary::MasterChanged(1)),
+    (
+        Ask::Patch(1, 0, 4, 0xbb),
+        Summary::Refused(Refusal::Settling),
+    ),
+    (Ask::Push(0, 1), Summary::Complete(0)),
+    (Ask::Patch(0, 0, 4, 0x00), Summary::Begun(1)),
+];
+
+#[test]
+fn a_part_waits_for_the_stripe_to_settle(rt: HostRuntime) -> Result<(), Fail> {
+    has(&rt, rt.alloc(), TWO_LEGS, &SETTLING)
+}
+
+/// A part of two bytes of block 0.
+fn patch<L: LegPart>(
+    rt: &impl Abort,
+    alloc: Global,
+    stripe: &mut Stripe<L>,
+) -> Result<Answer<L>, Fail> {
+    let step = Step::Begin(0, part(alloc, 510, 2, 0xbb)?);
+    may_ask(rt, stripe, &step);
+    Ok(stripe.step(step))
+}
+
+/// Whether the data are that part.
+fn came_back(data: &Data) -> bool {
+    match data {
+        Data::Part { from, bytes } => *from == 510 && bytes.as_slice() == [0xbb; 2].as_slice(),
+        _ => false,
+    }
+}
+
+#[test]
+fn a_part_comes_back_where_it_did_not_begin(rt: HostRuntime) -> Result<(), Fail> {
+    let mut stripe = opened(&rt, rt.alloc(), TWO_LEGS)?;
+    fuse(&rt, &stripe, 0, 1);
+    match patch(&rt, rt.alloc(), &mut stripe)? {
+        Answer::LegLost(leg, Handed::Data(data)) => assert!(rt; leg == 0 && came_back(&data)),
+        _other => assert!(rt; false, "the master was not lost"),
+    }
+    fuse(&rt, &stripe, 1, 1);
+    match patch(&rt, rt.alloc(), &mut stripe)? {
+        Answer::Refused(refusal, Handed::Data(data)) => {
+            assert_eq!(rt; refusal, Refusal::Fault);
+            assert!(rt; came_back(&data));
+        }
+        _other => assert!(rt; false, "the part was not refused"),
+    }
+    Ok(())
+}
+
+const IN_TURN: [(Ask, Summary); 12] = [
+    (Ask::Read(0), Summary::Value(0, 0x00)),
+    (Ask::Patch(0, 0, 512, 0xbb), Summary::Begun(0)),
+    (Ask::Push(0, 0), Summary::Pushed(1)),
+    (Ask::Push(0, 1), Summary::Complete(1)),
+    (Ask::Claim(0), Summary::Written(1)),
+    (Ask::Read(0), Summary::Value(2, 0xbb)),
+    (Ask::Patch(0, 511, 1, 0x00), Summary::Begun(1)),
+    (
+        Ask::Patch(0, 0, 1, 0xcc),
+        Summary::Refused(Refusal::Busy(1)),
+    ),
+    (Ask::Push(1, 1), Summary::Pushed(1)),
+    (Ask::Push(1, 0), Summary::Complete(3)),
+    (Ask::Claim(1), Summary::Written(3)),
+    (Ask::Read(0), Summary::Value(4, 0x00)),
+];
+
+/// How many calls each leg has had after each of the steps above: at most one a step, for a part
+/// that begins one of the master, and the reads take the legs in turn all the same.
+const CALLS: [(u64, u64); 12] = [
+    (1, 0),
+    (2, 0),
+    (3, 0),
+    (3, 1),
+    (3, 1),
+    (3, 2),
+    (4, 2),
+    (4, 2),
+    (4, 3),
+    (5, 3),
+    (5, 3),
+    (6, 3),
+];
+
+#[test]
+fn a_part_calls_the_master_once(rt: HostRuntime) -> Result<(), Fail> {
+    compare_calls(&rt, rt.alloc(), &IN_TURN, &CALLS)
+}
