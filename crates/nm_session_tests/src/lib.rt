@@ -2,6 +2,8 @@
 #![tactic(auto)]
 
 #[cfg(test)]
+mod copying_target;
+#[cfg(test)]
 mod cores;
 #[cfg(test)]
 mod serving;
