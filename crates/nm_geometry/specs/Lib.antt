@@ -1,0 +1,5 @@
+pub mod Geometry
+pub mod Inside
+pub mod Laws
+pub mod Pieces
+pub mod PieceLaws

@@ -1,0 +1,4 @@
+pub mod Moving
+pub mod Weaving
+pub mod Wholes
+pub mod Joining

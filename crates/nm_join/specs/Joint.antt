@@ -1,0 +1,63 @@
+-- Interleavings of a stripe's steps and of a mirror's steps with the entries of their operations.
+use Rattle.std.specs.Prelude.{◌≡◌, ℕ, ◌<◌, ◌==◌, if◌then◌else◌, List, [], ◌∷◌, map}
+use Rattle.nm_geometry.specs.Geometry.{Geometry, export_block}
+use Rattle.nm_replay.specs.Array.{Array}
+use Rattle.nm_replay.specs.Events.{Event, marks_of}
+use Rattle.nm_replay.specs.Explained.{Point, Explained}
+use Rattle.nm_stripe.specs.declared.answer.Answer.{Answer}
+use Rattle.nm_stripe.specs.declared.step.Step.{Step}
+use Rattle.nm_stripe.specs.Run.{IsInterleaving, concat, marks}
+use Rattle.nm_join.specs.Events.{MirrorEvent, events_of, AllOfStripe, all_events}
+use Rattle.nm_join.specs.Explained.{MirrorPoint, MirrorExplained}
+use Rattle.nm_join.specs.Moved.{moved_all, moved_write, moved_read}
+use Rattle.nm_join.specs.Steps.{MirrorStep}
+
+-- where the blocks of a stripe lie in the export
+abbrev pub in_export : Geometry → ℕ → ℕ → ℕ
+in_export shape stripe block = export_block stripe block shape
+
+-- lists of events for the steps of a stripe, explained from one point of it to another
+pub record IsStripeJoint {L : Type 0} (steps : List (Step L)) (answers : List (Answer L))
+    (from to : Point) (pieces : List (List Event)) : Type 0 where
+  pub interleaving : IsInterleaving steps answers pieces
+  pub explained : Explained from to (concat pieces)
+
+-- a list of events for each step of a mirror, in the order of the steps: the begins and replies of
+-- the step in order, at their blocks of the export, with entries of its stripe anywhere among them
+abbrev pub IsMirrorInterleaving : {L : Type 0} → Geometry → List (MirrorStep L)
+    → List (List MirrorEvent) → Type 0
+IsMirrorInterleaving shape [] [] = Unit {0}
+IsMirrorInterleaving shape (s ∷ list) (events ∷ more) =
+    (marks_of (events_of s.stripe events)
+    ≡ moved_all (in_export shape s.stripe) (marks s.step s.answer))
+    × AllOfStripe s.stripe events × IsMirrorInterleaving shape list more
+IsMirrorInterleaving shape list pieces = ⊥
+
+-- the lists of events for the steps of one stripe
+abbrev pub pieces_of : {L : Type 0} → ℕ → List (MirrorStep L)
+    → List (List MirrorEvent) → List (List Event)
+pieces_of stripe [] pieces = []
+pieces_of stripe (s ∷ list) [] = []
+pieces_of stripe (s ∷ list) (events ∷ more) =
+    if s.stripe == stripe then events_of stripe events ∷ pieces_of stripe list more
+    else pieces_of stripe list more
+
+-- the points of a mirror's stripes, as one point of the mirror with this array
+abbrev pub mirror_point : Geometry → (ℕ → Point) → Array → MirrorPoint
+mirror_point shape points whole = record {
+  array = whole;
+  next = λ stripe. (points stripe).next;
+  writes = λ stripe ticket. moved_write (in_export shape stripe) ((points stripe).writes ticket);
+  reads = λ stripe number. moved_read (in_export shape stripe) ((points stripe).reads number);
+}
+
+-- lists of events for the steps of a mirror: explained from the mirror's array to the array that
+-- its stripes' arrays then make, and in each stripe what that stripe's own lists are
+pub record IsMirrorJoint {L : Type 0} (shape : Geometry) (list : List (MirrorStep L))
+    (from to : MirrorPoint) (own : ℕ → List (List Event))
+    (pieces : List (List MirrorEvent)) : Type 0 where
+  pub interleaving : IsMirrorInterleaving shape list pieces
+  pub explained : MirrorExplained shape.stripes from to (all_events pieces)
+  pub filtered : (stripe : ℕ) → stripe < shape.stripes
+      → pieces_of stripe list pieces
+      ≡ map (λ events. moved_all (in_export shape stripe) events) (own stripe)

@@ -1,0 +1,7 @@
+pub mod Steps
+pub mod Moved
+pub mod Events
+pub mod Explained
+pub mod Whole
+pub mod Joint
+pub mod Laws

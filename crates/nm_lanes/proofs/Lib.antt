@@ -1,0 +1,13 @@
+pub mod FlushLemmas
+pub mod LaneLemmas
+pub mod LiftLemmas
+pub mod PieceLemmas
+pub mod ReadLemmas
+pub mod SyncLemmas
+pub mod TouchLemmas
+pub mod TurnLemmas
+pub mod CutLemmas
+pub mod WriteAllLemmas
+pub mod WriteLemmas
+pub mod WritePieceLemmas
+pub mod ZeroLemmas

@@ -1,0 +1,73 @@
+-- Syncs of legs, one more at a time.
+use Rattle.std.proofs.Common.{◌≡◌, inl, inr, ℕ, ◌+◌, ◌<◌, Bool, true, false, List, [], ◌∷◌, ◌++◌, map, refl, subst, append-nil, arith, if◌then◌else◌}
+use Rattle.std.proofs.lemmas.Bool.{cases_lt}
+use Rattle.nm_stripe.specs.Flush.{SyncsLeg, HasSynced}
+use Rattle.nm_stripe.specs.declared.step.Step.TheVariants.{Sync}
+use Rattle.nm_lanes.specs.declared.cause_kind.CauseKind.{CauseKind}
+use Rattle.nm_lanes.specs.Done.{Done, done_as}
+use Rattle.nm_lanes.specs.Flushes.{SyncsOne, IsStripeFlush}
+use Rattle.nm_lanes.specs.Lane.{LaneStops}
+use Rattle.nm_lanes.specs.Own.{helps, own_done, EndsSo}
+use Rattle.nm_lanes.specs.Steps.{Nobodys, Completes}
+use Rattle.nm_lanes.specs.Syncs.{AllSync, LaneSyncs, LaneSyncStops}
+use Rattle.nm_lanes.proofs.LaneLemmas.{does-does, does-stops}
+
+-- one of these steps synced the leg
+abbrev pub Synced : {L : Type 0} → ℕ → List (Done L) → Type 0
+Synced leg list = HasSynced leg (map (λ d. d.step) list) (map (λ d. d.answer) list)
+
+pub synced-left : {L : Type 0} (leg : ℕ) (xs ys : List (Done L)) → Synced leg xs → Synced leg (xs ++ ys)
+synced-left leg [] ys h = absurd h
+synced-left leg (x ∷ xs) ys (inl h) = inl h
+synced-left leg (x ∷ xs) ys (inr h) = inr (synced-left leg xs ys h)
+
+pub synced-right : {L : Type 0} (leg : ℕ) (xs ys : List (Done L)) → Synced leg ys → Synced leg (xs ++ ys)
+synced-right leg [] ys h = h
+synced-right leg (x ∷ xs) ys h = inr (synced-right leg xs ys h)
+
+-- what own steps did, all steps did
+all-synced : {L : Type 0} (leg : ℕ) (b : Bool) (x : Done L) (own list : List (Done L)) → (Synced leg own → Synced leg list) → Synced leg (if b then own else x ∷ own) → Synced leg (x ∷ list)
+all-synced leg true x own list more h = inr (more h)
+all-synced leg false x own list more (inl h) = inl h
+all-synced leg false x own list more (inr h) = inr (more h)
+
+pub own-synced : {L : Type 0} (leg : ℕ) (list : List (Done L)) → Synced leg (own_done list) → Synced leg list
+own-synced leg [] h = h
+own-synced leg (x ∷ list) h = all-synced leg (helps x.step x.answer) x (own_done list) list (own-synced leg list) h
+
+pub own-flush : {L : Type 0} (legs : ℕ) (list : List (Done L)) → IsStripeFlush legs (own_done list) → IsStripeFlush legs list
+own-flush legs list all leg lt = own-synced leg list (all leg lt)
+
+all-more : {L : Type 0} (legs : ℕ) (xs : List (Done L)) (d : Done L) → AllSync legs xs → SyncsOne legs d → AllSync legs (xs ++ d ∷ [])
+all-more legs [] d all one = (one, tt)
+all-more legs (x ∷ xs) d all one = (all.0, all-more legs xs d all.1 one)
+
+module _ {L D : Type 0} (follows : D → List (Done L) → D → Type 0) where
+  pub syncs-none : ((lane : D) → follows lane [] lane) → (old : D) (legs : ℕ) → LaneSyncs follows (old, old) legs 0
+  syncs-none stays old legs = record { own = []; does = record { list = []; leads = stays old; own_is = refl }; only = tt; each = λ leg lt. absurd (omega (arith, lt)) }
+
+module _ {L D : Type 0} (follows : D → List (Done L) → D → Type 0)
+    (joins : (first mid last : D) (before after : List (Done L)) → follows first before mid → follows mid after last → follows first (before ++ after) last) where
+  -- one leg more
+  pub syncs-more : (old mid new : D) (legs leg : ℕ) → leg < legs → LaneSyncs follows (old, mid) legs leg → Completes follows mid new (Sync leg) (SyncsLeg leg (Sync leg)) → LaneSyncs follows (old, new) legs (leg + 1)
+  syncs-more old mid new legs leg lt a b =
+      let d = done_as (Sync leg) b.answer in
+      record {
+        own = a.own ++ d ∷ [];
+        does = does-does follows joins old mid new a.own (d ∷ []) a.does b.does;
+        only = all-more legs a.own d a.only (record { leg = leg; inside = lt; syncs = b.is_answer });
+        each = λ other upto. elim (cases_lt other leg) [
+          | inl before ↦ synced-left other a.own (d ∷ []) (a.each other before)
+          | inr above ↦
+              let last : leg ≡ other = omega (arith, above, upto) in
+              synced-right other a.own (d ∷ []) (inl (subst (λ (n : ℕ). SyncsLeg n (Sync leg) b.answer) last b.is_answer))
+        ];
+      }
+
+  -- the end of the call at a leg
+  pub syncs-stop : (old mid new : D) (legs leg : ℕ) (kind : CauseKind) → LaneSyncs follows (old, mid) legs leg → LaneStops follows mid new [] (EndsSo Nobodys kind) → LaneSyncStops follows (old, new) legs kind
+  syncs-stop old mid new legs leg kind a b = record {
+    own = a.own;
+    only = a.only;
+    stops = subst (λ (own : List (Done L)). LaneStops follows old new own (EndsSo Nobodys kind)) (append-nil a.own) (does-stops follows joins old mid new a.own [] (EndsSo Nobodys kind) a.does b);
+  }

@@ -1,0 +1,44 @@
+-- The regions are those of the first block and the last.
+use Rattle.std.proofs.Common.{◌≡◌, ◌+◌, ◌-◌, ◌/◌, ap, ◌∙◌, rules, arith}
+use Rattle.nm_geometry.specs.declared.piece.Piece.{Piece}
+use Rattle.nm_geometry.specs.Pieces.{touched}
+use Rattle.nm_lanes.proofs.TouchLemmas.{TouchesSo, touches-around, around-touches}
+use Rattle.nm_lanes.proofs.flushing.stripes_touched.Goals as goal
+
+pub returns-clause-touched : goal.returns-clause-touched
+returns-clause-touched c =
+    let shape = c.args.shape.now in
+    let range = c.args.range in
+    let q = range.offset / 512 in
+    let zero_is : q + 0 ≡ q = omega arith in
+    let first : c.region_of-first.result ≡ q / shape.region = c.region_of-first.ensures.region ∙ ap (λ (p : Piece). p.block / shape.region) c.piece.ensures.piece ∙ ap (λ n. n / shape.region) zero_is in
+    let count : c.pieces.result ≡ touched range = c.pieces.ensures.pieces in
+    let last : c.region_of-last.result ≡ (q + (touched range - 1)) / shape.region = c.region_of-last.ensures.region ∙ ap (λ (p : Piece). p.block / shape.region) c.piece-2.ensures.piece ∙ ap (λ n. (q + (n - 1)) / shape.region) count in
+    let met : TouchesSo shape range c.region_of-first.result c.region_of-last.result c.min-count.result = record {
+      region = omega (arith, c.within_bounds.ensures.some_region);
+      stripes = omega (arith, c.within_bounds.ensures.some_stripes);
+      some = c.requires.some;
+      first_is = first;
+      last_is = last;
+      count_is = search rules;
+    } in
+    λ stripe a. touches-around shape range c.region_of-first.result c.region_of-last.result c.min-count.result stripe met a
+
+pub returns-clause-only : goal.returns-clause-only
+returns-clause-only c =
+    let shape = c.args.shape.now in
+    let range = c.args.range in
+    let q = range.offset / 512 in
+    let zero_is : q + 0 ≡ q = omega arith in
+    let first : c.region_of-first.result ≡ q / shape.region = c.region_of-first.ensures.region ∙ ap (λ (p : Piece). p.block / shape.region) c.piece.ensures.piece ∙ ap (λ n. n / shape.region) zero_is in
+    let count : c.pieces.result ≡ touched range = c.pieces.ensures.pieces in
+    let last : c.region_of-last.result ≡ (q + (touched range - 1)) / shape.region = c.region_of-last.ensures.region ∙ ap (λ (p : Piece). p.block / shape.region) c.piece-2.ensures.piece ∙ ap (λ n. (q + (n - 1)) / shape.region) count in
+    let met : TouchesSo shape range c.region_of-first.result c.region_of-last.result c.min-count.result = record {
+      region = omega (arith, c.within_bounds.ensures.some_region);
+      stripes = omega (arith, c.within_bounds.ensures.some_stripes);
+      some = c.requires.some;
+      first_is = first;
+      last_is = last;
+      count_is = search rules;
+    } in
+    λ stripe a. around-touches shape range c.region_of-first.result c.region_of-last.result c.min-count.result stripe met a

@@ -1,0 +1,51 @@
+-- What a flush does, and a sync of the stripes that some bytes lie in.
+use Rattle.std.specs.Prelude.{◌≡◌, ℕ, ◌<◌, List, [], ◌∷◌, map}
+use Rattle.nm_geometry.specs.declared.range.ByteRange.{ByteRange}
+use Rattle.nm_geometry.specs.Geometry.{Geometry, stripe_of}
+use Rattle.nm_geometry.specs.Pieces.{touched, piece_at}
+use Rattle.nm_stripe.specs.Flush.{SyncsLeg, IsFlush}
+use Rattle.nm_lanes.specs.declared.cause.Cause.{Cause}
+use Rattle.nm_lanes.specs.Done.{Done}
+use Rattle.nm_lanes.specs.Lists.{MirrorStep, stripe_list, Does, Stops}
+
+-- the step synced one of so many legs, or found or made it out
+pub record SyncsOne {L : Type 0} (legs : ℕ) (d : Done L) : Type 0 where
+  pub leg : ℕ
+  pub inside : leg < legs
+  pub syncs : SyncsLeg leg d.step d.answer
+
+-- all steps did, each in one of these stripes
+abbrev pub OnlySyncs : {L : Type 0} → ℕ → (ℕ → Type 0) → List (MirrorStep L) → Type 0
+OnlySyncs legs In [] = Unit {0}
+OnlySyncs legs In (d ∷ own) = In d.stripe × SyncsOne legs d.done × OnlySyncs legs In own
+
+-- the steps of a stripe are a flush
+abbrev pub IsStripeFlush : {L : Type 0} → ℕ → List (Done L) → Type 0
+IsStripeFlush legs list = IsFlush legs (map (λ d. d.step) list) (map (λ d. d.answer) list)
+
+-- the stripe is one of the shape's
+abbrev pub IsStripeOf : Geometry → ℕ → Type 0
+IsStripeOf shape stripe = stripe < shape.stripes
+
+-- some of the bytes lie in the stripe
+pub record Touches (shape : Geometry) (range : ByteRange) (stripe : ℕ) : Type 0 where
+  pub number : ℕ
+  pub inside : number < touched range
+  pub stripe_is : stripe_of (piece_at number range).block shape ≡ stripe
+
+-- every leg was synced in each of these stripes, and nothing else was done
+pub record HasFlushed {L D : Type 0} (follows : D → List (Done L) → D → Type 0) (legs : ℕ)
+    (In : ℕ → Type 0) (lanes : List D × List D) : Type 0 where
+  pub own : List (MirrorStep L)
+  pub does : Does follows lanes.0 lanes.1 own
+  pub only : OnlySyncs legs In own
+  pub each : (stripe : ℕ) → In stripe → IsStripeFlush legs (stripe_list stripe does.list)
+
+-- legs were synced in these stripes, and nothing else was done; then a sync in one of them ended
+-- the call
+pub record HasFlushedSome {L D : Type 0} (follows : D → List (Done L) → D → Type 0) (legs : ℕ)
+    (In : ℕ → Type 0) (lanes : List D × List D) (cause : Cause) : Type 0 where
+  pub own : List (MirrorStep L)
+  pub only : OnlySyncs legs In own
+  pub stops : Stops follows lanes.0 lanes.1 own cause
+  pub stripe : In cause.stripe

@@ -1,0 +1,11 @@
+pub mod Done
+pub mod Fits
+pub mod Own
+pub mod Lane
+pub mod Steps
+pub mod Lists
+pub mod Reads
+pub mod Cuts
+pub mod Writes
+pub mod Flushes
+pub mod Syncs

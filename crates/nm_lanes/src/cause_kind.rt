@@ -1,0 +1,16 @@
+/// An answer that ends a call.
+#[derive(Debug, Clone, Copy, PartialEq, Eq, Drop)]
+pub enum CauseKind {
+    /// The only leg in sync failed in a read or a sync.
+    Fault,
+    /// The only leg in sync failed in a write, and the stripe has stopped.
+    Halted,
+    /// The stripe had stopped before.
+    Stopped,
+    /// All entry numbers are in use.
+    Exhausted,
+    /// The stripe is not the caller's, or the caller's count is full.
+    Astray,
+    /// The write's record is gone: somebody else has claimed it.
+    NoTicket,
+}

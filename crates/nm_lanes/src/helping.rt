@@ -1,0 +1,54 @@
+//! What a call does where a step was refused: it helps on what stands in the way.
+ghost use Rattle.std.specs.Prelude.{◌≡◌, [], ◌∷◌, None, IfErr, OnOk};
+ghost use Rattle.nm_lanes.specs.Lane.{LaneDoes, LaneStops};
+ghost use Rattle.nm_lanes.specs.Own.{end_of, EndsSo};
+ghost use Rattle.nm_lanes.specs.Steps.{EndsHere, Nobodys};
+
+use crate::cause_kind::CauseKind;
+use crate::gate::Gate;
+use crate::hindrance::{Hindrance, end_of};
+use crate::lane::Lane;
+use crate::site::Site;
+use nm_leg::LegPart;
+use nm_rules::Refusal;
+use std::sync::Wait;
+
+impl<R: Wait, G: Gate, K> Site<'_, R, G, K> {
+    /// Pushes a write, of this ticket or the oldest one under way, to the lowest leg that it owes.
+    pub(crate) fn help_write<L: LegPart, D: Lane<L, K>>(
+        &self,
+        lane: &mut D,
+        ticket: Option<u64>,
+    ) -> Result<(), CauseKind>
+        ensures ok { OnOk result (LaneDoes D.follows lane.old lane.new []) }
+        ensures err { IfErr result (λ kind.
+            LaneStops D.follows lane.old lane.new [] (EndsSo Nobodys kind)) }
+    {
+        if let Some((ticket, leg)) = lane.owed(self.rt, self.lock, ticket) {
+            self.try_push(lane, ticket, leg)?;
+        }
+        Ok(())
+    }
+
+    /// Goes on behind a step that was refused so: where the refusal does not end the call, helps on
+    /// what stood in the way.
+    pub(crate) fn go_on<L: LegPart, D: Lane<L, K>>(
+        &self,
+        lane: &mut D,
+        refusal: Refusal,
+    ) -> Result<(), CauseKind>
+        ensures going { OnOk result (end_of refusal ≡ None) }
+        ensures ok { OnOk result (LaneDoes D.follows lane.old lane.new []) }
+        ensures err { IfErr result (EndsHere D.follows (lane.old, lane.new) refusal) }
+    {
+        if let Some(kind) = end_of(refusal) {
+            return Err(kind);
+        }
+        match Hindrance::of(refusal) {
+            Hindrance::Write(ticket) => self.help_write(lane, ticket)?,
+            Hindrance::Copy(leg) => self.try_copy(lane, leg)?,
+            Hindrance::Nothing => {}
+        }
+        Ok(())
+    }
+}

@@ -1,0 +1,37 @@
+ghost use Rattle.std.specs.Prelude.{List, [], ◌∷◌, ◌++◌};
+ghost use Rattle.nm_lanes.specs.Done.{Done, done_as};
+ghost use Rattle.nm_lanes.specs.Fits.{AnswerFits};
+
+use nm_leg::LegPart;
+use nm_stripe::{Answer, Step};
+use std::sync::Wait;
+
+/// One stripe's access path: it does steps on the stripe behind a lock, one hold of the lock for
+/// each.
+///
+/// `K` is the lock. Between two calls no lock is held, and others may do steps of their own on the
+/// stripe; so what a lane knows is the list of its own steps with their answers.
+pub trait Lane<L: LegPart, K> {
+    /// These steps, answered so, lead from one state of the lane to another.
+    ghost follows: { Self → List (Done L) → Self → Type 0 };
+
+    /// Does one step on the stripe behind the lock, in one hold of it.
+    ///
+    /// A step that the stripe may not be asked for, whose block or leg is not there, is refused as
+    /// `Astray`.
+    fn step<R: Wait>(&mut self, rt: &R, lock: &K, step: Step<L>) -> Answer<L>
+        ensures follows { follows self.old (done_as «step» result ∷ []) self.new }
+        ensures fits { AnswerFits «step» result };
+
+    /// The lowest leg that a write still has to reach, with the write's ticket: of this ticket, or
+    /// of the lowest ticket under way where none is given. One hold of the lock.
+    fn owed<R: Wait>(&self, rt: &R, lock: &K, ticket: Option<u64>) -> Option<(u64, u8)>;
+
+    /// No step leads from a state to itself.
+    ghost stays: { (lane : Self) → follows lane [] lane };
+
+    /// Steps that follow one another are one list.
+    ghost joins: { (first mid last : Self) (before after : List (Done L))
+        → follows first before mid → follows mid after last
+        → follows first (before ++ after) last };
+}

@@ -1,0 +1,41 @@
+//! A mirror's calls, as lists of steps on its stripes.
+//!
+//! A lane is one stripe's access path: it does one step at a time on the stripe behind a lock, and
+//! holds the lock for no longer.
+#![tactic(auto)]
+
+pub use call_kind::CallKind;
+pub use cause::Cause;
+pub use cause_kind::CauseKind;
+pub use flushing::{flush_by, sync_by};
+pub use gate::{Gate, NoGate};
+pub use lane::Lane;
+pub use place::Place;
+pub use reading::read_by;
+pub use step_kind::StepKind;
+pub use write_fault::WriteFault;
+pub use writing::write_by;
+pub use zeroing::zero_by;
+
+mod beginning;
+mod call;
+mod call_kind;
+mod cause;
+mod cause_kind;
+mod cutting;
+mod flushing;
+mod gate;
+mod helping;
+mod hindrance;
+mod lane;
+mod met;
+mod piece_write;
+mod place;
+mod reading;
+mod site;
+mod step_kind;
+mod turns;
+mod write_fault;
+mod writing;
+mod writing_one;
+mod zeroing;

@@ -1,0 +1,106 @@
+//! One try of a step, and what helps behind it.
+ghost use Rattle.std.specs.Prelude.{◌≡◌, ◌+◌, ◌≤◌, [], ◌∷◌, length, take, drop, IfOk, IfErr, OnOk};
+ghost use Rattle.nm_stripe.specs.declared.step.Step.TheVariants as step;
+ghost use Rattle.nm_stripe.specs.Flush.{SyncsLeg};
+ghost use Rattle.nm_lanes.specs.Lane.{LaneStops};
+ghost use Rattle.nm_lanes.specs.Own.{EndsSo};
+ghost use Rattle.nm_lanes.specs.Reads.{IsValue, value_bytes};
+ghost use Rattle.nm_lanes.specs.Steps.{Completes, Turns, Nobodys};
+
+use crate::cause_kind::CauseKind;
+use crate::gate::Gate;
+use crate::hindrance::finds_out;
+use crate::lane::Lane;
+use crate::met::Met;
+use crate::site::Site;
+use nm_leg::LegPart;
+use std::sync::Wait;
+
+impl<R: Wait, G: Gate, K> Site<'_, R, G, K> {
+    /// One try of a read: true where it found its block.
+    fn read_turn<L: LegPart, D: Lane<L, K>>(
+        &self,
+        lane: &mut D,
+        block: u64,
+        from: u16,
+        into: &mut [u8],
+    ) -> Result<bool, CauseKind>
+        requires { from + length into.old ≤ 512 }
+        ensures ok { IfOk result (Turns D.follows (lane.old, lane.new) (step.Read block) (λ told.
+            IsValue told
+            × (into.new ≡ take (length into.old) (drop from (value_bytes told))))) }
+        ensures err { IfErr result (λ kind.
+            LaneStops D.follows lane.old lane.new [] (EndsSo Nobodys kind)) }
+    {
+        match self.try_read(lane, block, from, into) {
+            Met::Done => Ok(true),
+            Met::Lost => Ok(false),
+            Met::Refused(refusal) => {
+                self.go_on(lane, refusal)?;
+                Ok(false)
+            }
+        }
+    }
+
+    /// Reads a block, and puts what it holds from one place on into the target.
+    pub(crate) fn read_one<L: LegPart, D: Lane<L, K>>(
+        &self,
+        lane: &mut D,
+        block: u64,
+        from: u16,
+        into: &mut [u8],
+    ) -> Result<(), CauseKind>
+        requires { from + length into.old ≤ 512 }
+        ensures ok { OnOk result (Completes D.follows lane.old lane.new (step.Read block) (λ told.
+            IsValue told
+            × (into.new ≡ take (length into.old) (drop from (value_bytes told))))) }
+        ensures err { IfErr result (λ kind.
+            LaneStops D.follows lane.old lane.new [] (EndsSo Nobodys kind)) }
+    {
+        for _ in self.rt.forever() {
+            if self.read_turn(lane, block, from, into)? {
+                return Ok(());
+            }
+        }
+        unreachable!()
+    }
+
+    /// One try of a sync: true where the leg was synced, or is out.
+    fn sync_turn<L: LegPart, D: Lane<L, K>>(&self, lane: &mut D, leg: u8) -> Result<bool, CauseKind>
+        ensures ok { IfOk result (Turns D.follows (lane.old, lane.new) (step.Sync leg)
+            (SyncsLeg leg (step.Sync leg))) }
+        ensures err { IfErr result (λ kind.
+            LaneStops D.follows lane.old lane.new [] (EndsSo Nobodys kind)) }
+    {
+        match self.try_sync(lane, leg) {
+            Met::Done => Ok(true),
+            Met::Lost => Ok(true),
+            Met::Refused(refusal) => {
+                if finds_out(refusal) {
+                    return Ok(true);
+                }
+                self.go_on(lane, refusal)?;
+                Ok(false)
+            }
+        }
+    }
+
+    /// Syncs a leg that is not out.
+    pub(crate) fn sync_one<L: LegPart, D: Lane<L, K>>(
+        &self,
+        lane: &mut D,
+        leg: u8,
+    ) -> Result<(), CauseKind>
+        ensures ok { OnOk result (Completes D.follows lane.old lane.new (step.Sync leg)
+            (SyncsLeg leg (step.Sync leg))) }
+        ensures err { IfErr result (λ kind.
+            LaneStops D.follows lane.old lane.new [] (EndsSo Nobodys kind)) }
+    {
+        for _ in self.rt.forever() {
+            if self.sync_turn(lane, leg)? {
+                return Ok(());
+            }
+        }
+        unreachable!()
+    }
+}

@@ -1,0 +1,144 @@
+//! The write of one block: its begin, its pushes and its claim.
+ghost use Rattle.std.specs.Prelude.{◌≡◌, [], ◌∷◌, IfOk, IfErr, OnOk};
+ghost use Rattle.nm_stripe.specs.declared.step.Step.TheVariants as step;
+ghost use Rattle.nm_lanes.specs.Lane.{LaneDoes, LaneStops};
+ghost use Rattle.nm_lanes.specs.Own.{EndsSo};
+ghost use Rattle.nm_lanes.specs.Steps.{BeginTurns, Completes, IsWritten, LaneBegins, LaneWrites};
+ghost use Rattle.nm_lanes.specs.Steps.{LaneWriteStops, Nobodys, Only, Turns};
+
+use crate::beginning::Beginning;
+use crate::cause_kind::CauseKind;
+use crate::gate::Gate;
+use crate::hindrance::claim_end_of;
+use crate::lane::Lane;
+use crate::met::Met;
+use crate::site::Site;
+use nm_fanout::Data;
+use nm_leg::LegPart;
+use std::sync::Wait;
+
+impl<R: Wait, G: Gate, K> Site<'_, R, G, K> {
+    /// One try of a begin: its ticket, or the data, which have come back.
+    fn begin_turn<L: LegPart, D: Lane<L, K>>(
+        &self,
+        lane: &mut D,
+        block: u64,
+        slice: Data,
+    ) -> Result<Result<u64, Data>, CauseKind>
+        ensures ok { IfOk result (BeginTurns D.follows (lane.old, lane.new) block slice) }
+        ensures err { IfErr result (λ kind.
+            LaneStops D.follows lane.old lane.new [] (EndsSo Nobodys kind)) }
+    {
+        match self.try_begin(lane, block, slice) {
+            Beginning::Begun(ticket) => Ok(Ok(ticket)),
+            Beginning::Lost(slice) => Ok(Err(slice)),
+            Beginning::Refused(refusal, slice) => {
+                self.go_on(lane, refusal)?;
+                Ok(Err(slice))
+            }
+        }
+    }
+
+    /// Begins a write, and gives its ticket.
+    fn begin_one<L: LegPart, D: Lane<L, K>>(
+        &self,
+        lane: &mut D,
+        block: u64,
+        slice: Data,
+    ) -> Result<u64, CauseKind>
+        ensures ok { IfOk result (LaneBegins D.follows (lane.old, lane.new) block slice) }
+        ensures err { IfErr result (λ kind.
+            LaneStops D.follows lane.old lane.new [] (EndsSo Nobodys kind)) }
+    {
+        let mut rest = slice;
+        for _ in self.rt.forever() {
+            let turn = self.begin_turn(lane, block, rest)?;
+            match turn {
+                Ok(ticket) => return Ok(ticket),
+                Err(back) => rest = back,
+            }
+        }
+        unreachable!()
+    }
+
+    /// Pushes a write to each leg that it owes. One that it does not owe refuses, which is no harm.
+    fn push_all<L: LegPart, D: Lane<L, K>>(
+        &self,
+        lane: &mut D,
+        ticket: u64,
+        legs: u8,
+    ) -> Result<(), CauseKind>
+        ensures ok { OnOk result (LaneDoes D.follows lane.old lane.new []) }
+        ensures err { IfErr result (λ kind.
+            LaneStops D.follows lane.old lane.new [] (EndsSo Nobodys kind)) }
+    {
+        for leg in 0..legs {
+            if self.try_push(lane, ticket, leg)? {
+                return Ok(());
+            }
+        }
+        Ok(())
+    }
+
+    /// One try of a claim: true where the write is done.
+    fn claim_turn<L: LegPart, D: Lane<L, K>>(
+        &self,
+        lane: &mut D,
+        ticket: u64,
+    ) -> Result<bool, CauseKind>
+        ensures ok { IfOk result (Turns D.follows (lane.old, lane.new) (step.Claim ticket)
+            IsWritten) }
+        ensures err { IfErr result (λ kind.
+            LaneStops D.follows lane.old lane.new [] (EndsSo (Only ticket) kind)) }
+    {
+        match self.try_claim(lane, ticket) {
+            Met::Done => Ok(true),
+            Met::Lost => Ok(false),
+            Met::Refused(refusal) => {
+                if let Some(kind) = claim_end_of(refusal) {
+                    return Err(kind);
+                }
+                self.help_write(lane, Some(ticket))?;
+                Ok(false)
+            }
+        }
+    }
+
+    /// Claims a write, and pushes it where it is not done yet.
+    fn claim_one<L: LegPart, D: Lane<L, K>>(
+        &self,
+        lane: &mut D,
+        ticket: u64,
+    ) -> Result<(), CauseKind>
+        ensures ok { OnOk result (Completes D.follows lane.old lane.new (step.Claim ticket)
+            IsWritten) }
+        ensures err { IfErr result (λ kind.
+            LaneStops D.follows lane.old lane.new [] (EndsSo (Only ticket) kind)) }
+    {
+        for _ in self.rt.forever() {
+            if self.claim_turn(lane, ticket)? {
+                return Ok(());
+            }
+        }
+        unreachable!()
+    }
+
+    /// Writes a block on so many legs.
+    pub(crate) fn write_one<L: LegPart, D: Lane<L, K>>(
+        &self,
+        lane: &mut D,
+        block: u64,
+        slice: Data,
+        legs: u8,
+    ) -> Result<(), CauseKind>
+        ensures ok { OnOk result (LaneWrites D.follows lane.old lane.new block slice) }
+        ensures err { IfErr result (LaneWriteStops D.follows (lane.old, lane.new) block slice) }
+    {
+        let ticket = self.begin_one(lane, block, slice)?;
+        self.push_all(lane, ticket, legs)?;
+        match self.claim_one(lane, ticket) {
+            Ok(()) => Ok(()),
+            Err(kind) => Err(kind),
+        }
+    }
+}

@@ -1,0 +1,4 @@
+mod OneInSync
+mod OpeningLemmas
+mod Places
+mod StatusLemmas

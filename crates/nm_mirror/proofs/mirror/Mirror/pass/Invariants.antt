@@ -1,0 +1,8 @@
+-- The parts so far have counted nothing, and there is room for the others.
+use Rattle.std.proofs.Common.{◌≡◌, ◌≤◌, vec_len, vec_capacity}
+use Rattle.nm_mirror.specs.Passes.{HasCountedNothing}
+use Rattle.nm_mirror.proofs.mirror.Mirror.pass.Given as goal
+
+abbrev pub invariant-loop-lock : goal.invariant-loop-lock
+invariant-loop-lock g l =
+    (vec_len l.parts ≡ l.lock-index) × (vec_len l.self.locks ≤ vec_capacity l.parts) × HasCountedNothing l.parts.items

@@ -1,0 +1,15 @@
+-- The stripe that was opened is the next.
+use Rattle.std.proofs.Common.{◌≡◌, [], ◌∷◌, ◌++◌, length, rules}
+use Rattle.nm_mirror.proofs.OpeningLemmas.{first_more}
+use Rattle.nm_mirror.proofs.opening.Opening.open.Goals as goal
+
+pub invariant_of-self-2 : goal.invariant_of-self-2
+invariant_of-self-2 g c =
+    let here : c.len.result ≡ length c.args.self.now.stripes.items = search rules in
+    let more : c.push_reserved.new.self.items ≡ c.args.self.now.stripes.items ++ c.in_ok-stripe.stripe ∷ [] = search rules in
+    record {
+      so_far = first_more c.args.self.now.shape c.args.self.now.stripes.items c.push_reserved.new.self.items
+          c.in_ok-stripe.stripe c.len.result c.args.in_sync c.place_of-place.result c.args.legs.items c.args.policy
+          c.args.self.now.so_far c.requires.more c.in_ok-stripe.ensures.opened here c.place_of-place.ensures.place
+          c.requires.legs more;
+    }

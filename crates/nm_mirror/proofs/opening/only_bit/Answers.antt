@@ -1,0 +1,15 @@
+-- The bit is a power of two.
+use Rattle.std.proofs.Common.{◌≡◌, ◌^◌, ◌*◌, ◌%◌, ap, sym, rules, arith}
+use Rattle.std.proofs.lemmas.Nat.{one_shl}
+use Rattle.nm_mirror.proofs.OneInSync.{one_named, one_equal}
+use Rattle.nm_mirror.proofs.opening.only_bit.Goals as goal
+
+pub returns-clause-named : goal.returns-clause-named
+returns-clause-named g c =
+    let bit = one_shl c.args.leg 8 (omega (arith, c.requires)) in
+    rw bit (λ legs inside. one_named c.args.leg legs inside)
+
+pub returns-clause-equal : goal.returns-clause-equal
+returns-clause-equal g c =
+    let bit = one_shl c.args.leg 8 (omega (arith, c.requires)) in
+    rw bit (λ legs. one_equal g.L.LegPart.model legs c.args.leg)

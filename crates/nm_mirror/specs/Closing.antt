@@ -1,0 +1,48 @@
+-- The end of a mirror: what its stripes have had, and what its passes counted.
+use Rattle.std.specs.Prelude.{◌≡◌, ◌≢◌, ◌<◌, ◌≤◌, ◌+◌, ℕ, List, Option, None, Some, length, slice_get, sum_by, take, All}
+use Rattle.nm_part.specs.PartState.{PartState}
+use Rattle.nm_stripe.specs.End.{EndOf}
+use Rattle.nm_mirror.specs.declared.pass.Pass.{Pass}
+use Rattle.nm_mirror.specs.declared.refused.Refused.{Refused}
+use Rattle.nm_mirror.specs.declared.refused.Refused.TheVariants.{Memory, Io, TooMany, PassesMissing, Uneven}
+
+-- what a part counted, if there is one
+abbrev pub count_of : Option PartState → ℕ
+count_of None = 0
+count_of (Some part) = part.count
+
+-- what the pass counted in this stripe
+abbrev pub count_in : {L : Type 0} → ℕ → Pass L → ℕ
+count_in stripe pass = count_of (slice_get pass.parts.items stripe)
+
+-- what all passes counted in this stripe
+abbrev pub counted : {L : Type 0} → ℕ → List (Pass L) → ℕ
+counted stripe passes = sum_by (count_in stripe) passes
+
+-- the stripe's history has had just the entries that the passes counted and that its records have
+abbrev pub IsEven : {L : Type 0} → List (Pass L) → EndOf → Type 0
+IsEven passes end = end.total ≡ counted end.stripe passes + end.landed
+
+-- each of the ends is even
+abbrev pub AreEven : {L : Type 0} → List (Pass L) → List EndOf → Type 0
+AreEven passes ends = All (IsEven passes) ends
+
+-- this end is the first that is not even
+pub record IsFirstUneven {L : Type 0} (passes : List (Pass L)) (ends : List EndOf) (end : EndOf) : Type 0 where
+  pub place : ℕ
+  pub found : slice_get ends place ≡ Some end
+  pub uneven : ¬ IsEven passes end
+  pub even_before : AreEven passes (take place ends)
+
+-- why totals of these ends are refused, with so many passes made
+abbrev pub Refuses : {L : Type 0} → ℕ → List (Pass L) → List EndOf → Refused L → Type 0
+Refuses made passes ends PassesMissing = length passes < made
+Refuses made passes ends (Uneven end) = (made ≤ length passes) × IsFirstUneven passes ends end
+Refuses made passes ends refused = ⊥
+
+-- why a mirror is not closed with these passes
+abbrev pub RefusesClose : {L : Type 0} → List (Pass L) → Refused L → Type 0
+RefusesClose passes (Uneven end) = ¬ IsEven passes end
+RefusesClose passes TooMany = ⊥
+RefusesClose passes (Io cause) = ⊥
+RefusesClose passes refused = Unit {0}

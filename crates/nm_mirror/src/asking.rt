@@ -1,0 +1,54 @@
+//! A step asked of a stripe behind its lock.
+ghost use Rattle.std.specs.Prelude.{◌≡◌, [], ◌∷◌, ◌↔◌, IsTrue};
+ghost use Rattle.nm_leg.specs.Leg.{leg_type};
+ghost use Rattle.nm_lanes.specs.Fits.{AnswerFits};
+ghost use Rattle.nm_part.specs.Parts.{part_after};
+ghost use Rattle.nm_stripe.specs.Run.{MayBeAsked, NoneHalted};
+ghost use Rattle.nm_mirror.specs.Asking.{AsksStripe, ActsOnce};
+
+use nm_leg::LegPart;
+use nm_part::{Part, handed_in};
+use nm_stripe::{Answer, Refusal, Step, Stripe};
+
+/// Whether the step may be asked of the stripe: its block and its leg are there, and what is
+/// handed in fits.
+fn may_be_asked<L: LegPart>(stripe: &Stripe<L>, step: &Step<L>) -> bool
+    ensures { IsTrue result ↔ MayBeAsked L.model stripe.now step.now }
+{
+    match step {
+        Step::Begin(block, data) => *block < stripe.blocks() && data.fits_block(),
+        Step::Read(block) => *block < stripe.blocks(),
+        Step::Claim(_) => true,
+        Step::Replace(leg, part) => {
+            (*leg as usize) < stripe.legs() && part.len() == stripe.blocks()
+        }
+        Step::Push(_, leg)
+        | Step::Fail(leg)
+        | Step::Attach(leg)
+        | Step::Copy(leg)
+        | Step::Promote(leg)
+        | Step::Sync(leg) => (*leg as usize) < stripe.legs(),
+    }
+}
+
+/// Does a step of the stripe through a part.
+///
+/// Of what stands behind a lock nothing is known but that it is a stripe. So a step that it may not
+/// be asked for is refused here, as one of a stripe that is not the part's.
+pub(crate) fn ask<L: LegPart>(
+    part: &mut Part<L>,
+    stripe: &mut Stripe<L>,
+    step: Step<L>,
+) -> Answer<L>
+    ensures step { AsksStripe (leg_type L.model L.honest) «step» result part.old
+        stripe.old stripe.new }
+    ensures acts { IsTrue L.honest → NoneHalted (result ∷ [])
+        → ActsOnce L.model «step» result stripe.old stripe.new }
+    ensures counted { part.new ≡ part_after result part.old }
+    ensures fits { AnswerFits «step» result }
+{
+    if !may_be_asked(stripe, &step) {
+        return Answer::Refused(Refusal::Astray, handed_in(step));
+    }
+    part.step(stripe, step)
+}

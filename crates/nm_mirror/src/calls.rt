@@ -1,0 +1,121 @@
+//! What a client does through its pass.
+ghost use Rattle.std.specs.Prelude.{◌≡◌, ◌*◌, ◌%◌, length, IfErr, OnOk};
+ghost use Rattle.nm_geometry.specs.Pieces.{LiesInside, pieces_of};
+ghost use Rattle.nm_lanes.specs.Flushes.{HasFlushed, HasFlushedSome, IsStripeOf, Touches};
+ghost use Rattle.nm_lanes.specs.Reads.{HasRead, HasReadSome};
+ghost use Rattle.nm_mirror.specs.Counting.{Follows};
+
+use crate::mirror::Mirror;
+use crate::pass::Pass;
+use nm_lanes::{Cause, Gate, flush_by, read_by, sync_by};
+use nm_leg::LegPart;
+use nm_replay::BLOCK_BYTES;
+use std::sync::Wait;
+
+impl<L: LegPart, G: Gate + Drop> Mirror<L, G> {
+    /// Reads the bytes of the export from `offset` on into all of `into`: each block that they
+    /// touch once, in order.
+    ///
+    /// On an error the blocks before the one that ended it were read, and the rest of `into` is as
+    /// it was.
+    pub fn read_at<R: Wait>(
+        &self,
+        rt: &R,
+        pass: &mut Pass<L>,
+        offset: u64,
+        into: &mut [u8],
+    ) -> Result<(), Cause>
+        requires pass { length pass.old.parts.items ≡ self.now.shape.stripes }
+        requires inside { LiesInside (record { offset = offset; length = length into.old })
+            self.now.shape }
+        ensures ok { OnOk result (HasRead {L = L} Follows self.now.shape
+            (pieces_of (record { offset = offset; length = length into.old }))
+            (pass.old.parts.items, pass.new.parts.items) into.new) }
+        ensures err { IfErr result (HasReadSome {L = L} Follows self.now.shape
+            (pieces_of (record { offset = offset; length = length into.old }))
+            (pass.old.parts.items, pass.new.parts.items)) }
+    {
+        read_by(
+            rt,
+            &self.shape,
+            &self.gate,
+            Some(pass.number),
+            self.locks(),
+            pass.parts.as_mut_slice(),
+            offset,
+            into,
+        )
+    }
+
+    /// Reads whole blocks of the export from this one on into all of `into`, as `read_at`.
+    pub fn read<R: Wait>(
+        &self,
+        rt: &R,
+        pass: &mut Pass<L>,
+        from: u64,
+        into: &mut [u8],
+    ) -> Result<(), Cause>
+        requires pass { length pass.old.parts.items ≡ self.now.shape.stripes }
+        requires whole { length into.old % 512 ≡ 0 }
+        requires inside { LiesInside (record { offset = 512 * from; length = length into.old })
+            self.now.shape }
+        ensures ok { OnOk result (HasRead {L = L} Follows self.now.shape
+            (pieces_of (record { offset = 512 * from; length = length into.old }))
+            (pass.old.parts.items, pass.new.parts.items) into.new) }
+        ensures err { IfErr result (HasReadSome {L = L} Follows self.now.shape
+            (pieces_of (record { offset = 512 * from; length = length into.old }))
+            (pass.old.parts.items, pass.new.parts.items)) }
+    {
+        // It tells that the export's bytes can be counted.
+        let _regions = self.shape.regions();
+        self.read_at(rt, pass, BLOCK_BYTES as u64 * from, into)
+    }
+
+    /// Syncs every leg of every stripe. A leg that is out, or goes out by it, is passed over.
+    pub fn flush<R: Wait>(&self, rt: &R, pass: &mut Pass<L>) -> Result<(), Cause>
+        requires pass { length pass.old.parts.items ≡ self.now.shape.stripes }
+        ensures ok { OnOk result (HasFlushed {L = L} Follows self.now.shape.legs
+            (IsStripeOf self.now.shape) (pass.old.parts.items, pass.new.parts.items)) }
+        ensures err { IfErr result (HasFlushedSome {L = L} Follows self.now.shape.legs
+            (IsStripeOf self.now.shape) (pass.old.parts.items, pass.new.parts.items)) }
+    {
+        flush_by(
+            rt,
+            &self.shape,
+            &self.gate,
+            Some(pass.number),
+            self.locks(),
+            pass.parts.as_mut_slice(),
+        )
+    }
+
+    /// Syncs every leg of the stripes in which some of the bytes from `offset` on lie, as `flush`.
+    pub fn sync_touched<R: Wait>(
+        &self,
+        rt: &R,
+        pass: &mut Pass<L>,
+        offset: u64,
+        len: u64,
+    ) -> Result<(), Cause>
+        requires pass { length pass.old.parts.items ≡ self.now.shape.stripes }
+        requires inside { LiesInside (record { offset = offset; length = len })
+            self.now.shape }
+        ensures ok { OnOk result (HasFlushed {L = L} Follows self.now.shape.legs
+            (Touches self.now.shape (record { offset = offset; length = len }))
+            (pass.old.parts.items, pass.new.parts.items)) }
+        ensures err { IfErr result (HasFlushedSome {L = L} Follows self.now.shape.legs
+            (Touches self.now.shape (record { offset = offset; length = len }))
+            (pass.old.parts.items, pass.new.parts.items)) }
+    {
+        sync_by(
+            rt,
+            &self.shape,
+            &self.gate,
+            Some(pass.number),
+            self.locks(),
+            pass.parts.as_mut_slice(),
+            offset,
+            len,
+        )
+    }
+}

@@ -1,0 +1,115 @@
+//! The end of a mirror: what its stripes have had is compared with what its passes counted.
+ghost use Rattle.std.specs.Prelude.{◌≡◌, ◌≤◌, ◌↔◌, length, IsTrue, IfOk, IfErr};
+ghost use Rattle.nm_mirror.specs.Closing.{AreEven, IsEven, Refuses, RefusesClose, counted, count_in};
+
+use crate::lock::Lock;
+use crate::mirror::Mirror;
+use crate::pass::Pass;
+use crate::refused::Refused;
+use crate::totals::Totals;
+use nm_lanes::Gate;
+use nm_leg::LegPart;
+use nm_replay::Memory;
+use nm_stripe::End;
+use std::alloc::Global;
+
+/// What the pass counted in this stripe.
+fn count_in<L>(pass: &Pass<L>, stripe: u32) -> u64
+    ensures { result ≡ count_in stripe pass.now }
+{
+    match pass.parts.get(stripe as usize) {
+        Some(part) => part.count(),
+        None => 0,
+    }
+}
+
+/// What all passes counted in this stripe.
+fn counted<L>(passes: &[Pass<L>], stripe: u32) -> u128
+    ensures { result ≡ counted stripe passes.now }
+{
+    let mut sum = 0u128;
+    for pass in passes {
+        sum += u128::from(count_in(pass, stripe));
+    }
+    sum
+}
+
+/// Whether the stripe's history has had just the entries that the passes counted and that its
+/// records have.
+fn is_even<L>(end: &End<L>, passes: &[Pass<L>]) -> bool
+    ensures { IsTrue result ↔ IsEven passes.now end.now }
+{
+    let sum = counted(passes, end.stripe()).checked_add(u128::from(end.landed()));
+    sum == Some(u128::from(end.total()))
+}
+
+/// The totals of these ends.
+///
+/// Refused as `PassesMissing`, or as `Uneven` with the first end that is.
+fn totals_of<L>(ends: Vec<End<L>>, made: u32, passes: &[Pass<L>]) -> Result<Totals<L>, Refused<L>>
+    ensures ends { IfOk result (λ totals. totals.ends.items ≡ ends.items) }
+    ensures enough { IfOk result (λ totals. made ≤ length passes.now) }
+    ensures even { IfOk result (λ totals. AreEven passes.now totals.ends.items) }
+    ensures refused { IfErr result (Refuses made passes.now ends.items) }
+{
+    let mut ends = ends;
+    if passes.len() < made as usize {
+        return Err(Refused::PassesMissing);
+    }
+    match ends.iter().position(|end| !is_even(end, passes)) {
+        Some(place) => Err(Refused::Uneven(ends.swap_remove(place))),
+        None => Ok(Totals { ends }),
+    }
+}
+
+impl<L: LegPart> Lock<L> {
+    /// What the end of the stripe behind the lock tells.
+    fn end(&mut self) -> End<L> {
+        self.stripe.get_mut().end()
+    }
+}
+
+/// What the end of each stripe tells.
+fn ends_of<L: LegPart>(alloc: Global, locks: &mut [Lock<L>]) -> Result<Vec<End<L>>, Memory>
+    ensures each { IfOk result (λ ends. length ends.items ≡ length locks.old) }
+    ensures locks { length locks.new ≡ length locks.old }
+{
+    let mut ends = Vec::new(alloc);
+    ends.reserve(locks.len())?;
+    for place in 0..locks.len() {
+        ends.push_reserved(locks[place].end());
+    }
+    Ok(ends)
+}
+
+impl<L: LegPart, G: Gate + Drop> Mirror<L, G> {
+    /// Ends the mirror, with all of its passes: for each stripe what it has had, which is what the
+    /// passes counted and its records have.
+    ///
+    /// Refused as `Memory`, `PassesMissing` where a pass was made that does not come with the
+    /// others, or `Uneven`, the first whose condition holds. Then the mirror and the passes come
+    /// back.
+    pub fn close(
+        self,
+        alloc: Global,
+        passes: Vec<Pass<L>>,
+    ) -> Result<Totals<L>, (Refused<L>, Self, Vec<Pass<L>>)>
+        ensures stripes { IfOk result (λ totals.
+            length totals.ends.items ≡ length self.locks.items) }
+        ensures even { IfOk result (λ totals. AreEven passes.items totals.ends.items) }
+        ensures refused { IfErr result (λ back. RefusesClose passes.items back.0) }
+        ensures handed_back { IfErr result (λ back. back.2.items ≡ passes.items) }
+        ensures mirror { IfErr result (λ back.
+            (back.1.shape ≡ self.shape) × (back.1.gate ≡ self.gate)) }
+    {
+        let mut mirror = self;
+        let made = *mirror.made.get_mut();
+        let Ok(ends) = ends_of(alloc, mirror.locks.as_mut_slice()) else {
+            return Err((Refused::Memory, mirror, passes));
+        };
+        match totals_of(ends, made, &passes) {
+            Ok(totals) => Ok(totals),
+            Err(refused) => Err((refused, mirror, passes)),
+        }
+    }
+}

@@ -1,0 +1,27 @@
+//! How many stripes answered how, where one leg was failed or attached in all of them.
+
+/// What came of taking a leg out in each stripe.
+#[derive(Clone, Copy, Debug, Default, PartialEq, Eq)]
+pub struct FailCounts {
+    /// Where the leg went out.
+    pub failed: u64,
+    /// Where it stays: it is the only one in sync.
+    pub last: u64,
+    /// Where it was out already.
+    pub out: u64,
+    /// Which have stopped.
+    pub stopped: u64,
+}
+
+/// What came of letting a leg join again in each stripe.
+#[derive(Clone, Copy, Debug, Default, PartialEq, Eq)]
+pub struct AttachCounts {
+    /// Where the leg joins.
+    pub joining: u64,
+    /// How many blocks are left to copy to it in those.
+    pub left: u64,
+    /// Where it was not out.
+    pub not_out: u64,
+    /// Which have stopped.
+    pub stopped: u64,
+}

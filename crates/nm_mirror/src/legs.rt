@@ -1,0 +1,77 @@
+//! Takes a leg out of every stripe, and lets it join again.
+ghost use Rattle.std.specs.Prelude.{◌≡◌, ◌-◌, ◌^◌, ◌<◌, length};
+ghost use Rattle.nm_rules.specs.Attach.{attach_cause};
+ghost use Rattle.nm_rules.specs.Failing.{fail_cause};
+ghost use Rattle.nm_rules.specs.State.{left};
+ghost use Rattle.nm_mirror.specs.Counts.{attached_so, attaches, failed_so, fails};
+
+use crate::counts::{AttachCounts, FailCounts};
+use crate::mirror::Mirror;
+use nm_lanes::{CallKind, Gate, StepKind};
+use nm_leg::LegPart;
+use nm_stripe::{Refusal, Stripe};
+use std::sync::Wait;
+
+/// Takes the leg out of this stripe, and counts what came of it.
+fn fail_in<L: LegPart>(stripe: &mut Stripe<L>, leg: u8, counts: &mut FailCounts)
+    requires leg { leg < length stripe.old.legs }
+    requires room { fails counts.old < 2 ^ 64 - 1 }
+    ensures { counts.new ≡ failed_so (fail_cause stripe.old leg) counts.old }
+{
+    match stripe.fail(leg) {
+        Ok(_) => counts.failed += 1,
+        Err(Refusal::Stopped) => counts.stopped += 1,
+        Err(Refusal::AlreadyOut) => counts.out += 1,
+        Err(_) => counts.last += 1,
+    }
+}
+
+/// Lets the leg join this stripe again, and counts what came of it.
+fn attach_in<L: LegPart>(stripe: &mut Stripe<L>, leg: u8, counts: &mut AttachCounts)
+    requires leg { leg < length stripe.old.legs }
+    requires room { attaches counts.old < 2 ^ 64 - 1 }
+    ensures { counts.new ≡ attached_so (attach_cause stripe.old leg) (left leg stripe.new) counts.old }
+{
+    match stripe.attach(leg) {
+        Ok(left) => {
+            counts.joining += 1;
+            counts.left = counts.left.saturating_add(left);
+        }
+        Err(Refusal::Stopped) => counts.stopped += 1,
+        Err(_) => counts.not_out += 1,
+    }
+}
+
+impl<L: LegPart, G: Gate + Drop> Mirror<L, G> {
+    /// Takes the leg out of every stripe, and counts what came of it.
+    pub fn fail_leg<R: Wait>(&self, rt: &R, leg: u8) -> FailCounts
+        requires { leg < self.now.shape.legs }
+    {
+        let mut counts = FailCounts::default();
+        for stripe in 0..self.shape.stripes {
+            let mut held = self.locks[stripe as usize].stripe.lock(rt);
+            if (leg as usize) < held.legs() {
+                fail_in(&mut held, leg, &mut counts);
+            }
+            drop(held);
+            self.pass_gate(CallKind::FailLeg, stripe, StepKind::Fail);
+        }
+        counts
+    }
+
+    /// Lets the leg join every stripe again, and counts what came of it.
+    pub fn attach_leg<R: Wait>(&self, rt: &R, leg: u8) -> AttachCounts
+        requires { leg < self.now.shape.legs }
+    {
+        let mut counts = AttachCounts::default();
+        for stripe in 0..self.shape.stripes {
+            let mut held = self.locks[stripe as usize].stripe.lock(rt);
+            if (leg as usize) < held.legs() {
+                attach_in(&mut held, leg, &mut counts);
+            }
+            drop(held);
+            self.pass_gate(CallKind::AttachLeg, stripe, StepKind::Attach);
+        }
+        counts
+    }
+}

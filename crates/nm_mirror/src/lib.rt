@@ -1,0 +1,32 @@
+//! A mirror of locked stripes: many threads read and write it while its legs fail, come back and
+//! are copied again.
+//!
+//! Each step of a call is one hold of one stripe's lock. What the stripes' histories have had is
+//! compared in the end with what the passes counted.
+#![tactic(auto)]
+
+pub use counts::{AttachCounts, FailCounts};
+pub use lock::Lock;
+pub use mirror::Mirror;
+pub use opening::{OpenFault, Opening, open_stripes};
+pub use part_lane::PartLane;
+pub use pass::Pass;
+pub use refused::Refused;
+pub use status::{LegStatus, StripeStatus};
+pub use totals::Totals;
+
+mod asking;
+mod calls;
+mod closing;
+mod counts;
+mod legs;
+mod lock;
+mod mirror;
+mod opening;
+mod part_lane;
+mod pass;
+mod refused;
+mod resync;
+mod status;
+mod totals;
+mod writes;

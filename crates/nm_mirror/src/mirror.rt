@@ -1,0 +1,111 @@
+ghost use Rattle.std.specs.Prelude.{◌≡◌, length, IfOk, IfErr};
+ghost use Rattle.std.specs.Vec.{vec_len};
+ghost use Rattle.nm_mirror.specs.Stripes.{AreStripesOf};
+
+use crate::lock::Lock;
+use nm_geometry::Shape;
+use nm_lanes::{CallKind, Gate, Place, StepKind};
+use nm_leg::LegPart;
+use nm_replay::Memory;
+use nm_stripe::Stripe;
+use std::alloc::Global;
+use std::sync::Mutex;
+
+/// A mirror: its stripes, each behind a lock of its own, and the gate that its calls pass between
+/// their steps.
+#[derive(Drop)]
+pub struct Mirror<L: LegPart, G: Gate + Drop> {
+    pub(crate) shape: Shape,
+    pub(crate) locks: Vec<Lock<L>>,
+    pub(crate) gate: G,
+    pub(crate) made: Mutex<u32>,
+    ghost one_each: { vec_len locks ≡ shape.stripes },
+}
+
+/// Each stripe behind a lock of its own. Where memory is refused the stripes come back.
+fn locked<L: LegPart>(
+    alloc: Global,
+    stripes: Vec<Stripe<L>>,
+) -> Result<Vec<Lock<L>>, Vec<Stripe<L>>>
+    ensures each { IfOk result (λ locks. length locks.items ≡ length stripes.items) }
+    ensures handed_back { IfErr result (λ back. back.items ≡ stripes.items) }
+{
+    let mut locks = Vec::new(alloc);
+    if locks.reserve(stripes.len()).is_err() {
+        return Err(stripes);
+    }
+    let mut rest = stripes;
+    rest.reverse();
+    while let Some(stripe) = rest.pop() {
+        locks.push_reserved(Lock {
+            stripe: Mutex::new(stripe),
+        });
+    }
+    Ok(locks)
+}
+
+impl<L: LegPart, G: Gate + Drop> Mirror<L, G> {
+    /// A mirror of these stripes. Where memory is refused the stripes and the gate come back.
+    pub fn new(
+        alloc: Global,
+        shape: Shape,
+        stripes: Vec<Stripe<L>>,
+        gate: G,
+    ) -> Result<Mirror<L, G>, (Memory, Vec<Stripe<L>>, G)>
+        requires { AreStripesOf shape stripes.items }
+        ensures made { IfOk result (λ mirror. (mirror.shape ≡ shape) × (mirror.gate ≡ gate)) }
+        ensures handed_back { IfErr result (λ back.
+            (back.1.items ≡ stripes.items) × (back.2 ≡ gate)) }
+    {
+        let locks = match locked(alloc, stripes) {
+            Ok(locks) => locks,
+            Err(stripes) => return Err((Memory, stripes, gate)),
+        };
+        Ok(Mirror {
+            shape,
+            locks,
+            gate,
+            made: Mutex::new(0),
+        })
+    }
+
+    /// The locks, by rising number of their stripes. No lock stands round them.
+    pub fn locks(&self) -> &[Lock<L>]
+        ensures { length result.now ≡ self.now.shape.stripes }
+    {
+        self.locks.as_slice()
+    }
+
+    /// How the mirror's blocks lie in its stripes.
+    pub fn shape(&self) -> &Shape
+        ensures { result.now ≡ self.now.shape }
+    {
+        &self.shape
+    }
+
+    /// How many legs each stripe has.
+    pub fn legs(&self) -> u8
+        ensures { result ≡ self.now.shape.legs }
+    {
+        self.shape.legs
+    }
+
+    /// Tells the gate of a step of a call that has no pass.
+    pub(crate) fn pass_gate(&self, call: CallKind, stripe: u32, step: StepKind) {
+        self.gate.between(&Place {
+            pass: None,
+            call,
+            stripe,
+            block: None,
+            step,
+            number: None,
+        });
+    }
+
+    /// The gate.
+    pub fn gate(&self) -> &G
+        ensures { result.now ≡ self.now.gate }
+    {
+        &self.gate
+    }
+}

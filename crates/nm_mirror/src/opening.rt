@@ -1,0 +1,201 @@
+//! The stripes of a mirror, as they are opened.
+ghost use Rattle.std.specs.Prelude.{◌≡◌, ◌+◌, ◌<◌, ◌≤◌, ℕ, List, [], length, IsTrue, IfSome, IfOk, IfErr, OnOk, OnErr, ◌↔◌, IsSome};
+ghost use Rattle.nm_geometry.specs.Geometry.{stripe_blocks};
+ghost use Rattle.nm_leg.specs.LegCalls.{EachHas};
+ghost use Rattle.nm_regions.specs.Sound.{AreSizes};
+ghost use Rattle.nm_resync.specs.Chunk.{IsChunkSize};
+ghost use Rattle.nm_rules.specs.Opening.{HoldEqual};
+ghost use Rattle.nm_stripe.specs.Opening.{NamesALeg};
+ghost use Rattle.nm_mirror.specs.Stripes.{AreFirst, AreStripesOf, FitNext, place_of};
+
+use nm_geometry::Shape;
+use nm_leg::LegPart;
+use nm_replay::Memory;
+use nm_stripe::{At, Policy, Stripe};
+use std::alloc::Global;
+
+/// The stripes of a mirror while they are opened, by rising number.
+#[derive(Drop)]
+pub struct Opening<L: LegPart> {
+    shape: Shape,
+    stripes: Vec<Stripe<L>>,
+    ghost so_far: { AreFirst shape stripes.items },
+}
+
+/// The place of this stripe in a mirror of this shape.
+fn place_of(shape: &Shape, number: usize) -> At
+    requires { number < shape.now.stripes }
+    ensures place { result ≡ place_of number shape.now }
+    ensures sizes { AreSizes result.blocks result.region shape.now.legs }
+    ensures chunk { IsChunkSize result.chunk }
+{
+    // It tells that there are few stripes.
+    let _regions = shape.regions();
+    let stripe = number as u32;
+    At {
+        stripe,
+        blocks: shape.stripe_blocks(stripe),
+        region: shape.region,
+        chunk: shape.chunk,
+    }
+}
+
+/// Whether each leg has so many blocks.
+fn have_all<L: LegPart>(legs: &[L], blocks: u64) -> bool
+    ensures { IsTrue result → EachHas L.model legs.now blocks }
+{
+    legs.iter().all(|leg| leg.len() == blocks)
+}
+
+/// The bit of this leg alone. Legs of which one alone is in sync hold equal contents.
+fn only_bit<L: LegPart>(leg: u8) -> u8
+    requires { leg < 8 }
+    ensures named { (legs : ℕ) → leg < legs → NamesALeg result legs }
+    ensures equal { (legs : List L) → HoldEqual L.model legs result }
+{
+    1 << leg
+}
+
+impl<L: LegPart> Opening<L> {
+    /// No stripe yet of a mirror of this shape.
+    pub fn new(alloc: Global, shape: Shape) -> Self
+        ensures shape { result.shape ≡ shape }
+        ensures none { result.stripes.items ≡ [] }
+    {
+        Opening {
+            shape,
+            stripes: Vec::new(alloc),
+        }
+    }
+
+    /// How the mirror's blocks lie in its stripes.
+    pub fn shape(&self) -> &Shape
+        ensures { result.now ≡ self.now.shape }
+    {
+        &self.shape
+    }
+
+    /// The place of the stripe to be opened next; none once all are open.
+    pub fn next_place(&self) -> Option<At>
+        ensures more { IsSome result ↔ (length self.now.stripes.items < self.now.shape.stripes) }
+        ensures place { IfSome result (λ place.
+            place ≡ place_of (length self.now.stripes.items) self.now.shape) }
+    {
+        let number = self.stripes.len();
+        if number >= self.shape.stripes as usize {
+            return None;
+        }
+        Some(place_of(&self.shape, number))
+    }
+
+    /// Opens the next stripe on these legs, as `Stripe::open`, with entries numbered from 0. All of
+    /// its memory is taken here; where it is refused the legs come back.
+    pub fn open(
+        &mut self,
+        alloc: Global,
+        legs: Vec<L>,
+        in_sync: u8,
+        policy: Policy,
+    ) -> Result<(), (Memory, Vec<L>)>
+        requires more { length self.old.stripes.items < self.old.shape.stripes }
+        requires legs { length legs.items ≡ self.old.shape.legs }
+        requires lengths { EachHas L.model legs.items
+            (stripe_blocks (length self.old.stripes.items) self.old.shape) }
+        requires some_in_sync { NamesALeg in_sync self.old.shape.legs }
+        requires equal { IsTrue L.honest → HoldEqual L.model legs.items in_sync }
+        ensures ok { OnOk result
+            (length self.new.stripes.items ≡ length self.old.stripes.items + 1) }
+        ensures shape { self.new.shape ≡ self.old.shape }
+        ensures handed_back { IfErr result (λ back. back.1.items ≡ legs.items) }
+        ensures stays { OnErr result (self.new.stripes.items ≡ self.old.stripes.items) }
+    {
+        let place = place_of(&self.shape, self.stripes.len());
+        if self.stripes.reserve(1).is_err() {
+            return Err((Memory, legs));
+        }
+        let stripe = Stripe::open(alloc, place, legs, in_sync, 0, policy)?;
+        self.stripes.push_reserved(stripe);
+        Ok(())
+    }
+
+    /// Whether these legs fit the next stripe, if there is one, and this is one of them.
+    pub fn fits(&self, legs: &[L], master: u8) -> bool
+        ensures { IsTrue result → FitNext L.model self.now.shape
+            (length self.now.stripes.items) legs.now master }
+    {
+        match self.next_place() {
+            Some(place) => {
+                legs.len() == self.shape.legs as usize
+                    && master < self.shape.legs
+                    && have_all(legs, place.blocks)
+            }
+            None => false,
+        }
+    }
+
+    /// Opens the next stripe with this leg in sync, and the others joining.
+    pub fn open_under(
+        &mut self,
+        alloc: Global,
+        legs: Vec<L>,
+        master: u8,
+        policy: Policy,
+    ) -> Result<(), (Memory, Vec<L>)>
+        requires { FitNext L.model self.old.shape (length self.old.stripes.items) legs.items
+            master }
+        ensures ok { OnOk result
+            (length self.new.stripes.items ≡ length self.old.stripes.items + 1) }
+        ensures shape { self.new.shape ≡ self.old.shape }
+        ensures handed_back { IfErr result (λ back. back.1.items ≡ legs.items) }
+        ensures stays { OnErr result (self.new.stripes.items ≡ self.old.stripes.items) }
+    {
+        // It tells that there are at most eight legs.
+        let _regions = self.shape.regions();
+        self.open(alloc, legs, only_bit::<L>(master), policy)
+    }
+
+    /// All stripes, for `Mirror::new`.
+    pub fn into_stripes(self) -> Vec<Stripe<L>>
+        requires { self.shape.stripes ≤ length self.stripes.items }
+        ensures { AreStripesOf self.shape result.items }
+    {
+        self.stripes
+    }
+}
+
+/// Why the stripes of a mirror were not opened.
+#[derive(Clone, Copy, Debug, PartialEq, Eq)]
+pub enum OpenFault {
+    /// Out of memory.
+    Memory,
+    /// The legs do not fit the shape.
+    Misfit,
+}
+
+/// Opens the stripes of a mirror of this shape on these legs, one list a stripe, with this leg of
+/// each in sync and the others joining.
+pub fn open_stripes<L: LegPart>(
+    alloc: Global,
+    shape: &Shape,
+    legs: Vec<Vec<L>>,
+    master: u8,
+    policy: Policy,
+) -> Result<Vec<Stripe<L>>, OpenFault>
+    ensures { IfOk result (λ stripes. AreStripesOf shape.now stripes.items) }
+{
+    let mut opening = Opening::new(alloc, *shape);
+    let mut rest = legs;
+    rest.reverse();
+    while let Some(own) = rest.pop() {
+        if !opening.fits(&own, master) {
+            return Err(OpenFault::Misfit);
+        }
+        if opening.open_under(alloc, own, master, policy).is_err() {
+            return Err(OpenFault::Memory);
+        }
+    }
+    match opening.next_place() {
+        Some(_) => Err(OpenFault::Misfit),
+        None => Ok(opening.into_stripes()),
+    }
+}

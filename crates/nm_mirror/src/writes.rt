@@ -1,0 +1,142 @@
+//! What a client writes through its pass.
+ghost use Rattle.std.specs.Prelude.{◌≡◌, ◌*◌, ◌%◌, length, IfErr, OnOk};
+ghost use Rattle.nm_geometry.specs.Pieces.{LiesInside, pieces_of};
+ghost use Rattle.nm_lanes.specs.Cuts.{cuts_for, zeroes_for};
+ghost use Rattle.nm_lanes.specs.Writes.{HasWritten, HasWrittenSome, FailsWriting};
+ghost use Rattle.nm_mirror.specs.Counting.{Follows};
+
+use crate::mirror::Mirror;
+use crate::pass::Pass;
+use bytes::Bytes;
+use nm_lanes::{Cause, Gate, WriteFault, write_by, zero_by};
+use nm_leg::LegPart;
+use nm_replay::BLOCK_BYTES;
+use std::alloc::Global;
+use std::sync::Wait;
+
+impl<L: LegPart, G: Gate + Drop> Mirror<L, G> {
+    /// Writes the payload to the export from `offset` on: to each block that it touches once, in
+    /// order. A block that it fills is written whole; of another the rest stays.
+    ///
+    /// # Errors
+    ///
+    /// `WriteFault::Memory` where the cuts of the payload are refused their memory, and nothing was
+    /// done. `WriteFault::Io` where a stripe could not go on: the blocks before the one that ended
+    /// it were written, and that one's write may have begun.
+    pub fn write_at<R: Wait>(
+        &self,
+        rt: &R,
+        alloc: Global,
+        pass: &mut Pass<L>,
+        offset: u64,
+        payload: Bytes,
+    ) -> Result<(), WriteFault>
+        requires pass { length pass.old.parts.items ≡ self.now.shape.stripes }
+        requires inside { LiesInside (record { offset = offset; length = length payload })
+            self.now.shape }
+        ensures ok { OnOk result (HasWritten {L = L} Follows self.now.shape
+            (cuts_for (pieces_of (record { offset = offset; length = length payload })) payload)
+            (pass.old.parts.items, pass.new.parts.items)) }
+        ensures err { IfErr result (FailsWriting {L = L} Follows self.now.shape
+            (cuts_for (pieces_of (record { offset = offset; length = length payload })) payload)
+            (pass.old.parts.items, pass.new.parts.items)) }
+    {
+        write_by(
+            rt,
+            alloc,
+            &self.shape,
+            &self.gate,
+            Some(pass.number),
+            self.locks(),
+            pass.parts.as_mut_slice(),
+            offset,
+            payload,
+        )
+    }
+
+    /// Writes whole blocks of the export from this one on, as `write_at`.
+    pub fn write<R: Wait>(
+        &self,
+        rt: &R,
+        alloc: Global,
+        pass: &mut Pass<L>,
+        from: u64,
+        payload: Bytes,
+    ) -> Result<(), WriteFault>
+        requires pass { length pass.old.parts.items ≡ self.now.shape.stripes }
+        requires whole { length payload % 512 ≡ 0 }
+        requires inside { LiesInside (record { offset = 512 * from; length = length payload })
+            self.now.shape }
+        ensures ok { OnOk result (HasWritten {L = L} Follows self.now.shape
+            (cuts_for (pieces_of (record { offset = 512 * from; length = length payload }))
+            payload) (pass.old.parts.items, pass.new.parts.items)) }
+        ensures err { IfErr result (FailsWriting {L = L} Follows self.now.shape
+            (cuts_for (pieces_of (record { offset = 512 * from; length = length payload }))
+            payload) (pass.old.parts.items, pass.new.parts.items)) }
+    {
+        // It tells that the export's bytes can be counted.
+        let _regions = self.shape.regions();
+        self.write_at(rt, alloc, pass, BLOCK_BYTES as u64 * from, payload)
+    }
+
+    /// Writes zeroes to so many bytes of the export from `offset` on: to each block that they touch
+    /// once, in order. It takes no memory.
+    ///
+    /// On an error the blocks before the one that ended it were written, and that one's write may
+    /// have begun.
+    pub fn zero_at<R: Wait>(
+        &self,
+        rt: &R,
+        pass: &mut Pass<L>,
+        offset: u64,
+        len: u64,
+    ) -> Result<(), Cause>
+        requires pass { length pass.old.parts.items ≡ self.now.shape.stripes }
+        requires inside { LiesInside (record { offset = offset; length = len }) self.now.shape }
+        ensures ok { OnOk result (HasWritten {L = L} Follows self.now.shape
+            (zeroes_for (pieces_of (record { offset = offset; length = len })))
+            (pass.old.parts.items, pass.new.parts.items)) }
+        ensures err { IfErr result (HasWrittenSome {L = L} Follows self.now.shape
+            (zeroes_for (pieces_of (record { offset = offset; length = len })))
+            (pass.old.parts.items, pass.new.parts.items)) }
+    {
+        zero_by(
+            rt,
+            &self.shape,
+            &self.gate,
+            Some(pass.number),
+            self.locks(),
+            pass.parts.as_mut_slice(),
+            offset,
+            len,
+        )
+    }
+
+    /// Writes zeroes to so many whole blocks of the export from this one on, as `zero_at`.
+    pub fn zero<R: Wait>(
+        &self,
+        rt: &R,
+        pass: &mut Pass<L>,
+        from: u64,
+        count: u64,
+    ) -> Result<(), Cause>
+        requires pass { length pass.old.parts.items ≡ self.now.shape.stripes }
+        requires inside { LiesInside (record { offset = 512 * from; length = 512 * count })
+            self.now.shape }
+        ensures ok { OnOk result (HasWritten {L = L} Follows self.now.shape
+            (zeroes_for (pieces_of (record { offset = 512 * from; length = 512 * count })))
+            (pass.old.parts.items, pass.new.parts.items)) }
+        ensures err { IfErr result (HasWrittenSome {L = L} Follows self.now.shape
+            (zeroes_for (pieces_of (record { offset = 512 * from; length = 512 * count })))
+            (pass.old.parts.items, pass.new.parts.items)) }
+    {
+        // It tells that the export's bytes can be counted.
+        let _regions = self.shape.regions();
+        self.zero_at(
+            rt,
+            pass,
+            BLOCK_BYTES as u64 * from,
+            BLOCK_BYTES as u64 * count,
+        )
+    }
+}

@@ -1,0 +1,99 @@
+//! The end of a mirror, how many passes it makes, and a pass of another mirror.
+
+use crate::mirrors::{pass_of, read_at, shape, zeroes};
+use nm_lanes::{Cause, CauseKind, NoGate};
+use nm_leg::FuseLeg;
+use nm_mirror::{Mirror, Pass, Refused};
+use std::alloc::Global;
+use std::test::Fail;
+
+/// A mirror of two stripes, region 128, with two legs.
+fn row(alloc: Global) -> Result<Mirror<FuseLeg, NoGate>, Fail> {
+    zeroes(alloc, shape(2050, 128, 8, 2, 2)?, NoGate)
+}
+
+/// Closes the mirror where it is to be refused, as the refusal of this number.
+fn not_closed(
+    alloc: Global,
+    mirror: Mirror<FuseLeg, NoGate>,
+    passes: Vec<Pass<FuseLeg>>,
+    number: u8,
+) -> Result<(Mirror<FuseLeg, NoGate>, Vec<Pass<FuseLeg>>), Fail> {
+    match mirror.close(alloc, passes) {
+        Ok(_) => Err(Fail::new("closed")),
+        Err((refused, mirror, passes)) => {
+            if refused.number() != number {
+                return Err(Fail::new("another refusal"));
+            }
+            Ok((mirror, passes))
+        }
+    }
+}
+
+#[test]
+fn a_mirror_is_not_closed_without_its_passes(rt: HostRuntime) -> Result<(), Fail> {
+    let alloc = rt.alloc();
+    let mirror = row(alloc)?;
+    let pass = pass_of(&rt, alloc, &mirror)?;
+    let (mirror, mut passes) = not_closed(alloc, mirror, Vec::new(alloc), 4)?;
+    assert_eq!(rt; passes.len(), 0);
+    passes.push(pass)?;
+    let Ok(totals) = mirror.close(alloc, passes) else {
+        return Err(Fail::new("not closed"));
+    };
+    assert_eq!(rt; totals.ends().len(), 2);
+    for (end, stripe) in totals.ends().iter().zip(0..) {
+        assert_eq!(rt; (end.stripe(), end.total(), end.left()), (stripe, 0, 0));
+    }
+    Ok(())
+}
+
+#[test]
+fn a_pass_of_another_mirror_is_astray(rt: HostRuntime) -> Result<(), Fail> {
+    let alloc = rt.alloc();
+    let own = row(alloc)?;
+    let mut pass = pass_of(&rt, alloc, &own)?;
+    let mut into = [0; 512];
+    assert!(rt; read_at(&rt, &own, &mut pass, 0, &mut into)?.is_ok());
+    assert!(rt; read_at(&rt, &own, &mut pass, 0, &mut into)?.is_ok());
+    let other = row(alloc)?;
+    match read_at(&rt, &other, &mut pass, 0, &mut into)? {
+        Err(
+            Cause {
+                stripe: 0,
+                kind: CauseKind::Astray,
+            },
+        ) => Ok(()),
+        _ => Err(Fail::new("not astray")),
+    }
+}
+
+#[test]
+fn a_mirror_is_not_closed_with_a_pass_of_another(rt: HostRuntime) -> Result<(), Fail> {
+    let alloc = rt.alloc();
+    let own = row(alloc)?;
+    let other = row(alloc)?;
+    let mut pass = pass_of(&rt, alloc, &own)?;
+    let mut passes = Vec::new(alloc);
+    passes.push(pass_of(&rt, alloc, &other)?)?;
+    let mut into = [0; 512];
+    assert!(rt; read_at(&rt, &own, &mut pass, 0, &mut into)?.is_ok());
+    passes.clear();
+    passes.push(pass)?;
+    let (_, passes) = not_closed(alloc, other, passes, 5)?;
+    assert_eq!(rt; passes.len(), 1);
+    Ok(())
+}
+
+#[test]
+fn a_mirror_makes_1024_passes(rt: HostRuntime) -> Result<(), Fail> {
+    let alloc = rt.alloc();
+    let mirror = zeroes(alloc, shape(1, 1, 1, 1, 1)?, NoGate)?;
+    for _ in 0..1024 {
+        assert!(rt; mirror.pass(&rt, alloc).is_ok());
+    }
+    match mirror.pass(&rt, alloc) {
+        Err(Refused::TooMany) => Ok(()),
+        _ => Err(Fail::new("one more")),
+    }
+}

@@ -1,0 +1,93 @@
+//! A leg that is taken out of every stripe, and joins again.
+
+use crate::mirrors::{shape, zeroes};
+use nm_lanes::NoGate;
+use nm_leg::FuseLeg;
+use nm_mirror::{AttachCounts, FailCounts, Mirror};
+use std::alloc::Global;
+use std::process::Abort;
+use std::sync::Wait;
+use std::test::Fail;
+
+/// Looks at what is told of each stripe.
+fn check_states<R: Wait + Abort>(
+    rt: &R,
+    alloc: Global,
+    mirror: &Mirror<FuseLeg, NoGate>,
+    text: &str,
+) -> Result<(), Fail> {
+    let told = mirror.status(rt, alloc)?;
+    assert_eq!(rt; told.len(), 2);
+    for stripe in &told {
+        assert_eq!(rt; stripe.to_string(alloc)?.as_str(), text);
+    }
+    Ok(())
+}
+
+/// Takes a leg out.
+fn fail<R: Wait + Abort>(
+    rt: &R,
+    mirror: &Mirror<FuseLeg, NoGate>,
+    leg: u8,
+) -> Result<FailCounts, Fail> {
+    assert!(rt; leg < mirror.shape().legs);
+    Ok(mirror.fail_leg(rt, leg))
+}
+
+/// Lets a leg join again.
+fn attach<R: Wait + Abort>(
+    rt: &R,
+    mirror: &Mirror<FuseLeg, NoGate>,
+    leg: u8,
+) -> Result<AttachCounts, Fail> {
+    assert!(rt; leg < mirror.shape().legs);
+    Ok(mirror.attach_leg(rt, leg))
+}
+
+#[test]
+fn a_leg_is_taken_out_of_each_stripe_once(rt: HostRuntime) -> Result<(), Fail> {
+    let alloc = rt.alloc();
+    let mirror = zeroes(alloc, shape(2048, 128, 8, 2, 2)?, NoGate)?;
+    let none = FailCounts::default();
+    assert_eq!(rt; fail(&rt, &mirror, 1)?, FailCounts { failed: 2, ..none });
+    assert_eq!(rt; fail(&rt, &mirror, 1)?, FailCounts { out: 2, ..none });
+    assert_eq!(rt; fail(&rt, &mirror, 0)?, FailCounts { last: 2, ..none });
+    check_states(&rt, alloc, &mirror, "master 0 settling no legs in out")
+}
+
+#[test]
+fn a_leg_that_is_out_joins_again(rt: HostRuntime) -> Result<(), Fail> {
+    let alloc = rt.alloc();
+    let mirror = zeroes(alloc, shape(2048, 128, 8, 2, 2)?, NoGate)?;
+    let none = AttachCounts::default();
+    assert_eq!(rt;
+        attach(&rt, &mirror, 1)?,
+        AttachCounts { not_out: 2, ..none }
+    );
+    let failed = fail(&rt, &mirror, 1)?.failed;
+    assert_eq!(rt; failed, 2);
+    let again = AttachCounts {
+        joining: 2,
+        left: 2048,
+        ..none
+    };
+    assert_eq!(rt; attach(&rt, &mirror, 1)?, again);
+    check_states(
+        &rt,
+        alloc,
+        &mirror,
+        "master 0 settling no legs in join(1024)",
+    )
+}
+
+#[test]
+fn a_joining_leg_is_copied_to_and_called_in_sync(rt: HostRuntime) -> Result<(), Fail> {
+    let alloc = rt.alloc();
+    let mirror = zeroes(alloc, shape(8, 4, 2, 2, 2)?, NoGate)?;
+    // Two stripes of four blocks, two calls of a leg for each block; then each is called in sync.
+    for _ in 0..9 {
+        assert_eq!(rt; mirror.resync_turn(&rt), 2);
+    }
+    assert_eq!(rt; mirror.resync_turn(&rt), 0);
+    check_states(&rt, alloc, &mirror, "master 0 settling no legs in in")
+}
