@@ -1,0 +1,4 @@
+pub mod CommandLine
+pub mod ControlLine
+pub mod Digits
+pub mod Settings

@@ -1,0 +1,44 @@
+-- What the words of a command line ask for.
+use Rattle.std.specs.Prelude.{◌≡◌, ◌<◌, ℕ, Bool, true, false, List, length, map, Option, Some, codes}
+use Rattle.std.specs.Borrow.{Bor}
+use Rattle.std.specs.Str.Parse.{IsNumeral, digits_value, without_leading_plus}
+use Rattle.clap.specs.Words.{Row, Text, all_of, first_of, matches_of, one_of}
+use Rattle.nm_choice.specs.declared.policy.Policy.{Policy}
+use Rattle.nm_choice.specs.declared.policy.Policy.TheVariants.{RoundRobin, Striped}
+use Rattle.nm_server.specs.declared.options.Settings.{Settings}
+use Rattle.nm_server.specs.CommandLine.{ArePolicies, nbdmirror}
+
+-- The word for a policy.
+abbrev pub policy_text : Policy → Text
+policy_text RoundRobin = codes "round-robin"
+policy_text Striped = codes "striped"
+
+-- What was found is this number: decimal digits, with or without a plus before them.
+pub record IsNumber (found : Option Text) (number : ℕ) : Type 0 where
+  pub text : Text
+  pub is : found ≡ Some text
+  pub numeral : IsNumeral 10 (without_leading_plus text)
+  pub value : digits_value 10 (without_leading_plus text) ≡ number
+
+-- The flag is set where the rows have it as true.
+abbrev pub HasFlag : List Row → Text → Bool → Type 0
+HasFlag rows id flag = (one_of id rows ≡ Some (codes "true") → flag ≡ true)
+    × (one_of id rows ≡ Some (codes "false") → flag ≡ false)
+
+-- The settings are the values that the rows have.
+pub record HasSettings (rows : List Row) (s : Settings) : Type 0 where
+  pub listen : first_of (codes "listen") rows ≡ Some s.listen.now
+  pub control : first_of (codes "control") rows ≡ Some s.control.now
+  pub name : first_of (codes "name") rows ≡ Some s.name.now
+  pub stripes : IsNumber (one_of (codes "stripes") rows) s.stripes
+  pub policy : first_of (codes "policy") rows ≡ Some (policy_text s.policy)
+  pub master : IsNumber (one_of (codes "master") rows) s.master
+  pub sessions : IsNumber (one_of (codes "sessions") rows) s.sessions
+  pub read_only : HasFlag rows (codes "read-only") s.read_only
+  pub legs : all_of (codes "leg") rows ≡ Some (map (λ leg. leg.now) s.legs.items)
+
+-- The settings are those that the words of a command line ask for, with the defaults for the rest.
+pub record AsksFor (words : List Text) (s : Settings) : Type 0 where
+  pub policies : Bor (List (Bor Text))
+  pub known : ArePolicies policies
+  pub settings : HasSettings (matches_of (nbdmirror policies) words) s

@@ -1,0 +1,144 @@
+//! The files of the legs.
+ghost use Rattle.std.specs.Prelude.{◌<◌};
+ghost use Rattle.nm_file_leg.specs.Places.{HasPlaces};
+ghost use Rattle.nm_geometry.specs.Geometry.{stripe_blocks};
+
+use crate::start_fault::StartFault;
+use nm_file_leg::{FileLeg, FileMedium, Places};
+use nm_geometry::Shape;
+use nm_geometry::laws::stripes_lie_inside;
+use std::alloc::Global;
+use std::fs::{File, OpenOptions};
+use std::io::{Seek, SeekFrom};
+use std::rt::Files;
+
+/// How many bytes a block has.
+const BLOCK_BYTES: u64 = 512;
+
+/// How many blocks an export has at most.
+const MOST_BLOCKS: u64 = 1 << 31;
+
+/// How many blocks a region has.
+const REGION: u64 = 128;
+
+/// How many blocks a chunk of a copy has.
+const CHUNK: u64 = 8;
+
+/// A leg on a file.
+pub type Leg = FileLeg<FileMedium>;
+
+/// The legs' files, each opened once and locked, so that no other server and no other leg uses it.
+#[derive(Drop)]
+pub struct LegFiles {
+    files: Vec<File>,
+    blocks: u64,
+}
+
+// Opens a leg's file for reading and writing, and locks it.
+fn open_locked<R: Files<File = File>>(rt: &R, name: &str) -> Option<File> {
+    let file = OpenOptions::new()
+        .read(true)
+        .write(true)
+        .open(rt, name)
+        .ok()?;
+    file.try_lock().ok()?;
+    Some(file)
+}
+
+// How many blocks a leg's file has, where it has whole blocks and no more than an export may have.
+fn blocks_of(file: &File) -> Option<u64> {
+    let mut file = file;
+    let bytes = file.seek(SeekFrom::End(0)).ok()?;
+    let blocks = bytes / BLOCK_BYTES;
+    let is_whole = bytes % BLOCK_BYTES == 0;
+    if is_whole && 0 < blocks && blocks <= MOST_BLOCKS {
+        Some(blocks)
+    } else {
+        None
+    }
+}
+
+impl LegFiles {
+    /// Opens, locks and measures the legs' files, one after the other.
+    pub fn open<'a, R: Files<File = File>>(
+        rt: &R,
+        alloc: Global,
+        names: &[&str],
+    ) -> Result<LegFiles, StartFault<'a>> {
+        let mut files = Vec::new(alloc);
+        let mut blocks = 0u64;
+        for number in 0..names.len() {
+            let Some(file) = open_locked(rt, names[number]) else {
+                return Err(StartFault::CannotOpen(number));
+            };
+            let Some(own) = blocks_of(&file) else {
+                return Err(StartFault::BadLength(number));
+            };
+            if number == 0 {
+                blocks = own;
+            } else if own != blocks {
+                return Err(StartFault::OtherLength(number));
+            }
+            if files.push(file).is_err() {
+                return Err(StartFault::Memory);
+            }
+        }
+        Ok(LegFiles { files, blocks })
+    }
+
+    /// The shape of a mirror over these files, with so many stripes or one a region.
+    pub fn shape(&self, stripes: u8) -> Option<Shape> {
+        let regions = self.blocks.div_ceil(REGION);
+        let stripes = u64::from(stripes).min(regions) as u32;
+        Shape::new(
+            self.blocks,
+            REGION,
+            CHUNK,
+            stripes,
+            self.files.len().min(255) as u8,
+        )
+    }
+}
+
+// Where the blocks of a stripe lie in the legs' files.
+#[tactic(auto, unfolding(nm_file_leg::specs::Places::place_of))]
+fn places_of(shape: &Shape, stripe: u32) -> Places
+    requires { stripe < shape.now.stripes }
+    ensures { HasPlaces result (stripe_blocks stripe shape.now) }
+{
+    stripes_lie_inside();
+    // It tells that the shape's numbers are within their bounds.
+    let _regions = shape.regions();
+    Places {
+        region: shape.region,
+        stripes: u64::from(shape.stripes),
+        stripe: u64::from(stripe),
+    }
+}
+
+/// The legs of one stripe: each leg's file, opened once more.
+pub fn stripe_legs<'a, R: Files<File = File>>(
+    rt: &R,
+    alloc: Global,
+    names: &[&str],
+    shape: &Shape,
+    stripe: u32,
+) -> Result<Vec<Leg>, StartFault<'a>>
+    requires { stripe < shape.now.stripes }
+{
+    let places = places_of(shape, stripe);
+    let blocks = shape.stripe_blocks(stripe);
+    let mut legs = Vec::new(alloc);
+    for number in 0..names.len() {
+        let Ok(medium) = FileMedium::open(rt, names[number]) else {
+            return Err(StartFault::CannotOpen(number));
+        };
+        let Ok(leg) = FileLeg::new(medium, places, blocks) else {
+            return Err(StartFault::CannotOpen(number));
+        };
+        if legs.push(leg).is_err() {
+            return Err(StartFault::Memory);
+        }
+    }
+    Ok(legs)
+}

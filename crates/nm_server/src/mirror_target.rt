@@ -1,0 +1,90 @@
+//! What a session's requests act on: a mirror, through a pass.
+ghost use Rattle.std.specs.Prelude.{◌≡◌, ◌*◌, ⊤, length, IsTrue};
+
+use bytes::Bytes;
+use nm_lanes::{Gate, WriteFault};
+use nm_leg::LegPart;
+use nm_mirror::{Mirror, Pass};
+use nm_session::{Target, TargetFault};
+use std::alloc::Global;
+use std::sync::Wait;
+
+/// A mirror as a session's target.
+#[derive(Drop)]
+pub struct MirrorTarget<'a, R: Wait, L: LegPart, G: Gate + Drop> {
+    pub rt: &'a R,
+    pub alloc: Global,
+    pub mirror: &'a Mirror<L, G>,
+    pub pass: &'a mut Pass<L>,
+}
+
+// Whether the pass has a part for each stripe of the mirror.
+fn is_even<L: LegPart, G: Gate + Drop>(mirror: &Mirror<L, G>, pass: &Pass<L>) -> bool
+    ensures { IsTrue result → length pass.now.parts.items ≡ mirror.now.shape.stripes }
+{
+    pass.stripes() == mirror.shape().stripes as usize
+}
+
+impl<'a, R: Wait, L: LegPart, G: Gate + Drop> Target for MirrorTarget<'a, R, L, G> {
+    ghost size = { λ target. 512 * target.mirror.now.shape.blocks };
+
+    ghost follows = { λ _ _ _. ⊤ };
+
+    ghost stays = { λ _. tt };
+
+    ghost joins = { λ _ _ _ _ _ _ _. tt };
+
+    fn read(&mut self, offset: u64, into: &mut [u8]) -> Result<(), TargetFault> {
+        if !is_even(self.mirror, self.pass) {
+            return Err(TargetFault::Io);
+        }
+        match self.mirror.read_at(self.rt, self.pass, offset, into) {
+            Ok(()) => Ok(()),
+            Err(_) => Err(TargetFault::Io),
+        }
+    }
+
+    fn write(&mut self, offset: u64, payload: Bytes) -> Result<(), TargetFault> {
+        if !is_even(self.mirror, self.pass) {
+            return Err(TargetFault::Io);
+        }
+        match self
+            .mirror
+            .write_at(self.rt, self.alloc, self.pass, offset, payload)
+        {
+            Ok(()) => Ok(()),
+            Err(WriteFault::Memory) => Err(TargetFault::Memory),
+            Err(WriteFault::Io(_)) => Err(TargetFault::Io),
+        }
+    }
+
+    fn zero(&mut self, offset: u64, length: u64) -> Result<(), TargetFault> {
+        if !is_even(self.mirror, self.pass) {
+            return Err(TargetFault::Io);
+        }
+        match self.mirror.zero_at(self.rt, self.pass, offset, length) {
+            Ok(()) => Ok(()),
+            Err(_) => Err(TargetFault::Io),
+        }
+    }
+
+    fn flush(&mut self) -> Result<(), TargetFault> {
+        if !is_even(self.mirror, self.pass) {
+            return Err(TargetFault::Io);
+        }
+        match self.mirror.flush(self.rt, self.pass) {
+            Ok(()) => Ok(()),
+            Err(_) => Err(TargetFault::Io),
+        }
+    }
+
+    fn sync_touched(&mut self, offset: u64, length: u64) -> Result<(), TargetFault> {
+        if !is_even(self.mirror, self.pass) {
+            return Err(TargetFault::Io);
+        }
+        match self.mirror.sync_touched(self.rt, self.pass, offset, length) {
+            Ok(()) => Ok(()),
+            Err(_) => Err(TargetFault::Io),
+        }
+    }
+}

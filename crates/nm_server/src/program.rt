@@ -1,0 +1,279 @@
+//! The whole program: from its command line to its exit status.
+
+use crate::command_line::settings;
+use crate::control_port::serve_control;
+use crate::leg_files::{Leg, LegFiles, stripe_legs};
+use crate::options::Settings;
+use crate::places::SessionPlaces;
+use crate::resync::resynchronise;
+use crate::sessions::{ExportName, serve_place, take_clients};
+use crate::start_fault::StartFault;
+use log::{Log, warn};
+use nm_lanes::NoGate;
+use nm_mirror::{Mirror, Pass, open_stripes};
+use std::alloc::Global;
+use std::convert::AsStr;
+use std::fs::File;
+use std::io::Write;
+use std::net::{Net, TcpListener, TcpStream};
+use std::rt::Files;
+use std::sync::Wait;
+use std::sync::atomic::{AtomicBool, Ordering};
+use std::thread;
+use std::thread::Threads;
+use std::time::Clock;
+
+/// How many legs a mirror has at most.
+const MOST_LEGS: usize = 8;
+
+/// The mirror that the program serves.
+type FileMirror = Mirror<Leg, NoGate>;
+
+// The export that the settings ask for, unless they are wrong by themselves.
+fn export_asked<'a>(settings: &Settings<'a>) -> Result<ExportName<'a>, StartFault<'a>> {
+    if settings.legs.len() > MOST_LEGS {
+        return Err(StartFault::TooManyLegs);
+    }
+    if settings.master as usize >= settings.legs.len() {
+        return Err(StartFault::NoMaster(settings.master));
+    }
+    match ExportName::new(settings.name, settings.read_only) {
+        Some(named) => Ok(named),
+        None => Err(StartFault::BadName),
+    }
+}
+
+// The mirror over the legs' files, which are opened once more for each stripe.
+fn open_mirror<'a, R: Files<File = File>>(
+    rt: &R,
+    alloc: Global,
+    settings: &Settings<'a>,
+    files: &LegFiles,
+) -> Result<FileMirror, StartFault<'a>> {
+    let Some(shape) = files.shape(settings.stripes) else {
+        return Err(StartFault::Memory);
+    };
+    let mut legs = Vec::new(alloc);
+    for stripe in 0..shape.stripes {
+        let own = stripe_legs(rt, alloc, &settings.legs, &shape, stripe)?;
+        if legs.push(own).is_err() {
+            return Err(StartFault::Memory);
+        }
+    }
+    // That they do not fit cannot be: each leg was made with the blocks of its stripe.
+    let Ok(stripes) = open_stripes(alloc, &shape, legs, settings.master, settings.policy) else {
+        return Err(StartFault::Memory);
+    };
+    match Mirror::new(alloc, shape, stripes, NoGate) {
+        Ok(mirror) => Ok(mirror),
+        Err(_) => Err(StartFault::Memory),
+    }
+}
+
+// A listening socket.
+fn listen<'a, R: Net<Listener = TcpListener, Stream = TcpStream>>(
+    rt: &R,
+    address: &'a str,
+) -> Result<TcpListener, StartFault<'a>> {
+    match TcpListener::bind(rt, address) {
+        Ok(listener) => Ok(listener),
+        Err(_) => Err(StartFault::CannotListen(address)),
+    }
+}
+
+// So many passes.
+fn passes_of<'a, R: Wait>(
+    rt: &R,
+    alloc: Global,
+    mirror: &FileMirror,
+    count: u8,
+) -> Result<Vec<Pass<Leg>>, StartFault<'a>> {
+    let mut passes = Vec::new(alloc);
+    for _ in 0..count {
+        let Ok(pass) = mirror.pass(rt, alloc) else {
+            return Err(StartFault::Memory);
+        };
+        if passes.push(pass).is_err() {
+            return Err(StartFault::Memory);
+        }
+    }
+    Ok(passes)
+}
+
+// Serves clients until the control port has heard `quit` and the last session has ended. False
+// where a thread could not be started.
+fn serve_all<R>(
+    rt: &R,
+    alloc: Global,
+    named: &ExportName<'_>,
+    listeners: (&TcpListener, &TcpListener),
+    mirror: &FileMirror,
+    passes: &mut [Pass<Leg>],
+    places: &SessionPlaces,
+) -> bool
+where
+    R: Threads + Wait + Sync + Clock + Log + Net<Listener = TcpListener, Stream = TcpStream>,
+{
+    let is_ending = AtomicBool::new(false);
+    let ending = &is_ending;
+    let (clients, control) = listeners;
+    thread::scope(thread::scope_env(), rt, |scope| {
+        for pass in passes.iter_mut() {
+            let start = scope.spawn(move || serve_place(rt, alloc, places, named, mirror, pass));
+            if start.is_err() {
+                places.close(rt);
+                return false;
+            }
+        }
+        let start = scope.spawn(move || serve_control(rt, alloc, control, clients, mirror, ending));
+        if start.is_err() {
+            places.close(rt);
+            return false;
+        }
+        take_clients(rt, clients, places, ending);
+        places.close(rt);
+        true
+    })
+}
+
+// Serves until the last session has ended, while a thread copies legs.
+fn serve_and_copy<'a, R>(
+    rt: &R,
+    alloc: Global,
+    named: &ExportName<'_>,
+    listeners: (&TcpListener, &TcpListener),
+    mirror: &FileMirror,
+    passes: &mut [Pass<Leg>],
+) -> Result<(), StartFault<'a>>
+where
+    R: Threads + Wait + Sync + Clock + Log + Net<Listener = TcpListener, Stream = TcpStream>,
+{
+    let Ok(places) = SessionPlaces::new(alloc, passes.len()) else {
+        return Err(StartFault::Memory);
+    };
+    let has_ended = AtomicBool::new(false);
+    let ended = &has_ended;
+    let is_served = thread::scope(thread::scope_env(), rt, |scope| {
+        if scope
+            .spawn(move || resynchronise(rt, mirror, ended))
+            .is_err()
+        {
+            return false;
+        }
+        let is_served = serve_all(rt, alloc, named, listeners, mirror, passes, &places);
+        ended.store(true, Ordering::SeqCst);
+        is_served
+    });
+    if is_served {
+        Ok(())
+    } else {
+        Err(StartFault::Memory)
+    }
+}
+
+// Tells where the server listens.
+fn announce<O: Write>(out: &mut O, settings: &Settings<'_>) {
+    let _ = writeln!(out, "listening on {}", settings.listen);
+    let _ = writeln!(out, "control on {}", settings.control);
+    let _ = out.flush();
+}
+
+// Ends the mirror, and tells how many entries the history of each stripe has had.
+fn close<'a, O: Write>(
+    alloc: Global,
+    mirror: FileMirror,
+    passes: Vec<Pass<Leg>>,
+    out: &mut O,
+) -> Result<(), StartFault<'a>> {
+    let Ok(totals) = mirror.close(alloc, passes) else {
+        return Err(StartFault::CannotClose);
+    };
+    for end in totals.ends() {
+        let _ = writeln!(out, "stripe {}: entries {}", end.stripe(), end.total());
+    }
+    let _ = out.flush();
+    Ok(())
+}
+
+// Serves what the settings ask for until a `quit`.
+fn run<'a, R, O: Write>(
+    rt: &R,
+    alloc: Global,
+    settings: &Settings<'a>,
+    out: &mut O,
+) -> Result<(), StartFault<'a>>
+where
+    R: Threads
+        + Wait
+        + Sync
+        + Clock
+        + Log
+        + Files<File = File>
+        + Net<Listener = TcpListener, Stream = TcpStream>,
+{
+    let named = export_asked(settings)?;
+    let files = LegFiles::open(rt, alloc, &settings.legs)?;
+    let mirror = open_mirror(rt, alloc, settings, &files)?;
+    let mut passes = passes_of(rt, alloc, &mirror, settings.sessions)?;
+    let clients = listen(rt, settings.listen)?;
+    let control = listen(rt, settings.control)?;
+    if !is_loopback(&control) {
+        let port = settings.control;
+        warn!(rt; "the control port on {port} is open to other machines: it knows no passwords");
+    }
+    announce(out, settings);
+    serve_and_copy(
+        rt,
+        alloc,
+        &named,
+        (&clients, &control),
+        &mirror,
+        passes.as_mut_slice(),
+    )?;
+    close(alloc, mirror, passes, out)
+}
+
+// Whether only this machine reaches the socket.
+fn is_loopback(listener: &TcpListener) -> bool {
+    matches!(listener.local_addr(), Ok(address) if address.ip().is_loopback())
+}
+
+/// Runs the server that these words ask for, the first of them the program's name, and returns the
+/// exit status.
+///
+/// 0 after a `quit`. Otherwise `err` says why: status 2 for words that are no command line, 3 for
+/// settings or legs that do not fit, 4 where it cannot listen, 5 out of memory, 6 where what the
+/// stripes have had is not what the sessions counted.
+pub fn start<R, S: AsStr, O: Write, E: Write>(
+    rt: &R,
+    alloc: Global,
+    words: &[S],
+    out: &mut O,
+    err: &mut E,
+) -> u8
+where
+    R: Threads
+        + Wait
+        + Sync
+        + Clock
+        + Log
+        + Files<File = File>
+        + Net<Listener = TcpListener, Stream = TcpStream>,
+{
+    let settings = match settings(alloc, words) {
+        Ok(settings) => settings,
+        Err(error) => {
+            let _ = write!(err, "{error}");
+            let _ = err.flush();
+            return 2;
+        }
+    };
+    match run(rt, alloc, &settings, out) {
+        Ok(()) => 0,
+        Err(fault) => {
+            let _ = writeln!(err, "{fault}");
+            let _ = err.flush();
+            fault.status()
+        }
+    }
+}

@@ -1,0 +1,50 @@
+use thiserror::Error;
+
+/// Why the server does not start, or does not end well.
+#[derive(Debug, Drop, Error)]
+pub enum StartFault<'a> {
+    /// A mirror has at most 8 legs.
+    #[error("nbdmirror: more than 8 legs")]
+    TooManyLegs,
+    /// The master is none of the legs.
+    #[error("nbdmirror: master {0} is not a leg")]
+    NoMaster(u8),
+    /// The export's name is empty or too long.
+    #[error("nbdmirror: name must be 1 to 255 bytes")]
+    BadName,
+    /// This leg's file cannot be opened for reading and writing, or is in use.
+    #[error("nbdmirror: leg {0}: cannot open")]
+    CannotOpen(usize),
+    /// This leg's length is no positive multiple of 512, or is more than 2^40 bytes.
+    #[error("nbdmirror: leg {0}: bad length")]
+    BadLength(usize),
+    /// This leg is longer or shorter than leg 0.
+    #[error("nbdmirror: leg {0}: length differs from leg 0")]
+    OtherLength(usize),
+    /// No socket listens at this address.
+    #[error("nbdmirror: cannot listen on {0}")]
+    CannotListen(&'a str),
+    /// Out of memory, or out of threads.
+    #[error("nbdmirror: no memory")]
+    Memory,
+    /// What the stripes have had is not what the sessions counted.
+    #[error("nbdmirror: cannot close")]
+    CannotClose,
+}
+
+impl StartFault<'_> {
+    /// The exit status.
+    pub fn status(&self) -> u8 {
+        match self {
+            StartFault::TooManyLegs
+            | StartFault::NoMaster(_)
+            | StartFault::BadName
+            | StartFault::CannotOpen(_)
+            | StartFault::BadLength(_)
+            | StartFault::OtherLength(_) => 3,
+            StartFault::CannotListen(_) => 4,
+            StartFault::Memory => 5,
+            StartFault::CannotClose => 6,
+        }
+    }
+}

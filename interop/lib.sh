@@ -1,0 +1,80 @@
+# What the scripts share. A script is run with the number of legs as its only argument.
+set -u
+top=$(cd "$(dirname "${BASH_SOURCE[0]}")/.." && pwd)
+program=${NBDMIRROR:-$top/crates/nbdmirror/out/nbdmirror}
+ctl=$top/tools/nbdmirrorctl
+legs=${1:-1}
+room=$(mktemp -d)
+size=$((8 << 20))
+server=
+# Debian's python3-libnbd belongs to Debian's python3.
+PATH=/usr/bin:/bin:/usr/sbin:/sbin:$PATH
+
+fail() {
+    echo "  $*" >&2
+    exit 1
+}
+
+# Fails where a command is not there.
+need() {
+    for tool in "$@"; do
+        command -v "$tool" > /dev/null || fail "$tool is not installed"
+    done
+}
+
+free_port() {
+    python3 -c 'import socket; s = socket.socket(); s.bind(("127.0.0.1", 0)); print(s.getsockname()[1])'
+}
+
+# Makes $legs files of zeroes.
+make_legs() {
+    files=()
+    for ((n = 0; n < legs; n++)); do
+        truncate -s "$size" "$room/leg$n"
+        files+=("$room/leg$n")
+    done
+}
+
+# start OPTIONS..: starts the server on the legs and waits until it listens.
+start() {
+    port=$(free_port)
+    control=$(free_port)
+    uri=nbd://127.0.0.1:$port/disk
+    export NBDMIRROR_CONTROL=127.0.0.1:$control
+    "$program" --listen "127.0.0.1:$port" --control "127.0.0.1:$control" "$@" "${files[@]}" \
+        > "$room/out" 2> "$room/err" &
+    server=$!
+    for _ in $(seq 100); do
+        grep -q '^control on' "$room/out" 2> /dev/null && return 0
+        kill -0 "$server" 2> /dev/null || break
+        sleep 0.1
+    done
+    fail "the server does not start: $(cat "$room/err")"
+}
+
+# Waits until no leg is being copied.
+wait_for_copy() {
+    "$ctl" watch --interval 0.2 > /dev/null || fail "the copy does not end"
+}
+
+# Ends the server, which must end with status 0.
+stop() {
+    "$ctl" quit > /dev/null || fail "quit is not answered"
+    wait "$server"
+    local status=$?
+    server=
+    [ "$status" = 0 ] || fail "the server ends with status $status: $(cat "$room/err")"
+}
+
+# All legs must hold the same bytes.
+legs_equal() {
+    for ((n = 1; n < legs; n++)); do
+        cmp "$room/leg0" "$room/leg$n" || fail "leg $n differs from leg 0"
+    done
+}
+
+clean_up() {
+    [ -n "$server" ] && kill -9 "$server" 2> /dev/null
+    rm -rf "$room"
+}
+trap clean_up EXIT
