@@ -22,7 +22,7 @@ run:
 
 check:
 	@echo 'Proving every crate and its tests from nothing, then the must-fail edits, the tests and the programs.'
-	@echo 'This took 42 minutes on 4 cores that had other work, without the edits of nm_script_lib and what stands on it; a line comes as each crate, edit and run ends, and out/gate.log has the rest.'
+	@echo 'This takes over an hour on 4 cores that have other work; a line comes as each crate, edit and run ends, and out/gate.log has the rest.'
 	@tools/gate
 
 gate-cost:
