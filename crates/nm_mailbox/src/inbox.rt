@@ -31,4 +31,17 @@ impl<O: Drop> Inbox<O> {
             .recv_as::<Receives, R>(rt, &mut self.pass)
             .ok()
     }
+
+    /// Receives the oldest message, if one waits.
+    pub fn try_recv<R: Wait>(&mut self, rt: &R) -> Option<Message<O>>
+        ensures some { IfSome result
+            (λ message. received_by self.new ≡ received_by self.old ++ message ∷ []) }
+        ensures none { IfNone result (received_by self.new ≡ received_by self.old) }
+        ensures channel { IsSameInbox self.new self.old }
+    {
+        match self.receiver.try_recv_as::<Receives, R>(rt, &mut self.pass) {
+            Ok(message) => Some(message),
+            Err(_) => None,
+        }
+    }
 }

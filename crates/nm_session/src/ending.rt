@@ -9,8 +9,8 @@ use crate::served::Served;
 use crate::session_core::SessionCore;
 
 impl SessionCore {
-    // The session came to this end.
-    pub(crate) fn served(&self, end: End) -> Served
+    /// The session came to this end.
+    pub fn served(&self, end: End) -> Served
         ensures { result ≡ record { requests = self.now.count; end = end } }
     {
         Served {
@@ -19,8 +19,8 @@ impl SessionCore {
         }
     }
 
-    // What ended the session.
-    pub(crate) fn end(&self) -> End
+    /// What ended the session.
+    pub fn end(&self) -> End
         requires { IsEnded self.now.stage }
         ensures { CoreEnds result self.now.stage }
     {

@@ -10,6 +10,7 @@ pub use cut_writer::CutWriter;
 pub use end::End;
 pub use ended_by::EndedBy;
 pub use mem_target::MemTarget;
+pub use moving_bytes::{feed_piece, send_out};
 pub use next::Next;
 pub use outcome::Outcome;
 pub use phase::Phase;

@@ -9,8 +9,8 @@ use nm_replies::{ReplyWriter, SendFault};
 use std::alloc::Global;
 use std::io::{Read, Write};
 
-// Reads a piece into the room and feeds it to the core. False where the input has ended.
-pub(crate) fn feed_piece<I: Read>(
+/// Reads a piece into the room and feeds it to the core. False where the input has ended.
+pub fn feed_piece<I: Read>(
     alloc: Global,
     core: &mut SessionCore,
     room: &mut [u8],
@@ -34,8 +34,8 @@ pub(crate) fn feed_piece<I: Read>(
     Ok(true)
 }
 
-// Sends what is to go out, all of it.
-pub(crate) fn send_out<O: Write>(
+/// Sends what is to go out, all of it.
+pub fn send_out<O: Write>(
     core: &mut SessionCore,
     sender: &mut ReplyWriter<O>,
 ) -> Result<(), ServeFault>

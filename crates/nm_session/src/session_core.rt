@@ -17,10 +17,10 @@ use crate::next::Next;
 use crate::outcome::Outcome;
 use crate::phase::Phase;
 use crate::refused::Refused;
-use crate::settling::{is_fit, put_outcome, settle, stage_after};
+use crate::settling::{is_fit, is_same, put_outcome, settle, stage_after};
 use crate::stage::Stage;
 use nm_haggle::Haggle;
-use nm_requests::{Fault, RequestReader, judge};
+use nm_requests::{Fault, RequestReader, Task, judge};
 use nm_wire::{Export, SimpleReply};
 use std::alloc::{AllocError, Global};
 use std::marker::Model;
@@ -183,6 +183,16 @@ impl SessionCore {
             .all(|held| held.index != index || is_fit(held.task, outcome))
     }
 
+    /// Whether this is the task of the request with this index, if that request is outstanding.
+    pub fn has_task(&self, index: u64, task: Task) -> bool
+        ensures { IsTrue result
+            ↔ All (λ held. held.index ≡ index → held.task ≡ task) self.now.outstanding }
+    {
+        self.outstanding
+            .iter()
+            .all(|held| held.index != index || is_same(held.task, task))
+    }
+
     /// Replies to the outstanding request with this index, by the outcome of its task.
     pub fn answer(
         &mut self,
@@ -248,6 +258,13 @@ impl SessionCore {
             Stage::Ended(_) if self.outstanding.is_empty() => Phase::Closed,
             Stage::Ended(_) => Phase::Draining,
         }
+    }
+
+    /// Whether no request is outstanding.
+    pub fn is_idle(&self) -> bool
+        ensures { IsTrue result ↔ (self.now.outstanding ≡ []) }
+    {
+        self.outstanding.is_empty()
     }
 
     /// What ended the session, if anything did.

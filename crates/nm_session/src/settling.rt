@@ -62,6 +62,13 @@ pub(crate) fn settle(
     }
 }
 
+// Whether both are the same task.
+pub(crate) fn is_same(task: Task, other: Task) -> bool
+    ensures { IsTrue result ↔ (task ≡ other) }
+{
+    task == other
+}
+
 // Whether the outcome is one that the task can have.
 pub(crate) fn is_fit(task: Task, outcome: &Outcome) -> bool
     ensures { IsTrue result ↔ Fits task outcome.now }
