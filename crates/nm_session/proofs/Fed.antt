@@ -3,7 +3,7 @@ use Rattle.std.proofs.Common.{◌≡◌, ℕ, List, ◌++◌, refl, subst}
 use Rattle.nm_haggle.specs.declared.next.Next.{Next}
 use Rattle.nm_haggle.specs.Haggling.{Response, HagglesFrom}
 use Rattle.nm_session.specs.Session.{Session}
-use Rattle.nm_session.specs.Feeding.{Responds, stage_behind, request_bytes}
+use Rattle.nm_session.specs.Feeding.{Responds, stage_then, request_bytes}
 use Rattle.nm_session.proofs.Sessions.{same_session}
 
 abbrev pub response_of : List ℕ → ℕ → Next → Response
@@ -12,7 +12,7 @@ response_of out used next = record { out = out; used = used; next = next }
 pub responds : (old new : Session) (piece replies : List ℕ) (used : ℕ) (next shown : Next)
     → next ≡ shown
     → HagglesFrom old.haggling piece (response_of replies used next) new.haggling
-    → new.limit ≡ old.limit → new.stage ≡ stage_behind shown
+    → new.limit ≡ old.limit → new.stage ≡ stage_then shown
     → new.rest ≡ old.rest ++ request_bytes shown used piece
     → new.count ≡ old.count → new.outstanding ≡ old.outstanding
     → new.out ≡ old.out ++ replies → Responds old piece new
@@ -22,7 +22,7 @@ responds old new piece replies used next shown is from limit stage rest count ou
   from = subst (λ (n : Next). HagglesFrom old.haggling piece (response_of replies used n) new.haggling)
       is from;
   new_is = same_session new (record old {
-    stage = stage_behind shown;
+    stage = stage_then shown;
     haggling = new.haggling;
     rest = old.rest ++ request_bytes shown used piece;
     out = old.out ++ replies;

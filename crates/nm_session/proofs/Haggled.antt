@@ -13,8 +13,8 @@ use Rattle.nm_requests.specs.Stream.{Begins}
 use Rattle.nm_wire.specs.declared.export.Export.{Export}
 use Rattle.nm_session.specs.declared.held.Held.{Held}
 use Rattle.nm_session.specs.declared.stage.Stage.TheVariants as stage
-use Rattle.nm_session.specs.Event.{Event, Fed, Asked, Stopped, Answered, Took, Runs, fed, taken, messages}
-use Rattle.nm_session.specs.Feeding.{stage_behind, request_bytes}
+use Rattle.nm_session.specs.Event.{Event, Fed, Asked, Stopped, Answered, Took, Runs, fed_bytes, taken_bytes, messages}
+use Rattle.nm_session.specs.Feeding.{stage_then, request_bytes}
 use Rattle.nm_session.specs.Session.{Session}
 use Rattle.nm_session.specs.Text.{AreRead, AreJudged, LastIsDisconnect, replies}
 use Rattle.nm_session.proofs.Fed.{response_of}
@@ -42,9 +42,9 @@ pub record Whole (export : Export) (text replied waiting : List ℕ) (events : L
     (new : Session) : Type 0 where
   pub more : List ℕ
   pub end : End
-  pub haggles : Haggles export (text ++ fed events) (replied ++ more) end
-  pub out_is : taken events ++ new.out ≡ waiting ++ (more ++ replies [] events)
-  pub are_read : AreRead end (text ++ fed events) (messages events)
+  pub haggles : Haggles export (text ++ fed_bytes events) (replied ++ more) end
+  pub out_is : taken_bytes events ++ new.out ≡ waiting ++ (more ++ replies [] events)
+  pub are_read : AreRead end (text ++ fed_bytes events) (messages events)
   pub are_judged : AreJudged export 0 events
   pub last : LastIsDisconnect events
 
@@ -112,16 +112,16 @@ ends_with goes_on ends_there export text replied old new piece out used shown la
     }
 
 -- the bytes behind what is used
-behind_used : (text piece later : List ℕ) (used : ℕ) → used ≤ length piece
+rest_after_used : (text piece later : List ℕ) (used : ℕ) → used ≤ length piece
     → drop (length text + used) (text ++ (piece ++ later)) ≡ drop used piece ++ later
-behind_used text piece later used within =
+rest_after_used text piece later used within =
     drop-append-add text (piece ++ later) used ∙ drop-append-le used piece later within
 
-read_behind : (text piece later rest : List ℕ) (used : ℕ) (requests : List Message)
+read_after : (text piece later rest : List ℕ) (used : ℕ) (requests : List Message)
     → used ≤ length piece → Begins 0 (drop used piece ++ later) requests rest
     → AreRead (haggle.Transmit (length text + used)) (text ++ (piece ++ later)) requests
-read_behind text piece later rest used requests within begins =
-    (rest, rw (behind_used text piece later used within) begins)
+read_after text piece later rest used requests within begins =
+    (rest, rw (rest_after_used text piece later used within) begins)
 
 -- the export stays
 same_export : (export : Export) (text replied : List ℕ) (old new : Haggling) (piece out : List ℕ)
@@ -138,7 +138,7 @@ nothing_answered (x ∷ before) after held e = cc
 abbrev pub responded : ℕ → Next → Haggling → ℕ → List ℕ → List ℕ → Session
 responded limit shown haggling used piece out = record {
   limit = limit;
-  stage = stage_behind shown;
+  stage = stage_then shown;
   haggling = haggling;
   rest = request_bytes shown used piece;
   count = 0;
@@ -155,14 +155,14 @@ goes_further export text replied waiting piece out events new whole = record {
   end = whole.end;
   haggles =
       subst (λ (xs : List ℕ). Haggles export xs (replied ++ (out ++ whole.more)) whole.end)
-      (append_assoc text piece (fed events))
-      (subst (λ (xs : List ℕ). Haggles export ((text ++ piece) ++ fed events) xs whole.end)
+      (append_assoc text piece (fed_bytes events))
+      (subst (λ (xs : List ℕ). Haggles export ((text ++ piece) ++ fed_bytes events) xs whole.end)
       (append_assoc replied out whole.more) whole.haggles);
   out_is = whole.out_is
       ∙ append_assoc waiting out (whole.more ++ replies [] events)
       ∙ ap (λ (xs : List ℕ). waiting ++ xs) (sym (append_assoc out whole.more (replies [] events)));
   are_read = subst (λ (xs : List ℕ). AreRead whole.end xs (messages events))
-      (append_assoc text piece (fed events)) whole.are_read;
+      (append_assoc text piece (fed_bytes events)) whole.are_read;
   are_judged = whole.are_judged;
   last = whole.last;
 }
@@ -185,9 +185,9 @@ transmits goes_on ends_there export limit old mid text replied waiting piece out
       more = out;
       end = haggle.Transmit (length text + used);
       haggles = ends_with goes_on ends_there export text replied old mid piece out used
-          next.Transmit (fed events) not_more so_far from;
+          next.Transmit (fed_bytes events) not_more so_far from;
       out_is = after.out ∙ append_assoc waiting out (replies [] events);
-      are_read = read_behind text piece (fed events) after.rest used (messages events) within
+      are_read = read_after text piece (fed_bytes events) after.rest used (messages events) within
           after.begins;
       are_judged = subst (λ (e : Export). AreJudged e 0 events) same after.judged;
       last = after.last;
@@ -209,7 +209,7 @@ closes goes_on ends_there export limit old mid text replied waiting piece out us
       more = out;
       end = haggle.Close (length text + used) aborted;
       haggles = ends_with goes_on ends_there export text replied old mid piece out used
-          (next.Close aborted) (fed events) not_more so_far from;
+          (next.Close aborted) (fed_bytes events) not_more so_far from;
       out_is = after.out ∙ append_assoc waiting out (replies [] events);
       are_read = nothing_asked events after.nothing;
       are_judged = nothing_judged export 0 events after.nothing;
@@ -275,7 +275,7 @@ taken_on export text replied waiting bytes events new is whole = record {
   more = whole.more;
   end = whole.end;
   haggles = whole.haggles;
-  out_is = append_assoc bytes (taken events) new.out ∙ take_more bytes waiting _ _ is whole.out_is;
+  out_is = append_assoc bytes (taken_bytes events) new.out ∙ take_more bytes waiting _ _ is whole.out_is;
   are_read = whole.are_read;
   are_judged = whole.are_judged;
   last = whole.last;

@@ -8,7 +8,7 @@ use Rattle.nm_requests.specs.declared.request.Request.{Request}
 use Rattle.nm_requests.specs.declared.task.Task.{Task}
 use Rattle.nm_requests.specs.declared.task.Task.TheVariants.{Read, Write, Zero, Flush, Nothing, Disconnect}
 use Rattle.nm_session.specs.declared.held.Held.{Held}
-use Rattle.nm_session.specs.Asking.{issued}
+use Rattle.nm_session.specs.Asking.{held_for}
 use Rattle.nm_session.specs.Text.{cookie_of}
 
 -- the request was read, and has this cookie
@@ -51,7 +51,7 @@ one before count request task is = record {
 }
 
 issue : (before : List Request) (count : ℕ) (request : Request) (judged : Result Task ℕ)
-    → request.index ≡ count → AreKnown (request ∷ before) (count + 1) (issued request judged)
+    → request.index ≡ count → AreKnown (request ∷ before) (count + 1) (held_for request judged)
 issue before count request (Ok (Read offset n)) is =
     (one before count request (Read offset n) is, tt)
 issue before count request (Ok (Write offset n fua)) is =
@@ -66,9 +66,9 @@ issue before count request (Err code) is = tt
 pub known_asked : (before : List Request) (count : ℕ) (request : Request)
     (judged : Result Task ℕ) (xs : List Held) → request.index ≡ count
     → AreKnown before count xs
-    → AreKnown (request ∷ before) (count + 1) (xs ++ issued request judged)
+    → AreKnown (request ∷ before) (count + 1) (xs ++ held_for request judged)
 known_asked before count request judged xs is known =
-    all_append (Knows (request ∷ before) (count + 1)) xs (issued request judged)
+    all_append (Knows (request ∷ before) (count + 1)) xs (held_for request judged)
     (all_later before count request xs is known) (issue before count request judged is)
 
 -- one that is taken out of the list, and the others

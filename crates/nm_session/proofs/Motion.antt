@@ -5,7 +5,7 @@ use Rattle.std.proofs.KnownBytes.{Appends-trans, Consumes-trans, Appends-nil, Co
 use Rattle.nm_session.specs.declared.serve_fault.ServeFault.{ServeFault}
 use Rattle.nm_session.specs.declared.serve_fault.ServeFault.TheVariants as fault
 use Rattle.nm_session.specs.Session.{Session}
-use Rattle.nm_session.specs.Event.{Event, Fed, Asked, Stopped, Answered, Took, Runs, fed, taken}
+use Rattle.nm_session.specs.Event.{Event, Fed, Asked, Stopped, Answered, Took, Runs, fed_bytes, taken_bytes}
 use Rattle.nm_session.specs.Target.{TargetCall}
 use Rattle.nm_session.specs.Moving.{Moment, Waiting, InTurn, waiting_for, Moves, BreaksOff, IsCause}
 
@@ -20,16 +20,16 @@ runs-append a b c [] ys first second = subst (λ (start : Session). Runs start y
 runs-append a b c (x ∷ xs) ys first second =
     (first.0, first.1, runs-append first.0 b c xs ys first.2 second)
 
-pub fed-append : (xs ys : List Event) → fed (xs ++ ys) ≡ fed xs ++ fed ys
+pub fed-append : (xs ys : List Event) → fed_bytes (xs ++ ys) ≡ fed_bytes xs ++ fed_bytes ys
 fed-append [] ys = refl
 fed-append (Fed piece ∷ xs) ys =
-    ap (λ (rest : List ℕ). piece ++ rest) (fed-append xs ys) ∙ sym (append_assoc piece (fed xs) (fed ys))
+    ap (λ (rest : List ℕ). piece ++ rest) (fed-append xs ys) ∙ sym (append_assoc piece (fed_bytes xs) (fed_bytes ys))
 fed-append (Asked request judged ∷ xs) ys = fed-append xs ys
 fed-append (Stopped found ∷ xs) ys = fed-append xs ys
 fed-append (Answered index outcome ∷ xs) ys = fed-append xs ys
 fed-append (Took bytes ∷ xs) ys = fed-append xs ys
 
-pub taken-append : (xs ys : List Event) → taken (xs ++ ys) ≡ taken xs ++ taken ys
+pub taken-append : (xs ys : List Event) → taken_bytes (xs ++ ys) ≡ taken_bytes xs ++ taken_bytes ys
 taken-append [] ys = refl
 taken-append (Fed piece ∷ xs) ys = taken-append xs ys
 taken-append (Asked request judged ∷ xs) ys = taken-append xs ys
@@ -37,7 +37,7 @@ taken-append (Stopped found ∷ xs) ys = taken-append xs ys
 taken-append (Answered index outcome ∷ xs) ys = taken-append xs ys
 taken-append (Took bytes ∷ xs) ys =
     ap (λ (rest : List ℕ). bytes ++ rest) (taken-append xs ys)
-    ∙ sym (append_assoc bytes (taken xs) (taken ys))
+    ∙ sym (append_assoc bytes (taken_bytes xs) (taken_bytes ys))
 
 pub in_turn-append : (before after : Option Waiting) (xs ys : List Event) (calls more : List TargetCall)
     → InTurn before xs calls None → InTurn None ys more after
@@ -77,10 +77,10 @@ moves_on follows path a b c first second = record {
       first.in_turn second.in_turn;
   leads = path.joins a.target b.target c.target first.calls second.calls first.leads second.leads;
   consumes = subst (Consumes a.input c.input) (sym (fed-append first.events second.events))
-      (Consumes-trans a.input b.input c.input (fed first.events) (fed second.events)
+      (Consumes-trans a.input b.input c.input (fed_bytes first.events) (fed_bytes second.events)
       first.consumes second.consumes);
   appends = subst (Appends a.output c.output) (sym (taken-append first.events second.events))
-      (Appends-trans a.output b.output c.output (taken first.events) (taken second.events)
+      (Appends-trans a.output b.output c.output (taken_bytes first.events) (taken_bytes second.events)
       first.appends second.appends);
 }
 
@@ -108,7 +108,7 @@ breaks_on follows path a b c found first second = record {
   events = first.events ++ second.events;
   calls = first.calls ++ second.calls;
   waiting = second.waiting;
-  written = taken first.events ++ second.written;
+  written = taken_bytes first.events ++ second.written;
   unfed = second.unfed;
   runs = runs-append a.core b.core c.core first.events second.events first.runs second.runs;
   in_turn = in_turn-append None second.waiting first.events second.events first.calls second.calls
@@ -116,14 +116,14 @@ breaks_on follows path a b c found first second = record {
   leads = path.joins a.target b.target c.target first.calls second.calls first.leads second.leads;
   consumes = subst (Consumes a.input c.input)
       (sym (ap (λ (list : List ℕ). list ++ second.unfed) (fed-append first.events second.events)
-      ∙ append_assoc (fed first.events) (fed second.events) second.unfed))
-      (Consumes-trans a.input b.input c.input (fed first.events) (fed second.events ++ second.unfed)
+      ∙ append_assoc (fed_bytes first.events) (fed_bytes second.events) second.unfed))
+      (Consumes-trans a.input b.input c.input (fed_bytes first.events) (fed_bytes second.events ++ second.unfed)
       first.consumes second.consumes);
-  appends = Appends-trans a.output b.output c.output (taken first.events) second.written
+  appends = Appends-trans a.output b.output c.output (taken_bytes first.events) second.written
       first.appends second.appends;
-  cause = subst (λ (all : List ℕ). IsCause found all (taken first.events ++ second.written) second.unfed)
+  cause = subst (λ (all : List ℕ). IsCause found all (taken_bytes first.events ++ second.written) second.unfed)
       (sym (taken-append first.events second.events))
-      (cause_on found (taken first.events) (taken second.events) second.written second.unfed
+      (cause_on found (taken_bytes first.events) (taken_bytes second.events) second.written second.unfed
       second.cause);
 }
 

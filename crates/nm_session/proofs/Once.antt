@@ -10,7 +10,7 @@ use Rattle.nm_session.specs.declared.held.Held.{Held}
 use Rattle.nm_session.specs.declared.outcome.Outcome.{Outcome}
 use Rattle.nm_session.specs.declared.stage.Stage.{Stage}
 use Rattle.nm_session.specs.declared.stage.Stage.TheVariants as stage
-use Rattle.nm_session.specs.Asking.{Answers, issued}
+use Rattle.nm_session.specs.Asking.{Answers, held_for}
 use Rattle.nm_session.specs.Event.{Event, Fed, Asked, Stopped, Answered, Took, Step, Runs}
 use Rattle.nm_session.specs.Feeding.{FeedsAt}
 use Rattle.nm_session.specs.Session.{Session}
@@ -83,7 +83,7 @@ none_ordered count xs ordered =
     )
 
 asked_ordered : (count : ℕ) (xs : List Held) (request : Request) (judged : Result Task ℕ)
-    → request.index ≡ count → IsOrdered count xs → IsOrdered (count + 1) (xs ++ issued request judged)
+    → request.index ≡ count → IsOrdered count xs → IsOrdered (count + 1) (xs ++ held_for request judged)
 asked_ordered count xs request (Ok (Read offset n)) is ordered = one_ordered count xs _ is ordered
 asked_ordered count xs request (Ok (Write offset n fua)) is ordered = one_ordered count xs _ is ordered
 asked_ordered count xs request (Ok (Zero offset n fua)) is ordered = one_ordered count xs _ is ordered
@@ -106,7 +106,7 @@ none_gone index count xs gone = rw (append-nil xs) (omega (arith, gone.0), gone.
 
 asked_gone : (index count : ℕ) (xs : List Held) (request : Request) (judged : Result Task ℕ)
     → request.index ≡ count → IsGone index count xs
-    → IsGone index (count + 1) (xs ++ issued request judged)
+    → IsGone index (count + 1) (xs ++ held_for request judged)
 asked_gone index count xs request (Ok (Read offset n)) is gone = one_gone index count xs _ is gone
 asked_gone index count xs request (Ok (Write offset n fua)) is gone = one_gone index count xs _ is gone
 asked_gone index count xs request (Ok (Zero offset n fua)) is gone = one_gone index count xs _ is gone
@@ -149,7 +149,7 @@ step_ordered : (event : Event) (old new : Session) → Step old event new
 step_ordered (Fed piece) old new step ordered =
     along IsOrdered old new (feed_keeps old.stage old piece new step) ordered
 step_ordered (Asked request judged) old new step ordered =
-    moved IsOrdered new (old.count + 1) (old.outstanding ++ issued request judged)
+    moved IsOrdered new (old.count + 1) (old.outstanding ++ held_for request judged)
     (ap (λ (s : Session). s.count) step.new_is) (ap (λ (s : Session). s.outstanding) step.new_is)
     (asked_ordered old.count old.outstanding request judged step.index_is ordered)
 step_ordered (Stopped fault) old new step ordered =
@@ -175,7 +175,7 @@ step_gone : (index : ℕ) (event : Event) (old new : Session) → Step old event
 step_gone index (Fed piece) old new step gone =
     along (IsGone index) old new (feed_keeps old.stage old piece new step) gone
 step_gone index (Asked request judged) old new step gone =
-    moved (IsGone index) new (old.count + 1) (old.outstanding ++ issued request judged)
+    moved (IsGone index) new (old.count + 1) (old.outstanding ++ held_for request judged)
     (ap (λ (s : Session). s.count) step.new_is) (ap (λ (s : Session). s.outstanding) step.new_is)
     (asked_gone index old.count old.outstanding request judged step.index_is gone)
 step_gone index (Stopped fault) old new step gone =

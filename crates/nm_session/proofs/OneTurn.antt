@@ -13,11 +13,11 @@ use Rattle.nm_session.specs.declared.next.Next.TheVariants as next
 use Rattle.nm_session.specs.Session.{Session}
 use Rattle.nm_session.specs.Feeding.{IsEnded}
 use Rattle.nm_session.specs.declared.serve_fault.ServeFault.TheVariants as fault
-use Rattle.nm_session.specs.Asking.{issued, next_after}
+use Rattle.nm_session.specs.Asking.{held_for, next_after}
 use Rattle.nm_session.specs.Reading.{Fills, Issues, RepliesItself, RepliesTimes, ReadsOn, Reads, Disconnects, Breaks, StaysEnded}
 use Rattle.std.specs.Io.KnownBytes.{Appends, Consumes}
 use Rattle.std.proofs.KnownBytes.{Appends-nil, Consumes-nil}
-use Rattle.nm_session.specs.Event.{Event, Asked, Answered, Stopped, Runs, fed, taken}
+use Rattle.nm_session.specs.Event.{Event, Asked, Answered, Stopped, Runs, fed_bytes, taken_bytes}
 use Rattle.nm_session.specs.Target.{TargetCall}
 use Rattle.nm_session.specs.Calling.{IsCallable, AreCallsOf, Calls}
 use Rattle.nm_session.specs.CalledValue.{CalledValue}
@@ -29,7 +29,7 @@ use Rattle.nm_session.proofs.Motion.{IsPath, moves_on, moves_nowhere, breaks_on}
 
 -- nobody waits where the core replies itself
 nobody_waits : (request : Request) (judged : Result Task ℕ) → next_after request judged ≡ None
-    → (waiting_for request judged ≡ None) × (issued request judged ≡ [])
+    → (waiting_for request judged ≡ None) × (held_for request judged ≡ [])
 nobody_waits request (Err code) own = (refl, refl)
 nobody_waits request (Ok task.Nothing) own = (refl, refl)
 nobody_waits request (Ok task.Disconnect) own = absurd (cc)
@@ -43,7 +43,7 @@ pub record IsIssued (request : Request) (task : Task) (index : ℕ) (payload : L
   pub index_is : request.index ≡ index
   pub payload_is : request.payload ≡ payload
   pub waits : waiting_for request (Ok task) ≡ Some (record { request = request; task = task })
-  pub held : issued request (Ok task) ≡ record { index = request.index; task = task; cookie = request.cookie } ∷ []
+  pub held : held_for request (Ok task) ≡ record { index = request.index; task = task; cookie = request.cookie } ∷ []
 
 is_issued : (request : Request) (task issue : Task) (index : ℕ) (payload : List ℕ)
     → next_after request (Ok task) ≡ Some (next.Issue index issue payload)
@@ -133,7 +133,7 @@ module _ {T : Type 0} (follows : T → List TargetCall → T → Type 0) (path :
   -- events without bytes, during which the target is called so
   inside : (old new : Session) (from to : T) (input output : Option (List ℕ)) (events : List Event)
       (calls : List TargetCall) → Runs old events new → InTurn None events calls None
-      → follows from calls to → fed events ≡ [] → taken events ≡ []
+      → follows from calls to → fed_bytes events ≡ [] → taken_bytes events ≡ []
       → Moves follows (moment old from input output) (moment new to input output)
   inside old new from to input output events calls runs in_turn leads none_fed none_taken = record {
     events = events;
@@ -206,7 +206,7 @@ module _ {T : Type 0} (follows : T → List TargetCall → T → Type 0) (path :
       ends_by reads.mid before reads.tells
     where
       joined : (mid : Session) → RepliesOn old mid → (event : Event) → Runs mid (event ∷ []) new
-          → InTurn None (event ∷ []) [] None → fed (event ∷ []) ≡ [] → taken (event ∷ []) ≡ []
+          → InTurn None (event ∷ []) [] None → fed_bytes (event ∷ []) ≡ [] → taken_bytes (event ∷ []) ≡ []
           → Moves follows (moment old target input output) (moment new target input output)
       joined mid before event runs in_turn none_fed none_taken =
           moves_on follows path (moment old target input output) (moment mid target input output)
@@ -252,12 +252,12 @@ module _ {T : Type 0} (follows : T → List TargetCall → T → Type 0) (path :
         events = moves.events;
         calls = moves.calls;
         waiting = None;
-        written = taken moves.events;
+        written = taken_bytes moves.events;
         unfed = [];
         runs = moves.runs;
         in_turn = moves.in_turn;
         leads = moves.leads;
-        consumes = subst (Consumes input input) (sym (append-nil (fed moves.events))) moves.consumes;
+        consumes = subst (Consumes input input) (sym (append-nil (fed_bytes moves.events))) moves.consumes;
         appends = moves.appends;
         cause = refl;
       }

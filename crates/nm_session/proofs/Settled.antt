@@ -14,7 +14,7 @@ use Rattle.nm_wire.specs.declared.export.Export.{Export}
 use Rattle.nm_session.specs.declared.next.Next.{Next}
 use Rattle.nm_session.specs.declared.stage.Stage.TheVariants as stage
 use Rattle.nm_session.specs.Session.{Session, IsReading}
-use Rattle.nm_session.specs.Asking.{Asks, issued, own_reply, stage_after, next_after}
+use Rattle.nm_session.specs.Asking.{Asks, held_for, own_reply, stage_after, next_after}
 use Rattle.nm_session.specs.Reading.{Tells, RepliesItself}
 use Rattle.nm_session.proofs.Sessions.{same_session}
 
@@ -34,7 +34,7 @@ pub record IsSettled (old new : Session) (request : Request) (judged : Result Ta
   pub stage : new.stage ≡ stage_after judged
   pub haggling : new.haggling ≡ old.haggling
   pub count : new.count ≡ old.count + 1
-  pub outstanding : new.outstanding ≡ old.outstanding ++ issued request judged
+  pub outstanding : new.outstanding ≡ old.outstanding ++ held_for request judged
   pub out : new.out ≡ old.out ++ own_reply request judged
 
 pub asked : (old new : Session) (request : Request) (judged : Result Task ℕ)
@@ -50,7 +50,7 @@ asked old new request judged found settled = record {
     stage = stage_after judged;
     rest = new.rest;
     count = old.count + 1;
-    outstanding = old.outstanding ++ issued request judged;
+    outstanding = old.outstanding ++ held_for request judged;
     out = old.out ++ own_reply request judged;
   }) settled.limit settled.stage settled.haggling refl settled.count settled.outstanding
       settled.out;
@@ -130,7 +130,7 @@ none count = All-nil (λ held. held.index < count + 1)
 
 pub known_after : (xs : List Held) (request : Request) (judged : Result Task ℕ) (count : ℕ)
     → request.index ≡ count → All (λ held. held.index < count) xs
-    → All (λ held. held.index < count + 1) (xs ++ issued request judged)
+    → All (λ held. held.index < count + 1) (xs ++ held_for request judged)
 known_after xs request (Ok (Read offset n)) count is all =
     joined xs _ count all (one (record {
       index = request.index;

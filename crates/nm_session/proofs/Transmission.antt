@@ -16,8 +16,8 @@ use Rattle.nm_session.specs.declared.held.Held.{Held}
 use Rattle.nm_session.specs.declared.outcome.Outcome.{Outcome}
 use Rattle.nm_session.specs.declared.stage.Stage.{Stage}
 use Rattle.nm_session.specs.declared.stage.Stage.TheVariants as stage
-use Rattle.nm_session.specs.Asking.{issued, own_reply, stage_after}
-use Rattle.nm_session.specs.Event.{Event, Fed, Asked, Stopped, Answered, Took, Runs, fed, taken, messages}
+use Rattle.nm_session.specs.Asking.{held_for, own_reply, stage_after}
+use Rattle.nm_session.specs.Event.{Event, Fed, Asked, Stopped, Answered, Took, Runs, fed_bytes, taken_bytes, messages}
 use Rattle.nm_session.specs.Feeding.{FeedsAt}
 use Rattle.nm_session.specs.Outcome.{says, reply_frame}
 use Rattle.nm_session.specs.Session.{Session}
@@ -26,7 +26,7 @@ use Rattle.nm_session.proofs.Known.{AreKnown, Knows, known_asked, taken_out}
 
 -- what goes out from here on
 abbrev pub Out : List Request → Session → List Event → Session → Type 0
-Out before old events new = taken events ++ new.out ≡ old.out ++ replies before events
+Out before old events new = taken_bytes events ++ new.out ≡ old.out ++ replies before events
 
 -- a reply that follows what waits
 reply_more : (taken_now out reply all : List ℕ) → taken_now ≡ (out ++ reply) ++ all
@@ -40,10 +40,10 @@ take_more bytes out more all e f = ap (λ (xs : List ℕ). xs ++ more) e ∙ ap 
 -- the reply to an outstanding request has its cookie
 answered_out : (before : List Request) (old new : Session) (events : List Event) (index : ℕ)
     (outcome : Outcome) (cookie : ℕ) → cookie_of index before ≡ cookie
-    → taken events ++ new.out ≡ (old.out ++ reply_frame cookie (says outcome)) ++ replies before events
+    → taken_bytes events ++ new.out ≡ (old.out ++ reply_frame cookie (says outcome)) ++ replies before events
     → Out before old (Answered index outcome ∷ events) new
 answered_out before old new events index outcome cookie is e =
-    reply_more (taken events ++ new.out) old.out (reply_frame cookie (says outcome))
+    reply_more (taken_bytes events ++ new.out) old.out (reply_frame cookie (says outcome))
     (replies before events) e
     ∙ ap (λ n. old.out ++ (reply_frame n (says outcome) ++ replies before events)) (sym is)
 
@@ -84,7 +84,7 @@ over (Took bytes ∷ events) before old new by ended known runs =
     let rest = over events before (record old { out = [] }) new by ended known
     (subst (λ (s : Session). Runs s events new) runs.1.new_is runs.2) in
     record {
-      out = append_assoc bytes (taken events) new.out
+      out = append_assoc bytes (taken_bytes events) new.out
           ∙ take_more bytes old.out _ _ runs.1.bytes_are rest.out;
       nothing = rest.nothing;
     }
@@ -95,11 +95,11 @@ pub record Served (before : List Request) (old : Session) (events : List Event) 
     : Type 0 where
   pub out : Out before old events new
   pub rest : List ℕ
-  pub begins : Begins old.count (old.rest ++ fed events) (messages events) rest
+  pub begins : Begins old.count (old.rest ++ fed_bytes events) (messages events) rest
   pub judged : AreJudged old.haggling.export old.count events
   pub last : LastIsDisconnect events
 
-nothing_fed : (events : List Event) → IsNothingRead events → fed events ≡ []
+nothing_fed : (events : List Event) → IsNothingRead events → fed_bytes events ≡ []
 nothing_fed [] none = refl
 nothing_fed (Fed piece ∷ events) none = absurd none
 nothing_fed (Asked request judged ∷ events) none = absurd none
@@ -136,7 +136,7 @@ no_requests : (n : ℕ) (rest : List ℕ) → n ≤ most_requests → Begins n (
 no_requests n rest few = record { whole = append-nil rest; valid = tt; few = omega arith }
 
 nothing_begins : (n : ℕ) (rest : List ℕ) (events : List Event) → n ≤ most_requests
-    → IsNothingRead events → Begins n (rest ++ fed events) (messages events) rest
+    → IsNothingRead events → Begins n (rest ++ fed_bytes events) (messages events) rest
 nothing_begins n rest events few none =
     rw (nothing_fed events none, nothing_asked events none) (no_requests n rest few)
 
@@ -195,7 +195,7 @@ asked_state old request judged rest = record old {
   stage = stage_after judged;
   rest = rest;
   count = old.count + 1;
-  outstanding = old.outstanding ++ issued request judged;
+  outstanding = old.outstanding ++ held_for request judged;
   out = old.out ++ own_reply request judged;
 }
 
@@ -206,10 +206,10 @@ served_on : (before : List Request) (old new : Session) (request : Request)
     → Served (request ∷ before) (asked_state old request judged rest) events new
     → Served before old (Asked request judged ∷ events) new
 served_on before old new request judged rest events index first is_judged e more = record {
-  out = reply_more (taken events ++ new.out) old.out (own_reply request judged)
+  out = reply_more (taken_bytes events ++ new.out) old.out (own_reply request judged)
       (replies (request ∷ before) events) more.out;
   rest = more.rest;
-  begins = asked_begins old.count old.rest (fed events) rest (message_of request)
+  begins = asked_begins old.count old.rest (fed_bytes events) rest (message_of request)
       (messages events) more.rest first more.begins;
   judged = (index, is_judged, more.judged);
   last = last_asked request judged events e more.last;
@@ -222,10 +222,10 @@ served_end : (before : List Request) (old new : Session) (request : Request)
     → Over (request ∷ before) (asked_state old request judged rest) events new
     → Served before old (Asked request judged ∷ events) new
 served_end before old new request judged rest events index first is_judged e more = record {
-  out = reply_more (taken events ++ new.out) old.out (own_reply request judged)
+  out = reply_more (taken_bytes events ++ new.out) old.out (own_reply request judged)
       (replies (request ∷ before) events) more.out;
   rest = rest;
-  begins = asked_begins old.count old.rest (fed events) rest (message_of request)
+  begins = asked_begins old.count old.rest (fed_bytes events) rest (message_of request)
       (messages events) rest first
       (nothing_begins (old.count + 1) rest events (omega (arith, first.few)) more.nothing);
   judged = (
@@ -254,7 +254,7 @@ served (Fed piece ∷ events) before old new serving few known runs =
     record {
       out = more.out;
       rest = more.rest;
-      begins = fed_begins old.count old.rest piece (fed events) (messages events) more.rest
+      begins = fed_begins old.count old.rest piece (fed_bytes events) (messages events) more.rest
           more.begins;
       judged = more.judged;
       last = more.last;
@@ -303,7 +303,7 @@ served (Took bytes ∷ events) before old new serving few known runs =
     let more = served events before (record old { out = [] }) new serving few known
     (subst (λ (s : Session). Runs s events new) runs.1.new_is runs.2) in
     record {
-      out = append_assoc bytes (taken events) new.out
+      out = append_assoc bytes (taken_bytes events) new.out
           ∙ take_more bytes old.out _ _ runs.1.bytes_are more.out;
       rest = more.rest;
       begins = more.begins;

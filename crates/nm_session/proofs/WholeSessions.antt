@@ -9,7 +9,7 @@ use Rattle.nm_session.specs.declared.stage.Stage.{Stage}
 use Rattle.nm_session.specs.declared.stage.Stage.TheVariants as stage
 use Rattle.nm_session.specs.Session.{Session, session_of}
 use Rattle.nm_session.specs.Feeding.{FeedsAt}
-use Rattle.nm_session.specs.Event.{Event, Fed, Asked, Stopped, Answered, Took, Runs, taken, messages}
+use Rattle.nm_session.specs.Event.{Event, Fed, Asked, Stopped, Answered, Took, Runs, taken_bytes, messages}
 use Rattle.nm_session.specs.Text.{GoesOut}
 use Rattle.nm_session.specs.Laws.{SoFar}
 use Rattle.nm_session.specs.Target.{TargetCall}
@@ -118,8 +118,8 @@ module _ {T : Type 0} (follows : T → List TargetCall → T → Type 0) (path :
     requests = transmits.ends.requests
         ∙ omega (arith, counted (session_of export 1) core transmits.moves.events transmits.moves.runs);
     goes_out = subst (GoesOut export transmits.moves.events)
-        (ap (λ (rest : List ℕ). taken transmits.moves.events ++ rest) transmits.sent
-        ∙ append-nil (taken transmits.moves.events))
+        (ap (λ (rest : List ℕ). taken_bytes transmits.moves.events ++ rest) transmits.sent
+        ∙ append-nil (taken_bytes transmits.moves.events))
         (so_far export 1 transmits.moves.events core transmits.moves.runs);
   }
 
@@ -128,7 +128,7 @@ module _ {T : Type 0} (follows : T → List TargetCall → T → Type 0) (path :
       (found : ServeFault) → BreaksOff follows (moment (session_of export 1) from input output) (moment core to unread written) found
       → IsBrokenOff follows found (moment (session_of export 1) from input output) (λ core. moment core to unread written)
   broken so_far export core from to input unread output written found breaks =
-      let rest = unwritten_of found (taken breaks.events) breaks.written breaks.unfed breaks.cause in
+      let rest = unwritten_of found (taken_bytes breaks.events) breaks.written breaks.unfed breaks.cause in
       record {
         core = core;
         breaks = breaks;

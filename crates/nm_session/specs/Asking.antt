@@ -19,12 +19,12 @@ use Rattle.nm_session.specs.Outcome.{Fits, says, reply_frame}
 use Rattle.nm_session.specs.Session.{Session, IsReading}
 
 -- what is kept of a request that has a task for a target
-abbrev pub issued : Request → Result Task ℕ → List Held
-issued request (Ok task.Nothing) = []
-issued request (Ok task.Disconnect) = []
-issued request (Ok task) =
+abbrev pub held_for : Request → Result Task ℕ → List Held
+held_for request (Ok task.Nothing) = []
+held_for request (Ok task.Disconnect) = []
+held_for request (Ok task) =
     (record { index = request.index; task = task; cookie = request.cookie }) ∷ []
-issued request (Err code) = []
+held_for request (Err code) = []
 
 -- the reply to a request that needs no target: a refusal's error, or done where nothing is to be
 -- done; a DISC has none
@@ -58,7 +58,7 @@ pub record Asks (old : Session) (request : Request) (judged : Result Task ℕ) (
     stage = stage_after judged;
     rest = new.rest;
     count = old.count + 1;
-    outstanding = old.outstanding ++ issued request judged;
+    outstanding = old.outstanding ++ held_for request judged;
     out = old.out ++ own_reply request judged;
   }
 

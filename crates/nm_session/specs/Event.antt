@@ -38,16 +38,16 @@ Runs old [] new = new ≡ old
 Runs old (event ∷ events) new = (mid : Session) × Step old event mid × Runs mid events new
 
 -- the bytes that were fed
-abbrev pub fed : List Event → List ℕ
-fed [] = []
-fed (Fed piece ∷ events) = piece ++ fed events
-fed (_ ∷ events) = fed events
+abbrev pub fed_bytes : List Event → List ℕ
+fed_bytes [] = []
+fed_bytes (Fed piece ∷ events) = piece ++ fed_bytes events
+fed_bytes (_ ∷ events) = fed_bytes events
 
 -- the bytes that were taken
-abbrev pub taken : List Event → List ℕ
-taken [] = []
-taken (Took bytes ∷ events) = bytes ++ taken events
-taken (_ ∷ events) = taken events
+abbrev pub taken_bytes : List Event → List ℕ
+taken_bytes [] = []
+taken_bytes (Took bytes ∷ events) = bytes ++ taken_bytes events
+taken_bytes (_ ∷ events) = taken_bytes events
 
 -- the requests that were read, as the stream has them
 abbrev pub messages : List Event → List Message

@@ -9,10 +9,10 @@ use Rattle.nm_session.specs.declared.stage.Stage.TheVariants as stage
 use Rattle.nm_session.specs.Session.{Session}
 
 -- where a response of the haggling leads
-abbrev pub stage_behind : Next → Stage
-stage_behind next.More = stage.Haggling
-stage_behind next.Transmit = stage.Serving
-stage_behind (next.Close aborted) = stage.Ended (if aborted then by.Abort else by.Protocol)
+abbrev pub stage_then : Next → Stage
+stage_then next.More = stage.Haggling
+stage_then next.Transmit = stage.Serving
+stage_then (next.Close aborted) = stage.Ended (if aborted then by.Abort else by.Protocol)
 
 -- the bytes of a piece that are not the haggling's but the first of the requests
 abbrev pub request_bytes : Next → ℕ → List ℕ → List ℕ
@@ -26,7 +26,7 @@ pub record Responds (old : Session) (piece : List ℕ) (new : Session) : Type 0 
   pub haggling : Haggling
   pub from : HagglesFrom old.haggling piece response haggling
   pub new_is : new ≡ record old {
-    stage = stage_behind response.next;
+    stage = stage_then response.next;
     haggling = haggling;
     rest = old.rest ++ request_bytes response.next response.used piece;
     out = old.out ++ response.out;

@@ -3,7 +3,7 @@ use Rattle.std.specs.Prelude.{ℕ, List, [], ◌∷◌, ◌++◌}
 use Rattle.nm_wire.specs.declared.export.Export.{Export}
 use Rattle.nm_session.specs.declared.outcome.Outcome.{Outcome}
 use Rattle.nm_session.specs.declared.next.Next.{Next}
-use Rattle.nm_session.specs.Event.{Event, Asked, Stopped, Answered, Runs, taken}
+use Rattle.nm_session.specs.Event.{Event, Asked, Stopped, Answered, Runs, taken_bytes}
 use Rattle.nm_session.specs.Reading.{ReadsOn, Reads}
 use Rattle.nm_session.specs.Session.{Session, session_of}
 use Rattle.nm_session.specs.Text.{GoesOut}
@@ -13,7 +13,8 @@ use Rattle.nm_session.specs.Text.{GoesOut}
 abbrev pub SoFar : Type 0
 SoFar =
     (export : Export) (limit : ℕ) (events : List Event) (new : Session)
-    → Runs (session_of export limit) events new → GoesOut export events (taken events ++ new.out)
+    → Runs (session_of export limit) events new
+    → GoesOut export events (taken_bytes events ++ new.out)
 
 -- no request is answered twice
 abbrev pub AnsweredOnce : Type 0

@@ -9,7 +9,7 @@ use Rattle.nm_requests.specs.declared.task.Task.TheVariants.{Nothing, Disconnect
 use Rattle.nm_session.specs.declared.serve_fault.ServeFault.{ServeFault}
 use Rattle.nm_session.specs.declared.serve_fault.ServeFault.TheVariants as fault
 use Rattle.nm_session.specs.Session.{Session}
-use Rattle.nm_session.specs.Event.{Event, Asked, Answered, Runs, fed, taken}
+use Rattle.nm_session.specs.Event.{Event, Asked, Answered, Runs, fed_bytes, taken_bytes}
 use Rattle.nm_session.specs.Outcome.{says}
 use Rattle.nm_session.specs.Target.{TargetCall}
 use Rattle.nm_session.specs.Calling.{TaskResult, AreCallsOf}
@@ -69,8 +69,8 @@ pub record Moves {T : Type 0} (follows : T → List TargetCall → T → Type 0)
   pub runs : Runs from.core events to.core
   pub in_turn : InTurn None events calls None
   pub leads : follows from.target calls to.target
-  pub consumes : Consumes from.input to.input (fed events)
-  pub appends : Appends from.output to.output (taken events)
+  pub consumes : Consumes from.input to.input (fed_bytes events)
+  pub appends : Appends from.output to.output (taken_bytes events)
 
 -- what a fault leaves undone: bytes that were taken out and not written, or read and not fed
 abbrev pub IsCause : ServeFault → (taken written unfed : List ℕ) → Type 0
@@ -91,6 +91,6 @@ pub record BreaksOff {T : Type 0} (follows : T → List TargetCall → T → Typ
   pub runs : Runs from.core events to.core
   pub in_turn : InTurn None events calls waiting
   pub leads : follows from.target calls to.target
-  pub consumes : Consumes from.input to.input (fed events ++ unfed)
+  pub consumes : Consumes from.input to.input (fed_bytes events ++ unfed)
   pub appends : Appends from.output to.output written
-  pub cause : IsCause fault (taken events) written unfed
+  pub cause : IsCause fault (taken_bytes events) written unfed

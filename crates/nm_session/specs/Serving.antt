@@ -10,7 +10,7 @@ use Rattle.nm_session.specs.declared.served.Served.{Served}
 use Rattle.nm_session.specs.declared.stage.Stage.{Stage}
 use Rattle.nm_session.specs.declared.stage.Stage.TheVariants as stage
 use Rattle.nm_session.specs.Session.{Session}
-use Rattle.nm_session.specs.Event.{taken, messages}
+use Rattle.nm_session.specs.Event.{taken_bytes, messages}
 use Rattle.nm_session.specs.Text.{GoesOut}
 use Rattle.nm_session.specs.Target.{TargetCall}
 use Rattle.nm_session.specs.Moving.{Moment, Moves, BreaksOff}
@@ -73,7 +73,7 @@ pub record IsServed {T : Type 0} (follows : T → List TargetCall → T → Type
   pub transmits : Transmits follows served from (to core)
   pub requests : served.requests ≡ length (messages transmits.moves.events)
   pub goes_out : GoesOut from.core.haggling.export transmits.moves.events
-      (taken transmits.moves.events)
+      (taken_bytes transmits.moves.events)
 
 -- a session that a fault broke off: what was written is a beginning of what goes out
 pub record IsBrokenOff {T : Type 0} (follows : T → List TargetCall → T → Type 0)

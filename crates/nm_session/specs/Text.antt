@@ -9,7 +9,7 @@ use Rattle.nm_requests.specs.Message.{Message}
 use Rattle.nm_requests.specs.Stream.{Begins}
 use Rattle.nm_wire.specs.declared.export.Export.{Export}
 use Rattle.nm_session.specs.Asking.{own_reply}
-use Rattle.nm_session.specs.Event.{Event, Fed, Asked, Stopped, Answered, fed, messages}
+use Rattle.nm_session.specs.Event.{Event, Fed, Asked, Stopped, Answered, fed_bytes, messages}
 use Rattle.nm_session.specs.Outcome.{says, reply_frame}
 
 -- the cookie of the request with this index, among those that were read, the last one first
@@ -63,8 +63,8 @@ AreRead (haggle.Close used aborted) text requests = requests ≡ []
 pub record GoesOut (export : Export) (events : List Event) (out : List ℕ) : Type 0 where
   pub haggled : List ℕ
   pub end : End
-  pub haggles : Haggles export (fed events) haggled end
+  pub haggles : Haggles export (fed_bytes events) haggled end
   pub out_is : out ≡ greeting_bytes ++ (haggled ++ replies [] events)
-  pub are_read : AreRead end (fed events) (messages events)
+  pub are_read : AreRead end (fed_bytes events) (messages events)
   pub are_judged : AreJudged export 0 events
   pub last : LastIsDisconnect events

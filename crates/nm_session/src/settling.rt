@@ -2,7 +2,7 @@
 ghost use Rattle.std.specs.Prelude.{◌≡◌, ◌+◌, ◌<◌, ◌≤◌, ◌++◌, [], vec_len, vec_capacity};
 ghost use Rattle.std.specs.Prelude.{◌↔◌, IsTrue, OnOk, OnErr};
 ghost use Rattle.nm_session.specs.Asking as asking;
-ghost use Rattle.nm_session.specs.Asking.{issued, own_reply, next_after};
+ghost use Rattle.nm_session.specs.Asking.{held_for, own_reply, next_after};
 ghost use Rattle.nm_replies.specs.Answer.{frame_of};
 ghost use Rattle.nm_session.specs.Outcome.{says, reply_frame, Fits};
 
@@ -36,7 +36,7 @@ pub(crate) fn settle(
     requires free { vec_len outstanding.old < vec_capacity outstanding.old }
     requires room { vec_len out.old + 16 ≤ vec_capacity out.old }
     ensures next { result ≡ next_after request judged }
-    ensures outstanding { outstanding.new.items ≡ outstanding.old.items ++ issued request judged }
+    ensures outstanding { outstanding.new.items ≡ outstanding.old.items ++ held_for request judged }
     ensures one { vec_len outstanding.new ≤ vec_len outstanding.old + 1 }
     ensures capacity { vec_capacity outstanding.new ≡ vec_capacity outstanding.old }
     ensures out { out.new.items ≡ out.old.items ++ own_reply request judged }
