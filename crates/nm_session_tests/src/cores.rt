@@ -28,6 +28,14 @@ const ABORT: [u8; 20] = *b"\0\0\0\x03IHAVEOPT\0\0\0\x02\0\0\0\0";
 const READ_32_MIB: [u8; 28] =
     *b"\x25\x60\x95\x13\0\0\0\0\0\0\0\0\0\0\0\x07\0\0\0\0\0\0\0\0\x02\0\0\0";
 
+// The greeting, and what GO is answered with: 64 MiB and flags, block sizes, ACK.
+const DESCRIBED: [u8; 104] = *b"NBDMAGICIHAVEOPT\0\x03\
+    \0\x03\xe8\x89\x04\x55\x65\xa9\0\0\0\x07\0\0\0\x03\0\0\0\x0c\
+    \0\0\0\0\0\0\x04\0\0\0\x01\x6d\
+    \0\x03\xe8\x89\x04\x55\x65\xa9\0\0\0\x07\0\0\0\x03\0\0\0\x0e\
+    \0\x03\0\0\0\x01\0\0\x10\0\x02\0\0\0\
+    \0\x03\xe8\x89\x04\x55\x65\xa9\0\0\0\x07\0\0\0\x01\0\0\0\0";
+
 // Done for cookie 98, error 5 for cookie 65, error 12 for cookie 64, all in hexadecimal.
 const REPLIES: [u8; 48] = *b"\x67\x44\x66\x98\0\0\0\0\0\0\0\0\0\0\0\x98\
     \x67\x44\x66\x98\0\0\0\x05\0\0\0\0\0\0\0\x65\
@@ -345,6 +353,43 @@ fn holds_no_more_than_its_limit(rt: HostRuntime) -> Result<(), Fail> {
     }
     assert_eq!(rt; issued, 16);
     assert_eq!(rt; core.count(), 16);
+    Ok(())
+}
+
+// Feeds a piece, and once more where it ran out of memory.
+fn feed_again(alloc: Global, core: &mut Client, piece: &[u8]) -> Result<(), Refused> {
+    match core.feed(alloc, piece) {
+        Err(Refused::Memory) => core.feed(alloc, piece),
+        answer => answer,
+    }
+}
+
+// What comes next, asked once more where it ran out of memory.
+fn next_again(alloc: Global, core: &mut Client) -> Result<Next, Refused> {
+    match core.next(alloc) {
+        Err(Refused::Memory) => core.next(alloc),
+        answer => answer,
+    }
+}
+
+// Run with each allocation failing in turn: a piece that was refused and is fed again is answered as
+// if nothing had been, in the haggling and after it.
+#[test]
+fn no_memory_for_a_piece_is_forgotten(rt: HostRuntime) -> Result<(), Fail> {
+    let alloc = rt.alloc();
+    let Ok(mut core) = Client::new(alloc, 1) else {
+        return Ok(());
+    };
+    for piece in HELLO.chunks(20) {
+        feed_again(alloc, &mut core, piece)?;
+    }
+    assert!(rt; core.take_out().as_slice() == DESCRIBED.as_slice());
+    for piece in NOTHING.chunks(10) {
+        feed_again(alloc, &mut core, piece)?;
+    }
+    assert!(rt; matches!(next_again(alloc, &mut core)?, Next::Starved));
+    assert!(rt; Some(core.take_out().as_slice()) == REPLIES.get(..16));
+    assert_eq!(rt; core.count(), 1);
     Ok(())
 }
 

@@ -6,4 +6,6 @@ mod copying_target;
 #[cfg(test)]
 mod cores;
 #[cfg(test)]
+mod cut_anywhere;
+#[cfg(test)]
 mod serving;

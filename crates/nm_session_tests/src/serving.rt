@@ -11,64 +11,71 @@ use std::sync::Wait;
 use std::test::Fail;
 
 // The client's flags.
-const FLAGS: [u8; 4] = *b"\0\0\0\x03";
+pub(crate) const FLAGS: [u8; 4] = *b"\0\0\0\x03";
 
-const GO: [u8; 26] = *b"IHAVEOPT\0\0\0\x07\0\0\0\x0a\0\0\0\x04disk\0\0";
+pub(crate) const GO: [u8; 26] = *b"IHAVEOPT\0\0\0\x07\0\0\0\x0a\0\0\0\x04disk\0\0";
 
 // GO that asks for block sizes.
-const GO_ASKING: [u8; 28] = *b"IHAVEOPT\0\0\0\x07\0\0\0\x0c\0\0\0\x04disk\0\x01\0\x03";
+pub(crate) const GO_ASKING: [u8; 28] = *b"IHAVEOPT\0\0\0\x07\0\0\0\x0c\0\0\0\x04disk\0\x01\0\x03";
 
 // GO whose name is longer than its data.
-const GO_TOO_SHORT: [u8; 26] = *b"IHAVEOPT\0\0\0\x07\0\0\0\x0a\0\0\0\x05disk\0\0";
+pub(crate) const GO_TOO_SHORT: [u8; 26] = *b"IHAVEOPT\0\0\0\x07\0\0\0\x0a\0\0\0\x05disk\0\0";
 
-const GREETING: [u8; 18] = *b"NBDMAGICIHAVEOPT\0\x03";
+pub(crate) const GREETING: [u8; 18] = *b"NBDMAGICIHAVEOPT\0\x03";
 
 // What GO is answered with: size and flags, block sizes, ACK.
-const DESCRIBED: [u8; 86] = *b"\0\x03\xe8\x89\x04\x55\x65\xa9\0\0\0\x07\0\0\0\x03\0\0\0\x0c\
+pub(crate) const DESCRIBED: [u8; 86] =
+    *b"\0\x03\xe8\x89\x04\x55\x65\xa9\0\0\0\x07\0\0\0\x03\0\0\0\x0c\
     \0\0\0\0\0\0\0\x10\0\0\x01\x6d\
     \0\x03\xe8\x89\x04\x55\x65\xa9\0\0\0\x07\0\0\0\x03\0\0\0\x0e\
     \0\x03\0\0\0\x01\0\0\x10\0\x02\0\0\0\
     \0\x03\xe8\x89\x04\x55\x65\xa9\0\0\0\x07\0\0\0\x01\0\0\0\0";
 
 // What GO is answered with where its lengths do not add up: INVALID.
-const INVALID_GO: [u8; 20] = *b"\0\x03\xe8\x89\x04\x55\x65\xa9\0\0\0\x07\x80\0\0\x03\0\0\0\0";
+pub(crate) const INVALID_GO: [u8; 20] =
+    *b"\0\x03\xe8\x89\x04\x55\x65\xa9\0\0\0\x07\x80\0\0\x03\0\0\0\0";
 
-const LIST_WITH_DATA: [u8; 17] = *b"IHAVEOPT\0\0\0\x03\0\0\0\x01\0";
+pub(crate) const LIST_WITH_DATA: [u8; 17] = *b"IHAVEOPT\0\0\0\x03\0\0\0\x01\0";
 
-const INVALID_LIST: [u8; 20] = *b"\0\x03\xe8\x89\x04\x55\x65\xa9\0\0\0\x03\x80\0\0\x03\0\0\0\0";
+pub(crate) const INVALID_LIST: [u8; 20] =
+    *b"\0\x03\xe8\x89\x04\x55\x65\xa9\0\0\0\x03\x80\0\0\x03\0\0\0\0";
 
-const STRUCTURED_REPLY: [u8; 16] = *b"IHAVEOPT\0\0\0\x08\0\0\0\0";
+pub(crate) const STRUCTURED_REPLY: [u8; 16] = *b"IHAVEOPT\0\0\0\x08\0\0\0\0";
 
-const UNSUPPORTED: [u8; 20] = *b"\0\x03\xe8\x89\x04\x55\x65\xa9\0\0\0\x08\x80\0\0\x01\0\0\0\0";
+pub(crate) const UNSUPPORTED: [u8; 20] =
+    *b"\0\x03\xe8\x89\x04\x55\x65\xa9\0\0\0\x08\x80\0\0\x01\0\0\0\0";
 
 const ABORT: [u8; 16] = *b"IHAVEOPT\0\0\0\x02\0\0\0\0";
 
 const ABORTED: [u8; 20] = *b"\0\x03\xe8\x89\x04\x55\x65\xa9\0\0\0\x02\0\0\0\x01\0\0\0\0";
 
-const EXPORT_NAME_DISK: [u8; 20] = *b"IHAVEOPT\0\0\0\x01\0\0\0\x04disk";
+pub(crate) const EXPORT_NAME_DISK: [u8; 20] = *b"IHAVEOPT\0\0\0\x01\0\0\0\x04disk";
 
-const EXPORT_NAME_DISC: [u8; 20] = *b"IHAVEOPT\0\0\0\x01\0\0\0\x04disc";
+pub(crate) const EXPORT_NAME_DISC: [u8; 20] = *b"IHAVEOPT\0\0\0\x01\0\0\0\x04disc";
 
-const SIZE_AND_FLAGS: [u8; 10] = *b"\0\0\0\0\0\x10\0\0\x01\x6d";
+pub(crate) const SIZE_AND_FLAGS: [u8; 10] = *b"\0\0\0\0\0\x10\0\0\x01\x6d";
 
 const DISC: [u8; 28] = *b"\x25\x60\x95\x13\0\0\0\x02\0\0\0\0\0\0\0\x99\0\0\0\0\0\0\0\0\0\0\0\0";
+
+const LONG_WRITE: [u8; 28] =
+    *b"\x25\x60\x95\x13\0\0\0\x01\0\0\0\0\0\0\0\x11\0\0\0\0\0\0\0\0\x02\0\0\x01";
 
 const READ: u8 = 0;
 
 const WRITE: u8 = 1;
 
-const SIZE: usize = 1_048_576;
+pub(crate) const SIZE: usize = 1_048_576;
 
 // What a session left: how it ended, what was written, and block 1 of its target.
 #[derive(Drop)]
-struct Found {
+pub(crate) struct Found {
     ended: Result<Served, ServeFault>,
-    out: Vec<u8>,
+    pub(crate) out: Vec<u8>,
     block: Vec<u8>,
 }
 
 impl Found {
-    fn is(&self, requests: u64, end: End) -> bool {
+    pub(crate) fn is(&self, requests: u64, end: End) -> bool {
         match self.ended {
             Ok(served) => served.requests == requests && served.end == end,
             Err(_) => false,
@@ -82,7 +89,7 @@ impl Found {
         }
     }
 
-    fn block_is_all(&self, byte: u8) -> bool {
+    pub(crate) fn block_is_all(&self, byte: u8) -> bool {
         self.block.len() == 512 && self.block.iter().all(|b| *b == byte)
     }
 }
@@ -115,7 +122,7 @@ fn run<R: Wait>(
 }
 
 // These parts in a row.
-fn concat(alloc: Global, parts: &[&[u8]]) -> Result<Vec<u8>, AllocError> {
+pub(crate) fn concat(alloc: Global, parts: &[&[u8]]) -> Result<Vec<u8>, AllocError> {
     let mut whole = Vec::new(alloc);
     for part in parts {
         whole.extend_from_slice(part)?;
@@ -145,7 +152,7 @@ fn put_reply(out: &mut Vec<u8>, error: u8, cookie: u8) -> Result<(), AllocError>
 }
 
 // The handshake, a WRITE of block 1, and a DISC; and what goes out.
-fn one_write(alloc: Global) -> Result<(Vec<u8>, Vec<u8>), AllocError> {
+pub(crate) fn one_write(alloc: Global) -> Result<(Vec<u8>, Vec<u8>), AllocError> {
     let mut stream = concat(alloc, &[&FLAGS, &GO])?;
     put_request(&mut stream, WRITE, 0x11, 512, 512)?;
     stream.extend_from_slice(&[0xaa; 512])?;
@@ -193,13 +200,13 @@ fn replies(alloc: Global) -> Result<Vec<u8>, AllocError> {
 
 // Where a reader cuts its bytes, and which read fails; 0 for none.
 #[derive(Clone, Copy)]
-struct Cuts {
-    at: usize,
-    longest: usize,
-    fails_at: u64,
+pub(crate) struct Cuts {
+    pub(crate) at: usize,
+    pub(crate) longest: usize,
+    pub(crate) fails_at: u64,
 }
 
-const WHOLE: Cuts = Cuts {
+pub(crate) const WHOLE: Cuts = Cuts {
     at: 0,
     longest: 0,
     fails_at: 0,
@@ -225,7 +232,7 @@ fn run_cut<R: Wait>(rt: &R, alloc: Global, stream: &[u8], cuts: Cuts) -> Result<
 }
 
 // Serves them over this target.
-fn run_over<R: Wait>(
+pub(crate) fn run_over<R: Wait>(
     rt: &R,
     alloc: Global,
     target: &mut MemTarget,
@@ -378,6 +385,9 @@ fn haggles_on_after_a_refused_option(rt: HostRuntime) -> Result<(), Fail> {
     // A magic number that is none.
     let broken: [&[u8]; 3] = [&FLAGS, &GO, &[0; 28]];
     expect(&rt, alloc, &broken, &[&GREETING, &DESCRIBED], End::Protocol)?;
+    // A WRITE of one byte more than 32 MiB.
+    let long: [&[u8]; 3] = [&FLAGS, &GO, &LONG_WRITE];
+    expect(&rt, alloc, &long, &[&GREETING, &DESCRIBED], End::Protocol)?;
     Ok(())
 }
 
@@ -399,8 +409,8 @@ fn serves_no_part_of_a_write(rt: HostRuntime) -> Result<(), Fail> {
 #[test]
 fn a_read_that_fails_breaks_the_session_off(rt: HostRuntime) -> Result<(), Fail> {
     let alloc = rt.alloc();
-    let (stream, out) = one_write(alloc)?;
-    // 598 bytes by 64 are ten reads; the last one has the DISC.
+    let (stream, out, _) = write_and_read(alloc)?;
+    // 626 bytes by 64 are ten reads; the ninth ends the WRITE, the last has the rest.
     for fails_at in 1..11 {
         let cuts = Cuts {
             at: 0,
@@ -417,7 +427,7 @@ fn a_read_that_fails_breaks_the_session_off(rt: HostRuntime) -> Result<(), Fail>
         longest: 64,
         fails_at: 11,
     };
-    assert!(rt; run_cut(&rt, alloc, stream.as_slice(), cuts)?.is(2, End::Disc));
+    assert!(rt; run_cut(&rt, alloc, stream.as_slice(), cuts)?.is(3, End::Disc));
     Ok(())
 }
 
@@ -433,7 +443,7 @@ fn out_before(write: u64) -> usize {
 #[test]
 fn a_write_that_fails_breaks_the_session_off(rt: HostRuntime) -> Result<(), Fail> {
     let alloc = rt.alloc();
-    let (stream, out) = one_write(alloc)?;
+    let (stream, out, _) = write_and_read(alloc)?;
     for write in 1..4 {
         for after in [0, 1, 15] {
             let mut writer = CutWriter::new(alloc, 4_096)?;
@@ -452,7 +462,7 @@ fn a_write_that_fails_breaks_the_session_off(rt: HostRuntime) -> Result<(), Fail
     let mut target = MemTarget::new(alloc, SIZE)?;
     let reader = reader(alloc, stream.as_slice(), WHOLE)?;
     let found = run(&rt, alloc, &mut target, reader, writer)?;
-    assert!(rt; found.is(2, End::Disc));
+    assert!(rt; found.is(3, End::Disc));
     Ok(())
 }
 
