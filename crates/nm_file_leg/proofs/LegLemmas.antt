@@ -116,32 +116,12 @@ writes-failed honest p n f g at result bytes old new some shared full counted wr
       subst (λ (i : ℕ). bytes_at p i new.durable ≡ bytes_at p i old.durable) e (others-durable honest p at k result bytes old new some shared full writes is_honest other));
 }
 
--- a write was refused before the medium was called
-pub writes-nothing : (honest : Bool) (p : Places) (n f g at : ℕ) (bytes : List ℕ) (held : Held) → g ≡ (f + 1) % 2 ^ 64
-    → WritesLeg honest false at bytes (leg_on held p n f) (leg_on held p n g)
-writes-nothing honest p n f g at bytes held counted = record {
-  calls = calls-failed p n f g held held counted;
-  written = λ _ q. absurd (let e : ⊥ = cc in e);
-  others = λ _ k other. refl;
-  durable_others = λ _ k other. refl;
-}
-
 -- nothing was written since the last sync that succeeded, so all is durable without a call
 pub syncs-quiet : (honest : Bool) (p : Places) (n f r : ℕ) (touched : Bool) (held : Held) → IsFalse touched → FileRules honest held p n r touched
     → SyncsLeg honest true (leg_on held p n f) (leg_on held p n f)
 syncs-quiet honest p n f r touched held untouched rules = record {
   calls = calls-succeeded p n f held held;
   durable = λ is_honest _. same-blocks p n held.durable held.contents (rules.synced is_honest untouched);
-  contents = λ _. refl;
-  durable_kept = λ _ k _. refl;
-}
-
--- a sync was refused before the medium was called
-pub syncs-nothing : (honest : Bool) (p : Places) (n f g : ℕ) (held : Held) → g ≡ (f + 1) % 2 ^ 64
-    → SyncsLeg honest false (leg_on held p n f) (leg_on held p n g)
-syncs-nothing honest p n f g held counted = record {
-  calls = calls-failed p n f g held held counted;
-  durable = λ _ q. absurd (let e : ⊥ = cc in e);
   contents = λ _. refl;
   durable_kept = λ _ k _. refl;
 }

@@ -42,11 +42,3 @@ rules-synced honest p n r touched result old new full done rules syncs = record 
       let all : (from many : ℕ) → Kept old from many → window from many new.durable ≡ window from many old.contents = rw done at (syncs.durable is_honest) in
       all _ _ (rules.kept is_honest k (omega (arith, below, full))) ∙ ap (λ (b : List ℕ). bytes_at p k b) (sym (syncs.contents is_honest));
 }
-
--- no block is kept behind a sync that fails
-pub rules-restart : (honest : Bool) (p : Places) (n : ℕ) (held : Held) → FileRules honest held p n 0 true
-rules-restart honest p n held = record {
-  cursor = omega arith;
-  kept = λ _ k below. absurd (let e : ⊥ = omega (arith, below) in e);
-  synced = λ _ q. absurd (let e : ⊥ = cc in e);
-}

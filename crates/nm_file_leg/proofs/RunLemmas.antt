@@ -66,16 +66,7 @@ read-spliced first kept place bytes part old new fits inside changes read =
     ∙ ap (λ (ys : List ℕ). window first place new ++ (window (first + place) n new ++ ys)) back
     ∙ sym new_cut
 
--- bytes that were read, and that the change does not touch
-pub read-apart : (first kept at : ℕ) (bytes part old new : List ℕ) → Apart at (length part) first kept
-    → Changes at part old new → take kept bytes ≡ window first kept old → take kept bytes ≡ window first kept new
-read-apart first kept at bytes part old new apart changes read = read ∙ sym (changes.others first kept apart)
-
 -- no bytes were read
 pub read-none : (first : ℕ) (bytes contents : List ℕ) → take 0 bytes ≡ window first 0 contents
 unfolding window
 read-none first bytes contents = refl
-
--- what a read found stands in front of what was there before
-pub read-found : (at many : ℕ) (got rest contents : List ℕ) → many ≤ length got → take many got ≡ window at many contents → take many (got ++ rest) ≡ window at many contents
-read-found at many got rest contents short found = take-append-le many got rest short ∙ found

@@ -1,4 +1,5 @@
-ghost use Rattle.std.specs.Prelude.{◌≡◌, ◌+◌, ◌%◌, ◌^◌, ◌<◌, ◌≤◌, length, is_ok, IsTrue, IsFalse, IsErr, OnOk, OnErr, IfOk};
+ghost use Rattle.std.specs.Prelude.{◌≡◌, ◌+◌, ◌%◌, ◌^◌, ◌<◌, ◌≤◌, length, is_ok, IsTrue, IsFalse};
+ghost use Rattle.std.specs.Prelude.{IsErr, OnOk, OnErr, IfOk};
 ghost use Rattle.nm_replay.specs.declared.block.TheConstants.{BLOCK_BYTES};
 ghost use Rattle.nm_leg.specs.Leg.{ReadsLeg, WritesLeg, SyncsLeg};
 ghost use Rattle.nm_file_leg.specs.Places.{HasPlaces};

@@ -6,7 +6,7 @@ use std::io;
 
 /// An honest medium in memory.
 ///
-/// It keeps the length that it is made with: what is written behind its end is not kept. A sync
+/// It keeps the length that it is made with: what is written past its end is not kept. A sync
 /// does nothing: what the medium holds counts as durable at once.
 #[derive(Drop)]
 pub struct MemMedium {

@@ -14,7 +14,7 @@ const NEAR: u64 = 8 * 512;
 /// A medium that reads ahead where reads follow one another.
 ///
 /// It reads to the end of a region at once, and keeps what it found for the reads to come. It holds
-/// no write back, and behind a call that failed it keeps nothing.
+/// no write back, and after a call that failed it keeps nothing.
 #[derive(Drop)]
 pub struct ReadAhead<M: Medium> {
     medium: M,

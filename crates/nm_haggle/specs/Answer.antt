@@ -1,6 +1,7 @@
 -- What each option is answered with, and what comes after it ("Option types", "Option reply
 -- types").
-use Rattle.std.specs.Prelude.{◌≡◌, ℕ, ◌+◌, ◌*◌, ◌^◌, ◌<◌, Bool, true, false, ◌==◌, ◌||◌, if◌then◌else◌, List, [], ◌++◌, length, take, drop, replicate}
+use Rattle.std.specs.Prelude.{◌≡◌, ℕ, ◌+◌, ◌*◌, ◌^◌, ◌<◌, Bool, true, false, ◌==◌, ◌||◌}
+use Rattle.std.specs.Prelude.{if◌then◌else◌, List, [], ◌++◌, length, take, drop, replicate}
 use Rattle.std.specs.Str.{bytes_eq}
 use Rattle.std.specs.Int.{w16, w32, from_be_bytes}
 use Rattle.nm_wire.specs.Number.{be}

@@ -2,8 +2,10 @@
 use Rattle.std.specs.Prelude.{◌≡◌, ℕ, ◌+◌, ◌≤◌, List, ◌++◌, length, take, drop}
 use Rattle.nm_wire.specs.declared.option_head.OptionHead.{OptionHead}
 use Rattle.nm_haggle.specs.declared.first_option.FirstOption.{FirstOption}
-use Rattle.nm_haggle.specs.declared.first_option.FirstOption.TheVariants.{Unfinished, Refused, Whole}
-use Rattle.nm_haggle.specs.ClientOption.{ClientOption, option_bytes, IsAccepted, IsUnfinished, IsRefused}
+use Rattle.nm_haggle.specs.declared.first_option.FirstOption.TheVariants.{Unfinished, Refused}
+use Rattle.nm_haggle.specs.declared.first_option.FirstOption.TheVariants.{Whole}
+use Rattle.nm_haggle.specs.ClientOption.{ClientOption, option_bytes, IsAccepted, IsUnfinished}
+use Rattle.nm_haggle.specs.ClientOption.{IsRefused}
 
 -- the option with this header that a text begins with
 abbrev pub option_at : OptionHead → List ℕ → ClientOption

@@ -7,7 +7,9 @@ use Rattle.nm_haggle.specs.declared.next.Next.TheVariants as next
 use Rattle.nm_haggle.specs.declared.phase.Phase.{Phase}
 use Rattle.nm_haggle.specs.declared.phase.Phase.TheVariants as phase
 use Rattle.nm_haggle.specs.ClientOption.{IsUnfinished}
-use Rattle.nm_haggle.specs.Handshake.{Options, Handshake, Destination, IsOptions, IsHandshake, options_bytes, handshake_bytes, options_destination, handshake_destination}
+use Rattle.nm_haggle.specs.Handshake.{Options, Handshake, Destination, IsOptions, IsHandshake}
+use Rattle.nm_haggle.specs.Handshake.{options_bytes, handshake_bytes, options_destination}
+use Rattle.nm_haggle.specs.Handshake.{handshake_destination}
 
 -- the greeting: two magic numbers, and the flags FIXED_NEWSTYLE and NO_ZEROES ("Handshake flags")
 abbrev pub greeting_bytes : List ℕ

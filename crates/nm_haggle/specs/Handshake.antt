@@ -1,6 +1,7 @@
 -- A client's text in the handshake as a tree, its bytes, and where it leads ("Fixed newstyle
 -- negotiation").
-use Rattle.std.specs.Prelude.{◌≡◌, ◌≢◌, ℕ, ◌<◌, ◌≤◌, ◌^◌, Bool, false, ◌==◌, bit_and, List, [], ◌++◌, length}
+use Rattle.std.specs.Prelude.{◌≡◌, ◌≢◌, ℕ, ◌<◌, ◌≤◌, ◌^◌, Bool, false, ◌==◌, bit_and, List, []}
+use Rattle.std.specs.Prelude.{◌++◌, length}
 use Rattle.std.specs.List.{flat_map, AllByRecursion}
 use Rattle.nm_wire.specs.Number.{be}
 use Rattle.nm_wire.specs.declared.export.Export.{Export}
@@ -8,7 +9,8 @@ use Rattle.nm_haggle.specs.declared.next.Next.{Next}
 use Rattle.nm_haggle.specs.declared.next.Next.TheVariants.{More, Close}
 use Rattle.nm_haggle.specs.declared.phase.Phase.{Phase}
 use Rattle.nm_haggle.specs.declared.phase.Phase.TheVariants as phase
-use Rattle.nm_haggle.specs.ClientOption.{ClientOption, option_bytes, IsAccepted, IsUnfinished, IsRefused}
+use Rattle.nm_haggle.specs.ClientOption.{ClientOption, option_bytes, IsAccepted, IsUnfinished}
+use Rattle.nm_haggle.specs.ClientOption.{IsRefused}
 use Rattle.nm_haggle.specs.Answer.{answer_to}
 
 -- how options end: with an incomplete one, with one that ends the haggling, or with a header that

@@ -5,7 +5,8 @@ use Rattle.nm_wire.specs.declared.export.Export.{Export}
 use Rattle.nm_haggle.specs.declared.next.Next.TheVariants.{More}
 use Rattle.nm_haggle.specs.ClientOption.{ClientOption, option_bytes, IsAccepted}
 use Rattle.nm_haggle.specs.Answer.{information_bytes, IsInformation, adds_up, asked_name}
-use Rattle.nm_haggle.specs.Haggling.{Haggling, Response, HagglesFrom, Haggles, IsOver, IsAwaited, End, end_at, initial_state}
+use Rattle.nm_haggle.specs.Haggling.{Haggling, Response, HagglesFrom, Haggles, IsOver, IsAwaited}
+use Rattle.nm_haggle.specs.Haggling.{End, end_at, initial_state}
 
 -- each item is a byte
 abbrev pub AreBytes : List ℕ → Type 0

@@ -1,6 +1,8 @@
 //! What each option is answered with.
 ghost use Rattle.std.specs.Prelude.{◌≡◌, ◌≢◌, true, false, IfOk, OnErr, MatchOption};
-ghost use Rattle.nm_haggle.specs.Answer.{IsAnswered, answer_to, answer_to_export_name, answer_to_list, answer_to_information, refusal, is_known, adds_up, asked_name};
+ghost use Rattle.nm_haggle.specs.Answer.{IsAnswered, answer_to, answer_to_export_name};
+ghost use Rattle.nm_haggle.specs.Answer.{answer_to_list, answer_to_information, refusal, is_known};
+ghost use Rattle.nm_haggle.specs.Answer.{adds_up, asked_name};
 ghost use Rattle.nm_haggle.specs.Output.{BeginsWith};
 
 use crate::next::Next;

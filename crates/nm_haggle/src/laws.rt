@@ -1,5 +1,7 @@
 //! What the definitions of the haggling say, as contracts of functions without a body.
-ghost use Rattle.nm_haggle.specs.Laws.{NoOptionBeginsAnother, OneResponse, OneAnswer, SomeResponse, SomeAnswer, GoesOn, GoesOnOnlySo, EndsThere, HoweverCut, OverAfterAnEnd, InformationAddsUp, OnlyInformationAddsUp};
+ghost use Rattle.nm_haggle.specs.Laws.{NoOptionBeginsAnother, OneResponse, OneAnswer, SomeResponse};
+ghost use Rattle.nm_haggle.specs.Laws.{SomeAnswer, GoesOn, GoesOnOnlySo, EndsThere, HoweverCut};
+ghost use Rattle.nm_haggle.specs.Laws.{OverAfterAnEnd, InformationAddsUp, OnlyInformationAddsUp};
 
 /// Bytes begin with at most one option, and the bytes after it are the same.
 pub fn no_option_begins_another()

@@ -1,7 +1,8 @@
 //! The bytes of the replies to options, each appended to the output. At an error a part
 //! of a reply may follow it.
 ghost use Rattle.std.specs.Prelude.{◌≡◌, ◌<◌, ◌≤◌, ◌^◌, ◌++◌, [], length, OnOk, OnErr};
-ghost use Rattle.nm_haggle.specs.Answer.{reply, size_and_flags, closing_zeroes, export_information, block_sizes, information_replies};
+ghost use Rattle.nm_haggle.specs.Answer.{reply, size_and_flags, closing_zeroes, export_information};
+ghost use Rattle.nm_haggle.specs.Answer.{block_sizes, information_replies};
 ghost use Rattle.nm_wire.specs.Number.{be};
 ghost use Rattle.nm_wire.specs.Layout.{option_reply_bytes};
 ghost use Rattle.nm_wire.specs.ReplyKind.{reply_number};

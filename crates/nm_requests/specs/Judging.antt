@@ -1,5 +1,6 @@
 -- How a request is judged against an export: by a table whose first row that applies decides.
-use Rattle.std.specs.Prelude.{◌≡◌, ℕ, ◌+◌, ◌^◌, ◌<◌, ◌≤◌, Bool, true, not, ◌&&◌, ◌||◌, List, [], ◌∷◌, ◌==◌, nat_lt, bit_and, Result, Ok, Err}
+use Rattle.std.specs.Prelude.{◌≡◌, ℕ, ◌+◌, ◌^◌, ◌<◌, ◌≤◌, Bool, true, not, ◌&&◌, ◌||◌, List, []}
+use Rattle.std.specs.Prelude.{◌∷◌, ◌==◌, nat_lt, bit_and, Result, Ok, Err}
 use Rattle.std.specs.Bool.{MatchBool}
 use Rattle.nm_wire.specs.declared.command.Command.TheVariants as command
 use Rattle.nm_wire.specs.declared.command.Command.{Command}

@@ -1,7 +1,7 @@
 -- What a reader's fields say of the stream.
 use Rattle.std.specs.Prelude.{ℕ, ◌≤◌, List, [], Option, Some, None, IfSome}
 use Rattle.bytes.specs.Filled.{Filled}
-use Rattle.nm_requests.specs.declared.reader.RequestReader.TheInside.{Inside}
+use Rattle.nm_requests.specs.declared.request_reader.RequestReader.TheInside.{Inside}
 use Rattle.nm_requests.specs.Reader.{Unread}
 use Rattle.nm_requests.specs.Stream.{EndsAs, most_requests}
 

@@ -1,5 +1,6 @@
 //! Laws of the definitions: what the contracts of single calls say, they say of whole streams.
-ghost use Rattle.std.specs.Prelude.{◌≡◌, ◌<◌, ◌++◌, ◌⊎◌, ℕ, Bool, slice_index, List, length, Option, Some, Result};
+ghost use Rattle.std.specs.Prelude.{◌≡◌, ◌<◌, ◌++◌, ◌⊎◌, ℕ, Bool, slice_index, List, length};
+ghost use Rattle.std.specs.Prelude.{Option, Some, Result};
 ghost use Rattle.nm_wire.specs.declared.export.Export.{Export};
 ghost use Rattle.nm_requests.specs.declared.fault.Fault.{Fault};
 ghost use Rattle.nm_requests.specs.declared.request.Request.{Request};
@@ -8,7 +9,8 @@ ghost use Rattle.nm_requests.specs.declared.task.Task.TheVariants.{Write};
 ghost use Rattle.nm_requests.specs.First.{message_of};
 ghost use Rattle.nm_requests.specs.Judging.{IsFirst, LiesInside, table};
 ghost use Rattle.nm_requests.specs.Message.{Message, IsMessage, message_bytes};
-ghost use Rattle.nm_requests.specs.Reader.{Unread, Call, Stopped, Reserved, IsNew, Stops, Step, Runs, bytes_fed, requests_out};
+ghost use Rattle.nm_requests.specs.Reader.{Unread, Call, Stopped, Reserved, IsNew, Stops, Step};
+ghost use Rattle.nm_requests.specs.Reader.{Runs, bytes_fed, requests_out};
 ghost use Rattle.nm_requests.specs.Stream.{StartsWith, Begins, EndsAs, IsStream, IsStreamAfter};
 
 /// No request begins another: bytes that begin with a request begin with no other.

@@ -7,8 +7,8 @@
 
 pub use fault::Fault;
 pub use judging::judge;
-pub use reader::RequestReader;
 pub use request::Request;
+pub use request_reader::RequestReader;
 pub use task::Task;
 
 mod blocks;
@@ -16,6 +16,6 @@ mod cutting;
 mod fault;
 mod judging;
 pub mod laws;
-mod reader;
 mod request;
+mod request_reader;
 mod task;

@@ -1,10 +1,10 @@
 -- With no buffer nothing is unread.
 use Rattle.std.proofs.Common.{◌≡◌, [], refl, arith, None}
-use Rattle.nm_requests.specs.declared.reader.RequestReader.TheInside.{Inside}
+use Rattle.nm_requests.specs.declared.request_reader.RequestReader.TheInside.{Inside}
 use Rattle.nm_requests.specs.ReaderFields.{unread_bytes, unread_of}
 use Rattle.nm_requests.specs.Reader.{Starves}
 use Rattle.nm_requests.proofs.FirstRequest.{unfinished_from_short}
-use Rattle.nm_requests.proofs.reader.RequestReader.next.Goals as goal
+use Rattle.nm_requests.proofs.request_reader.RequestReader.next.Goals as goal
 
 starves_without_buffer : (reader : Inside) → reader.fault ≡ None → reader.buffer ≡ None
     → Starves (unread_of reader) (unread_of reader)
