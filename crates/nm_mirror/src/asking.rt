@@ -35,11 +35,7 @@ fn may_be_asked<L: LegPart>(stripe: &Stripe<L>, step: &Step<L>) -> bool
 ///
 /// Of what stands behind a lock nothing is known but that it is a stripe. So a step that it may not
 /// be asked for is refused here, as one of a stripe that is not the part's.
-pub(crate) fn ask<L: LegPart>(
-    part: &mut Part<L>,
-    stripe: &mut Stripe<L>,
-    step: Step<L>,
-) -> Answer<L>
+pub fn ask<L: LegPart>(part: &mut Part<L>, stripe: &mut Stripe<L>, step: Step<L>) -> Answer<L>
     ensures step { AsksStripe (leg_type L.model L.honest) «step» result part.old
         stripe.old stripe.new }
     ensures acts { IsTrue L.honest → NoneHalted (result ∷ [])

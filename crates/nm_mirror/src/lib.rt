@@ -5,6 +5,7 @@
 //! compared in the end with what the passes counted.
 #![tactic(auto)]
 
+pub use asking::ask;
 pub use counts::{AttachCounts, FailCounts};
 pub use lock::Lock;
 pub use mirror::Mirror;

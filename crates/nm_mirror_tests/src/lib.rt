@@ -4,8 +4,22 @@
 #[cfg(test)]
 mod closing;
 #[cfg(test)]
+mod edges;
+#[cfg(test)]
+mod gates;
+#[cfg(test)]
+mod lanes;
+#[cfg(test)]
 mod legs;
+#[cfg(test)]
+mod meeting;
 #[cfg(test)]
 mod mirrors;
 #[cfg(test)]
+mod note_lane;
+#[cfg(test)]
 mod reading;
+#[cfg(test)]
+mod row;
+#[cfg(test)]
+mod threads;

@@ -1,9 +1,12 @@
 //! Mirrors to test, over legs in memory, and what is asked of them.
+ghost use Rattle.std.specs.Prelude.{◌≡◌, length};
+ghost use Rattle.nm_geometry.specs.Pieces.{LiesInside};
 
-use nm_geometry::Shape;
-use nm_lanes::{Cause, Gate};
+use bytes::Bytes;
+use nm_geometry::{ByteRange, Shape};
+use nm_lanes::{Cause, Gate, WriteFault};
 use nm_leg::{FuseLeg, LegPart};
-use nm_mirror::{Mirror, Pass, open_stripes};
+use nm_mirror::{Mirror, Pass, Totals, open_stripes};
 use nm_replay::BLOCK_BYTES;
 use nm_stripe::Policy;
 use std::alloc::Global;
@@ -33,12 +36,12 @@ fn legs_of(alloc: Global, shape: &Shape, first: FuseLeg) -> Result<Vec<FuseLeg>,
 }
 
 /// A mirror on these legs; leg 0 of each stripe is in sync, the others join.
-fn mirror_of<G: Gate + Drop>(
+pub fn mirror_of<L: LegPart, G: Gate + Drop>(
     alloc: Global,
     shape: Shape,
-    legs: Vec<Vec<FuseLeg>>,
+    legs: Vec<Vec<L>>,
     gate: G,
-) -> Result<Mirror<FuseLeg, G>, Fail> {
+) -> Result<Mirror<L, G>, Fail> {
     let Ok(stripes) = open_stripes(alloc, &shape, legs, 0, Policy::RoundRobin) else {
         return Err(Fail::new("no stripes"));
     };
@@ -48,18 +51,46 @@ fn mirror_of<G: Gate + Drop>(
     }
 }
 
+/// Legs of zeroes for each stripe of the shape.
+pub fn legs_of_zeroes(alloc: Global, shape: &Shape) -> Result<Vec<Vec<FuseLeg>>, Fail> {
+    let mut legs = Vec::new(alloc);
+    for stripe in 0..shape.stripes {
+        let first = FuseLeg::new(alloc, shape.stripe_blocks(stripe))?;
+        legs.push(legs_of(alloc, shape, first)?)?;
+    }
+    Ok(legs)
+}
+
 /// A mirror of zeroes; leg 0 of each stripe is in sync, the others join.
 pub fn zeroes<G: Gate + Drop>(
     alloc: Global,
     shape: Shape,
     gate: G,
 ) -> Result<Mirror<FuseLeg, G>, Fail> {
-    let mut legs = Vec::new(alloc);
-    for stripe in 0..shape.stripes {
-        let first = FuseLeg::new(alloc, shape.stripe_blocks(stripe))?;
-        legs.push(legs_of(alloc, &shape, first)?)?;
-    }
+    let legs = legs_of_zeroes(alloc, &shape)?;
     mirror_of(alloc, shape, legs, gate)
+}
+
+/// Copies to the legs that join until each leg is in sync.
+pub fn sync_up<R: Wait + Abort, L: LegPart, G: Gate + Drop>(rt: &R, mirror: &Mirror<L, G>) {
+    for _ in 0..100_000 {
+        if mirror.resync_turn(rt) == 0 {
+            return;
+        }
+    }
+    assert!(rt; false, "a leg does not come in sync");
+}
+
+/// A mirror of zeroes, each leg of it in sync.
+pub fn in_sync<R: Wait + Abort, G: Gate + Drop>(
+    rt: &R,
+    alloc: Global,
+    shape: Shape,
+    gate: G,
+) -> Result<Mirror<FuseLeg, G>, Fail> {
+    let mirror = zeroes(alloc, shape, gate)?;
+    sync_up(rt, &mirror);
+    Ok(mirror)
 }
 
 /// Writes a block of the export to the leg that it lies on.
@@ -94,28 +125,103 @@ pub fn numbered<R: Abort, G: Gate + Drop>(
 }
 
 /// A pass of the mirror.
-pub fn pass_of<R: Wait, G: Gate + Drop>(
+pub fn pass_of<R: Wait, L: LegPart, G: Gate + Drop>(
     rt: &R,
     alloc: Global,
-    mirror: &Mirror<FuseLeg, G>,
-) -> Result<Pass<FuseLeg>, Fail> {
+    mirror: &Mirror<L, G>,
+) -> Result<Pass<L>, Fail> {
     match mirror.pass(rt, alloc) {
         Ok(pass) => Ok(pass),
         Err(_) => Err(Fail::new("no pass")),
     }
 }
 
-/// Reads these bytes of the export, which must lie in it.
-pub fn read_at<R: Wait + Abort, G: Gate + Drop>(
+/// So many bytes, each this one; none where memory is refused.
+pub fn try_filled(alloc: Global, len: usize, byte: u8) -> Option<Bytes> {
+    let mut bytes = Vec::new(alloc);
+    bytes.resize(len, byte).ok()?;
+    Bytes::from_vec(bytes).ok()
+}
+
+/// So many bytes, each this one.
+pub fn filled(alloc: Global, len: usize, byte: u8) -> Result<Bytes, Fail> {
+    Ok(try_filled(alloc, len, byte).ok_or("no memory")?)
+}
+
+/// Stops the test where the pass does not fit the mirror, or the bytes do not lie in it.
+fn want_inside<R: Abort, L: LegPart, G: Gate + Drop>(
     rt: &R,
-    mirror: &Mirror<FuseLeg, G>,
-    pass: &mut Pass<FuseLeg>,
+    mirror: &Mirror<L, G>,
+    pass: &Pass<L>,
+    offset: u64,
+    len: u64,
+)
+    ensures pass { length pass.now.parts.items ≡ mirror.now.shape.stripes }
+    ensures inside { LiesInside (record { offset = offset; length = len }) mirror.now.shape }
+{
+    let range = ByteRange {
+        offset,
+        length: len,
+    };
+    assert!(rt; pass.stripes() == mirror.shape().stripes as usize);
+    assert!(rt; mirror.shape().holds(range));
+}
+
+/// Reads these bytes of the export, which must lie in it.
+pub fn read_at<R: Wait + Abort, L: LegPart, G: Gate + Drop>(
+    rt: &R,
+    mirror: &Mirror<L, G>,
+    pass: &mut Pass<L>,
     offset: u64,
     into: &mut [u8],
-) -> Result<Result<(), Cause>, Fail> {
-    let blocks = mirror.shape().blocks;
-    assert!(rt; pass.stripes() == mirror.shape().stripes as usize);
-    assert!(rt; blocks < 1 << 40 && offset < 1 << 50 && into.len() < 1 << 40);
-    assert!(rt; offset + into.len() as u64 <= BLOCK_BYTES as u64 * blocks);
-    Ok(mirror.read_at(rt, pass, offset, into))
+) -> Result<(), Cause> {
+    want_inside(rt, mirror, pass, offset, into.len() as u64);
+    mirror.read_at(rt, pass, offset, into)
+}
+
+/// Writes these bytes of the export, which must lie in it.
+pub fn write_at<R: Wait + Abort, L: LegPart, G: Gate + Drop>(
+    rt: &R,
+    alloc: Global,
+    mirror: &Mirror<L, G>,
+    pass: &mut Pass<L>,
+    offset: u64,
+    payload: Bytes,
+) -> Result<(), WriteFault> {
+    want_inside(rt, mirror, pass, offset, payload.len() as u64);
+    mirror.write_at(rt, alloc, pass, offset, payload)
+}
+
+/// Writes zeroes to these bytes of the export, which must lie in it.
+pub fn zero_at<R: Wait + Abort, L: LegPart, G: Gate + Drop>(
+    rt: &R,
+    mirror: &Mirror<L, G>,
+    pass: &mut Pass<L>,
+    offset: u64,
+    len: u64,
+) -> Result<(), Cause> {
+    want_inside(rt, mirror, pass, offset, len);
+    mirror.zero_at(rt, pass, offset, len)
+}
+
+/// Syncs each leg of every stripe.
+pub fn flush<R: Wait + Abort, L: LegPart, G: Gate + Drop>(
+    rt: &R,
+    mirror: &Mirror<L, G>,
+    pass: &mut Pass<L>,
+) -> Result<(), Cause> {
+    want_inside(rt, mirror, pass, 0, 0);
+    mirror.flush(rt, pass)
+}
+
+/// Closes the mirror where it is to be even.
+pub fn closed<L: LegPart, G: Gate + Drop>(
+    alloc: Global,
+    mirror: Mirror<L, G>,
+    passes: Vec<Pass<L>>,
+) -> Result<Totals<L>, Fail> {
+    match mirror.close(alloc, passes) {
+        Ok(totals) => Ok(totals),
+        Err(_) => Err(Fail::new("not closed")),
+    }
 }

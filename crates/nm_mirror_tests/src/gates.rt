@@ -1,0 +1,293 @@
+//! Calls of two threads, of which a gate or a leg holds one until the other has its answer; and
+//! what a call does on its way past a copy.
+
+use crate::meeting::{Meeting, TURNS};
+use crate::mirrors::{
+    closed, filled, in_sync, mirror_of, pass_of, read_at, shape, write_at, zeroes,
+};
+use bytes::Bytes;
+use nm_lanes::{CallKind, Gate, Place, StepKind};
+use nm_leg::{FuseLeg, Hold, HoldLeg, LegPart, MemLeg};
+use nm_mirror::{Mirror, Pass};
+use nm_replay::{Block, Entry, Kind};
+use std::alloc::Global;
+use std::process::Abort;
+use std::sync::atomic::{AtomicU64, Ordering};
+use std::sync::{Arc, Wait};
+use std::test::Fail;
+use std::thread::join;
+
+/// Holds the first pass behind the first push of its write, and counts the second's steps.
+#[derive(Drop)]
+struct AfterAPush {
+    meeting: Meeting,
+    pushes: AtomicU64,
+    reads_of_second: AtomicU64,
+    pushes_of_second: AtomicU64,
+}
+
+impl AfterAPush {
+    fn new() -> Self {
+        AfterAPush {
+            meeting: Meeting::new(),
+            pushes: AtomicU64::new(0),
+            reads_of_second: AtomicU64::new(0),
+            pushes_of_second: AtomicU64::new(0),
+        }
+    }
+}
+
+/// Counts one more.
+fn count(counter: &AtomicU64) -> u64 {
+    counter.fetch_add(1, Ordering::SeqCst)
+}
+
+impl Gate for AfterAPush {
+    fn between(&self, place: &Place) {
+        match (place.pass, place.step) {
+            (Some(0), StepKind::Push) => {
+                if count(&self.pushes) == 0 {
+                    self.meeting.hold();
+                }
+            }
+            (Some(1), StepKind::Push) => {
+                count(&self.pushes_of_second);
+            }
+            (Some(1), StepKind::Read) => {
+                count(&self.reads_of_second);
+            }
+            _ => {}
+        }
+    }
+}
+
+/// Reads a block: whether each of its bytes is this one.
+fn finds<R: Wait + Abort, L: LegPart, G: Gate + Drop>(
+    rt: &R,
+    mirror: &Mirror<L, G>,
+    pass: &mut Pass<L>,
+    block: u64,
+    byte: u8,
+) -> bool {
+    let mut into = [byte ^ 0xff; 512];
+    assert!(rt; block < 1 << 20);
+    read_at(rt, mirror, pass, 512 * block, &mut into).is_ok() && into == [byte; 512]
+}
+
+/// Writes block 3: whether it was written.
+fn writes_block_3<R: Wait + Abort>(
+    rt: &R,
+    alloc: Global,
+    mirror: &Mirror<FuseLeg, AfterAPush>,
+    pass: &mut Pass<FuseLeg>,
+    payload: Bytes,
+) -> bool {
+    write_at(rt, alloc, mirror, pass, 3 * 512, payload).is_ok()
+}
+
+/// Reads block 3 while the write of it is held: whether it is found, and the write is let go.
+fn reads_block_3<R: Wait + Abort>(
+    rt: &R,
+    mirror: &Mirror<FuseLeg, AfterAPush>,
+    pass: &mut Pass<FuseLeg>,
+) -> bool {
+    mirror.gate().meeting.start();
+    let found = finds(rt, mirror, pass, 3, 0xaa);
+    mirror.gate().meeting.let_go();
+    found
+}
+
+#[test]
+fn a_read_answers_while_a_write_is_under_way(rt: HostRuntime) -> Result<(), Fail> {
+    let alloc = rt.alloc();
+    let mirror = in_sync(&rt, alloc, shape(8, 4, 2, 1, 2)?, AfterAPush::new())?;
+    let mut writer = pass_of(&rt, alloc, &mirror)?;
+    let mut reader = pass_of(&rt, alloc, &mirror)?;
+    let payload = filled(alloc, 512, 0xaa)?;
+    let (written, found) = join(
+        &rt,
+        || writes_block_3(&rt, alloc, &mirror, &mut writer, payload),
+        || reads_block_3(&rt, &mirror, &mut reader),
+    );
+    assert!(rt; written && found && mirror.gate().meeting.was_in_time());
+    Ok(())
+}
+
+/// Takes leg 0 out while the write of block 3 is held, and reads block 3: whether that is found,
+/// and the write is let go.
+fn fails_the_master<R: Wait + Abort>(
+    rt: &R,
+    mirror: &Mirror<FuseLeg, AfterAPush>,
+    pass: &mut Pass<FuseLeg>,
+) -> bool {
+    mirror.gate().meeting.start();
+    assert!(rt; mirror.shape().legs == 3);
+    let failed = mirror.fail_leg(rt, 0).failed;
+    let found = finds(rt, mirror, pass, 3, 0xaa);
+    mirror.gate().meeting.let_go();
+    failed == 1 && found
+}
+
+/// Looks at the entries that the only stripe keeps.
+fn check_kept<R: Wait + Abort, G: Gate + Drop>(
+    rt: &R,
+    alloc: Global,
+    mirror: &Mirror<FuseLeg, G>,
+    want: [Entry; 2],
+) -> Result<(), Fail> {
+    assert!(rt; mirror.shape().stripes == 1);
+    let kept = mirror.kept(rt, alloc, 0)?;
+    assert_eq!(rt; kept.len(), 2);
+    for (entry, wanted) in kept.iter().zip(want) {
+        assert_eq!(rt; *entry, wanted);
+    }
+    Ok(())
+}
+
+/// The entry of this number, on block 3.
+fn entry(seq: u64, kind: Kind) -> Entry {
+    Entry {
+        seq,
+        kind,
+        block: 3,
+        bytes: Block([0xaa; 512]),
+    }
+}
+
+#[test]
+fn a_read_finishes_a_write_whose_master_is_lost(rt: HostRuntime) -> Result<(), Fail> {
+    let alloc = rt.alloc();
+    let mirror = in_sync(&rt, alloc, shape(8, 4, 2, 1, 3)?, AfterAPush::new())?;
+    let mut writer = pass_of(&rt, alloc, &mirror)?;
+    let mut reader = pass_of(&rt, alloc, &mirror)?;
+    let payload = filled(alloc, 512, 0xaa)?;
+    let (written, found) = join(
+        &rt,
+        || writes_block_3(&rt, alloc, &mirror, &mut writer, payload),
+        || fails_the_master(&rt, &mirror, &mut reader),
+    );
+    let gate = mirror.gate();
+    assert!(rt; written && found && gate.meeting.was_in_time());
+    // Refused while the failover is not over, it pushed the write to each of the legs 1 and 2.
+    assert_eq!(rt; gate.pushes_of_second.load(Ordering::SeqCst), 2);
+    assert_eq!(rt; gate.reads_of_second.load(Ordering::SeqCst), 3);
+    check_kept(
+        &rt,
+        alloc,
+        &mirror,
+        [entry(0, Kind::Write(0)), entry(1, Kind::Read)],
+    )?;
+    let mut passes = Vec::new(alloc);
+    passes.push(writer)?;
+    passes.push(reader)?;
+    for end in closed(alloc, mirror, passes)?.ends() {
+        assert_eq!(rt; (end.total(), end.left()), (2, 0));
+    }
+    Ok(())
+}
+
+/// Holds the calls of one stripe's leg.
+#[derive(Drop)]
+struct StripeHold {
+    meeting: Arc<Meeting, Global>,
+    holds: bool,
+}
+
+impl Hold for StripeHold {
+    fn is_held(&self) -> bool {
+        self.holds && self.meeting.is_held()
+    }
+}
+
+/// A leg whose calls are held in one stripe.
+type Held = HoldLeg<MemLeg, StripeHold>;
+
+/// The gate that counts the begins and copies of a write.
+#[derive(Drop)]
+struct Counting {
+    begins: AtomicU64,
+    copies: AtomicU64,
+}
+
+impl Gate for Counting {
+    fn between(&self, place: &Place) {
+        match (place.call, place.step) {
+            (CallKind::Write, StepKind::Begin) => {
+                count(&self.begins);
+            }
+            (CallKind::Write, StepKind::Copy) => {
+                count(&self.copies);
+            }
+            _ => {}
+        }
+    }
+}
+
+#[test]
+fn a_write_copies_the_chunk_that_stands_in_its_way(rt: HostRuntime) -> Result<(), Fail> {
+    let alloc = rt.alloc();
+    let gate = Counting {
+        begins: AtomicU64::new(0),
+        copies: AtomicU64::new(0),
+    };
+    let mirror = zeroes(alloc, shape(8, 4, 2, 1, 2)?, gate)?;
+    let mut pass = pass_of(&rt, alloc, &mirror)?;
+    assert_eq!(rt; mirror.resync_turn(&rt), 1);
+    let payload = filled(alloc, 512, 0xbb)?;
+    assert!(rt; write_at(&rt, alloc, &mirror, &mut pass, 0, payload).is_ok());
+    assert_eq!(rt; mirror.gate().begins.load(Ordering::SeqCst), 4);
+    assert_eq!(rt; mirror.gate().copies.load(Ordering::SeqCst), 3);
+    for told in &mirror.status(&rt, alloc)? {
+        let text = told.to_string(alloc)?;
+        assert_eq!(rt; text.as_str(), "master 0 settling no legs in join(6)");
+    }
+    assert!(rt; finds(&rt, &mirror, &mut pass, 0, 0xbb));
+    Ok(())
+}
+
+/// Two stripes of four blocks, of one leg each; the calls of stripe 0's are held.
+fn held_in_stripe_0(
+    alloc: Global,
+    meeting: &Arc<Meeting, Global>,
+) -> Result<Mirror<Held, nm_lanes::NoGate>, Fail> {
+    let mut legs = Vec::new(alloc);
+    for holds in [true, false] {
+        let hold = StripeHold {
+            meeting: Arc::try_clone(meeting)?,
+            holds,
+        };
+        let mut own = Vec::new(alloc);
+        own.push(HoldLeg::new(MemLeg::new(alloc, 4)?, hold, TURNS as u32))?;
+        legs.push(own)?;
+    }
+    mirror_of(alloc, shape(8, 4, 2, 2, 1)?, legs, nm_lanes::NoGate)
+}
+
+/// Reads a block of stripe 1 while a call of stripe 0's leg is held, and lets that go.
+fn reads_other_stripe<R: Wait + Abort>(
+    rt: &R,
+    mirror: &Mirror<Held, nm_lanes::NoGate>,
+    pass: &mut Pass<Held>,
+    meeting: &Meeting,
+) -> bool {
+    meeting.start();
+    let found = finds(rt, mirror, pass, 4, 0);
+    meeting.let_go();
+    found
+}
+
+#[test]
+fn a_stripe_answers_while_another_is_locked(rt: HostRuntime) -> Result<(), Fail> {
+    let alloc = rt.alloc();
+    let meeting = Arc::new(alloc, Meeting::new())?;
+    let mirror = held_in_stripe_0(alloc, &meeting)?;
+    let mut first = pass_of(&rt, alloc, &mirror)?;
+    let mut second = pass_of(&rt, alloc, &mirror)?;
+    let (found, other) = join(
+        &rt,
+        || finds(&rt, &mirror, &mut first, 0, 0),
+        || reads_other_stripe(&rt, &mirror, &mut second, &meeting),
+    );
+    assert!(rt; found && other && meeting.was_in_time());
+    Ok(())
+}

@@ -1,0 +1,239 @@
+//! The steps that calls do, as a lane notes them.
+ghost use Rattle.std.specs.Prelude.{◌≡◌, ◌≤◌, length};
+ghost use Rattle.nm_geometry.specs.Pieces.{LiesInside};
+
+use crate::mirrors::{filled, legs_of_zeroes, shape};
+use crate::note_lane::{Door, Note, NoteLane, done};
+use nm_geometry::{ByteRange, Shape};
+use nm_lanes::{
+    Cause, CauseKind, Gate, NoGate, Place, StepKind, WriteFault, flush_by, sync_by, write_by,
+};
+use nm_leg::FuseLeg;
+use nm_mirror::open_stripes;
+use nm_part::Part;
+use nm_stripe::{Policy, Step};
+use std::alloc::Global;
+use std::process::Abort;
+use std::sync::{Mutex, Wait};
+use std::test::Fail;
+
+/// Stripes of zeroes behind locks, with their lanes. Leg 0 of each is in sync, the others join.
+#[derive(Drop)]
+struct Lanes {
+    shape: Shape,
+    locks: Vec<Door>,
+    lanes: Vec<NoteLane>,
+}
+
+/// Such stripes of this shape.
+fn opened<R: Wait>(rt: &R, alloc: Global, shape: Shape) -> Result<Lanes, Fail> {
+    let legs = legs_of_zeroes(alloc, &shape)?;
+    let Ok(stripes) = open_stripes(alloc, &shape, legs, 0, Policy::RoundRobin) else {
+        return Err(Fail::new("no stripes"));
+    };
+    let mut locks = Vec::new(alloc);
+    let mut lanes = Vec::new(alloc);
+    for stripe in stripes {
+        let lock = Mutex::new(stripe);
+        lanes.push(NoteLane::of(rt, alloc, &lock))?;
+        locks.push(lock)?;
+    }
+    Ok(Lanes {
+        shape,
+        locks,
+        lanes,
+    })
+}
+
+/// Stops the test where there is not one lock and one lane a stripe, or the bytes do not lie in
+/// the export.
+fn want_lanes<R: Abort>(rt: &R, on: &Lanes, offset: u64, len: u64)
+    ensures locks { length on.now.locks.items ≡ on.now.shape.stripes }
+    ensures lanes { length on.now.lanes.items ≡ on.now.shape.stripes }
+    ensures inside { LiesInside (record { offset = offset; length = len }) on.now.shape }
+{
+    let stripes = on.shape.stripes as usize;
+    let range = ByteRange {
+        offset,
+        length: len,
+    };
+    assert!(rt; on.locks.len() == stripes && on.lanes.len() == stripes);
+    assert!(rt; on.shape.holds(range));
+}
+
+/// Writes so many bytes of one value.
+fn write<R: Wait + Abort, G: Gate>(
+    rt: &R,
+    alloc: Global,
+    on: &mut Lanes,
+    gate: &G,
+    offset: u64,
+    len: usize,
+) -> Result<Result<(), WriteFault>, Fail> {
+    let payload = filled(alloc, len, 0xaa)?;
+    want_lanes(rt, on, offset, payload.len() as u64);
+    let lanes = on.lanes.as_mut_slice();
+    Ok(write_by(
+        rt,
+        alloc,
+        &on.shape,
+        gate,
+        Some(0),
+        &on.locks,
+        lanes,
+        offset,
+        payload,
+    ))
+}
+
+/// Compares what a lane noted.
+fn check_notes<R: Abort>(rt: &R, on: &Lanes, stripe: usize, want: &[Note]) {
+    assert!(rt; stripe < on.lanes.len());
+    let notes = on.lanes[stripe].notes();
+    assert_eq!(rt; notes.len(), want.len(), "stripe {stripe}");
+    for (note, wanted) in notes.iter().zip(want) {
+        assert_eq!(rt; *note, *wanted, "stripe {stripe}");
+    }
+}
+
+/// The three steps of a write of this block under this ticket.
+fn written(block: u64, ticket: u64) -> [Note; 3] {
+    [
+        done(StepKind::Begin, block),
+        done(StepKind::Push, ticket),
+        done(StepKind::Claim, ticket),
+    ]
+}
+
+/// The steps of so many writes, one behind the other, from this block and from ticket 0 on.
+fn all_written(alloc: Global, from: u64, count: u64) -> Result<Vec<Note>, Fail> {
+    let mut notes = Vec::new(alloc);
+    for ticket in 0..count {
+        notes.extend_from_slice(&written(from.wrapping_add(ticket), ticket))?;
+    }
+    Ok(notes)
+}
+
+// From the middle of block 3 to that of block 8: stripe 0 has blocks 3 and 8, stripe 1 has those
+// between.
+#[test]
+fn a_write_claims_each_block_before_the_next_begins(rt: HostRuntime) -> Result<(), Fail> {
+    let alloc = rt.alloc();
+    let mut on = opened(&rt, alloc, shape(11, 4, 2, 2, 2)?)?;
+    let written = write(&rt, alloc, &mut on, &NoGate, 3 * 512 + 256, 5 * 512)?;
+    assert!(rt; written.is_ok());
+    check_notes(&rt, &on, 0, &all_written(alloc, 3, 2)?);
+    check_notes(&rt, &on, 1, &all_written(alloc, 0, 4)?);
+    Ok(())
+}
+
+const BOTH_SYNCED: [Note; 2] = [
+    Note {
+        kind: StepKind::Sync,
+        at: 0,
+        refusal: None,
+    },
+    Note {
+        kind: StepKind::Sync,
+        at: 1,
+        refusal: None,
+    },
+];
+
+/// Syncs the stripes of so many bytes.
+fn sync<R: Wait + Abort>(rt: &R, on: &mut Lanes, offset: u64, len: u64) -> Result<(), Cause> {
+    want_lanes(rt, on, offset, len);
+    let lanes = on.lanes.as_mut_slice();
+    sync_by(rt, &on.shape, &NoGate, None, &on.locks, lanes, offset, len)
+}
+
+#[test]
+fn a_sync_reaches_each_leg_of_the_stripes_that_are_touched(rt: HostRuntime) -> Result<(), Fail> {
+    let alloc = rt.alloc();
+    for (offset, len, first, second) in [
+        (0, 0, 0, 0),
+        (0, 1, 2, 0),
+        (2047, 1, 2, 0),
+        (2047, 2, 2, 2),
+        (2048, 2048, 0, 2),
+        (4095, 2, 2, 2),
+        (4096, 1536, 2, 0),
+        (0, 5632, 2, 2),
+    ] {
+        assert!(rt; first <= 2 && second <= 2);
+        let mut on = opened(&rt, alloc, shape(11, 4, 2, 2, 2)?)?;
+        assert!(rt; sync(&rt, &mut on, offset, len).is_ok());
+        check_notes(&rt, &on, 0, &BOTH_SYNCED[..first]);
+        check_notes(&rt, &on, 1, &BOTH_SYNCED[..second]);
+    }
+    Ok(())
+}
+
+/// Syncs every stripe.
+fn flush<R: Wait + Abort>(rt: &R, on: &mut Lanes) -> Result<(), Cause> {
+    want_lanes(rt, on, 0, 0);
+    let lanes = on.lanes.as_mut_slice();
+    flush_by(rt, &on.shape, &NoGate, None, &on.locks, lanes)
+}
+
+#[test]
+fn a_flush_reaches_each_leg_of_every_stripe(rt: HostRuntime) -> Result<(), Fail> {
+    let alloc = rt.alloc();
+    let mut on = opened(&rt, alloc, shape(11, 4, 2, 2, 2)?)?;
+    assert!(rt; flush(&rt, &mut on).is_ok());
+    check_notes(&rt, &on, 0, &BOTH_SYNCED);
+    check_notes(&rt, &on, 1, &BOTH_SYNCED);
+    Ok(())
+}
+
+/// Claims ticket 0 behind each push, by a part of its own.
+#[derive(Drop)]
+struct Claiming<'a, R: Wait> {
+    rt: &'a R,
+    lock: &'a Door,
+    part: Mutex<Part<FuseLeg>>,
+}
+
+impl<R: Wait> Gate for Claiming<'_, R> {
+    fn between(&self, place: &Place) {
+        if place.step == StepKind::Push {
+            let mut part = self.part.lock(self.rt);
+            let mut stripe = self.lock.lock(self.rt);
+            let _ = part.step(&mut stripe, Step::Claim(0));
+        }
+    }
+}
+
+/// Writes block 0 of the only stripe, while somebody else claims what the write pushes.
+fn write_beside_a_claim<R: Wait + Abort>(
+    rt: &R,
+    alloc: Global,
+    on: &mut Lanes,
+) -> Result<Result<(), WriteFault>, Fail> {
+    let payload = filled(alloc, 512, 0xaa)?;
+    want_lanes(rt, on, 0, payload.len() as u64);
+    assert!(rt; on.locks.len() == 1);
+    let lock = &on.locks[0];
+    let gate = Claiming {
+        rt,
+        lock,
+        part: Mutex::new(Part::of(&lock.lock(rt))),
+    };
+    let lanes = on.lanes.as_mut_slice();
+    Ok(write_by(
+        rt, alloc, &on.shape, &gate, None, &on.locks, lanes, 0, payload,
+    ))
+}
+
+#[test]
+fn a_write_that_somebody_else_claimed_has_no_record(rt: HostRuntime) -> Result<(), Fail> {
+    let alloc = rt.alloc();
+    let mut on = opened(&rt, alloc, shape(8, 4, 2, 1, 1)?)?;
+    let gone = Cause {
+        stripe: 0,
+        kind: CauseKind::NoTicket,
+    };
+    let written = write_beside_a_claim(&rt, alloc, &mut on)?;
+    assert_eq!(rt; written, Err(WriteFault::Io(gone)));
+    Ok(())
+}

@@ -1,0 +1,120 @@
+//! A lane that notes its steps, and calls over such lanes.
+ghost use Rattle.std.specs.Prelude.{◌≡◌, [], ◌∷◌, length};
+ghost use Rattle.nm_lanes.specs.Done.{done_as};
+ghost use Rattle.nm_lanes.specs.Fits.{AnswerFits};
+ghost use Rattle.nm_mirror.specs.Counting.{part_behind};
+
+use nm_lanes::{Lane, StepKind};
+use nm_leg::FuseLeg;
+use nm_mirror::ask;
+use nm_part::Part;
+use nm_stripe::{Answer, Refusal, Step, Stripe};
+use std::alloc::Global;
+use std::marker::Model;
+use std::sync::{Mutex, Wait};
+
+/// What a step was, and what came of it.
+#[derive(Clone, Copy, Debug, PartialEq, Eq)]
+pub struct Note {
+    /// Its kind.
+    pub kind: StepKind,
+    /// Its block, its ticket or its leg.
+    pub at: u64,
+    /// Why it was refused, if it was.
+    pub refusal: Option<Refusal>,
+}
+
+/// A step of this kind that was done.
+pub fn done(kind: StepKind, at: u64) -> Note {
+    Note {
+        kind,
+        at,
+        refusal: None,
+    }
+}
+
+/// The lock of a stripe in these tests.
+pub type Door = Mutex<Stripe<FuseLeg>>;
+
+/// The part of a pass as a lane over its stripe's lock, which notes each of its steps.
+#[derive(Drop)]
+pub struct NoteLane {
+    part: Part<FuseLeg>,
+    notes: Vec<Note>,
+}
+
+impl Model for NoteLane {
+    ghost use Rattle.nm_part.specs.PartState.{PartState};
+
+    ghost Value = { PartState };
+
+    ghost view = { λ lane. lane.part };
+}
+
+impl NoteLane {
+    /// A lane to the stripe behind this lock.
+    pub fn of<R: Wait>(rt: &R, alloc: Global, lock: &Door) -> Self {
+        NoteLane {
+            part: Part::of(&lock.lock(rt)),
+            notes: Vec::new(alloc),
+        }
+    }
+
+    /// The steps so far.
+    pub fn notes(&self) -> &[Note] {
+        self.notes.as_slice()
+    }
+}
+
+/// The block, ticket or leg that a step names first.
+fn named(step: &Step<FuseLeg>) -> u64 {
+    match step {
+        Step::Begin(at, _) | Step::Push(at, _) | Step::Claim(at) | Step::Read(at) => *at,
+        Step::Fail(leg)
+        | Step::Attach(leg)
+        | Step::Replace(leg, _)
+        | Step::Copy(leg)
+        | Step::Promote(leg)
+        | Step::Sync(leg) => *leg as u64,
+    }
+}
+
+/// Why a step was refused.
+fn refusal_of(answer: &Answer<FuseLeg>) -> Option<Refusal> {
+    match answer {
+        Answer::Refused(refusal, _) => Some(*refusal),
+        _ => None,
+    }
+}
+
+impl Lane<FuseLeg, Door> for NoteLane {
+    ghost use Rattle.std.specs.Prelude.{◌≡◌, refl};
+    ghost use Rattle.nm_mirror.specs.Counting.{Follows, part-joined};
+
+    ghost follows = { Follows };
+
+    fn step<R: Wait>(&mut self, rt: &R, lock: &Door, step: Step<FuseLeg>) -> Answer<FuseLeg>
+        ensures follows { self.new ≡ part_behind (done_as «step» result ∷ []) self.old }
+        ensures fits { AnswerFits «step» result }
+    {
+        let kind = StepKind::of(&step);
+        let at = named(&step);
+        let mut stripe = lock.lock(rt);
+        let answer = ask(&mut self.part, &mut stripe, step);
+        let refusal = refusal_of(&answer);
+        let _ = self.notes.push(Note { kind, at, refusal });
+        answer
+    }
+
+    fn owed<R: Wait>(&self, rt: &R, lock: &Door, ticket: Option<u64>) -> Option<(u64, u8)> {
+        let stripe = lock.lock(rt);
+        match ticket {
+            Some(ticket) => Some((ticket, stripe.next_owed(ticket)?)),
+            None => stripe.first_owed(),
+        }
+    }
+
+    ghost stays = { λ part. refl };
+
+    ghost joins = { λ first mid last before after p q. part-joined first mid last before after p q };
+}

@@ -1,0 +1,107 @@
+//! Writes, zeroes and reads of whole blocks, a flush, and what a close then tells.
+
+use crate::mirrors::{closed, filled, flush, in_sync, pass_of, shape};
+use bytes::Bytes;
+use nm_lanes::{Cause, NoGate, WriteFault};
+use nm_leg::FuseLeg;
+use nm_mirror::{Mirror, Pass};
+use std::alloc::Global;
+use std::process::Abort;
+use std::sync::Wait;
+use std::test::Fail;
+
+/// An export of 2,050 blocks in regions of 128 and two stripes, with two legs.
+type Row = Mirror<FuseLeg, NoGate>;
+
+/// Writes whole blocks from this one on.
+fn write<R: Wait + Abort>(
+    rt: &R,
+    alloc: Global,
+    mirror: &Row,
+    pass: &mut Pass<FuseLeg>,
+    from: u64,
+    payload: Bytes,
+) -> Result<(), WriteFault> {
+    assert!(rt; pass.stripes() == mirror.shape().stripes as usize && mirror.shape().blocks == 2050);
+    assert!(rt; payload.len() % 512 == 0 && payload.len() <= 1 << 20 && from < 2050);
+    assert!(rt; 512 * from + payload.len() as u64 <= 512 * 2050);
+    mirror.write(rt, alloc, pass, from, payload)
+}
+
+/// Writes so many blocks of zeroes from this one on.
+fn zero<R: Wait + Abort>(
+    rt: &R,
+    mirror: &Row,
+    pass: &mut Pass<FuseLeg>,
+    from: u64,
+    count: u64,
+) -> Result<(), Cause> {
+    assert!(rt; pass.stripes() == mirror.shape().stripes as usize && mirror.shape().blocks == 2050);
+    assert!(rt; from <= 2050 && count <= 2050 && from + count <= 2050);
+    mirror.zero(rt, pass, from, count)
+}
+
+/// Reads whole blocks from this one on.
+fn read<R: Wait + Abort>(
+    rt: &R,
+    mirror: &Row,
+    pass: &mut Pass<FuseLeg>,
+    from: u64,
+    into: &mut [u8],
+) -> Result<(), Cause> {
+    assert!(rt; pass.stripes() == mirror.shape().stripes as usize && mirror.shape().blocks == 2050);
+    assert!(rt; into.len() % 512 == 0 && into.len() <= 1 << 20 && from < 2050);
+    assert!(rt; 512 * from + into.len() as u64 <= 512 * 2050);
+    mirror.read(rt, pass, from, into)
+}
+
+/// Reads blocks 127 to 129, which are to hold these bytes.
+fn check_blocks<R: Wait + Abort>(
+    rt: &R,
+    mirror: &Row,
+    pass: &mut Pass<FuseLeg>,
+    want: [u8; 3],
+) -> Result<(), Fail> {
+    let mut into = [0x55; 1536];
+    assert!(rt; read(rt, mirror, pass, 127, &mut into).is_ok());
+    for place in 0..into.len() {
+        assert_eq!(rt; into[place], want[place / 512], "at {place}");
+    }
+    Ok(())
+}
+
+#[test]
+fn blocks_of_two_stripes_are_written_zeroed_and_read(rt: HostRuntime) -> Result<(), Fail> {
+    let alloc = rt.alloc();
+    let mirror = in_sync(&rt, alloc, shape(2050, 128, 8, 2, 2)?, NoGate)?;
+    let mut pass = pass_of(&rt, alloc, &mirror)?;
+    let payload = filled(alloc, 1536, 0xaa)?;
+    assert!(rt; write(&rt, alloc, &mirror, &mut pass, 127, payload).is_ok());
+    assert!(rt; zero(&rt, &mirror, &mut pass, 128, 1).is_ok());
+    check_blocks(&rt, &mirror, &mut pass, [0xaa, 0x00, 0xaa])?;
+    assert!(rt; flush(&rt, &mirror, &mut pass).is_ok());
+    let mut passes = Vec::new(alloc);
+    passes.push(pass)?;
+    let totals = closed(alloc, mirror, passes)?;
+    assert_eq!(rt; totals.ends().len(), 2);
+    for (end, (stripe, total)) in totals.ends().iter().zip([(0, 2), (1, 5)]) {
+        assert_eq!(rt; (end.stripe(), end.total(), end.left()), (stripe, total, 0));
+    }
+    Ok(())
+}
+
+#[test]
+fn calls_of_no_blocks_succeed_and_do_nothing(rt: HostRuntime) -> Result<(), Fail> {
+    let alloc = rt.alloc();
+    let mirror = in_sync(&rt, alloc, shape(2050, 128, 8, 2, 2)?, NoGate)?;
+    let mut pass = pass_of(&rt, alloc, &mirror)?;
+    assert!(rt; write(&rt, alloc, &mirror, &mut pass, 127, filled(alloc, 0, 0)?).is_ok());
+    assert!(rt; zero(&rt, &mirror, &mut pass, 2050, 0).is_ok());
+    assert!(rt; read(&rt, &mirror, &mut pass, 127, &mut []).is_ok());
+    let mut passes = Vec::new(alloc);
+    passes.push(pass)?;
+    for end in closed(alloc, mirror, passes)?.ends() {
+        assert_eq!(rt; (end.total(), end.left()), (0, 0));
+    }
+    Ok(())
+}
