@@ -17,3 +17,5 @@ mod resync;
 mod rows;
 #[cfg(test)]
 mod scripts;
+#[cfg(test)]
+mod sweeps;

@@ -1,17 +1,18 @@
-//! Worked scripts, each with all that it prints, and runs in which one call of a leg fails.
-use nm_script_lib::{run_fused, run_script};
+//! Worked scripts, each with all that it prints.
+use nm_script_lib::run_script;
 use std::alloc::Global;
 use std::io::Write;
 use std::test::Fail;
 
-/// How many legs a script has, the script, and what it prints.
-type Row = (u8, &'static [u8], &'static [u8]);
+/// How many legs a script has and how many blocks, the script, and what it prints.
+pub type Row = (u8, u64, &'static [u8], &'static [u8]);
 
 /// Scripts in which no leg's call fails.
-const PLAIN: [Row; 13] = [
+pub const PLAIN: [Row; 13] = [
     // A write to two legs, with reads before, between and after.
     (
         2,
+        16,
         b"mirror 2 16 8 4 rr 0\nbegin 3 aa\nread 3\npush 0 0\nread 3\npush 0 1\n\
           claim 0\nread 3\n",
         b"begun 0\nvalue 0 00\npushed 1\nvalue 2 aa\ncomplete 1\nwritten 1\nvalue 3 aa\n\
@@ -19,10 +20,16 @@ const PLAIN: [Row; 13] = [
           legal yes\n",
     ),
     // No step.
-    (1, b"mirror 1 1 1 1 rr 0\n", b"history 0 of 0\nlegal yes\n"),
+    (
+        1,
+        1,
+        b"mirror 1 1 1 1 rr 0\n",
+        b"history 0 of 0\nlegal yes\n",
+    ),
     // The master goes out after it had the write: the write has its entry, and is pushed on.
     (
         2,
+        16,
         b"mirror 2 16 8 4 rr 0\nbegin 3 aa\npush 0 0\nread 3\nfail 0\nread 3\npush 0 1\n\
           read 3\nclaim 0\n",
         b"begun 0\npushed 1\nvalue 1 aa\nmaster 1\nrefused 3 Settling\ncomplete 0\n\
@@ -32,6 +39,7 @@ const PLAIN: [Row; 13] = [
     // The master goes out before it had the write, which gets its entry then.
     (
         2,
+        16,
         b"mirror 2 16 8 4 rr 0\nbegin 3 aa\npush 0 1\nread 3\nfail 0\nread 3\nclaim 0\n\
           push 0 0\n",
         b"begun 0\npushed 1\nvalue 0 00\nmaster 1\nvalue 2 aa\nwritten 1\n\
@@ -41,6 +49,7 @@ const PLAIN: [Row; 13] = [
     // The master goes out with three writes under way, one of them on no leg.
     (
         3,
+        16,
         b"mirror 3 16 8 4 rr 0\nbegin 1 a1\nbegin 2 b2\nbegin 9 c3\npush 0 0\npush 1 2\n\
           fail 0\nbegin 4 dd\npush 0 1\npush 0 2\npush 1 1\npush 2 1\nread 9\npush 2 2\n\
           read 9\nclaim 1\n",
@@ -52,6 +61,7 @@ const PLAIN: [Row; 13] = [
     // A leg is replaced and copied, with writes before and behind the copy.
     (
         2,
+        8,
         b"mirror 2 8 4 2 rr 0\nfail 1\nreplace 1 ff\ncopy 1\ncopy 1\ncopy 1\ncopy 1\n\
           copy 1\nbegin 1 aa\nbegin 3 bb\nbegin 5 cc\npush 0 0\npush 1 0\npush 0 1\n\
           push 1 1\nclaim 0\nclaim 1\ncopy 1\ncopy 1\ncopy 1\ncopy 1\ncopy 1\ncopy 1\n\
@@ -67,6 +77,7 @@ const PLAIN: [Row; 13] = [
     // A leg joins again behind in two regions, of which the last is short.
     (
         2,
+        10,
         b"mirror 2 10 4 2 rr 0\nfail 1\nbegin 0 aa\npush 0 0\nbegin 9 bb\npush 1 0\n\
           attach 1\nread 5\nread 5\nread 9\nattach 1\n",
         b"failed\nbegun 0\ncomplete 0\nbegun 1\ncomplete 1\njoining 6\nvalue 2 00\n\
@@ -76,6 +87,7 @@ const PLAIN: [Row; 13] = [
     // The largest number of an entry.
     (
         1,
+        8,
         b"mirror 1 8 4 2 rr 9223372036854775807\nbegin 0 aa\nbegin 1 bb\nread 0\n\
           push 0 0\nclaim 0\n",
         b"begun 0\nrefused 6 Exhausted\nrefused 6 Exhausted\n\
@@ -85,6 +97,7 @@ const PLAIN: [Row; 13] = [
     // A striped read of a region with a write under way takes the master.
     (
         2,
+        8,
         b"mirror 2 8 4 2 st 0\nstate\nzero 5\nread 7\npush 0 0\npush 0 1\nclaim 0\n",
         b"master 0 settling no legs in in\nbegun 0\nvalue 0 00\npushed 1\ncomplete 1\n\
           written 1\nhistory 2 of 2\n0 read 7 00\n1 write 0 5 00\nlegal yes\n",
@@ -92,6 +105,7 @@ const PLAIN: [Row; 13] = [
     // The master goes out in the middle of a chunk.
     (
         3,
+        4,
         b"mirror 3 4 4 2 rr 0\nbegin 0 aa\npush 0 0\npush 0 1\npush 0 2\nfail 2\n\
           replace 2 ff\ncopy 2\ncopy 2\nfail 0\nreplace 0 ff\ncopy 0\ncopy 2\ncopy 2\n\
           copy 2\ncopy 2\ncopy 2\ncopy 2\ncopy 2\npromote 2\npeek 2 0\n",
@@ -103,6 +117,7 @@ const PLAIN: [Row; 13] = [
     // A claimed ticket names no record.
     (
         1,
+        8,
         b"mirror 1 8 4 2 rr 0\nbegin 0 aa\npush 0 0\nclaim 0\nbegin 0 bb\nclaim 0\n",
         b"begun 0\ncomplete 0\nwritten 0\nbegun 1\nrefused 7 NoTicket\nhistory 1 of 1\n\
           0 write 0 0 aa\nlegal yes\n",
@@ -110,6 +125,7 @@ const PLAIN: [Row; 13] = [
     // A part of a block is written, and the master that it was laid over goes out.
     (
         2,
+        8,
         b"mirror 2 8 4 2 rr 0\nbegin 0 aa\npatch 0 0 4 bb\npush 0 0\npush 0 1\n\
           patch 0 510 2 bb\nfail 0\npush 1 1\nread 0\nclaim 1\n",
         b"begun 0\nrefused 1 Busy 0\npushed 1\ncomplete 0\nbegun 1\nmaster 1\n\
@@ -122,6 +138,7 @@ const PLAIN: [Row; 13] = [
 /// A part of a block is written, and then its old bytes again.
 const PARTS: Row = (
     3,
+    8,
     b"mirror 3 8 4 2 rr 0\nbegin 0 aa\npush 0 0\npush 0 1\npush 0 2\npatch 0 510 2 bb\n\
       patch 0 0 1 cc\npush 1 2\nread 0\npush 1 0\nread 0\npush 1 1\nclaim 1\n\
       patch 0 510 2 aa\npush 2 1\npush 2 0\npush 2 2\nread 0\nread 0\nread 0\n",
@@ -137,6 +154,7 @@ const FUSED: [Row; 10] = [
     // The last leg fails in a read, and then in a write.
     (
         2,
+        8,
         b"mirror 2 8 4 2 rr 0\nfail 1\nfuse 0 1\nread 0\nread 0\nfail 0\nbegin 0 aa\n\
           fuse 0 1\npush 0 0\nread 0\nstate\n",
         b"failed\nfused\nrefused 10 Fault\nvalue 0 00\nrefused 11 LastLeg\nbegun 0\n\
@@ -146,6 +164,7 @@ const FUSED: [Row; 10] = [
     // A failed write is torn, and its leg joins again.
     (
         2,
+        8,
         b"mirror 2 8 4 2 rr 0\nbegin 0 aa\nbegin 0 bb\nfuse 1 1\npush 0 1\npush 0 0\n\
           peek 1 0\nattach 1\nbegin 1 bb\ncopy 1\ncopy 0\nfail 1\nfail 1\n",
         b"begun 0\nrefused 1 Busy 0\nfused\nlost 1\ncomplete 0\nholds mixed\njoining 4\n\
@@ -155,6 +174,7 @@ const FUSED: [Row; 10] = [
     // A leg whose sync failed is behind in every region.
     (
         2,
+        8,
         b"mirror 2 8 4 2 rr 0\nbegin 0 aa\npush 0 0\nsync 0\nfuse 1 1\nsync 1\nclaim 0\n\
           attach 1\n",
         b"begun 0\npushed 1\nsynced\nfused\nlost 1\nwritten 0\njoining 8\n\
@@ -163,12 +183,14 @@ const FUSED: [Row; 10] = [
     // A striped read takes the leg of its region.
     (
         2,
+        8,
         b"mirror 2 8 4 2 st 0\nfuse 1 1\nread 0\nread 4\n",
         b"fused\nvalue 0 00\nlost 1\nhistory 1 of 1\n0 read 0 00\nlegal yes\n",
     ),
     // The master is lost by a read.
     (
         2,
+        8,
         b"mirror 2 8 4 2 rr 0\nfuse 0 1\nread 0\nread 0\nstate\n",
         b"fused\nlost 0\nvalue 0 00\nmaster 1 settling no legs out in\nhistory 1 of 1\n\
           0 read 0 00\nlegal yes\n",
@@ -176,6 +198,7 @@ const FUSED: [Row; 10] = [
     // The master is lost by a push, with two writes under way.
     (
         2,
+        8,
         b"mirror 2 8 4 2 rr 0\nbegin 0 aa\nbegin 1 bb\nfuse 0 1\npush 0 0\nread 5\n\
           push 1 1\npush 0 1\nread 0\nstate\n",
         b"begun 0\nbegun 1\nfused\nlost 0\nrefused 3 Settling\ncomplete 1\ncomplete 0\n\
@@ -185,6 +208,7 @@ const FUSED: [Row; 10] = [
     // A leg is lost by a push, and then the master goes out.
     (
         3,
+        8,
         b"mirror 3 8 4 2 rr 0\nbegin 0 aa\npush 0 2\nfuse 1 1\npush 0 1\npush 0 0\n\
           claim 0\npeek 1 0\nfail 0\nread 0\n",
         b"begun 0\npushed 2\nfused\nlost 1\ncomplete 0\nwritten 0\nholds mixed\n\
@@ -193,6 +217,7 @@ const FUSED: [Row; 10] = [
     // The master is lost by a copy's read.
     (
         3,
+        4,
         b"mirror 3 4 4 2 rr 0\nfail 2\nreplace 2 ff\nfuse 0 1\ncopy 2\ncopy 2\nstate\n",
         b"failed\njoining 4\nfused\nlost 0\ncopied 4\n\
           master 1 settling no legs out in join(4)\nhistory 0 of 0\nlegal yes\n",
@@ -200,12 +225,14 @@ const FUSED: [Row; 10] = [
     // The only leg fails as a part's block is read, and no write begins.
     (
         1,
+        8,
         b"mirror 1 8 4 2 rr 0\nfuse 0 1\npatch 0 0 1 bb\npatch 0 0 1 bb\n",
         b"fused\nrefused 10 Fault\nbegun 0\nhistory 0 of 0\nlegal yes\n",
     ),
     // The master is lost as a part's block is read, and no write begins.
     (
         2,
+        8,
         b"mirror 2 8 4 2 rr 0\nfuse 0 1\npatch 0 0 1 bb\npatch 0 0 1 bb\n",
         b"fused\nlost 0\nbegun 0\nhistory 0 of 0\nlegal yes\n",
     ),
@@ -222,19 +249,19 @@ fn prints(alloc: Global, text: &[u8], printed: &[u8]) -> bool {
 
 #[test]
 fn worked_scripts_print_their_lines(rt: HostRuntime) {
-    for (_, text, printed) in PLAIN {
+    for (_, _, text, printed) in PLAIN {
         assert!(rt; prints(rt.alloc(), text, printed));
     }
-    for (_, text, printed) in FUSED {
+    for (_, _, text, printed) in FUSED {
         assert!(rt; prints(rt.alloc(), text, printed));
     }
 }
 
-/// All records of a stripe are in use, and a claim makes room for another write.
-#[test]
-fn fills_the_records(rt: HostRuntime) -> Result<(), Fail> {
-    let mut text = Vec::from_slice(rt.alloc(), b"mirror 1 300 128 8 rr 0\n")?;
-    let mut printed = Vec::new(rt.alloc());
+/// A script and what it prints: all records of a stripe are in use, and a claim makes room for
+/// another write.
+pub fn all_records(alloc: Global) -> Result<(Vec<u8>, Vec<u8>), Fail> {
+    let mut text = Vec::from_slice(alloc, b"mirror 1 300 128 8 rr 0\n")?;
+    let mut printed = Vec::new(alloc);
     for block in 0..256u32 {
         writeln!(text, "begin {block} aa")?;
         writeln!(printed, "begun {block}")?;
@@ -244,15 +271,20 @@ fn fills_the_records(rt: HostRuntime) -> Result<(), Fail> {
         b"refused 4 Full\ncomplete 0\nrefused 4 Full\nwritten 0\nbegun 256\n",
     )?;
     printed.extend_from_slice(b"history 1 of 1\n0 write 0 0 aa\nlegal yes\n")?;
+    Ok((text, printed))
+}
+
+#[test]
+fn fills_the_records(rt: HostRuntime) -> Result<(), Fail> {
+    let (text, printed) = all_records(rt.alloc())?;
     assert!(rt; prints(rt.alloc(), &text, &printed));
     Ok(())
 }
 
-/// Of 1,025 reads the last 1,024 are kept, and all are counted.
-#[test]
-fn keeps_the_last_1024_entries(rt: HostRuntime) -> Result<(), Fail> {
-    let mut text = Vec::from_slice(rt.alloc(), b"mirror 1 8 4 2 rr 0\n")?;
-    let mut printed = Vec::new(rt.alloc());
+/// A script and what it prints: of 1,025 reads the last 1,024 are kept, and all are counted.
+pub fn long_history(alloc: Global) -> Result<(Vec<u8>, Vec<u8>), Fail> {
+    let mut text = Vec::from_slice(alloc, b"mirror 1 8 4 2 rr 0\n")?;
+    let mut printed = Vec::new(alloc);
     for number in 0..1_025u32 {
         text.extend_from_slice(b"read 0\n")?;
         writeln!(printed, "value {number} 00")?;
@@ -262,96 +294,12 @@ fn keeps_the_last_1024_entries(rt: HostRuntime) -> Result<(), Fail> {
         writeln!(printed, "{number} read 0 00")?;
     }
     printed.extend_from_slice(b"legal yes\n")?;
+    Ok((text, printed))
+}
+
+#[test]
+fn keeps_the_last_1024_entries(rt: HostRuntime) -> Result<(), Fail> {
+    let (text, printed) = long_history(rt.alloc())?;
     assert!(rt; prints(rt.alloc(), &text, &printed));
-    Ok(())
-}
-
-/// The exit status of a run in which one call of a leg fails, and all that it wrote.
-#[derive(Drop)]
-struct Ran {
-    status: u8,
-    out: Vec<u8>,
-    err: Vec<u8>,
-}
-
-fn run_with_fuse(alloc: Global, text: &[u8], leg: u8, call: u64) -> Ran {
-    let mut input = text;
-    let mut out = Vec::new(alloc);
-    let mut err = Vec::new(alloc);
-    let status = run_fused(alloc, &mut input, leg, call, &mut out, &mut err);
-    Ran { status, out, err }
-}
-
-/// A write to two legs, with reads before, between and after.
-const WRITE: &[u8] =
-    b"mirror 2 16 8 4 rr 0\nbegin 3 aa\nread 3\npush 0 0\nread 3\npush 0 1\nclaim 0\nread 3\n";
-
-#[test]
-fn a_fuse_fails_the_call_that_it_names(rt: HostRuntime) {
-    let lost = run_with_fuse(rt.alloc(), WRITE, 0, 1);
-    assert_eq!(rt; lost.status, 0);
-    assert_eq!(rt;
-        lost.out.as_slice(),
-        b"begun 0\nlost 0\nrefused 8 NotOwed\nrefused 3 Settling\ncomplete 0\nwritten 0\n\
-          value 1 aa\nhistory 2 of 2\n0 write 0 3 aa\n1 read 3 aa\nlegal yes\n"
-            .as_slice()
-    );
-    assert_eq!(rt; lost.err.as_slice(), b"".as_slice());
-}
-
-#[test]
-fn a_fuse_names_a_leg_and_a_call(rt: HostRuntime) {
-    for (leg, call) in [(2, 1), (255, 1), (0, 0)] {
-        let ran = run_with_fuse(rt.alloc(), WRITE, leg, call);
-        assert_eq!(rt; ran.status, 2);
-        assert_eq!(rt; ran.out.as_slice(), b"".as_slice());
-        assert_eq!(rt; ran.err.as_slice(), b"line 1: bad step\n".as_slice());
-    }
-}
-
-/// Whichever call of whichever leg fails, a script is run to its end, and its history is legal.
-#[test]
-fn each_call_of_each_leg_may_fail(rt: HostRuntime) {
-    for (legs, text, _) in PLAIN {
-        for leg in 0..legs {
-            for call in 1..24 {
-                let ran = run_with_fuse(rt.alloc(), text, leg, call);
-                assert_eq!(rt; ran.status, 0);
-                assert!(rt; ran.out.as_slice().ends_with(b"legal yes\n"));
-            }
-        }
-    }
-}
-
-/// Whether the state of the legs was printed, and then what each holds: the same for each that is
-/// in sync.
-fn legs_in_sync_hold_alike(printed: &str) -> bool {
-    let mut lines = printed.lines();
-    let Some(state) = lines.find(|line| line.contains(" settling ")) else {
-        return false;
-    };
-    let mut held = None;
-    for (leg, holds) in state.split(' ').skip(5).zip(lines) {
-        if leg == "in" && *held.get_or_insert(holds) != holds {
-            return false;
-        }
-    }
-    held.is_some()
-}
-
-/// Whichever call of whichever leg fails while parts are written, the legs in sync agree.
-#[test]
-fn parts_leave_the_legs_in_sync_alike(rt: HostRuntime) -> Result<(), Fail> {
-    let (legs, script, _) = PARTS;
-    let mut text = Vec::from_slice(rt.alloc(), script)?;
-    text.extend_from_slice(b"state\npeek 0 0\npeek 1 0\npeek 2 0\n")?;
-    for leg in 0..legs {
-        for call in 1..12 {
-            let ran = run_with_fuse(rt.alloc(), &text, leg, call);
-            assert_eq!(rt; ran.status, 0);
-            assert!(rt; legs_in_sync_hold_alike(std::str::from_utf8(&ran.out)?));
-            assert!(rt; ran.out.as_slice().ends_with(b"legal yes\n"));
-        }
-    }
     Ok(())
 }
