@@ -5,6 +5,7 @@
 //! takes all of it. Which changes make up a step, and that they keep a stripe sound, is said above.
 #![tactic(auto)]
 
+pub use read_choice::ReadChoice;
 pub use store::Store;
 
 mod causes;
@@ -13,6 +14,7 @@ mod failing_over;
 mod joining;
 mod losing;
 mod opening;
+mod read_choice;
 mod reading;
 mod store;
 mod syncing;

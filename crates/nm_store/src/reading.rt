@@ -2,9 +2,10 @@
 ghost use Rattle.std.specs.Prelude.{◌≡◌, ◌<◌, ◌^◌, length, is_ok, Some};
 ghost use Rattle.nm_leg.specs.Leg.{leg_type};
 ghost use Rattle.nm_leg.specs.LegCalls.{HasBlock, ReadsLegAt};
-ghost use Rattle.nm_rules.specs.State.{next_number};
+ghost use Rattle.nm_rules.specs.State.{next_number, is_quiet};
 ghost use Rattle.nm_rules.specs.Read.{after_read, current_legs, read_leg, true_from};
 
+use crate::read_choice::ReadChoice;
 use crate::store::Store;
 use arrayvec::ArrayVec;
 use nm_choice::{next_turn, pick};
@@ -29,15 +30,17 @@ fn true_places(places: &[bool; LEGS]) -> ArrayVec<u8, LEGS>
 impl<L: LegPart> Store<L> {
     /// The leg that a read of the block takes: in a region with no write under way one of those
     /// that are current there, by the policy, and else the master.
-    pub fn leg_to_read(&self, block: u64) -> u8
+    pub fn leg_to_read(&self, block: u64) -> ReadChoice
         requires block { block < self.now.place.blocks }
         requires current { 0 < length (current_legs block self.now) }
-        ensures { read_leg block self.now ≡ Some result }
+        ensures leg { read_leg block self.now ≡ Some result.leg }
+        ensures quiet { result.quiet ≡ is_quiet block self.now }
     {
         let region = self.regions.region_of(block);
         let quiet = self.regions.is_quiet(region);
         let current = true_places(&self.regions.targets(block));
-        pick(self.policy, self.turn, region, &current, self.master, quiet)
+        let leg = pick(self.policy, self.turn, region, &current, self.master, quiet);
+        ReadChoice { leg, quiet }
     }
 
     /// Reads a block of a leg. No more than the leg changes.
@@ -51,9 +54,10 @@ impl<L: LegPart> Store<L> {
         read_leg_at(&mut self.legs, leg, block, into)
     }
 
-    /// Keeps the entry of a read that found these bytes, and gives its number.
-    pub fn keep_read(&mut self, block: u64, bytes: &Block) -> u64
-        requires block { block < self.old.place.blocks }
+    /// Keeps the entry of a read that found these bytes, and gives its number. Where no write is
+    /// under way in the block's region, which `quiet` tells, the turn passes.
+    pub fn keep_read(&mut self, block: u64, bytes: &Block, quiet: bool) -> u64
+        requires quiet { quiet ≡ is_quiet block self.old }
         requires numbers { next_number self.old < 2 ^ 63 }
         requires turn { self.old.turn < 840 }
         ensures number { result ≡ next_number self.old }
@@ -66,7 +70,7 @@ impl<L: LegPart> Store<L> {
             block,
             bytes: *bytes,
         });
-        if self.regions.is_quiet(self.regions.region_of(block)) {
+        if quiet {
             self.turn = next_turn(self.turn);
         }
         number

@@ -41,9 +41,10 @@ impl<L: LegPart> Stripe<L> {
         if let Some(refusal) = self.store.read_cause() {
             return Err(refusal);
         }
-        let leg = self.store.leg_to_read(block);
+        let choice = self.store.leg_to_read(block);
+        let leg = choice.leg;
         if self.store.read_leg(leg, block, into).is_ok() {
-            let number = self.store.keep_read(block, into);
+            let number = self.store.keep_read(block, into, choice.quiet);
             let receipt = Receipt::new(self.store.place().stripe, block, number);
             return Ok(Reading::Value(receipt));
         }

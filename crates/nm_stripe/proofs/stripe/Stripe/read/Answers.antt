@@ -19,23 +19,23 @@ pub returns-in-Some-clause-refused_acts : goal.returns-in-Some-clause-refused_ac
 returns-in-Some-clause-refused_acts g c is_honest =
     rw (← c.self.view_is) (explained-stays g.L.LegPart.model c.self.inside.store c.self.invariant.numbers.most)
 
-pub leg_to_read-leg-requires-clause-current : goal.leg_to_read-leg-requires-clause-current
-leg_to_read-leg-requires-clause-current g c =
+pub leg_to_read-choice-requires-clause-current : goal.leg_to_read-choice-requires-clause-current
+leg_to_read-choice-requires-clause-current g c =
     some_current (leg_type g.L.LegPart.model g.L.LegPart.honest) c.self.inside.store c.args.block c.self.invariant.legs
 
 pub read_leg-requires-clause-leg : goal.read_leg-requires-clause-leg
 read_leg-requires-clause-leg g c =
     let type = leg_type g.L.LegPart.model g.L.LegPart.honest in
     let s = c.self.inside.store in
-    let leg = c.leg_to_read-leg.result in
-    legs.read-inside type s c.args.block c.self.invariant.legs c.self.invariant.chunk leg c.leg_to_read-leg.ensures
+    let leg = c.leg_to_read-choice.result.leg in
+    legs.read-inside type s c.args.block c.self.invariant.legs c.self.invariant.chunk leg c.leg_to_read-choice.ensures.leg
 
 pub read_leg-requires-clause-block : goal.read_leg-requires-clause-block
 read_leg-requires-clause-block g c =
     let type = leg_type g.L.LegPart.model g.L.LegPart.honest in
     let s = c.self.inside.store in
-    let leg = c.leg_to_read-leg.result in
-    let inside : leg < length s.legs = legs.read-inside type s c.args.block c.self.invariant.legs c.self.invariant.chunk leg c.leg_to_read-leg.ensures in
+    let leg = c.leg_to_read-choice.result.leg in
+    let inside : leg < length s.legs = legs.read-inside type s c.args.block c.self.invariant.legs c.self.invariant.chunk leg c.leg_to_read-choice.ensures.leg in
     let within : c.args.block < s.place.blocks = subst (λ (s : StripeState _). c.args.block < s.place.blocks) (sym c.self.view_is) c.requires in
     has-block g.L.LegPart.model s leg c.args.block c.self.invariant.legs inside within
 
@@ -43,12 +43,12 @@ pub invariant_of-self : goal.invariant_of-self
 invariant_of-self g c =
     let type = leg_type g.L.LegPart.model g.L.LegPart.honest in
     let s = c.self.inside.store in
-    let leg = c.leg_to_read-leg.result in
+    let leg = c.leg_to_read-choice.result.leg in
     let mid = c.read_leg.new.self in
     let bytes = c.read_leg.new.into in
     let none : read_cause s ≡ None = search rules in
     let ok : is_ok c.read_leg.result ≡ true = search rules in
-    let called : CallsToRead type true s mid.legs c.args.block leg bytes = record { no_cause = none; leg_is = c.leg_to_read-leg.ensures; target = c.args.into.now; reads = rw (← ok) c.read_leg.ensures.reads } in
+    let called : CallsToRead type true s mid.legs c.args.block leg bytes = record { no_cause = none; leg_is = c.leg_to_read-choice.ensures.leg; target = c.args.into.now; reads = rw (← ok) c.read_leg.ensures.reads } in
     let within : c.args.block < s.place.blocks = subst (λ (s : StripeState _). c.args.block < s.place.blocks) (sym c.self.view_is) c.requires in
     let new = c.keep_read-number.new.self in
     let entry : EntryName = record { stripe = new.place.stripe; block = c.args.block; number = c.keep_read-number.result } in
@@ -59,12 +59,12 @@ pub returns-then-is_ok-clause-ok : goal.returns-then-is_ok-clause-ok
 returns-then-is_ok-clause-ok g c =
     let type = leg_type g.L.LegPart.model g.L.LegPart.honest in
     let s = c.self.inside.store in
-    let leg = c.leg_to_read-leg.result in
+    let leg = c.leg_to_read-choice.result.leg in
     let mid = c.read_leg.new.self in
     let bytes = c.read_leg.new.into in
     let none : read_cause s ≡ None = search rules in
     let ok : is_ok c.read_leg.result ≡ true = search rules in
-    let called : CallsToRead type true s mid.legs c.args.block leg bytes = record { no_cause = none; leg_is = c.leg_to_read-leg.ensures; target = c.args.into.now; reads = rw (← ok) c.read_leg.ensures.reads } in
+    let called : CallsToRead type true s mid.legs c.args.block leg bytes = record { no_cause = none; leg_is = c.leg_to_read-choice.ensures.leg; target = c.args.into.now; reads = rw (← ok) c.read_leg.ensures.reads } in
     let within : c.args.block < s.place.blocks = subst (λ (s : StripeState _). c.args.block < s.place.blocks) (sym c.self.view_is) c.requires in
     let new = c.keep_read-number.new.self in
     let is : Finds type s new c.args.block bytes c.new-receipt.result = finds type s mid new c.args.block leg bytes c.read_leg.ensures.others c.new-receipt.result c.place.result.stripe c.keep_read-number.result called c.keep_read-number.ensures.kept c.new-receipt.ensures (search rules) c.keep_read-number.ensures.number in
@@ -74,12 +74,12 @@ pub returns-then-is_ok-clause-acts : goal.returns-then-is_ok-clause-acts
 returns-then-is_ok-clause-acts g c is_honest =
     let type = leg_type g.L.LegPart.model g.L.LegPart.honest in
     let s = c.self.inside.store in
-    let leg = c.leg_to_read-leg.result in
+    let leg = c.leg_to_read-choice.result.leg in
     let mid = c.read_leg.new.self in
     let bytes = c.read_leg.new.into in
     let none : read_cause s ≡ None = search rules in
     let ok : is_ok c.read_leg.result ≡ true = search rules in
-    let called : CallsToRead type true s mid.legs c.args.block leg bytes = record { no_cause = none; leg_is = c.leg_to_read-leg.ensures; target = c.args.into.now; reads = rw (← ok) c.read_leg.ensures.reads } in
+    let called : CallsToRead type true s mid.legs c.args.block leg bytes = record { no_cause = none; leg_is = c.leg_to_read-choice.ensures.leg; target = c.args.into.now; reads = rw (← ok) c.read_leg.ensures.reads } in
     let within : c.args.block < s.place.blocks = subst (λ (s : StripeState _). c.args.block < s.place.blocks) (sym c.self.view_is) c.requires in
     let new = c.keep_read-number.new.self in
     let is : Finds type s new c.args.block bytes c.new-receipt.result = finds type s mid new c.args.block leg bytes c.read_leg.ensures.others c.new-receipt.result c.place.result.stripe c.keep_read-number.result called c.keep_read-number.ensures.kept c.new-receipt.ensures (search rules) c.keep_read-number.ensures.number in
@@ -90,25 +90,25 @@ pub is_last-requires : goal.is_last-requires
 is_last-requires g c =
     let type = leg_type g.L.LegPart.model g.L.LegPart.honest in
     let s = c.self.inside.store in
-    let leg = c.leg_to_read-leg.result in
+    let leg = c.leg_to_read-choice.result.leg in
     let mid = c.read_leg.new.self in
     let bytes = c.read_leg.new.into in
     let none : read_cause s ≡ None = search rules in
     let ok : is_ok c.read_leg.result ≡ false = search rules in
-    let called : CallsToRead type false s mid.legs c.args.block leg bytes = record { no_cause = none; leg_is = c.leg_to_read-leg.ensures; target = c.args.into.now; reads = rw (← ok) c.read_leg.ensures.reads } in
-    let inside : leg < length s.legs = legs.read-inside type s c.args.block c.self.invariant.legs c.self.invariant.chunk leg c.leg_to_read-leg.ensures in
+    let called : CallsToRead type false s mid.legs c.args.block leg bytes = record { no_cause = none; leg_is = c.leg_to_read-choice.ensures.leg; target = c.args.into.now; reads = rw (← ok) c.read_leg.ensures.reads } in
+    let inside : leg < length s.legs = legs.read-inside type s c.args.block c.self.invariant.legs c.self.invariant.chunk leg c.leg_to_read-choice.ensures.leg in
     read-inside type false s mid.legs c.args.block leg bytes called inside
 
 pub invariant_of-self-then-is_last : goal.invariant_of-self-then-is_last
 invariant_of-self-then-is_last g c =
     let type = leg_type g.L.LegPart.model g.L.LegPart.honest in
     let s = c.self.inside.store in
-    let leg = c.leg_to_read-leg.result in
+    let leg = c.leg_to_read-choice.result.leg in
     let mid = c.read_leg.new.self in
     let bytes = c.read_leg.new.into in
     let none : read_cause s ≡ None = search rules in
     let ok : is_ok c.read_leg.result ≡ false = search rules in
-    let called : CallsToRead type false s mid.legs c.args.block leg bytes = record { no_cause = none; leg_is = c.leg_to_read-leg.ensures; target = c.args.into.now; reads = rw (← ok) c.read_leg.ensures.reads } in
+    let called : CallsToRead type false s mid.legs c.args.block leg bytes = record { no_cause = none; leg_is = c.leg_to_read-choice.ensures.leg; target = c.args.into.now; reads = rw (← ok) c.read_leg.ensures.reads } in
     let given : c.is_last.result ≡ true = search rules in
     let last : is_last leg s ≡ true = last-from leg s mid c.is_last.result c.read_leg.ensures.others c.is_last.ensures ∙ given in
     let is : FailsInRead type s mid c.args.block bytes = fails type s mid c.args.block leg bytes c.read_leg.ensures.others called last in
@@ -118,12 +118,12 @@ pub returns-then-is_last-clause-refused : goal.returns-then-is_last-clause-refus
 returns-then-is_last-clause-refused g c =
     let type = leg_type g.L.LegPart.model g.L.LegPart.honest in
     let s = c.self.inside.store in
-    let leg = c.leg_to_read-leg.result in
+    let leg = c.leg_to_read-choice.result.leg in
     let mid = c.read_leg.new.self in
     let bytes = c.read_leg.new.into in
     let none : read_cause s ≡ None = search rules in
     let ok : is_ok c.read_leg.result ≡ false = search rules in
-    let called : CallsToRead type false s mid.legs c.args.block leg bytes = record { no_cause = none; leg_is = c.leg_to_read-leg.ensures; target = c.args.into.now; reads = rw (← ok) c.read_leg.ensures.reads } in
+    let called : CallsToRead type false s mid.legs c.args.block leg bytes = record { no_cause = none; leg_is = c.leg_to_read-choice.ensures.leg; target = c.args.into.now; reads = rw (← ok) c.read_leg.ensures.reads } in
     let given : c.is_last.result ≡ true = search rules in
     let last : is_last leg s ≡ true = last-from leg s mid c.is_last.result c.read_leg.ensures.others c.is_last.ensures ∙ given in
     let is : FailsInRead type s mid c.args.block bytes = fails type s mid c.args.block leg bytes c.read_leg.ensures.others called last in
@@ -133,12 +133,12 @@ pub returns-then-is_last-clause-refused_acts : goal.returns-then-is_last-clause-
 returns-then-is_last-clause-refused_acts g c is_honest =
     let type = leg_type g.L.LegPart.model g.L.LegPart.honest in
     let s = c.self.inside.store in
-    let leg = c.leg_to_read-leg.result in
+    let leg = c.leg_to_read-choice.result.leg in
     let mid = c.read_leg.new.self in
     let bytes = c.read_leg.new.into in
     let none : read_cause s ≡ None = search rules in
     let ok : is_ok c.read_leg.result ≡ false = search rules in
-    let called : CallsToRead type false s mid.legs c.args.block leg bytes = record { no_cause = none; leg_is = c.leg_to_read-leg.ensures; target = c.args.into.now; reads = rw (← ok) c.read_leg.ensures.reads } in
+    let called : CallsToRead type false s mid.legs c.args.block leg bytes = record { no_cause = none; leg_is = c.leg_to_read-choice.ensures.leg; target = c.args.into.now; reads = rw (← ok) c.read_leg.ensures.reads } in
     let given : c.is_last.result ≡ true = search rules in
     let last : is_last leg s ≡ true = last-from leg s mid c.is_last.result c.read_leg.ensures.others c.is_last.ensures ∙ given in
     let is : FailsInRead type s mid c.args.block bytes = fails type s mid c.args.block leg bytes c.read_leg.ensures.others called last in
@@ -148,25 +148,25 @@ pub lose-requires-clause-leg : goal.lose-requires-clause-leg
 lose-requires-clause-leg g c =
     let type = leg_type g.L.LegPart.model g.L.LegPart.honest in
     let s = c.self.inside.store in
-    let leg = c.leg_to_read-leg.result in
+    let leg = c.leg_to_read-choice.result.leg in
     let mid = c.read_leg.new.self in
     let bytes = c.read_leg.new.into in
     let none : read_cause s ≡ None = search rules in
     let ok : is_ok c.read_leg.result ≡ false = search rules in
-    let called : CallsToRead type false s mid.legs c.args.block leg bytes = record { no_cause = none; leg_is = c.leg_to_read-leg.ensures; target = c.args.into.now; reads = rw (← ok) c.read_leg.ensures.reads } in
-    let inside : leg < length s.legs = legs.read-inside type s c.args.block c.self.invariant.legs c.self.invariant.chunk leg c.leg_to_read-leg.ensures in
+    let called : CallsToRead type false s mid.legs c.args.block leg bytes = record { no_cause = none; leg_is = c.leg_to_read-choice.ensures.leg; target = c.args.into.now; reads = rw (← ok) c.read_leg.ensures.reads } in
+    let inside : leg < length s.legs = legs.read-inside type s c.args.block c.self.invariant.legs c.self.invariant.chunk leg c.leg_to_read-choice.ensures.leg in
     read-inside type false s mid.legs c.args.block leg bytes called inside
 
 pub invariant_of-self-2 : goal.invariant_of-self-2
 invariant_of-self-2 g c =
     let type = leg_type g.L.LegPart.model g.L.LegPart.honest in
     let s = c.self.inside.store in
-    let leg = c.leg_to_read-leg.result in
+    let leg = c.leg_to_read-choice.result.leg in
     let mid = c.read_leg.new.self in
     let bytes = c.read_leg.new.into in
     let none : read_cause s ≡ None = search rules in
     let ok : is_ok c.read_leg.result ≡ false = search rules in
-    let called : CallsToRead type false s mid.legs c.args.block leg bytes = record { no_cause = none; leg_is = c.leg_to_read-leg.ensures; target = c.args.into.now; reads = rw (← ok) c.read_leg.ensures.reads } in
+    let called : CallsToRead type false s mid.legs c.args.block leg bytes = record { no_cause = none; leg_is = c.leg_to_read-choice.ensures.leg; target = c.args.into.now; reads = rw (← ok) c.read_leg.ensures.reads } in
     let given : c.is_last.result ≡ false = search rules in
     let last : is_last leg s ≡ false = last-from leg s mid c.is_last.result c.read_leg.ensures.others c.is_last.ensures ∙ given in
     let new = c.lose.new.self in
@@ -177,12 +177,12 @@ pub returns-clause-ok : goal.returns-clause-ok
 returns-clause-ok g c =
     let type = leg_type g.L.LegPart.model g.L.LegPart.honest in
     let s = c.self.inside.store in
-    let leg = c.leg_to_read-leg.result in
+    let leg = c.leg_to_read-choice.result.leg in
     let mid = c.read_leg.new.self in
     let bytes = c.read_leg.new.into in
     let none : read_cause s ≡ None = search rules in
     let ok : is_ok c.read_leg.result ≡ false = search rules in
-    let called : CallsToRead type false s mid.legs c.args.block leg bytes = record { no_cause = none; leg_is = c.leg_to_read-leg.ensures; target = c.args.into.now; reads = rw (← ok) c.read_leg.ensures.reads } in
+    let called : CallsToRead type false s mid.legs c.args.block leg bytes = record { no_cause = none; leg_is = c.leg_to_read-choice.ensures.leg; target = c.args.into.now; reads = rw (← ok) c.read_leg.ensures.reads } in
     let given : c.is_last.result ≡ false = search rules in
     let last : is_last leg s ≡ false = last-from leg s mid c.is_last.result c.read_leg.ensures.others c.is_last.ensures ∙ given in
     let new = c.lose.new.self in
@@ -193,12 +193,12 @@ pub returns-clause-acts : goal.returns-clause-acts
 returns-clause-acts g c is_honest =
     let type = leg_type g.L.LegPart.model g.L.LegPart.honest in
     let s = c.self.inside.store in
-    let leg = c.leg_to_read-leg.result in
+    let leg = c.leg_to_read-choice.result.leg in
     let mid = c.read_leg.new.self in
     let bytes = c.read_leg.new.into in
     let none : read_cause s ≡ None = search rules in
     let ok : is_ok c.read_leg.result ≡ false = search rules in
-    let called : CallsToRead type false s mid.legs c.args.block leg bytes = record { no_cause = none; leg_is = c.leg_to_read-leg.ensures; target = c.args.into.now; reads = rw (← ok) c.read_leg.ensures.reads } in
+    let called : CallsToRead type false s mid.legs c.args.block leg bytes = record { no_cause = none; leg_is = c.leg_to_read-choice.ensures.leg; target = c.args.into.now; reads = rw (← ok) c.read_leg.ensures.reads } in
     let given : c.is_last.result ≡ false = search rules in
     let last : is_last leg s ≡ false = last-from leg s mid c.is_last.result c.read_leg.ensures.others c.is_last.ensures ∙ given in
     let new = c.lose.new.self in

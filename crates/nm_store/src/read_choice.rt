@@ -1,0 +1,7 @@
+/// Which leg a read of a block takes.
+#[derive(Clone, Copy, Debug)]
+pub struct ReadChoice {
+    pub leg: u8,
+    /// Whether no write is under way in the block's region.
+    pub quiet: bool,
+}
