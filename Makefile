@@ -3,19 +3,32 @@ RT ?= rt
 export RT
 
 .DEFAULT_GOAL := help
-.PHONY: help run check gate-cost must-fail wrong-bodies fail-alloc bench fmt
+.PHONY: help run script demo interop check gate-cost must-fail wrong-bodies fail-alloc bench bench-server fmt
 
 help:
-	@echo 'make run           build nm_script and run it on the example script'
+	@echo 'make run           build nbdmirror and serve two legs of 64 MiB, until a quit'
+	@echo 'make demo          build nbdmirror and show it: a leg fails, comes back, and is copied'
+	@echo 'make interop       other programs against nbdmirror; installs what is missing'
+	@echo 'make script        build nm_script and run it on the example script'
 	@echo 'make check         the whole gate: every proof from nothing, every must-fail edit, every test'
 	@echo 'make gate-cost     the gate, with what each crate costs written into docs/ARCHITECTURE.md'
 	@echo 'make must-fail     the must-fail edits alone'
 	@echo 'make wrong-bodies  the wrong bodies that stand outside the gate'
 	@echo 'make fail-alloc    each early allocation of the tests failing in turn (no part of the gate)'
 	@echo 'make bench         the stripe and the requests, timed beside plain Rust'
+	@echo 'make bench-server  nbdmirror, timed beside nbdkit and qemu-nbd'
 	@echo 'make fmt           lay out every crate'
 
 run:
+	@tools/build-server && tools/run-server
+
+demo:
+	@tools/build-server && tools/demo
+
+interop:
+	@tools/build-server && interop/run
+
+script:
 	@echo 'The first time this proves nm_script and what it stands on, which takes about 5 minutes on 4 cores.' >&2
 	@tools/build-program nm_script
 	@cd crates/nm_script && $(RT) run < stdin 2>> ../../out/build.log || { tail -n 20 ../../out/build.log >&2; exit 1; }
@@ -39,6 +52,9 @@ fail-alloc:
 
 bench:
 	@bench/run
+
+bench-server:
+	@tools/build-server && bench/server
 
 fmt:
 	@for crate in crates/*/; do (cd $$crate && $(RT) fmt) || exit 1; done

@@ -35,13 +35,15 @@ make_legs() {
     done
 }
 
-# start OPTIONS..: starts the server on the legs and waits until it listens.
+# start OPTIONS..: starts the server on the legs and waits until it listens. $on is the address that it
+# listens on, if not the loopback.
 start() {
     port=$(free_port)
     control=$(free_port)
     uri=nbd://127.0.0.1:$port/disk
     export NBDMIRROR_CONTROL=127.0.0.1:$control
-    "$program" --listen "127.0.0.1:$port" --control "127.0.0.1:$control" "$@" "${files[@]}" \
+    : > "$room/out"
+    "$program" --listen "${on:-127.0.0.1}:$port" --control "${on:-127.0.0.1}:$control" "$@" "${files[@]}" \
         > "$room/out" 2> "$room/err" &
     server=$!
     for _ in $(seq 100); do
@@ -73,8 +75,16 @@ legs_equal() {
     done
 }
 
+unmount() {
+    fusermount3 -u "$1" 2> /dev/null || fusermount -u "$1" 2> /dev/null || umount "$1"
+}
+
 clean_up() {
+    mountpoint -q "$room/mount" && unmount "$room/mount"
     [ -n "$server" ] && kill -9 "$server" 2> /dev/null
+    cd /
     rm -rf "$room"
 }
 trap clean_up EXIT
+# Some tools leave files where they run.
+cd "$room" || exit 1

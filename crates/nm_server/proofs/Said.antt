@@ -1,16 +1,33 @@
 -- What the getters of matches give is what the rows of the command line have.
-use Rattle.std.proofs.Common.{◌≡◌, ◌∙◌, ℕ, List, map, Option, Some, None, Bool, true, false, option_map, refl, ap, sym, codes}
+use Rattle.std.proofs.Common.{◌≡◌, ◌∙◌, ℕ, List, Some, Bool, true, false, option_map, refl, ap, sym, codes, inl, inr, Result, Ok, Err, IsErrAnd, IfErr}
 use Rattle.std.specs.Borrow.{Bor}
-use Rattle.clap.specs.Words.{Row, Text, app_of, is_simple, matches_of, first_of, one_of, all_of, first_value, found_of, one_text, matched_of, raw_values, rows_of}
+use Rattle.clap.specs.Words.{App, HasKind, Row, Text, fault_of, is_simple, is_simple_and_free, first_of, one_of, all_of, first_value, one_text, matched_of, raw_values, rows_of}
 use Rattle.clap.specs.declared.parser.matches.Found.{Found}
 use Rattle.clap.proofs.WalkLemmas.{first_value-rows, one_text-rows, raw_values-rows}
 use Rattle.clap.proofs.OnLiterals.{clap_on_literals}
 use Rattle.nm_server.specs.CommandLine.{nbdmirror}
-use Rattle.nm_server.specs.Settings.{IsNumber, HasFlag}
+use Rattle.clap.specs.declared.error.Error.{Error}
+use Rattle.nm_server.specs.CommandLine.{ArePolicies}
+use Rattle.nm_server.specs.Settings.{IsNumber, IsRefusal, HasFlag}
 
 pub simple : (policies : Bor (List (Bor Text))) → is_simple (nbdmirror policies) ≡ true
 unfolding clap_on_literals
 simple policies = refl
+
+pub simple_and_free : (policies : Bor (List (Bor Text))) →
+    is_simple_and_free (nbdmirror policies) ≡ true
+unfolding clap_on_literals
+simple_and_free policies = refl
+
+pub said_fault : (policies : Bor (List (Bor Text))) (app : App) (words : List Text) (e : Error) →
+    ArePolicies policies → app ≡ nbdmirror policies → HasKind (fault_of app words) e →
+    IsRefusal words e
+said_fault policies app words e known same (inl memory) = inl memory
+said_fault policies app words e known same (inr among) = inr (record {
+  policies = policies;
+  known = known;
+  among = rw (← ap (λ (a : App). fault_of a words) same) among;
+})
 
 pub said_text : (f : Found) (rows : List Row) (id text : Text) → rows_of f ≡ rows →
     first_value f id ≡ Some text → first_of id rows ≡ Some text
@@ -38,3 +55,9 @@ said_flag f rows id flag e set unset =
 pub said_words : (f : Found) (rows : List Row) (id : Text) (words : List Text) → rows_of f ≡ rows →
     Some words ≡ option_map raw_values (matched_of f id) → all_of id rows ≡ Some words
 said_words f rows id words e h = sym (raw_values-rows f id ∙ ap (all_of id) e) ∙ sym h
+
+-- what `?` hands on of an error
+pub handed_on : {T : Type 0} (r : Result T Error) (e : Error) (Q : Error → Type 0) →
+    IsErrAnd r (λ x. x ≡ e) → Q e → IfErr r Q
+handed_on (Ok x) e Q same q = absurd same
+handed_on (Err x) e Q same q = rw same q

@@ -1,5 +1,5 @@
 -- The command line of nbdmirror, as clap is told of it.
-use Rattle.std.specs.Prelude.{◌≡◌, ℕ, ℤ, List, [], ◌∷◌, Some, true, codes, pos, map, ◌^◌, ◌-◌}
+use Rattle.std.specs.Prelude.{◌≡◌, ℤ, List, [], ◌∷◌, Some, true, codes, pos, map, ◌^◌, ◌-◌}
 use Rattle.std.specs.Borrow.{Bor}
 use Rattle.clap.specs.Words.{App, Rule, Text, new_app, new_rule, with_rule}
 use Rattle.clap.specs.declared.builder.value_parser.ValueParser.{ValueParser}

@@ -1,8 +1,12 @@
 -- What the words of a command line ask for.
-use Rattle.std.specs.Prelude.{◌≡◌, ◌<◌, ℕ, Bool, true, false, List, length, map, Option, Some, codes}
+use Rattle.std.specs.Prelude.{◌≡◌, ◌⊎◌, ℕ, Bool, true, false, List, [], map, Option, Some}
+use Rattle.std.specs.Prelude.{codes}
 use Rattle.std.specs.Borrow.{Bor}
 use Rattle.std.specs.Str.Parse.{IsNumeral, digits_value, without_leading_plus}
-use Rattle.clap.specs.Words.{Row, Text, all_of, first_of, matches_of, one_of}
+use Rattle.clap.specs.Words.{IsAmong, Row, Text, all_of, fault_of, first_of, kind_of, matches_of}
+use Rattle.clap.specs.Words.{one_of}
+use Rattle.clap.specs.declared.error.Error.{Error}
+use Rattle.clap.specs.declared.error.kind.ErrorKind.TheVariants.{OutOfMemory}
 use Rattle.nm_choice.specs.declared.policy.Policy.{Policy}
 use Rattle.nm_choice.specs.declared.policy.Policy.TheVariants.{RoundRobin, Striped}
 use Rattle.nm_server.specs.declared.options.Settings.{Settings}
@@ -38,7 +42,19 @@ pub record HasSettings (rows : List Row) (s : Settings) : Type 0 where
   pub legs : all_of (codes "leg") rows ≡ Some (map (λ leg. leg.now) s.legs.items)
 
 -- The settings are those that the words of a command line ask for, with the defaults for the rest.
+-- Such words have no fault.
 pub record AsksFor (words : List Text) (s : Settings) : Type 0 where
   pub policies : Bor (List (Bor Text))
   pub known : ArePolicies policies
+  pub faultless : fault_of (nbdmirror policies) words ≡ []
   pub settings : HasSettings (matches_of (nbdmirror policies) words) s
+
+-- The words have a fault, and the error is of its kind.
+pub record IsFault (words : List Text) (error : Error) : Type 0 where
+  pub policies : Bor (List (Bor Text))
+  pub known : ArePolicies policies
+  pub among : IsAmong (kind_of error) (fault_of (nbdmirror policies) words)
+
+-- The error says that there is no memory, or what is wrong with the words.
+abbrev pub IsRefusal : List Text → Error → Type 0
+IsRefusal words error = (kind_of error ≡ OutOfMemory) ⊎ IsFault words error

@@ -1,11 +1,12 @@
 //! The command line of `nbdmirror`.
-ghost use Rattle.std.specs.Prelude.{◌≡◌, ◌≤◌, ◌^◌, ◌<◌, ℕ, List, IfOk, Ok};
+ghost use Rattle.std.specs.Prelude.{◌≡◌, ◌≤◌, ◌^◌, ◌<◌, ℕ, List, IfErr, IfOk, Ok};
 ghost use Rattle.std.specs.Prelude.{map, length, codes, false, option_map, Some};
 ghost use Rattle.clap.specs.declared.builder.value_parser.ValueParser.TheVariants.{Names};
-ghost use Rattle.clap.specs.Words.{app_of, rule_of, first_value, found_of, one_text};
+ghost use Rattle.clap.specs.Words.{app_of, kind_of, rule_of, first_value, found_of, one_text};
+ghost use Rattle.clap.specs.declared.error.kind.ErrorKind.TheVariants.{OutOfMemory};
 ghost use Rattle.nm_server.specs.CommandLine.{ArePolicies, flag_rule, nbdmirror, number_rule};
 ghost use Rattle.nm_server.specs.CommandLine.{option_rule, parsed_rule, words_rule};
-ghost use Rattle.nm_server.specs.Settings.{AsksFor, IsNumber, policy_text};
+ghost use Rattle.nm_server.specs.Settings.{AsksFor, IsNumber, IsRefusal, policy_text};
 
 use crate::options::Settings;
 use clap::builder::ValueParser;
@@ -89,8 +90,9 @@ fn words<'a>(alloc: Global, id: &'a str, help: &'a str) -> Arg<'a>
 
 // The options and the legs, as clap is told of them.
 fn command_line<'a>(alloc: Global) -> Result<Command<'a>, Error>
-    ensures { IfOk result (λ command. (policies : _) × ArePolicies policies
+    ensures ok { IfOk result (λ command. (policies : _) × ArePolicies policies
         × (app_of command ≡ nbdmirror policies)) }
+    ensures memory { IfErr result (λ error. kind_of error ≡ OutOfMemory) }
 {
     let listen = option(
         alloc,
@@ -125,6 +127,7 @@ fn command_line<'a>(alloc: Global) -> Result<Command<'a>, Error>
         "the legs' files, from leg 0 on, all of one length",
     );
     let command = Command::new(alloc, "nbdmirror")
+        .bin_name("nbdmirror")?
         .arg(listen)?
         .arg(control)?
         .arg(name)?
@@ -139,7 +142,8 @@ fn command_line<'a>(alloc: Global) -> Result<Command<'a>, Error>
 
 // The text of an option.
 fn text<'a>(matches: &ArgMatches<'a>, id: &str) -> Result<&'a str, Error>
-    ensures { IfOk result (λ text. first_value (found_of matches.now) id.now ≡ Some text.now) }
+    ensures ok { IfOk result (λ text. first_value (found_of matches.now) id.now ≡ Some text.now) }
+    ensures memory { IfErr result (λ error. kind_of error ≡ OutOfMemory) }
 {
     match matches.get_str(id) {
         Some(text) => Ok(text),
@@ -149,7 +153,8 @@ fn text<'a>(matches: &ArgMatches<'a>, id: &str) -> Result<&'a str, Error>
 
 // The number of an option.
 fn number(matches: &ArgMatches<'_>, id: &str) -> Result<u8, Error>
-    ensures { IfOk result (λ number. IsNumber (one_text (found_of matches.now) id.now) number) }
+    ensures ok { IfOk result (λ number. IsNumber (one_text (found_of matches.now) id.now) number) }
+    ensures memory { IfErr result (λ error. kind_of error ≡ OutOfMemory) }
 {
     match matches.get_one::<u8>(id) {
         Some(number) => Ok(number),
@@ -159,8 +164,9 @@ fn number(matches: &ArgMatches<'_>, id: &str) -> Result<u8, Error>
 
 // The policy.
 fn policy(matches: &ArgMatches<'_>) -> Result<Policy, Error>
-    ensures { IfOk result (λ policy. first_value (found_of matches.now) (codes "policy")
+    ensures ok { IfOk result (λ policy. first_value (found_of matches.now) (codes "policy")
         ≡ Some (policy_text policy)) }
+    ensures memory { IfErr result (λ error. kind_of error ≡ OutOfMemory) }
 {
     match text(matches, "policy")? {
         "round-robin" => Ok(Policy::RoundRobin),
@@ -172,10 +178,12 @@ fn policy(matches: &ArgMatches<'_>) -> Result<Policy, Error>
 /// Reads a command line, whose first word is the program's name.
 ///
 /// Each option has the value that the words give it, or its default, and there is at least one leg.
-/// Where the words are no command line, or ask for help, the error has the text to show.
+/// Words that clap finds nothing wrong with are refused only where there is no memory. Where the
+/// words are no command line, or ask for help, the error has the text to show.
 pub fn settings<'a, S: AsStr>(alloc: Global, words: &'a [S]) -> Result<Settings<'a>, Error>
     ensures asked { IfOk result (λ settings. AsksFor (map S.text words.entry.now) settings) }
     ensures some_leg { IfOk result (λ settings. 0 < length settings.legs.items) }
+    ensures refused { IfErr result (IsRefusal (map S.text words.entry.now)) }
 {
     let command = command_line(alloc)?;
     let matches = command.try_get_matches_from(words)?;

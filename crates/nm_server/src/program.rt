@@ -8,6 +8,8 @@ use crate::places::SessionPlaces;
 use crate::resync::resynchronise;
 use crate::sessions::{ExportName, serve_place, take_clients};
 use crate::start_fault::StartFault;
+use clap::Error;
+use clap::error::ErrorKind;
 use log::{Log, warn};
 use nm_lanes::NoGate;
 use nm_mirror::{Mirror, Pass, open_stripes};
@@ -238,6 +240,23 @@ fn is_loopback(listener: &TcpListener) -> bool {
     matches!(listener.local_addr(), Ok(address) if address.ip().is_loopback())
 }
 
+// Tells why the server does not start or does not end well. What cannot be written is lost.
+fn tell_fault<E: Write>(fault: &StartFault<'_>, err: &mut E) -> u8 {
+    let _ = writeln!(err, "{fault}");
+    let _ = err.flush();
+    fault.status()
+}
+
+// Tells why the words are no command line.
+fn tell_refusal<E: Write>(error: &Error, err: &mut E) -> u8 {
+    if matches!(error.kind(), ErrorKind::OutOfMemory) {
+        return tell_fault(&StartFault::Memory, err);
+    }
+    let _ = write!(err, "{error}");
+    let _ = err.flush();
+    2
+}
+
 /// Runs the server that these words ask for, the first of them the program's name, and returns the
 /// exit status.
 ///
@@ -262,18 +281,10 @@ where
 {
     let settings = match settings(alloc, words) {
         Ok(settings) => settings,
-        Err(error) => {
-            let _ = write!(err, "{error}");
-            let _ = err.flush();
-            return 2;
-        }
+        Err(error) => return tell_refusal(&error, err),
     };
     match run(rt, alloc, &settings, out) {
         Ok(()) => 0,
-        Err(fault) => {
-            let _ = writeln!(err, "{fault}");
-            let _ = err.flush();
-            fault.status()
-        }
+        Err(fault) => tell_fault(&fault, err),
     }
 }

@@ -1,13 +1,15 @@
-use Rattle.std.proofs.Common.{◌∙◌, ◌≡◌, ap₂}
+use Rattle.std.proofs.Common.{◌∙◌, ◌≡◌, ap, ap₂}
+use Rattle.clap.specs.Simple.{app_of_fields}
 use Rattle.clap.specs.Words.{app_of, with_rule}
 use Rattle.nm_server.specs.CommandLine.{nbdmirror}
 use Rattle.nm_server.proofs.command_line.command_line.Goals as goal
 
-pub returns : goal.returns
-returns c =
+pub returns-clause-ok : goal.returns-clause-ok
+returns-clause-ok c =
+    let named = ap app_of_fields c.in_ok-bin_name.ensures.0 ∙ c.new.ensures.app in
     let policy = c.policy_option-policy.ensures.rule in
     let one = c.in_ok-arg.ensures.shape c.option-listen.ensures.own
-    ∙ ap₂ with_rule c.new.ensures.app c.option-listen.ensures.rule in
+    ∙ ap₂ with_rule named c.option-listen.ensures.rule in
     let two = c.in_ok-arg-2.ensures.shape c.option-control.ensures.own
     ∙ ap₂ with_rule one c.option-control.ensures.rule in
     let three = c.in_ok-arg-3.ensures.shape c.option-name.ensures.own

@@ -1,4 +1,4 @@
-use Rattle.std.proofs.Common.{◌≡◌, ◌++◌, List, ℕ, rules, take, length}
+use Rattle.std.proofs.Common.{◌≡◌, rules, take, length}
 use Rattle.nm_server.proofs.Digits.{other_start}
 use Rattle.nm_server.proofs.control_command.after.Goals as goal
 

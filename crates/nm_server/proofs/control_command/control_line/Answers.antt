@@ -1,4 +1,4 @@
-use Rattle.std.proofs.Common.{◌≡◌, rules, codes, refl}
+use Rattle.std.proofs.Common.{rules, refl}
 use Rattle.nm_server.proofs.Digits.{asks_nothing}
 use Rattle.nm_server.proofs.control_command.control_line.Goals as goal
 

@@ -1,4 +1,3 @@
-use Rattle.std.proofs.Common.{◌≡◌, ◌++◌, rules}
 use Rattle.nm_server.proofs.Digits.{legs_after, no_legs_after}
 use Rattle.nm_server.proofs.control_command.leg_after.Goals as goal
 
