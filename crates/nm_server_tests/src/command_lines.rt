@@ -1,0 +1,184 @@
+//! Command lines: each option and its default, and what is refused.
+
+use clap::error::ErrorKind;
+use nm_choice::Policy;
+use nm_server::{Settings, settings};
+use std::alloc::Global;
+use std::test::Fail;
+
+/// Words behind the program's name, and what they ask for.
+type Taken = (&'static [&'static str], Asked);
+
+/// Words behind the program's name, and how they are refused.
+type Refused = (&'static [&'static str], ErrorKind);
+
+/// What a command line asks for, with one leg.
+#[derive(Clone, Copy, Debug, PartialEq)]
+struct Asked {
+    listen: &'static str,
+    control: &'static str,
+    name: &'static str,
+    numbers: [u8; 3],
+    policy: Policy,
+    read_only: bool,
+    legs: usize,
+}
+
+/// What a command line of one leg asks for.
+const PLAIN: Asked = Asked {
+    listen: "127.0.0.1:10809",
+    control: "127.0.0.1:10810",
+    name: "disk",
+    numbers: [16, 0, 16],
+    policy: Policy::RoundRobin,
+    read_only: false,
+    legs: 1,
+};
+
+const TAKEN: [Taken; 15] = [
+    (&["a"], PLAIN),
+    (&["a", "b", "c"], Asked { legs: 3, ..PLAIN }),
+    (
+        &["--listen", "[::]:1", "a"],
+        Asked {
+            listen: "[::]:1",
+            ..PLAIN
+        },
+    ),
+    (
+        &["a", "--control=nonsense"],
+        Asked {
+            control: "nonsense",
+            ..PLAIN
+        },
+    ),
+    (&["--name", "", "a"], Asked { name: "", ..PLAIN }),
+    (
+        &["--stripes", "1", "a"],
+        Asked {
+            numbers: [1, 0, 16],
+            ..PLAIN
+        },
+    ),
+    (
+        &["--stripes=64", "a"],
+        Asked {
+            numbers: [64, 0, 16],
+            ..PLAIN
+        },
+    ),
+    (
+        &["--master", "7", "a"],
+        Asked {
+            numbers: [16, 7, 16],
+            ..PLAIN
+        },
+    ),
+    (
+        &["--sessions", "1", "a"],
+        Asked {
+            numbers: [16, 0, 1],
+            ..PLAIN
+        },
+    ),
+    (
+        &["--sessions", "64", "a"],
+        Asked {
+            numbers: [16, 0, 64],
+            ..PLAIN
+        },
+    ),
+    (
+        &["--policy", "striped", "a"],
+        Asked {
+            policy: Policy::Striped,
+            ..PLAIN
+        },
+    ),
+    (&["--policy", "round-robin", "a"], PLAIN),
+    (
+        &["--read-only", "a"],
+        Asked {
+            read_only: true,
+            ..PLAIN
+        },
+    ),
+    (&["a", "--", "--read-only"], Asked { legs: 2, ..PLAIN }),
+    (
+        &["0", "1", "2", "3", "4", "5", "6", "7", "8"],
+        Asked { legs: 9, ..PLAIN },
+    ),
+];
+
+const REFUSED: [Refused; 16] = [
+    (&[], ErrorKind::MissingRequiredArgument),
+    (&["--read-only"], ErrorKind::MissingRequiredArgument),
+    (&["--help"], ErrorKind::DisplayHelp),
+    (&["-h"], ErrorKind::DisplayHelp),
+    (&["--version", "a"], ErrorKind::UnknownArgument),
+    (&["--nope", "a"], ErrorKind::UnknownArgument),
+    (&["--stripes", "0", "a"], ErrorKind::ValueValidation),
+    (&["--stripes", "65", "a"], ErrorKind::ValueValidation),
+    (&["--stripes", "x", "a"], ErrorKind::ValueValidation),
+    (&["--sessions", "0", "a"], ErrorKind::ValueValidation),
+    (&["--sessions", "65", "a"], ErrorKind::ValueValidation),
+    (&["--master", "8", "a"], ErrorKind::ValueValidation),
+    (&["--policy", "other", "a"], ErrorKind::InvalidValue),
+    (&["a", "--listen"], ErrorKind::InvalidValue),
+    (
+        &["--name", "x", "--name", "y", "a"],
+        ErrorKind::ArgumentConflict,
+    ),
+    (&["--read-only=yes", "a"], ErrorKind::TooManyValues),
+];
+
+/// The words with the program's name before them.
+fn line(alloc: Global, words: &[&'static str]) -> Result<Vec<&'static str>, Fail> {
+    let mut line = Vec::new(alloc);
+    line.push("nbdmirror")?;
+    line.extend_from_slice(words)?;
+    Ok(line)
+}
+
+/// Whether the settings are these.
+fn is_asked(settings: &Settings<'_>, asked: Asked) -> bool {
+    settings.listen == asked.listen
+        && settings.control == asked.control
+        && settings.name == asked.name
+        && [settings.stripes, settings.master, settings.sessions] == asked.numbers
+        && settings.policy == asked.policy
+        && settings.read_only == asked.read_only
+        && settings.legs.len() == asked.legs
+}
+
+fn is_taken(alloc: Global, words: &[&'static str], asked: Asked) -> Result<bool, Fail> {
+    let line = line(alloc, words)?;
+    match settings(alloc, line.as_slice()) {
+        Ok(settings) => Ok(is_asked(&settings, asked)),
+        Err(_) => Ok(false),
+    }
+}
+
+fn is_refused(alloc: Global, words: &[&'static str], kind: ErrorKind) -> Result<bool, Fail> {
+    let line = line(alloc, words)?;
+    match settings(alloc, line.as_slice()) {
+        Ok(_) => Ok(false),
+        Err(error) => Ok(error.kind() == kind),
+    }
+}
+
+#[test]
+fn words_ask_for_their_settings(rt: HostRuntime) -> Result<(), Fail> {
+    for (words, asked) in TAKEN {
+        assert!(rt; is_taken(rt.alloc(), words, asked)?, "at {words:?}");
+    }
+    Ok(())
+}
+
+#[test]
+fn words_that_are_no_command_line_are_refused(rt: HostRuntime) -> Result<(), Fail> {
+    for (words, kind) in REFUSED {
+        assert!(rt; is_refused(rt.alloc(), words, kind)?, "at {words:?}");
+    }
+    Ok(())
+}

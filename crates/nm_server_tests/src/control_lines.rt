@@ -1,0 +1,130 @@
+//! The control port's answers over two legs in memory, without a thread that copies.
+
+use nm_geometry::Shape;
+use nm_lanes::NoGate;
+use nm_leg::MemLeg;
+use nm_mirror::{Mirror, open_stripes};
+use nm_server::control;
+use nm_stripe::Policy;
+use std::alloc::Global;
+use std::process::Abort;
+use std::sync::Wait;
+use std::test::Fail;
+
+/// What a client sends, what it is answered, and whether the server ends.
+type Talk = (&'static [u8], &'static [u8], bool);
+
+/// One connection after the other, all to the same mirror.
+const TALKS: [Talk; 14] = [
+    (
+        b"status\n",
+        b"stripe 0: master 0 settling no legs in join(1024)\n\
+          stripe 1: master 0 settling no legs in join(1024)\nend\n",
+        false,
+    ),
+    (
+        b"fail 1\n",
+        b"fail 1: failed 2 last 0 out 0 stopped 0\n",
+        false,
+    ),
+    (
+        b"fail 0\n",
+        b"fail 0: failed 0 last 2 out 0 stopped 0\n",
+        false,
+    ),
+    (
+        b"fail 01\n",
+        b"fail 1: failed 0 last 0 out 2 stopped 0\n",
+        false,
+    ),
+    (
+        b"attach 1\n",
+        b"attach 1: joining 2 left 2048 notout 0 stopped 0\n",
+        false,
+    ),
+    (
+        b"attach 0\n",
+        b"attach 0: joining 0 left 0 notout 2 stopped 0\n",
+        false,
+    ),
+    (b"fail 2\nattach 8\n", b"bad command\nbad command\n", false),
+    (
+        b"fail +1\nfail 1 \nfail\n",
+        b"bad command\nbad command\nbad command\n",
+        false,
+    ),
+    (
+        b"\nSTATUS\nstatus\r\n",
+        b"bad command\nbad command\nbad command\n",
+        false,
+    ),
+    // 20 digits are a number, 21 are none, and 2^64 + 1 is not 1.
+    (
+        b"fail 00000000000000000001\nfail 000000000000000000001\nfail 18446744073709551617\n",
+        b"fail 1: failed 2 last 0 out 0 stopped 0\nbad command\nbad command\n",
+        false,
+    ),
+    // What stands behind the last LF is nothing.
+    (b"quit", b"", false),
+    // 64 bytes are a line; 65 are none, and what stands behind them is not run.
+    (
+        b"1234567890123456789012345678901234567890123456789012345678901234\n",
+        b"bad command\n",
+        false,
+    ),
+    (
+        b"12345678901234567890123456789012345678901234567890123456789012345\nquit\n",
+        b"",
+        false,
+    ),
+    // Lines behind a quit are not run.
+    (b"quit\nfail 0\n", b"bye\n", true),
+];
+
+/// A mirror of 1 MiB in two stripes, on two legs in memory; leg 0 is in sync, leg 1 joins.
+fn mirror(alloc: Global) -> Result<Mirror<MemLeg, NoGate>, Fail> {
+    let shape = Shape::new(2048, 128, 8, 2, 2).ok_or("no shape")?;
+    let mut legs = Vec::new(alloc);
+    for stripe in 0..shape.stripes {
+        let blocks = shape.stripe_blocks(stripe);
+        let mut own = Vec::new(alloc);
+        own.push(MemLeg::new(alloc, blocks)?)?;
+        own.push(MemLeg::new(alloc, blocks)?)?;
+        legs.push(own)?;
+    }
+    let Ok(stripes) = open_stripes(alloc, &shape, legs, 0, Policy::RoundRobin) else {
+        return Err(Fail::new("no stripes"));
+    };
+    match Mirror::new(alloc, shape, stripes, NoGate) {
+        Ok(mirror) => Ok(mirror),
+        Err(_) => Err(Fail::new("no memory")),
+    }
+}
+
+/// Whether a connection goes as it must.
+fn goes<R: Wait + Abort>(
+    rt: &R,
+    alloc: Global,
+    mirror: &Mirror<MemLeg, NoGate>,
+    sent: &[u8],
+    answered: &[u8],
+    ends: bool,
+) -> bool {
+    let mut reader = sent;
+    let mut writer = Vec::new(alloc);
+    let has_quit = control(rt, alloc, &mut reader, &mut writer, mirror);
+    has_quit == ends && writer.as_slice() == answered
+}
+
+#[test]
+fn lines_are_answered(rt: HostRuntime) -> Result<(), Fail> {
+    let alloc = rt.alloc();
+    let mirror = mirror(alloc)?;
+    for (place, (sent, answered, ends)) in TALKS.into_iter().enumerate() {
+        assert!(rt;
+            goes(&rt, alloc, &mirror, sent, answered, ends),
+            "talk {place}"
+        );
+    }
+    Ok(())
+}
