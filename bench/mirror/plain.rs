@@ -1,0 +1,584 @@
+// The same work in plain Rust, with the standard library alone: stripes behind locks, one hold of a
+// lock for each step, and in each stripe the same rules, records, regions and history.
+use std::collections::VecDeque;
+use std::hint::black_box;
+use std::ops::Range;
+use std::sync::{Arc, Mutex};
+use std::thread;
+use std::time::Instant;
+
+const BLOCKS: u64 = 16_384;
+const BYTES: u64 = 512 * BLOCKS;
+const TURNS: u64 = 4;
+const ROUNDS: u32 = 5;
+const MOST: usize = 1 << 20;
+const REGION: u64 = 128;
+const MOST_RECORDS: usize = 256;
+const MOST_ENTRIES: usize = 1_024;
+const NUMBERS: u64 = 1 << 63;
+const LEGS: usize = 8;
+
+#[derive(Clone, Copy)]
+struct Block([u8; 512]);
+
+enum Kind {
+    Read,
+    Write(u64),
+}
+
+struct Entry {
+    seq: u64,
+    kind: Kind,
+    block: u64,
+    bytes: Block,
+}
+
+// Bytes of a receive buffer.
+struct Data(Arc<[u8]>, Range<usize>);
+
+impl Data {
+    fn bytes(&self) -> &[u8] {
+        &self.0[self.1.clone()]
+    }
+}
+
+struct Record {
+    ticket: u64,
+    block: u64,
+    data: Data,
+    owed: [bool; LEGS],
+    entry: Option<u64>,
+}
+
+#[allow(dead_code)]
+#[derive(Debug)]
+enum Refusal {
+    Busy(u64),
+    Copying(u8),
+    Full,
+    Settling,
+    Stopped,
+    Exhausted,
+    NoTicket,
+    NotOwed,
+    NotYet,
+}
+
+enum Reach {
+    Pushed(usize),
+    Complete(u64),
+}
+
+// The last entries, and the count of all.
+struct Kept {
+    ring: VecDeque<Entry>,
+    total: u64,
+}
+
+impl Kept {
+    fn push(&mut self, entry: Entry) {
+        if self.ring.len() == MOST_ENTRIES {
+            self.ring.pop_front();
+        }
+        self.ring.push_back(entry);
+        self.total += 1;
+    }
+}
+
+// The records by rising ticket. Each stays in its slot; a search reads tickets and blocks alone.
+struct Records {
+    tickets: Vec<u64>,
+    blocks: Vec<u64>,
+    slots: Vec<u8>,
+    stored: Vec<Option<Record>>,
+    free: Vec<u8>,
+    unlanded: u64,
+}
+
+impl Records {
+    fn new() -> Records {
+        Records {
+            tickets: Vec::with_capacity(MOST_RECORDS),
+            blocks: Vec::with_capacity(MOST_RECORDS),
+            slots: Vec::with_capacity(MOST_RECORDS),
+            stored: (0..MOST_RECORDS).map(|_| None).collect(),
+            free: (0..=255).rev().collect(),
+            unlanded: 0,
+        }
+    }
+
+    fn at(&self, place: usize) -> &Record {
+        self.stored[self.slots[place] as usize].as_ref().unwrap()
+    }
+
+    fn at_mut(&mut self, place: usize) -> &mut Record {
+        self.stored[self.slots[place] as usize].as_mut().unwrap()
+    }
+
+    fn find(&self, ticket: u64) -> Result<usize, Refusal> {
+        self.tickets.binary_search(&ticket).map_err(|_| Refusal::NoTicket)
+    }
+
+    fn busy_among(&self, blocks: Range<u64>) -> Option<u64> {
+        let under_way = |place: &usize| {
+            blocks.contains(&self.blocks[*place]) && self.at(*place).owed.contains(&true)
+        };
+        let place = (0..self.blocks.len()).find(under_way)?;
+        Some(self.tickets[place])
+    }
+
+    fn is_full(&self) -> bool {
+        self.tickets.len() >= MOST_RECORDS
+    }
+
+    fn push(&mut self, record: Record) {
+        let slot = self.free.pop().unwrap();
+        self.tickets.push(record.ticket);
+        self.blocks.push(record.block);
+        self.slots.push(slot);
+        self.stored[slot as usize] = Some(record);
+        self.unlanded += 1;
+    }
+
+    fn remove(&mut self, place: usize) -> Record {
+        self.tickets.remove(place);
+        self.blocks.remove(place);
+        let slot = self.slots.remove(place);
+        self.free.push(slot);
+        self.stored[slot as usize].take().unwrap()
+    }
+}
+
+#[derive(Clone, Copy)]
+struct CopyPlace {
+    leg: u8,
+    region: u64,
+    cursor: u64,
+}
+
+struct LegFlags {
+    out: bool,
+    behind: Vec<bool>,
+    count: u64,
+}
+
+// For each region the writes under way, and for each leg the regions that it is behind in. The
+// region's size is known at run time only, as it is to the proved stripe.
+struct Regions {
+    region: u64,
+    legs: Vec<LegFlags>,
+    writes: Vec<u16>,
+    copy: Option<CopyPlace>,
+}
+
+impl Regions {
+    fn new(blocks: u64) -> Regions {
+        let regions = blocks.div_ceil(REGION) as usize;
+        let flags = || LegFlags {
+            out: false,
+            behind: vec![false; regions],
+            count: 0,
+        };
+        Regions {
+            region: black_box(REGION),
+            legs: vec![flags(), flags()],
+            writes: vec![0; regions],
+            copy: None,
+        }
+    }
+
+    fn is_current(&self, leg: usize, block: u64) -> bool {
+        let region = block / self.region;
+        let Some(flags) = self.legs.get(leg) else {
+            return false;
+        };
+        let is_copied = |copy: CopyPlace| {
+            copy.leg as usize == leg && copy.region == region && block % self.region < copy.cursor
+        };
+        (!flags.out && !flags.behind[region as usize]) || self.copy.is_some_and(is_copied)
+    }
+
+    fn targets(&self, block: u64) -> [bool; LEGS] {
+        std::array::from_fn(|leg| self.is_current(leg, block))
+    }
+
+    fn is_quiet(&self, block: u64) -> bool {
+        self.writes[(block / self.region) as usize] == 0
+    }
+
+    fn begin(&mut self, block: u64) {
+        let region = (block / self.region) as usize;
+        self.writes[region] += 1;
+        for leg in self.legs.iter_mut().filter(|leg| leg.out) {
+            leg.count += u64::from(!leg.behind[region]);
+            leg.behind[region] = true;
+        }
+    }
+
+    fn finish(&mut self, block: u64) {
+        self.writes[(block / self.region) as usize] -= 1;
+    }
+}
+
+struct Stripe {
+    legs: Vec<Vec<Block>>,
+    regions: Regions,
+    chunk: u64,
+    records: Records,
+    tickets: u64,
+    kept: Kept,
+    turn: u64,
+    settling: bool,
+    stopped: bool,
+}
+
+impl Stripe {
+    fn open(blocks: u64) -> Stripe {
+        let leg = || vec![Block([0; 512]); blocks as usize];
+        Stripe {
+            legs: vec![leg(), leg()],
+            regions: Regions::new(blocks),
+            chunk: 0,
+            records: Records::new(),
+            tickets: 0,
+            kept: Kept {
+                ring: VecDeque::with_capacity(MOST_ENTRIES),
+                total: 0,
+            },
+            turn: 0,
+            settling: false,
+            stopped: false,
+        }
+    }
+
+    fn is_exhausted(&self) -> bool {
+        self.kept.total + self.records.unlanded >= NUMBERS
+    }
+
+    fn copying_on(&self, block: u64) -> Option<u8> {
+        let copy = self.regions.copy?;
+        let start = copy.region * self.regions.region + copy.cursor;
+        (start..start + self.chunk).contains(&block).then_some(copy.leg)
+    }
+
+    fn begin_cause(&self, block: u64) -> Option<Refusal> {
+        if self.stopped {
+            return Some(Refusal::Stopped);
+        }
+        if self.settling {
+            return Some(Refusal::Settling);
+        }
+        if let Some(ticket) = self.records.busy_among(block..block + 1) {
+            return Some(Refusal::Busy(ticket));
+        }
+        if let Some(leg) = self.copying_on(block) {
+            return Some(Refusal::Copying(leg));
+        }
+        if self.records.is_full() {
+            return Some(Refusal::Full);
+        }
+        self.is_exhausted().then_some(Refusal::Exhausted)
+    }
+
+    fn begin(&mut self, block: u64, data: Data) -> Result<u64, (Refusal, Data)> {
+        if let Some(refusal) = self.begin_cause(block) {
+            return Err((refusal, data));
+        }
+        let ticket = self.tickets;
+        let owed = self.regions.targets(block);
+        self.regions.begin(block);
+        self.records.push(Record {
+            ticket,
+            block,
+            data,
+            owed,
+            entry: None,
+        });
+        self.tickets += 1;
+        Ok(ticket)
+    }
+
+    fn push(&mut self, ticket: u64, leg: usize) -> Result<Reach, Refusal> {
+        if self.stopped {
+            return Err(Refusal::Stopped);
+        }
+        let place = self.records.find(ticket)?;
+        let record = self.records.at_mut(place);
+        if record.owed.get(leg) != Some(&true) {
+            return Err(Refusal::NotOwed);
+        }
+        let bytes: &[u8; 512] = record.data.bytes().try_into().unwrap();
+        self.legs[leg][record.block as usize].0 = *bytes;
+        let lands = leg == 0 && record.entry.is_none();
+        if lands {
+            let number = self.kept.total;
+            self.kept.push(Entry {
+                seq: number,
+                kind: Kind::Write(ticket),
+                block: record.block,
+                bytes: Block(*bytes),
+            });
+            record.entry = Some(number);
+        }
+        record.owed[leg] = false;
+        let (block, entry) = (record.block, record.entry);
+        let owed = record.owed.iter().filter(|owed| **owed).count();
+        self.records.unlanded -= u64::from(lands);
+        if owed > 0 {
+            return Ok(Reach::Pushed(owed));
+        }
+        self.regions.finish(block);
+        Ok(Reach::Complete(entry.unwrap()))
+    }
+
+    fn claim(&mut self, ticket: u64) -> Result<u64, Refusal> {
+        if self.stopped {
+            return Err(Refusal::Stopped);
+        }
+        let place = self.records.find(ticket)?;
+        if self.records.at(place).owed.contains(&true) {
+            return Err(Refusal::NotYet);
+        }
+        Ok(self.records.remove(place).entry.unwrap())
+    }
+
+    // The leg that a read takes: one leg after the other in a quiet region, else the master.
+    fn leg_to_read(&self, block: u64) -> usize {
+        if !self.regions.is_quiet(block) {
+            return 0;
+        }
+        let current = self.regions.targets(block);
+        let count = current.iter().filter(|is_current| **is_current).count();
+        let mut legs = (0..LEGS).filter(|leg| current[*leg]);
+        legs.nth(self.turn as usize % count).unwrap()
+    }
+
+    fn read(&mut self, block: u64, into: &mut Block) -> Result<u64, Refusal> {
+        if self.stopped {
+            return Err(Refusal::Stopped);
+        }
+        if self.settling {
+            return Err(Refusal::Settling);
+        }
+        if self.is_exhausted() {
+            return Err(Refusal::Exhausted);
+        }
+        let number = self.kept.total;
+        *into = self.legs[self.leg_to_read(block)][block as usize];
+        self.kept.push(Entry {
+            seq: number,
+            kind: Kind::Read,
+            block,
+            bytes: *into,
+        });
+        if self.regions.is_quiet(block) {
+            self.turn = (self.turn + 1) % 840;
+        }
+        Ok(number)
+    }
+}
+
+// What a client was given in one stripe.
+#[derive(Clone, Copy, Default)]
+struct Part {
+    front: u64,
+    count: u64,
+}
+
+impl Part {
+    fn note(&mut self, number: u64) {
+        self.count += 1;
+        self.front = self.front.max(number + 1);
+    }
+}
+
+struct Mirror {
+    stripes: Vec<Mutex<Stripe>>,
+    region: u64,
+}
+
+impl Mirror {
+    fn new(stripes: u64) -> Mirror {
+        let open = |_| Mutex::new(Stripe::open(BLOCKS / stripes));
+        Mirror {
+            stripes: (0..stripes).map(open).collect(),
+            region: black_box(REGION),
+        }
+    }
+
+    // The stripe of a block of the export, and the block's number in it.
+    fn place(&self, block: u64) -> (usize, u64) {
+        let (region, stripes) = (block / self.region, self.stripes.len() as u64);
+        let in_stripe = region / stripes * self.region + block % self.region;
+        ((region % stripes) as usize, in_stripe)
+    }
+
+    // One hold of one lock.
+    fn step<T>(&self, stripe: usize, part: &Part, step: impl FnOnce(&mut Stripe) -> T) -> T {
+        let mut held = self.stripes[stripe].lock().unwrap();
+        assert!(held.kept.total >= part.front);
+        step(&mut held)
+    }
+
+    fn write_block(&self, parts: &mut [Part], block: u64, data: Data) {
+        let (stripe, block) = self.place(block);
+        let part = &mut parts[stripe];
+        let ticket = match self.step(stripe, part, |held| held.begin(block, data)) {
+            Ok(ticket) => ticket,
+            Err((refusal, _)) => panic!("{refusal:?}"),
+        };
+        for leg in 0..2 {
+            match self.step(stripe, part, |held| held.push(ticket, leg)).unwrap() {
+                Reach::Pushed(owed) => assert!(owed < LEGS),
+                Reach::Complete(number) => assert!(number < NUMBERS),
+            }
+        }
+        let number = self.step(stripe, part, |held| held.claim(ticket)).unwrap();
+        part.note(number);
+    }
+
+    // The payload is cut before the first block is written.
+    fn write(&self, parts: &mut [Part], offset: u64, received: &Arc<[u8]>, len: usize) {
+        let cut = |start| Data(received.clone(), start..start + 512);
+        let cuts: Vec<Data> = (0..len).step_by(512).map(cut).collect();
+        for (block, data) in (offset / 512..).zip(cuts) {
+            self.write_block(parts, block, data);
+        }
+    }
+
+    fn read(&self, parts: &mut [Part], offset: u64, into: &mut [u8]) {
+        for (block, into) in (offset / 512..).zip(into.chunks_mut(512)) {
+            let (stripe, block) = self.place(block);
+            let mut found = Block([0; 512]);
+            let part = &mut parts[stripe];
+            let number = self.step(stripe, part, |held| held.read(block, &mut found)).unwrap();
+            into.copy_from_slice(&found.0);
+            part.note(number);
+        }
+    }
+}
+
+#[derive(Clone, Copy)]
+enum Work {
+    Write,
+    Read,
+}
+
+#[derive(Clone, Copy)]
+struct Row {
+    work: Work,
+    size: u64,
+    threads: u64,
+    stripes: u64,
+}
+
+struct Client {
+    number: u64,
+    parts: Vec<Part>,
+    received: Arc<[u8]>,
+    target: Vec<u8>,
+}
+
+impl Client {
+    fn new(row: Row, number: u64) -> Client {
+        let byte = |i: u64| (i / 512 + i + number) as u8;
+        Client {
+            number,
+            parts: vec![Part::default(); row.stripes as usize],
+            received: (0..MOST as u64).map(byte).collect(),
+            target: vec![0; row.size as usize],
+        }
+    }
+
+    fn call(&mut self, mirror: &Mirror, row: Row, offset: u64) -> u64 {
+        match row.work {
+            Work::Write => {
+                let len = row.size as usize;
+                mirror.write(&mut self.parts, offset, &self.received, len);
+                1
+            }
+            Work::Read => {
+                mirror.read(&mut self.parts, offset, &mut self.target);
+                u64::from(self.target[0]) ^ u64::from(*self.target.last().unwrap())
+            }
+        }
+    }
+
+    fn calls(&mut self, mirror: &Mirror, row: Row) -> u64 {
+        let share = BYTES / row.threads;
+        let places = share / row.size;
+        let mut sum = 0u64;
+        for turn in 0..TURNS * places {
+            let place = turn * 7919 % places;
+            let offset = self.number * share + place * row.size;
+            sum = sum.wrapping_add(self.call(mirror, row, offset));
+        }
+        sum
+    }
+}
+
+fn all_calls(mirror: &Mirror, clients: &mut [Client], row: Row) -> u64 {
+    if let [one] = clients {
+        return one.calls(mirror, row);
+    }
+    thread::scope(|scope| {
+        let start = |client| scope.spawn(move || Client::calls(client, mirror, row));
+        let started: Vec<_> = clients.iter_mut().map(start).collect();
+        let sums = started.into_iter().map(|thread| thread.join().unwrap());
+        sums.fold(0, u64::wrapping_add)
+    })
+}
+
+fn export_sum(mirror: &Mirror, parts: &mut [Part]) -> u64 {
+    let mut bytes = vec![0; BYTES as usize];
+    mirror.read(parts, 0, &mut bytes);
+    let told = u64::from(bytes[0]) ^ u64::from(bytes[bytes.len() - 1]);
+    black_box(told);
+    let add = |sum: u64, byte: &u8| sum.wrapping_mul(31).wrapping_add(u64::from(*byte));
+    bytes.iter().fold(0, add)
+}
+
+fn round(row: Row) -> (u64, u64) {
+    let mirror = Mirror::new(row.stripes);
+    let mut clients: Vec<_> = (0..row.threads).map(|number| Client::new(row, number)).collect();
+    let first = &mut clients[0];
+    for at in 0..8 {
+        mirror.write(&mut first.parts, at * MOST as u64, &first.received, MOST);
+    }
+    let start = Instant::now();
+    let told = all_calls(&mirror, &mut clients, row);
+    let nanos = start.elapsed().as_nanos() as u64;
+    let there = export_sum(&mirror, &mut clients[0].parts);
+    let had: u64 = mirror.stripes.iter().map(|stripe| stripe.lock().unwrap().kept.total).sum();
+    let counted: u64 = clients.iter().flat_map(|client| &client.parts).map(|part| part.count).sum();
+    assert_eq!(had, counted);
+    // The history is kept, though nobody reads it here.
+    for stripe in &mirror.stripes {
+        for entry in &stripe.lock().unwrap().kept.ring {
+            let ticket = match entry.kind {
+                Kind::Read => 0,
+                Kind::Write(ticket) => ticket,
+            };
+            black_box((entry.seq, ticket, entry.block, entry.bytes));
+        }
+    }
+    (nanos, told ^ there ^ had)
+}
+
+fn main() {
+    for (size, called) in [(4096, "4K"), (1 << 20, "1M")] {
+        for (work, verb) in [(Work::Write, "write"), (Work::Read, "read")] {
+            for threads in [1, 4] {
+                for stripes in [1, 4, 16] {
+                    let row = Row { work, size, threads, stripes };
+                    for _ in 0..ROUNDS {
+                        let (nanos, sum) = round(row);
+                        let (blocks, bytes) = (TURNS * BLOCKS, TURNS * BYTES);
+                        let name = format!("{verb} {called}, {threads} on {stripes}");
+                        println!("{name}: {blocks} {bytes} {sum} {nanos}");
+                    }
+                }
+            }
+        }
+    }
+}
