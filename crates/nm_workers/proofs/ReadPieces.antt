@@ -1,0 +1,114 @@
+-- What the reading thread sends is what it read, up to the end that it tells last.
+use Rattle.std.proofs.Common.{◌≡◌, ℕ, Bool, false, List, [], ◌∷◌, ◌++◌, Option, refl, sym, ap, ◌∙◌, subst, append-nil}
+use Rattle.std.specs.Io.KnownBytes.{Consumes}
+use Rattle.std.proofs.KnownBytes.{Consumes-trans, Consumes-nil}
+use Rattle.nm_mailbox.specs.declared.message.Piece.{Piece}
+use Rattle.nm_mailbox.specs.declared.message.Piece.TheVariants.{Bytes, Ended, Failed}
+use Rattle.nm_workers.specs.Pieces.{bytes_of}
+use Rattle.nm_workers.specs.Reading.{Gives, AreBytes, ReadsOn, HasRead, Goes, brings_bytes}
+use Rattle.nm_workers.proofs.Steps.{bytes-append}
+
+bytes_on : (pieces : List Piece) (more : List Piece) → AreBytes pieces → AreBytes more → AreBytes (pieces ++ more)
+bytes_on [] more are then = then
+bytes_on (Bytes bytes ∷ pieces) more are then = bytes_on pieces more are then
+bytes_on (Ended ∷ pieces) more are then = absurd are
+bytes_on (Failed ∷ pieces) more are then = absurd are
+
+-- pieces of bytes tell no end
+no_end : (pieces before after : List Piece) → AreBytes pieces → pieces ≡ before ++ Ended ∷ after → ⊥
+no_end [] [] after are same = cc
+no_end [] (b ∷ before) after are same = cc
+no_end (Bytes bytes ∷ pieces) [] after are same = cc
+no_end (Bytes bytes ∷ pieces) (b ∷ before) after are same =
+    let rest : pieces ≡ before ++ Ended ∷ after = cc in no_end pieces before after are rest
+no_end (Ended ∷ pieces) before after are same = absurd are
+no_end (Failed ∷ pieces) before after are same = absurd are
+
+no_end_failed : (pieces before after : List Piece) → AreBytes pieces
+    → pieces ++ Failed ∷ [] ≡ before ++ Ended ∷ after → ⊥
+no_end_failed [] [] after are same = cc
+no_end_failed [] (b ∷ []) after are same = cc
+no_end_failed [] (b ∷ c ∷ before) after are same = cc
+no_end_failed (Bytes bytes ∷ pieces) [] after are same = cc
+no_end_failed (Bytes bytes ∷ pieces) (b ∷ before) after are same =
+    let rest : pieces ++ Failed ∷ [] ≡ before ++ Ended ∷ after = cc in no_end_failed pieces before after are rest
+no_end_failed (Ended ∷ pieces) before after are same = absurd are
+no_end_failed (Failed ∷ pieces) before after are same = absurd are
+
+-- the end that is told after them is the last piece
+last_end : (pieces before after : List Piece) → AreBytes pieces
+    → pieces ++ Ended ∷ [] ≡ before ++ Ended ∷ after → after ≡ []
+last_end [] [] after are same = cc
+last_end [] (b ∷ []) after are same = absurd (cc)
+last_end [] (b ∷ c ∷ before) after are same = absurd (cc)
+last_end (Bytes bytes ∷ pieces) [] after are same = absurd (cc)
+last_end (Bytes bytes ∷ pieces) (b ∷ before) after are same =
+    let rest : pieces ++ Ended ∷ [] ≡ before ++ Ended ∷ after = cc in last_end pieces before after are rest
+last_end (Ended ∷ pieces) before after are same = absurd are
+last_end (Failed ∷ pieces) before after are same = absurd are
+
+module _ (input old new : Option (List ℕ)) (before : List Piece) (reads : ReadsOn input old before) where
+  -- a piece that was read and sent
+  pub sent_goes : (piece : Piece) → Gives piece old new → Goes (brings_bytes piece) input new (before ++ piece ∷ [])
+  sent_goes (Bytes bytes) gives = record {
+    are_bytes = bytes_on before (Bytes bytes ∷ []) reads.are_bytes tt;
+    consumes = subst (Consumes input new)
+        (sym (bytes-append before (Bytes bytes ∷ []) ∙ ap (λ (xs : List ℕ). bytes_of before ++ xs) (append-nil bytes.items)))
+        (Consumes-trans input old new (bytes_of before) bytes.items reads.consumes gives);
+  }
+  sent_goes Ended gives = record {
+    unsent = [];
+    consumes = subst (Consumes input new)
+        (sym (append-nil (bytes_of (before ++ Ended ∷ [])) ∙ bytes-append before (Ended ∷ [])))
+        (Consumes-trans input old new (bytes_of before) [] reads.consumes gives.0);
+    at_end = λ front after same. (gives.1, last_end before front after reads.are_bytes same, refl);
+  }
+  sent_goes Failed gives = record {
+    unsent = [];
+    consumes = subst (Consumes input new)
+        (sym (append-nil (bytes_of (before ++ Failed ∷ [])) ∙ bytes-append before (Failed ∷ [])))
+        (Consumes-trans input old new (bytes_of before) [] reads.consumes gives);
+    at_end = λ front after same. absurd (no_end_failed before front after reads.are_bytes same);
+  }
+
+  -- a piece that was read and not sent
+  pub unsent_ends : (piece : Piece) → Gives piece old new → HasRead input new before
+  unsent_ends (Bytes bytes) gives = record {
+    unsent = bytes.items;
+    consumes = Consumes-trans input old new (bytes_of before) bytes.items reads.consumes gives;
+    at_end = λ front after same. absurd (no_end before front after reads.are_bytes same);
+  }
+  unsent_ends Ended gives = record {
+    unsent = [];
+    consumes = Consumes-trans input old new (bytes_of before) [] reads.consumes gives.0;
+    at_end = λ front after same. absurd (no_end before front after reads.are_bytes same);
+  }
+  unsent_ends Failed gives = record {
+    unsent = [];
+    consumes = Consumes-trans input old new (bytes_of before) [] reads.consumes gives;
+    at_end = λ front after same. absurd (no_end before front after reads.are_bytes same);
+  }
+
+-- no more is read
+pub stops_reading : (input unread : Option (List ℕ)) (pieces : List Piece) → ReadsOn input unread pieces
+    → HasRead input unread pieces
+stops_reading input unread pieces reads = record {
+  unsent = [];
+  consumes = subst (Consumes input unread) (sym (append-nil (bytes_of pieces))) reads.consumes;
+  at_end = λ front after same. absurd (no_end pieces front after reads.are_bytes same);
+}
+
+-- nothing was read
+pub reads_nothing : (input : Option (List ℕ)) → ReadsOn input input []
+reads_nothing input = record { are_bytes = tt; consumes = Consumes-nil input }
+
+module _ (bytes old new : Option (List ℕ)) (before after : List Piece) (result : Bool)
+    (reads : ReadsOn bytes old before) where
+  -- the same, by what was found of the sending
+  pub sent_at : (piece : Piece) → Gives piece old new → result ≡ brings_bytes piece → after ≡ before ++ piece ∷ []
+      → Goes result bytes new after
+  sent_at piece gives is sent =
+      rw (is, sent) (sent_goes bytes old new before reads piece gives)
+
+  pub unsent_at : (piece : Piece) → Gives piece old new → result ≡ false → after ≡ before → Goes result bytes new after
+  unsent_at piece gives is same = rw (is, same) (unsent_ends bytes old new before reads piece gives)

@@ -1,0 +1,102 @@
+-- What reading requests does to a core, and that each task can be called for.
+use Rattle.std.proofs.Common.{◌≡◌, ℕ, ◌≤◌, List, [], ◌∷◌, ◌++◌, refl, sym, ap, ◌∙◌, subst, ◌⊎◌, inl, inr, arith}
+use Rattle.nm_requests.specs.declared.task.Task.{Task}
+use Rattle.nm_requests.specs.declared.task.Task.TheVariants as task
+use Rattle.nm_session.proofs.Motion.{runs-append}
+use Rattle.nm_session.proofs.OneTurn.{callable}
+use Rattle.nm_session.proofs.ReadEvents.{next_reads_on}
+use Rattle.nm_session.specs.declared.next.Next.TheVariants as next
+use Rattle.nm_session.specs.declared.stage.Stage.{Stage}
+use Rattle.nm_session.specs.declared.stage.Stage.TheVariants as stage
+use Rattle.nm_session.specs.Calling.{IsCallable}
+use Rattle.nm_session.specs.Event.{Event, Fed, Asked, Stopped, Answered, Took, Runs}
+use Rattle.nm_session.specs.Feeding.{FeedsAt, IsEnded}
+use Rattle.nm_session.specs.Laws.{AreReadings, IsRead}
+use Rattle.nm_session.specs.Reading.{Reads, StaysEnded, Disconnects, Breaks}
+use Rattle.nm_session.specs.Session.{Session}
+use Rattle.nm_session.specs.Turning.{IsStarved}
+use Rattle.nm_wire.specs.declared.export.Export.{Export}
+use Rattle.nm_wire.specs.Export.{size_of}
+
+-- a piece does not change the export
+feeds_export : (at : Stage) (old new : Session) (piece : List ℕ) → FeedsAt at old piece new
+    → new.haggling.export ≡ old.haggling.export
+feeds_export stage.Haggling old new piece feeds =
+    ap (λ (s : Session). s.haggling.export) feeds.new_is ∙ feeds.from.export_is
+feeds_export stage.Serving old new piece feeds = ap (λ (s : Session). s.haggling.export) feeds
+feeds_export (stage.Ended by) old new piece feeds = absurd feeds
+
+-- nothing does
+pub export_stays : (events : List Event) (old new : Session) → Runs old events new
+    → new.haggling.export ≡ old.haggling.export
+export_stays [] old new runs = ap (λ (s : Session). s.haggling.export) runs
+export_stays (Fed piece ∷ events) old new runs =
+    export_stays events runs.0 new runs.2 ∙ feeds_export old.stage old runs.0 piece runs.1
+export_stays (Asked request judged ∷ events) old new runs =
+    export_stays events runs.0 new runs.2 ∙ ap (λ (s : Session). s.haggling.export) runs.1.new_is
+export_stays (Stopped found ∷ events) old new runs =
+    export_stays events runs.0 new runs.2 ∙ ap (λ (s : Session). s.haggling.export) runs.1.new_is
+export_stays (Answered index outcome ∷ events) old new runs =
+    export_stays events runs.0 new runs.2 ∙ ap (λ (s : Session). s.haggling.export) runs.1.new_is
+export_stays (Took bytes ∷ events) old new runs =
+    export_stays events runs.0 new runs.2 ∙ ap (λ (s : Session). s.haggling.export) runs.1.new_is
+
+-- so that its size stays
+pub size_stays : (old new : Session) (events : List Event) (size : ℕ) → Runs old events new
+    → size_of old.haggling.export ≤ size → size_of new.haggling.export ≤ size
+size_stays old new events size runs large =
+    subst (λ (export : Export). size_of export ≤ size) (sym (export_stays events old new runs)) large
+
+-- requests are read, and then more
+readings_on : (xs ys : List Event) → AreReadings xs → AreReadings ys → AreReadings (xs ++ ys)
+readings_on [] ys first more = more
+readings_on (Fed piece ∷ xs) ys first more = absurd first
+readings_on (Asked request judged ∷ xs) ys first more = readings_on xs ys first more
+readings_on (Stopped found ∷ xs) ys first more = readings_on xs ys first more
+readings_on (Answered index outcome ∷ xs) ys first more = absurd first
+readings_on (Took bytes ∷ xs) ys first more = absurd first
+
+pub reads_on : (a b d : Session) → IsRead a b → IsRead b d → IsRead a d
+reads_on a b d first more = record {
+  events = first.events ++ more.events;
+  are_readings = readings_on first.events more.events first.are_readings more.are_readings;
+  runs = runs-append a b d first.events more.events first.runs more.runs;
+}
+
+pub reads_nothing : (a : Session) → IsRead a a
+reads_nothing a = record { events = []; are_readings = tt; runs = refl }
+
+-- a task that is handed out can be called for
+pub issued_callable : (old new : Session) (index : ℕ) (task : Task) (payload : List ℕ) (size : ℕ)
+    → Reads old (next.Issue index task payload) new → size_of old.haggling.export ≤ size
+    → IsCallable size task payload
+issued_callable old new index task payload size reads large =
+    let read = next_reads_on old reads.mid reads.reads_on in
+    callable reads.tells.request reads.mid.haggling.export task index payload size
+    reads.tells.asks.inside reads.tells.fills
+    (size_stays old reads.mid read.events size read.runs large) reads.tells.is_next
+
+-- and so by a target that has more bytes
+pub callable_by : (task : Task) (payload : List ℕ) (size larger : ℕ) → size ≤ larger
+    → IsCallable size task payload → IsCallable larger task payload
+callable_by (task.Read offset count) payload size larger more is = omega (arith, is, more)
+callable_by (task.Write offset count fua) payload size larger more is = (omega (arith, is.0, more), is.1)
+callable_by (task.Zero offset count fua) payload size larger more is = omega (arith, is, more)
+callable_by task.Flush payload size larger more is = tt
+callable_by task.Nothing payload size larger more is = absurd is
+callable_by task.Disconnect payload size larger more is = absurd is
+
+-- nothing is there to be read
+pub starves : (old new : Session) → Reads old next.Starved new → IsStarved new
+starves old new reads = subst IsStarved (sym reads.tells.unchanged) reads.tells.unfinished
+
+-- nothing more is read
+ends_by : (mid new : Session) → StaysEnded mid new ⊎ (Disconnects mid new ⊎ Breaks mid new) → IsEnded new.stage
+ends_by mid new (inl stays) = subst (λ (s : Session). IsEnded s.stage) (sym stays.unchanged) stays.ended
+ends_by mid new (inr (inl leaves)) =
+    subst IsEnded (sym (ap (λ (s : Session). s.stage) leaves.asks.new_is)) tt
+ends_by mid new (inr (inr breaks)) =
+    subst IsEnded (sym (ap (λ (s : Session). s.stage) breaks.stops.new_is)) tt
+
+pub ends : (old new : Session) → Reads old next.Ended new → IsEnded new.stage
+ends old new reads = ends_by reads.mid new reads.tells

@@ -1,0 +1,70 @@
+-- What the parts of a round do together.
+use Rattle.std.proofs.Common.{◌≡◌, ℕ, List, [], ◌∷◌, ◌++◌, Option, refl, sym, ap, ◌∙◌, subst, append-nil}
+use Rattle.nm_mailbox.specs.declared.message.Message.{Message}
+use Rattle.nm_session.proofs.Pieces.{starved_after_send, ended_after_send, none_after_send}
+use Rattle.nm_session.specs.declared.serve_fault.ServeFault.{ServeFault}
+use Rattle.nm_session.specs.declared.serve_fault.ServeFault.TheVariants as fault
+use Rattle.nm_session.specs.declared.served.Served.{Served}
+use Rattle.nm_session.specs.CalledValue.{CalledValue}
+use Rattle.nm_session.specs.Event.{Takes}
+use Rattle.nm_session.specs.Laws.{IsRead}
+use Rattle.nm_session.specs.MovingBytes.{SendsOut, SendsPart}
+use Rattle.nm_session.specs.Session.{Session}
+use Rattle.nm_workers.specs.declared.input.Input.{Input}
+use Rattle.nm_workers.specs.declared.input.Input.TheVariants as input
+use Rattle.nm_workers.specs.declared.pause.Pause.{Pause}
+use Rattle.nm_workers.specs.declared.pause.Pause.TheVariants as pause
+use Rattle.nm_workers.specs.Moving.{Stand, stand, Moves, BreaksOff, PausesAt, IsKnown, IsOverAt, Attends}
+use Rattle.nm_workers.proofs.Steps.{moves_on, breaks_on, stops, reads, sends, sends_part}
+
+-- a move, and then the rest of the session
+pub attends_on : (served : Served) (a b c : Stand) → Moves a b → Attends served b c → Attends served a c
+attends_on served a b c first second = record {
+  moves = moves_on a b c first second.moves;
+  sent = second.sent;
+  known = second.known;
+  is_known = second.is_known;
+  is_over = second.is_over;
+}
+
+-- there is no memory, after a move
+pub stops_there : (found : ServeFault) → found ≡ fault.Memory → (a b : Stand) → Moves a b → BreaksOff found a b
+stops_there found is a b moves =
+    subst (λ (f : ServeFault). BreaksOff f a b) (sym is) (stops fault.Memory tt a b moves)
+
+-- why no request was handed out stays so as replies are taken
+pub pauses_after_send : (why : Pause) (old new : Session) (bytes : List ℕ) → PausesAt why old → Takes old bytes new
+    → PausesAt why new
+pauses_after_send pause.Starved old new bytes pauses takes = starved_after_send old new bytes pauses takes
+pauses_after_send pause.Full old new bytes pauses takes = tt
+pauses_after_send pause.Ended old new bytes pauses takes = ended_after_send old new bytes pauses takes
+
+-- what is known of the client's bytes is not called more than it is
+pub known_as : (next before : Input) (heard : List (Message CalledValue)) → (next ≡ input.Ended → before ≡ input.Ended)
+    → IsKnown before heard → IsKnown next heard
+known_as input.Idle before heard same known = tt
+known_as input.Coming before heard same known = tt
+known_as input.Ended before heard same known = subst (λ (i : Input). IsKnown i heard) (same refl) known
+
+module _ (old mid new : Session) (heard : List (Message CalledValue)) (output written : Option (List ℕ))
+    (read : IsRead old mid) where
+  -- requests are handed out, and replies sent
+  pub reads_sends : SendsOut mid new output written → Moves (stand old heard output) (stand new heard written)
+  reads_sends sent = moves_on (stand old heard output) (stand mid heard output) (stand new heard written)
+      (reads old mid heard output read) (sends mid new heard output written sent)
+
+  pub reads_sends_part : (found : ServeFault) → SendsPart found mid new output written
+      → BreaksOff found (stand old heard output) (stand new heard written)
+  reads_sends_part found part = breaks_on found (stand old heard output) (stand mid heard output) (stand new heard written)
+      (reads old mid heard output read) (sends_part found mid new heard output written part)
+
+  -- and the session is over then
+  pub over_there : (served : Served) (known : Input) → SendsOut mid new output written → IsKnown known heard
+      → IsOverAt served new known → Attends served (stand old heard output) (stand new heard written)
+  over_there served known sent is_known over = record {
+    moves = reads_sends sent;
+    sent = none_after_send mid new mid.out sent.takes;
+    known = known;
+    is_known = is_known;
+    is_over = over;
+  }

@@ -1,0 +1,302 @@
+-- Moves that follow one another are one move, also where the last one breaks off.
+use Rattle.std.proofs.Common.{◌≡◌, ℕ, List, [], ◌∷◌, ◌++◌, take, Option, refl, sym, ap, ◌∙◌, subst, append_assoc, append-nil, inl, inr, ◌⊎◌, ◌<◌}
+use Rattle.std.specs.Io.KnownBytes.{Appends}
+use Rattle.std.proofs.KnownBytes.{Appends-trans, Appends-nil}
+use Rattle.nm_mailbox.proofs.Rules.{pieces_append}
+use Rattle.nm_mailbox.specs.declared.message.Message.{Message}
+use Rattle.nm_mailbox.specs.declared.message.Message.TheVariants as message
+use Rattle.nm_mailbox.specs.declared.message.Piece.{Piece}
+use Rattle.nm_mailbox.specs.declared.message.Piece.TheVariants as piece
+use Rattle.nm_mailbox.specs.Messages.{pieces_of}
+use Rattle.nm_session.proofs.Motion.{runs-append, fed-append, taken-append}
+use Rattle.nm_session.specs.declared.serve_fault.ServeFault.{ServeFault}
+use Rattle.nm_session.specs.declared.serve_fault.ServeFault.TheVariants as fault
+use Rattle.nm_session.specs.CalledValue.{CalledValue}
+use Rattle.nm_session.specs.Event.{Event, Fed, Asked, Stopped, Answered, Took, Runs, fed_bytes, taken_bytes}
+use Rattle.nm_session.specs.Laws.{AreReadings, IsRead}
+use Rattle.nm_session.specs.MovingBytes.{SendsOut, SendsPart}
+use Rattle.nm_session.specs.Session.{Session}
+use Rattle.nm_workers.specs.declared.input.Input.{Input}
+use Rattle.nm_workers.specs.declared.input.Input.TheVariants as input
+use Rattle.nm_workers.specs.Hearing.{Hears, IsCausedBy}
+use Rattle.nm_workers.specs.Moving.{Stand, stand, Moves, BreaksOff, IsCause, IsKnown, IsLearned}
+use Rattle.nm_workers.specs.Pieces.{bytes_of, HasEnded}
+
+pub bytes-append : (xs ys : List Piece) → bytes_of (xs ++ ys) ≡ bytes_of xs ++ bytes_of ys
+bytes-append [] ys = refl
+bytes-append (piece.Bytes bytes ∷ xs) ys =
+    ap (λ (rest : List ℕ). bytes.items ++ rest) (bytes-append xs ys)
+    ∙ sym (append_assoc bytes.items (bytes_of xs) (bytes_of ys))
+bytes-append (piece.Ended ∷ xs) ys = bytes-append xs ys
+bytes-append (piece.Failed ∷ xs) ys = bytes-append xs ys
+
+pub heard-append : (xs ys : List (Message CalledValue))
+    → bytes_of (pieces_of (xs ++ ys)) ≡ bytes_of (pieces_of xs) ++ bytes_of (pieces_of ys)
+heard-append xs ys = ap bytes_of (pieces_append xs ys) ∙ bytes-append (pieces_of xs) (pieces_of ys)
+
+-- two lists that are the same are so in a row
+pub in_a_row : (a b c d : List ℕ) → a ≡ c → b ≡ d → a ++ b ≡ c ++ d
+in_a_row a b c d first second =
+    ap (λ (xs : List ℕ). xs ++ b) first ∙ ap (λ (xs : List ℕ). c ++ xs) second
+
+fed_on : (xs ys : List Event) (ms ns : List (Message CalledValue)) → fed_bytes xs ≡ bytes_of (pieces_of ms)
+    → fed_bytes ys ≡ bytes_of (pieces_of ns) → fed_bytes (xs ++ ys) ≡ bytes_of (pieces_of (ms ++ ns))
+fed_on xs ys ms ns first second =
+    fed-append xs ys
+    ∙ in_a_row (fed_bytes xs) (fed_bytes ys) (bytes_of (pieces_of ms)) (bytes_of (pieces_of ns)) first second
+    ∙ sym (heard-append ms ns)
+
+-- one move after the other
+pub moves_on : (a b c : Stand) → Moves a b → Moves b c → Moves a c
+moves_on a b c first second = record {
+  events = first.events ++ second.events;
+  messages = first.messages ++ second.messages;
+  runs = runs-append a.core b.core c.core first.events second.events first.runs second.runs;
+  heard = second.heard ∙ ap (λ (heard : List (Message CalledValue)). heard ++ second.messages) first.heard
+      ∙ append_assoc a.heard first.messages second.messages;
+  fed_are = fed_on first.events second.events first.messages second.messages first.fed_are second.fed_are;
+  appends = subst (Appends a.output c.output) (sym (taken-append first.events second.events))
+      (Appends-trans a.output b.output c.output (taken_bytes first.events) (taken_bytes second.events)
+      first.appends second.appends);
+}
+
+-- a fault leaves the same unwritten after more bytes that were taken out and written
+pub cause_on : (found : ServeFault) (before taken written : List ℕ)
+    → IsCause found taken written → IsCause found (before ++ taken) (before ++ written)
+cause_on fault.Memory before taken written cause = ap (λ (rest : List ℕ). before ++ rest) cause
+cause_on fault.Read before taken written cause = ap (λ (rest : List ℕ). before ++ rest) cause
+cause_on (fault.Write sent) before taken written cause = (
+  before ++ cause.0,
+  cause.1,
+  ap (λ (rest : List ℕ). before ++ rest) cause.2 ∙ sym (append_assoc before cause.0 cause.1),
+  ap (λ (rest : List ℕ). before ++ rest) cause.3
+      ∙ sym (append_assoc before cause.0 (take sent cause.1)),
+  cause.4,
+)
+
+-- a move, and then a break
+pub breaks_on : (found : ServeFault) (a b c : Stand) → Moves a b → BreaksOff found b c
+    → BreaksOff found a c
+breaks_on found a b c first second = record {
+  events = first.events ++ second.events;
+  messages = first.messages ++ second.messages;
+  lost = second.lost;
+  written = taken_bytes first.events ++ second.written;
+  runs = runs-append a.core b.core c.core first.events second.events first.runs second.runs;
+  heard = second.heard
+      ∙ ap (λ (heard : List (Message CalledValue)). heard ++ (second.messages ++ second.lost)) first.heard
+      ∙ append_assoc a.heard first.messages (second.messages ++ second.lost)
+      ∙ ap (λ (more : List (Message CalledValue)). a.heard ++ more)
+      (sym (append_assoc first.messages second.messages second.lost));
+  fed_are = fed_on first.events second.events first.messages second.messages first.fed_are second.fed_are;
+  appends = Appends-trans a.output b.output c.output (taken_bytes first.events) second.written
+      first.appends second.appends;
+  cause = subst (λ (all : List ℕ). IsCause found all (taken_bytes first.events ++ second.written))
+      (sym (taken-append first.events second.events))
+      (cause_on found (taken_bytes first.events) (taken_bytes second.events) second.written second.cause);
+}
+
+-- no move at all
+pub moves_nowhere : (a : Stand) → Moves a a
+moves_nowhere a = record {
+  events = [];
+  messages = [];
+  runs = refl;
+  heard = sym (append-nil a.heard);
+  fed_are = refl;
+  appends = Appends-nil a.output;
+}
+
+-- a fault that leaves nothing unwritten
+abbrev pub IsQuiet : ServeFault → Type 0
+IsQuiet fault.Memory = Unit {0}
+IsQuiet fault.Read = Unit {0}
+IsQuiet (fault.Write sent) = ⊥
+
+quiet_cause : (found : ServeFault) (written : List ℕ) → IsQuiet found → IsCause found written written
+quiet_cause fault.Memory written quiet = refl
+quiet_cause fault.Read written quiet = refl
+quiet_cause (fault.Write sent) written quiet = absurd quiet
+
+-- a move, and a fault there
+pub stops : (found : ServeFault) → IsQuiet found → (a b : Stand) → Moves a b → BreaksOff found a b
+stops found quiet a b moves = record {
+  events = moves.events;
+  messages = moves.messages;
+  lost = [];
+  written = taken_bytes moves.events;
+  runs = moves.runs;
+  heard = moves.heard ∙ ap (λ (more : List (Message CalledValue)). a.heard ++ more)
+      (sym (append-nil moves.messages));
+  fed_are = moves.fed_are;
+  appends = moves.appends;
+  cause = quiet_cause found (taken_bytes moves.events) quiet;
+}
+
+-- readings bring no bytes and take none out
+readings_fed : (events : List Event) → AreReadings events → fed_bytes events ≡ []
+readings_fed [] are = refl
+readings_fed (Fed piece ∷ events) are = absurd are
+readings_fed (Asked request judged ∷ events) are = readings_fed events are
+readings_fed (Stopped found ∷ events) are = readings_fed events are
+readings_fed (Answered index outcome ∷ events) are = absurd are
+readings_fed (Took bytes ∷ events) are = absurd are
+
+readings_taken : (events : List Event) → AreReadings events → taken_bytes events ≡ []
+readings_taken [] are = refl
+readings_taken (Fed piece ∷ events) are = absurd are
+readings_taken (Asked request judged ∷ events) are = readings_taken events are
+readings_taken (Stopped found ∷ events) are = readings_taken events are
+readings_taken (Answered index outcome ∷ events) are = absurd are
+readings_taken (Took bytes ∷ events) are = absurd are
+
+-- requests that are read are a move
+pub reads : (old new : Session) (heard : List (Message CalledValue)) (output : Option (List ℕ))
+    → IsRead old new → Moves (stand old heard output) (stand new heard output)
+reads old new heard output read = record {
+  events = read.events;
+  messages = [];
+  runs = read.runs;
+  heard = sym (append-nil heard);
+  fed_are = readings_fed read.events read.are_readings;
+  appends = subst (Appends output output) (sym (readings_taken read.events read.are_readings))
+      (Appends-nil output);
+}
+
+-- replies are taken out and written
+pub sends : (old new : Session) (heard : List (Message CalledValue)) (output written : Option (List ℕ))
+    → SendsOut old new output written → Moves (stand old heard output) (stand new heard written)
+sends old new heard output written sent = record {
+  events = Took old.out ∷ [];
+  messages = [];
+  runs = (new, sent.takes, refl);
+  heard = sym (append-nil heard);
+  fed_are = refl;
+  appends = subst (Appends output written) (sym (append-nil old.out)) sent.appends;
+}
+
+-- not all of them are written
+pub sends_part : (found : ServeFault) (old new : Session) (heard : List (Message CalledValue))
+    (output written : Option (List ℕ)) → SendsPart found old new output written
+    → BreaksOff found (stand old heard output) (stand new heard written)
+sends_part fault.Memory old new heard output written part = absurd part
+sends_part fault.Read old new heard output written part = absurd part
+sends_part (fault.Write sent) old new heard output written part = record {
+  events = Took old.out ∷ [];
+  messages = [];
+  lost = [];
+  written = take sent old.out;
+  runs = (new, part.0, refl);
+  heard = sym (append-nil heard);
+  fed_are = refl;
+  appends = part.1;
+  cause = ([], old.out, append-nil old.out, refl, part.2);
+}
+
+-- a message that is taken is a move
+pub hears : (old new : Session) (one : Message CalledValue) (heard : List (Message CalledValue))
+    (output : Option (List ℕ)) → Hears old one new
+    → Moves (stand old heard output) (stand new (heard ++ one ∷ []) output)
+hears old new (message.Piece (piece.Bytes bytes)) heard output is = record {
+  events = Fed bytes.items ∷ [];
+  messages = message.Piece (piece.Bytes bytes) ∷ [];
+  runs = (new, is, refl);
+  heard = refl;
+  fed_are = refl;
+  appends = Appends-nil output;
+}
+hears old new (message.Piece piece.Ended) heard output is = record {
+  events = [];
+  messages = message.Piece piece.Ended ∷ [];
+  runs = is;
+  heard = refl;
+  fed_are = refl;
+  appends = Appends-nil output;
+}
+hears old new (message.Piece piece.Failed) heard output is = absurd is
+hears old new (message.Outcome called) heard output (inl answers) = record {
+  events = Answered called.index answers.outcome ∷ [];
+  messages = message.Outcome called ∷ [];
+  runs = (new, answers.answers, refl);
+  heard = refl;
+  fed_are = refl;
+  appends = Appends-nil output;
+}
+hears old new (message.Outcome called) heard output (inr passes) = record {
+  events = [];
+  messages = message.Outcome called ∷ [];
+  runs = passes.unchanged;
+  heard = refl;
+  fed_are = refl;
+  appends = Appends-nil output;
+}
+
+message_cause : (found : ServeFault) (one : Message CalledValue) → IsCausedBy found one → IsCause found [] []
+message_cause fault.Memory one is = refl
+message_cause fault.Read one is = refl
+message_cause (fault.Write sent) one is = absurd is
+
+-- a message that breaks the session off is lost
+pub loses : (found : ServeFault) (old new : Session) (one : Message CalledValue) (heard : List (Message CalledValue))
+    (output : Option (List ℕ)) → IsCausedBy found one → new ≡ old
+    → BreaksOff found (stand old heard output) (stand new (heard ++ one ∷ []) output)
+loses found old new one heard output is same = record {
+  events = [];
+  messages = [];
+  lost = one ∷ [];
+  written = [];
+  runs = same;
+  heard = refl;
+  fed_are = refl;
+  appends = Appends-nil output;
+  cause = message_cause found one is;
+}
+
+-- what was known of the client's bytes stays known
+ended_on : (heard more : List (Message CalledValue)) → HasEnded (pieces_of heard)
+    → HasEnded (pieces_of (heard ++ more))
+ended_on heard more ended = record {
+  before = ended.before;
+  after = ended.after ++ pieces_of more;
+  pieces_are = pieces_append heard more
+      ∙ ap (λ (pieces : List Piece). pieces ++ pieces_of more) ended.pieces_are
+      ∙ append_assoc ended.before (piece.Ended ∷ ended.after) (pieces_of more);
+}
+
+-- and a message tells the rest
+pub learns : (next before : Input) (heard : List (Message CalledValue)) (one : Message CalledValue)
+    → IsLearned next before one → IsKnown before heard → IsKnown next (heard ++ one ∷ [])
+learns input.Idle before heard one is known = tt
+learns input.Coming before heard one is known = tt
+learns input.Ended before heard one (inl same) known =
+    ended_on heard (one ∷ []) (subst (λ (i : Input). IsKnown i heard) same known)
+learns input.Ended before heard one (inr told) known = record {
+  before = pieces_of heard;
+  after = [];
+  pieces_are = pieces_append heard (one ∷ [])
+      ∙ ap (λ (m : Message CalledValue). pieces_of heard ++ pieces_of (m ∷ [])) told;
+}
+
+module _ (old new : Session) (one : Message CalledValue) (heard all : List (Message CalledValue))
+    (is_all : all ≡ heard ++ one ∷ []) where
+  -- the same, of all messages that were received by then
+  pub hears_at : (output : Option (List ℕ)) → Hears old one new → Moves (stand old heard output) (stand new all output)
+  hears_at output is = subst (λ (h : List (Message CalledValue)). Moves (stand old heard output) (stand new h output))
+      (sym is_all) (hears old new one heard output is)
+
+  pub loses_at : (found : ServeFault) (output : Option (List ℕ)) → IsCausedBy found one → new ≡ old
+      → BreaksOff found (stand old heard output) (stand new all output)
+  loses_at found output is same =
+      subst (λ (h : List (Message CalledValue)). BreaksOff found (stand old heard output) (stand new h output))
+      (sym is_all) (loses found old new one heard output is same)
+
+  pub learns_at : (next before : Input) → IsLearned next before one → IsKnown before heard → IsKnown next all
+  learns_at next before is known = subst (IsKnown next) (sym is_all) (learns next before heard one is known)
+
+-- no message comes any more
+pub stops_hearing : (core : Session) (heard all : List (Message CalledValue)) (output : Option (List ℕ)) → all ≡ heard
+    → BreaksOff fault.Read (stand core heard output) (stand core all output)
+stops_hearing core heard all output same =
+    subst (λ (h : List (Message CalledValue)). BreaksOff fault.Read (stand core heard output) (stand core h output))
+    (sym same) (stops fault.Read tt (stand core heard output) (stand core heard output)
+    (moves_nowhere (stand core heard output)))

@@ -1,0 +1,247 @@
+-- What a session's threads did together, and what of it goes out.
+use Rattle.std.proofs.Common.{◌≡◌, ℕ, ◌+◌, List, [], ◌∷◌, ◌++◌, length, take, drop, Option, refl, sym, ap, ◌∙◌, subst, append_assoc, append-nil, take-append-drop, arith}
+use Rattle.std.specs.Io.KnownBytes.{Appends, Consumes, IsAtEnd}
+use Rattle.std.proofs.KnownBytes.{Appends-trans, Appends-nil, Consumes-trans, Consumes-nil}
+use Rattle.nm_mailbox.specs.declared.message.Message.{Message}
+use Rattle.nm_mailbox.specs.declared.message.Piece.{Piece}
+use Rattle.nm_mailbox.specs.declared.message.Piece.TheVariants as piece
+use Rattle.nm_mailbox.specs.Messages.{pieces_of, IsBeginning}
+use Rattle.nm_session.proofs.Motion.{runs-append, fed-append, taken-append}
+use Rattle.nm_session.specs.declared.end.End.{End}
+use Rattle.nm_session.specs.declared.end.End.TheVariants as end
+use Rattle.nm_session.specs.declared.serve_fault.ServeFault.{ServeFault}
+use Rattle.nm_session.specs.declared.serve_fault.ServeFault.TheVariants as fault
+use Rattle.nm_session.specs.declared.served.Served.{Served}
+use Rattle.nm_session.specs.declared.stage.Stage.{Stage}
+use Rattle.nm_session.specs.declared.stage.Stage.TheVariants as stage
+use Rattle.nm_session.specs.CalledValue.{CalledValue}
+use Rattle.nm_session.specs.Event.{Event, Fed, Asked, Stopped, Answered, Took, Runs, fed_bytes, taken_bytes, messages}
+use Rattle.nm_session.specs.Feeding.{FeedsAt}
+use Rattle.nm_session.specs.Laws.{SoFar}
+use Rattle.nm_session.specs.Moving.{moment}
+use Rattle.nm_session.specs.Serving.{IsEnd}
+use Rattle.nm_session.specs.Session.{Session, session_of}
+use Rattle.nm_session.specs.Text.{GoesOut}
+use Rattle.nm_wire.specs.declared.export.Export.{Export}
+use Rattle.nm_workers.specs.declared.input.Input.{Input}
+use Rattle.nm_workers.specs.declared.input.Input.TheVariants as input
+use Rattle.nm_workers.specs.Moving.{stand, Attends, BreaksOff, ComesTo, IsCause, IsKnown}
+use Rattle.nm_workers.specs.Pieces.{bytes_of, HasEnded}
+use Rattle.nm_workers.specs.Reading.{HasRead}
+use Rattle.nm_workers.specs.Serving.{Wires, wires, Goes, Ends, Breaks, IsServed, IsBrokenOff}
+use Rattle.nm_workers.proofs.Steps.{bytes-append, heard-append, cause_on}
+
+-- one part of a session after the other
+pub goes_on : (a b c : Session) (u v w : Wires) → Goes a b u v → Goes b c v w → Goes a c u w
+goes_on a b c u v w first second = record {
+  events = first.events ++ second.events;
+  runs = runs-append a b c first.events second.events first.runs second.runs;
+  consumes = subst (Consumes u.input w.input) (sym (fed-append first.events second.events))
+      (Consumes-trans u.input v.input w.input (fed_bytes first.events) (fed_bytes second.events)
+      first.consumes second.consumes);
+  appends = subst (Appends u.output w.output) (sym (taken-append first.events second.events))
+      (Appends-trans u.output v.output w.output (taken_bytes first.events) (taken_bytes second.events)
+      first.appends second.appends);
+}
+
+pub goes_nowhere : (a : Session) (u : Wires) → Goes a a u u
+goes_nowhere a u = record {
+  events = [];
+  runs = refl;
+  consumes = Consumes-nil u.input;
+  appends = Appends-nil u.output;
+}
+
+-- fed bytes, and what follows them unfed
+fed_on : (xs ys : List Event) (unfed : List ℕ) → fed_bytes xs ++ (fed_bytes ys ++ unfed) ≡ fed_bytes (xs ++ ys) ++ unfed
+fed_on xs ys unfed = sym (append_assoc (fed_bytes xs) (fed_bytes ys) unfed)
+    ∙ ap (λ (all : List ℕ). all ++ unfed) (sym (fed-append xs ys))
+
+pub ends_on : (served : Served) (a b : Session) (u v : Wires) (written : Option (List ℕ)) → Goes a b u v
+    → Ends served b v.input v.output written → Ends served a u.input u.output written
+ends_on served a b u v written first second = record {
+  events = first.events ++ second.events;
+  last = second.last;
+  unread = second.unread;
+  unfed = second.unfed;
+  runs = runs-append a b second.last first.events second.events first.runs second.runs;
+  consumes = subst (Consumes u.input second.unread) (fed_on first.events second.events second.unfed)
+      (Consumes-trans u.input v.input second.unread (fed_bytes first.events) (fed_bytes second.events ++ second.unfed)
+      first.consumes second.consumes);
+  all_fed = second.all_fed;
+  appends = subst (Appends u.output written) (sym (taken-append first.events second.events))
+      (Appends-trans u.output v.output written (taken_bytes first.events) (taken_bytes second.events)
+      first.appends second.appends);
+  answered = second.answered;
+  sent = second.sent;
+  requests = second.requests;
+  end_is = second.end_is;
+}
+
+pub breaks_on : (found : ServeFault) (a b : Session) (u v : Wires) (after : Option (List ℕ)) → Goes a b u v
+    → Breaks found b v.input v.output after → Breaks found a u.input u.output after
+breaks_on found a b u v after first second = record {
+  events = first.events ++ second.events;
+  last = second.last;
+  unread = second.unread;
+  unfed = second.unfed;
+  written = taken_bytes first.events ++ second.written;
+  runs = runs-append a b second.last first.events second.events first.runs second.runs;
+  consumes = subst (Consumes u.input second.unread) (fed_on first.events second.events second.unfed)
+      (Consumes-trans u.input v.input second.unread (fed_bytes first.events) (fed_bytes second.events ++ second.unfed)
+      first.consumes second.consumes);
+  appends = Appends-trans u.output v.output after (taken_bytes first.events) second.written
+      first.appends second.appends;
+  cause = subst (λ (all : List ℕ). IsCause found all (taken_bytes first.events ++ second.written))
+      (sym (taken-append first.events second.events))
+      (cause_on found (taken_bytes first.events) (taken_bytes second.events) second.written second.cause);
+}
+
+-- a session that broke off before anything happened
+pub breaks_at_once : (core : Session) (bytes output : Option (List ℕ)) → Breaks fault.Memory core bytes output output
+breaks_at_once core bytes output = record {
+  events = [];
+  last = core;
+  unread = bytes;
+  unfed = [];
+  written = [];
+  runs = refl;
+  consumes = Consumes-nil bytes;
+  appends = Appends-nil output;
+  cause = refl;
+}
+
+-- the first of two lists that are none together is none
+second_none : {X : Type 0} (xs ys : List X) → xs ++ ys ≡ [] → ys ≡ []
+second_none [] ys none = none
+second_none (x ∷ xs) ys none = absurd (cc)
+
+module _ (bytes unread output after : Option (List ℕ)) (pieces : List Piece)
+    (core last : Session) (heard : List (Message CalledValue))
+    (read : HasRead bytes unread pieces) (begins : IsBeginning (pieces_of heard) pieces) where
+  -- what was read is what the messages told, and what they did not
+  read_bytes : bytes_of pieces ++ read.unsent ≡ bytes_of (pieces_of heard) ++ (bytes_of begins.0 ++ read.unsent)
+  read_bytes = ap (λ (all : List Piece). bytes_of all ++ read.unsent) begins.1
+      ∙ ap (λ (all : List ℕ). all ++ read.unsent) (bytes-append (pieces_of heard) begins.0)
+      ∙ append_assoc (bytes_of (pieces_of heard)) (bytes_of begins.0) read.unsent
+
+  -- once the end was told, nothing is left
+  told_end : HasEnded (pieces_of heard) → IsAtEnd unread × (bytes_of begins.0 ++ read.unsent ≡ [])
+  told_end ended =
+      let all = read.at_end ended.before (ended.after ++ begins.0)
+      (begins.1 ∙ ap (λ (front : List Piece). front ++ begins.0) ended.pieces_are
+      ∙ append_assoc ended.before (piece.Ended ∷ ended.after) begins.0) in (
+        all.0,
+        ap (λ (rest : List Piece). bytes_of rest ++ read.unsent) (second_none ended.after begins.0 all.1) ∙ all.2,
+      )
+
+  come_to : (told : End) (known : Input) → IsKnown known heard → ComesTo told last known
+      → IsEnd told (moment last (tt {0}) unread after) × (told ≡ end.EndOfInput → bytes_of begins.0 ++ read.unsent ≡ [])
+  come_to end.EndOfInput known is_known comes =
+      let all = told_end (subst (λ (i : Input). IsKnown i heard) comes.1 is_known) in
+      ((comes.0, all.0), λ same. all.1)
+  come_to end.Disc known is_known comes = (comes, λ same. absurd (cc))
+  come_to end.Aborted known is_known comes = (comes, λ same. absurd (cc))
+  come_to end.Protocol known is_known comes = (comes, λ same. absurd (cc))
+
+  -- requests were answered to the end
+  pub ends_there : (served : Served) → Attends served (stand core [] output) (stand last heard after)
+      → Ends served core bytes output after
+  ends_there served attends =
+      let to = come_to served.end attends.known attends.is_known attends.is_over.end_is in
+      record {
+        events = attends.moves.events;
+        last = last;
+        unread = unread;
+        unfed = bytes_of begins.0 ++ read.unsent;
+        runs = attends.moves.runs;
+        consumes = subst (Consumes bytes unread) (read_bytes
+            ∙ ap (λ (front : List ℕ). front ++ (bytes_of begins.0 ++ read.unsent))
+            (ap (λ (all : List (Message CalledValue)). bytes_of (pieces_of all)) attends.moves.heard
+            ∙ sym attends.moves.fed_are)) read.consumes;
+        all_fed = to.1;
+        appends = attends.moves.appends;
+        answered = attends.is_over.answered;
+        sent = attends.sent;
+        requests = attends.is_over.requests;
+        end_is = to.0;
+      }
+
+  -- a fault broke the session off
+  pub breaks_there : (found : ServeFault) → BreaksOff found (stand core [] output) (stand last heard after)
+      → Breaks found core bytes output after
+  breaks_there found breaks = record {
+    events = breaks.events;
+    last = last;
+    unread = unread;
+    unfed = bytes_of (pieces_of breaks.lost) ++ (bytes_of begins.0 ++ read.unsent);
+    written = breaks.written;
+    runs = breaks.runs;
+    consumes = subst (Consumes bytes unread) (read_bytes
+        ∙ ap (λ (front : List ℕ). front ++ (bytes_of begins.0 ++ read.unsent))
+        (ap (λ (all : List (Message CalledValue)). bytes_of (pieces_of all)) breaks.heard
+        ∙ heard-append breaks.messages breaks.lost
+        ∙ ap (λ (front : List ℕ). front ++ bytes_of (pieces_of breaks.lost)) (sym breaks.fed_are))
+        ∙ append_assoc (fed_bytes breaks.events) (bytes_of (pieces_of breaks.lost)) (bytes_of begins.0 ++ read.unsent))
+        read.consumes;
+    appends = breaks.appends;
+    cause = breaks.cause;
+  }
+
+-- a piece that is fed is no request
+fed_count : (at : Stage) (old new : Session) (bytes : List ℕ) → FeedsAt at old bytes new → new.count ≡ old.count
+fed_count stage.Haggling old new bytes feeds = ap (λ (s : Session). s.count) feeds.new_is
+fed_count stage.Serving old new bytes feeds = ap (λ (s : Session). s.count) feeds
+fed_count (stage.Ended by) old new bytes feeds = absurd feeds
+
+-- a core counts the requests that it read
+counted : (old new : Session) (events : List Event) → Runs old events new
+    → new.count ≡ old.count + length (messages events)
+counted old new [] runs = omega (arith, ap (λ (s : Session). s.count) runs)
+counted old new (Fed bytes ∷ events) runs =
+    omega (arith, fed_count old.stage old runs.0 bytes runs.1, counted runs.0 new events runs.2)
+counted old new (Asked request judged ∷ events) runs =
+    omega (arith, ap (λ (s : Session). s.count) runs.1.new_is, counted runs.0 new events runs.2)
+counted old new (Stopped found ∷ events) runs =
+    omega (arith, ap (λ (s : Session). s.count) runs.1.new_is, counted runs.0 new events runs.2)
+counted old new (Answered index outcome ∷ events) runs =
+    omega (arith, ap (λ (s : Session). s.count) runs.1.new_is, counted runs.0 new events runs.2)
+counted old new (Took bytes ∷ events) runs =
+    omega (arith, ap (λ (s : Session). s.count) runs.1.new_is, counted runs.0 new events runs.2)
+
+-- what was written is a beginning of what was taken out
+unwritten_of : (found : ServeFault) (all written : List ℕ) → IsCause found all written
+    → (rest : List ℕ) × (all ≡ written ++ rest)
+unwritten_of fault.Memory all written cause = ([], sym cause ∙ sym (append-nil written))
+unwritten_of fault.Read all written cause = ([], sym cause ∙ sym (append-nil written))
+unwritten_of (fault.Write sent) all written cause = (
+  drop sent cause.1,
+  cause.2 ∙ ap (λ (batch : List ℕ). cause.0 ++ batch) (sym (take-append-drop sent cause.1))
+      ∙ sym (append_assoc cause.0 (take sent cause.1) (drop sent cause.1))
+      ∙ ap (λ (front : List ℕ). front ++ drop sent cause.1) (sym cause.3),
+)
+
+-- a whole session that came to its end
+pub whole : SoFar → (served : Served) (export : Export) (bytes output written : Option (List ℕ))
+    → Ends served (session_of export 16) bytes output written → IsServed served export bytes output written
+whole so_far served export bytes output written ends = record {
+  ends = ends;
+  requests = ends.requests ∙ omega (arith, counted (session_of export 16) ends.last ends.events ends.runs);
+  goes_out = subst (GoesOut export ends.events)
+      (ap (λ (rest : List ℕ). taken_bytes ends.events ++ rest) ends.sent ∙ append-nil (taken_bytes ends.events))
+      (so_far export 16 ends.events ends.last ends.runs);
+}
+
+-- a session that broke off
+pub broken : SoFar → (found : ServeFault) (export : Export) (bytes output after : Option (List ℕ))
+    → Breaks found (session_of export 16) bytes output after → IsBrokenOff found export bytes output after
+broken so_far found export bytes output after breaks =
+    let rest = unwritten_of found (taken_bytes breaks.events) breaks.written breaks.cause in
+    record {
+      breaks = breaks;
+      unwritten = rest.0 ++ breaks.last.out;
+      goes_out = subst (GoesOut export breaks.events)
+          (ap (λ (front : List ℕ). front ++ breaks.last.out) rest.1
+          ∙ append_assoc breaks.written rest.0 breaks.last.out)
+          (so_far export 16 breaks.events breaks.last breaks.runs);
+    }

@@ -1,0 +1,53 @@
+-- Rounds that follow one another are one move.
+use Rattle.std.proofs.Common.{◌∙◌, refl}
+use Rattle.nm_mailbox.specs.Ends.{received_by}
+use Rattle.nm_replies.specs.Sending.{device_of}
+use Rattle.nm_workers.specs.declared.attended.Attended.TheVariants as attended
+use Rattle.nm_workers.specs.Moving.{stand, IsAttended}
+use Rattle.nm_workers.proofs.Requests.{size_stays}
+use Rattle.nm_workers.proofs.Rounds.{attends_on}
+use Rattle.nm_workers.proofs.Steps.{moves_on, moves_nowhere, breaks_on}
+use Rattle.nm_workers.proofs.attending.attend.Goals as goal
+
+pub rounds-init : goal.rounds-init
+rounds-init g c = record {
+  moves = moves_nowhere (stand c.args.core.now (received_by c.args.inbox.now) (g.O.Write.contents (device_of c.args.sender.now)));
+  known = tt;
+  channel = refl;
+}
+
+pub attend_once-requires-clause-size : goal.attend_once-requires-clause-size
+attend_once-requires-clause-size g c =
+    size_stays c.args.core.now c.rounds.core c.rounds.invariant.moves.events g.E.Extent.bytes
+    c.rounds.invariant.moves.runs c.requires.size
+
+pub rounds-preserved : goal.rounds-preserved
+rounds-preserved g c =
+    let start = stand c.args.core.now (received_by c.args.inbox.now) (g.O.Write.contents (device_of c.args.sender.now)) in
+    let here = stand c.rounds.core (received_by c.rounds.inbox) (g.O.Write.contents (device_of c.rounds.sender)) in
+    let there = stand c.attend_once.new.core (received_by c.attend_once.new.inbox)
+    (g.O.Write.contents (device_of c.attend_once.new.sender)) in
+    let round : IsAttended (attended.On c.in-Ok-On.next) here there =
+    rw c.in-Ok-On.field-0-is at c.in-Ok-On.ensures.ok in
+    record {
+      moves = moves_on start here there c.rounds.invariant.moves round.0;
+      known = round.1;
+      channel = c.in-Ok-On.ensures.channel ∙ c.rounds.invariant.channel;
+    }
+
+pub returns-in-Ok-Over-clause-ok : goal.returns-in-Ok-Over-clause-ok
+returns-in-Ok-Over-clause-ok g c =
+    let start = stand c.args.core.now (received_by c.args.inbox.now) (g.O.Write.contents (device_of c.args.sender.now)) in
+    let here = stand c.rounds.core (received_by c.rounds.inbox) (g.O.Write.contents (device_of c.rounds.sender)) in
+    let there = stand c.attend_once.new.core (received_by c.attend_once.new.inbox)
+    (g.O.Write.contents (device_of c.attend_once.new.sender)) in
+    attends_on c.in-Ok-Over.served start here there c.rounds.invariant.moves
+    (rw c.in-Ok-Over.field-0-is at c.in-Ok-Over.ensures.ok)
+
+pub returns-in-Err-clause-err : goal.returns-in-Err-clause-err
+returns-in-Err-clause-err g c =
+    let start = stand c.args.core.now (received_by c.args.inbox.now) (g.O.Write.contents (device_of c.args.sender.now)) in
+    let here = stand c.rounds.core (received_by c.rounds.inbox) (g.O.Write.contents (device_of c.rounds.sender)) in
+    let there = stand c.attend_once.new.core (received_by c.attend_once.new.inbox)
+    (g.O.Write.contents (device_of c.attend_once.new.sender)) in
+    breaks_on c.in-Err.fault start here there c.rounds.invariant.moves c.in-Err.ensures.err

@@ -1,0 +1,56 @@
+-- A round is what its parts do.
+use Rattle.nm_mailbox.specs.Ends.{received_by}
+use Rattle.nm_replies.specs.Sending.{device_of}
+use Rattle.nm_workers.specs.Moving.{stand}
+use Rattle.nm_workers.proofs.Rounds.{stops_there, known_as, reads_sends, reads_sends_part, over_there}
+use Rattle.nm_workers.proofs.Steps.{moves_on, breaks_on, reads}
+use Rattle.nm_workers.proofs.attending.attend_once.Goals as goal
+
+pub returns-in-Err-clause-err : goal.returns-in-Err-clause-err
+returns-in-Err-clause-err g c =
+    stops_there c.in-Err.fault c.in-Err.ensures.err.0 _ _
+    (reads c.args.core.now c.hand_out.new.core (received_by c.args.inbox.now)
+    (g.O.Write.contents (device_of c.args.sender.now)) c.in-Err.ensures.err.1)
+
+pub returns-in-Err-ask_for_piece-clause-err : goal.returns-in-Err-ask_for_piece-clause-err
+returns-in-Err-ask_for_piece-clause-err g c =
+    stops_there c.in-Err-ask_for_piece.fault c.in-Err-ask_for_piece.ensures.memory _ _
+    (reads c.args.core.now c.hand_out.new.core (received_by c.args.inbox.now)
+    (g.O.Write.contents (device_of c.args.sender.now)) c.in-Ok.ensures.ok)
+
+pub returns-in-Err-send_out-clause-err : goal.returns-in-Err-send_out-clause-err
+returns-in-Err-send_out-clause-err g c =
+    reads_sends_part c.args.core.now c.hand_out.new.core c.send_out.new.core (received_by c.args.inbox.now)
+    (g.O.Write.contents (device_of c.args.sender.now)) (g.O.Write.contents (device_of c.send_out.new.sender))
+    c.in-Ok.ensures.ok c.in-Err-send_out.fault c.in-Err-send_out.ensures.err
+
+pub returns-in-Some-clause-ok : goal.returns-in-Some-clause-ok
+returns-in-Some-clause-ok g c =
+    over_there c.args.core.now c.hand_out.new.core c.send_out.new.core (received_by c.args.inbox.now)
+    (g.O.Write.contents (device_of c.args.sender.now)) (g.O.Write.contents (device_of c.send_out.new.sender))
+    c.in-Ok.ensures.ok c.in-Some.served c.in-Ok-ask_for_piece.input c.in_default.ensures.ok
+    (known_as c.in-Ok-ask_for_piece.input c.args.input (received_by c.args.inbox.now)
+    c.in-Ok-ask_for_piece.ensures.ok c.requires.known) c.in-Some.ensures
+
+pub returns-in-Ok-listen-clause-ok : goal.returns-in-Ok-listen-clause-ok
+returns-in-Ok-listen-clause-ok g c = (
+  moves_on (stand c.args.core.now (received_by c.args.inbox.now) (g.O.Write.contents (device_of c.args.sender.now)))
+      (stand c.send_out.new.core (received_by c.args.inbox.now) (g.O.Write.contents (device_of c.send_out.new.sender)))
+      (stand c.listen.new.core (received_by c.listen.new.inbox) (g.O.Write.contents (device_of c.send_out.new.sender)))
+      (reads_sends c.args.core.now c.hand_out.new.core c.send_out.new.core (received_by c.args.inbox.now)
+      (g.O.Write.contents (device_of c.args.sender.now)) (g.O.Write.contents (device_of c.send_out.new.sender))
+      c.in-Ok.ensures.ok c.in_default.ensures.ok)
+      (c.in-Ok-listen.ensures.ok (g.O.Write.contents (device_of c.send_out.new.sender))),
+  c.in-Ok-listen.ensures.known,
+)
+
+pub returns-in-Err-listen-clause-err : goal.returns-in-Err-listen-clause-err
+returns-in-Err-listen-clause-err g c =
+    breaks_on c.in-Err-listen.fault
+    (stand c.args.core.now (received_by c.args.inbox.now) (g.O.Write.contents (device_of c.args.sender.now)))
+    (stand c.send_out.new.core (received_by c.args.inbox.now) (g.O.Write.contents (device_of c.send_out.new.sender)))
+    (stand c.listen.new.core (received_by c.listen.new.inbox) (g.O.Write.contents (device_of c.send_out.new.sender)))
+    (reads_sends c.args.core.now c.hand_out.new.core c.send_out.new.core (received_by c.args.inbox.now)
+    (g.O.Write.contents (device_of c.args.sender.now)) (g.O.Write.contents (device_of c.send_out.new.sender))
+    c.in-Ok.ensures.ok c.in_default.ensures.ok)
+    (c.in-Err-listen.ensures.err (g.O.Write.contents (device_of c.send_out.new.sender)))

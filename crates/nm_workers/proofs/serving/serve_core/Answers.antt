@@ -1,0 +1,45 @@
+-- A session is its haggling and then its requests.
+use Rattle.std.proofs.Common.{None}
+use Rattle.nm_replies.specs.Sending.{device_of}
+use Rattle.nm_session.proofs.WholeSessions.{if_ok, if_err}
+use Rattle.nm_workers.specs.Serving.{wires, Greets, Ends, Breaks}
+use Rattle.nm_workers.proofs.Owning.{sizes_stay}
+use Rattle.nm_workers.proofs.WholeSessions.{breaks_at_once, ends_on, breaks_on}
+use Rattle.nm_workers.proofs.serving.serve_core.Goals as goal
+
+pub returns-in_default-clause-err : goal.returns-in_default-clause-err
+returns-in_default-clause-err g c =
+    breaks_at_once c.args.core (g.I.Read.remaining c.args.reader) (g.O.Write.contents (device_of c.args.sender))
+
+pub serve_requests-requires-clause-sizes : goal.serve_requests-requires-clause-sizes
+serve_requests-requires-clause-sizes g c κs within =
+    let greets : Greets None c.args.core c.greet.new.core
+    (wires (g.I.Read.remaining c.args.reader) (g.O.Write.contents (device_of c.args.sender)))
+    (wires (g.I.Read.remaining c.greet.new.reader) (g.O.Write.contents (device_of c.greet.new.sender))) =
+    rw c.in-Ok-None.field-0-is at c.in-Ok-None.ensures.ok in
+    sizes_stay g.T.Target.size c.args.core c.greet.new.core greets.0.events c.args.targets.items greets.0.runs
+    c.requires.size
+
+pub returns-in-Ok-None-clause-ok : goal.returns-in-Ok-None-clause-ok
+returns-in-Ok-None-clause-ok g c =
+    let u = wires (g.I.Read.remaining c.args.reader) (g.O.Write.contents (device_of c.args.sender)) in
+    let v = wires (g.I.Read.remaining c.greet.new.reader) (g.O.Write.contents (device_of c.greet.new.sender)) in
+    let written = g.O.Write.contents (device_of c.serve_requests.result.sender) in
+    let greets : Greets None c.args.core c.greet.new.core u v =
+    rw c.in-Ok-None.field-0-is at c.in-Ok-None.ensures.ok in
+    if_ok c.serve_requests.result.result (λ served. Ends served c.greet.new.core v.input v.output written)
+    (λ served. Ends served c.args.core u.input u.output written)
+    (λ served ends. ends_on served c.args.core c.greet.new.core u v written greets.0 ends)
+    c.serve_requests.ensures.ok
+
+pub returns-in-Ok-None-clause-err : goal.returns-in-Ok-None-clause-err
+returns-in-Ok-None-clause-err g c =
+    let u = wires (g.I.Read.remaining c.args.reader) (g.O.Write.contents (device_of c.args.sender)) in
+    let v = wires (g.I.Read.remaining c.greet.new.reader) (g.O.Write.contents (device_of c.greet.new.sender)) in
+    let written = g.O.Write.contents (device_of c.serve_requests.result.sender) in
+    let greets : Greets None c.args.core c.greet.new.core u v =
+    rw c.in-Ok-None.field-0-is at c.in-Ok-None.ensures.ok in
+    if_err c.serve_requests.result.result (λ found. Breaks found c.greet.new.core v.input v.output written)
+    (λ found. Breaks found c.args.core u.input u.output written)
+    (λ found breaks. breaks_on found c.args.core c.greet.new.core u v written greets.0 breaks)
+    c.serve_requests.ensures.err

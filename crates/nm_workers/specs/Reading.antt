@@ -1,0 +1,43 @@
+-- What the reading thread did.
+use Rattle.std.specs.Prelude.{◌≡◌, ℕ, Bool, true, false, List, [], ◌∷◌, ◌++◌, Option}
+use Rattle.std.specs.Io.KnownBytes.{Consumes, IsAtEnd}
+use Rattle.nm_mailbox.specs.declared.message.Piece.{Piece}
+use Rattle.nm_mailbox.specs.declared.message.Piece.TheVariants.{Bytes, Ended, Failed}
+use Rattle.nm_workers.specs.Pieces.{bytes_of}
+
+-- one read: it gave these bytes, or found the end, or failed
+abbrev pub Gives : Piece → (input unread : Option (List ℕ)) → Type 0
+Gives (Bytes bytes) input unread = Consumes input unread bytes.items
+Gives Ended input unread = Consumes input unread [] × IsAtEnd unread
+Gives Failed input unread = Consumes input unread []
+
+-- whether more may follow a piece
+abbrev pub brings_bytes : Piece → Bool
+brings_bytes (Bytes bytes) = true
+brings_bytes Ended = false
+brings_bytes Failed = false
+
+-- pieces of bytes and no other
+abbrev pub AreBytes : List Piece → Type 0
+AreBytes [] = Unit {0}
+AreBytes (Bytes bytes ∷ more) = AreBytes more
+AreBytes (Ended ∷ more) = ⊥
+AreBytes (Failed ∷ more) = ⊥
+
+-- so far all that was read was sent
+pub record ReadsOn (input unread : Option (List ℕ)) (pieces : List Piece) : Type 0 where
+  pub are_bytes : AreBytes pieces
+  pub consumes : Consumes input unread (bytes_of pieces)
+
+-- the bytes of the pieces that were sent are what was read, except what the last read gave where it
+-- could not be sent; the end is told last, where the reader is at its end
+pub record HasRead (input unread : Option (List ℕ)) (pieces : List Piece) : Type 0 where
+  pub unsent : List ℕ
+  pub consumes : Consumes input unread (bytes_of pieces ++ unsent)
+  pub at_end : (before after : List Piece) → pieces ≡ before ++ Ended ∷ after
+      → IsAtEnd unread × (after ≡ []) × (unsent ≡ [])
+
+-- a piece was read and sent, after which more may be; or no more will be
+abbrev pub Goes : Bool → (input unread : Option (List ℕ)) → List Piece → Type 0
+Goes true input unread pieces = ReadsOn input unread pieces
+Goes false input unread pieces = HasRead input unread pieces

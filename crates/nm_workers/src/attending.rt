@@ -1,0 +1,139 @@
+//! A session's requests, handed out to its workers and answered as they are done.
+ghost use Rattle.std.specs.Prelude.{◌≡◌, ◌≤◌, IfOk, IfErr, IfSome};
+ghost use Rattle.nm_mailbox.specs.Ends.{received_by, IsSameInbox};
+ghost use Rattle.nm_replies.specs.Sending.{device_of};
+ghost use Rattle.nm_session.specs.declared.serve_fault.ServeFault.TheVariants.{Memory};
+ghost use Rattle.nm_wire.specs.Export.{size_of};
+ghost use Rattle.nm_workers.specs.declared.input.Input.TheVariants.{Ended};
+ghost use Rattle.nm_workers.specs.Moving.{stand, BreaksOff, PausesAt, IsKnown, Attends};
+ghost use Rattle.nm_workers.specs.Moving.{IsAttended, IsOverAt};
+
+use crate::attended::Attended;
+use crate::desk::Desk;
+use crate::extent::Extent;
+use crate::handing::hand_out;
+use crate::hearing::listen;
+use crate::input::Input;
+use crate::leave::Leave;
+use crate::pause::Pause;
+use crossbeam_channel::Sender;
+use nm_mailbox::Inbox;
+use nm_replies::ReplyWriter;
+use nm_session::{Called, End, ServeFault, Served, SessionCore, send_out};
+use std::alloc::Global;
+use std::io::Write;
+use std::sync::Wait;
+
+// Hands out requests, hears what the threads tell and sends replies until the session ends. The
+// threads end behind it, since the desk is gone then.
+pub(crate) fn attend<R: Wait, O: Write, E: Extent>(
+    rt: &R,
+    alloc: Global,
+    core: &mut SessionCore,
+    sender: &mut ReplyWriter<O>,
+    inbox: &mut Inbox<Called>,
+    desk: Desk<E>,
+) -> Result<Served, ServeFault>
+    requires size { size_of core.old.haggling.export ≤ E.bytes }
+    ensures ok { IfOk result (λ served. Attends served
+        (stand core.old (received_by inbox.old) (O.contents (device_of sender.old)))
+        (stand core.new (received_by inbox.new) (O.contents (device_of sender.new)))) }
+    ensures err { IfErr result (λ fault. BreaksOff fault
+        (stand core.old (received_by inbox.old) (O.contents (device_of sender.old)))
+        (stand core.new (received_by inbox.new) (O.contents (device_of sender.new)))) }
+    ensures channel { IsSameInbox inbox.new inbox.old }
+{
+    let mut input = Input::Idle;
+    'rounds: for _ in rt.forever() {
+        match attend_once(rt, alloc, core, sender, inbox, &desk, input) {
+            Ok(Attended::On(next)) => input = next,
+            Ok(Attended::Over(served)) => return Ok(served),
+            Err(fault) => return Err(fault),
+        }
+    }
+    unreachable!()
+}
+
+// Hands out the requests that are there, gives the leave to read where none is left, sends the
+// replies that wait in one write and, unless the session is over, waits for what the threads tell.
+fn attend_once<R: Wait, O: Write, E: Extent>(
+    rt: &R,
+    alloc: Global,
+    core: &mut SessionCore,
+    sender: &mut ReplyWriter<O>,
+    inbox: &mut Inbox<Called>,
+    desk: &Desk<E>,
+    input: Input,
+) -> Result<Attended, ServeFault>
+    requires size { size_of core.old.haggling.export ≤ E.bytes }
+    requires known { IsKnown input (received_by inbox.old) }
+    ensures ok { IfOk result (λ attended. IsAttended attended
+        (stand core.old (received_by inbox.old) (O.contents (device_of sender.old)))
+        (stand core.new (received_by inbox.new) (O.contents (device_of sender.new)))) }
+    ensures err { IfErr result (λ fault. BreaksOff fault
+        (stand core.old (received_by inbox.old) (O.contents (device_of sender.old)))
+        (stand core.new (received_by inbox.new) (O.contents (device_of sender.new)))) }
+    ensures channel { IsSameInbox inbox.new inbox.old }
+{
+    let pause = match hand_out(rt, alloc, core, &desk.jobs) {
+        Ok(pause) => pause,
+        Err(fault) => return Err(fault),
+    };
+    let input = match ask_for_piece(rt, alloc, core, pause, input, &desk.leaves) {
+        Ok(input) => input,
+        Err(fault) => return Err(fault),
+    };
+    if let Err(fault) = send_out(core, sender) {
+        return Err(fault);
+    }
+    if let Some(served) = over(core, pause, input) {
+        return Ok(Attended::Over(served));
+    }
+    match listen(rt, alloc, core, inbox, input) {
+        Ok(next) => Ok(Attended::On(next)),
+        Err(fault) => Err(fault),
+    }
+}
+
+// Gives the leave to read a piece where no whole request is there, no piece is still to come, and
+// the client's bytes have not ended.
+fn ask_for_piece<R: Wait>(
+    rt: &R,
+    alloc: Global,
+    core: &SessionCore,
+    pause: Pause,
+    input: Input,
+    leaves: &Sender<Leave>,
+) -> Result<Input, ServeFault>
+    requires pause { PausesAt pause core.now }
+    ensures ok { IfOk result (λ next. next ≡ Ended → input ≡ Ended) }
+    ensures memory { IfErr result (λ fault. fault ≡ Memory) }
+{
+    match (pause, input) {
+        (Pause::Starved, Input::Idle) => {
+            let Ok(leave) = Leave::new(alloc, core, input) else {
+                return Err(ServeFault::Memory);
+            };
+            if leaves.send(rt, leave).is_err() {
+                return Err(ServeFault::Memory);
+            }
+            Ok(Input::Coming)
+        }
+        _ => Ok(input),
+    }
+}
+
+// The session's end, if it has come: nothing more is read and no request is outstanding.
+fn over(core: &SessionCore, pause: Pause, input: Input) -> Option<Served>
+    requires pause { PausesAt pause core.now }
+    ensures { IfSome result (λ served. IsOverAt served core.now input) }
+{
+    if !core.is_idle() {
+        return None;
+    }
+    match (pause, input) {
+        (Pause::Ended, _) => Some(core.served(core.end())),
+        (Pause::Starved, Input::Ended) => Some(core.served(End::EndOfInput)),
+        _ => None,
+    }
+}

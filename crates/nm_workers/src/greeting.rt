@@ -1,0 +1,45 @@
+//! A session's first part: the haggling over its export, before any thread is started.
+ghost use Rattle.std.specs.Prelude.{◌≡◌, ◌<◌, [], length, IfOk, IfErr};
+ghost use Rattle.nm_replies.specs.Sending.{device_of};
+ghost use Rattle.nm_workers.specs.Serving.{wires, Greets, Breaks};
+
+use nm_replies::ReplyWriter;
+use nm_session::{End, Phase, ServeFault, Served, SessionCore, feed_piece, send_out};
+use std::alloc::Global;
+use std::io::{Read, Write};
+use std::sync::Wait;
+
+// Haggles until transmission begins, where it answers `None`, or the session ends, and sends all
+// that is to go out.
+pub(crate) fn greet<R: Wait, I: Read, O: Write>(
+    rt: &R,
+    alloc: Global,
+    core: &mut SessionCore,
+    room: &mut [u8],
+    reader: &mut I,
+    sender: &mut ReplyWriter<O>,
+) -> Result<Option<Served>, ServeFault>
+    requires idle { core.old.outstanding ≡ [] }
+    requires room { 0 < length room.old }
+    ensures ok { IfOk result (λ served. Greets served core.old core.new
+        (wires (I.remaining reader.old) (O.contents (device_of sender.old)))
+        (wires (I.remaining reader.new) (O.contents (device_of sender.new)))) }
+    ensures err { IfErr result (λ fault. Breaks fault core.old (I.remaining reader.old)
+        (O.contents (device_of sender.old)) (O.contents (device_of sender.new))) }
+{
+    'pieces: for _ in rt.forever() {
+        if let Err(fault) = send_out(core, sender) {
+            return Err(fault);
+        }
+        match core.phase() {
+            Phase::Haggling => match feed_piece(alloc, core, room, reader) {
+                Ok(true) => (),
+                Ok(false) => return Ok(Some(core.served(End::EndOfInput))),
+                Err(fault) => return Err(fault),
+            },
+            Phase::Serving => return Ok(None),
+            _ => return Ok(Some(core.served(core.end()))),
+        }
+    }
+    unreachable!()
+}

@@ -1,0 +1,64 @@
+//! Requests on their way from the session's core to its workers.
+ghost use Rattle.std.specs.Prelude.{◌≡◌, ◌≤◌, IfOk, IfErr, IfSome};
+ghost use Rattle.nm_session.specs.declared.serve_fault.ServeFault.TheVariants.{Memory};
+ghost use Rattle.nm_session.specs.Laws.{IsRead};
+ghost use Rattle.nm_wire.specs.Export.{size_of};
+ghost use Rattle.nm_workers.specs.Moving.{PausesAt};
+
+use crate::extent::Extent;
+use crate::job::Job;
+use crate::pause::Pause;
+use crossbeam_channel::Sender;
+use nm_session::{Next, ServeFault, SessionCore};
+use std::alloc::Global;
+use std::sync::Wait;
+
+// Hands out the tasks of the requests that are there, in their order, and says why no more are.
+pub(crate) fn hand_out<R: Wait, E: Extent>(
+    rt: &R,
+    alloc: Global,
+    core: &mut SessionCore,
+    jobs: &Sender<Job<E>>,
+) -> Result<Pause, ServeFault>
+    requires size { size_of core.old.haggling.export ≤ E.bytes }
+    ensures ok { IfOk result (λ pause. IsRead core.old core.new) }
+    ensures pause { IfOk result (λ pause. PausesAt pause core.new) }
+    ensures err { IfErr result (λ fault. (fault ≡ Memory) × IsRead core.old core.new) }
+{
+    'requests: for _ in rt.forever() {
+        match issue(rt, alloc, core, jobs) {
+            Ok(None) => (),
+            Ok(Some(pause)) => return Ok(pause),
+            Err(fault) => return Err(fault),
+        }
+    }
+    unreachable!()
+}
+
+// Hands out the next task, or says why none is there.
+fn issue<R: Wait, E: Extent>(
+    rt: &R,
+    alloc: Global,
+    core: &mut SessionCore,
+    jobs: &Sender<Job<E>>,
+) -> Result<Option<Pause>, ServeFault>
+    requires size { size_of core.old.haggling.export ≤ E.bytes }
+    ensures ok { IfOk result (λ pause. IsRead core.old core.new) }
+    ensures pause { IfOk result (λ pause. IfSome pause (λ why. PausesAt why core.new)) }
+    ensures err { IfErr result (λ fault. (fault ≡ Memory) × IsRead core.old core.new) }
+{
+    let Ok(next) = core.next(alloc) else {
+        return Err(ServeFault::Memory);
+    };
+    match next {
+        Next::Issue(index, task, payload) => {
+            if jobs.send(rt, Job::new(index, task, payload)).is_err() {
+                return Err(ServeFault::Memory);
+            }
+            Ok(None)
+        }
+        Next::Starved => Ok(Some(Pause::Starved)),
+        Next::Full => Ok(Some(Pause::Full)),
+        Next::Ended => Ok(Some(Pause::Ended)),
+    }
+}

@@ -1,0 +1,37 @@
+ghost use Rattle.std.specs.Prelude.{◌≡◌, ◌<◌, vec_len};
+ghost use Rattle.nm_session.specs.Turning.{IsStarved};
+ghost use Rattle.nm_workers.specs.declared.input.Input.TheVariants.{Idle};
+
+use crate::input::Input;
+use nm_session::SessionCore;
+use nm_wire::Memory;
+use std::alloc::Global;
+
+// How many bytes a read has room for.
+const ROOM: usize = 128 * 1024;
+
+// The leave to read one piece, with the room that it is read into.
+#[derive(Drop)]
+pub struct Leave {
+    room: Vec<u8>,
+    ghost some: { 0 < vec_len room },
+}
+
+impl Leave {
+    // A leave with room for 128 KiB, where no whole request is there and no read is under way.
+    pub(crate) fn new(alloc: Global, _core: &SessionCore, _input: Input) -> Result<Leave, Memory>
+        requires starved { IsStarved _core.now }
+        requires idle { _input ≡ Idle }
+    {
+        let room = vec![in alloc; 0; ROOM]?;
+        Ok(Leave { room })
+    }
+
+    // The room.
+    pub(crate) fn into_room(self) -> Vec<u8>
+        ensures { 0 < vec_len result }
+    {
+        let Leave { room } = self;
+        room
+    }
+}

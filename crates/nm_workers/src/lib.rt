@@ -1,0 +1,28 @@
+//! One client's session over several targets at once: a thread for each target, one that reads, and
+//! the caller's, which owns the session's core and its writer.
+//!
+//! What goes out is what happened in the session, whatever the threads do. Replies go out in the
+//! order in which the requests are done.
+#![tactic(auto)]
+
+pub use finished::Finished;
+pub use serving::serve_many;
+
+mod answering;
+mod attended;
+mod attending;
+mod desk;
+mod extent;
+mod finished;
+mod greeting;
+mod handing;
+mod hearing;
+mod input;
+mod job;
+mod leave;
+mod pause;
+mod read_side;
+mod reading;
+mod serving;
+mod threads;
+mod working;
