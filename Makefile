@@ -35,7 +35,7 @@ script:
 
 check:
 	@echo 'Proving every crate and its tests from nothing, then the must-fail edits, the tests and the programs.'
-	@echo 'This takes over an hour on 4 cores that have other work; a line comes as each crate, edit and run ends, and out/gate.log has the rest.'
+	@echo 'This takes about an hour on 4 cores; a line comes as each crate, edit and run ends, and out/gate.log has the rest.'
 	@tools/gate
 
 gate-cost:
