@@ -42,7 +42,7 @@ fn a_memory_leg_keeps_what_is_written(rt: HostRuntime) -> Result<(), Fail> {
 
 #[test]
 fn a_memory_leg_is_made_of_one_byte(rt: HostRuntime) -> Result<(), Fail> {
-    let leg = MemLeg::filled(rt.alloc(), 2, 0xff)?;
+    let leg = MemLeg::with_byte(rt.alloc(), 2, 0xff)?;
     assert_eq!(rt; leg.len(), 2);
     assert_eq!(rt; *leg.block(1), Block([0xff; 512]));
     assert_eq!(rt; MemLeg::new(rt.alloc(), 0)?.len(), 0);
@@ -52,7 +52,10 @@ fn a_memory_leg_is_made_of_one_byte(rt: HostRuntime) -> Result<(), Fail> {
 #[test]
 fn memory_that_is_not_there_is_refused(rt: HostRuntime) {
     assert_eq!(rt; MemLeg::new(rt.alloc(), TOO_MANY).err(), Some(Memory));
-    assert_eq!(rt; MemLeg::filled(rt.alloc(), TOO_MANY, 1).err(), Some(Memory));
+    assert_eq!(rt;
+        MemLeg::with_byte(rt.alloc(), TOO_MANY, 1).err(),
+        Some(Memory)
+    );
     assert_eq!(rt; CachedLeg::new(rt.alloc(), TOO_MANY).err(), Some(Memory));
 }
 
@@ -177,7 +180,7 @@ fn a_fuse_fails_the_call_that_it_names_and_no_other(rt: HostRuntime) -> Result<(
 
 #[test]
 fn a_failed_write_is_torn(rt: HostRuntime) -> Result<(), Fail> {
-    let mut leg = FuseLeg::filled(rt.alloc(), 3, 0xbb)?;
+    let mut leg = FuseLeg::with_byte(rt.alloc(), 3, 0xbb)?;
     assert_eq!(rt; leg.len(), 3);
     let mut torn = Block([0xbb; 512]);
     torn.0[..256].fill(0xaa);

@@ -13,9 +13,3 @@ mod records;
 mod regions;
 #[cfg(test)]
 mod resync;
-#[cfg(test)]
-mod rows;
-#[cfg(test)]
-mod scripts;
-#[cfg(test)]
-mod sweeps;

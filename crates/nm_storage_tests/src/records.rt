@@ -45,7 +45,7 @@ fn a_write_reaches_its_legs(rt: HostRuntime) -> Result<(), Fail> {
         owed_to(0, 1),
     );
     assert_eq!(rt; records.len(), 1);
-    assert_eq!(rt; records.unlanded(), 1);
+    assert_eq!(rt; records.unlanded_count(), 1);
     assert_eq!(rt; records.busy_on(3), Some(7));
     assert_eq!(rt; records.busy_on(7), None);
     assert_eq!(rt; records.next_owed(7), Some(0));
@@ -55,7 +55,7 @@ fn a_write_reaches_its_legs(rt: HostRuntime) -> Result<(), Fail> {
     let place = records.find(7).ok_or("the place of ticket 7")?;
     records.reach_at(place, 0);
     records.land_at(place, 1);
-    assert_eq!(rt; records.unlanded(), 0);
+    assert_eq!(rt; records.unlanded_count(), 0);
     assert_eq!(rt; records.next_owed(7), Some(1));
     records.reach_at(place, 1);
     assert_eq!(rt; records.busy_on(3), None);
@@ -188,7 +188,7 @@ fn as_many_as_256_records_stand_and_each_is_found(rt: HostRuntime) -> Result<(),
         records.begin(2 * count, count, Data::Zero, &Block::ZERO, owed_to(0, 0));
     }
     assert_eq!(rt; records.len(), MOST_RECORDS);
-    assert_eq!(rt; records.unlanded(), 256);
+    assert_eq!(rt; records.unlanded_count(), 256);
     assert!(rt; records.is_full());
     for count in 0..256 {
         assert_eq!(rt; records.find(2 * count), Some(count as usize));
@@ -216,7 +216,7 @@ fn a_leg_leaves_and_the_writes_land_by_rising_ticket(rt: HostRuntime) -> Result<
         records.land_at(place, number);
     }
     assert_eq!(rt; records.first_unlanded(), None);
-    assert_eq!(rt; records.unlanded(), 0);
+    assert_eq!(rt; records.unlanded_count(), 0);
     assert_eq!(rt;
         records.get(4).ok_or("the record of ticket 4")?.entry,
         Some(20)

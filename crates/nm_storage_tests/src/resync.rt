@@ -22,25 +22,25 @@ fn a_chunk_of_three_blocks_is_read_and_then_written(rt: HostRuntime) -> Result<(
     assert_eq!(rt; copy.next_move(), Move::Read(2));
     *copy.slot() = block_of(3);
     copy.fill();
-    assert_eq!(rt; copy.buffered(), 3);
+    assert_eq!(rt; copy.blocks_buffered(), 3);
     assert_eq!(rt; copy.next_move(), Move::Write(0));
     assert_eq!(rt; *copy.block(0), block_of(1));
     assert_eq!(rt; copy.wrote(), None);
     assert_eq!(rt; *copy.block(1), block_of(2));
     assert_eq!(rt; copy.wrote(), None);
-    assert_eq!(rt; copy.written(), 2);
-    assert_eq!(rt; copy.buffered(), 1);
+    assert_eq!(rt; copy.blocks_written(), 2);
+    assert_eq!(rt; copy.blocks_buffered(), 1);
     assert_eq!(rt; copy.next_move(), Move::Write(2));
     assert_eq!(rt; *copy.block(2), block_of(3));
     assert_eq!(rt; copy.wrote(), Some(3));
     assert_eq!(rt; copy.next_move(), Move::Open);
-    assert_eq!(rt; copy.buffered(), 0);
+    assert_eq!(rt; copy.blocks_buffered(), 0);
     Ok(())
 }
 
 #[test]
 fn a_chunk_of_one_block_goes_from_leg_to_leg(rt: HostRuntime) -> Result<(), Fail> {
-    let mut master = MemLeg::filled(rt.alloc(), 1, 0xaa)?;
+    let mut master = MemLeg::with_byte(rt.alloc(), 1, 0xaa)?;
     let mut leg = MemLeg::new(rt.alloc(), 1)?;
     let mut copy = Copy::new(rt.alloc(), 1)?;
     master.read(0, copy.slot())?;
@@ -62,7 +62,7 @@ fn a_read_that_fails_leaves_the_chunk(rt: HostRuntime) -> Result<(), Fail> {
     *copy.slot() = block_of(9);
     assert_eq!(rt; copy.next_move(), Move::Read(0));
     assert_eq!(rt; copy.length(), 2);
-    assert_eq!(rt; copy.buffered(), 0);
+    assert_eq!(rt; copy.blocks_buffered(), 0);
     copy.drop_chunk();
     assert_eq!(rt; copy.next_move(), Move::Open);
     Ok(())

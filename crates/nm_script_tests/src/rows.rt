@@ -58,7 +58,7 @@ pub const PLAIN: [Row; 13] = [
           value 3 c3\nwritten 1\nhistory 4 of 4\n0 write 0 1 a1\n1 write 1 2 b2\n\
           2 write 2 9 c3\n3 read 9 c3\nlegal yes\n",
     ),
-    // A leg is replaced and copied, with writes before and behind the copy.
+    // A leg is replaced and copied, with writes before and after the copy.
     (
         2,
         8,
