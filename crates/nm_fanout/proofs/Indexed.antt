@@ -10,7 +10,7 @@ use Rattle.std.proofs.lemmas.Bool.{cases_lt}
 use Rattle.std.proofs.lemmas.Bool.Decides.{nat_tests}
 use Rattle.std.proofs.lemmas.Cmp.{ranked}
 use Rattle.std.proofs.lemmas.Grind.{common_steps}
-use Rattle.std.proofs.lemmas.List.{drop_all, get_or_default}
+use Rattle.std.proofs.lemmas.List.{get_or_default}
 use Rattle.std.proofs.lemmas.List.Sums.{position_or_len_is}
 use Rattle.std.proofs.lemmas.Option.{slice_get-get_or}
 use Rattle.nm_fanout.specs.declared.write_record.Record.{Record}
@@ -252,10 +252,6 @@ search-miss test rs i lt fails =
     ap (λ (l : List Record). find test l) (drop-at rs i x.0 x.1)
     ∙ ap (λ (b : Bool). cond b (Some x.0) (find test (drop (suc i) rs))) no
     ∙ ap (λ n. find test (drop n rs)) next
-
-pub search-end : (test : Record → Bool) (rs : List Record) (i : ℕ) → length rs ≤ i
-    → find test (drop i rs) ≡ None
-search-end test rs i le = rw (drop_all i rs le) refl
 
 -- some record passes exactly if one is found
 pub any-found : (rs : List Record) → any_under_way rs ≡ is_some (find is_under_way rs)

@@ -1,5 +1,5 @@
 -- All writes without an entry land, one after the other: the lowest ticket first, until none is left.
-use Rattle.std.proofs.Common.{◌≡◌, ◌⊎◌, ℕ, ◌+◌, ◌<◌, ◌≤◌, zero, suc, Bool, true, false, cond, ◌==◌, List, [], ◌∷◌, length, get_or, Option, None, Some, is_none, refl, sym, ap, ◌∙◌, subst, arith, eq-eqb, ne_eqb, inl, inr}
+use Rattle.std.proofs.Common.{◌≡◌, ◌⊎◌, ℕ, ◌+◌, ◌<◌, ◌≤◌, zero, suc, Bool, true, false, cond, ◌==◌, List, [], ◌∷◌, length, get_or, Option, None, Some, is_none, refl, sym, ap, ◌∙◌, arith, eq-eqb, ne_eqb, inl, inr}
 use Rattle.std.specs.List.{find, slice_get}
 use Rattle.std.proofs.lemmas.Grind.{common_steps}
 use Rattle.std.proofs.lemmas.List.Quantifiers.{position-Some}
@@ -7,7 +7,7 @@ use Rattle.std.proofs.lemmas.List.Sums.{fails_before_first, sum_by-cons}
 use Rattle.std.proofs.lemmas.Option.{slice_get-get_or}
 use Rattle.nm_fanout.specs.declared.write_record.Record.{Record}
 use Rattle.nm_fanout.specs.Record.{with_entry}
-use Rattle.nm_fanout.specs.Records.{Ascends, AllAbove, AllBelow, AllWhole, AreInOrder, IsAt, OneWriterABlock, find_record, busy_on, unlanded, first_unlanded, landed, landed_all, landings}
+use Rattle.nm_fanout.specs.Records.{Ascends, AllAbove, AllBelow, AllWhole, AreInOrder, IsAt, OneWriterABlock, busy_on, unlanded, first_unlanded, landed, landed_all, landings}
 use Rattle.nm_fanout.proofs.InOrder.{with_entry-keeps}
 use Rattle.nm_fanout.proofs.Landing.{waits}
 use Rattle.nm_fanout.proofs.Owed.{tells}
@@ -109,24 +109,6 @@ length-landed_all next (r ∷ rs) =
       | inr w ↦ rw w (ap (λ n. suc n) (length-landed_all next rs))
     ]
 
--- as many land as had no entry
-pub length-landings : (next : ℕ) (rs : List Record) → length (landings next rs) ≡ unlanded rs
-length-landings next [] = refl
-length-landings next (r ∷ rs) =
-    let counts = sum_by-cons waits r rs in
-    elim (tells (is_none r.entry)) [
-      | inl w ↦
-          let one : waits r ≡ 1 = ap (λ (b : Bool). cond b 1 0) w in
-          let more = length-landings (next + 1) rs in
-          let long : length (landings next (r ∷ rs)) ≡ suc (length (landings (next + 1) rs)) = rw w
-          refl in
-          omega (arith, counts, one, more, long)
-      | inr w ↦
-          let none : waits r ≡ 0 = ap (λ (b : Bool). cond b 1 0) w in
-          let long : length (landings next (r ∷ rs)) ≡ length (landings next rs) = rw w refl in
-          omega (arith, counts, none, long, length-landings next rs)
-    ]
-
 numbered : (next i : ℕ) (r : Record) (rs : List Record) (p : ℕ × Record)
     → ((k : ℕ) → slice_get (landings (next + 1) rs) k ≡ Some p → p.0 ≡ next + 1 + k)
     → slice_get ((next, r) ∷ landings (next + 1) rs) i ≡ Some p → p.0 ≡ next + i
@@ -134,33 +116,6 @@ numbered next zero r rs p later h =
     let e : (next, r) ≡ p = cc in
     let is : next ≡ p.0 = ap (λ (q : ℕ × Record). q.0) e in omega (arith, is)
 numbered next (suc i) r rs p later h = omega (arith, later i h)
-
--- their numbers rise by one
-pub landings-number : (next i : ℕ) (rs : List Record) (p : ℕ × Record)
-    → slice_get (landings next rs) i ≡ Some p → p.0 ≡ next + i
-landings-number next i [] p h = absurd cc
-landings-number next i (r ∷ rs) p h =
-    elim (tells (is_none r.entry)) [
-      | inl w ↦ numbered next i r rs p (λ k later. landings-number (next + 1) k rs p later)
-          (rw w at h)
-      | inr w ↦ landings-number next i rs p (rw w at h)
-    ]
-
--- then none lacks its entry
-pub unlanded-landed_all : (next : ℕ) (rs : List Record) → unlanded (landed_all next rs) ≡ 0
-unlanded-landed_all next [] = refl
-unlanded-landed_all next (r ∷ rs) =
-    elim (tells (is_none r.entry)) [
-      | inl w ↦ rw w (
-          let counts = sum_by-cons waits (with_entry next r) (landed_all (next + 1) rs) in
-          omega (arith, counts, unlanded-landed_all (next + 1) rs)
-          )
-      | inr w ↦ rw w (
-          let counts = sum_by-cons waits r (landed_all next rs) in
-          let none : waits r ≡ 0 = ap (λ (b : Bool). cond b 1 0) w in
-          omega (arith, counts, none, unlanded-landed_all next rs)
-          )
-    ]
 
 AllAbove-landed_all : (next low : ℕ) (rs : List Record) → AllAbove low rs
     → AllAbove low (landed_all next rs)
@@ -257,78 +212,6 @@ later next m n r new less (inr k) = inr (
   k.3,
   k.4,
 )
-
-first-landed : (test : Record → Bool) (same : (n : ℕ) (r : Record) → test (with_entry n r) ≡ test r)
-    (next : ℕ) (r : Record) (rs : List Record) (b c : Bool) → test r ≡ b → is_none r.entry ≡ c
-    → ((n : ℕ) → (x : Record) → find test rs ≡ Some x → FoundLanded test n rs x) → (x : Record)
-    → cond b (Some r) (find test rs) ≡ Some x → FoundLanded test next (r ∷ rs) x
-first-landed test same next r rs true true here none rest x h =
-    let e : r ≡ x = cc in
-    let passes : test (with_entry next r) ≡ true = same next r ∙ here in
-    let counts = sum_by-cons waits r rs in
-    let one : waits r ≡ 1 = ap (λ (b : Bool). cond b 1 0) none in
-    record {
-      now = with_entry next x;
-      found = rw (none, passes) (ap (λ (y : Record). Some (with_entry next y)) e);
-      is = inr (
-        next,
-        omega arith,
-        omega (arith, counts, one),
-        absent x.entry (ap (λ (y : Record). is_none y.entry) (sym e) ∙ none),
-        refl,
-      );
-    }
-first-landed test same next r rs true false here some rest x h =
-    let e : r ≡ x = cc in
-    record {
-      now = x;
-      found = rw (some, here) (ap (λ (y : Record). Some y) e);
-      is = inl (ap (λ (y : Record). is_none y.entry) (sym e) ∙ some, refl);
-    }
-first-landed test same next r rs false true here none rest x h =
-    let fails : test (with_entry next r) ≡ false = same next r ∙ here in
-    let more = rest (next + 1) x h in
-    let counts = sum_by-cons waits r rs in
-    let one : waits r ≡ 1 = ap (λ (b : Bool). cond b 1 0) none in
-    record {
-      now = more.now;
-      found = rw (none, fails) more.found;
-      is = later next (unlanded rs) (unlanded (r ∷ rs)) x more.now (omega (arith, counts, one)) more.is;
-    }
-first-landed test same next r rs false false here some rest x h =
-    let more = rest next x h in
-    let counts = sum_by-cons waits r rs in
-    let none : waits r ≡ 0 = ap (λ (b : Bool). cond b 1 0) some in
-    let all : unlanded rs ≡ unlanded (r ∷ rs) = omega (arith, counts, none) in
-    record {
-      now = more.now;
-      found = rw (some, here) more.found;
-      is = subst (λ (n : ℕ). LandedAs next n x more.now) all more.is;
-    }
-
--- what it found it finds landed
-pub find-landed_all_some : (test : Record → Bool)
-    (same : (n : ℕ) (r : Record) → test (with_entry n r) ≡ test r) (next : ℕ) (rs : List Record)
-    (x : Record) → find test rs ≡ Some x → FoundLanded test next rs x
-find-landed_all_some test same next [] x h = absurd cc
-find-landed_all_some test same next (r ∷ rs) x h = first-landed test same next r rs (test r)
-    (is_none r.entry) refl refl (λ n y found. find-landed_all_some test same n rs y found) x h
-
--- so a record is found by its ticket as it landed
-pub find_record-landed_all : (next t : ℕ) (rs : List Record) (x : Record)
-    → find_record t rs ≡ Some x → FoundLanded (λ r. r.ticket == t) next rs x
-find_record-landed_all next t rs x h = find-landed_all_some (λ r. r.ticket == t) (λ n r. refl) next
-    rs x h
-
-pub find_record-landed_all_none : (next t : ℕ) (rs : List Record) → find_record t rs ≡ None
-    → find_record t (landed_all next rs) ≡ None
-find_record-landed_all_none next t rs h = find-landed_all_none (λ r. r.ticket == t) (λ n r. refl)
-    next rs h
-
--- and so is the record that a block is busy with
-pub busy_on-landed_all : (next b : ℕ) (rs : List Record) (x : Record) → busy_on b rs ≡ Some x
-    → FoundLanded (holds b) next rs x
-busy_on-landed_all next b rs x h = find-landed_all_some (holds b) (λ n r. refl) next rs x h
 
 pub busy_on-landed_all_none : (next b : ℕ) (rs : List Record) → busy_on b rs ≡ None
     → busy_on b (landed_all next rs) ≡ None

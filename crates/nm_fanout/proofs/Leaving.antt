@@ -1,16 +1,14 @@
 -- A leg leaves: each record is changed alike, so every fact about the list is one about each record.
-use Rattle.std.proofs.Common.{◌≡◌, ℕ, ◌+◌, ◌<◌, ◌≤◌, zero, suc, true, false, cond, ◌==◌, List, [], ◌∷◌, ◌++◌, Bool, length, get_or, set, take, drop, map, None, Some, refl, sym, ap, ◌∙◌, subst, arith, inl, inr}
-use Rattle.std.specs.Option.{option_map}
+use Rattle.std.proofs.Common.{◌≡◌, ℕ, ◌+◌, ◌<◌, ◌≤◌, zero, suc, false, cond, ◌==◌, List, [], ◌∷◌, ◌++◌, Bool, length, get_or, set, map, None, Some, refl, sym, ap, ◌∙◌, arith, inl, inr}
 use Rattle.std.proofs.lemmas.List.{get_or_default}
-use Rattle.std.proofs.Math.Seq.{take-append_seam}
 use Rattle.std.proofs.lemmas.List.Sums.{sum_by-cons}
 use Rattle.nm_fanout.specs.declared.write_record.Record.{Record}
 use Rattle.nm_fanout.specs.Record.{is_under_way, without_leg}
-use Rattle.nm_fanout.specs.Records.{Ascends, AllAbove, AllBelow, AllWhole, AreInOrder, IsAt, OneWriterABlock, find_record, busy_on, unlanded, reached, left_by}
+use Rattle.nm_fanout.specs.Records.{Ascends, AllAbove, AllBelow, AllWhole, AreInOrder, IsAt, OneWriterABlock, busy_on, unlanded, reached, left_by}
 use Rattle.nm_fanout.proofs.InOrder.{without_leg-keeps}
 use Rattle.nm_fanout.proofs.Landing.{waits}
 use Rattle.nm_fanout.proofs.Owed.{tells, is_under_way-without_leg}
-use Rattle.nm_fanout.proofs.Busy.{holds, holds-idle, holds-is, holds-same, skip-first}
+use Rattle.nm_fanout.proofs.Busy.{holds, skip-first}
 use Rattle.nm_fanout.proofs.Places.{set-at}
 use Rattle.nm_fanout.proofs.Writers.{Settles, holds-settled}
 
@@ -19,10 +17,6 @@ abbrev pub mapped_to : (Record → Record) → ℕ → List Record → List Reco
 mapped_to f zero rs = rs
 mapped_to f (suc n) [] = []
 mapped_to f (suc n) (r ∷ rs) = f r ∷ mapped_to f n rs
-
--- none of them
-pub mapped-none : (f : Record → Record) (rs : List Record) → rs ≡ mapped_to f zero rs
-mapped-none f rs = refl
 
 -- one more
 pub mapped-more : (f : Record → Record) (rs : List Record) (n : ℕ) (x : Record) → n < length rs
@@ -57,12 +51,6 @@ pub length-mapped_to : (f : Record → Record) (n : ℕ) (rs : List Record)
 length-mapped_to f zero rs = refl
 length-mapped_to f (suc n) [] = refl
 length-mapped_to f (suc n) (r ∷ rs) = ap (λ m. suc m) (length-mapped_to f n rs)
-
--- a slice that was written whole is what was written
-pub written-whole : (n : ℕ) (new rs : List Record) → n ≡ length new
-    → take n (new ++ drop (length new) rs) ≡ new
-written-whole n new rs h = ap (λ m. take m (new ++ drop (length new) rs)) h
-    ∙ take-append_seam new (drop (length new) rs)
 
 pub length-left_by : (leg : ℕ) (rs : List Record) → length (left_by leg rs) ≡ length rs
 length-left_by leg [] = refl
@@ -102,16 +90,6 @@ unlanded-left_by leg (r ∷ rs) =
     let b = sum_by-cons waits r rs in
     omega (arith, a, b, unlanded-left_by leg rs)
 
--- a record is found as it then is
-pub find_record-left_by : (leg t : ℕ) (rs : List Record)
-    → find_record t (left_by leg rs) ≡ option_map (without_leg leg) (find_record t rs)
-find_record-left_by leg t [] = refl
-find_record-left_by leg t (r ∷ rs) =
-    elim (tells (r.ticket == t)) [
-      | inl w ↦ rw w refl
-      | inr w ↦ rw w (find_record-left_by leg t rs)
-    ]
-
 -- it keeps each record's block, and begins none anew
 pub without_leg-settles : (leg : ℕ) → Settles (without_leg leg)
 without_leg-settles leg = record {
@@ -141,69 +119,6 @@ OneWriterABlock-left_by leg (r ∷ rs) one = (
   ],
   OneWriterABlock-left_by leg rs one.1,
 )
-
-busy-first : (leg b : ℕ) (r x : Record) (rs : List Record)
-    → (busy_on b rs ≡ Some x → busy_on b (left_by leg rs) ≡ Some (without_leg leg x))
-    → is_under_way (without_leg leg x) ≡ true → cond (holds b r) (Some r) (busy_on b rs) ≡ Some x
-    → busy_on b (left_by leg (r ∷ rs)) ≡ Some (without_leg leg x)
-busy-first leg b r x rs rest still h =
-    elim (tells (holds b r)) [
-      | inl w ↦
-          let here : Some r ≡ Some x = rw w at h in
-          let e : r ≡ x = cc in
-          let block : r.block ≡ b = (holds-is b r w).0 in
-          let goes_on : is_under_way (without_leg leg r) ≡ true = ap
-          (λ (y : Record). is_under_way (without_leg leg y)) e ∙ still in
-          let yes : holds b (without_leg leg r) ≡ true = holds-same b (without_leg leg r) block
-          goes_on in
-          ap (λ (v : Bool). cond v (Some (without_leg leg r)) (busy_on b (left_by leg rs))) yes
-          ∙ ap (λ (y : Record). Some (without_leg leg y)) e
-      | inr w ↦
-          let no : holds b (without_leg leg r) ≡ false = holds-settled (without_leg leg)
-          (without_leg-settles leg) b r w in
-          ap (λ (v : Bool). cond v (Some (without_leg leg r)) (busy_on b (left_by leg rs))) no
-          ∙ rest (rw w at h)
-    ]
-
--- a write that owes another leg stays the one that its block is busy with
-pub busy_on-left_by_busy : (leg b : ℕ) (rs : List Record) (x : Record) → busy_on b rs ≡ Some x
-    → is_under_way (without_leg leg x) ≡ true
-    → busy_on b (left_by leg rs) ≡ Some (without_leg leg x)
-busy_on-left_by_busy leg b [] x h still = absurd cc
-busy_on-left_by_busy leg b (r ∷ rs) x h still = busy-first leg b r x rs
-    (λ k. busy_on-left_by_busy leg b rs x k still) still h
-
-finished-first : (leg b : ℕ) (r x : Record) (rs : List Record) → OneWriterABlock (r ∷ rs)
-    → (busy_on b rs ≡ Some x → busy_on b (left_by leg rs) ≡ None)
-    → is_under_way (without_leg leg x) ≡ false → cond (holds b r) (Some r) (busy_on b rs) ≡ Some x
-    → busy_on b (left_by leg (r ∷ rs)) ≡ None
-finished-first leg b r x rs one rest over h =
-    elim (tells (holds b r)) [
-      | inl w ↦
-          let here : Some r ≡ Some x = rw w at h in
-          let e : r ≡ x = cc in
-          let is = holds-is b r w in
-          let free : busy_on b rs ≡ None = subst (λ (n : ℕ). busy_on n rs ≡ None) is.0
-          (one.0 is.1) in
-          let ends : is_under_way (without_leg leg r) ≡ false = ap
-          (λ (y : Record). is_under_way (without_leg leg y)) e ∙ over in
-          let no : holds b (without_leg leg r) ≡ false = holds-idle b (without_leg leg r) ends in
-          ap (λ (v : Bool). cond v (Some (without_leg leg r)) (busy_on b (left_by leg rs))) no
-          ∙ busy_on-left_by_none leg b rs free
-      | inr w ↦
-          let no : holds b (without_leg leg r) ≡ false = holds-settled (without_leg leg)
-          (without_leg-settles leg) b r w in
-          ap (λ (v : Bool). cond v (Some (without_leg leg r)) (busy_on b (left_by leg rs))) no
-          ∙ rest (rw w at h)
-    ]
-
--- and one that owed that leg alone leaves its block free
-pub busy_on-left_by_finished : (leg b : ℕ) (rs : List Record) (x : Record) → OneWriterABlock rs
-    → busy_on b rs ≡ Some x → is_under_way (without_leg leg x) ≡ false
-    → busy_on b (left_by leg rs) ≡ None
-busy_on-left_by_finished leg b [] x one h over = absurd cc
-busy_on-left_by_finished leg b (r ∷ rs) x one h over = finished-first leg b r x rs one
-    (λ k. busy_on-left_by_finished leg b rs x one.1 k over) over h
 
 AllAbove-mapped_to : (leg low n : ℕ) (rs : List Record) → AllAbove low rs
     → AllAbove low (mapped_to (without_leg leg) n rs)

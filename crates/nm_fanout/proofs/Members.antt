@@ -3,7 +3,7 @@ use Rattle.std.proofs.Common.{◌≡◌, ◌⊎◌, ℕ, ◌<◌, Bool, true, fa
 use Rattle.std.proofs.lemmas.Bool.Decides.{eqb_tells}
 use Rattle.nm_fanout.specs.declared.write_record.Record.{Record}
 use Rattle.nm_fanout.specs.Record.{IsWhole}
-use Rattle.nm_fanout.specs.Records.{Ascends, AllAbove, AllWhole, AreInOrder, find_record, busy_on}
+use Rattle.nm_fanout.specs.Records.{Ascends, AllAbove, AllWhole, find_record, busy_on}
 use Rattle.nm_fanout.proofs.Busy.{holds}
 
 -- the record is in the list
@@ -59,11 +59,6 @@ AllWhole-Member (r ∷ rs) x h m =
       | inl e ↦ rw e h.0
       | inr k ↦ AllWhole-Member rs x h.1 k
     ]
-
--- also the one that is found
-pub find_record-whole : (t : ℕ) (rs : List Record) (x : Record) → AreInOrder rs
-    → find_record t rs ≡ Some x → IsWhole x
-find_record-whole t rs x h found = AllWhole-Member rs x h.whole (find_record-Member t rs x found)
 
 first-busy : (b : ℕ) (r x : Record) (rs : List Record) (v : Bool)
     → (busy_on b rs ≡ Some x → Member x rs) → cond v (Some r) (busy_on b rs) ≡ Some x

@@ -1,14 +1,8 @@
 -- Tickets rise along the list, so each place has a ticket of its own: what is done at a place is
 -- what is done to the record of that ticket.
-use Rattle.std.proofs.Common.{◌≡◌, ℕ, ◌<◌, ◌≤◌, zero, suc, false, ◌==◌, List, [], ◌∷◌, length, get_or, set, Option, None, Some, Result, Ok, Err, refl, sym, ap, ◌∙◌, arith, ne_eqb, inl, inr}
+use Rattle.std.proofs.Common.{◌≡◌, ℕ, ◌<◌, ◌≤◌, zero, suc, false, ◌==◌, List, [], ◌∷◌, length, get_or, set, Option, None, Some, refl, sym, ap, ◌∙◌, arith, ne_eqb}
 use Rattle.std.specs.Option.{option_and_then, option_map, IfSome, IfNone}
-use Rattle.std.specs.Result.{result_ok}
 use Rattle.std.specs.List.{remove, slice_get}
-use Rattle.std.specs.List.Sorted.{IsSearchInRange, IsBinarySearchResult, IsNonDecreasingBy}
-use Rattle.std.specs.Ordering.{nat_cmp, ordering_index}
-use Rattle.std.proofs.lemmas.Bool.{cases_lt}
-use Rattle.std.proofs.lemmas.Cmp.{ranked}
-use Rattle.std.proofs.lemmas.Bool.Decides.{nat_tests}
 use Rattle.std.proofs.lemmas.List.{length-set, get_or-set_same}
 use Rattle.std.proofs.lemmas.Option.{slice_get-get_or}
 use Rattle.nm_fanout.specs.declared.write_record.Record.{Record}
@@ -62,12 +56,6 @@ tickets-rise (r ∷ rs) (suc i) zero d h le lt = absurd (omega arith)
 tickets-rise (r ∷ rs) (suc i) (suc j) d h le lt = tickets-rise rs i j d h.1 (omega arith)
     (omega arith)
 
--- so comparisons with a ticket rise, as a binary search asks
-comparisons-rise : (t : ℕ) (rs : List Record) → Ascends rs
-    → IsNonDecreasingBy (λ y. ordering_index (nat_cmp y.ticket t)) rs
-comparisons-rise t rs h i j d le lt =
-    let rise = tickets-rise rs i j d h le lt in grind (arith, nat_tests)
-
 -- where no place has the ticket, no record is found
 pub no-place : (t : ℕ) (rs : List Record) (d : Record)
     → ((k : ℕ) → k < length rs → (get_or rs k d).ticket ≡ t → ⊥) → find_record t rs ≡ None
@@ -76,38 +64,10 @@ no-place t (r ∷ rs) d h =
     let other : (r.ticket == t) ≡ false = ne_eqb r.ticket t (h zero (omega arith)) in
     rw other (no-place t rs d (λ k lt. h (suc k) (omega arith)))
 
--- a binary search that ended at a place: the ticket's record is there
-pub searched-found : (t i : ℕ) (rs : List Record) → Ascends rs → i < length rs
-    → IsBinarySearchResult (λ y. nat_cmp y.ticket t) rs (Ok i) → IsAt t i rs
-searched-found t i [] h lt equal = absurd (omega arith)
-searched-found t i (r ∷ rs) h lt equal =
-    let there : (get_or (r ∷ rs) i r).ticket ≡ t = ranked _ t _ (sym (equal r)) in
-    record {
-      within = lt;
-      found = find_record-at t (r ∷ rs) i r h lt there ∙ sym (slice_get-get_or (r ∷ rs) i r lt);
-    }
-
--- and one that ended at none: there is no such record
-pub searched-absent : (t i : ℕ) (rs : List Record) → Ascends rs → i ≤ length rs
-    → IsBinarySearchResult (λ y. nat_cmp y.ticket t) rs (Err i) → find_record t rs ≡ None
-searched-absent t i [] h le parted = refl
-searched-absent t i (r ∷ rs) h le parted =
-    let p = parted (comparisons-rise t (r ∷ rs) h) in
-    no-place t (r ∷ rs) r (λ k lt e. elim (cases_lt k i) [
-      | inl w ↦ let less = ranked _ t _ (sym (p.0 k r (omega arith) w)) in omega (arith, less, e)
-      | inr w ↦ let more = ranked _ t _ (sym (p.1 k r w lt)) in omega (arith, more, e)
-    ])
-
 -- a binary search by ticket answers the place of the ticket's record, or that there is none
 pub record FindsPlace (t : ℕ) (rs : List Record) (place : Option ℕ) : Type 0 where
   pub found : IfSome place (λ i. IsAt t i rs)
   pub absent : IfNone place (find_record t rs ≡ None)
-
-pub searched : (t : ℕ) (rs : List Record) (r : Result ℕ ℕ) → Ascends rs
-    → IsSearchInRange r (length rs) → IsBinarySearchResult (λ y. nat_cmp y.ticket t) rs r
-    → FindsPlace t rs (result_ok r)
-searched t rs (Ok i) h bound is = record { found = searched-found t i rs h bound is; absent = tt }
-searched t rs (Err i) h bound is = record { found = tt; absent = searched-absent t i rs h bound is }
 
 set-place : (i : ℕ) (rs : List Record) (x : Record) → i < length rs
     → slice_get (set rs i x) i ≡ Some x

@@ -1,6 +1,8 @@
 -- The records of writes, by rising ticket.
-use Rattle.std.specs.Prelude.{◌≡◌, ℕ, ◌+◌, Bool, IsTrue, None, ◌<◌, ◌≤◌, ◌&&◌, ◌==◌, nat_le, nat_lt, not, if◌then◌else◌}
-use Rattle.std.specs.Prelude.{List, [], ◌∷◌, ◌++◌, length, map, slice_get, find, filter, position, count_by}
+use Rattle.std.specs.Prelude.{◌≡◌, ℕ, ◌+◌, Bool, IsTrue, None, ◌<◌, ◌≤◌, ◌&&◌, ◌==◌, nat_le, nat_lt}
+use Rattle.std.specs.Prelude.{not, if◌then◌else◌}
+use Rattle.std.specs.Prelude.{List, [], ◌∷◌, ◌++◌, length, map, slice_get, find, filter, position}
+use Rattle.std.specs.Prelude.{count_by}
 use Rattle.std.specs.Prelude.{Option, is_none}
 use Rattle.std.specs.List.{list_any}
 use Rattle.std.specs.Option.{option_map, option_and_then}

@@ -136,7 +136,7 @@ impl Records {
     }
 
     /// How many of the writes have no entry yet.
-    pub fn unlanded(&self) -> u64
+    pub fn unlanded_count(&self) -> u64
         ensures count { result ≡ unlanded self.now }
         ensures most { result ≤ length self.now }
         ensures in_order { AreInOrder self.now }

@@ -2,7 +2,7 @@
 use Rattle.std.proofs.Common.{◌≡◌, ℕ, zero, suc, ◌+◌, ◌-◌, ◌*◌, ◌/◌, ◌<◌, ◌≤◌, ◌==◌, ◌⊎◌, List, [], ◌∷◌, length, Some, slice_get, refl, sym, ap, ◌∙◌, subst, arith, inl, inr, true, false, pos_of_ne-zero}
 use Rattle.std.proofs.lemmas.Bool.Decides.{eqb_tells}
 use Rattle.nm_geometry.specs.declared.piece.Piece.{Piece}
-use Rattle.nm_geometry.specs.declared.range.ByteRange.{ByteRange}
+use Rattle.nm_geometry.specs.declared.byte_range.ByteRange.{ByteRange}
 use Rattle.nm_geometry.specs.Pieces.{end_of, stop_of, touched, piece_in, pieces_from, pieces_of, IsPieceAt, Cuts}
 use Rattle.nm_geometry.specs.PieceLaws.{AreByNumber}
 

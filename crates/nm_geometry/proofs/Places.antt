@@ -124,15 +124,6 @@ pub adds-up : (shape : Geometry) → IsGeometry shape → blocks_of_stripes shap
 adds-up shape is =
     omega (arith, summed shape shape.stripes, in-rows shape, mod_below shape.blocks (row shape) (some-row shape is))
 
--- the block that a stripe's first is lies in the export, as there are no more stripes than regions
-pub has-blocks : (shape : Geometry) (s : ℕ) → IsGeometry shape → s < shape.stripes → 0 < stripe_blocks s shape
-has-blocks shape s is lt =
-    let there : s < regions shape = omega (arith, lt, is.in_regions) in
-    let first : s * shape.region < shape.blocks = (some-of-region shape.region shape.blocks s is.some_region).0 there in
-    let e : export_block s (0 * shape.region) shape ≡ export_region s 0 shape * shape.region = far-first shape s 0 is in
-    let inside = (lies-inside shape s (0 * shape.region) is lt).1 (omega (arith, e, first)) in
-    omega (arith, inside)
-
 -- of two places o and p in regions of one stripe, the one in the lower region comes first
 pub rises : (shape : Geometry) (low high : ℕ) → IsGeometry shape → stripe_of low shape ≡ stripe_of high shape → low < high → block_in_stripe low shape < block_in_stripe high shape
 rises shape low high is same lt =

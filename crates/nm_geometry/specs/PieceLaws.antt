@@ -1,7 +1,7 @@
 -- Laws of pieces: they cut their range, and nothing else does.
 use Rattle.std.specs.Prelude.{◌≡◌, ℕ, ◌/◌, ◌<◌, List, length, Some, slice_get}
 use Rattle.nm_geometry.specs.declared.piece.Piece.{Piece}
-use Rattle.nm_geometry.specs.declared.range.ByteRange.{ByteRange}
+use Rattle.nm_geometry.specs.declared.byte_range.ByteRange.{ByteRange}
 use Rattle.nm_geometry.specs.Geometry.{Geometry}
 use Rattle.nm_geometry.specs.Pieces.{end_of, LiesInside, touched, piece_at, pieces_of, Cuts}
 

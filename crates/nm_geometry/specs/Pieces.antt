@@ -2,10 +2,10 @@
 use Rattle.std.specs.Prelude.{◌≡◌, ℕ, zero, suc, ◌+◌, ◌-◌, ◌*◌, ◌/◌, ◌≤◌, ◌<◌, ◌==◌, min}
 use Rattle.std.specs.Prelude.{if◌then◌else◌, List, [], ◌∷◌}
 use Rattle.nm_geometry.specs.declared.piece.Piece.{Piece}
-use Rattle.nm_geometry.specs.declared.range.ByteRange.{ByteRange}
+use Rattle.nm_geometry.specs.declared.byte_range.ByteRange.{ByteRange}
 use Rattle.nm_geometry.specs.Geometry.{Geometry}
 
--- the byte behind the last of a range
+-- the byte after the last of a range
 abbrev pub end_of : ByteRange → ℕ
 end_of range = range.offset + range.length
 
@@ -17,7 +17,7 @@ LiesInside range shape = end_of range ≤ 512 * shape.blocks
 abbrev pub start_of : Piece → ℕ
 start_of piece = 512 * piece.block + piece.from
 
--- the byte behind the last of a piece
+-- the byte after the last of a piece
 abbrev pub stop_of : Piece → ℕ
 stop_of piece = start_of piece + piece.len
 
@@ -63,7 +63,7 @@ pub record IsPieceAt (block start : ℕ) (piece : Piece) : Type 0 where
   pub in_block : piece.from + piece.len ≤ 512
 
 -- the pieces cut the bytes from one to another: each begins where the one before it stops, in the
--- block behind that one's, and is not empty
+-- block after that one's, and is not empty
 abbrev pub Cuts : List Piece → ℕ → ℕ → ℕ → Type 0
 Cuts [] block from to = to ≡ from
 Cuts (piece ∷ pieces) block from to =

@@ -4,11 +4,11 @@
 //! words fit together: there and back, each block in one stripe, each byte in one piece.
 #![tactic(auto)]
 
+pub use byte_range::ByteRange;
 pub use piece::Piece;
-pub use range::ByteRange;
 pub use shape::{MOST_BLOCKS, MOST_LEGS, MOST_REGION, MOST_STRIPES, Shape};
 
+mod byte_range;
 pub mod laws;
 mod piece;
-mod range;
 mod shape;

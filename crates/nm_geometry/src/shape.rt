@@ -4,7 +4,7 @@ ghost use Rattle.nm_geometry.specs.Geometry.{region_in_stripe, block_in_stripe, 
 ghost use Rattle.nm_geometry.specs.Geometry.{stripe_blocks, stripe_regions};
 ghost use Rattle.nm_geometry.specs.Pieces.{LiesInside};
 
-use crate::range::ByteRange;
+use crate::byte_range::ByteRange;
 use std::marker::Model;
 
 /// How many blocks an export has at most.

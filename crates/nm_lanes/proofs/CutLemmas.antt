@@ -4,12 +4,12 @@ use Rattle.std.proofs.lemmas.Bool.Decides.{eqb_tells}
 use Rattle.std.proofs.lemmas.List.{length-drop}
 use Rattle.nm_fanout.specs.declared.block_data.Data.{Data}
 use Rattle.nm_geometry.specs.declared.piece.Piece.{Piece}
-use Rattle.nm_geometry.specs.declared.range.ByteRange.{ByteRange}
+use Rattle.nm_geometry.specs.declared.byte_range.ByteRange.{ByteRange}
 use Rattle.nm_geometry.specs.Geometry.{Geometry}
 use Rattle.nm_geometry.specs.Pieces.{LiesInside, end_of, touched, piece_at, piece_in, pieces_from, pieces_of, bytes_before}
 use Rattle.nm_lanes.specs.declared.piece_write.PieceWrite.{PieceWrite}
 use Rattle.nm_lanes.specs.Cuts.{cut_for, cuts_for, EachInside}
-use Rattle.nm_lanes.proofs.PieceLemmas.{touched-inside, done-none, done-before, done-behind, pieces-one}
+use Rattle.nm_lanes.proofs.PieceLemmas.{touched-inside, done-before, done-behind, pieces-one}
 
 -- what is left of the payload behind these pieces
 abbrev pub drop_pieces : List Piece → List ℕ → List ℕ
@@ -31,17 +31,6 @@ pub record HasCut (range : ByteRange) (payload : List ℕ) (number : ℕ) (write
   pub writes_are : writes ≡ cuts_for (pieces_from (range.offset / 512) number range) payload
   pub rest_is : rest ≡ drop_pieces (pieces_from (range.offset / 512) number range) payload
   pub left : length rest + min (bytes_before number range) range.length ≡ range.length
-
-pub cut-none : (range : ByteRange) (payload : List ℕ) → length payload ≡ range.length → HasCut range payload 0 [] payload
-cut-none range payload long = let none = done-none range in record { writes_are = refl; rest_is = refl; left = omega (arith, none, long) }
-
-pub cut-fits : (range : ByteRange) (payload : List ℕ) (number : ℕ) (writes : List PieceWrite) (rest : List ℕ) → number < touched range → HasCut range payload number writes rest → (piece_at number range).len ≤ length rest
-cut-fits range payload number writes rest inside a =
-    let met = touched-inside range number inside in
-    let before = done-before range number met in
-    let behind = done-behind range number met in
-    let left = a.left in
-    omega (arith, before, behind, left)
 
 pub cut-more : (range : ByteRange) (payload : List ℕ) (number : ℕ) (writes : List PieceWrite) (rest : List ℕ) → number < touched range → HasCut range payload number writes rest
     → HasCut range payload (number + 1) (writes ++ record { piece = piece_at number range; bytes = cut_for (piece_at number range) (take (piece_at number range).len rest) } ∷ []) (drop (piece_at number range).len rest)

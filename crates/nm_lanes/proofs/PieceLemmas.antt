@@ -1,7 +1,7 @@
 -- The pieces of a range, one more at a time.
 use Rattle.std.proofs.Common.{◌≡◌, ℕ, zero, suc, ◌+◌, ◌-◌, ◌*◌, ◌/◌, ◌<◌, ◌==◌, inl, inr, false, [], ◌∷◌, ◌++◌, min, refl, ap, ◌∙◌, arith, pos_of_ne-zero}
 use Rattle.std.proofs.lemmas.Bool.Decides.{eqb_tells}
-use Rattle.nm_geometry.specs.declared.range.ByteRange.{ByteRange}
+use Rattle.nm_geometry.specs.declared.byte_range.ByteRange.{ByteRange}
 use Rattle.nm_geometry.specs.Pieces.{end_of, touched, piece_in, piece_at, pieces_from, pieces_of, bytes_before}
 
 -- the first byte of the range, and some byte before its end, stand in the touched block

@@ -2,7 +2,7 @@
 use Rattle.std.proofs.Common.{◌≡◌, ℕ, ◌+◌, ◌-◌, ◌/◌, ◌<◌, List, [], ◌∷◌, ◌++◌, length, min, take, sym, ap, ◌∙◌, subst, append_assoc, append-nil}
 use Rattle.std.proofs.Math.Seq.{take-length}
 use Rattle.nm_geometry.specs.declared.piece.Piece.{Piece}
-use Rattle.nm_geometry.specs.declared.range.ByteRange.{ByteRange}
+use Rattle.nm_geometry.specs.declared.byte_range.ByteRange.{ByteRange}
 use Rattle.nm_geometry.specs.Geometry.{Geometry, stripe_of}
 use Rattle.nm_geometry.specs.Pieces.{touched, piece_at, pieces_from, pieces_of, bytes_before}
 use Rattle.nm_lanes.specs.declared.cause.Cause.{Cause}

@@ -3,7 +3,7 @@ use Rattle.std.proofs.Common.{◌≡◌, ℕ, ◌+◌, ◌-◌, ◌*◌, ◌/◌
 use Rattle.std.proofs.Math.Nat.{add-mul-mod_self_right, div-mul-le_self}
 use Rattle.std.proofs.lemmas.Bool.{cases_lt}
 use Rattle.std.proofs.lemmas.Nat.{le-div, mod_below, div-mul-add}
-use Rattle.nm_geometry.specs.declared.range.ByteRange.{ByteRange}
+use Rattle.nm_geometry.specs.declared.byte_range.ByteRange.{ByteRange}
 use Rattle.nm_geometry.specs.Geometry.{Geometry}
 use Rattle.nm_geometry.specs.Pieces.{touched}
 use Rattle.nm_lanes.specs.Flushes.{Touches}

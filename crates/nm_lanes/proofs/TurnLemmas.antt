@@ -12,7 +12,7 @@ use Rattle.nm_lanes.specs.declared.cause_kind.CauseKind.{CauseKind}
 use Rattle.nm_lanes.specs.Done.{Done, done_as}
 use Rattle.nm_lanes.specs.Own.{end_of, ends_with, finds_out, helps, EndsSo}
 use Rattle.nm_lanes.specs.Lane.{LaneDoes, LaneStops}
-use Rattle.nm_lanes.specs.Steps.{Nobodys, EndsHere, IsRefused, LosesLeg, Succeeds, Completes}
+use Rattle.nm_lanes.specs.Steps.{Nobodys, EndsHere, IsRefused, LosesLeg, Completes}
 use Rattle.nm_lanes.proofs.LaneLemmas.{does-own, does-does, refused-goes, refused-ends}
 
 -- a refused sync only helps, unless it found the leg out
@@ -35,11 +35,6 @@ module _ {L D : Type 0} (follows : D → List (Done L) → D → Type 0)
   -- tries, and the one that succeeded
   pub does-completes : (old mid new : D) (step : Step L) (IsAnswer : Answer L → Type 0) → LaneDoes follows old mid [] → Completes follows mid new step IsAnswer → Completes follows old new step IsAnswer
   does-completes old mid new step IsAnswer a b = record { answer = b.answer; does = does-does follows joins old mid new [] (done_as step b.answer ∷ []) a b.does; is_answer = b.is_answer }
-
--- the first try succeeded
-pub completes-one : {L D : Type 0} (follows : D → List (Done L) → D → Type 0) (old new : D) (step : Step L) (IsAnswer : Answer L → Type 0) → ((answer : Answer L) → IsAnswer answer → helps step answer ≡ false)
-    → Succeeds follows old new step IsAnswer → Completes follows old new step IsAnswer
-completes-one follows old new step IsAnswer own a = record { answer = a.answer; does = does-own follows old new step a.answer a.leads (own a.answer a.is_answer); is_answer = a.is_answer }
 
 -- a sync that lost its leg, or found it out, is done
 pub syncs-lost : {L D : Type 0} (follows : D → List (Done L) → D → Type 0) (old new : D) (leg : ℕ) → LosesLeg follows old new (Sync leg) → Completes follows old new (Sync leg) (SyncsLeg leg (Sync leg))

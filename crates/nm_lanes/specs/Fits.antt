@@ -1,11 +1,15 @@
 -- Which answers a step may have at all.
 use Rattle.std.specs.Prelude.{◌≡◌}
 use Rattle.nm_stripe.specs.declared.answer.Answer.{Answer}
-use Rattle.nm_stripe.specs.declared.answer.Answer.TheVariants.{Begun, Pushed, Complete, Halted, Written, Value, Failed, MasterChanged, Joining, Copied, InSync, Synced, LegLost, Refused}
+use Rattle.nm_stripe.specs.declared.answer.Answer.TheVariants.{Begun, Pushed, Complete, Halted}
+use Rattle.nm_stripe.specs.declared.answer.Answer.TheVariants.{Written, Value, Failed}
+use Rattle.nm_stripe.specs.declared.answer.Answer.TheVariants.{MasterChanged, Joining, Copied}
+use Rattle.nm_stripe.specs.declared.answer.Answer.TheVariants.{InSync, Synced, LegLost, Refused}
 use Rattle.nm_stripe.specs.declared.answer.Answer.TheVariants.{Nothing as NothingLeft}
 use Rattle.nm_stripe.specs.declared.answer.Handed.TheVariants.{Nothing, Data, Replacement}
 use Rattle.nm_stripe.specs.declared.step.Step.{Step}
-use Rattle.nm_stripe.specs.declared.step.Step.TheVariants.{Begin, Push, Claim, Read, Fail, Attach, Replace, Copy, Promote, Sync}
+use Rattle.nm_stripe.specs.declared.step.Step.TheVariants.{Begin, Push, Claim, Read, Fail, Attach}
+use Rattle.nm_stripe.specs.declared.step.Step.TheVariants.{Replace, Copy, Promote, Sync}
 
 -- the answer is one of those that the step may have, and what was handed in with a step that was
 -- refused or lost a leg has come back

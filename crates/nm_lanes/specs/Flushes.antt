@@ -1,6 +1,6 @@
 -- What a flush does, and a sync of the stripes that some bytes lie in.
 use Rattle.std.specs.Prelude.{◌≡◌, ℕ, ◌<◌, List, [], ◌∷◌, map}
-use Rattle.nm_geometry.specs.declared.range.ByteRange.{ByteRange}
+use Rattle.nm_geometry.specs.declared.byte_range.ByteRange.{ByteRange}
 use Rattle.nm_geometry.specs.Geometry.{Geometry, stripe_of}
 use Rattle.nm_geometry.specs.Pieces.{touched, piece_at}
 use Rattle.nm_stripe.specs.Flush.{SyncsLeg, IsFlush}

@@ -1,5 +1,6 @@
 -- The list of the steps that a call does on all stripes, and each stripe's part of it.
-use Rattle.std.specs.Prelude.{◌≡◌, ℕ, ◌==◌, if◌then◌else◌, List, [], ◌∷◌, ◌++◌, length, map, slice_get, Some}
+use Rattle.std.specs.Prelude.{◌≡◌, ℕ, ◌==◌, if◌then◌else◌, List, [], ◌∷◌, ◌++◌, length, map}
+use Rattle.std.specs.Prelude.{slice_get, Some}
 use Rattle.nm_stripe.specs.declared.answer.Answer.TheVariants.{Begun}
 use Rattle.nm_lanes.specs.declared.cause.Cause.{Cause}
 use Rattle.nm_lanes.specs.Done.{Done}
@@ -31,8 +32,8 @@ pub record Leads {L D : Type 0} (follows : D → List (Done L) → D → Type 0)
     (list : List (MirrorStep L)) (new : List D) : Type 0 where
   pub as_many : length new ≡ length old
   pub each :
-      (stripe : ℕ) (before behind : D) → slice_get old stripe ≡ Some before
-      → slice_get new stripe ≡ Some behind → follows before (stripe_list stripe list) behind
+      (stripe : ℕ) (before after : D) → slice_get old stripe ≡ Some before
+      → slice_get new stripe ≡ Some after → follows before (stripe_list stripe list) after
 
 -- steps whose own ones are these lead all lanes from one state to another
 pub record Does {L D : Type 0} (follows : D → List (Done L) → D → Type 0) (old new : List D)

@@ -1,9 +1,11 @@
 -- Which steps of a call are its own, which only help it on, and which answers end it.
-use Rattle.std.specs.Prelude.{◌≡◌, ℕ, Option, Some, None, Bool, true, false, is_none, not, ◌&&◌, List, [], ◌∷◌, if◌then◌else◌}
+use Rattle.std.specs.Prelude.{◌≡◌, ℕ, Option, Some, None, Bool, true, false, is_none, not, ◌&&◌}
+use Rattle.std.specs.Prelude.{List, [], ◌∷◌, if◌then◌else◌}
 use Rattle.nm_rules.specs.declared.refusal.Refusal.{Refusal}
 use Rattle.nm_rules.specs.declared.refusal.Refusal.TheVariants as refusal
 use Rattle.nm_stripe.specs.declared.answer.Answer.{Answer}
-use Rattle.nm_stripe.specs.declared.answer.Answer.TheVariants.{Pushed, Complete, Halted, Copied, Nothing, LegLost, Refused}
+use Rattle.nm_stripe.specs.declared.answer.Answer.TheVariants.{Pushed, Complete, Halted, Copied}
+use Rattle.nm_stripe.specs.declared.answer.Answer.TheVariants.{Nothing, LegLost, Refused}
 use Rattle.nm_stripe.specs.declared.step.Step.{Step}
 use Rattle.nm_stripe.specs.declared.step.Step.TheVariants.{Claim, Sync}
 use Rattle.nm_lanes.specs.declared.cause_kind.CauseKind.{CauseKind}

@@ -37,7 +37,7 @@ ReadsEach shape (piece ∷ pieces) (d ∷ own) =
     ReadsPiece shape piece d × ReadsEach shape pieces own
 ReadsEach shape pieces own = ⊥
 
--- the bytes that the reads found at the pieces, one piece behind the other
+-- the bytes that the reads found at the pieces, one piece after the other
 abbrev pub bytes_found : {L : Type 0} → List Piece → List (MirrorStep L) → List ℕ
 bytes_found (piece ∷ pieces) (d ∷ own) =
     piece_bytes piece d.done.answer ++ bytes_found pieces own

@@ -1,15 +1,18 @@
 -- What one step of a call met, as the call goes on from it.
-use Rattle.std.specs.Prelude.{Result, Ok, Err, ◌≡◌, ◌⊎◌, ℕ, Bool, true, false, List, [], ◌∷◌, Some, None}
+use Rattle.std.specs.Prelude.{Result, Ok, Err, ◌≡◌, ◌⊎◌, ℕ, Bool, true, false, List, [], ◌∷◌, Some}
+use Rattle.std.specs.Prelude.{None}
 use Rattle.nm_rules.specs.declared.refusal.Refusal.{Refusal}
 use Rattle.nm_stripe.specs.declared.answer.Answer.{Answer}
-use Rattle.nm_stripe.specs.declared.answer.Answer.TheVariants.{Begun as BegunAs, LegLost, Written, Refused as RefusedAs}
+use Rattle.nm_stripe.specs.declared.answer.Answer.TheVariants.{Begun as BegunAs, LegLost, Written}
+use Rattle.nm_stripe.specs.declared.answer.Answer.TheVariants.{Refused as RefusedAs}
 use Rattle.nm_stripe.specs.declared.answer.Handed.{Handed}
 use Rattle.nm_stripe.specs.declared.step.Step.{Step}
 use Rattle.nm_stripe.specs.declared.step.Step.TheVariants.{Begin, Claim}
 use Rattle.nm_fanout.specs.declared.block_data.Data.{Data}
 use Rattle.nm_lanes.specs.declared.cause_kind.CauseKind.{CauseKind}
 use Rattle.nm_lanes.specs.declared.beginning.Beginning.{Beginning}
-use Rattle.nm_lanes.specs.declared.beginning.Beginning.TheVariants.{Begun, Lost as BeginLost, Refused as BeginRefused}
+use Rattle.nm_lanes.specs.declared.beginning.Beginning.TheVariants.{Begun, Lost as BeginLost}
+use Rattle.nm_lanes.specs.declared.beginning.Beginning.TheVariants.{Refused as BeginRefused}
 use Rattle.nm_lanes.specs.declared.met.Met.{Met}
 use Rattle.nm_lanes.specs.declared.met.Met.TheVariants.{Done as Success, Lost, Refused}
 use Rattle.nm_lanes.specs.Done.{Done, done_as}
@@ -112,7 +115,7 @@ pub record LaneWrites {L D : Type 0} (follows : D → List (Done L) → D → Ty
       (done_as (Begin block bytes) (BegunAs ticket) ∷ done_as (Claim ticket) answer ∷ [])
   pub written : IsWritten answer
 
--- the call ended in a write: before it began, or behind its begin
+-- the call ended in a write: before it began, or after its begin
 abbrev pub LaneWriteStops : {L D : Type 0} → (D → List (Done L) → D → Type 0) → D × D
     → ℕ → Data → CauseKind → Type 0
 LaneWriteStops {L} follows lanes block bytes kind =

@@ -41,7 +41,7 @@ BeginsAtMost shape write [] = Unit {0}
 BeginsAtMost shape write (begun ∷ []) = (ticket : ℕ) × BeginsPiece shape write ticket begun
 BeginsAtMost shape write own = ⊥
 
--- the call ended in the write of this piece: before it began, or behind its begin
+-- the call ended in the write of this piece: before it began, or after its begin
 pub record StopsWriting {L D : Type 0} (follows : D → List (Done L) → D → Type 0)
     (shape : Geometry) (write : PieceWrite) (lanes : List D × List D) (cause : Cause)
     : Type 0 where
@@ -80,7 +80,7 @@ pub record HasWrittenSome {L D : Type 0} (follows : D → List (Done L) → D �
   pub stops : Stops follows lanes.0 lanes.1 (own ++ begun) cause
   pub stripe : cause.stripe ≡ stripe_of next.piece.block shape
 
--- what stands behind a write that failed: nothing was done, or some of it
+-- what is left by a write that failed: nothing was done, or some of it
 abbrev pub FailsWriting : {L D : Type 0} → (D → List (Done L) → D → Type 0) → Geometry
     → List PieceWrite → List D × List D → WriteFault → Type 0
 FailsWriting follows shape writes lanes Memory = lanes.1 ≡ lanes.0

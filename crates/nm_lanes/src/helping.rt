@@ -30,7 +30,7 @@ impl<R: Wait, G: Gate, K> Site<'_, R, G, K> {
         Ok(())
     }
 
-    /// Goes on behind a step that was refused so: where the refusal does not end the call, helps on
+    /// Goes on after a step that was refused so: where the refusal does not end the call, helps on
     /// what stood in the way.
     pub(crate) fn go_on<L: LegPart, D: Lane<L, K>>(
         &self,

@@ -38,12 +38,12 @@ impl FuseLeg {
         ensures ok { IfOk result (λ leg. of_fuse leg ≡ filled_leg blocks 0) }
         ensures memory { OnErr result (0 < blocks) }
     {
-        FuseLeg::filled(alloc, blocks, 0)
+        FuseLeg::with_byte(alloc, blocks, 0)
     }
 
     /// A leg of so many blocks, each byte of them this one, of which no call fails. All of its
     /// memory is allocated here.
-    pub fn filled(alloc: Global, blocks: u64, byte: u8) -> Result<Self, Memory>
+    pub fn with_byte(alloc: Global, blocks: u64, byte: u8) -> Result<Self, Memory>
         ensures ok { IfOk result (λ leg. of_fuse leg ≡ filled_leg blocks byte) }
         ensures memory { OnErr result (0 < blocks) }
     {

@@ -29,11 +29,11 @@ impl MemLeg {
         ensures ok { IfOk result (λ leg. leg ≡ filled_array blocks 0) }
         ensures memory { OnErr result (0 < blocks) }
     {
-        MemLeg::filled(alloc, blocks, 0)
+        MemLeg::with_byte(alloc, blocks, 0)
     }
 
     /// A leg of so many blocks, each byte of them this one. All of its memory is allocated here.
-    pub fn filled(alloc: Global, blocks: u64, byte: u8) -> Result<Self, Memory>
+    pub fn with_byte(alloc: Global, blocks: u64, byte: u8) -> Result<Self, Memory>
         ensures ok { IfOk result (λ leg. leg ≡ filled_array blocks byte) }
         ensures memory { OnErr result (0 < blocks) }
     {

@@ -10,7 +10,8 @@ use Rattle.nm_stripe.specs.declared.answer.Answer.{Answer}
 use Rattle.nm_stripe.specs.declared.step.Step.{Step}
 
 -- the step is astray, and nothing changes
-pub record GoesAstray {L : Type 0} (step : Step L) (answer : Answer L) (old new : StripeState L) : Type 0 where
+pub record GoesAstray {L : Type 0} (step : Step L) (answer : Answer L)
+    (old new : StripeState L) : Type 0 where
   pub answer_is : answer ≡ astray step
   pub stays : new ≡ old
 

@@ -1,10 +1,12 @@
 -- The end of a mirror: what its stripes have had, and what its passes counted.
-use Rattle.std.specs.Prelude.{◌≡◌, ◌≢◌, ◌<◌, ◌≤◌, ◌+◌, ℕ, List, Option, None, Some, length, slice_get, sum_by, take, All}
+use Rattle.std.specs.Prelude.{◌≡◌, ◌≢◌, ◌<◌, ◌≤◌, ◌+◌, ℕ, List, Option, None, Some, length}
+use Rattle.std.specs.Prelude.{slice_get, sum_by, take, All}
 use Rattle.nm_part.specs.PartState.{PartState}
 use Rattle.nm_stripe.specs.End.{EndOf}
 use Rattle.nm_mirror.specs.declared.pass.Pass.{Pass}
 use Rattle.nm_mirror.specs.declared.refused.Refused.{Refused}
-use Rattle.nm_mirror.specs.declared.refused.Refused.TheVariants.{Memory, Io, TooMany, PassesMissing, Uneven}
+use Rattle.nm_mirror.specs.declared.refused.Refused.TheVariants.{Memory, Io, TooMany, PassesMissing}
+use Rattle.nm_mirror.specs.declared.refused.Refused.TheVariants.{Uneven}
 
 -- what a part counted, if there is one
 abbrev pub count_of : Option PartState → ℕ
@@ -28,7 +30,8 @@ abbrev pub AreEven : {L : Type 0} → List (Pass L) → List EndOf → Type 0
 AreEven passes ends = All (IsEven passes) ends
 
 -- this end is the first that is not even
-pub record IsFirstUneven {L : Type 0} (passes : List (Pass L)) (ends : List EndOf) (end : EndOf) : Type 0 where
+pub record IsFirstUneven {L : Type 0} (passes : List (Pass L)) (ends : List EndOf)
+    (end : EndOf) : Type 0 where
   pub place : ℕ
   pub found : slice_get ends place ≡ Some end
   pub uneven : ¬ IsEven passes end

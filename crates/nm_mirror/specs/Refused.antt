@@ -1,7 +1,8 @@
 -- The numbers and texts of refusals.
 use Rattle.std.specs.Prelude.{ℕ, List, codes}
 use Rattle.nm_mirror.specs.declared.refused.Refused.{Refused}
-use Rattle.nm_mirror.specs.declared.refused.Refused.TheVariants.{Memory, Io, TooMany, PassesMissing, Uneven}
+use Rattle.nm_mirror.specs.declared.refused.Refused.TheVariants.{Memory, Io, TooMany, PassesMissing}
+use Rattle.nm_mirror.specs.declared.refused.Refused.TheVariants.{Uneven}
 
 -- the number of a refusal
 abbrev pub number_of : {L : Type 0} → Refused L → ℕ

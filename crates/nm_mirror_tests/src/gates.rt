@@ -3,7 +3,7 @@
 
 use crate::meeting::{Meeting, TURNS};
 use crate::mirrors::{
-    closed, filled, in_sync, mirror_of, pass_of, read_at, shape, write_at, zeroes,
+    closed, fill_bytes, in_sync, mirror_of, pass_of, read_at, shape, write_at, zeroes,
 };
 use bytes::Bytes;
 use nm_lanes::{CallKind, Gate, Place, StepKind};
@@ -103,7 +103,7 @@ fn a_read_answers_while_a_write_is_under_way(rt: HostRuntime) -> Result<(), Fail
     let mirror = in_sync(&rt, alloc, shape(8, 4, 2, 1, 2)?, AfterAPush::new())?;
     let mut writer = pass_of(&rt, alloc, &mirror)?;
     let mut reader = pass_of(&rt, alloc, &mirror)?;
-    let payload = filled(alloc, 512, 0xaa)?;
+    let payload = fill_bytes(alloc, 512, 0xaa)?;
     let (written, found) = join(
         &rt,
         || writes_block_3(&rt, alloc, &mirror, &mut writer, payload),
@@ -160,7 +160,7 @@ fn a_read_finishes_a_write_whose_master_is_lost(rt: HostRuntime) -> Result<(), F
     let mirror = in_sync(&rt, alloc, shape(8, 4, 2, 1, 3)?, AfterAPush::new())?;
     let mut writer = pass_of(&rt, alloc, &mirror)?;
     let mut reader = pass_of(&rt, alloc, &mirror)?;
-    let payload = filled(alloc, 512, 0xaa)?;
+    let payload = fill_bytes(alloc, 512, 0xaa)?;
     let (written, found) = join(
         &rt,
         || writes_block_3(&rt, alloc, &mirror, &mut writer, payload),
@@ -233,7 +233,7 @@ fn a_write_copies_the_chunk_that_stands_in_its_way(rt: HostRuntime) -> Result<()
     let mirror = zeroes(alloc, shape(8, 4, 2, 1, 2)?, gate)?;
     let mut pass = pass_of(&rt, alloc, &mirror)?;
     assert_eq!(rt; mirror.resync_turn(&rt), 1);
-    let payload = filled(alloc, 512, 0xbb)?;
+    let payload = fill_bytes(alloc, 512, 0xbb)?;
     assert!(rt; write_at(&rt, alloc, &mirror, &mut pass, 0, payload).is_ok());
     assert_eq!(rt; mirror.gate().begins.load(Ordering::SeqCst), 4);
     assert_eq!(rt; mirror.gate().copies.load(Ordering::SeqCst), 3);

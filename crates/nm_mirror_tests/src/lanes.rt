@@ -2,7 +2,7 @@
 ghost use Rattle.std.specs.Prelude.{◌≡◌, ◌≤◌, length};
 ghost use Rattle.nm_geometry.specs.Pieces.{LiesInside};
 
-use crate::mirrors::{filled, legs_of_zeroes, shape};
+use crate::mirrors::{fill_bytes, legs_of_zeroes, shape};
 use crate::note_lane::{Door, Note, NoteLane, done};
 use nm_geometry::{ByteRange, Shape};
 use nm_lanes::{
@@ -70,7 +70,7 @@ fn write<R: Wait + Abort, G: Gate>(
     offset: u64,
     len: usize,
 ) -> Result<Result<(), WriteFault>, Fail> {
-    let payload = filled(alloc, len, 0xaa)?;
+    let payload = fill_bytes(alloc, len, 0xaa)?;
     want_lanes(rt, on, offset, payload.len() as u64);
     let lanes = on.lanes.as_mut_slice();
     Ok(write_by(
@@ -210,7 +210,7 @@ fn write_beside_a_claim<R: Wait + Abort>(
     alloc: Global,
     on: &mut Lanes,
 ) -> Result<Result<(), WriteFault>, Fail> {
-    let payload = filled(alloc, 512, 0xaa)?;
+    let payload = fill_bytes(alloc, 512, 0xaa)?;
     want_lanes(rt, on, 0, payload.len() as u64);
     assert!(rt; on.locks.len() == 1);
     let lock = &on.locks[0];

@@ -144,7 +144,7 @@ pub fn try_filled(alloc: Global, len: usize, byte: u8) -> Option<Bytes> {
 }
 
 /// So many bytes, each this one.
-pub fn filled(alloc: Global, len: usize, byte: u8) -> Result<Bytes, Fail> {
+pub fn fill_bytes(alloc: Global, len: usize, byte: u8) -> Result<Bytes, Fail> {
     Ok(try_filled(alloc, len, byte).ok_or("no memory")?)
 }
 

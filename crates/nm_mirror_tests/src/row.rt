@@ -1,6 +1,6 @@
 //! Writes, zeroes and reads of whole blocks, a flush, and what a close then tells.
 
-use crate::mirrors::{closed, filled, flush, in_sync, pass_of, shape};
+use crate::mirrors::{closed, fill_bytes, flush, in_sync, pass_of, shape};
 use bytes::Bytes;
 use nm_lanes::{Cause, NoGate, WriteFault};
 use nm_leg::FuseLeg;
@@ -75,7 +75,7 @@ fn blocks_of_two_stripes_are_written_zeroed_and_read(rt: HostRuntime) -> Result<
     let alloc = rt.alloc();
     let mirror = in_sync(&rt, alloc, shape(2050, 128, 8, 2, 2)?, NoGate)?;
     let mut pass = pass_of(&rt, alloc, &mirror)?;
-    let payload = filled(alloc, 1536, 0xaa)?;
+    let payload = fill_bytes(alloc, 1536, 0xaa)?;
     assert!(rt; write(&rt, alloc, &mirror, &mut pass, 127, payload).is_ok());
     assert!(rt; zero(&rt, &mirror, &mut pass, 128, 1).is_ok());
     check_blocks(&rt, &mirror, &mut pass, [0xaa, 0x00, 0xaa])?;
@@ -95,7 +95,17 @@ fn calls_of_no_blocks_succeed_and_do_nothing(rt: HostRuntime) -> Result<(), Fail
     let alloc = rt.alloc();
     let mirror = in_sync(&rt, alloc, shape(2050, 128, 8, 2, 2)?, NoGate)?;
     let mut pass = pass_of(&rt, alloc, &mirror)?;
-    assert!(rt; write(&rt, alloc, &mirror, &mut pass, 127, filled(alloc, 0, 0)?).is_ok());
+    assert!(rt;
+        write(
+            &rt,
+            alloc,
+            &mirror,
+            &mut pass,
+            127,
+            fill_bytes(alloc, 0, 0)?
+        )
+        .is_ok()
+    );
     assert!(rt; zero(&rt, &mirror, &mut pass, 2050, 0).is_ok());
     assert!(rt; read(&rt, &mirror, &mut pass, 127, &mut []).is_ok());
     let mut passes = Vec::new(alloc);

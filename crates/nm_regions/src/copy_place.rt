@@ -35,7 +35,7 @@ pub(crate) fn has_copied(copy: Option<CopyPlace>, leg: u8, region: u64, place: u
 }
 
 /// How many blocks of its region the copy of this leg has copied.
-pub(crate) fn copied(copy: Option<CopyPlace>, leg: u8) -> u64
+pub(crate) fn blocks_copied(copy: Option<CopyPlace>, leg: u8) -> u64
     ensures { result ≡ copied leg copy }
 {
     match copy {
@@ -55,7 +55,7 @@ pub(crate) fn copy_but_of(copy: Option<CopyPlace>, leg: u8) -> Option<CopyPlace>
 }
 
 /// The copy once so many more blocks are copied.
-pub(crate) fn moved(copy: Option<CopyPlace>, blocks: u64) -> Option<CopyPlace>
+pub(crate) fn move_on(copy: Option<CopyPlace>, blocks: u64) -> Option<CopyPlace>
     requires { IfSome copy (λ c. c.cursor + blocks < 2 ^ 64) }
     ensures { result ≡ moved blocks copy }
 {

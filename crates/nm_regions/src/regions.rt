@@ -4,7 +4,7 @@ ghost use Rattle.nm_regions.specs.Table.{region_of, length_of, writes_in, is_qui
 ghost use Rattle.nm_regions.specs.Changes.{opened, begun, finished, gone_out, all_marked, attached, replaced, copy_opened, advanced, region_finished};
 ghost use Rattle.nm_regions.specs.Sound.{AreSizes, IsRegionTable};
 
-use crate::copy_place::{CopyPlace, copied, copies, copy_but_of, has_copied, moved};
+use crate::copy_place::{CopyPlace, blocks_copied, copies, copy_but_of, has_copied, move_on};
 use crate::leg_flags::{LegFlags, mark_where_out};
 use crate::region_state::RegionState;
 use std::alloc::{AllocError, Global};
@@ -197,7 +197,7 @@ impl Regions {
         ensures left { result ≡ left leg self.now }
         ensures table { IsRegionTable self.now }
     {
-        self.blocks_behind(leg) - copied(self.copy, leg)
+        self.blocks_behind(leg) - blocks_copied(self.copy, leg)
     }
 
     /// How many blocks lie in the regions behind for this leg. The last region may lack some.
@@ -332,7 +332,7 @@ impl Regions {
         requires within { blocks ≤ copy_rest self.old }
         ensures { self.new ≡ advanced blocks self.old }
     {
-        self.copy = moved(self.copy, blocks);
+        self.copy = move_on(self.copy, blocks);
     }
 
     /// The whole region is copied: its leg is no longer behind in it, and the copy ends.

@@ -10,7 +10,7 @@ use Rattle.nm_replay.specs.Kept.{last_kept}
 use Rattle.nm_replay.proofs.Agreement.{later}
 use Rattle.nm_replay.proofs.Consistency.{consistent-rest}
 use Rattle.nm_replay.proofs.LastOn.{last_on-append}
-use Rattle.nm_replay.proofs.Numbering.{numbered-append, numbered-rest}
+use Rattle.nm_replay.proofs.Numbering.{numbered-rest}
 
 -- an end piece of entries ends where they do
 pub ends-rest : (xs ys : List Entry) (array : Array) → EndsIn (xs ++ ys) array → EndsIn ys array
@@ -64,10 +64,3 @@ numbered-last_kept first es numbers = numbered-drop (length es - 1024) first es 
 -- one more entry in a kept history: how many are kept, and their numbers
 pub length-kept : (total : ℕ) (es : List Entry) (e : Entry) → length es ≡ min 1024 total → length (last_kept (es ++ e ∷ [])) ≡ min 1024 (total + 1)
 length-kept total es e kept = omega (arith, kept, length-last_kept (es ++ e ∷ []), length-append es (e ∷ []))
-
-pub numbered-kept : (first total : ℕ) (es : List Entry) (e : Entry) → length es ≡ min 1024 total → NumberedFrom (first + total - length es) es → e.seq ≡ first + total → NumberedFrom (first + (total + 1) - length (last_kept (es ++ e ∷ []))) (last_kept (es ++ e ∷ []))
-numbered-kept first total es e kept numbers number =
-    let next : e.seq ≡ first + total - length es + length es = omega (arith, number, kept) in
-    let all : NumberedFrom (first + total - length es) (es ++ e ∷ []) = numbered-append (first + total - length es) es (e ∷ []) numbers (next, tt) in
-    let from : first + total - length es + (length (es ++ e ∷ []) - 1024) ≡ first + (total + 1) - length (last_kept (es ++ e ∷ [])) = omega (arith, kept, length-last_kept (es ++ e ∷ []), length-append es (e ∷ [])) in
-    subst (λ n. NumberedFrom n (last_kept (es ++ e ∷ []))) from (numbered-last_kept (first + total - length es) (es ++ e ∷ []) all)

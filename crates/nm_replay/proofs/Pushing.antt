@@ -6,12 +6,11 @@ use Rattle.std.proofs.lemmas.Bool.{cases_eq}
 use Rattle.std.proofs.lemmas.Option.{IfSome_then, same_Some}
 use Rattle.nm_replay.specs.declared.block.Block.{Block}
 use Rattle.nm_replay.specs.declared.entry.Entry.{Entry}
-use Rattle.nm_replay.specs.Array.{Array, Span}
+use Rattle.nm_replay.specs.Array.{Array}
 use Rattle.nm_replay.specs.Following.{IsNext}
-use Rattle.nm_replay.specs.History.{Fits, NumberedFrom, last_on, Agrees, Consistent, EndsIn}
-use Rattle.nm_replay.specs.Events.{write_kind, entry_of_read, entry_of_write}
+use Rattle.nm_replay.specs.History.{NumberedFrom, last_on, Agrees, Consistent, EndsIn}
+use Rattle.nm_replay.specs.Events.{entry_of_read}
 use Rattle.nm_replay.proofs.Consistency.{consistent-push, is_numbered-pushed}
-use Rattle.nm_replay.proofs.Endings.{agrees-fitting}
 use Rattle.nm_replay.proofs.LastOn.{last_on-push_same, last_on-push_other}
 use Rattle.nm_replay.proofs.Numbering.{numbered-append, numbered-somewhere}
 
@@ -21,12 +20,6 @@ consistent-push_numbered first es e numbers number agrees consistent =
     let all : NumberedFrom first (es ++ e ∷ []) = numbered-append first es (e ∷ []) numbers (number, tt) in
     let next : IsNext es e = is_numbered-pushed es e (numbered-somewhere first (es ++ e ∷ []) all) in
     consistent-push es e consistent (record { number = next; agrees = agrees })
-
--- a write with the next number, that fits the array that a history ends in, keeps it consistent
-pub consistent-write : (first : ℕ) (es : List Entry) (array : Array) (ticket number block : ℕ) (span : Span) (bytes : Block) → NumberedFrom first es → number ≡ first + length es → EndsIn es array → Fits (write_kind ticket span) block bytes array → Consistent es → Consistent (es ++ entry_of_write number ticket block span bytes ∷ [])
-consistent-write first es array ticket number block span bytes numbers is ends fits consistent =
-    let e : Entry = entry_of_write number ticket block span bytes in
-    consistent-push_numbered first es e numbers is (agrees-fitting es e array ends fits) consistent
 
 -- a read with the next number, of what the array has, keeps it too
 pub consistent-read : (first : ℕ) (es : List Entry) (array : Array) (number block : ℕ) (bytes : Block) → NumberedFrom first es → number ≡ first + length es → EndsIn es array → slice_get array block ≡ Some bytes → Consistent es → Consistent (es ++ entry_of_read number block bytes ∷ [])

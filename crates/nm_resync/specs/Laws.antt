@@ -24,7 +24,7 @@ WriteLowersWork =
     → IsWrite (next_move c) → closed_by_write c.chunk ≡ None
     → work from_cursor (block_written c) + 1 ≡ work from_cursor c
 
--- so does a chunk's last block, after which the cursor stands behind the chunk
+-- so does a chunk's last block, after which the cursor stands after the chunk
 abbrev pub CloseLowersWork : Type 0
 CloseLowersWork =
     (from_cursor blocks : ℕ) (c : CopyBuffer) → IsCopyBuffer c → length_of c.chunk ≤ from_cursor
@@ -38,7 +38,7 @@ WriteLowersLeft =
     → IsWrite (next_move c) → closed_by_write c.chunk ≡ None
     → left from_cursor (block_written c) + 1 ≡ left from_cursor c
 
--- so does a chunk's last block, after which the cursor stands behind the chunk
+-- so does a chunk's last block, after which the cursor stands after the chunk
 abbrev pub CloseLowersLeft : Type 0
 CloseLowersLeft =
     (from_cursor blocks : ℕ) (c : CopyBuffer) → IsCopyBuffer c → length_of c.chunk ≤ from_cursor

@@ -90,7 +90,7 @@ impl Copy {
     }
 
     /// How many blocks of the open chunk are written.
-    pub fn written(&self) -> u64
+    pub fn blocks_written(&self) -> u64
         ensures written { result ≡ written_of self.now.chunk }
         ensures buffer { IsCopyBuffer self.now }
     {
@@ -101,7 +101,7 @@ impl Copy {
     }
 
     /// How many blocks stand in the buffer: they are read, and not written yet.
-    pub fn buffered(&self) -> u64
+    pub fn blocks_buffered(&self) -> u64
         ensures buffered { result ≡ buffered_of self.now.chunk }
         ensures buffer { IsCopyBuffer self.now }
     {

@@ -1,17 +1,14 @@
 -- A push whose leg wrote the block: what it keeps, how it is explained, and what it answers with.
-use Rattle.std.proofs.Common.{◌≡◌, ℕ, ◌+◌, ◌<◌, true, false, IsTrue, List, [], ◌∷◌, length, Some, refl, sym, ap, ◌∙◌, subst, arith, cond, slice_get, get_or}
-use Rattle.std.proofs.lemmas.Option.{same_Some, slice_get-get_or}
+use Rattle.std.proofs.Common.{◌≡◌, ℕ, ◌+◌, ◌<◌, true, false, IsTrue, List, [], ◌∷◌, Some, refl, sym, ap, ◌∙◌, subst, arith, cond, slice_get}
 use Rattle.nm_replay.specs.Events.{Lands}
-use Rattle.nm_fanout.proofs.InOrder.{AreInOrder-reached}
-use Rattle.nm_fanout.proofs.Places.{IsAt-own, IsAt-reached, IsAt-landed}
 use Rattle.nm_fanout.specs.declared.write_record.Record.{Record}
-use Rattle.nm_fanout.specs.Record.{is_under_way, owed_count}
-use Rattle.nm_fanout.specs.Records.{Ascends, AreInOrder, IsAt, find_record, unlanded, reached, landed}
+use Rattle.nm_fanout.specs.Record.{is_under_way}
+use Rattle.nm_fanout.specs.Records.{IsAt, find_record, unlanded, reached, landed}
 use Rattle.nm_leg.specs.Leg.{LegType}
 use Rattle.nm_rules.specs.Acts.{IsExplainedStep}
 use Rattle.nm_rules.specs.Invariant.{HasRecords, Keeps}
 use Rattle.nm_rules.specs.Lost.{settled}
-use Rattle.nm_rules.specs.Push.{CallsToPush, IsComplete, Pushes, StillOwes, after_landing, after_push, after_reach, lands_at, write_entry}
+use Rattle.nm_rules.specs.Push.{IsComplete, Pushes, after_landing, after_push, after_reach, lands_at, write_entry}
 use Rattle.nm_rules.specs.State.{StripeState, next_number}
 use Rattle.nm_rules.proofs.ActsLemmas.{explained-same}
 use Rattle.nm_rules.proofs.ClaimLemmas.{finished_landed}
@@ -23,20 +20,6 @@ use Rattle.nm_rules.proofs.RecordLemmas.{unlanded-landed}
 -- the record at a place is that of the ticket
 pub found-at : (ticket place : ℕ) (rs : List Record) (r : Record) → IsAt ticket place rs → slice_get rs place ≡ Some r → find_record ticket rs ≡ Some r
 found-at ticket place rs r at here = at.found ∙ here
-
--- and has a ticket, whichever it is
-pub ticket-at : (place : ℕ) (rs : List Record) (r : Record) → Ascends rs → place < length rs → slice_get rs place ≡ Some r → find_record r.ticket rs ≡ Some r
-ticket-at place rs r up inside here =
-    let is : get_or rs place r ≡ r = same_Some (get_or rs place r) r (sym (slice_get-get_or rs place r inside) ∙ here) in
-    subst (λ (t : ℕ). find_record t rs ≡ Some r) (ap (λ (x : Record). x.ticket) is) ((IsAt-own place rs r up inside).found ∙ here)
-
--- a pushed write's record stays at its place
-pub reach-at : (ticket leg place : ℕ) (rs : List Record) → AreInOrder rs → IsAt ticket place rs → IsAt ticket place (reached ticket leg rs)
-reach-at ticket leg place rs order at = IsAt-reached ticket leg place rs order.ascending at
-
-pub land-at : (ticket leg number place : ℕ) (rs : List Record) → AreInOrder rs → IsAt ticket place rs → IsAt ticket place (landed ticket number (reached ticket leg rs))
-land-at ticket leg number place rs order at =
-    IsAt-landed ticket number place (reached ticket leg rs) (AreInOrder-reached ticket leg rs order).ascending (reach-at ticket leg place rs order at)
 
 module _ {L : Type 0} (type : LegType L) (old : StripeState L) (legs : List L) (r : Record) (leg : ℕ) (c : Reached type old legs r leg) where
   pub pushed-keeps : Keeps type (after_push old legs r leg)
@@ -73,26 +56,6 @@ pub pushes-explained : {L : Type 0} (type : LegType L) (old new : StripeState L)
 pushes-explained type old new ticket leg is_honest k p =
     subst (λ s. IsExplainedStep type.model [] old s) (sym p.after)
     (pushed-explained type old new.legs p.pushed leg (was_reached type old new.legs ticket leg p.pushed k p.called) is_honest)
-
--- a push of a write that does not land there
-pub reach-pushes : {L : Type 0} (type : LegType L) (old : StripeState L) (legs : List L) (ticket leg : ℕ) (r : Record) → CallsToPush type true old legs ticket leg r → lands_at leg r old ≡ false → Pushes type old (settled (after_reach old legs r leg)) ticket leg
-reach-pushes type old legs ticket leg r called stays = record {
-  pushed = r;
-  called = called;
-  after = ap (λ b. settled (cond b (after_landing old legs r leg) (after_reach old legs r leg))) (sym stays);
-}
-
--- and of one that does
-pub land-pushes : {L : Type 0} (type : LegType L) (old : StripeState L) (legs : List L) (ticket leg : ℕ) (r : Record) → CallsToPush type true old legs ticket leg r → lands_at leg r old ≡ true → Pushes type old (settled (after_landing old legs r leg)) ticket leg
-land-pushes type old legs ticket leg r called lands = record {
-  pushed = r;
-  called = called;
-  after = ap (λ b. settled (cond b (after_landing old legs r leg) (after_reach old legs r leg))) (sym lands);
-}
-
--- the answer that a write under way gets
-pub still-owes : {L : Type 0} (s : StripeState L) (ticket : ℕ) (r : Record) → find_record ticket s.records ≡ Some r → is_under_way r ≡ true → StillOwes s ticket (owed_count r)
-still-owes s ticket r found going = record { pending = r; found = found; under_way = going; owed = refl }
 
 -- a finished write has landed, so its answer has a number
 pub complete : {L : Type 0} (type : LegType L) (s : StripeState L) (ticket : ℕ) (r : Record) → HasRecords s → find_record ticket s.records ≡ Some r → is_under_way r ≡ false → (n : ℕ) × (r.entry ≡ Some n) × IsComplete s ticket n

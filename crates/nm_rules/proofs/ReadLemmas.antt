@@ -183,12 +183,6 @@ module _ {L : Type 0} (type : LegType L) (old new : StripeState L) (block : ℕ)
   pub finds-explained : IsTrue type.honest → block < old.place.blocks → IsExplainedStep type.model (BeginsRead receipt.number block ∷ RepliesRead receipt.number bytes ∷ []) old new
   finds-explained is_honest inside = record { events = read_events receipt.number block bytes; marked = refl; acts = finds-acts is_honest inside }
 
--- a read that failed at the last leg in sync changes no more than the leg's count of faults
-pub fails_in_read-keeps : {L : Type 0} (type : LegType L) (old new : StripeState L) (block : ℕ) (bytes : Block) → Keeps type old → FailsInRead type old new block bytes → Keeps type new
-fails_in_read-keeps type old new block bytes k f =
-    subst (λ s. Keeps type s) (sym f.after)
-    (called-keeps type old new.legs (read-same type old new.legs false f.leg block f.called.target bytes f.called.reads) k)
-
 pub fails_in_read-explained : {L : Type 0} (type : LegType L) (old new : StripeState L) (block : ℕ) (bytes : Block) → IsTrue type.honest → Keeps type old → FailsInRead type old new block bytes → IsExplainedStep type.model [] old new
 fails_in_read-explained type old new block bytes is_honest k f = record {
   events = [];

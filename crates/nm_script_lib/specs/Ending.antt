@@ -5,7 +5,8 @@ use Rattle.nm_script_lib.specs.declared.fused_call.FusedCall.{FusedCall}
 use Rattle.nm_script_lib.specs.declared.mirror_line.MirrorLine.{MirrorLine}
 use Rattle.nm_script_lib.specs.declared.step.Step.{Step}
 use Rattle.nm_script_lib.specs.declared.run_error.RunError.{RunError}
-use Rattle.nm_script_lib.specs.declared.run_error.RunError.TheVariants.{BadStep, Memory, Input, Output}
+use Rattle.nm_script_lib.specs.declared.run_error.RunError.TheVariants.{BadStep, Memory, Input}
+use Rattle.nm_script_lib.specs.declared.run_error.RunError.TheVariants.{Output}
 use Rattle.nm_script_lib.specs.Grammar.{IsScript}
 use Rattle.nm_script_lib.specs.BadLine.{NamesLine}
 use Rattle.nm_script_lib.specs.MemStripe.{HasCall}

@@ -1,11 +1,15 @@
 -- The script language: which bytes are a script, and what it says.
-use Rattle.std.specs.Prelude.{◌≡◌, ℕ, ◌^◌, ◌-◌, Bool, false, List, [], ◌∷◌, ◌==◌, not, IsUtf8, codes, filter}
+use Rattle.std.specs.Prelude.{◌≡◌, ℕ, ◌^◌, ◌-◌, Bool, false, List, [], ◌∷◌, ◌==◌, not, IsUtf8}
+use Rattle.std.specs.Prelude.{codes, filter}
 use Rattle.std.specs.List.{AllZip, AllByRecursion}
 use Rattle.nm_script_lib.specs.declared.mirror_line.MirrorLine.{MirrorLine}
 use Rattle.nm_script_lib.specs.declared.step.Step.{Step}
 use Rattle.nm_script_lib.specs.declared.step.Step.TheVariants.{Ask, Fuse, Peek, State}
-use Rattle.nm_script_lib.specs.declared.step.StripeStep.TheVariants.{Begin, Zero, Patch, Push, Claim, Read, Fail, Attach, Replace, Copy, Promote, Sync}
-use Rattle.nm_script_lib.specs.Forms.{Number, Below, Within, Byte, Form, Makes, Then, ThenPolicy, NoForm, one, two, keywords, IsLine, AreSeparated}
+use Rattle.nm_script_lib.specs.declared.step.StripeStep.TheVariants.{Begin, Zero, Patch, Push}
+use Rattle.nm_script_lib.specs.declared.step.StripeStep.TheVariants.{Claim, Read, Fail, Attach}
+use Rattle.nm_script_lib.specs.declared.step.StripeStep.TheVariants.{Replace, Copy, Promote, Sync}
+use Rattle.nm_script_lib.specs.Forms.{Number, Below, Within, Byte, Form, Makes, Then, ThenPolicy}
+use Rattle.nm_script_lib.specs.Forms.{NoForm, one, two, keywords, IsLine, AreSeparated}
 
 -- The arguments of a write of a part of a block: which block, from which of its bytes on, how many
 -- bytes, which end inside the block, and the byte that they all are.

@@ -1,5 +1,6 @@
 -- The stripe that a script runs: legs in memory, each with a fuse, of zero bytes and all in sync.
-use Rattle.std.specs.Prelude.{◌≡◌, true, ℕ, ◌+◌, ◌<◌, ◌≤◌, ◌^◌, ◌-◌, List, length, replicate, Option, None, Some}
+use Rattle.std.specs.Prelude.{◌≡◌, true, ℕ, ◌+◌, ◌<◌, ◌≤◌, ◌^◌, ◌-◌, List, length, replicate}
+use Rattle.std.specs.Prelude.{Option, None, Some}
 use Rattle.std.specs.List.{AllByRecursion}
 use Rattle.nm_fanout.specs.declared.block_data.Data.TheVariants.{Cut, Zero as Zeroes, Part}
 use Rattle.nm_leg.specs.Leg.{LegType, leg_type, filled_leg}
@@ -8,8 +9,11 @@ use Rattle.nm_leg.specs.TestLegs.{of_fuse}
 use Rattle.nm_leg.specs.declared.fuse_leg.FuseLeg.{FuseLeg}
 use Rattle.nm_rules.specs.declared.at.At.{At}
 use Rattle.nm_stripe.specs.declared.step.Step.{Step as MachineStep}
-use Rattle.nm_stripe.specs.declared.step.Step.TheVariants.{Begin as BeginStep, Push as PushStep, Claim as ClaimStep, Read as ReadStep}
-use Rattle.nm_stripe.specs.declared.step.Step.TheVariants.{Fail as FailStep, Attach as AttachStep, Replace as ReplaceStep, Copy as CopyStep, Promote as PromoteStep, Sync as SyncStep}
+use Rattle.nm_stripe.specs.declared.step.Step.TheVariants.{Begin as BeginStep, Push as PushStep}
+use Rattle.nm_stripe.specs.declared.step.Step.TheVariants.{Claim as ClaimStep, Read as ReadStep}
+use Rattle.nm_stripe.specs.declared.step.Step.TheVariants.{Fail as FailStep, Attach as AttachStep}
+use Rattle.nm_stripe.specs.declared.step.Step.TheVariants.{Replace as ReplaceStep, Copy as CopyStep}
+use Rattle.nm_stripe.specs.declared.step.Step.TheVariants.{Promote as PromoteStep, Sync as SyncStep}
 use Rattle.nm_rules.specs.State.{StripeState}
 use Rattle.nm_rules.specs.Opening.{opened}
 use Rattle.nm_script_lib.specs.declared.fused_call.FusedCall.{FusedCall}
@@ -17,7 +21,9 @@ use Rattle.nm_script_lib.specs.declared.mirror_line.MirrorLine.{MirrorLine}
 use Rattle.nm_script_lib.specs.declared.step.Step.{Step}
 use Rattle.nm_script_lib.specs.declared.step.Step.TheVariants.{Ask, Fuse, Peek, State}
 use Rattle.nm_script_lib.specs.declared.step.StripeStep.{StripeStep}
-use Rattle.nm_script_lib.specs.declared.step.StripeStep.TheVariants.{Begin, Zero, Patch, Push, Claim, Read, Fail, Attach, Replace, Copy, Promote, Sync}
+use Rattle.nm_script_lib.specs.declared.step.StripeStep.TheVariants.{Begin, Zero, Patch, Push}
+use Rattle.nm_script_lib.specs.declared.step.StripeStep.TheVariants.{Claim, Read, Fail, Attach}
+use Rattle.nm_script_lib.specs.declared.step.StripeStep.TheVariants.{Replace, Copy, Promote, Sync}
 
 -- The type of a script's legs: all of them are honest.
 abbrev pub fuse_legs : LegType FuseLeg

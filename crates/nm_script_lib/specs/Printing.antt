@@ -1,5 +1,6 @@
 -- The lines that are printed.
-use Rattle.std.specs.Prelude.{ℕ, List, [], ◌∷◌, ◌++◌, ◌==◌, Bool, true, false, if◌then◌else◌, length, slice_index, codes, decimal}
+use Rattle.std.specs.Prelude.{ℕ, List, [], ◌∷◌, ◌++◌, ◌==◌, Bool, true, false, if◌then◌else◌}
+use Rattle.std.specs.Prelude.{length, slice_index, codes, decimal}
 use Rattle.std.specs.List.{flat_map, list_all}
 use Rattle.nm_replay.specs.declared.block.Block.{Block}
 use Rattle.nm_leg.specs.declared.fuse_leg.FuseLeg.{FuseLeg}
@@ -7,8 +8,11 @@ use Rattle.nm_replay.specs.declared.entry.Kind.{Kind}
 use Rattle.nm_replay.specs.declared.entry.Kind.TheVariants.{Read, Write, Patch}
 use Rattle.nm_replay.specs.declared.entry.Entry.{Entry}
 use Rattle.nm_stripe.specs.declared.answer.Answer.{Answer}
-use Rattle.nm_stripe.specs.declared.answer.Answer.TheVariants.{Begun, Pushed, Complete, Halted, Written, Value}
-use Rattle.nm_stripe.specs.declared.answer.Answer.TheVariants.{Failed, MasterChanged, Joining, Copied, Nothing, InSync, Synced, LegLost, Refused}
+use Rattle.nm_stripe.specs.declared.answer.Answer.TheVariants.{Begun, Pushed, Complete, Halted}
+use Rattle.nm_stripe.specs.declared.answer.Answer.TheVariants.{Written, Value}
+use Rattle.nm_stripe.specs.declared.answer.Answer.TheVariants.{Failed, MasterChanged, Joining}
+use Rattle.nm_stripe.specs.declared.answer.Answer.TheVariants.{Copied, Nothing, InSync, Synced}
+use Rattle.nm_stripe.specs.declared.answer.Answer.TheVariants.{LegLost, Refused}
 use Rattle.nm_rules.specs.Refusal.{text_of}
 use Rattle.nm_script_lib.specs.declared.fill.Fill.{Fill}
 use Rattle.nm_script_lib.specs.declared.fill.Fill.TheVariants.{Same, Mixed}

@@ -1,12 +1,15 @@
 -- What the private readers of words give. The laws in proofs/ tie it to the grammar.
-use Rattle.std.specs.Prelude.{◌≡◌, ℕ, ◌+◌, ◌*◌, ◌-◌, ◌^◌, Bool, true, false, List, [], ◌∷◌, ◌==◌, ◌&&◌, length, Option, Some, None, nat_lt, nat_le, if◌then◌else◌, codes}
+use Rattle.std.specs.Prelude.{◌≡◌, ℕ, ◌+◌, ◌*◌, ◌-◌, ◌^◌, Bool, true, false, List, [], ◌∷◌, ◌==◌}
+use Rattle.std.specs.Prelude.{◌&&◌, length, Option, Some, None, nat_lt, nat_le, if◌then◌else◌}
+use Rattle.std.specs.Prelude.{codes}
 use Rattle.std.specs.List.{slice_split}
 use Rattle.std.specs.Option.{option_copied}
 use Rattle.std.specs.Char.{is_ascii_digit}
 use Rattle.nm_choice.specs.declared.policy.Policy.{Policy}
 use Rattle.nm_choice.specs.declared.policy.Policy.TheVariants.{RoundRobin, Striped}
 use Rattle.nm_script_lib.specs.declared.words.Words.{Words}
-use Rattle.nm_script_lib.specs.Forms.{Kind, Number, Below, Within, Byte, Form, Makes, Then, ThenPolicy, Keyword, NoForm}
+use Rattle.nm_script_lib.specs.Forms.{Kind, Number, Below, Within, Byte, Form, Makes, Then}
+use Rattle.nm_script_lib.specs.Forms.{ThenPolicy, Keyword, NoForm}
 
 -- the pieces of a text between the bytes `at`
 abbrev pub pieces : ℕ → List ℕ → List (List ℕ)

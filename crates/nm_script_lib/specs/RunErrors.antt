@@ -1,11 +1,14 @@
 -- The exit status and the message of each error that ends a run early.
 use Rattle.std.specs.Prelude.{ℕ, List, ◌++◌, codes, decimal}
 use Rattle.nm_script_lib.specs.declared.run_error.RunError.{RunError}
-use Rattle.nm_script_lib.specs.declared.run_error.RunError.TheVariants.{BadStep, Memory, Input, Output}
+use Rattle.nm_script_lib.specs.declared.run_error.RunError.TheVariants.{BadStep, Memory, Input}
+use Rattle.nm_script_lib.specs.declared.run_error.RunError.TheVariants.{Output}
 use Rattle.nm_script_lib.specs.declared.parse_error.ParseError.{ParseError}
-use Rattle.nm_script_lib.specs.declared.parse_error.ParseError.TheVariants.{Memory as UnreadMemory, BadStep as UnreadStep}
+use Rattle.nm_script_lib.specs.declared.parse_error.ParseError.TheVariants.{Memory as UnreadMemory}
+use Rattle.nm_script_lib.specs.declared.parse_error.ParseError.TheVariants.{BadStep as UnreadStep}
 use Rattle.nm_script_lib.specs.declared.input_error.InputError.{InputError}
-use Rattle.nm_script_lib.specs.declared.input_error.InputError.TheVariants.{Memory as UnheardMemory, Input as UnheardInput}
+use Rattle.nm_script_lib.specs.declared.input_error.InputError.TheVariants.{Memory as UnheardMemory}
+use Rattle.nm_script_lib.specs.declared.input_error.InputError.TheVariants.{Input as UnheardInput}
 use Rattle.nm_script_lib.specs.Printing.{ended_line}
 
 -- The exit status.

@@ -14,7 +14,7 @@ use crate::mem_stripe::open_fused;
 use crate::mirror_line::MirrorLine;
 use crate::printing::{put_counts, put_entry, put_legal};
 use crate::run_error::RunError;
-use crate::scripts::Script;
+use crate::script::Script;
 use crate::step::Step;
 use crate::streams::send;
 use crate::write_error::WriteError;

@@ -17,7 +17,7 @@ mod parse_error;
 mod printing;
 mod program;
 mod run_error;
-mod scripts;
+mod script;
 mod state_line;
 mod step;
 mod streams;

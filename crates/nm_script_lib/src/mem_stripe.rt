@@ -93,7 +93,7 @@ fn patch(alloc: Global, from: u16, len: u16, fill: u8) -> Result<Data, RunError>
 }
 
 /// What a step of a script asks of the stripe.
-fn asked(alloc: Global, mirror: &MirrorLine, step: StripeStep) -> Result<Step<FuseLeg>, RunError>
+fn step_for(alloc: Global, mirror: &MirrorLine, step: StripeStep) -> Result<Step<FuseLeg>, RunError>
     requires { IsInside mirror.now (Ask step) }
     ensures asked { IfOk result (λ s. IsAsked mirror.now step s) }
     ensures cause { IfErr result EndsRun }
@@ -119,7 +119,7 @@ fn asked(alloc: Global, mirror: &MirrorLine, step: StripeStep) -> Result<Step<Fu
         StripeStep::Promote { leg } => Ok(Step::Promote(leg)),
         StripeStep::Sync { leg } => Ok(Step::Sync(leg)),
         StripeStep::Replace { leg, fill } => {
-            let part = FuseLeg::filled(alloc, mirror.blocks, fill)?;
+            let part = FuseLeg::with_byte(alloc, mirror.blocks, fill)?;
             Ok(Step::Replace(leg, part))
         }
     }
@@ -138,7 +138,7 @@ pub fn step(
     ensures shape { HasShape mirror.now stripe.new }
     ensures cause { IfErr result EndsRun }
 {
-    let asked = asked(alloc, mirror, step)?;
+    let asked = step_for(alloc, mirror, step)?;
     let answer = stripe.step(asked);
     Ok(answer)
 }

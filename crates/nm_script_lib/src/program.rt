@@ -9,7 +9,7 @@ ghost use Rattle.nm_script_lib.specs.Ending.{ReadsScript, CannotRead, Ended, End
 use crate::engine::run;
 use crate::fused_call::{FusedCall, has_call};
 use crate::run_error::RunError;
-use crate::scripts::{Script, parse};
+use crate::script::{Script, parse};
 use crate::streams::{read_all, send};
 use crate::write_error::WriteError;
 use std::alloc::Global;

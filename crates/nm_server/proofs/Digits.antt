@@ -6,7 +6,6 @@ use Rattle.std.proofs.lemmas.Str.{digit_value_digit}
 use Rattle.std.proofs.lemmas.Str.Parse.{digit_from_value}
 use Rattle.std.proofs.lemmas.Bool.{and_parts, and_from, ltb-true, ltb-false, lt-ltb, le-ltb, leb-true, le-leb}
 use Rattle.std.proofs.lemmas.Option.{same_Some}
-use Rattle.std.proofs.lemmas.List.{length-append}
 use Rattle.std.proofs.Math.Seq.{take-append_seam}
 use Rattle.nm_server.specs.ControlLine.{Asks, IsOfLeg, NamesLeg}
 use Rattle.nm_server.specs.declared.control_command.ControlCommand.{ControlCommand}
@@ -93,12 +92,6 @@ no_leg_after_start start line word leg e h named =
     let same : word ≡ named.0 = cancel start word named.0 (sym e ∙ named.1) in
     let some : leg_of word ≡ Some leg = rw same (named_leg named.0 leg named.2) in
     cc
-
-pub no_start : (start line word : List ℕ) → length line < length start →
-    line ≡ start ++ word → ⊥
-no_start start line word short e =
-    let all : length line ≡ length start + length word = ap length e ∙ length-append start word in
-    omega (arith, short, all)
 
 pub other_start : (start line word : List ℕ) → (take (length start) line ≡ start → ⊥) →
     line ≡ start ++ word → ⊥

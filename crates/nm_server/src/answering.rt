@@ -127,8 +127,8 @@ fn take_byte<R: Wait, O: Write, L: LegPart, G: Gate + Drop>(
 /// end.
 ///
 /// A line ends with LF and has at most 64 bytes without it. A longer one ends the connection, and
-/// nothing behind it is run; so do an answer that cannot be written, and no memory for one. Bytes
-/// behind the last LF are no line.
+/// nothing after it is run; so do an answer that cannot be written, and no memory for one. Bytes
+/// after the last LF are no line.
 pub fn control<R: Wait, I: Read, O: Write, L: LegPart, G: Gate + Drop>(
     rt: &R,
     alloc: Global,

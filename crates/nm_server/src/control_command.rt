@@ -35,7 +35,7 @@ fn leg_number(word: &[u8]) -> Option<u64>
     Some(number)
 }
 
-// What stands behind this beginning of a line.
+// What follows this beginning of a line.
 fn after<'a>(line: &'a [u8], start: &[u8]) -> Option<&'a [u8]>
     ensures some { IfSome result (λ word. line.entry.now ≡ start.now ++ word.now) }
     ensures none { IsNone result → (word : List ℕ) → line.entry.now ≡ start.now ++ word → ⊥ }

@@ -3,10 +3,10 @@
 use crate::command_line::settings;
 use crate::control_port::serve_control;
 use crate::leg_files::{Leg, LegFiles, stripe_legs};
-use crate::options::Settings;
-use crate::places::SessionPlaces;
 use crate::resync::resynchronise;
+use crate::session_places::SessionPlaces;
 use crate::sessions::{ExportName, serve_place, take_clients};
+use crate::settings::Settings;
 use crate::start_fault::StartFault;
 use clap::Error;
 use clap::error::ErrorKind;

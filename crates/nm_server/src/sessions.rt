@@ -4,7 +4,7 @@ ghost use Rattle.nm_session.specs.Session.{session_of};
 
 use crate::handshake_reader::HandshakeReader;
 use crate::mirror_target::MirrorTarget;
-use crate::places::SessionPlaces;
+use crate::session_places::SessionPlaces;
 use log::{Log, warn};
 use nm_lanes::Gate;
 use nm_leg::LegPart;

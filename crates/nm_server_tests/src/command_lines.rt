@@ -6,10 +6,10 @@ use nm_server::{Settings, settings};
 use std::alloc::Global;
 use std::test::Fail;
 
-/// Words behind the program's name, and what they ask for.
+/// Words after the program's name, and what they ask for.
 type Taken = (&'static [&'static str], Asked);
 
-/// Words behind the program's name, and how they are refused.
+/// Words after the program's name, and how they are refused.
 type Refused = (&'static [&'static str], ErrorKind);
 
 /// What a command line asks for, with one leg.

@@ -64,9 +64,9 @@ const TALKS: [Talk; 14] = [
         b"fail 1: failed 2 last 0 out 0 stopped 0\nbad command\nbad command\n",
         false,
     ),
-    // What stands behind the last LF is nothing.
+    // What follows the last LF is nothing.
     (b"quit", b"", false),
-    // 64 bytes are a line; 65 are none, and what stands behind them is not run.
+    // 64 bytes are a line; 65 are none, and what follows them is not run.
     (
         b"1234567890123456789012345678901234567890123456789012345678901234\n",
         b"bad command\n",
@@ -77,7 +77,7 @@ const TALKS: [Talk; 14] = [
         b"",
         false,
     ),
-    // Lines behind a quit are not run.
+    // Lines after a quit are not run.
     (b"quit\nfail 0\n", b"bye\n", true),
 ];
 

@@ -108,7 +108,7 @@ impl<L: LegPart> Store<L> {
     {
         let behind = self.regions.left(leg);
         match self.regions.copy() {
-            Some(copy) if copy.leg == leg => behind.saturating_sub(self.buffer.written()),
+            Some(copy) if copy.leg == leg => behind.saturating_sub(self.buffer.blocks_written()),
             _ => behind,
         }
     }
@@ -133,7 +133,7 @@ impl<L: LegPart> Store<L> {
         requires { next_number self.now + unlanded self.now.records ≤ max (2 ^ 63) self.now.first }
         ensures { result ≡ is_exhausted self.now }
     {
-        self.first + self.kept.total() + self.records.unlanded() >= NUMBERS
+        self.first + self.kept.total() + self.records.unlanded_count() >= NUMBERS
     }
 
     /// Whether the leg is the only one in sync.
@@ -174,7 +174,7 @@ impl<L: LegPart> Store<L> {
     pub fn records_landed(&self) -> u64
         ensures { result ≡ length self.now.records - unlanded self.now.records }
     {
-        (self.records.len() as u64).saturating_sub(self.records.unlanded())
+        (self.records.len() as u64).saturating_sub(self.records.unlanded_count())
     }
 
     /// How many entries the history has had.

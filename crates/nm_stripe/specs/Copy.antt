@@ -3,7 +3,8 @@ use Rattle.std.specs.Prelude.{◌≡◌, ◌⊎◌, ℕ}
 use Rattle.nm_leg.specs.Leg.{LegType}
 use Rattle.nm_rules.specs.declared.refusal.Refusal.{Refusal}
 use Rattle.nm_rules.specs.declared.refusal.Refusal.TheVariants.{Fault}
-use Rattle.nm_rules.specs.Copy.{CopiesRead, CopiesWrite, HasNothing, LosesInCopy, FailsInCopy, CopyRefused}
+use Rattle.nm_rules.specs.Copy.{CopiesRead, CopiesWrite, HasNothing, LosesInCopy, FailsInCopy}
+use Rattle.nm_rules.specs.Copy.{CopyRefused}
 use Rattle.nm_rules.specs.State.{StripeState, left}
 use Rattle.nm_stripe.specs.declared.copy.Copying.{Copying}
 use Rattle.nm_stripe.specs.declared.copy.Copying.TheVariants.{Copied, Nothing, LegLost}

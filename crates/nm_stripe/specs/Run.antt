@@ -1,6 +1,7 @@
 -- A list of steps: which answers each may have, and that its operations act on one array.
 use Rattle.std.specs.Prelude.{◌≡◌, ◌<◌, List, [], ◌∷◌, ◌++◌, Some, length}
-use Rattle.nm_replay.specs.Events.{Event, BeginsRead, BeginsWrite, RepliesRead, RepliesWrite, marks_of}
+use Rattle.nm_replay.specs.Events.{Event, BeginsRead, BeginsWrite, RepliesRead, RepliesWrite}
+use Rattle.nm_replay.specs.Events.{marks_of}
 use Rattle.nm_replay.specs.declared.block.Block.{Block}
 use Rattle.nm_fanout.specs.Data.{put_of_data, FitsBlock}
 use Rattle.nm_leg.specs.Leg.{Leg, LegType}
@@ -13,7 +14,10 @@ use Rattle.nm_rules.specs.Promote.{promote_cause}
 use Rattle.nm_rules.specs.Push.{push_cause}
 use Rattle.nm_rules.specs.State.{StripeState, left}
 use Rattle.nm_stripe.specs.declared.answer.Answer.{Answer}
-use Rattle.nm_stripe.specs.declared.answer.Answer.TheVariants.{Begun, Pushed, Complete, Halted, Written, Value, Failed, MasterChanged, Joining, Copied, InSync, Synced, LegLost, Refused}
+use Rattle.nm_stripe.specs.declared.answer.Answer.TheVariants.{Begun, Pushed, Complete, Halted}
+use Rattle.nm_stripe.specs.declared.answer.Answer.TheVariants.{Written, Value, Failed}
+use Rattle.nm_stripe.specs.declared.answer.Answer.TheVariants.{MasterChanged, Joining, Copied}
+use Rattle.nm_stripe.specs.declared.answer.Answer.TheVariants.{InSync, Synced, LegLost, Refused}
 use Rattle.nm_stripe.specs.declared.answer.Answer.TheVariants.{Nothing as NothingLeft}
 use Rattle.nm_stripe.specs.declared.answer.Handed.TheVariants.{Nothing, Data, Replacement}
 use Rattle.nm_stripe.specs.declared.copy.Copying.TheVariants as copying
@@ -21,7 +25,8 @@ use Rattle.nm_stripe.specs.declared.fail.Failing.TheVariants as failing
 use Rattle.nm_stripe.specs.declared.push.Reach.TheVariants as reach
 use Rattle.nm_stripe.specs.declared.read.Reading.TheVariants as reading
 use Rattle.nm_stripe.specs.declared.step.Step.{Step}
-use Rattle.nm_stripe.specs.declared.step.Step.TheVariants.{Begin, Push, Claim, Read, Fail, Attach, Replace, Copy, Promote, Sync}
+use Rattle.nm_stripe.specs.declared.step.Step.TheVariants.{Begin, Push, Claim, Read, Fail, Attach}
+use Rattle.nm_stripe.specs.declared.step.Step.TheVariants.{Replace, Copy, Promote, Sync}
 use Rattle.nm_stripe.specs.declared.sync.Promotion.TheVariants as promotion
 use Rattle.nm_stripe.specs.declared.sync.Syncing.TheVariants as syncing
 use Rattle.nm_stripe.specs.Begin.{RefusesBegin}

@@ -26,7 +26,7 @@ pub enum Reach {
 }
 
 /// The answer of a push that reached its leg.
-fn reached<L: LegPart>(store: &Store<L>, place: usize) -> Reach
+fn reach_of<L: LegPart>(store: &Store<L>, place: usize) -> Reach
     requires place { place < length store.now.records }
     requires landed { (r : Record) → slice_get store.now.records place ≡ Some r
         → is_under_way r ≡ false → is_some r.entry ≡ true }
@@ -59,7 +59,7 @@ impl<L: LegPart> Stripe<L> {
         let place = self.store.record_to_push(ticket, leg)?;
         if self.store.write_leg(place, leg).is_ok() {
             self.store.reach(place, leg);
-            return Ok(reached(&self.store, place));
+            return Ok(reach_of(&self.store, place));
         }
         if self.store.is_last(leg) {
             self.store.stop();

@@ -39,21 +39,21 @@ pub enum Step<L> {
     Replace(u8, L),
     /// Copies to this joining leg: one block is read or written.
     Copy(u8),
-    /// Calls this joining leg in sync, behind a sync.
+    /// Calls this joining leg in sync, after a sync.
     Promote(u8),
     /// Syncs this leg.
     Sync(u8),
 }
 
 /// A refusal with nothing to hand back.
-fn refused<L: LegPart>(refusal: Refusal) -> Answer<L>
+fn refusal_answer<L: LegPart>(refusal: Refusal) -> Answer<L>
     ensures { result ≡ Answer.Refused refusal Handed.Nothing }
 {
     Answer::Refused(refusal, Handed::Nothing)
 }
 
 /// A lost leg with nothing to hand back.
-fn lost<L: LegPart>(leg: u8) -> Answer<L>
+fn loss_answer<L: LegPart>(leg: u8) -> Answer<L>
     ensures { result ≡ Answer.LegLost leg Handed.Nothing }
 {
     Answer::LegLost(leg, Handed::Nothing)
@@ -94,8 +94,8 @@ impl<L: LegPart> Stripe<L> {
                 bytes,
                 of: PhantomData,
             }),
-            Ok(Reading::LegLost(leg)) => lost(leg),
-            Err(refusal) => refused(refusal),
+            Ok(Reading::LegLost(leg)) => loss_answer(leg),
+            Err(refusal) => refusal_answer(refusal),
         }
     }
 
@@ -111,9 +111,9 @@ impl<L: LegPart> Stripe<L> {
         match self.push(ticket, leg) {
             Ok(Reach::Pushed(owed)) => Answer::Pushed(owed),
             Ok(Reach::Complete(number)) => Answer::Complete(number),
-            Ok(Reach::LegLost(leg)) => lost(leg),
+            Ok(Reach::LegLost(leg)) => loss_answer(leg),
             Ok(Reach::Halted) => Answer::Halted,
-            Err(refusal) => refused(refusal),
+            Err(refusal) => refusal_answer(refusal),
         }
     }
 
@@ -128,7 +128,7 @@ impl<L: LegPart> Stripe<L> {
         match self.fail(leg) {
             Ok(Failing::Failed) => Answer::Failed,
             Ok(Failing::MasterChanged(master)) => Answer::MasterChanged(master),
-            Err(refusal) => refused(refusal),
+            Err(refusal) => refusal_answer(refusal),
         }
     }
 
@@ -143,8 +143,8 @@ impl<L: LegPart> Stripe<L> {
         match self.copy(leg) {
             Ok(Copying::Copied(left)) => Answer::Copied(left),
             Ok(Copying::Nothing) => Answer::Nothing,
-            Ok(Copying::LegLost(leg)) => lost(leg),
-            Err(refusal) => refused(refusal),
+            Ok(Copying::LegLost(leg)) => loss_answer(leg),
+            Err(refusal) => refusal_answer(refusal),
         }
     }
 
@@ -158,8 +158,8 @@ impl<L: LegPart> Stripe<L> {
     {
         match self.promote(leg) {
             Ok(Promotion::InSync) => Answer::InSync,
-            Ok(Promotion::LegLost(leg)) => lost(leg),
-            Err(refusal) => refused(refusal),
+            Ok(Promotion::LegLost(leg)) => loss_answer(leg),
+            Err(refusal) => refusal_answer(refusal),
         }
     }
 
@@ -173,8 +173,8 @@ impl<L: LegPart> Stripe<L> {
     {
         match self.sync(leg) {
             Ok(Syncing::Synced) => Answer::Synced,
-            Ok(Syncing::LegLost(leg)) => lost(leg),
-            Err(refusal) => refused(refusal),
+            Ok(Syncing::LegLost(leg)) => loss_answer(leg),
+            Err(refusal) => refusal_answer(refusal),
         }
     }
 
@@ -192,13 +192,13 @@ impl<L: LegPart> Stripe<L> {
             Step::Push(ticket, leg) => self.step_push(ticket, leg),
             Step::Claim(ticket) => match self.claim(ticket) {
                 Ok(written) => Answer::Written(written),
-                Err(refusal) => refused(refusal),
+                Err(refusal) => refusal_answer(refusal),
             },
             Step::Read(block) => self.step_read(block),
             Step::Fail(leg) => self.step_fail(leg),
             Step::Attach(leg) => match self.attach(leg) {
                 Ok(left) => Answer::Joining(left),
-                Err(refusal) => refused(refusal),
+                Err(refusal) => refusal_answer(refusal),
             },
             Step::Replace(leg, part) => match self.replace(leg, part) {
                 Ok(left) => Answer::Joining(left),

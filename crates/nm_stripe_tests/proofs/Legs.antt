@@ -1,10 +1,9 @@
 -- New legs are all alike: as many blocks of one byte each.
-use Rattle.std.proofs.Common.{◌≡◌, true, ℕ, ◌+◌, ◌/◌, ◌%◌, ◌^◌, ◌<◌, ◌==◌, zero, suc, List, [], ◌∷◌, ◌++◌, length, Some, refl, sym, ap, subst, ◌∙◌, arith}
+use Rattle.std.proofs.Common.{◌≡◌, ℕ, ◌+◌, ◌/◌, ◌%◌, ◌^◌, ◌<◌, ◌==◌, zero, suc, List, [], ◌∷◌, ◌++◌, length, Some, refl, sym, ap, subst, ◌∙◌, arith}
 use Rattle.std.specs.List.{AllByRecursion, slice_get}
 use Rattle.std.proofs.lemmas.List.{length-append, length-replicate}
 use Rattle.std.proofs.lemmas.Option.{same_Some}
-use Rattle.nm_leg.specs.Leg.{Leg, LegType, filled_array, filled_leg}
-use Rattle.nm_leg.specs.LegCalls.{EachHas}
+use Rattle.nm_leg.specs.Leg.{Leg, filled_array, filled_leg}
 use Rattle.nm_leg.specs.TestLegs.{of_fuse}
 use Rattle.nm_leg.specs.declared.fuse_leg.FuseLeg.{FuseLeg}
 use Rattle.nm_rules.specs.Array.{contents_of}
@@ -40,9 +39,6 @@ leg_more n blocks fill old new leg so_far is e = rw e (record {
 filled_length : (blocks fill : ℕ) (leg : FuseLeg) → IsFilled blocks fill leg → length (of_fuse leg).contents ≡ blocks
 filled_length blocks fill leg is = ap (λ (l : Leg). length l.contents) is ∙ length-replicate blocks _
 
-pub filled_lengths : (n blocks fill : ℕ) (legs : List FuseLeg) → LegsSoFar n blocks fill legs → EachHas of_fuse legs blocks
-filled_lengths n blocks fill legs are = λ place leg found. filled_length blocks fill leg (at_place (IsFilled blocks fill) legs place leg found are.alike)
-
 all_contents : (blocks fill k : ℕ) (legs : List FuseLeg) → k < length legs → AllByRecursion (IsFilled blocks fill) legs → contents_of of_fuse legs k ≡ filled_array blocks fill
 all_contents blocks fill k [] h all = absurd (omega arith)
 all_contents blocks fill zero (leg ∷ legs) h all = ap (λ (l : Leg). l.contents) all.0
@@ -61,10 +57,3 @@ names_first bits legs some odd =
 pub one_equal : {L : Type 0} (model : L → Leg) (legs : List L) (bits : ℕ) → length legs ≡ 1 → HoldEqual model legs bits
 one_equal model legs bits one = λ leg other h k named also.
     let same : leg ≡ other = omega (arith, h, k, one) in ap (λ (l : ℕ). contents_of model legs l) same
-
-one_at : {L : Type 0} (model : L → Leg) (part : L) (blocks place : ℕ) (leg : L) → slice_get (part ∷ []) place ≡ Some leg → length (model part).contents ≡ blocks → length (model leg).contents ≡ blocks
-one_at model part blocks zero leg found long = subst (λ (l : _). length (model l).contents ≡ blocks) (same_Some part leg found) long
-one_at model part blocks (suc place) leg found long = cc
-
-pub one_length : {L : Type 0} (model : L → Leg) (legs : List L) (part : L) (blocks : ℕ) → legs ≡ [] ++ part ∷ [] → length (model part).contents ≡ blocks → EachHas model legs blocks
-one_length model legs part blocks is long = rw is (λ place leg found. one_at model part blocks place leg found long)

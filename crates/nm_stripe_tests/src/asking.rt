@@ -47,7 +47,7 @@ pub enum Summary {
 }
 
 /// 512 bytes of one value.
-pub fn filled(alloc: Global, byte: u8) -> Result<Data, AllocError> {
+pub fn fill_block(alloc: Global, byte: u8) -> Result<Data, AllocError> {
     if byte == 0 {
         return Ok(Data::Zero);
     }
@@ -70,7 +70,7 @@ pub fn part(alloc: Global, from: u16, len: u16, byte: u8) -> Result<Data, AllocE
 /// The step, whose leg that takes another's place is the last of `spare`.
 pub fn step_of<L: LegPart>(alloc: Global, spare: &mut Vec<L>, ask: Ask) -> Result<Step<L>, Fail> {
     Ok(match ask {
-        Ask::Begin(block, byte) => Step::Begin(block, filled(alloc, byte)?),
+        Ask::Begin(block, byte) => Step::Begin(block, fill_block(alloc, byte)?),
         Ask::Patch(block, from, len, byte) => Step::Begin(block, part(alloc, from, len, byte)?),
         Ask::Push(ticket, leg) => Step::Push(ticket, leg),
         Ask::Claim(ticket) => Step::Claim(ticket),

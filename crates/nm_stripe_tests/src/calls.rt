@@ -1,5 +1,5 @@
 //! Single calls of a stripe, and which legs a step calls.
-use crate::asking::{Ask, Summary, filled, may_ask, step_of, summary_of};
+use crate::asking::{Ask, Summary, fill_block, may_ask, step_of, summary_of};
 use crate::opening::{Mirror, ONE_LEG, TWO_LEGS, opened};
 use nm_leg::{CountingLeg, FuseLeg, LegPart, MemLeg};
 use nm_replay::Block;
@@ -32,7 +32,7 @@ fn begun(
     stripe: &mut Stripe<FuseLeg>,
     block: u64,
 ) -> Result<u64, Fail> {
-    let data = filled(alloc, 0xaa)?;
+    let data = fill_block(alloc, 0xaa)?;
     assert!(rt; block < stripe.blocks() && data.fits_block());
     match stripe.begin(block, data) {
         Ok(Beginning::Begun(ticket)) => Ok(ticket),
@@ -110,7 +110,7 @@ fn a_read_by_its_own_call(rt: HostRuntime) -> Result<(), Fail> {
 #[test]
 fn a_leg_that_is_not_out_is_not_replaced(rt: HostRuntime) -> Result<(), Fail> {
     let mut stripe = opened(&rt, rt.alloc(), TWO_LEGS)?;
-    let step = Step::Replace(1, FuseLeg::filled(rt.alloc(), 8, 0xff)?);
+    let step = Step::Replace(1, FuseLeg::with_byte(rt.alloc(), 8, 0xff)?);
     may_ask(&rt, &stripe, &step);
     match stripe.step(step) {
         Answer::Refused(refusal, Handed::Replacement(leg)) => {
@@ -161,7 +161,7 @@ fn a_synced_leg_stays_as_it_is(rt: HostRuntime) -> Result<(), Fail> {
 fn a_leg_is_replaced_by_a_new_one(rt: HostRuntime) -> Result<(), Fail> {
     let mut stripe = opened(&rt, rt.alloc(), TWO_LEGS)?;
     fails(&rt, &mut stripe, Ok(Failing::Failed));
-    let part = FuseLeg::filled(rt.alloc(), 8, 0xff)?;
+    let part = FuseLeg::with_byte(rt.alloc(), 8, 0xff)?;
     assert!(rt; stripe.legs() == 2 && stripe.blocks() == 8 && part.len() == 8);
     match stripe.replace(1, part) {
         Ok(left) => assert_eq!(rt; left, 8),

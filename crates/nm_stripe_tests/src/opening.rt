@@ -66,7 +66,7 @@ pub fn try_open(
     assert!(rt; 1 <= region && region <= 65536 && 1 <= chunk && chunk <= 65536);
     let mut all = Vec::new(alloc);
     for _ in 0..legs {
-        all.push(FuseLeg::filled(alloc, blocks, fill)?)?;
+        all.push(FuseLeg::with_byte(alloc, blocks, fill)?)?;
     }
     let place = At {
         stripe: 7,

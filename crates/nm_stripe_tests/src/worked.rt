@@ -18,7 +18,7 @@ fn spare(
     let mut legs = Vec::new(alloc);
     for (ask, _) in rows {
         if let Ask::Replace(_) = ask {
-            legs.push(FuseLeg::filled(alloc, blocks, 0xff)?)?;
+            legs.push(FuseLeg::with_byte(alloc, blocks, 0xff)?)?;
         }
     }
     Ok(legs)

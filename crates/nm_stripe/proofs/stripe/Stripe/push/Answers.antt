@@ -8,8 +8,8 @@ use Rattle.nm_stripe.proofs.LostLemmas.{last-from, lost-from}
 use Rattle.nm_stripe.proofs.PushLemmas.{has-called, reached-after, still-inside, pushes, went-keeps, went-explained, went-at, went-landed, loses, lost-keeps, lost-explained, halts, halted-keeps, reaches, explained-reach}
 use Rattle.nm_stripe.proofs.stripe.Stripe.push.Goals as goal
 
-pub reached-requires-clause-place : goal.reached-requires-clause-place
-reached-requires-clause-place g c =
+pub reach_of-requires-clause-place : goal.reach_of-requires-clause-place
+reach_of-requires-clause-place g c =
     let type = leg_type g.L.LegPart.model g.L.LegPart.honest in
     let s = c.self.inside.store in
     let legs = c.write_leg.new.self.legs in
@@ -18,8 +18,8 @@ reached-requires-clause-place g c =
     let after : c.reach.new.self ≡ after_push s legs called.pushed c.args.leg = reached-after s c.write_leg.new.self c.reach.new.self c.in_ok-place.place c.args.leg called.pushed c.write_leg.ensures.others called.here c.reach.ensures in
     (went-at type s c.reach.new.self c.args.ticket c.args.leg c.in_ok-place.place legs c.self.invariant called after).within
 
-pub reached-requires-clause-landed : goal.reached-requires-clause-landed
-reached-requires-clause-landed g c r here over =
+pub reach_of-requires-clause-landed : goal.reach_of-requires-clause-landed
+reach_of-requires-clause-landed g c r here over =
     let type = leg_type g.L.LegPart.model g.L.LegPart.honest in
     let s = c.self.inside.store in
     let legs = c.write_leg.new.self.legs in
@@ -46,7 +46,7 @@ returns-then-is_ok-clause-ok g c =
     let ok : is_ok c.write_leg.result ≡ true = search rules in
     let called = has-called type true s c.args.ticket c.args.leg c.in_ok-place.place legs c.in_ok-place.ensures.place c.in_ok-place.ensures.no_cause (rw (← ok) c.write_leg.ensures.writes) in
     let after : c.reach.new.self ≡ after_push s legs called.pushed c.args.leg = reached-after s c.write_leg.new.self c.reach.new.self c.in_ok-place.place c.args.leg called.pushed c.write_leg.ensures.others called.here c.reach.ensures in
-    rw (← c.self.view_is) (reaches type s c.reach.new.self c.args.ticket c.args.leg c.reached.result (pushes type s c.reach.new.self c.args.ticket c.args.leg c.in_ok-place.place legs c.self.invariant called after) (c.reached.ensures c.args.ticket (went-at type s c.reach.new.self c.args.ticket c.args.leg c.in_ok-place.place legs c.self.invariant called after)))
+    rw (← c.self.view_is) (reaches type s c.reach.new.self c.args.ticket c.args.leg c.reach_of.result (pushes type s c.reach.new.self c.args.ticket c.args.leg c.in_ok-place.place legs c.self.invariant called after) (c.reach_of.ensures c.args.ticket (went-at type s c.reach.new.self c.args.ticket c.args.leg c.in_ok-place.place legs c.self.invariant called after)))
 
 pub returns-then-is_ok-clause-acts : goal.returns-then-is_ok-clause-acts
 returns-then-is_ok-clause-acts g c is_honest =
@@ -56,7 +56,7 @@ returns-then-is_ok-clause-acts g c is_honest =
     let ok : is_ok c.write_leg.result ≡ true = search rules in
     let called = has-called type true s c.args.ticket c.args.leg c.in_ok-place.place legs c.in_ok-place.ensures.place c.in_ok-place.ensures.no_cause (rw (← ok) c.write_leg.ensures.writes) in
     let after : c.reach.new.self ≡ after_push s legs called.pushed c.args.leg = reached-after s c.write_leg.new.self c.reach.new.self c.in_ok-place.place c.args.leg called.pushed c.write_leg.ensures.others called.here c.reach.ensures in
-    rw (← c.self.view_is) (explained-reach g.L.LegPart.model s c.reach.new.self c.reached.result (went-explained type s c.reach.new.self c.args.ticket c.args.leg c.in_ok-place.place legs c.self.invariant called after is_honest))
+    rw (← c.self.view_is) (explained-reach g.L.LegPart.model s c.reach.new.self c.reach_of.result (went-explained type s c.reach.new.self c.args.ticket c.args.leg c.in_ok-place.place legs c.self.invariant called after is_honest))
 
 -- the leg failed
 pub invariant_of-self-then-is_last : goal.invariant_of-self-then-is_last

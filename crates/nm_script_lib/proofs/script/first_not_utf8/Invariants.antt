@@ -3,7 +3,7 @@ use Rattle.std.specs.Option.{option_copied}
 use Rattle.std.specs.Str.{is_utf8}
 use Rattle.nm_script_lib.specs.Reading.{pieces, pieces_of_rest, rest_size}
 use Rattle.nm_script_lib.specs.ScriptReading.{first_where}
-use Rattle.nm_script_lib.proofs.scripts.first_not_utf8.Given as goal
+use Rattle.nm_script_lib.proofs.script.first_not_utf8.Given as goal
 
 abbrev pub invariant-loop-rest : goal.invariant-loop-rest
 invariant-loop-rest l = record {

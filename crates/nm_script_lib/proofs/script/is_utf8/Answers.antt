@@ -2,7 +2,7 @@ use Rattle.std.proofs.Common.{◌≡◌, Bool, Result, Ok, Err, MatchResult, is_
 use Rattle.std.specs.Str.{is_utf8, IsUtf8}
 use Rattle.std.proofs.lemmas.Str.{IsUtf8-from_is_utf8, is_utf8-from_IsUtf8}
 use Rattle.std.proofs.lemmas.Bool.{false_from_ne_true}
-use Rattle.nm_script_lib.proofs.scripts.is_utf8.Goals as goal
+use Rattle.nm_script_lib.proofs.script.is_utf8.Goals as goal
 
 tells : {T E : Type 0} (P : T → Type 0) (Q : E →
     Type 0) (line : List ℕ) (r : Result T E) (b : Bool) → b ≡ is_ok r →

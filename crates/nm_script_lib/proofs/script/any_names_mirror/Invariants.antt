@@ -3,7 +3,7 @@ use Rattle.std.specs.Option.{option_copied}
 use Rattle.std.specs.List.{list_any}
 use Rattle.nm_script_lib.specs.Reading.{pieces, pieces_of_rest, rest_size}
 use Rattle.nm_script_lib.specs.ScriptReading.{names_mirror}
-use Rattle.nm_script_lib.proofs.scripts.any_names_mirror.Given as goal
+use Rattle.nm_script_lib.proofs.script.any_names_mirror.Given as goal
 
 abbrev pub invariant-loop-rest : goal.invariant-loop-rest
 invariant-loop-rest l = list_any names_mirror (pieces_of_rest 10 (option_copied l.rest)) ≡

@@ -1,5 +1,5 @@
 use Rattle.nm_script_lib.proofs.Inside.{replacement_asked}
-use Rattle.nm_script_lib.proofs.mem_stripe.asked.Goals as goal
+use Rattle.nm_script_lib.proofs.mem_stripe.step_for.Goals as goal
 
 pub returns-in_ok-part-in-Replace-clause-asked : goal.returns-in_ok-part-in-Replace-clause-asked
 returns-in_ok-part-in-Replace-clause-asked c =

@@ -2,7 +2,7 @@
 use Rattle.std.proofs.Common.{◌≡◌, ℕ, List, Result, Ok, Err, IfOk, IsErrOf, MatchResult, refl, sym, ap, ◌∙◌}
 use Rattle.nm_script_lib.specs.declared.mirror_line.MirrorLine.{MirrorLine}
 use Rattle.nm_script_lib.specs.declared.step.Step.{Step}
-use Rattle.nm_script_lib.specs.declared.scripts.Script.{Script}
+use Rattle.nm_script_lib.specs.declared.script.Script.{Script}
 use Rattle.nm_script_lib.specs.declared.parse_error.ParseError.{ParseError}
 use Rattle.nm_script_lib.specs.declared.parse_error.ParseError.TheVariants.{Memory, BadStep}
 use Rattle.nm_script_lib.specs.Grammar.{IsScript}
@@ -10,7 +10,7 @@ use Rattle.nm_script_lib.specs.BadLine.{NamesLine}
 use Rattle.nm_script_lib.specs.Reading.{pieces}
 use Rattle.nm_script_lib.specs.ScriptReading.{script_of, Reads}
 use Rattle.nm_script_lib.proofs.ScriptLaws.{script_sound, script_read, line_named}
-use Rattle.nm_script_lib.proofs.scripts.parse.Goals as goal
+use Rattle.nm_script_lib.proofs.script.parse.Goals as goal
 
 -- what a script is read as
 abbrev Read : List ℕ → Result Script ParseError → Type 0

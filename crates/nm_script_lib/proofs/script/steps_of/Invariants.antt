@@ -2,7 +2,7 @@ use Rattle.std.proofs.Common.{◌≡◌, ◌+◌, ◌<◌, ◌^◌}
 use Rattle.std.specs.Option.{option_copied}
 use Rattle.nm_script_lib.specs.Reading.{pieces_of_rest, rest_size}
 use Rattle.nm_script_lib.specs.ScriptReading.{steps_of, with_prefix}
-use Rattle.nm_script_lib.proofs.scripts.steps_of.Given as goal
+use Rattle.nm_script_lib.proofs.script.steps_of.Given as goal
 
 abbrev pub invariant-loop-rest : goal.invariant-loop-rest
 invariant-loop-rest l = record {

@@ -2,7 +2,7 @@ use Rattle.std.proofs.Common.{◌≡◌, ◌+◌, ◌≤◌, length}
 use Rattle.std.specs.Option.{option_copied}
 use Rattle.nm_script_lib.specs.Reading.{pieces, pieces_of_rest, rest_size}
 use Rattle.nm_script_lib.specs.ScriptReading.{content_from}
-use Rattle.nm_script_lib.proofs.scripts.first_content_line.Given as goal
+use Rattle.nm_script_lib.proofs.script.first_content_line.Given as goal
 
 abbrev pub invariant-loop-rest : goal.invariant-loop-rest
 invariant-loop-rest l = record {
