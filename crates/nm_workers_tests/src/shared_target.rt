@@ -1,44 +1,91 @@
-//! A target whose bytes several workers share, and which can be held.
+//! A target whose bytes several workers share, and whose calls can be held.
 
 ghost use Rattle.std.specs.Prelude.{⊤, ◌≤◌, All, IsTrue};
 
+use crate::waiting::wait_for;
 use bytes::Bytes;
 use nm_session::{Target, TargetFault};
-use std::alloc::Global;
-use std::sync::atomic::{AtomicBool, Ordering};
+use std::alloc::{AllocError, Global};
+use std::sync::atomic::{AtomicUsize, Ordering};
 use std::sync::{Mutex, Wait};
-use std::thread::yield_now;
+use std::thread::sleep;
+use std::time::{Clock, Duration};
 
-// After so many looks a test has failed.
-const TURNS: u32 = 100_000;
+/// Which reads and writes are held, and until when.
+#[derive(Clone, Copy)]
+pub struct Hold<'a> {
+    /// Those at this offset alone; all of them where it is `None`.
+    pub at: Option<u64>,
+    /// Until this count is at least `least`, and then for so many milliseconds.
+    pub count: &'a AtomicUsize,
+    pub least: usize,
+    pub pause: u64,
+}
 
-// Bytes behind a lock, one of which may be where a read is held until a flag is set.
+/// The bytes that targets share, how many calls have begun, and how many have come back.
+#[derive(Drop)]
+pub struct SharedBytes {
+    pub size: u64,
+    pub bytes: Mutex<Vec<u8, Global>>,
+    pub begun: AtomicUsize,
+    pub back: AtomicUsize,
+}
+
+impl SharedBytes {
+    /// So many zero bytes.
+    pub fn new(alloc: Global, size: usize) -> Result<SharedBytes, AllocError> {
+        Ok(SharedBytes {
+            size: size as u64,
+            bytes: Mutex::new(vec![in alloc; 0u8; size]?),
+            begun: AtomicUsize::new(0),
+            back: AtomicUsize::new(0),
+        })
+    }
+
+    /// How many calls have begun and not come back.
+    pub fn under_way(&self) -> usize {
+        let back = self.back.load(Ordering::SeqCst);
+        self.begun.load(Ordering::SeqCst).wrapping_sub(back)
+    }
+}
+
+/// A target of shared bytes.
 #[derive(Drop)]
 pub struct SharedTarget<'a, R: Wait> {
     pub rt: &'a R,
     pub size: u64,
-    pub bytes: &'a Mutex<Vec<u8, Global>>,
-    pub held_at: Option<u64>,
-    pub go_on: &'a AtomicBool,
+    pub shared: &'a SharedBytes,
+    pub hold: Option<Hold<'a>>,
 }
 
-impl<'a, R: Wait> SharedTarget<'a, R> {
-    // Waits for the flag, if a read here is to be held. False where it was not set in time.
+impl<'a, R: Wait + Clock> SharedTarget<'a, R> {
+    // Waits as long as the call is to be held. False where what it waits for did not come in time.
     fn is_free(&self, offset: u64) -> bool {
-        if self.held_at != Some(offset) {
+        let Some(hold) = self.hold else {
+            return true;
+        };
+        if hold.at.is_some() && hold.at != Some(offset) {
             return true;
         }
-        for _ in 0..TURNS {
-            if self.go_on.load(Ordering::SeqCst) {
-                return true;
-            }
-            yield_now();
+        if !wait_for(self.rt, hold.count, hold.least) {
+            return false;
         }
-        false
+        if hold.pause > 0 {
+            sleep(self.rt, Duration::from_millis(hold.pause));
+        }
+        true
+    }
+
+    fn begin(&self) {
+        self.shared.begun.fetch_add(1, Ordering::SeqCst);
+    }
+
+    fn end(&self) {
+        self.shared.back.fetch_add(1, Ordering::SeqCst);
     }
 }
 
-// Whether each of the targets has so many bytes.
+/// Whether each of the targets has so many bytes.
 pub fn have_bytes<'a, R: Wait>(targets: &[SharedTarget<'a, R>], size: u64) -> bool
     ensures { IsTrue result → All (λ target. size ≤ target.size) targets.now }
 {
@@ -81,7 +128,7 @@ fn copy_out(bytes: &[u8], offset: u64, into: &mut [u8]) -> Result<(), TargetFaul
     }
 }
 
-impl<'a, R: Wait> Target for SharedTarget<'a, R> {
+impl<'a, R: Wait + Clock> Target for SharedTarget<'a, R> {
     ghost size = { λ target. target.size };
 
     ghost follows = { λ _ _ _. ⊤ };
@@ -91,20 +138,29 @@ impl<'a, R: Wait> Target for SharedTarget<'a, R> {
     ghost joins = { λ _ _ _ _ _ _ _. tt };
 
     fn read(&mut self, offset: u64, into: &mut [u8]) -> Result<(), TargetFault> {
+        self.begin();
         if !self.is_free(offset) {
             return Err(TargetFault::Io);
         }
-        let bytes = self.bytes.lock(self.rt);
-        copy_out(bytes.as_slice(), offset, into)
+        let bytes = self.shared.bytes.lock(self.rt);
+        let result = copy_out(bytes.as_slice(), offset, into);
+        self.end();
+        result
     }
 
     fn write(&mut self, offset: u64, payload: Bytes) -> Result<(), TargetFault> {
-        let mut bytes = self.bytes.lock(self.rt);
-        overwrite(&mut bytes, offset, payload.as_slice())
+        self.begin();
+        if !self.is_free(offset) {
+            return Err(TargetFault::Io);
+        }
+        let mut bytes = self.shared.bytes.lock(self.rt);
+        let result = overwrite(&mut bytes, offset, payload.as_slice());
+        self.end();
+        result
     }
 
     fn zero(&mut self, offset: u64, length: u64) -> Result<(), TargetFault> {
-        let mut bytes = self.bytes.lock(self.rt);
+        let mut bytes = self.shared.bytes.lock(self.rt);
         clear(&mut bytes, offset, length)
     }
 
