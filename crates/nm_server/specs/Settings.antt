@@ -9,7 +9,7 @@ use Rattle.clap.specs.declared.error.Error.{Error}
 use Rattle.clap.specs.declared.error.kind.ErrorKind.TheVariants.{OutOfMemory}
 use Rattle.nm_choice.specs.declared.policy.Policy.{Policy}
 use Rattle.nm_choice.specs.declared.policy.Policy.TheVariants.{RoundRobin, Striped}
-use Rattle.nm_server.specs.declared.settings.Settings.{Settings}
+use Rattle.nm_server.specs.declared.server_settings.Settings.{Settings}
 use Rattle.nm_server.specs.CommandLine.{ArePolicies, nbdmirror}
 
 -- The word for a policy.

@@ -8,7 +8,7 @@ ghost use Rattle.nm_server.specs.CommandLine.{ArePolicies, flag_rule, nbdmirror,
 ghost use Rattle.nm_server.specs.CommandLine.{option_rule, parsed_rule, words_rule};
 ghost use Rattle.nm_server.specs.Settings.{AsksFor, IsNumber, IsRefusal, policy_text};
 
-use crate::settings::Settings;
+use crate::server_settings::Settings;
 use clap::builder::ValueParser;
 use clap::{Arg, ArgAction, ArgMatches, Command, Error};
 use nm_choice::Policy;

@@ -14,9 +14,9 @@ mod line_room;
 mod mirror_target;
 mod program;
 mod resync;
+mod server_settings;
 mod session_places;
 mod sessions;
-mod settings;
 mod start_fault;
 
 pub use crate::answering::control;
@@ -24,5 +24,5 @@ pub use crate::command_line::settings;
 pub use crate::control_command::{ControlCommand, control_line};
 pub use crate::mirror_target::MirrorTarget;
 pub use crate::program::start;
-pub use crate::settings::Settings;
+pub use crate::server_settings::Settings;
 pub use crate::start_fault::StartFault;
