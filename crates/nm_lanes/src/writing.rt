@@ -1,5 +1,5 @@
 //! The write of a range, one piece after the other.
-ghost use Rattle.std.specs.Prelude.{◌≡◌, ◌<◌, length, IfErr, OnOk};
+ghost use Rattle.std.specs.Prelude.{◌≡◌, ◌<◌, length, IfErr, IsOk, OnOk};
 ghost use Rattle.nm_geometry.specs.Pieces.{LiesInside, pieces_of};
 ghost use Rattle.nm_lanes.specs.Cuts.{EachInside, cuts_for};
 ghost use Rattle.nm_lanes.specs.Writes.{FailsWriting, HasWritten, HasWrittenPiece, HasWrittenSome};
@@ -73,7 +73,7 @@ impl<R: Wait, G: Gate, K> Call<'_, R, G, K> {
 /// touch once, in order.
 ///
 /// The payload is cut where blocks end before the first step is done. A block that they fill is
-/// written whole; of another the rest stays.
+/// written whole; of another the rest stays. A payload without bytes does no step, and succeeds.
 ///
 /// # Errors
 ///
@@ -97,6 +97,7 @@ pub fn write_by<L: LegPart, K, D: Lane<L, K>, R: Wait, G: Gate>(
     ensures ok { OnOk result (HasWritten D.follows shape.now
         (cuts_for (pieces_of (record { offset = offset; length = length payload })) payload)
         (lanes.old, lanes.new)) }
+    ensures nothing { length payload ≡ 0 → IsOk result }
     ensures err { IfErr result (FailsWriting D.follows shape.now
         (cuts_for (pieces_of (record { offset = offset; length = length payload })) payload)
         (lanes.old, lanes.new)) }
@@ -109,6 +110,9 @@ pub fn write_by<L: LegPart, K, D: Lane<L, K>, R: Wait, G: Gate>(
         pass,
         kind: CallKind::Write,
     };
+    if payload.is_empty() {
+        return Ok(());
+    }
     let range = range_inside(shape, offset, payload.len() as u64);
     let Ok(writes) = cut_up(alloc, range, payload) else {
         return Err(WriteFault::Memory);

@@ -15,7 +15,7 @@ pub record GoesAstray {L : Type 0} (step : Step L) (answer : Answer L)
   pub answer_is : answer ≡ astray step
   pub stays : new ≡ old
 
--- the step is the stripe's, and a value stands behind what the part was given
+-- the step is the stripe's, and a value comes after what the part was given
 pub record GoesOn {L : Type 0} (type : LegType L) (step : Step L) (answer : Answer L)
     (part : PartState) (old new : StripeState L) : Type 0 where
   pub own : IsFalse (is_astray part old)

@@ -18,12 +18,12 @@ abbrev pub count_in : {L : Type 0} → ℕ → Pass L → ℕ
 count_in stripe pass = count_of (slice_get pass.parts.items stripe)
 
 -- what all passes counted in this stripe
-abbrev pub counted : {L : Type 0} → ℕ → List (Pass L) → ℕ
-counted stripe passes = sum_by (count_in stripe) passes
+abbrev pub count_in_all : {L : Type 0} → ℕ → List (Pass L) → ℕ
+count_in_all stripe passes = sum_by (count_in stripe) passes
 
 -- the stripe's history has had just the entries that the passes counted and that its records have
 abbrev pub IsEven : {L : Type 0} → List (Pass L) → EndOf → Type 0
-IsEven passes end = end.total ≡ counted end.stripe passes + end.landed
+IsEven passes end = end.total ≡ count_in_all end.stripe passes + end.landed
 
 -- each of the ends is even
 abbrev pub AreEven : {L : Type 0} → List (Pass L) → List EndOf → Type 0

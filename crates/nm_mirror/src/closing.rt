@@ -1,6 +1,7 @@
 //! The end of a mirror: what its stripes have had is compared with what its passes counted.
 ghost use Rattle.std.specs.Prelude.{◌≡◌, ◌≤◌, ◌↔◌, length, IsTrue, IfOk, IfErr};
-ghost use Rattle.nm_mirror.specs.Closing.{AreEven, IsEven, Refuses, RefusesClose, counted, count_in};
+ghost use Rattle.nm_mirror.specs.Closing.{AreEven, IsEven, Refuses, RefusesClose};
+ghost use Rattle.nm_mirror.specs.Closing.{count_in, count_in_all};
 
 use crate::lock::Lock;
 use crate::mirror::Mirror;
@@ -24,8 +25,8 @@ fn count_in<L>(pass: &Pass<L>, stripe: u32) -> u64
 }
 
 /// What all passes counted in this stripe.
-fn counted<L>(passes: &[Pass<L>], stripe: u32) -> u128
-    ensures { result ≡ counted stripe passes.now }
+fn count_in_all<L>(passes: &[Pass<L>], stripe: u32) -> u128
+    ensures { result ≡ count_in_all stripe passes.now }
 {
     let mut sum = 0u128;
     for pass in passes {
@@ -39,7 +40,7 @@ fn counted<L>(passes: &[Pass<L>], stripe: u32) -> u128
 fn is_even<L>(end: &End<L>, passes: &[Pass<L>]) -> bool
     ensures { IsTrue result ↔ IsEven passes.now end.now }
 {
-    let sum = counted(passes, end.stripe()).checked_add(u128::from(end.landed()));
+    let sum = count_in_all(passes, end.stripe()).checked_add(u128::from(end.landed()));
     sum == Some(u128::from(end.total()))
 }
 

@@ -23,7 +23,7 @@ pub struct Mirror<L: LegPart, G: Gate + Drop> {
 }
 
 /// Each stripe behind a lock of its own. Where memory is refused the stripes come back.
-fn locked<L: LegPart>(
+fn lock_each<L: LegPart>(
     alloc: Global,
     stripes: Vec<Stripe<L>>,
 ) -> Result<Vec<Lock<L>>, Vec<Stripe<L>>>
@@ -57,7 +57,7 @@ impl<L: LegPart, G: Gate + Drop> Mirror<L, G> {
         ensures handed_back { IfErr result (λ back.
             (back.1.items ≡ stripes.items) × (back.2 ≡ gate)) }
     {
-        let locks = match locked(alloc, stripes) {
+        let locks = match lock_each(alloc, stripes) {
             Ok(locks) => locks,
             Err(stripes) => return Err((Memory, stripes, gate)),
         };

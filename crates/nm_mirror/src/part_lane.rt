@@ -3,7 +3,7 @@ ghost use Rattle.std.specs.Prelude.{◌≡◌, [], ◌∷◌};
 ghost use Rattle.nm_lanes.specs.Done.{done_as};
 ghost use Rattle.nm_lanes.specs.Fits.{AnswerFits};
 ghost use Rattle.nm_part.specs.Parts.{part_of};
-ghost use Rattle.nm_mirror.specs.Counting.{part_behind};
+ghost use Rattle.nm_mirror.specs.Counting.{part_after_all};
 
 use crate::asking::ask;
 use crate::lock::Lock;
@@ -55,7 +55,7 @@ impl<L: LegPart> Lane<L, Lock<L>> for PartLane<L> {
     ghost follows = { Follows };
 
     fn step<R: Wait>(&mut self, rt: &R, lock: &Lock<L>, step: Step<L>) -> Answer<L>
-        ensures follows { self.new ≡ part_behind (done_as «step» result ∷ []) self.old }
+        ensures follows { self.new ≡ part_after_all (done_as «step» result ∷ []) self.old }
         ensures fits { AnswerFits «step» result }
     {
         let mut stripe = lock.stripe.lock(rt);

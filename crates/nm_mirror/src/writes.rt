@@ -1,5 +1,5 @@
 //! What a client writes through its pass.
-ghost use Rattle.std.specs.Prelude.{◌≡◌, ◌*◌, ◌%◌, length, IfErr, OnOk};
+ghost use Rattle.std.specs.Prelude.{◌≡◌, ◌*◌, ◌%◌, length, IfErr, IsOk, OnOk};
 ghost use Rattle.nm_geometry.specs.Pieces.{LiesInside, pieces_of};
 ghost use Rattle.nm_lanes.specs.Cuts.{cuts_for, zeroes_for};
 ghost use Rattle.nm_lanes.specs.Writes.{HasWritten, HasWrittenSome, FailsWriting};
@@ -37,6 +37,7 @@ impl<L: LegPart, G: Gate + Drop> Mirror<L, G> {
         ensures ok { OnOk result (HasWritten {L = L} Follows self.now.shape
             (cuts_for (pieces_of (record { offset = offset; length = length payload })) payload)
             (pass.old.parts.items, pass.new.parts.items)) }
+        ensures nothing { length payload ≡ 0 → IsOk result }
         ensures err { IfErr result (FailsWriting {L = L} Follows self.now.shape
             (cuts_for (pieces_of (record { offset = offset; length = length payload })) payload)
             (pass.old.parts.items, pass.new.parts.items)) }
@@ -70,6 +71,7 @@ impl<L: LegPart, G: Gate + Drop> Mirror<L, G> {
         ensures ok { OnOk result (HasWritten {L = L} Follows self.now.shape
             (cuts_for (pieces_of (record { offset = 512 * from; length = length payload }))
             payload) (pass.old.parts.items, pass.new.parts.items)) }
+        ensures nothing { length payload ≡ 0 → IsOk result }
         ensures err { IfErr result (FailsWriting {L = L} Follows self.now.shape
             (cuts_for (pieces_of (record { offset = 512 * from; length = length payload }))
             payload) (pass.old.parts.items, pass.new.parts.items)) }

@@ -2,7 +2,7 @@
 ghost use Rattle.std.specs.Prelude.{◌≡◌, [], ◌∷◌, length};
 ghost use Rattle.nm_lanes.specs.Done.{done_as};
 ghost use Rattle.nm_lanes.specs.Fits.{AnswerFits};
-ghost use Rattle.nm_mirror.specs.Counting.{part_behind};
+ghost use Rattle.nm_mirror.specs.Counting.{part_after_all};
 
 use nm_lanes::{Lane, StepKind};
 use nm_leg::FuseLeg;
@@ -94,7 +94,7 @@ impl Lane<FuseLeg, Door> for NoteLane {
     ghost follows = { Follows };
 
     fn step<R: Wait>(&mut self, rt: &R, lock: &Door, step: Step<FuseLeg>) -> Answer<FuseLeg>
-        ensures follows { self.new ≡ part_behind (done_as «step» result ∷ []) self.old }
+        ensures follows { self.new ≡ part_after_all (done_as «step» result ∷ []) self.old }
         ensures fits { AnswerFits «step» result }
     {
         let kind = StepKind::of(&step);
