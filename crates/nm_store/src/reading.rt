@@ -1,5 +1,5 @@
 //! Which leg a read takes, and the changes of a read: a leg is called, and the entry is kept.
-ghost use Rattle.std.specs.Prelude.{◌≡◌, ◌<◌, ◌^◌, length, is_ok, Some};
+ghost use Rattle.std.specs.Prelude.{◌≡◌, ◌<◌, ◌^◌, [], length, is_ok, Some};
 ghost use Rattle.nm_leg.specs.Leg.{leg_type};
 ghost use Rattle.nm_leg.specs.LegCalls.{HasBlock, ReadsLegAt};
 ghost use Rattle.nm_rules.specs.State.{next_number, is_quiet};
@@ -13,18 +13,18 @@ use nm_leg::{LegFault, LegPart, read_leg_at};
 use nm_regions::LEGS;
 use nm_replay::{Block, Entry, Kind};
 
-/// The numbers of the places that are true, by rising number.
+/// Adds the numbers of the places that are true to an empty list, by rising number. The list is
+/// filled where it lies: a move right after stores of single bytes stalls the processor.
 #[inline(always)]
-fn true_places(places: &[bool; LEGS]) -> ArrayVec<u8, LEGS>
-    ensures { result.items ≡ true_from 0 places.now }
+fn add_true_places(places: &[bool; LEGS], numbers: &mut ArrayVec<u8, LEGS>)
+    requires { numbers.old.items ≡ [] }
+    ensures { numbers.new.items ≡ true_from 0 places.now }
 {
-    let mut numbers = ArrayVec::new();
     for place in 0..LEGS {
         if places[place] {
             numbers.push(place as u8);
         }
     }
-    numbers
 }
 
 impl<L: LegPart> Store<L> {
@@ -38,7 +38,8 @@ impl<L: LegPart> Store<L> {
     {
         let region = self.regions.region_of(block);
         let quiet = self.regions.is_quiet(region);
-        let current = true_places(&self.regions.targets(block));
+        let mut current = ArrayVec::new();
+        add_true_places(&self.regions.targets(block), &mut current);
         let leg = pick(self.policy, self.turn, region, &current, self.master, quiet);
         ReadChoice { leg, quiet }
     }

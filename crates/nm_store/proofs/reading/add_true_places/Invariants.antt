@@ -2,7 +2,7 @@
 use Rattle.std.proofs.Common.{◌≡◌, ◌≤◌, ◌++◌, drop}
 use Rattle.arrayvec.specs.ArrayVec.{array_vec_len}
 use Rattle.nm_rules.specs.Read.{true_from}
-use Rattle.nm_store.proofs.reading.true_places.Given as goal
+use Rattle.nm_store.proofs.reading.add_true_places.Given as goal
 
 abbrev pub invariant-loop-place : goal.invariant-loop-place
 invariant-loop-place l =
