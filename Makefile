@@ -3,12 +3,13 @@ RT ?= rt
 export RT
 
 .DEFAULT_GOAL := help
-.PHONY: help run script demo interop check gate-cost must-fail wrong-bodies fail-alloc bench bench-server fmt
+.PHONY: help run script demo interop hostile check gate-cost must-fail wrong-bodies fail-alloc bench bench-server fmt
 
 help:
 	@echo 'make run           build nbdmirror and serve two legs of 64 MiB, until a quit'
 	@echo 'make demo          build nbdmirror and show it: a leg fails, comes back, and is copied'
 	@echo 'make interop       other programs against nbdmirror; installs what is missing'
+	@echo 'make hostile       clients, legs and crashes that do harm, for about half an hour; FORM=short for a minute or two'
 	@echo 'make script        build nm_script and run it on the example script'
 	@echo 'make check         the whole gate: every proof from nothing, every must-fail edit, every test'
 	@echo 'make gate-cost     the gate, with what each crate costs written into docs/ARCHITECTURE.md'
@@ -27,6 +28,9 @@ demo:
 
 interop:
 	@tools/build-server && interop/run
+
+hostile:
+	@tools/build-server && interop/hostile/run
 
 script:
 	@echo 'The first time this proves nm_script and what it stands on, which takes about 5 minutes on 4 cores.' >&2

@@ -15,15 +15,20 @@ fail() {
     exit 1
 }
 
-# Fails where a command is not there.
+# Ends with the status that says so where a command is not there.
 need() {
     for tool in "$@"; do
-        command -v "$tool" > /dev/null || fail "$tool is not installed"
+        command -v "$tool" > /dev/null || { echo "  $tool is not installed" >&2; exit 77; }
     done
 }
 
+# A port below those that the system hands out, so that no client takes it meanwhile.
 free_port() {
-    python3 -c 'import socket; s = socket.socket(); s.bind(("127.0.0.1", 0)); print(s.getsockname()[1])'
+    local port
+    while :; do
+        port=$((15000 + RANDOM % 17000))
+        (exec 3<> "/dev/tcp/127.0.0.1/$port") 2> /dev/null || { echo "$port"; return; }
+    done
 }
 
 # Makes $legs files of zeroes.
@@ -38,18 +43,22 @@ make_legs() {
 # start OPTIONS..: starts the server on the legs and waits until it listens. $on is the address that it
 # listens on, if not the loopback.
 start() {
-    port=$(free_port)
-    control=$(free_port)
-    uri=nbd://127.0.0.1:$port/disk
-    export NBDMIRROR_CONTROL=127.0.0.1:$control
-    : > "$room/out"
-    "$program" --listen "${on:-127.0.0.1}:$port" --control "${on:-127.0.0.1}:$control" "$@" "${files[@]}" \
-        > "$room/out" 2> "$room/err" &
-    server=$!
-    for _ in $(seq 100); do
-        grep -q '^control on' "$room/out" 2> /dev/null && return 0
-        kill -0 "$server" 2> /dev/null || break
-        sleep 0.1
+    for _ in 1 2 3 4 5; do
+        port=$(free_port)
+        control=$(free_port)
+        uri=nbd://127.0.0.1:$port/disk
+        export NBDMIRROR_CONTROL=127.0.0.1:$control
+        : > "$room/out"
+        "$program" --listen "${on:-127.0.0.1}:$port" --control "${on:-127.0.0.1}:$control" "$@" "${files[@]}" \
+            > "$room/out" 2> "$room/err" &
+        server=$!
+        until grep -q '^control on' "$room/out"; do
+            kill -0 "$server" 2> /dev/null || break
+            sleep 0.1
+        done
+        kill -0 "$server" 2> /dev/null && return 0
+        # another program has taken the port meanwhile
+        grep -q 'cannot listen' "$room/err" || break
     done
     fail "the server does not start: $(cat "$room/err")"
 }

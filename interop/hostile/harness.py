@@ -1,0 +1,350 @@
+"""What the hostile scripts share: a server in a folder of its own, and a client that speaks bare NBD.
+
+It needs nothing but an interpreter's standard library. The program is crates/nbdmirror/out/nbdmirror,
+or what NBDMIRROR names. FORM is `short` or `long`.
+"""
+import os
+import random
+import re
+import resource
+import shutil
+import signal
+import socket
+import struct
+import subprocess
+import sys
+import tempfile
+import time
+
+TOP = os.path.dirname(os.path.dirname(os.path.dirname(os.path.abspath(__file__))))
+PROGRAM = os.path.abspath(os.environ.get("NBDMIRROR", f"{TOP}/crates/nbdmirror/out/nbdmirror"))
+FORM = os.environ.get("FORM", "short")
+BLOCK = 512
+MIB = 1 << 20
+
+REQUEST, REPLY = 0x25609513, 0x67446698
+READ, WRITE, DISC, FLUSH, TRIM, WRITE_ZEROES = 0, 1, 2, 3, 4, 6
+FUA = 1
+EIO, ENOMEM = 5, 12
+
+# A script that is told to stop ends its server first.
+signal.signal(signal.SIGTERM, lambda *_: sys.exit(1))
+
+
+def scale(short, long):
+    """How much of something the asked form does."""
+    return long if FORM == "long" else short
+
+
+def figure(text):
+    """A line with what was measured."""
+    print(f"  {text}", flush=True)
+
+
+def machine_is_busy():
+    """Whether more threads want to run than there are processors."""
+    return os.getloadavg()[0] > len(os.sched_getaffinity(0))
+
+
+def not_run(why):
+    """Leaves with the status that says that this could not be tried here."""
+    print(f"  {why}", flush=True)
+    sys.exit(77)
+
+
+def wait_until(holds, seconds, what):
+    """Waits until holds() is true."""
+    end = time.monotonic() + seconds
+    while not holds():
+        assert time.monotonic() < end, f"not within {seconds} seconds: {what}"
+        time.sleep(0.05)
+
+
+def free_port():
+    """A port below those that the system hands out, so that no client takes it meanwhile."""
+    while True:
+        port = random.randrange(15000, 32000)
+        with socket.socket() as trial:
+            try:
+                trial.bind(("127.0.0.1", port))
+                return port
+            except OSError:
+                pass
+
+
+class Server:
+    """A running nbdmirror over leg files that it makes where they are not there."""
+
+    def __init__(self, legs=1, size=8 * MIB, options=(), address_space=None, one_arena=False,
+                 folders=None):
+        self.room = tempfile.mkdtemp(prefix="hostile-")
+        self.files = [f"{(folders or {}).get(n, self.room)}/leg{n}" for n in range(legs)]
+        for name in self.files:
+            if not os.path.exists(name):
+                with open(name, "wb") as file:
+                    file.truncate(size)
+        self.size = size
+        self.options = list(options)
+        self.address_space = address_space
+        self.one_arena = one_arena
+        self.process = None
+
+    def __enter__(self):
+        try:
+            self.start()
+        except BaseException:
+            self.__exit__()
+            raise
+        return self
+
+    def __exit__(self, *_):
+        if self.process:
+            self.kill()
+        shutil.rmtree(self.room, ignore_errors=True)
+
+    def errors(self):
+        """What the server has written on standard error."""
+        with open(f"{self.room}/err", encoding="utf-8", errors="replace") as file:
+            return file.read()
+
+    def start(self, *options):
+        """Starts it and waits until it listens."""
+        for _ in range(5):
+            if self.try_start(options):
+                return
+        raise AssertionError(f"the server does not start: {self.errors()}")
+
+    def try_start(self, options):
+        self.port, self.control_port = free_port(), free_port()
+        words = [PROGRAM, "--listen", f"127.0.0.1:{self.port}",
+                 "--control", f"127.0.0.1:{self.control_port}", *self.options, *options, *self.files]
+
+        def bound():
+            if self.address_space:
+                resource.setrlimit(resource.RLIMIT_AS, (self.address_space,) * 2)
+
+        # One arena, so that address space is what is used, and not what threads set aside.
+        own = {**os.environ, "MALLOC_ARENA_MAX": "1"} if self.one_arena else None
+
+        with open(f"{self.room}/out", "wb") as out, open(f"{self.room}/err", "wb") as err:
+            self.process = subprocess.Popen(words, stdin=subprocess.DEVNULL, stdout=out, stderr=err,
+                                            preexec_fn=bound, env=own)
+        end = time.monotonic() + 60
+        while time.monotonic() < end and self.process.poll() is None:
+            with open(f"{self.room}/out", encoding="utf-8") as file:
+                if "control on" in file.read():
+                    return True
+            time.sleep(0.02)
+        status = self.process.poll()
+        self.kill()
+        assert status == 4, f"the server ends with status {status} as it starts: {self.errors()}"
+        return False
+
+    def kill(self):
+        """Ends it as a crash would."""
+        if self.process.poll() is None:
+            self.process.kill()
+        self.process.wait()
+        self.process = None
+
+    def quit(self, seconds=60):
+        """Ends it by the control port; all clients have left."""
+        assert self.control("quit") == ["bye"]
+        status = self.process.wait(seconds)
+        assert status == 0, f"the server ends with status {status}: {self.errors()}"
+        self.process = None
+
+    def check_alive(self, seconds=30):
+        """It must still run and serve, once it has a place."""
+        wait_until(self.serves, seconds, "a new client is served")
+
+    def serves(self):
+        """Whether a new client is served. False where no place is free."""
+        status = self.process.poll()
+        assert status is None, f"the server has ended with status {status}: {self.errors()}"
+        try:
+            client = Client(self.port)
+        except ConnectionResetError:
+            return False
+        with client:
+            client.call(READ, 0, BLOCK)
+            client.leave()
+        return True
+
+    def control(self, line):
+        """The lines of an answer of the control port."""
+        with socket.create_connection(("127.0.0.1", self.control_port), timeout=60) as stream:
+            stream.sendall(line.encode() + b"\n")
+            lines = stream.makefile("r", encoding="ascii", newline="\n")
+            found = [lines.readline().rstrip("\n")]
+            while line == "status" and found[-1] != "end":
+                found.append(lines.readline().rstrip("\n"))
+            return found
+
+    def legs(self):
+        """For each stripe the words of its legs: in, out, join(N). A stripe that stopped has none."""
+        found = []
+        for line in self.control("status")[:-1]:
+            words = line.split(" legs ")
+            found.append(words[1].split() if len(words) == 2 else [])
+        return found
+
+    def in_sync(self, leg):
+        """Whether a leg is in sync in each stripe."""
+        return all(words and words[leg] == "in" for words in self.legs())
+
+    def is_out(self, leg):
+        """Whether a leg is out in some stripe."""
+        return any(words and words[leg] == "out" for words in self.legs())
+
+    def blocks_left(self):
+        """How many blocks the joining legs still lack."""
+        return sum(int(count) for words in self.legs() for word in words
+                   for count in re.findall(r"join\((\d+)\)", word))
+
+    def wait_for_copy(self, seconds=120):
+        """Waits until no leg is being copied."""
+        wait_until(lambda: not any("join" in word for words in self.legs() for word in words),
+                   seconds, "the end of a copy")
+
+    def heal(self, leg, seconds=120):
+        """Attaches a leg and waits until it is in sync."""
+        self.control(f"attach {leg}")
+        self.wait_for_copy(seconds)
+        assert self.in_sync(leg), f"leg {leg} is not in sync: {self.legs()}"
+
+    def used(self):
+        """Threads, descriptors, and memory in KiB."""
+        with open(f"/proc/{self.process.pid}/status", encoding="ascii") as file:
+            fields = dict(line.split(":", 1) for line in file)
+        return (int(fields["Threads"]), len(os.listdir(f"/proc/{self.process.pid}/fd")),
+                int(fields["VmRSS"].split()[0]))
+
+    def used_at_rest(self, seconds=60):
+        """What is used once threads and descriptors have stayed the same for half a second."""
+        end, last, since = time.monotonic() + seconds, None, 0.0
+        while time.monotonic() < end:
+            now = self.used()
+            if last is None or now[:2] != last[:2]:
+                last, since = now, time.monotonic()
+            elif time.monotonic() - since > 0.5:
+                return now
+            time.sleep(0.05)
+        raise AssertionError(f"the server does not come to rest: {self.used()}")
+
+    def address_space_used(self):
+        """The address space in bytes."""
+        with open(f"/proc/{self.process.pid}/statm", encoding="ascii") as file:
+            return int(file.read().split()[0]) * resource.getpagesize()
+
+    def wait_for_use(self, before, more_memory, seconds=60):
+        """Waits until threads and descriptors are as before, and memory at most so much (KiB) above."""
+        def is_as_before():
+            now = self.used()
+            return now[:2] == before[:2] and now[2] <= before[2] + more_memory
+        try:
+            wait_until(is_as_before, seconds, "threads, descriptors and memory as before")
+        except AssertionError:
+            raise AssertionError(f"before {before}, now {self.used()}") from None
+        return self.used()
+
+    def check_legs_equal(self):
+        """All legs' files must hold the same bytes."""
+        for other in self.files[1:]:
+            assert subprocess.run(["cmp", self.files[0], other], check=False).returncode == 0
+
+
+def request(kind, offset, length, payload=b"", cookie=7, flags=0):
+    """The bytes of a request."""
+    return struct.pack(">IHHQQI", REQUEST, flags, kind, cookie, offset, length) + payload
+
+
+def option(number, payload=b""):
+    """The bytes of an option of the handshake."""
+    return b"IHAVEOPT" + struct.pack(">II", number, len(payload)) + payload
+
+
+GREETING = b"NBDMAGICIHAVEOPT\0\3"
+GO = option(7, struct.pack(">I", 4) + b"disk" + b"\0\0")
+HANDSHAKE = struct.pack(">I", 3) + GO
+
+
+class Refused(Exception):
+    """A request was answered with an error."""
+
+    def __init__(self, error):
+        super().__init__(f"error {error}")
+        self.error = error
+
+
+class Client:
+    """A session after its handshake. Requests may be sent ahead; a reply is told by its cookie."""
+
+    def __init__(self, port, timeout=60.0):
+        self.socket = socket.create_connection(("127.0.0.1", port), timeout=timeout)
+        self.socket.setsockopt(socket.IPPROTO_TCP, socket.TCP_NODELAY, 1)
+        self.input = self.socket.makefile("rb", buffering=1 << 18)
+        self.lengths = {}
+        self.cookie = 0
+        try:
+            assert self.take(18) == GREETING
+            self.socket.sendall(HANDSHAKE)
+            kind = 0
+            while kind != 1:
+                _, _, kind, length = struct.unpack(">QIII", self.take(20))
+                self.take(length)
+        except BaseException:
+            self.close()
+            raise
+
+    def __enter__(self):
+        return self
+
+    def __exit__(self, *_):
+        self.close()
+
+    def close(self):
+        """Leaves without a word."""
+        self.input.close()
+        self.socket.close()
+
+    def leave(self):
+        """Leaves by a DISC, and waits for the server to close."""
+        self.socket.sendall(request(DISC, 0, 0))
+        assert self.input.read(1) == b""
+        self.close()
+
+    def take(self, count):
+        """So many bytes of the server's."""
+        found = self.input.read(count)
+        if len(found) < count:
+            raise ConnectionResetError("the server closed the connection")
+        return found
+
+    def prepare(self, kind, offset, length, payload=b"", flags=0):
+        """The bytes of a request whose reply is then expected, and its cookie."""
+        self.cookie += 1
+        self.lengths[self.cookie] = length if kind == READ else 0
+        return request(kind, offset, length, payload, self.cookie, flags), self.cookie
+
+    def send(self, *words, **more):
+        """Sends a request and returns its cookie."""
+        text, cookie = self.prepare(*words, **more)
+        self.socket.sendall(text)
+        return cookie
+
+    def receive(self):
+        """The next reply: cookie, error and a READ's bytes."""
+        magic, error, cookie = struct.unpack(">IIQ", self.take(16))
+        assert magic == REPLY, f"a reply begins with {magic:08x}"
+        length = self.lengths.pop(cookie)
+        return cookie, error, self.take(length) if error == 0 else b""
+
+    def call(self, *words, **more):
+        """A request and its reply, with nothing else outstanding."""
+        cookie = self.send(*words, **more)
+        found, error, payload = self.receive()
+        assert found == cookie, f"cookie {found} for {cookie}"
+        if error:
+            raise Refused(error)
+        return payload
