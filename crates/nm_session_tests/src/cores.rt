@@ -3,6 +3,7 @@
 
 ghost use Rattle.std.specs.Prelude.{◌≤◌};
 
+use bytes::Bytes;
 use nm_requests::Task;
 use nm_session::{EndedBy, Next, Outcome, Phase, Refused, SessionCore};
 use nm_wire::{Export, Name};
@@ -356,6 +357,50 @@ fn holds_no_more_than_its_limit(rt: HostRuntime) -> Result<(), Fail> {
     Ok(())
 }
 
+// A WRITE of 512 bytes of one kind, at 512 times its cookie.
+fn put_write(out: &mut Vec<u8>, cookie: u64, byte: u8) -> Result<(), AllocError> {
+    out.extend_from_slice(b"\x25\x60\x95\x13\0\0\0\x01")?;
+    out.extend_from_slice(&cookie.to_be_bytes())?;
+    out.extend_from_slice(&cookie.wrapping_mul(512).to_be_bytes())?;
+    out.extend_from_slice(b"\0\0\x02\0")?;
+    out.extend_from_slice(&[byte; 512])
+}
+
+// Sends a WRITE, and gives the payload that is issued with it.
+fn issue_write(
+    rt: &impl Abort,
+    alloc: Global,
+    core: &mut Client,
+    (index, byte): (u64, u8),
+) -> Result<Bytes, Fail> {
+    let mut text = Vec::new(alloc);
+    put_write(&mut text, index, byte)?;
+    core.feed(alloc, text.as_slice())?;
+    match core.next(alloc)? {
+        Next::Issue(found, _, payload) => {
+            assert_eq!(rt; found, index);
+            Ok(payload)
+        }
+        _ => Err(Fail::from("no request was issued")),
+    }
+}
+
+#[test]
+fn a_payload_outlives_a_hundred_more_writes(rt: HostRuntime) -> Result<(), Fail> {
+    let alloc = rt.alloc();
+    let mut core = Client::new(alloc, 2)?;
+    core.begin(&rt, alloc)?;
+    let first = issue_write(&rt, alloc, &mut core, (0, 0xaa))?;
+    for byte in 1..101u8 {
+        let index = u64::from(byte);
+        let payload = issue_write(&rt, alloc, &mut core, (index, byte))?;
+        assert!(rt; payload.as_slice() == [byte; 512].as_slice());
+        core.expect_answered(&rt, alloc, index, 5);
+    }
+    assert!(rt; first.as_slice() == [0xaa; 512].as_slice());
+    Ok(())
+}
+
 // Feeds a piece, and once more where it ran out of memory.
 fn feed_again(alloc: Global, core: &mut Client, piece: &[u8]) -> Result<(), Refused> {
     match core.feed(alloc, piece) {
@@ -372,11 +417,53 @@ fn next_again(alloc: Global, core: &mut Client) -> Result<Next, Refused> {
     }
 }
 
-// Run with each allocation failing in turn: a piece that was refused and is fed again is answered as
-// if nothing had been, in the haggling and after it.
+// Answers the next request, which has this index and payload, once more where that ran out of
+// memory.
+fn answer_again(
+    rt: &impl Abort,
+    alloc: Global,
+    core: &mut Client,
+    (index, payload): (u64, &[u8]),
+    outcome: Outcome,
+) -> Result<(), Refused> {
+    match next_again(alloc, core)? {
+        Next::Issue(found, _, bytes) => {
+            assert!(rt; found == index && bytes.as_slice() == payload);
+        }
+        _ => assert!(rt; false),
+    }
+    let answered = match core.answer(rt, alloc, index, outcome) {
+        Err((Refused::Memory, outcome)) => core.answer(rt, alloc, index, outcome),
+        answer => answer,
+    };
+    assert!(rt; answered.is_ok());
+    Ok(())
+}
+
+// The client's requests, the bytes that its READ finds, and what goes out to them: a request of
+// nothing, a WRITE, a READ and a DISC.
+fn requests(alloc: Global) -> Result<(Vec<u8>, Vec<u8>, Vec<u8>), AllocError> {
+    let mut text = Vec::new(alloc);
+    text.extend_from_slice(&NOTHING)?;
+    put_write(&mut text, 0x11, 0xaa)?;
+    put_read(&mut text, 0x12, 512, 512)?;
+    text.extend_from_slice(&DISC)?;
+    let found = [0xaa; 512].as_slice().to_vec(alloc)?;
+    let mut out = Vec::new(alloc);
+    put_reply(&mut out, 0x98, &[])?;
+    put_reply(&mut out, 0x11, &[])?;
+    put_reply(&mut out, 0x12, found.as_slice())?;
+    Ok((text, found, out))
+}
+
+// Run with each allocation failing in turn: what was refused for memory and is asked again is
+// answered as if nothing had been, in the haggling and after it.
 #[test]
 fn no_memory_for_a_piece_is_forgotten(rt: HostRuntime) -> Result<(), Fail> {
     let alloc = rt.alloc();
+    let Ok((text, found, out)) = requests(alloc) else {
+        return Ok(());
+    };
     let Ok(mut core) = Client::new(alloc, 1) else {
         return Ok(());
     };
@@ -384,12 +471,14 @@ fn no_memory_for_a_piece_is_forgotten(rt: HostRuntime) -> Result<(), Fail> {
         feed_again(alloc, &mut core, piece)?;
     }
     assert!(rt; core.take_out().as_slice() == DESCRIBED.as_slice());
-    for piece in NOTHING.chunks(10) {
+    for piece in text.chunks(200) {
         feed_again(alloc, &mut core, piece)?;
     }
-    assert!(rt; matches!(next_again(alloc, &mut core)?, Next::Starved));
-    assert!(rt; Some(core.take_out().as_slice()) == REPLIES.get(..16));
-    assert_eq!(rt; core.count(), 1);
+    answer_again(&rt, alloc, &mut core, (1, &[0xaa; 512]), Outcome::Done)?;
+    answer_again(&rt, alloc, &mut core, (2, &[]), Outcome::Data(found))?;
+    assert!(rt; matches!(next_again(alloc, &mut core)?, Next::Ended));
+    assert!(rt; core.take_out().as_slice() == out.as_slice());
+    assert_eq!(rt; core.count(), 4);
     Ok(())
 }
 

@@ -70,8 +70,8 @@ fn refuses_options_and_haggles_on(rt: HostRuntime) -> Result<(), Fail> {
     let options: [&[u8]; 4] = [&FLAGS, &LIST_WITH_DATA, &STRUCTURED_REPLY, &GO];
     let out: [&[u8]; 4] = [&GREETING, &INVALID_LIST, &UNSUPPORTED, &DESCRIBED];
     expect_however_cut(&rt, rt.alloc(), &options, &out, End::EndOfInput)?;
-    let too_short: [&[u8]; 2] = [&FLAGS, &GO_TOO_SHORT];
-    let invalid: [&[u8]; 2] = [&GREETING, &INVALID_GO];
+    let too_short: [&[u8]; 3] = [&FLAGS, &GO_TOO_SHORT, &GO];
+    let invalid: [&[u8]; 3] = [&GREETING, &INVALID_GO, &DESCRIBED];
     expect_however_cut(&rt, rt.alloc(), &too_short, &invalid, End::EndOfInput)?;
     Ok(())
 }
