@@ -3,6 +3,7 @@
 # A script ends with status 0, with 77 where something that it needs is not on this machine, and with
 # anything else where it fails. BUDGET bounds all of them together, in seconds. Where NOT_TRIED=told, a
 # script that could not be tried is told and counted as neither passed nor failed; else it has failed.
+# Where TRIES=2, a script that failed is run once more, and that it was is told.
 passed=0 failed=0 not_tried=
 
 # try NAME SECONDS COMMAND..
@@ -17,6 +18,11 @@ try() {
     fi
     timeout -k 10 "$((left < limit ? left : limit))" "$@" 2>&1
     status=$?
+    if [ "$status" != 0 ] && [ "$status" != 77 ] && [ "${TRIES:-1}" -gt 1 ]; then
+        echo "$name: failed with status $status after $((SECONDS - started)) s; tried once more"
+        timeout -k 10 "$limit" "$@" 2>&1
+        status=$?
+    fi
     if [ "$status" = 0 ]; then
         passed=$((passed + 1))
         echo "$name: passed, $((SECONDS - started)) s"
