@@ -1,5 +1,5 @@
 //! A session's first part: the haggling over its export, before any thread is started.
-ghost use Rattle.std.specs.Prelude.{◌≡◌, ◌<◌, [], length, IfOk, IfErr};
+ghost use Rattle.std.specs.Prelude.{◌≡◌, ◌<◌, [], length, None, IfOk, IfErr};
 ghost use Rattle.nm_replies.specs.Sending.{device_of};
 ghost use Rattle.nm_workers.specs.Serving.{wires, Greets, Breaks};
 
@@ -9,9 +9,9 @@ use std::alloc::Global;
 use std::io::{Read, Write};
 use std::sync::Wait;
 
-// Haggles until transmission begins, where it answers `None`, or the session ends, and sends all
-// that is to go out.
-pub(crate) fn greet<R: Wait, I: Read, O: Write>(
+/// Haggles over the export, from the greeting until transmission begins, where it answers `None`, or
+/// the session ends, and sends all that is to go out.
+pub fn greet<R: Wait, I: Read, O: Write>(
     rt: &R,
     alloc: Global,
     core: &mut SessionCore,
@@ -24,6 +24,8 @@ pub(crate) fn greet<R: Wait, I: Read, O: Write>(
     ensures ok { IfOk result (λ served. Greets served core.old core.new
         (wires (I.remaining reader.old) (O.contents (device_of sender.old)))
         (wires (I.remaining reader.new) (O.contents (device_of sender.new)))) }
+    ensures export { IfOk result (λ served. served ≡ None
+        → core.new.haggling.export ≡ core.old.haggling.export) }
     ensures err { IfErr result (λ fault. Breaks fault core.old (I.remaining reader.old)
         (O.contents (device_of sender.old)) (O.contents (device_of sender.new))) }
 {

@@ -6,7 +6,8 @@
 #![tactic(auto)]
 
 pub use finished::Finished;
-pub use serving::serve_many;
+pub use greeting::greet;
+pub use serving::{serve_many, transmit};
 
 mod answering;
 mod attended;

@@ -90,7 +90,7 @@ where
         };
     };
     match greet(rt, alloc, &mut core, &mut room, &mut reader, &mut sender) {
-        Ok(None) => serve_requests::<Brand, R, I, O, T>(rt, alloc, core, reader, sender, targets),
+        Ok(None) => transmit(rt, alloc, core, reader, sender, targets),
         Ok(Some(served)) => Finished {
             result: Ok(served),
             sender,
@@ -100,4 +100,30 @@ where
             sender,
         },
     }
+}
+
+/// Serves the requests of a session whose haggling has ended, up to its end, as `serve_many` does.
+///
+/// A program that does something between the two parts, as to clear a timeout, calls `greet` and
+/// then this. Over no target the first request that needs one breaks the session off.
+pub fn transmit<R, I, O, T>(
+    rt: &R,
+    alloc: Global,
+    core: SessionCore,
+    reader: I,
+    sender: ReplyWriter<O>,
+    targets: Vec<T>,
+) -> Finished<O>
+where
+    R: Threads + Wait + Sync,
+    I: Read + Send + Drop,
+    O: Write + Drop,
+    T: Target + Send + Drop,
+    requires size { All (λ target. size_of core.haggling.export ≤ T.size target) targets.items }
+    ensures ok { IfOk result.result (λ served. Ends served core (I.remaining reader)
+        (O.contents (device_of sender)) (O.contents (device_of result.sender))) }
+    ensures err { IfErr result.result (λ fault. Breaks fault core (I.remaining reader)
+        (O.contents (device_of sender)) (O.contents (device_of result.sender))) }
+{
+    serve_requests::<Brand, R, I, O, T>(rt, alloc, core, reader, sender, targets)
 }

@@ -11,8 +11,8 @@ pub returns-in_default-clause-err : goal.returns-in_default-clause-err
 returns-in_default-clause-err g c =
     breaks_at_once c.args.core (g.I.Read.remaining c.args.reader) (g.O.Write.contents (device_of c.args.sender))
 
-pub serve_requests-requires-clause-sizes : goal.serve_requests-requires-clause-sizes
-serve_requests-requires-clause-sizes g c κs within =
+pub transmit-requires-clause-size : goal.transmit-requires-clause-size
+transmit-requires-clause-size g c κs within =
     let greets : Greets None c.args.core c.greet.new.core
     (wires (g.I.Read.remaining c.args.reader) (g.O.Write.contents (device_of c.args.sender)))
     (wires (g.I.Read.remaining c.greet.new.reader) (g.O.Write.contents (device_of c.greet.new.sender))) =
@@ -24,22 +24,22 @@ pub returns-in-Ok-None-clause-ok : goal.returns-in-Ok-None-clause-ok
 returns-in-Ok-None-clause-ok g c =
     let u = wires (g.I.Read.remaining c.args.reader) (g.O.Write.contents (device_of c.args.sender)) in
     let v = wires (g.I.Read.remaining c.greet.new.reader) (g.O.Write.contents (device_of c.greet.new.sender)) in
-    let written = g.O.Write.contents (device_of c.serve_requests.result.sender) in
+    let written = g.O.Write.contents (device_of c.transmit.result.sender) in
     let greets : Greets None c.args.core c.greet.new.core u v =
     rw c.in-Ok-None.field-0-is at c.in-Ok-None.ensures.ok in
-    if_ok c.serve_requests.result.result (λ served. Ends served c.greet.new.core v.input v.output written)
+    if_ok c.transmit.result.result (λ served. Ends served c.greet.new.core v.input v.output written)
     (λ served. Ends served c.args.core u.input u.output written)
     (λ served ends. ends_on served c.args.core c.greet.new.core u v written greets.0 ends)
-    c.serve_requests.ensures.ok
+    c.transmit.ensures.ok
 
 pub returns-in-Ok-None-clause-err : goal.returns-in-Ok-None-clause-err
 returns-in-Ok-None-clause-err g c =
     let u = wires (g.I.Read.remaining c.args.reader) (g.O.Write.contents (device_of c.args.sender)) in
     let v = wires (g.I.Read.remaining c.greet.new.reader) (g.O.Write.contents (device_of c.greet.new.sender)) in
-    let written = g.O.Write.contents (device_of c.serve_requests.result.sender) in
+    let written = g.O.Write.contents (device_of c.transmit.result.sender) in
     let greets : Greets None c.args.core c.greet.new.core u v =
     rw c.in-Ok-None.field-0-is at c.in-Ok-None.ensures.ok in
-    if_err c.serve_requests.result.result (λ found. Breaks found c.greet.new.core v.input v.output written)
+    if_err c.transmit.result.result (λ found. Breaks found c.greet.new.core v.input v.output written)
     (λ found. Breaks found c.args.core u.input u.output written)
     (λ found breaks. breaks_on found c.args.core c.greet.new.core u v written greets.0 breaks)
-    c.serve_requests.ensures.err
+    c.transmit.ensures.err
