@@ -9,3 +9,4 @@ pub mod LeftLaws
 pub mod Dirtied
 pub mod GoneOut
 pub mod OutLaws
+pub mod Aside

@@ -48,6 +48,14 @@ gone_out leg t =
 abbrev pub all_marked : ℕ → RegionTable → RegionTable
 all_marked leg t = with_leg leg_flags.all_marked leg t
 
+-- the region is behind for the leg
+abbrev pub marked : ℕ → ℕ → RegionTable → RegionTable
+marked leg region t = with_leg (leg_flags.marked region) leg t
+
+-- every leg is set aside until it is compared
+abbrev pub all_set_aside : RegionTable → RegionTable
+all_set_aside t = record t { legs = map leg_flags.set_aside t.legs }
+
 -- the leg is not out any more, and its regions are as they were
 abbrev pub attached : ℕ → RegionTable → RegionTable
 attached leg t = with_leg leg_flags.attached leg t

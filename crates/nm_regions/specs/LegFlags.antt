@@ -55,6 +55,10 @@ marked_if_out region leg = if leg.out then marked region leg else leg
 abbrev pub all_marked : LegRegions → LegRegions
 all_marked leg = record leg { behind = replicate (length leg.behind) true }
 
+-- the leg set aside until it is compared: it is out, and behind nowhere
+abbrev pub set_aside : LegRegions → LegRegions
+set_aside leg = record { out = true; behind = replicate (length leg.behind) false }
+
 -- the leg once this region is no longer behind
 abbrev pub cleared : ℕ → LegRegions → LegRegions
 cleared region leg = record leg { behind = slice_set leg.behind region false }

@@ -1,5 +1,5 @@
 ghost use Rattle.std.specs.Prelude.{◌≡◌, ◌<◌, ◌≤◌, ◌^◌, length, map, replicate, All, Some, IsTrue, IsFalse, IfOk};
-ghost use Rattle.nm_regions.specs.LegFlags.{opened_leg, is_behind, lowest_behind, has_behind, dirty_marked, gone_out, attached, marked, marked_if_out, all_marked, cleared};
+ghost use Rattle.nm_regions.specs.LegFlags.{opened_leg, is_behind, lowest_behind, has_behind, dirty_marked, gone_out, attached, marked, marked_if_out, all_marked, set_aside, cleared};
 ghost use Rattle.nm_regions.specs.Links.{behind_count, before_lowest, AreLinks};
 
 use std::alloc::{AllocError, Global};
@@ -141,6 +141,15 @@ impl LegFlags {
         self.behind.fill(true);
     }
 
+    /// The leg is out, and behind nowhere, until it is compared. Goes over all regions.
+    pub(crate) fn set_aside(&mut self)
+        ensures { self.new ≡ set_aside self.old }
+    {
+        self.out = true;
+        self.count = 0;
+        self.behind.fill(false);
+    }
+
     /// The region is no longer behind: it is the lowest one of a leg that is not out.
     pub(crate) fn clear(&mut self, region: usize)
         requires attached { IsFalse self.old.out }
@@ -215,5 +224,14 @@ pub(crate) fn mark_where_out(legs: &mut [LegFlags], region: usize)
 {
     for leg in legs.iter_mut() {
         leg.mark_if_out(region);
+    }
+}
+
+/// Each of the legs is out, and behind nowhere, until it is compared.
+pub(crate) fn set_aside_all(legs: &mut [LegFlags])
+    ensures { legs.new ≡ map set_aside legs.old }
+{
+    for leg in legs.iter_mut() {
+        leg.set_aside();
     }
 }

@@ -1,11 +1,11 @@
 ghost use Rattle.std.specs.Prelude.{◌≡◌, ◌-◌, ◌*◌, ◌<◌, ◌≤◌, ◌^◌, if◌then◌else◌, length, map, replicate, Some, None, IsTrue, IsFalse, IsSome, IfOk};
 ghost use Rattle.nm_regions.specs.LegFlags.{opened_leg, is_behind};
 ghost use Rattle.nm_regions.specs.Table.{region_of, length_of, writes_in, is_quiet, state, is_out, leg_at, has_region, is_current_at, is_current, targets, blocks_behind, copied, left, lowest_behind, has_behind, copy_rest};
-ghost use Rattle.nm_regions.specs.Changes.{opened, begun, finished, gone_out, all_marked, attached, replaced, copy_opened, advanced, region_finished};
+ghost use Rattle.nm_regions.specs.Changes.{opened, begun, finished, gone_out, all_marked, marked, all_set_aside, attached, replaced, copy_opened, advanced, region_finished};
 ghost use Rattle.nm_regions.specs.Sound.{AreSizes, IsRegionTable};
 
 use crate::copy_place::{CopyPlace, blocks_copied, copies, copy_but_of, has_copied, move_on};
-use crate::leg_flags::{LegFlags, mark_where_out};
+use crate::leg_flags::{LegFlags, mark_where_out, set_aside_all};
 use crate::region_state::RegionState;
 use std::alloc::{AllocError, Global};
 use std::marker::Model;
@@ -291,6 +291,24 @@ impl Regions {
         ensures { self.new ≡ all_marked leg self.old }
     {
         self.legs[leg as usize].mark_all();
+    }
+
+    /// The region is behind from now on, for a leg that is out.
+    pub fn mark(&mut self, leg: u8, region: u64)
+        requires leg { leg < length self.old.legs }
+        requires out { IsTrue (is_out leg self.old) }
+        requires region { region < length self.old.writes }
+        ensures { self.new ≡ marked leg region self.old }
+    {
+        self.legs[leg as usize].mark(region as usize);
+    }
+
+    /// Every leg is out, and behind nowhere, until it is compared. Goes over all regions.
+    pub fn set_all_aside(&mut self)
+        requires { self.old.copy ≡ None }
+        ensures { self.new ≡ all_set_aside self.old }
+    {
+        set_aside_all(&mut self.legs);
     }
 
     /// The leg is not out any more. Its regions are behind as they were. Goes over all regions.

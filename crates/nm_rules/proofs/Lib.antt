@@ -7,6 +7,8 @@ pub mod CauseLemmas
 pub mod ChunkLemmas
 pub mod ClaimLemmas
 pub mod ClearLemmas
+pub mod ComparedLemmas
+pub mod ComparingLemmas
 pub mod CopyEndLemmas
 pub mod CopyLemmas
 pub mod CopyMoveLemmas

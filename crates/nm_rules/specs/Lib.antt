@@ -4,6 +4,7 @@ pub mod Attach
 pub mod Begin
 pub mod Cause
 pub mod Claim
+pub mod Comparing
 pub mod Copy
 pub mod Failing
 pub mod Flushed
@@ -12,6 +13,7 @@ pub mod Joining
 pub mod Kept
 pub mod Laws
 pub mod Lost
+pub mod OpenFault
 pub mod Opening
 pub mod Promote
 pub mod Push

@@ -6,7 +6,9 @@
 #![tactic(auto)]
 
 pub use at::At;
+pub use open_fault::OpenFault;
 pub use refusal::Refusal;
 
 mod at;
+mod open_fault;
 mod refusal;
