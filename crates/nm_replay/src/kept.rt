@@ -7,7 +7,6 @@ use crate::memory::Memory;
 use circular_buffer::HeapCircularBuffer;
 use std::alloc::Global;
 use std::marker::Model;
-use std::slice;
 
 /// How many entries are kept at most.
 const KEPT: usize = 1_024;
@@ -46,12 +45,13 @@ impl Kept {
     }
 
     /// Adds an entry at the end. Where 1,024 are kept, the oldest is dropped.
+    #[inline(always)]
     pub fn push(&mut self, entry: &Entry)
         requires { self.old.total < 2 ^ 63 }
         ensures entries { self.new.entries ≡ last_kept (self.old.entries ++ entry.now ∷ []) }
         ensures total { self.new.total ≡ self.old.total + 1 }
     {
-        self.ring.extend_from_slice(slice::from_ref(entry));
+        let _oldest = self.ring.push_back(*entry);
         self.total += 1;
     }
 
