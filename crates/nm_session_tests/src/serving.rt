@@ -466,6 +466,26 @@ fn a_write_that_fails_breaks_the_session_off(rt: HostRuntime) -> Result<(), Fail
     Ok(())
 }
 
+// Sixteen READs of 128 KiB in one piece: eight replies gather to 1 MiB and go out in one write, before
+// the ninth is read. The next write takes nothing, so that what went out before it is all there is.
+#[test]
+fn replies_go_out_once_1_mib_has_gathered(rt: HostRuntime) -> Result<(), Fail> {
+    let alloc = rt.alloc();
+    let mut stream = concat(alloc, &[&FLAGS, &GO])?;
+    for cookie in 0..16u8 {
+        put_request(&mut stream, READ, cookie, 0, 131_072)?;
+    }
+    stream.extend_from_slice(&DISC)?;
+    let mut writer = CutWriter::new(alloc, 4_000_000)?;
+    writer.fail_from(4, 0);
+    let mut target = MemTarget::new(alloc, SIZE)?;
+    let reader = reader(alloc, stream.as_slice(), WHOLE)?;
+    let found = run(&rt, alloc, &mut target, reader, writer)?;
+    assert!(rt; found.broke_off(ServeFault::Write(0)));
+    assert_eq!(rt; found.out.len(), 104 + 8 * 131_088);
+    Ok(())
+}
+
 // The handshake, a WRITE of block 1, a READ of it, and a DISC, over a target that has memory for so
 // many writes: what went out, and block 1.
 fn run_copying<R: Wait>(rt: &R, alloc: Global, writes: u64) -> Result<(Vec<u8>, Vec<u8>), Memory> {
