@@ -8,4 +8,4 @@ loop-init g c = no_legs _ _ _ c.new-all.ensures.items
 pub loop-preserved : goal.loop-preserved
 loop-preserved g c =
     leg_more c.loop.counter _ _ c.loop.all.items _ _ c.loop.invariant
-    c.in_ok-filled.ensures.ok c.in_ok-push.ensures.items
+    c.in_ok-with_byte.ensures.ok c.in_ok-push.ensures.items
