@@ -1,4 +1,5 @@
 pub mod ClaimLemmas
+pub mod ComparingLemmas
 pub mod CopyLemmas
 pub mod CountLemmas
 pub mod FailoverLemmas

@@ -1,3 +1,4 @@
+pub mod Comparing
 pub mod Copying
 pub mod Counting
 pub mod Inside

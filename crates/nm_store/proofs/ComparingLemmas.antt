@@ -1,0 +1,212 @@
+-- A comparison goes on: the legs that join stay out in the region table until it ends.
+use Rattle.std.proofs.Common.{◌≡◌, ◌≢◌, ⊎_elim, ℕ, zero, suc, ◌+◌, ◌<◌, ◌≤◌, ◌/◌, ◌%◌, ◌^◌, ◌==◌, Bool, true, false, cond, List, ◌∷◌, map, length, length-set, replicate, refl, sym, ap, ◌∙◌, subst, arith, get_or, slice_set}
+use Rattle.std.proofs.Math.Nat.{zero-div}
+use Rattle.std.proofs.lemmas.List.{get_or-replicate, length-replicate}
+use Rattle.nm_replay.specs.declared.block.Block.{Block}
+use Rattle.nm_choice.specs.declared.leg_state.LegState.{LegState}
+use Rattle.nm_choice.specs.declared.leg_state.LegState.TheVariants.{InSync, Joining, Out}
+use Rattle.nm_choice.specs.declared.policy.Policy.{Policy}
+use Rattle.nm_leg.specs.Leg.{Leg, LegType}
+use Rattle.nm_leg.specs.LegCalls.{EachHas, HasBlock, ReadsLegAt}
+use Rattle.nm_regions.specs.Changes.{all_set_aside, attached}
+use Rattle.nm_regions.specs.LegFlags.{LegRegions, no_leg, opened_leg, set_aside}
+use Rattle.nm_regions.specs.LegFlags as leg_flags
+use Rattle.nm_regions.specs.Table.{regions_of}
+use Rattle.nm_rules.specs.declared.at.At.{At}
+use Rattle.nm_rules.specs.Comparing.{comparing, marked_at, dropped, changed_where, ComparesLeg, IsPassedOver, HoldsSame, HoldsOther, FailsRead, ComparesLegs, ComparesBlock, ComparesBlocks}
+use Rattle.nm_rules.specs.Opening.{opened, opened_state, bits_from, has_bit}
+use Rattle.nm_rules.specs.State.{StripeState, is_joining, leg_state, table}
+use Rattle.nm_rules.proofs.AttachLemmas.{set-same, set-other}
+use Rattle.nm_rules.proofs.LegLemmas.{calls-length}
+use Rattle.nm_rules.proofs.RecordLemmas.{one_or_two}
+use Rattle.nm_store.specs.Comparing.{IsComparing}
+
+-- one leg's regions are changed, and it is out as before
+out-set : (flags : List LegRegions) (leg : ℕ) (l : LegRegions) → leg < length flags → l.out ≡ (get_or flags leg no_leg).out → (j : ℕ) → (get_or (slice_set flags leg l) j no_leg).out ≡ (get_or flags j no_leg).out
+out-set flags leg l inside same j =
+    ⊎_elim
+    (λ here. subst (λ (i : ℕ). (get_or (slice_set flags leg l) i no_leg).out ≡ (get_or flags i no_leg).out) (sym here)
+    (ap (λ (x : LegRegions). x.out) (set-same flags leg l no_leg inside) ∙ same))
+    (λ ne. ap (λ (x : LegRegions). x.out) (set-other flags leg j l no_leg ne))
+    (one_or_two j leg)
+
+module _ {L : Type 0} (type : LegType L) where
+  -- the legs after a read
+  pub read-comparing : (succeeded : Bool) (leg block : ℕ) (old : StripeState L) (legs : List L) (target found : Block) → ReadsLegAt type succeeded leg block old.legs legs target found → IsComparing type.model old → IsComparing type.model (record old { legs = legs })
+  read-comparing succeeded leg block old legs target found r k =
+      let count : length legs ≡ length old.legs = calls-length type.model old.legs legs leg r.before r.after r.change in
+      record {
+        lengths = r.change.lengths old.place.blocks k.lengths;
+        states = k.states ∙ sym count;
+        flags = k.flags ∙ sym count;
+        master = omega (arith, k.master, count);
+        aside = λ j inside. k.aside j (omega (arith, inside, count));
+      }
+
+  marked-comparing : (leg block : ℕ) (old : StripeState L) → leg < length old.legs → IsComparing type.model old → IsComparing type.model (marked_at leg block old)
+  marked-comparing leg block old inside k =
+      let l : LegRegions = leg_flags.marked (block / old.place.region) (get_or old.flags leg no_leg) in
+      record {
+        lengths = k.lengths;
+        states = k.states;
+        flags = length-set old.flags leg l ∙ k.flags;
+        master = k.master;
+        aside = λ j within joins. out-set old.flags leg l (omega (arith, inside, k.flags)) refl j ∙ k.aside j within joins;
+      }
+
+  dropped-comparing : (leg : ℕ) (old : StripeState L) → leg < length old.legs → IsComparing type.model old → IsComparing type.model (dropped leg old)
+  dropped-comparing leg old inside k =
+      let l : LegRegions = leg_flags.all_marked (get_or old.flags leg no_leg) in
+      record {
+        lengths = k.lengths;
+        states = length-set old.states leg Out ∙ k.states;
+        flags = length-set old.flags leg l ∙ k.flags;
+        master = k.master;
+        aside = λ j within joins. ⊎_elim
+            (λ here. absurd (
+            let gone : get_or (slice_set old.states leg Out) j Out ≡ Out = subst (λ (i : ℕ). get_or (slice_set old.states leg Out) i Out ≡ Out) (sym here) (set-same old.states leg Out Out (omega (arith, inside, k.states))) in
+            let clash : true ≡ false = sym joins ∙ ap (λ (st : LegState). is_joining st) gone in
+            cc))
+            (λ ne.
+            out-set old.flags leg l (omega (arith, inside, k.flags)) refl j
+            ∙ k.aside j within (ap (λ (st : LegState). is_joining st) (sym (set-other old.states leg j Out Out ne)) ∙ joins))
+            (one_or_two j leg);
+      }
+
+  pub leg-comparing : (block : ℕ) (bytes : Block) (leg : ℕ) (old new : StripeState L) → leg < length old.legs → IsComparing type.model old → ComparesLeg type block bytes leg old new → IsComparing type.model new
+  leg-comparing block bytes leg old new inside k (IsPassedOver off after) = subst (λ (s : StripeState L). IsComparing type.model s) (sym after) k
+  leg-comparing block bytes leg old new inside k (HoldsSame on target reads after) =
+      subst (λ (s : StripeState L). IsComparing type.model s) (sym after) (read-comparing true leg block old new.legs target bytes reads k)
+  leg-comparing block bytes leg old new inside k (HoldsOther on target found reads differs after) =
+      let count : length new.legs ≡ length old.legs = calls-length type.model old.legs new.legs leg reads.before reads.after reads.change in
+      subst (λ (s : StripeState L). IsComparing type.model s) (sym after)
+      (marked-comparing leg block (record old { legs = new.legs }) (omega (arith, inside, count)) (read-comparing true leg block old new.legs target found reads k))
+  leg-comparing block bytes leg old new inside k (FailsRead on target found reads after) =
+      let count : length new.legs ≡ length old.legs = calls-length type.model old.legs new.legs leg reads.before reads.after reads.change in
+      subst (λ (s : StripeState L). IsComparing type.model s) (sym after)
+      (dropped-comparing leg (record old { legs = new.legs }) (omega (arith, inside, count)) (read-comparing false leg block old new.legs target found reads k))
+
+  pub leg-count : (block : ℕ) (bytes : Block) (leg : ℕ) (old new : StripeState L) → ComparesLeg type block bytes leg old new → (length new.legs ≡ length old.legs) × (new.place ≡ old.place)
+  leg-count block bytes leg old new (IsPassedOver off after) = (ap (λ (s : StripeState L). length s.legs) after, ap (λ (s : StripeState L). s.place) after)
+  leg-count block bytes leg old new (HoldsSame on target reads after) = (calls-length type.model old.legs new.legs leg reads.before reads.after reads.change, ap (λ (s : StripeState L). s.place) after)
+  leg-count block bytes leg old new (HoldsOther on target found reads differs after) = (calls-length type.model old.legs new.legs leg reads.before reads.after reads.change, ap (λ (s : StripeState L). s.place) after)
+  leg-count block bytes leg old new (FailsRead on target found reads after) = (calls-length type.model old.legs new.legs leg reads.before reads.after reads.change, ap (λ (s : StripeState L). s.place) after)
+
+  -- a comparison leaves the place, and as many legs
+  pub legs-count : (block : ℕ) (bytes : Block) (n : ℕ) (old new : StripeState L) → ComparesLegs type block bytes n old new → (length new.legs ≡ length old.legs) × (new.place ≡ old.place)
+  legs-count block bytes zero old new c = (ap (λ (s : StripeState L). length s.legs) c, ap (λ (s : StripeState L). s.place) c)
+  legs-count block bytes (suc n) old new c =
+      let before = legs-count block bytes n old c.0 c.1 in
+      let last = leg-count block bytes n c.0 new c.2 in
+      (last.0 ∙ before.0, last.1 ∙ before.1)
+
+  pub legs-comparing : (block : ℕ) (bytes : Block) (n : ℕ) (old new : StripeState L) → n ≤ length old.legs → IsComparing type.model old → ComparesLegs type block bytes n old new → IsComparing type.model new
+  legs-comparing block bytes zero old new few k c = subst (λ (s : StripeState L). IsComparing type.model s) (sym c) k
+  legs-comparing block bytes (suc n) old new few k c =
+      let count = legs-count block bytes n old c.0 c.1 in
+      leg-comparing block bytes n c.0 new (omega (arith, few, count.0)) (legs-comparing block bytes n old c.0 (omega (arith, few)) k c.1) c.2
+
+  pub block-comparing : (block : ℕ) (old new : StripeState L) → IsComparing type.model old → ComparesBlock type block old new → IsComparing type.model new × (new.place ≡ old.place)
+  block-comparing block old new k b =
+      let count : length b.legs ≡ length old.legs = calls-length type.model old.legs b.legs old.master b.reads.before b.reads.after b.reads.change in (
+        legs-comparing block b.bytes (length old.legs) (record old { legs = b.legs }) new (omega (arith, count)) (read-comparing true old.master block old b.legs b.target b.bytes b.reads k) b.compares,
+        (legs-count block b.bytes (length old.legs) (record old { legs = b.legs }) new b.compares).1,
+      )
+
+  pub blocks-comparing : (n : ℕ) (old new : StripeState L) → IsComparing type.model old → ComparesBlocks type n old new → IsComparing type.model new × (new.place ≡ old.place)
+  blocks-comparing zero old new k c = (subst (λ (s : StripeState L). IsComparing type.model s) (sym c) k, ap (λ (s : StripeState L). s.place) c)
+  blocks-comparing (suc n) old new k c =
+      let before = blocks-comparing n old c.0 k c.1 in
+      let last = block-comparing n c.0 new before.0 c.2 in
+      (last.0, last.1 ∙ before.1)
+
+  -- a leg was read: what the call and the change after it say, as one comparison
+  module _ (leg block : ℕ) (bytes target found : Block) (old mid new : StripeState L) (joins : is_joining (leg_state leg old) ≡ true) (ok : Bool) (reads : ReadsLegAt type ok leg block old.legs mid.legs target found) (others : mid ≡ record old { legs = mid.legs }) where
+    read-as : (is : Bool) → ok ≡ is → (legs : List L) → legs ≡ mid.legs → ReadsLegAt type is leg block old.legs legs target found
+    read-as is ok_is legs same =
+        subst (λ (ls : List L). ReadsLegAt type is leg block old.legs ls target found) (sym same)
+        (subst (λ (b : Bool). ReadsLegAt type b leg block old.legs mid.legs target found) ok_is reads)
+
+    pub fails-read : ok ≡ false → new ≡ dropped leg mid → ComparesLeg type block bytes leg old new
+    fails-read failed after =
+        let legs_are : new.legs ≡ mid.legs = ap (λ (s : StripeState L). s.legs) after in
+        FailsRead joins target found (read-as false failed new.legs legs_are)
+        (after ∙ ap (λ (s : StripeState L). dropped leg s) others
+        ∙ ap (λ (ls : List L). dropped leg (let s : StripeState L = record old { legs = ls } in s)) (sym legs_are))
+
+    pub holds-other : ok ≡ true → found ≢ bytes → new ≡ marked_at leg block mid → ComparesLeg type block bytes leg old new
+    holds-other went_well differs after =
+        let legs_are : new.legs ≡ mid.legs = ap (λ (s : StripeState L). s.legs) after in
+        HoldsOther joins target found (read-as true went_well new.legs legs_are) differs
+        (after ∙ ap (λ (s : StripeState L). marked_at leg block s) others
+        ∙ ap (λ (ls : List L). marked_at leg block (let s : StripeState L = record old { legs = ls } in s)) (sym legs_are))
+
+    pub holds-same : ok ≡ true → found ≡ bytes → ComparesLeg type block bytes leg old mid
+    holds-same went_well same =
+        HoldsSame joins target
+        (subst (λ (b : Block). ReadsLegAt type true leg block old.legs mid.legs target b) same (read-as true went_well mid.legs refl))
+        others
+
+  -- a leg has each block of the stripe
+  pub comparing-block : (s : StripeState L) (leg block : ℕ) → IsComparing type.model s → block < s.place.blocks → HasBlock type.model s.legs leg block
+  comparing-block s leg block k within l at = omega (arith, within, k.lengths leg l at)
+
+-- no leg is in sync where no bit is set
+joining-bits : (n i : ℕ) → map opened_state (bits_from 0 n i) ≡ replicate n Joining
+joining-bits zero i = refl
+joining-bits (suc n) i =
+    let off : has_bit 0 i ≡ false = ap (λ (q : ℕ). q % 2 == 1) (zero-div (2 ^ i)) in
+    ap (λ (b : Bool). opened_state b ∷ map opened_state (bits_from 0 n (i + 1))) off
+    ∙ ap (λ (rest : List LegState). Joining ∷ rest) (joining-bits n (i + 1))
+
+-- every leg is set aside, whatever it was
+aside-bits : (regions n i : ℕ) → map set_aside (map (opened_leg regions) (bits_from 0 n i)) ≡ replicate n (record { out = true; behind = replicate regions false })
+aside-bits regions zero i = refl
+aside-bits regions (suc n) i =
+    let whole : ◌≡◌ {A = LegRegions} (record { out = true; behind = replicate (length (opened_leg regions (has_bit 0 i)).behind) false }) (record { out = true; behind = replicate regions false }) =
+    ap (λ (c : ℕ). let x : LegRegions = record { out = true; behind = replicate c false } in x) (long regions (has_bit 0 i)) in
+    ap (λ (x : LegRegions). x ∷ map set_aside (map (opened_leg regions) (bits_from 0 n (i + 1)))) whole
+    ∙ ap (λ (rest : List LegRegions). let x : LegRegions = record { out = true; behind = replicate regions false } in x ∷ rest) (aside-bits regions n (i + 1))
+  where
+    long : (count : ℕ) (b : Bool) → length (opened_leg count b).behind ≡ count
+    long count true = length-replicate count false
+    long count false = length-replicate count true
+
+module _ {L : Type 0} (place : At) (legs : List L) (master first : ℕ) (policy : Policy) (inside : master < length legs) where
+  abbrev old : StripeState L
+  old = opened place legs 0 first policy
+
+  abbrev waiting : LegRegions
+  waiting = record { out = true; behind = replicate (regions_of place.blocks place.region) false }
+
+  -- what a comparison begins with is the opened stripe, with all but the master set aside
+  pub comparing-is : record old { states = slice_set old.states master InSync; flags = (attached master (all_set_aside (table old))).legs; master = master } ≡ comparing place legs master first policy
+  comparing-is =
+      ap (λ (ls : List LegRegions). let x : StripeState L = record old { states = slice_set old.states master InSync; flags = slice_set ls master (leg_flags.attached (get_or ls master no_leg)); master = master } in x) (aside-bits (regions_of place.blocks place.region) (length legs) 0)
+      ∙ ap (λ (l : LegRegions). let x : StripeState L = record old { states = slice_set old.states master InSync; flags = slice_set (replicate (length legs) waiting) master (leg_flags.attached l); master = master } in x) (get_or-replicate (length legs) master waiting no_leg inside)
+      ∙ ap (λ (sts : List LegState). let x : StripeState L = record old { states = slice_set sts master InSync; flags = slice_set (replicate (length legs) waiting) master (opened_leg (regions_of place.blocks place.region) true); master = master } in x) (joining-bits (length legs) 0)
+
+  -- and its legs may be compared
+  pub starts-comparing : (model : L → Leg) → EachHas model legs place.blocks → IsComparing model (comparing place legs master first policy)
+  starts-comparing model each = record {
+    lengths = each;
+    states = length-set (replicate (length legs) Joining) master InSync ∙ length-replicate (length legs) Joining;
+    flags = length-set (replicate (length legs) waiting) master (opened_leg (regions_of place.blocks place.region) true) ∙ length-replicate (length legs) waiting;
+    master = inside;
+    aside = λ j within joins. ⊎_elim
+        (λ here. absurd (
+        let in_sync : get_or (slice_set (replicate (length legs) Joining) master InSync) j Out ≡ InSync = subst (λ (i : ℕ). get_or (slice_set (replicate (length legs) Joining) master InSync) i Out ≡ InSync) (sym here) (set-same (replicate (length legs) Joining) master InSync Out (omega (arith, inside, length-replicate (length legs) Joining))) in
+        let clash : true ≡ false = sym joins ∙ ap (λ (st : LegState). is_joining st) in_sync in
+        cc))
+        (λ ne. ap (λ (l : LegRegions). l.out) (set-other (replicate (length legs) waiting) master j (opened_leg (regions_of place.blocks place.region) true) no_leg ne ∙ get_or-replicate (length legs) j waiting no_leg within))
+        (one_or_two j master);
+  }
+
+-- one leg fewer is out in the region table
+pub ended-more : {L : Type 0} (old now : StripeState L) (leg : ℕ) → now ≡ record old { flags = changed_where (λ i. is_joining (leg_state i old)) leg_flags.attached leg old.flags }
+    → cond (is_joining (leg_state leg now)) (record now { flags = (attached leg (table now)).legs }) now ≡ record old { flags = changed_where (λ i. is_joining (leg_state i old)) leg_flags.attached (suc leg) old.flags }
+ended-more {L} old now leg is =
+    let flags : List LegRegions = changed_where (λ i. is_joining (leg_state i old)) leg_flags.attached leg old.flags in
+    ap (λ (s : StripeState L). cond (is_joining (leg_state leg s)) (let x : StripeState L = record s { flags = (attached leg (table s)).legs } in x) s) is
+    ∙ elim (is_joining (leg_state leg old)) as (λ b. cond b (let x : StripeState L = record old { flags = slice_set flags leg (leg_flags.attached (get_or flags leg no_leg)) } in x) (let y : StripeState L = record old { flags = flags } in y)
+    ≡ record old { flags = cond b (slice_set flags leg (leg_flags.attached (get_or flags leg no_leg))) flags }) [ true ↦ refl | false ↦ refl ]
