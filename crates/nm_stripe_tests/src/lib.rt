@@ -7,6 +7,8 @@ mod asking;
 #[cfg(test)]
 mod calls;
 #[cfg(test)]
+mod comparing;
+#[cfg(test)]
 mod healing;
 #[cfg(test)]
 mod opening;
