@@ -1,5 +1,5 @@
 -- The bit of one leg names that leg alone.
-use Rattle.std.proofs.Common.{◌≡◌, ◌≢◌, ℕ, ◌^◌, ◌<◌, ◌==◌, true, false, List, length, inl, inr, refl, sym, ap, ◌∙◌, slice_get, Some}
+use Rattle.std.proofs.Common.{◌≡◌, ℕ, ◌^◌, ◌<◌, ◌==◌, true, false, List, inl, inr, sym, ap, ◌∙◌}
 use Rattle.std.proofs.lemmas.Bool.Decides.{eqb_tells}
 use Rattle.std.proofs.lemmas.Nat.Bits.{bit_at-pow_same, bit_at-pow_other}
 use Rattle.nm_leg.specs.Leg.{Leg}

@@ -5,7 +5,7 @@ use Rattle.nm_part.specs.PartState.{PartState}
 use Rattle.nm_part.specs.Parts.{ValueAbove, astray, is_astray}
 use Rattle.nm_rules.specs.Acts.{IsExplainedStep}
 use Rattle.nm_rules.specs.State.{StripeState}
-use Rattle.nm_stripe.specs.Run.{MayBeAsked, StepOf, marks}
+use Rattle.nm_stripe.specs.Run.{StepOf, marks}
 use Rattle.nm_stripe.specs.declared.answer.Answer.{Answer}
 use Rattle.nm_stripe.specs.declared.step.Step.{Step}
 

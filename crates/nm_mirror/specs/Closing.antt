@@ -1,11 +1,11 @@
 -- The end of a mirror: what its stripes have had, and what its passes counted.
-use Rattle.std.specs.Prelude.{◌≡◌, ◌≢◌, ◌<◌, ◌≤◌, ◌+◌, ℕ, List, Option, None, Some, length}
+use Rattle.std.specs.Prelude.{◌≡◌, ◌<◌, ◌≤◌, ◌+◌, ℕ, List, Option, None, Some, length}
 use Rattle.std.specs.Prelude.{slice_get, sum_by, take, All}
 use Rattle.nm_part.specs.PartState.{PartState}
 use Rattle.nm_stripe.specs.End.{EndOf}
 use Rattle.nm_mirror.specs.declared.pass.Pass.{Pass}
 use Rattle.nm_mirror.specs.declared.refused.Refused.{Refused}
-use Rattle.nm_mirror.specs.declared.refused.Refused.TheVariants.{Memory, Io, TooMany, PassesMissing}
+use Rattle.nm_mirror.specs.declared.refused.Refused.TheVariants.{Io, TooMany, PassesMissing}
 use Rattle.nm_mirror.specs.declared.refused.Refused.TheVariants.{Uneven}
 
 -- what a part counted, if there is one

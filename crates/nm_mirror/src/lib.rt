@@ -2,17 +2,20 @@
 //! are copied again.
 //!
 //! Each step of a call is one hold of one stripe's lock. What the stripes' histories have had is
-//! compared in the end with what the passes counted.
+//! compared in the end with what the passes counted. `laws` say what the stripes' contracts make
+//! of the mirror as a whole.
 #![tactic(auto)]
 
 pub use asking::ask;
 pub use counts::{AttachCounts, FailCounts};
 pub use lock::Lock;
 pub use mirror::Mirror;
+pub use nm_join::laws;
 pub use opening::{OpenFault, Opening, open_stripes};
 pub use part_lane::PartLane;
 pub use pass::Pass;
 pub use refused::Refused;
+pub use start::Start;
 pub use status::{LegStatus, StripeStatus};
 pub use totals::Totals;
 
@@ -28,6 +31,7 @@ mod part_lane;
 mod pass;
 mod refused;
 mod resync;
+mod start;
 mod status;
 mod totals;
 mod writes;

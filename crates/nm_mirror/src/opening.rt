@@ -1,13 +1,16 @@
 //! The stripes of a mirror, as they are opened.
 ghost use Rattle.std.specs.Prelude.{◌≡◌, ◌+◌, ◌<◌, ◌≤◌, ℕ, List, [], length, IsTrue, IfSome, IfOk, IfErr, OnOk, OnErr, ◌↔◌, IsSome};
 ghost use Rattle.nm_geometry.specs.Geometry.{stripe_blocks};
+ghost use Rattle.nm_leg.specs.Leg.{leg_type};
 ghost use Rattle.nm_leg.specs.LegCalls.{EachHas};
 ghost use Rattle.nm_regions.specs.Sound.{AreSizes};
 ghost use Rattle.nm_resync.specs.Chunk.{IsChunkSize};
+ghost use Rattle.nm_rules.specs.Comparing.{comparing, FailsToOpen};
 ghost use Rattle.nm_rules.specs.Opening.{HoldEqual};
 ghost use Rattle.nm_stripe.specs.Opening.{NamesALeg};
 ghost use Rattle.nm_mirror.specs.Stripes.{AreFirst, AreStripesOf, FitNext, place_of};
 
+use crate::start::Start;
 use nm_geometry::Shape;
 use nm_leg::LegPart;
 use nm_replay::Memory;
@@ -154,6 +157,62 @@ impl<L: LegPart> Opening<L> {
         self.open(alloc, legs, only_bit::<L>(master), policy)
     }
 
+    /// Opens the next stripe as `Stripe::open_compared` does: with this leg in sync, and the others
+    /// joining where they hold other bytes. A master that cannot be read hands the legs back too.
+    pub fn open_compared(
+        &mut self,
+        alloc: Global,
+        legs: Vec<L>,
+        master: u8,
+        policy: Policy,
+    ) -> Result<(), (nm_stripe::OpenFault, Vec<L>)>
+        requires { FitNext L.model self.old.shape (length self.old.stripes.items) legs.items
+            master }
+        ensures ok { OnOk result
+            (length self.new.stripes.items ≡ length self.old.stripes.items + 1) }
+        ensures shape { self.new.shape ≡ self.old.shape }
+        ensures handed_back { IfErr result (λ refused. FailsToOpen (leg_type L.model L.honest)
+            (comparing (place_of (length self.old.stripes.items) self.old.shape) legs.items
+            master 0 policy) refused.0 refused.1.items) }
+        ensures stays { OnErr result (self.new.stripes.items ≡ self.old.stripes.items) }
+    {
+        let place = place_of(&self.shape, self.stripes.len());
+        if self.stripes.reserve(1).is_err() {
+            return Err((nm_stripe::OpenFault::Memory, legs));
+        }
+        let stripe = Stripe::open_compared(alloc, place, legs, master, 0, policy)?;
+        self.stripes.push_reserved(stripe);
+        Ok(())
+    }
+
+    /// Opens the next stripe on these legs as the start says.
+    fn open_next(
+        &mut self,
+        alloc: Global,
+        legs: Vec<L>,
+        master: u8,
+        policy: Policy,
+        start: Start,
+    ) -> Result<(), OpenFault>
+        requires { FitNext L.model self.old.shape (length self.old.stripes.items) legs.items
+            master }
+        ensures ok { OnOk result
+            (length self.new.stripes.items ≡ length self.old.stripes.items + 1) }
+        ensures shape { self.new.shape ≡ self.old.shape }
+    {
+        match start {
+            Start::Full => match self.open_under(alloc, legs, master, policy) {
+                Ok(()) => Ok(()),
+                Err(_) => Err(OpenFault::Memory),
+            },
+            Start::Compare => match self.open_compared(alloc, legs, master, policy) {
+                Ok(()) => Ok(()),
+                Err((nm_stripe::OpenFault::Memory, _)) => Err(OpenFault::Memory),
+                Err((nm_stripe::OpenFault::MasterFault, _)) => Err(OpenFault::MasterFault),
+            },
+        }
+    }
+
     /// All stripes, for `Mirror::new`.
     pub fn into_stripes(self) -> Vec<Stripe<L>>
         requires { self.shape.stripes ≤ length self.stripes.items }
@@ -168,21 +227,26 @@ impl<L: LegPart> Opening<L> {
 pub enum OpenFault {
     /// Out of memory.
     Memory,
+    /// The master cannot be read, in a start that compares.
+    MasterFault,
     /// The legs do not fit the shape.
     Misfit,
 }
 
 /// Opens the stripes of a mirror of this shape on these legs, one list a stripe, with this leg of
-/// each in sync and the others joining.
+/// each in sync and the others joining: behind everywhere, or where they differ from it. A mirror of
+/// one leg reads nothing, since that leg has no other to be compared with.
 pub fn open_stripes<L: LegPart>(
     alloc: Global,
     shape: &Shape,
     legs: Vec<Vec<L>>,
     master: u8,
     policy: Policy,
+    start: Start,
 ) -> Result<Vec<Stripe<L>>, OpenFault>
     ensures { IfOk result (λ stripes. AreStripesOf shape.now stripes.items) }
 {
+    let start = if shape.legs == 1 { Start::Full } else { start };
     let mut opening = Opening::new(alloc, *shape);
     let mut rest = legs;
     rest.reverse();
@@ -190,9 +254,7 @@ pub fn open_stripes<L: LegPart>(
         if !opening.fits(&own, master) {
             return Err(OpenFault::Misfit);
         }
-        if opening.open_under(alloc, own, master, policy).is_err() {
-            return Err(OpenFault::Memory);
-        }
+        opening.open_next(alloc, own, master, policy, start)?;
     }
     match opening.next_place() {
         Some(_) => Err(OpenFault::Misfit),

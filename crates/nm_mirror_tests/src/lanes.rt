@@ -9,7 +9,7 @@ use nm_lanes::{
     Cause, CauseKind, Gate, NoGate, Place, StepKind, WriteFault, flush_by, sync_by, write_by,
 };
 use nm_leg::FuseLeg;
-use nm_mirror::open_stripes;
+use nm_mirror::{Start, open_stripes};
 use nm_part::Part;
 use nm_stripe::{Policy, Step};
 use std::alloc::Global;
@@ -28,7 +28,7 @@ struct Lanes {
 /// Such stripes of this shape.
 fn opened<R: Wait>(rt: &R, alloc: Global, shape: Shape) -> Result<Lanes, Fail> {
     let legs = legs_of_zeroes(alloc, &shape)?;
-    let Ok(stripes) = open_stripes(alloc, &shape, legs, 0, Policy::RoundRobin) else {
+    let Ok(stripes) = open_stripes(alloc, &shape, legs, 0, Policy::RoundRobin, Start::Full) else {
         return Err(Fail::new("no stripes"));
     };
     let mut locks = Vec::new(alloc);

@@ -22,4 +22,6 @@ mod reading;
 #[cfg(test)]
 mod row;
 #[cfg(test)]
+mod starts;
+#[cfg(test)]
 mod threads;

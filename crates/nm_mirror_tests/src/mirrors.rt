@@ -6,7 +6,7 @@ use bytes::Bytes;
 use nm_geometry::{ByteRange, Shape};
 use nm_lanes::{Cause, Gate, WriteFault};
 use nm_leg::{FuseLeg, LegPart};
-use nm_mirror::{Mirror, Pass, Totals, open_stripes};
+use nm_mirror::{Mirror, Pass, Start, Totals, open_stripes};
 use nm_replay::BLOCK_BYTES;
 use nm_stripe::Policy;
 use std::alloc::Global;
@@ -42,7 +42,7 @@ pub fn mirror_of<L: LegPart, G: Gate + Drop>(
     legs: Vec<Vec<L>>,
     gate: G,
 ) -> Result<Mirror<L, G>, Fail> {
-    let Ok(stripes) = open_stripes(alloc, &shape, legs, 0, Policy::RoundRobin) else {
+    let Ok(stripes) = open_stripes(alloc, &shape, legs, 0, Policy::RoundRobin, Start::Full) else {
         return Err(Fail::new("no stripes"));
     };
     match Mirror::new(alloc, shape, stripes, gate) {

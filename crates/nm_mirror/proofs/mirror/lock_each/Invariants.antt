@@ -1,5 +1,5 @@
 -- The stripes so far are behind locks, and there is room for the others.
-use Rattle.std.proofs.Common.{◌≡◌, ◌+◌, ◌≤◌, length, vec_len, vec_capacity}
+use Rattle.std.proofs.Common.{◌≡◌, ◌+◌, ◌≤◌, vec_len, vec_capacity}
 use Rattle.nm_mirror.proofs.mirror.lock_each.Given as goal
 
 abbrev pub invariant-loop-stripe : goal.invariant-loop-stripe

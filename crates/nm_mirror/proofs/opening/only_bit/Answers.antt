@@ -1,5 +1,5 @@
 -- The bit is a power of two.
-use Rattle.std.proofs.Common.{◌≡◌, ◌^◌, ◌*◌, ◌%◌, ap, sym, rules, arith}
+use Rattle.std.proofs.Common.{arith}
 use Rattle.std.proofs.lemmas.Nat.{one_shl}
 use Rattle.nm_mirror.proofs.OneInSync.{one_named, one_equal}
 use Rattle.nm_mirror.proofs.opening.only_bit.Goals as goal

@@ -1,0 +1,8 @@
+/// How the legs other than the master stand as a mirror is opened.
+#[derive(Clone, Copy, Debug, PartialEq, Eq)]
+pub enum Start {
+    /// Each is compared with the master, and only what differs is copied.
+    Compare,
+    /// Each is copied whole.
+    Full,
+}
