@@ -1,4 +1,6 @@
-ghost use Rattle.std.specs.Prelude.{◌≡◌, true};
+ghost use Rattle.std.specs.Prelude.{◌≡◌, ◌-◌, true, length, min, Ok, IsOk};
+ghost use Rattle.nm_file_leg.specs.Media.{of_mem};
+ghost use Rattle.nm_file_leg.specs.Medium.{ReadsMedium, WritesMedium, SyncsMedium, TellsLength};
 
 use crate::Medium;
 use crate::splice::splice;
@@ -38,7 +40,10 @@ impl Medium for MemMedium {
 
     ghost held = { of_mem };
 
-    fn read_at(&mut self, at: u64, into: &mut [u8]) -> io::Result<usize> {
+    fn read_at(&mut self, at: u64, into: &mut [u8]) -> io::Result<usize>
+        ensures reads { ReadsMedium true result at (of_mem self.old) (of_mem self.new) into.new }
+        ensures all { result ≡ Ok (min (length into.old) (length self.old.bytes.items - at)) }
+    {
         if at >= self.bytes.len() as u64 {
             return Ok(0);
         }
@@ -48,7 +53,11 @@ impl Medium for MemMedium {
         Ok(many)
     }
 
-    fn write_at(&mut self, at: u64, bytes: &[u8]) -> io::Result<usize> {
+    fn write_at(&mut self, at: u64, bytes: &[u8]) -> io::Result<usize>
+        ensures writes { WritesMedium true result at bytes.now (of_mem self.old)
+            (of_mem self.new) }
+        ensures all { result ≡ Ok (min (length bytes.now) (length self.old.bytes.items - at)) }
+    {
         if at >= self.bytes.len() as u64 {
             return Ok(0);
         }
@@ -58,11 +67,17 @@ impl Medium for MemMedium {
         Ok(many)
     }
 
-    fn sync(&mut self) -> io::Result<()> {
+    fn sync(&mut self) -> io::Result<()>
+        ensures syncs { SyncsMedium true result (of_mem self.old) (of_mem self.new) }
+        ensures done { IsOk result }
+    {
         Ok(())
     }
 
-    fn len(&self) -> io::Result<u64> {
+    fn len(&self) -> io::Result<u64>
+        ensures tells { TellsLength true result (of_mem self.now) }
+        ensures known { result ≡ Ok (length self.now.bytes.items) }
+    {
         Ok(self.bytes.len() as u64)
     }
 }

@@ -4,12 +4,12 @@ use Rattle.nm_file_leg.specs.Medium.{window}
 use Rattle.nm_file_leg.proofs.MediaLemmas.{reads-none}
 use Rattle.nm_file_leg.proofs.mem_medium.MemMediumMedium.read_at.Goals as goal
 
-pub returns-then-at-len : goal.returns-then-at-len
-returns-then-at-len c = reads-none _ _ _
+pub returns-then-at-len-clause-reads : goal.returns-then-at-len-clause-reads
+returns-then-at-len-clause-reads c = reads-none _ _ _
 
-pub returns : goal.returns
+pub returns-clause-reads : goal.returns-clause-reads
 unfolding window
-returns c =
+returns-clause-reads c =
     let n = c.min-many.result in
     let short : n ≤ length c.args.into.now = omega (arith, c.min-many.ensures) in
     let got : length c.copy_from_slice.new.self ≡ n = c.copy_from_slice.ensures.len ∙ length-take-le n c.args.into.now short in

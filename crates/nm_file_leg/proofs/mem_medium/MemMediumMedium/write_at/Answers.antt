@@ -4,11 +4,11 @@ use Rattle.nm_file_leg.specs.Medium.{spliced}
 use Rattle.nm_file_leg.proofs.MediaLemmas.{writes-none, writes-steady}
 use Rattle.nm_file_leg.proofs.mem_medium.MemMediumMedium.write_at.Goals as goal
 
-pub returns-then-at-len : goal.returns-then-at-len
-returns-then-at-len c = writes-none _ _ _
+pub returns-then-at-len-clause-writes : goal.returns-then-at-len-clause-writes
+returns-then-at-len-clause-writes c = writes-none _ _ _
 
-pub returns : goal.returns
-returns c =
+pub returns-clause-writes : goal.returns-clause-writes
+returns-clause-writes c =
     let n = c.min-many.result in
     let held = c.args.self.now.bytes.items in
     let short : n ≤ length c.args.bytes.now = omega (arith, c.min-many.ensures) in
