@@ -2,6 +2,7 @@
 use Rattle.std.proofs.Common.{◌≡◌, ℕ, List, [], ◌∷◌, ◌++◌, Option, Result, Ok, Err, OnOk, OnErr, IfErr, IsErrAnd, codes, decimal, refl, sym, subst, append_assoc}
 use Rattle.std.specs.Io.KnownBytes.{Appends}
 use Rattle.std.proofs.KnownBytes.{Appends-trans}
+use Rattle.nm_script_lib.specs.declared.load.Load.{Load}
 use Rattle.nm_script_lib.specs.declared.mirror_line.MirrorLine.{MirrorLine}
 use Rattle.nm_script_lib.specs.declared.step.Step.{Step}
 use Rattle.nm_script_lib.specs.declared.parse_error.ParseError.{ParseError}
@@ -46,15 +47,15 @@ line_third line old cur mid new h k l = subst (λ (x : List ℕ). AppendsPrefix 
 pub cannot_read : (old new : Option (List ℕ)) (text : List ℕ) (e : ParseError) (s : RunError) →
     s ≡ error_of_parse e → ReadsAll old new text →
     ((n : ℕ) → ◌≡◌ {A = ParseError} e (BadStep n) → NamesLine text n) →
-    ((m : MirrorLine) (steps : List Step) → IsScript text m steps → e ≡ Memory) → CannotRead old new s
+    ((m : MirrorLine) (loads : List Load) (master : Option ℕ) (steps : List Step) →
+    IsScript text m loads master steps → e ≡ Memory) → CannotRead old new s
 cannot_read old new text Memory s is read named script = subst (CannotRead old new) (sym is) tt
 cannot_read old new text (BadStep line) s is read named script =
     let none : ReadsNone old new line = record {
       text = text;
       read = read;
       named = named line refl;
-      none = λ m steps h. let e = script m
-          steps h in cc;
+      none = λ m loads master steps h. let e = script m loads master steps h in cc;
     } in
     subst (CannotRead old new) (sym is) none
 

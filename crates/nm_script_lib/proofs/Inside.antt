@@ -1,5 +1,5 @@
 -- The steps of a script name blocks and legs of its stripe, before and after each step.
-use Rattle.std.proofs.Common.{◌≡◌, ℕ, ◌<◌, ◌≤◌, zero, suc, List, [], ◌∷◌, length, take, replicate, get_or, refl, sym, ap, subst, ◌∙◌, arith}
+use Rattle.std.proofs.Common.{◌≡◌, ℕ, ◌<◌, ◌≤◌, zero, suc, List, [], ◌∷◌, length, take, replicate, get_or, Option, Some, None, refl, sym, ap, subst, ◌∙◌, arith}
 use Rattle.std.specs.List.{AllByRecursion, AllZip}
 use Rattle.std.proofs.lemmas.List.{length-replicate, take-replicate}
 use Rattle.nm_fanout.specs.declared.block_data.Data.{Data}
@@ -11,15 +11,19 @@ use Rattle.nm_stripe.specs.declared.step.Step.{Step as MachineStep}
 use Rattle.nm_stripe.specs.declared.step.Step.TheVariants.{Replace as ReplaceStep}
 use Rattle.nm_stripe.specs.Run.{MayBeAsked, StepOf}
 use Rattle.nm_stripe.proofs.RunLemmas.{step-shape}
+use Rattle.nm_script_lib.specs.declared.fused_call.FusedCall.{FusedCall}
+use Rattle.nm_script_lib.specs.declared.load.Load.{Load}
 use Rattle.nm_script_lib.specs.declared.mirror_line.MirrorLine.{MirrorLine}
 use Rattle.nm_script_lib.specs.declared.step.Step.{Step}
 use Rattle.nm_script_lib.specs.declared.step.Step.TheVariants.{Ask}
 use Rattle.nm_script_lib.specs.declared.step.StripeStep.{StripeStep}
 use Rattle.nm_script_lib.specs.declared.step.StripeStep.TheVariants.{Begin, Zero, Patch, Push, Claim, Read, Fail, Attach, Replace, Copy, Promote, Sync}
-use Rattle.nm_script_lib.specs.Grammar.{IsStepLine, IsScript, mirror_form, step_form, patch_args, leg_form, look_form}
-use Rattle.nm_script_lib.specs.MemStripe.{MemStripe, InRange, IsNew, HasShape, IsInside, IsAsked, IsFilled, filled_block, fuse_legs}
+use Rattle.nm_script_lib.specs.Forms.{IsLine}
+use Rattle.nm_script_lib.specs.Grammar.{IsStepLine, IsOpening, IsScript, load_form, start_form, mirror_form, step_form, patch_args, leg_form, look_form}
+use Rattle.nm_script_lib.specs.MemStripe.{MemStripe, InRange, FitsLoad, FitOpening, HasCall, IsNew, IsOpened, HasShape, IsInside, IsAsked, IsFilled, filled_block, fuse_legs}
 use Rattle.nm_script_lib.proofs.FormLaws.{Always, line_always}
 use Rattle.nm_script_lib.proofs.Legs.{new_lengths, filled_length}
+use Rattle.nm_script_lib.proofs.Loaded.{compared_shape}
 use Rattle.nm_script_lib.proofs.StepLengths.{step_lengths}
 
 pub at_place : {A : Type 0} (P : A → Type 0) (xs : List A) (k : ℕ) (d : A) → k < length xs →
@@ -35,6 +39,23 @@ new_shape m stripe is = record {
   legs = is.legs.count;
   each = new_lengths m stripe.legs is.legs;
 }
+
+-- and so has each stripe that a script opens
+pub opened_shape : (m : MirrorLine) (loads : List Load) (master : Option ℕ) (stripe : MemStripe) →
+    InRange m → FitOpening m loads master → IsOpened m loads master stripe → HasShape m stripe
+opened_shape m loads None stripe range fits is = new_shape m stripe is
+opened_shape m loads (Some master) stripe range fits is =
+    compared_shape m loads is.0 master stripe range is.1 fits.1 is.2
+
+-- the leg of which a call is to fail is one of the stripe's
+pub call_fits : (m : MirrorLine) (loads : List Load) (master : Option ℕ) (stripe : MemStripe)
+    (fuse : Option FusedCall) (fused : FusedCall) → InRange m → FitOpening m loads master →
+    HasCall m fuse → IsOpened m loads master stripe → fuse ≡ Some fused →
+    fused.leg < length stripe.legs
+call_fits m loads master stripe fuse fused range fits call opened is =
+    let shape = opened_shape m loads master stripe range fits opened in
+    let has : HasCall m (Some fused) = subst (λ (f : Option FusedCall). HasCall m f) is call in
+    omega (arith, has.0, shape.legs)
 
 fills_block : (fill : ℕ) → length (filled_block fill) ≡ 512
 unfolding filled_block
@@ -139,9 +160,36 @@ all_fit m (line ∷ others) (s ∷ steps) h = (
   all_fit m others steps h.1,
 )
 
-pub script_fits : (text : List ℕ) (m : MirrorLine) (steps : List Step) → IsScript text m steps →
-    AllByRecursion (IsInside m) steps
-script_fits text m steps h = all_fit m h.others steps h.each_step
+pub script_fits : (text : List ℕ) (m : MirrorLine) (loads : List Load) (master : Option ℕ)
+    (steps : List Step) → IsScript text m loads master steps → AllByRecursion (IsInside m) steps
+script_fits text m loads master steps h = all_fit m h.others steps h.each_step
+
+-- each load that a line can say is inside the mirror, and so is each start
+load_fits : (m : MirrorLine) → Always (FitsLoad m) (load_form m)
+load_fits m = ((λ leg small block low fill byte. (small, low)), tt)
+
+loads_fit : (m : MirrorLine) (before : List (List ℕ)) (loads : List Load) →
+    AllZip (λ line load. IsLine (load_form m) line load) before loads →
+    AllByRecursion (FitsLoad m) loads
+loads_fit m [] [] h = tt
+loads_fit m [] (l ∷ loads) h = absurd h
+loads_fit m (line ∷ before) [] h = absurd h
+loads_fit m (line ∷ before) (l ∷ loads) h = (
+  line_always (FitsLoad m) (load_form m) line l (load_fits m) h.0,
+  loads_fit m before loads h.1,
+)
+
+opening_inside : (m : MirrorLine) (opening : List (List ℕ)) (loads : List Load) (master : Option ℕ) →
+    IsOpening m opening loads master → FitOpening m loads master
+opening_inside m opening loads None o = rw o.1 tt
+opening_inside m opening loads (Some master) o = (
+  loads_fit m o.0 loads o.3,
+  line_always (λ leg. leg < m.legs) (start_form m) o.1 master ((λ leg small. small), tt) o.4,
+)
+
+pub opening_fits : (text : List ℕ) (m : MirrorLine) (loads : List Load) (master : Option ℕ)
+    (steps : List Step) → IsScript text m loads master steps → FitOpening m loads master
+opening_fits text m loads master steps h = opening_inside m h.opening loads master h.opens
 
 mirror_ranges : Always InRange mirror_form
 mirror_ranges = (
@@ -150,6 +198,7 @@ mirror_ranges = (
   tt,
 )
 
-pub script_in_range : (text : List ℕ) (m : MirrorLine) (steps : List Step) →
-    IsScript text m steps → InRange m
-script_in_range text m steps h = line_always InRange mirror_form h.first m mirror_ranges h.mirror
+pub script_in_range : (text : List ℕ) (m : MirrorLine) (loads : List Load) (master : Option ℕ)
+    (steps : List Step) → IsScript text m loads master steps → InRange m
+script_in_range text m loads master steps h =
+    line_always InRange mirror_form h.first m mirror_ranges h.mirror

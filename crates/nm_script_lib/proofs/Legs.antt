@@ -1,4 +1,4 @@
--- New legs are all alike, and a step changes neither how many legs there are nor how long they are.
+-- New legs are all alike; a stripe of such legs may be opened.
 use Rattle.std.proofs.Common.{◌≡◌, true, ℕ, ◌+◌, ◌-◌, ◌/◌, ◌<◌, ◌≤◌, ◌^◌, zero, suc, List, [], ◌∷◌, ◌++◌, length, Some, refl, sym, ap, subst, ◌∙◌, arith}
 use Rattle.std.specs.List.{AllByRecursion, slice_get}
 use Rattle.std.proofs.lemmas.List.{length-append, length-replicate}
@@ -7,11 +7,14 @@ use Rattle.nm_leg.specs.Leg.{Leg, filled_array}
 use Rattle.nm_leg.specs.LegCalls.{EachHas}
 use Rattle.nm_leg.specs.TestLegs.{of_fuse}
 use Rattle.nm_leg.specs.declared.fuse_leg.FuseLeg.{FuseLeg}
+use Rattle.nm_regions.specs.Sound.{AreSizes}
+use Rattle.nm_resync.specs.Chunk.{IsChunkSize}
+use Rattle.nm_rules.specs.declared.at.At.{At}
 use Rattle.nm_rules.specs.Array.{contents_of}
 use Rattle.nm_script_lib.specs.declared.mirror_line.MirrorLine.{MirrorLine}
 use Rattle.nm_rules.specs.Opening.{has_bit}
 use Rattle.nm_stripe.specs.Opening.{NamesALeg}
-use Rattle.nm_script_lib.specs.MemStripe.{IsFilled, AreNewLegs}
+use Rattle.nm_script_lib.specs.MemStripe.{IsFilled, AreNewLegs, InRange, place_of}
 
 pub at_place : {A : Type 0} (P : A → Type 0) (xs : List A) (k : ℕ) (x : A) → slice_get xs k ≡ Some x →
     AllByRecursion P xs → P x
@@ -94,3 +97,26 @@ names_first bits legs count low high e c = record {
   inside = omega (arith, low, c);
   named = ap (λ b. has_bit b 0) e ∙ first_bit legs low high;
 }
+
+-- a stripe of this place and so many legs has a size that a stripe may have
+pub sizes_fit : (m : MirrorLine) (place : At) (legs : ℕ) → InRange m → legs ≡ m.legs →
+    place ≡ place_of m → AreSizes place.blocks place.region legs
+sizes_fit m place legs range count is = rw is (record {
+  some_blocks = range.blocks.0;
+  most_blocks = omega (arith, range.blocks.1);
+  some_region = range.region.0;
+  most_region = range.region.1;
+  some_legs = omega (arith, range.legs.0, count);
+  most_legs = omega (arith, range.legs.1, count);
+})
+
+pub chunk_fits : (m : MirrorLine) (place : At) → InRange m → place ≡ place_of m →
+    IsChunkSize place.chunk
+chunk_fits m place range is =
+    rw is (record { some = range.chunk.0; limit = omega (arith, range.chunk.1, range.region.1) })
+
+-- legs as long as the mirror are as long as this place
+pub place_lengths : (m : MirrorLine) (place : At) (legs : List FuseLeg) → place ≡ place_of m →
+    EachHas of_fuse legs m.blocks → EachHas of_fuse legs place.blocks
+place_lengths m place legs is each =
+    subst (λ (p : At). EachHas of_fuse legs p.blocks) (sym is) each

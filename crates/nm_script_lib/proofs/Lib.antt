@@ -3,9 +3,11 @@ pub mod Numbers
 pub mod Joined
 pub mod FormLaws
 pub mod LineLaws
+pub mod OpeningLaws
 pub mod ScriptLaws
 pub mod Sent
 pub mod Legs
+pub mod Loaded
 pub mod RunLaws
 pub mod HistoryLaws
 pub mod EndLaws

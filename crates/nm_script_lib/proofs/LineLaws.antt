@@ -79,13 +79,13 @@ first_of_lines Holds lines k f = record {
   holds = f.holds;
 }
 
--- the same, counted from line n
-pub later_first : (Holds : List ℕ → Type 0) (n : ℕ) (lines : List (List ℕ)) (k : ℕ) →
-    FirstFrom Holds (n + 1) lines k →
+-- the same, counted from the line after line n
+pub later_first : (Holds : List ℕ → Type 0) (n from : ℕ) (lines : List (List ℕ)) (k : ℕ) →
+    from ≡ n + 1 → FirstFrom Holds from lines k →
     (j : ℕ) × (k ≡ n + j) × IsFirst Holds lines j
-later_first Holds n lines k f = (
+later_first Holds n from lines k e f = (
   length f.before + 1,
-  omega (arith, f.number),
+  omega (arith, e, f.number),
   record {
     before = f.before;
     line = f.line;

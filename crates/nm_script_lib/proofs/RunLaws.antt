@@ -1,16 +1,17 @@
 -- A run of steps, one step longer; and what is written of it.
-use Rattle.std.proofs.Common.{◌≡◌, ℕ, List, [], ◌∷◌, ◌++◌, Option, Some, None, Result, Ok, Err, OnOk, OnErr, refl, sym, ap, subst, ◌∙◌, append_assoc}
+use Rattle.std.proofs.Common.{◌≡◌, ℕ, List, [], ◌∷◌, ◌++◌, Option, Some, None, Result, Ok, Err, OnOk, OnErr, codes, refl, sym, ap, subst, ◌∙◌, append_assoc}
 use Rattle.std.specs.List.{flat_map}
 use Rattle.std.proofs.lemmas.List.{flat_map_more, append-nil}
 use Rattle.std.proofs.lemmas.Grind.{flat_map-append}
 use Rattle.std.specs.Io.KnownBytes.{Appends, Keeps}
 use Rattle.std.proofs.KnownBytes.{Appends-trans, Appends-nil}
+use Rattle.nm_script_lib.specs.declared.load.Load.{Load}
 use Rattle.nm_script_lib.specs.declared.mirror_line.MirrorLine.{MirrorLine}
 use Rattle.nm_script_lib.specs.declared.step.Step.{Step}
-use Rattle.nm_script_lib.specs.MemStripe.{MemStripe, IsNew}
+use Rattle.nm_script_lib.specs.MemStripe.{MemStripe, IsOpened}
 use Rattle.nm_script_lib.specs.Printing.{ended_line}
 use Rattle.nm_script_lib.specs.Streams.{AppendsPrefix, FlushesPrefix}
-use Rattle.nm_script_lib.specs.Runs.{Prints, PrintsAll, lines_of, history, run_text, AddsLine, RunsSteps, RunsPrefix, WholeRun, PartOfRun, NoSteps, FirstSteps, AllSteps, Writes}
+use Rattle.nm_script_lib.specs.Runs.{Prints, PrintsAll, lines_of, history, run_text, AddsLine, RunsSteps, RunsPrefix, WholeRun, PartOfRun, NoSteps, FirstSteps, AllSteps, Writes, loaded_line, opening_text}
 
 pub on_err : {T E : Type 0} (r : Result T E) (P : Type 0) → P → OnErr r P
 on_err (Ok x) P p = tt
@@ -201,51 +202,150 @@ whole_more old cur new all some more h k =
     append_assoc h.0 some more in
     rw e (Appends-trans old cur new h.0 (some ++ more) h.2 k)
 
+-- what is written after the lines of an opening
+
+pub runs_after : (m : MirrorLine) (steps : List Step) (start end : MemStripe)
+    (old mid cur : Option (List ℕ)) (before some rest : List ℕ) → FlushesPrefix old mid before some →
+    RunsSteps m steps start end (λ text. FlushesPrefix mid cur (some ++ text) rest) →
+    RunsSteps m steps start end (λ text. FlushesPrefix old cur (before ++ text) rest)
+runs_after m steps start end old mid cur before some rest h r = record {
+  texts = r.texts;
+  printed = r.printed;
+  written = flushes_more old mid cur before some (lines_of r.texts) rest h r.written;
+}
+
+pub stops_after : (m : MirrorLine) (steps : List Step) (start : MemStripe)
+    (old mid cur : Option (List ℕ)) (before some : List ℕ) → FlushesPrefix old mid before some →
+    RunsPrefix m steps start (λ text. AppendsPrefix mid cur (some ++ text)) →
+    RunsPrefix m steps start (λ text. AppendsPrefix old cur (before ++ text))
+stops_after m steps start old mid cur before some h r = record {
+  prefix = r.prefix;
+  rest = r.rest;
+  texts = r.texts;
+  after = r.after;
+  split = r.split;
+  printed = r.printed;
+  written = prefix_more old mid cur before some (lines_of r.texts) h r.written;
+}
+
+-- after an empty buffer stand the opening's lines alone
+pub opening_alone : (loads : List Load) (master : Option ℕ) (buffer : List ℕ) → buffer ≡ [] →
+    buffer ++ opening_text loads master ≡ opening_text loads master
+opening_alone loads master buffer e = ap (λ x. x ++ opening_text loads master) e
+
 -- a whole run, and what is written of one that ends early
 
-pub run_not_opened : (m : MirrorLine) (steps : List Step) (a : Option (List ℕ)) →
-    Writes (PartOfRun m steps) (AppendsPrefix a a)
-run_not_opened m steps a = ([], NoSteps, prefix_none a [])
+pub run_not_opened : (m : MirrorLine) (loads : List Load) (master : Option ℕ) (steps : List Step)
+    (a : Option (List ℕ)) → Writes (PartOfRun m loads master steps) (AppendsPrefix a a)
+run_not_opened m loads master steps a = ([], NoSteps, prefix_none a [])
 
-pub run_stopped : (m : MirrorLine) (steps : List Step) (start : MemStripe)
-    (old new : Option (List ℕ)) (buffer : List ℕ) → IsNew m start → buffer ≡ [] →
-    RunsPrefix m steps start (λ text. AppendsPrefix old new (buffer ++ text)) →
-    Writes (PartOfRun m steps) (AppendsPrefix old new)
-run_stopped m steps start old new buffer is e h = (
-  lines_of h.texts,
+pub opening_cut : (m : MirrorLine) (loads : List Load) (master : Option ℕ) (steps : List Step)
+    (start : MemStripe) (old new : Option (List ℕ)) (before : List ℕ) → IsOpened m loads master start →
+    before ≡ opening_text loads master → AppendsPrefix old new before →
+    Writes (PartOfRun m loads master steps) (AppendsPrefix old new)
+opening_cut m loads master steps start old new before is e h = (
+  opening_text loads master ++ [],
+  FirstSteps start start [] steps [] is refl refl,
+  prefix_longer old new (opening_text loads master) [] (subst (λ (x : List ℕ). AppendsPrefix old new x) e h),
+)
+
+pub run_stopped : (m : MirrorLine) (loads : List Load) (master : Option ℕ) (steps : List Step)
+    (start : MemStripe) (old new : Option (List ℕ)) (before : List ℕ) → IsOpened m loads master start →
+    before ≡ opening_text loads master →
+    RunsPrefix m steps start (λ text. AppendsPrefix old new (before ++ text)) →
+    Writes (PartOfRun m loads master steps) (AppendsPrefix old new)
+run_stopped m loads master steps start old new before is e h = (
+  opening_text loads master ++ lines_of h.texts,
   FirstSteps start h.after h.prefix h.rest h.texts is h.split h.printed,
   subst (λ (x : List ℕ). AppendsPrefix old new (x ++ lines_of h.texts)) e h.written,
 )
 
-abbrev done : (m : MirrorLine) (steps : List Step) (start end : MemStripe)
-    (old new : Option (List ℕ)) (buffer rest : List ℕ) → IsNew m start →
-    (h : RunsSteps m steps start end (λ text. FlushesPrefix old new (buffer ++ text) rest)) →
-    WholeRun m steps (run_text h.texts end)
-done m steps start end old new buffer rest is h = record
-    { start = start; new = is; texts = h.texts; end = end; printed = h.printed; whole = refl }
+abbrev done : (m : MirrorLine) (loads : List Load) (master : Option ℕ) (steps : List Step)
+    (start end : MemStripe) (old new : Option (List ℕ)) (before rest : List ℕ) →
+    IsOpened m loads master start →
+    (h : RunsSteps m steps start end (λ text. FlushesPrefix old new (before ++ text) rest)) →
+    WholeRun m loads master steps (opening_text loads master ++ run_text h.texts end)
+done m loads master steps start end old new before rest is h = record
+    { start = start; opened = is; texts = h.texts; end = end; printed = h.printed; whole = refl }
 
-pub run_done : (m : MirrorLine) (steps : List Step) (start end : MemStripe)
-    (old cur new : Option (List ℕ)) (buffer rest : List ℕ) → IsNew m start → buffer ≡ [] →
-    RunsSteps m steps start end (λ text. FlushesPrefix old cur (buffer ++ text) rest) →
-    Appends cur new (rest ++ history end) → Writes (WholeRun m steps) (Appends old new)
-run_done m steps start end old cur new buffer rest is e h w = (
-  run_text h.texts end,
-  done m steps start end old cur buffer rest is h,
-  subst (λ (x : List ℕ). Appends old new ((x ++ lines_of h.texts) ++ history end)) e
-      (whole_more old cur new (buffer ++ lines_of h.texts) rest (history end) h.written w),
+-- the opening's lines, then those of the steps, then the history
+regrouped : (before opening lines last : List ℕ) → before ≡ opening →
+    (before ++ lines) ++ last ≡ opening ++ (lines ++ last)
+regrouped before opening lines last e =
+    ap (λ x. (x ++ lines) ++ last) e ∙ append_assoc opening lines last
+
+pub run_done : (m : MirrorLine) (loads : List Load) (master : Option ℕ) (steps : List Step)
+    (start end : MemStripe) (old cur new : Option (List ℕ)) (before rest : List ℕ) →
+    IsOpened m loads master start → before ≡ opening_text loads master →
+    RunsSteps m steps start end (λ text. FlushesPrefix old cur (before ++ text) rest) →
+    Appends cur new (rest ++ history end) → Writes (WholeRun m loads master steps) (Appends old new)
+run_done m loads master steps start end old cur new before rest is e h w = (
+  opening_text loads master ++ run_text h.texts end,
+  done m loads master steps start end old cur before rest is h,
+  subst (λ (x : List ℕ). Appends old new x)
+      (regrouped before (opening_text loads master) (lines_of h.texts) (history end) e)
+      (whole_more old cur new (before ++ lines_of h.texts) rest (history end) h.written w),
 )
 
-pub run_cut : (m : MirrorLine) (steps : List Step) (start end : MemStripe)
-    (old cur new : Option (List ℕ)) (buffer rest : List ℕ) → IsNew m start → buffer ≡ [] →
-    RunsSteps m steps start end (λ text. FlushesPrefix old cur (buffer ++ text) rest) →
+pub run_cut : (m : MirrorLine) (loads : List Load) (master : Option ℕ) (steps : List Step)
+    (start end : MemStripe) (old cur new : Option (List ℕ)) (before rest : List ℕ) →
+    IsOpened m loads master start → before ≡ opening_text loads master →
+    RunsSteps m steps start end (λ text. FlushesPrefix old cur (before ++ text) rest) →
     AppendsPrefix cur new (rest ++ history end) →
-    Writes (PartOfRun m steps) (AppendsPrefix old new)
-run_cut m steps start end old cur new buffer rest is e h w = (
-  run_text h.texts end,
-  AllSteps (run_text h.texts end) (done m steps start end old cur buffer rest is h),
-  subst (λ (x : List ℕ). AppendsPrefix old new ((x ++ lines_of h.texts) ++ history end)) e
-      (prefix_more old cur new (buffer ++ lines_of h.texts) rest (history end) h.written w),
+    Writes (PartOfRun m loads master steps) (AppendsPrefix old new)
+run_cut m loads master steps start end old cur new before rest is e h w = (
+  opening_text loads master ++ run_text h.texts end,
+  AllSteps (opening_text loads master ++ run_text h.texts end)
+      (done m loads master steps start end old cur before rest is h),
+  subst (λ (x : List ℕ). AppendsPrefix old new x)
+      (regrouped before (opening_text loads master) (lines_of h.texts) (history end) e)
+      (prefix_more old cur new (before ++ lines_of h.texts) rest (history end) h.written w),
 )
+
+-- the lines of the loads, and then the line of the start
+
+pub loads_then : (loads : List Load) (master : ℕ) (start : Option ℕ) (buffer : List ℕ) →
+    start ≡ Some master →
+    (buffer ++ flat_map loaded_line loads) ++ ended_line (codes "started") ≡
+    buffer ++ opening_text loads start
+loads_then loads master start buffer is =
+    append_assoc buffer (flat_map loaded_line loads) (ended_line (codes "started")) ∙
+    ap (λ s. buffer ++ opening_text loads s) (sym is)
+
+pub loads_cut : (loads : List Load) (master : ℕ) (start : Option ℕ) (old new : Option (List ℕ))
+    (buffer : List ℕ) → start ≡ Some master →
+    AppendsPrefix old new (buffer ++ flat_map loaded_line loads) →
+    AppendsPrefix old new (buffer ++ opening_text loads start)
+loads_cut loads master start old new buffer is h =
+    subst (λ (x : List ℕ). AppendsPrefix old new x) (loads_then loads master start buffer is)
+    (prefix_longer old new (buffer ++ flat_map loaded_line loads) (ended_line (codes "started")) h)
+
+pub start_cut : (loads : List Load) (master : ℕ) (start : Option ℕ) (old cur new : Option (List ℕ))
+    (buffer some added : List ℕ) → start ≡ Some master →
+    FlushesPrefix old cur (buffer ++ flat_map loaded_line loads) some →
+    added ≡ some ++ ended_line (codes "started") → AppendsPrefix cur new added →
+    AppendsPrefix old new (buffer ++ opening_text loads start)
+start_cut loads master start old cur new buffer some added is h e w =
+    subst (λ (x : List ℕ). AppendsPrefix old new x) (loads_then loads master start buffer is)
+    (prefix_more old cur new (buffer ++ flat_map loaded_line loads) some (ended_line (codes "started")) h
+    (subst (λ (x : List ℕ). AppendsPrefix cur new x) e w))
+
+pub start_done : (loads : List Load) (master : ℕ) (start : Option ℕ) (old cur new : Option (List ℕ))
+    (buffer some added kept : List ℕ) → start ≡ Some master →
+    FlushesPrefix old cur (buffer ++ flat_map loaded_line loads) some →
+    added ≡ some ++ ended_line (codes "started") → FlushesPrefix cur new added kept →
+    FlushesPrefix old new (buffer ++ opening_text loads start) kept
+start_done loads master start old cur new buffer some added kept is h e w =
+    subst (λ (x : List ℕ). FlushesPrefix old new x kept) (loads_then loads master start buffer is)
+    (flushes_more old cur new (buffer ++ flat_map loaded_line loads) some (ended_line (codes "started"))
+    kept h (subst (λ (x : List ℕ). FlushesPrefix cur new x kept) e w))
+
+-- without a start nothing is written
+pub no_opening : (loads : List Load) (start : Option ℕ) (a : Option (List ℕ)) (buffer : List ℕ) →
+    start ≡ None → FlushesPrefix a a (buffer ++ opening_text loads start) buffer
+no_opening loads start a buffer is =
+    subst (λ (s : Option ℕ). FlushesPrefix a a (buffer ++ opening_text loads s) buffer) (sym is)
+    ([], append-nil buffer, Appends-nil a)
 
 pub ok_then : {T E : Type 0} (r : Result T E) (P Q : Type 0) → (P → Q) → OnOk r P → OnOk r Q
 ok_then (Ok x) P Q f p = f p

@@ -1,22 +1,24 @@
 -- A text is read as the script that it is, and where it is none the right line is named.
-use Rattle.std.proofs.Common.{◌≡◌, ℕ, ◌+◌, ◌<◌, true, false, cond, not, List, [], ◌∷◌, length, filter, get_or, take, zero, suc, Some, None, Option, Result, Ok, Err, codes, refl, sym, ap, subst, ◌∙◌, arith, inl, inr, ◌==◌}
-use Rattle.std.specs.List.{AllByRecursion, AllZip, Any, list_any, slice_split, before_first, after_first, position_or_len}
+use Rattle.std.proofs.Common.{◌≡◌, ℕ, ◌+◌, ◌<◌, true, false, cond, not, List, [], ◌∷◌, ◌++◌, length, filter, get_or, take, zero, suc, Some, None, Option, Result, Ok, Err, codes, refl, sym, ap, subst, ◌∙◌, arith, inl, inr, ◌==◌}
+use Rattle.std.specs.List.{AllByRecursion, Any, list_any, slice_split, before_first, after_first, position_or_len}
 use Rattle.std.specs.Str.{IsUtf8, is_utf8}
 use Rattle.std.proofs.lemmas.Bool.{cases_Bool, both_ways, not-true, not-false, not_from_true, eqb-true, cases_lt, or_parts, false_from_ne_true}
 use Rattle.std.proofs.lemmas.Str.{IsUtf8-from_is_utf8, is_utf8-from_IsUtf8}
 use Rattle.std.proofs.lemmas.List.{take_all}
 use Rattle.std.proofs.lemmas.List.Folds.{Any-from_list_any}
 use Rattle.std.proofs.lemmas.List.Splits.{slice_split_first}
+use Rattle.nm_script_lib.specs.declared.load.Load.{Load}
 use Rattle.nm_script_lib.specs.declared.mirror_line.MirrorLine.{MirrorLine}
 use Rattle.nm_script_lib.specs.declared.step.Step.{Step}
-use Rattle.nm_script_lib.specs.Grammar.{IsMirrorLine, IsStepLine, mirror_form, IsScript, has_content}
-use Rattle.nm_script_lib.specs.BadLine.{IsFirst, IsNotUtf8, HasContent, NamesMirror, IsBadMirror, IsBadStep, Names, NotUtf8, NoMirrorLine, WrongMirrorLine, WrongStep, NamesLine}
+use Rattle.nm_script_lib.specs.Grammar.{IsMirrorLine, mirror_form, IsScript, has_content}
+use Rattle.nm_script_lib.specs.BadLine.{IsFirst, IsNotUtf8, HasContent, NamesMirror, IsBadMirror, Names, NotUtf8, NoMirrorLine, WrongMirrorLine, WrongStep, NamesLine}
 use Rattle.nm_script_lib.specs.Reading.{pieces, is_word, read_line}
-use Rattle.nm_script_lib.specs.ScriptReading.{first_where, content_from, steps_of, names_mirror, with_mirror, after_mirror, from_content, from_utf8, script_of}
+use Rattle.nm_script_lib.specs.ScriptReading.{first_where, content_from, names_mirror, Said, after_mirror, from_content, from_utf8, script_of}
 use Rattle.nm_script_lib.proofs.Pieces.{split_whole}
 use Rattle.nm_script_lib.proofs.Joined.{are_separated, pieces_are}
 use Rattle.nm_script_lib.proofs.FormLaws.{same_word, word_same, line_sound, line_complete}
-use Rattle.nm_script_lib.proofs.LineLaws.{first_of_lines, later_first, where_found, where_none, none_where, ContentFrom, content_found, content_none, content_back, steps_sound, steps_bad, steps_read}
+use Rattle.nm_script_lib.proofs.LineLaws.{first_of_lines, where_found, where_none, none_where, ContentFrom, content_found, content_none, content_back}
+use Rattle.nm_script_lib.proofs.OpeningLaws.{ReadRest, read_rest, rest_sound, rest_read, rest_bad}
 
 -- UTF-8
 
@@ -35,94 +37,86 @@ not_utf8_back line h is_not = is_not (utf8 line h)
 
 -- a script is read
 
-with_mirror_ok : (m n : MirrorLine) (r : Result (List Step) ℕ) (ss : List Step) →
-    with_mirror m r ≡ Ok (n, ss) → (m ≡ n) × (r ≡ Ok ss)
-with_mirror_ok m n (Ok rest) ss h =
-    let p : ◌≡◌ {A = MirrorLine × List Step} (m, rest) (n, ss) = cc in
-    (ap (λ x. x.0) p, ap Ok (ap (λ x. x.1) p))
-with_mirror_ok m n (Err k) ss h = cc
-
-same_bad : (a b : ℕ) → ◌≡◌ {A = Result (MirrorLine × List Step) ℕ} (Err a) (Err b) → a ≡ b
+same_bad : (a b : ℕ) → ◌≡◌ {A = Result Said ℕ} (Err a) (Err b) → a ≡ b
 same_bad a b h = cc
 
-with_mirror_err : (m : MirrorLine) (r : Result (List Step) ℕ) (k : ℕ) → with_mirror m r ≡ Err k →
-    r ≡ Err k
-with_mirror_err m (Ok rest) k h = cc
-with_mirror_err m (Err j) k h = cc
-
 -- what it takes to be a script, at lines that are known
-pub record ReadLines (lines : List (List ℕ)) (m : MirrorLine) (ss : List Step) : Type 0 where
+pub record ReadLines (lines : List (List ℕ)) (m : MirrorLine) (loads : List Load) (master : Option ℕ)
+    (ss : List Step) : Type 0 where
   pub first : List ℕ
-  pub others : List (List ℕ)
+  pub rest : List (List ℕ)
   pub utf8 : AllByRecursion IsUtf8 lines
-  pub content : filter has_content lines ≡ first ∷ others
+  pub content : filter has_content lines ≡ first ∷ filter has_content rest
   pub mirror : IsMirrorLine first m
-  pub each_step : AllZip (IsStepLine m) others ss
+  pub reads : ReadRest m rest loads master ss
 
 after_sound : (lines rest : List (List ℕ)) (n : ℕ) (line : List ℕ) (o : Option MirrorLine) (m : MirrorLine)
-    (ss : List Step) → o ≡ read_line mirror_form line →
+    (loads : List Load) (master : Option ℕ) (ss : List Step) → o ≡ read_line mirror_form line →
     AllByRecursion IsUtf8 lines → filter has_content lines ≡ line ∷ filter has_content rest →
-    after_mirror lines n rest o ≡ Ok (m, ss) → ReadLines lines m ss
-after_sound lines rest n line None m ss e u f h = cc
-after_sound lines rest n line (Some x) m ss e u f h =
-    let w = with_mirror_ok x m (steps_of x (n + 1) rest) ss h in
+    after_mirror lines n rest o ≡ Ok (m, loads, master, ss) → ReadLines lines m loads master ss
+after_sound lines rest n line None m loads master ss e u f h = cc
+after_sound lines rest n line (Some x) m loads master ss e u f h =
+    let w = rest_sound x m (n + 1) rest loads master ss h in
     let is : read_line mirror_form line ≡ Some m = sym e ∙ ap Some w.0 in
-    let steps : steps_of m (n + 1) rest ≡ Ok ss = ap (λ y. steps_of y (n + 1) rest) (sym w.0) ∙
-    w.1 in
     record {
       first = line;
-      others = filter has_content rest;
+      rest = rest;
       utf8 = u;
       content = f;
       mirror = line_sound mirror_form line m is;
-      each_step = steps_sound m (n + 1) rest ss steps;
+      reads = subst (λ y. ReadRest y rest loads master ss) w.0 w.1;
     }
 
 content_sound : (lines : List (List ℕ)) (o : Option (ℕ × List ℕ ×
-    List (List ℕ))) (m : MirrorLine) (ss : List Step) → content_from 1 lines ≡ o →
-    AllByRecursion IsUtf8 lines → from_content lines o ≡ Ok (m, ss) → ReadLines lines m ss
-content_sound lines None m ss e u h = cc
-content_sound lines (Some (n, line, rest)) m ss e u h =
+    List (List ℕ))) (m : MirrorLine) (loads : List Load) (master : Option ℕ) (ss : List Step) →
+    content_from 1 lines ≡ o → AllByRecursion IsUtf8 lines →
+    from_content lines o ≡ Ok (m, loads, master, ss) → ReadLines lines m loads master ss
+content_sound lines None m loads master ss e u h = cc
+content_sound lines (Some (n, line, rest)) m loads master ss e u h =
     let f = content_found 1 lines (n, line, rest) e in
-    after_sound lines rest n line (read_line mirror_form line) m ss refl u f.content h
+    after_sound lines rest n line (read_line mirror_form line) m loads master ss refl u f.content h
 
-utf8_sound : (lines : List (List ℕ)) (o : Option ℕ) (m : MirrorLine) (ss : List Step) →
-    first_where (λ line. not (is_utf8 line)) 1 lines ≡ o →
-    from_utf8 lines o ≡ Ok (m, ss) → ReadLines lines m ss
-utf8_sound lines (Some k) m ss e h = cc
-utf8_sound lines None m ss e h =
-    content_sound lines (content_from 1 lines) m ss refl
+utf8_sound : (lines : List (List ℕ)) (o : Option ℕ) (m : MirrorLine) (loads : List Load)
+    (master : Option ℕ) (ss : List Step) → first_where (λ line. not (is_utf8 line)) 1 lines ≡ o →
+    from_utf8 lines o ≡ Ok (m, loads, master, ss) → ReadLines lines m loads master ss
+utf8_sound lines (Some k) m loads master ss e h = cc
+utf8_sound lines None m loads master ss e h =
+    content_sound lines (content_from 1 lines) m loads master ss refl
     (where_none (λ line. not (is_utf8 line)) IsUtf8 utf8 1 lines e) h
 
 -- a text that is read is a script
-pub script_sound : (text : List ℕ) (m : MirrorLine) (ss : List Step) →
-    script_of (pieces 10 text) ≡ Ok (m, ss) → IsScript text m ss
+pub script_sound : (text : List ℕ) (m : MirrorLine) (loads : List Load) (master : Option ℕ)
+    (ss : List Step) → script_of (pieces 10 text) ≡ Ok (m, loads, master, ss) →
+    IsScript text m loads master ss
 unfolding script_of
-script_sound text m ss h =
+script_sound text m loads master ss h =
     let lines : List (List ℕ) = pieces 10 text in
-    let r = utf8_sound lines (first_where (λ line. not (is_utf8 line)) 1 lines) m ss refl h in
+    let r = utf8_sound lines (first_where (λ line. not (is_utf8 line)) 1 lines) m loads master ss refl h in
     record {
       lines = lines;
       first = r.first;
-      others = r.others;
+      opening = r.reads.opening;
+      others = r.reads.others;
       are_lines = are_separated 10 text;
-      utf8 =
-          r.utf8;
-      content = r.content;
+      utf8 = r.utf8;
+      content = r.content ∙ ap (λ x. r.first ∷ x) r.reads.content;
       mirror = r.mirror;
-      each_step = r.each_step;
+      opens = r.reads.opens;
+      each_step = r.reads.each_step;
     }
 
 -- a script is read as it is
-pub script_read : (text : List ℕ) (m : MirrorLine) (ss : List Step) → IsScript text m ss →
-    script_of (pieces 10 text) ≡ Ok (m, ss)
+pub script_read : (text : List ℕ) (m : MirrorLine) (loads : List Load) (master : Option ℕ)
+    (ss : List Step) → IsScript text m loads master ss →
+    script_of (pieces 10 text) ≡ Ok (m, loads, master, ss)
 unfolding script_of
-script_read text m ss h =
+script_read text m loads master ss h =
     let e = pieces_are 10 text h.lines h.are_lines in
     let u = none_where (λ line. not (is_utf8 line)) IsUtf8 utf8_back 1 h.lines h.utf8 in
-    let b = content_back 1 h.lines h.others h.first h.content in
-    let steps : AllZip (IsStepLine m) (filter has_content b.1) ss = rw b.3 h.each_step in
-    rw (e, u, b.2, line_complete mirror_form h.first m h.mirror, steps_read m (b.0 + 1) b.1 ss steps) refl
+    let b = content_back 1 h.lines (h.opening ++ h.others) h.first h.content in
+    let rest : read_rest m (b.0 + 1) b.1 ≡ Ok (m, loads, master, ss) =
+    rest_read m (b.0 + 1) b.1 h.opening h.others loads master ss b.3 h.opens h.each_step in
+    rw (e, u, b.2, line_complete mirror_form h.first m h.mirror) rest
 
 -- the line that is named
 
@@ -226,11 +220,10 @@ after_bad lines rest n line None k e u f h =
           named_at 1 k lines (sym t) (NoMirrorLine u (none_names lines fails))
     ]
 after_bad lines rest n line (Some m) k e u f h =
-    let bad = steps_bad m (n + 1) rest k (with_mirror_err m (steps_of m (n + 1) rest) k h) in
-    let first = later_first (IsBadStep m) n rest k bad in
-    named_at (n + first.0) k lines first.1
-    (WrongStep n first.0 m u (one_first n lines rest line f) (line_sound mirror_form line m (sym e))
-    first.2)
+    let bad = rest_bad m n rest k h in
+    named_at (n + bad.skipped + bad.line) k lines (sym bad.number)
+    (WrongStep n bad.skipped bad.line m u (one_first n lines rest line f)
+    (line_sound mirror_form line m (sym e)) bad.after bad.follows bad.first)
 
 content_bad : (lines : List (List ℕ)) (o : Option (ℕ × List ℕ × List (List ℕ))) (k : ℕ) →
     content_from 1 lines ≡ o →

@@ -1,9 +1,11 @@
 -- Which line is named where a text is no script.
-use Rattle.std.specs.Prelude.{◌≡◌, ℕ, ◌+◌, List, ◌∷◌, ◌++◌, length, ◌==◌, IsTrue, IsUtf8, codes}
+use Rattle.std.specs.Prelude.{◌≡◌, ℕ, ◌+◌, List, ◌∷◌, ◌++◌, length, ◌==◌, IsTrue, IsUtf8, Some, codes}
+use Rattle.std.specs.Prelude.{filter}
 use Rattle.std.specs.List.{before_first, AllByRecursion, Any}
+use Rattle.nm_script_lib.specs.declared.load.Load.{Load}
 use Rattle.nm_script_lib.specs.declared.mirror_line.MirrorLine.{MirrorLine}
 use Rattle.nm_script_lib.specs.declared.step.Step.{Step}
-use Rattle.nm_script_lib.specs.Grammar.{IsMirrorLine, IsStepLine, AreLines, has_content}
+use Rattle.nm_script_lib.specs.Grammar.{IsMirrorLine, IsOpening, IsStepLine, AreLines, has_content}
 
 -- The number, counted from 1, of the first line for which a fact holds.
 pub record IsFirst (Holds : List ℕ → Type 0) (lines : List (List ℕ)) (n : ℕ) : Type 0 where
@@ -33,18 +35,31 @@ IsBadMirror line = (m : MirrorLine) → IsMirrorLine line m → ⊥
 abbrev pub IsBadStep : MirrorLine → List ℕ → Type 0
 IsBadStep m line = HasContent line × ((s : Step) → IsStepLine m line s → ⊥)
 
+-- The lines after the opening, of which the first is the one after line j: where the lines with
+-- content begin with loads and one start, those after the start; else all.
+pub data FollowsOpening (m : MirrorLine) (lines : List (List ℕ)) : ℕ → List (List ℕ) → Type 0 where
+  Opens : (before after : List (List ℕ)) (loads : List Load) (master : ℕ) → lines ≡ before ++ after
+      → IsOpening m (filter has_content before) loads (Some master)
+      → FollowsOpening m lines (length before) after
+  OpensNone : ((before after : List (List ℕ)) (loads : List Load) (master : ℕ)
+      → lines ≡ before ++ after
+      → IsOpening m (filter has_content before) loads (Some master) → ⊥)
+      → FollowsOpening m lines 0 lines
+
 -- Line n is named. The first line that is not UTF-8 is, whatever stands before it. In a text that
 -- is UTF-8: where no line's first word is `mirror`, line 1; else the first line with content, if it
--- is no mirror line; else the first line after it that has content and is no step.
+-- is no mirror line; else the first line after it, or after the start of its opening, that has
+-- content and is no step.
 pub data Names (lines : List (List ℕ)) : ℕ → Type 0 where
   NotUtf8 : (n : ℕ) → IsFirst IsNotUtf8 lines n → Names lines n
   NoMirrorLine : AllByRecursion IsUtf8 lines
       → AllByRecursion (λ line. NamesMirror line → ⊥) lines → Names lines 1
   WrongMirrorLine : (n : ℕ) → AllByRecursion IsUtf8 lines → Any NamesMirror lines
       → (first : IsFirst HasContent lines n) → IsBadMirror first.line → Names lines n
-  WrongStep : (n k : ℕ) (m : MirrorLine) → AllByRecursion IsUtf8 lines
+  WrongStep : (n j k : ℕ) (m : MirrorLine) → AllByRecursion IsUtf8 lines
       → (first : IsFirst HasContent lines n) → IsMirrorLine first.line m
-      → IsFirst (IsBadStep m) first.after k → Names lines (n + k)
+      → (after : List (List ℕ)) → FollowsOpening m first.after j after
+      → IsFirst (IsBadStep m) after k → Names lines (n + j + k)
 
 -- Line n of the text is named.
 abbrev pub NamesLine : List ℕ → ℕ → Type 0

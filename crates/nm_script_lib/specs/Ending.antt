@@ -2,6 +2,7 @@
 use Rattle.std.specs.Prelude.{◌≡◌, ℕ, List, Option, Result, Ok, Err, ◌⊎◌}
 use Rattle.std.specs.Io.KnownBytes.{Appends, Keeps}
 use Rattle.nm_script_lib.specs.declared.fused_call.FusedCall.{FusedCall}
+use Rattle.nm_script_lib.specs.declared.load.Load.{Load}
 use Rattle.nm_script_lib.specs.declared.mirror_line.MirrorLine.{MirrorLine}
 use Rattle.nm_script_lib.specs.declared.step.Step.{Step}
 use Rattle.nm_script_lib.specs.declared.run_error.RunError.{RunError}
@@ -15,47 +16,52 @@ use Rattle.nm_script_lib.specs.RunErrors.{status_of, error_line}
 use Rattle.nm_script_lib.specs.Runs.{WholeRun, PartOfRun, Writes}
 
 -- The whole input is this script.
-pub record ReadsScript (old new : Option (List ℕ)) (m : MirrorLine) (steps : List Step)
-    : Type 0 where
+pub record ReadsScript (old new : Option (List ℕ)) (m : MirrorLine) (loads : List Load)
+    (master : Option ℕ) (steps : List Step) : Type 0 where
   pub text : List ℕ
   pub read : ReadsAll old new text
-  pub script : IsScript text m steps
+  pub script : IsScript text m loads master steps
 
 -- The whole input is no script, and this line is named.
 pub record ReadsNone (old new : Option (List ℕ)) (line : ℕ) : Type 0 where
   pub text : List ℕ
   pub read : ReadsAll old new text
   pub named : NamesLine text line
-  pub none : (m : MirrorLine) (steps : List Step) → IsScript text m steps → ⊥
+  pub none : (m : MirrorLine) (loads : List Load) (master : Option ℕ) (steps : List Step)
+      → IsScript text m loads master steps → ⊥
 
 -- The input is a script whose mirror lacks the call that is to fail. Line 1 is named.
 pub record LacksCall (fuse : Option FusedCall) (old new : Option (List ℕ)) (line : ℕ)
     : Type 0 where
   pub mirror : MirrorLine
+  pub loads : List Load
+  pub master : Option ℕ
   pub steps : List Step
-  pub read : ReadsScript old new mirror steps
+  pub read : ReadsScript old new mirror loads master steps
   pub lacks : HasCall mirror fuse → ⊥
   pub named : line ≡ 1
 
 -- The input is a script whose mirror has the call that is to fail, and of its run this was written.
 abbrev pub Wrote : Option FusedCall → (old new : Option (List ℕ))
-    → (MirrorLine → List Step → Type 0) → Type 0
+    → (MirrorLine → List Load → Option ℕ → List Step → Type 0) → Type 0
 Wrote fuse old new Done =
-    (m : MirrorLine) × (steps : List Step) × ReadsScript old new m steps × HasCall m fuse
-    × Done m steps
+    (m : MirrorLine) × (loads : List Load) × (master : Option ℕ) × (steps : List Step)
+    × ReadsScript old new m loads master steps × HasCall m fuse × Done m loads master steps
 
 -- A part of its run's lines was written.
 abbrev pub PartDone : Option FusedCall → (in_old in_new out_old out_new : Option (List ℕ)) → Type 0
 PartDone fuse in_old in_new out_old out_new =
     Wrote fuse in_old in_new
-    (λ m steps. Writes (PartOfRun m steps) (AppendsPrefix out_old out_new))
+    (λ m loads master steps.
+    Writes (PartOfRun m loads master steps) (AppendsPrefix out_old out_new))
 
 -- What was read and written, by how the run ended. A call of a leg may be set to fail before the
 -- first step; no clause sees which call it is.
 abbrev pub Ended : Option FusedCall → Result (Unit {0}) RunError
     → (in_old in_new out_old out_new : Option (List ℕ)) → Type 0
 Ended fuse (Ok done) in_old in_new out_old out_new =
-    Wrote fuse in_old in_new (λ m steps. Writes (WholeRun m steps) (Appends out_old out_new))
+    Wrote fuse in_old in_new
+    (λ m loads master steps. Writes (WholeRun m loads master steps) (Appends out_old out_new))
 Ended fuse (Err (BadStep line)) in_old in_new out_old out_new =
     (ReadsNone in_old in_new line ⊎ LacksCall fuse in_old in_new line) × Keeps out_old out_new
 Ended fuse (Err Memory) in_old in_new out_old out_new =

@@ -1,7 +1,8 @@
 -- The script language: which bytes are a script, and what it says.
 use Rattle.std.specs.Prelude.{◌≡◌, ℕ, ◌^◌, ◌-◌, Bool, false, List, [], ◌∷◌, ◌==◌, not, IsUtf8}
-use Rattle.std.specs.Prelude.{codes, filter}
+use Rattle.std.specs.Prelude.{codes, filter, ◌++◌, Option, None, Some}
 use Rattle.std.specs.List.{AllZip, AllByRecursion}
+use Rattle.nm_script_lib.specs.declared.load.Load.{Load}
 use Rattle.nm_script_lib.specs.declared.mirror_line.MirrorLine.{MirrorLine}
 use Rattle.nm_script_lib.specs.declared.step.Step.{Step}
 use Rattle.nm_script_lib.specs.declared.step.Step.TheVariants.{Ask, Fuse, Peek, State}
@@ -79,6 +80,27 @@ IsStepLine m line step = IsLine (step_form m) line step
 abbrev pub IsMirrorLine : List ℕ → MirrorLine → Type 0
 IsMirrorLine line m = IsLine mirror_form line m
 
+-- The line of a load: the leg, the block, and the byte that all of the block's bytes are.
+abbrev pub load_form : MirrorLine → Form Load
+load_form m = keywords ((
+  codes "load",
+  Then (Below m.legs) (λ leg. Then (Below m.blocks) (λ block. Then Byte (λ fill.
+      Makes (record { leg = leg; block = block; fill = fill })))),
+) ∷ []) NoForm
+
+-- The line that starts a comparison with a leg.
+abbrev pub start_form : MirrorLine → Form ℕ
+start_form m = keywords ((codes "start", one (Below m.legs) (λ leg. leg)) ∷ []) NoForm
+
+-- The lines between the mirror line and the steps: none, and no leg is loaded or compared; or
+-- loads, and then one start.
+abbrev pub IsOpening : MirrorLine → List (List ℕ) → List Load → Option ℕ → Type 0
+IsOpening m lines loads None = (lines ≡ []) × (loads ≡ [])
+IsOpening m lines loads (Some master) =
+    (before : List (List ℕ)) × (last : List ℕ) × (lines ≡ before ++ (last ∷ []))
+    × AllZip (λ line load. IsLine (load_form m) line load) before loads
+    × IsLine (start_form m) last master
+
 -- Empty lines and comments, which begin with `#`, are skipped. Every other line has content.
 abbrev pub has_content : List ℕ → Bool
 has_content [] = false
@@ -88,13 +110,17 @@ has_content (b ∷ bytes) = not (b == 35)
 abbrev pub AreLines : List ℕ → List (List ℕ) → Type 0
 AreLines text lines = AreSeparated 10 text lines
 
--- A script: UTF-8. Of the lines with content the first is a mirror line, the others are steps.
-pub record IsScript (text : List ℕ) (m : MirrorLine) (steps : List Step) : Type 0 where
+-- A script: UTF-8. Of the lines with content the first is a mirror line, then those that say how
+-- the stripe opens, if any, and the others are steps.
+pub record IsScript (text : List ℕ) (m : MirrorLine) (loads : List Load) (master : Option ℕ)
+    (steps : List Step) : Type 0 where
   pub lines : List (List ℕ)
   pub first : List ℕ
+  pub opening : List (List ℕ)
   pub others : List (List ℕ)
   pub are_lines : AreLines text lines
   pub utf8 : AllByRecursion IsUtf8 lines
-  pub content : filter has_content lines ≡ first ∷ others
+  pub content : filter has_content lines ≡ first ∷ (opening ++ others)
   pub mirror : IsMirrorLine first m
+  pub opens : IsOpening m opening loads master
   pub each_step : AllZip (IsStepLine m) others steps

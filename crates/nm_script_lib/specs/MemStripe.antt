@@ -1,9 +1,12 @@
--- The stripe that a script runs: legs in memory, each with a fuse, of zero bytes and all in sync.
-use Rattle.std.specs.Prelude.{◌≡◌, true, ℕ, ◌+◌, ◌<◌, ◌≤◌, ◌^◌, ◌-◌, List, length, replicate}
+-- The stripe that a script runs: legs in memory, each with a fuse, of zero bytes and all in sync,
+-- or loaded and compared.
+use Rattle.std.specs.Prelude.{◌≡◌, true, ℕ, ◌+◌, ◌<◌, ◌≤◌, ◌^◌, ◌-◌, ◌==◌, List, [], ◌∷◌}
+use Rattle.std.specs.Prelude.{if◌then◌else◌, length, replicate, slice_get, slice_set}
 use Rattle.std.specs.Prelude.{Option, None, Some}
 use Rattle.std.specs.List.{AllByRecursion}
 use Rattle.nm_fanout.specs.declared.block_data.Data.TheVariants.{Cut, Zero as Zeroes, Part}
-use Rattle.nm_leg.specs.Leg.{LegType, leg_type, filled_leg}
+use Rattle.nm_replay.specs.Array.{Array}
+use Rattle.nm_leg.specs.Leg.{Leg, LegType, leg_type, block_of, filled_array, filled_leg}
 use Rattle.nm_leg.specs.LegCalls.{EachHas}
 use Rattle.nm_leg.specs.TestLegs.{of_fuse}
 use Rattle.nm_leg.specs.declared.fuse_leg.FuseLeg.{FuseLeg}
@@ -15,8 +18,10 @@ use Rattle.nm_stripe.specs.declared.step.Step.TheVariants.{Fail as FailStep, Att
 use Rattle.nm_stripe.specs.declared.step.Step.TheVariants.{Replace as ReplaceStep, Copy as CopyStep}
 use Rattle.nm_stripe.specs.declared.step.Step.TheVariants.{Promote as PromoteStep, Sync as SyncStep}
 use Rattle.nm_rules.specs.State.{StripeState}
+use Rattle.nm_rules.specs.Comparing.{comparing, OpensCompared}
 use Rattle.nm_rules.specs.Opening.{opened}
 use Rattle.nm_script_lib.specs.declared.fused_call.FusedCall.{FusedCall}
+use Rattle.nm_script_lib.specs.declared.load.Load.{Load}
 use Rattle.nm_script_lib.specs.declared.mirror_line.MirrorLine.{MirrorLine}
 use Rattle.nm_script_lib.specs.declared.step.Step.{Step}
 use Rattle.nm_script_lib.specs.declared.step.Step.TheVariants.{Ask, Fuse, Peek, State}
@@ -50,6 +55,35 @@ pub record AreNewLegs (m : MirrorLine) (legs : List FuseLeg) : Type 0 where
   pub count : length legs ≡ m.legs
   pub zero : AllByRecursion (IsFilled m.blocks 0) legs
 
+-- A block of one byte throughout.
+unfoldable pub filled_block : ℕ → List ℕ
+filled_block fill = replicate 512 fill
+
+-- An array with this load's block, where the load is of this leg.
+abbrev pub with_load : ℕ → Load → Array → Array
+with_load leg load array =
+    if load.leg == leg then slice_set array load.block (block_of (filled_block load.fill))
+    else array
+
+-- What a leg has that had this array, after these loads.
+abbrev pub loaded : ℕ → List Load → Array → Array
+loaded leg [] array = array
+loaded leg (load ∷ loads) array = loaded leg loads (with_load leg load array)
+
+-- The leg at this place once the mirror's new legs had these loads: all of it durable, and no call
+-- of it has failed.
+abbrev pub loaded_leg : MirrorLine → List Load → ℕ → Leg
+loaded_leg m loads place =
+    let all = loaded place loads (filled_array m.blocks 0) in
+    record { contents = all; durable = all; faults = 0 }
+
+-- As many legs as the mirror has, with these loads.
+pub record AreLoadedLegs (m : MirrorLine) (loads : List Load) (legs : List FuseLeg)
+    : Type 0 where
+  pub count : length legs ≡ m.legs
+  pub each : (place : ℕ) (leg : FuseLeg) → slice_get legs place ≡ Some leg
+      → of_fuse leg ≡ loaded_leg m loads place
+
 -- The place of the stripe.
 abbrev pub place_of : MirrorLine → At
 place_of m = record { stripe = 0; blocks = m.blocks; region = m.region; chunk = m.chunk }
@@ -64,6 +98,23 @@ HasCall m (Some fused) = (fused.leg < m.legs) × (0 < fused.call)
 pub record IsNew (m : MirrorLine) (stripe : MemStripe) : Type 0 where
   pub legs : AreNewLegs m stripe.legs
   pub state : stripe ≡ opened (place_of m) stripe.legs (2 ^ m.legs - 1) m.first m.policy
+
+-- How a script's stripe opens: with no start it is new; else its legs had these loads, and were
+-- compared with that leg.
+abbrev pub IsOpened : MirrorLine → List Load → Option ℕ → MemStripe → Type 0
+IsOpened m loads None stripe = IsNew m stripe
+IsOpened m loads (Some master) stripe =
+    (legs : List FuseLeg) × AreLoadedLegs m loads legs
+    × OpensCompared fuse_legs (comparing (place_of m) legs master m.first m.policy) stripe
+
+-- A load names a leg and a block that the mirror has.
+abbrev pub FitsLoad : MirrorLine → Load → Type 0
+FitsLoad m load = (load.leg < m.legs) × (load.block < m.blocks)
+
+-- All loads do, and the start names a leg that the mirror has.
+abbrev pub FitOpening : MirrorLine → List Load → Option ℕ → Type 0
+FitOpening m loads None = AllByRecursion (FitsLoad m) loads
+FitOpening m loads (Some master) = AllByRecursion (FitsLoad m) loads × (master < m.legs)
 
 -- The stripe has the mirror's blocks and legs. Every step keeps it so.
 pub record HasShape (m : MirrorLine) (stripe : MemStripe) : Type 0 where
@@ -89,10 +140,6 @@ IsInside m (Ask (Sync leg)) = leg < m.legs
 IsInside m (Fuse leg call) = (leg < m.legs) × (0 < call)
 IsInside m (Peek leg block) = (leg < m.legs) × (block < m.blocks)
 IsInside m State = Unit {0}
-
--- A block of one byte throughout.
-unfoldable pub filled_block : ℕ → List ℕ
-filled_block fill = replicate 512 fill
 
 -- What a step of a script asks of the stripe. A begin hands in 512 bytes, a patch as many as it
 -- names, a replace a new leg.

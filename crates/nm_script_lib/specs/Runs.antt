@@ -1,6 +1,6 @@
 -- What a run of a script writes.
-use Rattle.std.specs.Prelude.{◌≡◌, ℕ, List, [], ◌∷◌, ◌++◌, ◌↔◌, Bool, true, IsTrue, Some, slice_get}
-use Rattle.std.specs.Prelude.{codes}
+use Rattle.std.specs.Prelude.{◌≡◌, ℕ, List, [], ◌∷◌, ◌++◌, ◌↔◌, Bool, true, IsTrue}
+use Rattle.std.specs.Prelude.{Option, None, Some, slice_get, codes}
 use Rattle.std.specs.List.{flat_map}
 use Rattle.nm_replay.specs.History.{Consistent}
 use Rattle.nm_replay.specs.declared.entry.Entry.{Entry}
@@ -11,11 +11,12 @@ use Rattle.nm_stripe.specs.declared.answer.Answer.{Answer}
 use Rattle.nm_stripe.specs.declared.step.Step.{Step as MachineStep}
 use Rattle.nm_rules.specs.Array.{contents_of}
 use Rattle.nm_stripe.specs.Run.{StepOf}
+use Rattle.nm_script_lib.specs.declared.load.Load.{Load}
 use Rattle.nm_script_lib.specs.declared.mirror_line.MirrorLine.{MirrorLine}
 use Rattle.nm_script_lib.specs.declared.step.Step.{Step}
 use Rattle.nm_script_lib.specs.declared.step.Step.TheVariants.{Ask, Fuse, Peek, State}
 use Rattle.nm_script_lib.specs.declared.step.StripeStep.{StripeStep}
-use Rattle.nm_script_lib.specs.MemStripe.{MemStripe, IsAsked, IsNew, fuse_legs}
+use Rattle.nm_script_lib.specs.MemStripe.{MemStripe, IsAsked, IsOpened, fuse_legs}
 use Rattle.nm_script_lib.specs.Printing.{ended_line, answer_text, holds_text, history_lines}
 use Rattle.nm_script_lib.specs.StateLine.{state_text}
 
@@ -65,26 +66,39 @@ JudgesHistory entries total P =
 abbrev pub history : MemStripe → List ℕ
 history stripe = history_lines stripe.kept stripe.total true
 
--- All that a run writes: a line for each step, then the history.
+-- What a run writes after its opening: a line for each step, then the history.
 abbrev pub run_text : List (List ℕ) → MemStripe → List ℕ
 run_text texts end = lines_of texts ++ history end
 
--- The whole of a run on a new stripe.
-pub record WholeRun (m : MirrorLine) (steps : List Step) (text : List ℕ) : Type 0 where
+-- The line of a load.
+abbrev pub loaded_line : Load → List ℕ
+loaded_line load = ended_line (codes "loaded")
+
+-- What is printed as a stripe opens: a line for each load and one for the start, if there is one.
+abbrev pub opening_text : List Load → Option ℕ → List ℕ
+opening_text loads None = []
+opening_text loads (Some master) = flat_map loaded_line loads ++ ended_line (codes "started")
+
+-- The whole of a run: the lines of its opening, and then those of its steps and the history.
+pub record WholeRun (m : MirrorLine) (loads : List Load) (master : Option ℕ) (steps : List Step)
+    (text : List ℕ) : Type 0 where
   pub start : MemStripe
-  pub new : IsNew m start
+  pub opened : IsOpened m loads master start
   pub texts : List (List ℕ)
   pub end : MemStripe
   pub printed : PrintsAll m steps texts start end
-  pub whole : text ≡ run_text texts end
+  pub whole : text ≡ opening_text loads master ++ run_text texts end
 
--- The lines of a run that ends early: none, those of its first steps, or all lines.
-pub data PartOfRun (m : MirrorLine) (steps : List Step) : List ℕ → Type 0 where
-  NoSteps : PartOfRun m steps []
+-- The lines of a run that ends early: none, those of its opening and its first steps, or all.
+pub data PartOfRun (m : MirrorLine) (loads : List Load) (master : Option ℕ) (steps : List Step)
+    : List ℕ → Type 0 where
+  NoSteps : PartOfRun m loads master steps []
   FirstSteps : (start end : MemStripe) (prefix rest : List Step) (texts : List (List ℕ))
-      → IsNew m start → steps ≡ prefix ++ rest → PrintsAll m prefix texts start end
-      → PartOfRun m steps (lines_of texts)
-  AllSteps : (text : List ℕ) → WholeRun m steps text → PartOfRun m steps text
+      → IsOpened m loads master start → steps ≡ prefix ++ rest
+      → PrintsAll m prefix texts start end
+      → PartOfRun m loads master steps (opening_text loads master ++ lines_of texts)
+  AllSteps : (text : List ℕ) → WholeRun m loads master steps text
+      → PartOfRun m loads master steps text
 
 -- The steps were done, and their lines were written so.
 pub record RunsSteps (m : MirrorLine) (steps : List Step) (before after : MemStripe)

@@ -3,11 +3,13 @@ use Rattle.std.specs.Prelude.{◌≡◌, ℕ, ◌+◌, Bool, false, not, ◌++�
 use Rattle.std.specs.Prelude.{None, Result, Ok, Err, if◌then◌else◌, codes}
 use Rattle.std.specs.List.{list_any}
 use Rattle.std.specs.Str.{is_utf8}
+use Rattle.nm_script_lib.specs.declared.load.Load.{Load}
 use Rattle.nm_script_lib.specs.declared.mirror_line.MirrorLine.{MirrorLine}
+use Rattle.nm_script_lib.specs.declared.script.Script.{Script}
 use Rattle.nm_script_lib.specs.declared.step.Step.{Step}
 use Rattle.nm_script_lib.specs.declared.parse_error.ParseError.{ParseError}
 use Rattle.nm_script_lib.specs.declared.parse_error.ParseError.TheVariants.{Memory, BadStep}
-use Rattle.nm_script_lib.specs.Grammar.{has_content, mirror_form, step_form}
+use Rattle.nm_script_lib.specs.Grammar.{has_content, load_form, mirror_form, start_form, step_form}
 use Rattle.nm_script_lib.specs.Reading.{pieces, is_word, read_line}
 
 -- the number of the first line that passes a test, where the first line here is the n-th
@@ -35,6 +37,36 @@ steps_of m n (line ∷ lines) =
     then onto_steps (read_line (step_form m) line) n (steps_of m (n + 1) lines)
     else steps_of m (n + 1) lines
 
+-- what stands before the steps: the loads and the leg of the start, the number of the line after
+-- them, and the lines after them
+abbrev pub Opened : Type 0
+Opened = List Load × Option ℕ × ℕ × List (List ℕ)
+
+-- the opening that a start ends, or else none
+abbrev pub by_start : Option ℕ → Opened → List Load → ℕ → List (List ℕ) → Opened
+by_start (Some master) none loads n lines = (loads, Some master, n, lines)
+by_start None none loads n lines = none
+
+-- the opening after one load more, or another
+abbrev pub by_load : Option Load → (Load → Opened) → Opened → Opened
+by_load (Some load) on other = on load
+by_load None on other = other
+
+-- the opening of the lines, of which the first is line n, after these loads; where they do not go
+-- on with loads and a start, none
+abbrev pub opening_from : MirrorLine → Opened → List Load → ℕ → List (List ℕ) → Opened
+opening_from m none loads n [] = none
+opening_from m none loads n (line ∷ lines) =
+    if has_content line
+    then by_load (read_line (load_form m) line)
+    (λ load. opening_from m none (loads ++ (load ∷ [])) (n + 1) lines)
+    (by_start (read_line (start_form m) line) none loads (n + 1) lines)
+    else opening_from m none loads (n + 1) lines
+
+-- the opening of the lines; where they begin with no loads and a start, the steps begin with them
+abbrev pub opening_of : MirrorLine → ℕ → List (List ℕ) → Result Opened ℕ
+opening_of m n lines = Ok (opening_from m ([], None, n, lines) [] n lines)
+
 -- some steps before those that were read
 abbrev pub with_prefix : List Step → Result (List Step) ℕ → Result (List Step) ℕ
 with_prefix prefix (Ok steps) = Ok (prefix ++ steps)
@@ -54,28 +86,43 @@ Reads view (Ok x) read = read ≡ Ok (view x)
 Reads view (Err Memory) read = Unit {0}
 Reads view (Err (BadStep line)) read = read ≡ Err line
 
--- a mirror beside the steps that were read
-abbrev pub with_mirror : MirrorLine → Result (List Step) ℕ → Result (MirrorLine × List Step) ℕ
-with_mirror m (Ok steps) = Ok (m, steps)
-with_mirror m (Err bad) = Err bad
+-- a script's parts: its mirror, its loads and the leg of its start, and its steps
+abbrev pub Said : Type 0
+Said = MirrorLine × List Load × Option ℕ × List Step
+
+-- the mirror and the opening beside the steps that were read
+abbrev pub with_opening : MirrorLine → Opened → Result (List Step) ℕ → Result Said ℕ
+with_opening m o (Ok steps) = Ok (m, o.0, o.1, steps)
+with_opening m o (Err bad) = Err bad
+
+-- the script of the lines after the mirror line
+abbrev pub from_opening : MirrorLine → Opened → Result Said ℕ
+from_opening m o = with_opening m o (steps_of m o.2 o.3)
 
 -- the script of the first line with content and the lines after it, by the mirror of that line
-abbrev pub after_mirror :
-    List (List ℕ) → ℕ → List (List ℕ) → Option MirrorLine → Result (MirrorLine × List Step) ℕ
+abbrev pub after_mirror : List (List ℕ) → ℕ → List (List ℕ) → Option MirrorLine → Result Said ℕ
 after_mirror lines n rest None = Err (if list_any names_mirror lines then n else 1)
-after_mirror lines n rest (Some m) = with_mirror m (steps_of m (n + 1) rest)
+after_mirror lines n rest (Some m) =
+    from_opening m (opening_from m ([], None, n + 1, rest) [] (n + 1) rest)
 
 -- the script of the lines, by the first with content
-abbrev pub from_content :
-    List (List ℕ) → Option (ℕ × List ℕ × List (List ℕ)) → Result (MirrorLine × List Step) ℕ
+abbrev pub from_content : List (List ℕ) → Option (ℕ × List ℕ × List (List ℕ)) → Result Said ℕ
 from_content lines None = Err 1
 from_content lines (Some (n, line, rest)) = after_mirror lines n rest (read_line mirror_form line)
 
 -- the same, by the first line that is not UTF-8
-abbrev pub from_utf8 : List (List ℕ) → Option ℕ → Result (MirrorLine × List Step) ℕ
+abbrev pub from_utf8 : List (List ℕ) → Option ℕ → Result Said ℕ
 from_utf8 lines (Some n) = Err n
 from_utf8 lines None = from_content lines (content_from 1 lines)
 
 -- what the lines of a text say, or the number of the line to name
-unfoldable pub script_of : List (List ℕ) → Result (MirrorLine × List Step) ℕ
+unfoldable pub script_of : List (List ℕ) → Result Said ℕ
 script_of lines = from_utf8 lines (first_where (λ line. not (is_utf8 line)) 1 lines)
+
+-- a script has these parts
+pub record SaysAll (m : MirrorLine) (loads : List Load) (master : Option ℕ) (steps : List Step)
+    (script : Script) : Type 0 where
+  pub same_mirror : script.mirror ≡ m
+  pub same_loads : script.loads.items ≡ loads
+  pub same_master : script.master ≡ master
+  pub same_steps : script.steps.items ≡ steps

@@ -1,18 +1,19 @@
 //! Runs the steps of a script, and writes their results.
 ghost use Rattle.std.specs.Prelude.{◌≡◌, ℕ, ◌+◌, ◌<◌, ◌≤◌, List, ◌++◌, length, IfOk, IfErr, OnOk, OnErr};
 ghost use Rattle.std.specs.List.{flat_map, AllByRecursion};
-ghost use Rattle.nm_script_lib.specs.MemStripe.{InRange, IsInside, HasShape, HasCall};
+ghost use Rattle.nm_script_lib.specs.MemStripe.{InRange, IsInside, FitOpening, HasShape, HasCall};
 ghost use Rattle.std.specs.Io.KnownBytes.{Appends};
 ghost use Rattle.nm_script_lib.specs.Streams.{AppendsPrefix, FlushesPrefix};
 ghost use Rattle.nm_script_lib.specs.Printing.{entry_line};
 ghost use Rattle.nm_script_lib.specs.RunErrors.{EndsRun};
-ghost use Rattle.nm_script_lib.specs.Runs.{RunsSteps, RunsPrefix, WholeRun, PartOfRun, JudgesHistory, Writes, history};
+ghost use Rattle.nm_script_lib.specs.Runs.{RunsSteps, RunsPrefix, WholeRun, PartOfRun, JudgesHistory, Writes, history, loaded_line, opening_text};
 
 use crate::do_step::do_step;
 use crate::fused_call::FusedCall;
+use crate::load::Load;
 use crate::mem_stripe::open_fused;
 use crate::mirror_line::MirrorLine;
-use crate::printing::{put_counts, put_entry, put_legal};
+use crate::printing::{put_counts, put_entry, put_legal, put_loaded, put_started};
 use crate::run_error::RunError;
 use crate::script::Script;
 use crate::step::Step;
@@ -138,8 +139,45 @@ fn finish<W: Write>(
     Ok(())
 }
 
-/// Runs a script on a new stripe of memory legs: writes a line a step, and then the history. One
-/// call of a leg may be set to fail before the first step.
+/// Writes a line for each load.
+fn put_loads<W: Write>(loads: &[Load], out: &mut W, buffer: &mut Vec<u8>) -> Result<(), RunError>
+    ensures ok { OnOk result (FlushesPrefix (W.contents out.old) (W.contents out.new)
+        (buffer.old.items ++ flat_map loaded_line loads.now) buffer.new.items) }
+    ensures err { OnErr result (AppendsPrefix (W.contents out.old) (W.contents out.new)
+        (buffer.old.items ++ flat_map loaded_line loads.now)) }
+    ensures cause { IfErr result EndsRun }
+{
+    for _load in loads {
+        put_loaded(buffer)?;
+        flush_if_full(out, buffer)?;
+    }
+    Ok(())
+}
+
+/// Writes the lines of an opening: one for each load and one for the start, if there is one.
+fn put_opening<W: Write>(
+    loads: &[Load],
+    master: Option<u8>,
+    out: &mut W,
+    buffer: &mut Vec<u8>,
+) -> Result<(), RunError>
+    ensures ok { OnOk result (FlushesPrefix (W.contents out.old) (W.contents out.new)
+        (buffer.old.items ++ opening_text loads.now master) buffer.new.items) }
+    ensures err { OnErr result (AppendsPrefix (W.contents out.old) (W.contents out.new)
+        (buffer.old.items ++ opening_text loads.now master)) }
+    ensures cause { IfErr result EndsRun }
+{
+    let Some(_master) = master else {
+        return Ok(());
+    };
+    put_loads(loads, out, buffer)?;
+    put_started(buffer)?;
+    flush_if_full(out, buffer)?;
+    Ok(())
+}
+
+/// Runs a script on a stripe of memory legs: writes the lines of its opening, a line a step, and
+/// then the history. One call of a leg may be set to fail before the first step.
 pub fn run<W: Write>(
     alloc: Global,
     script: &Script,
@@ -147,16 +185,20 @@ pub fn run<W: Write>(
     out: &mut W,
 ) -> Result<(), RunError>
     requires range { InRange script.now.mirror }
+    requires fits { FitOpening script.now.mirror script.now.loads.items script.now.master }
     requires call { HasCall script.now.mirror fuse }
     requires inside { AllByRecursion (IsInside script.now.mirror) script.now.steps.items }
-    ensures ok { OnOk result (Writes (WholeRun script.now.mirror script.now.steps.items)
+    ensures ok { OnOk result (Writes (WholeRun script.now.mirror script.now.loads.items
+        script.now.master script.now.steps.items)
         (Appends (W.contents out.old) (W.contents out.new))) }
-    ensures err { OnErr result (Writes (PartOfRun script.now.mirror script.now.steps.items)
+    ensures err { OnErr result (Writes (PartOfRun script.now.mirror script.now.loads.items
+        script.now.master script.now.steps.items)
         (AppendsPrefix (W.contents out.old) (W.contents out.new))) }
     ensures cause { IfErr result EndsRun }
 {
     let mut buffer = Vec::with_capacity(alloc, BUFFER_SIZE + LINE_SIZE)?;
-    let mut stripe = open_fused(alloc, &script.mirror, fuse)?;
+    let mut stripe = open_fused(alloc, script, fuse)?;
+    put_opening(&script.loads, script.master, out, &mut buffer)?;
     run_steps(
         alloc,
         &script.mirror,

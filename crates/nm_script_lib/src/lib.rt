@@ -11,6 +11,7 @@ mod engine;
 mod fill;
 mod fused_call;
 mod input_error;
+mod load;
 mod mem_stripe;
 mod mirror_line;
 mod parse_error;

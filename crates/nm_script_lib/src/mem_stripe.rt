@@ -1,18 +1,24 @@
-//! The stripe that a script runs: legs in memory, each with a fuse, of zero bytes and all in sync.
-ghost use Rattle.std.specs.Prelude.{◌≡◌, ℕ, ◌<◌, ◌≤◌, ◌-◌, ◌^◌, length, replicate, IfOk, IfErr};
+//! The stripe that a script runs: legs in memory, each with a fuse, of zero bytes and all in sync,
+//! or loaded and compared.
+ghost use Rattle.std.specs.Prelude.{◌≡◌, ℕ, ◌<◌, ◌≤◌, ◌-◌, ◌^◌, true, length, replicate, Some, IfOk, IfErr, OnOk};
+ghost use Rattle.std.specs.List.{AllByRecursion};
 ghost use Rattle.nm_fanout.specs.declared.block_data.Data.TheVariants.{Part};
+ghost use Rattle.nm_leg.specs.LegCalls.{HasBlock, WritesLegAt};
+ghost use Rattle.nm_leg.specs.TestLegs.{of_fuse};
 ghost use Rattle.nm_script_lib.specs.declared.step.Step.TheVariants.{Ask};
-ghost use Rattle.nm_script_lib.specs.MemStripe.{InRange, AreNewLegs, IsNew, HasCall, HasShape, IsInside, IsAsked, filled_block};
+ghost use Rattle.nm_script_lib.specs.MemStripe.{InRange, AreNewLegs, AreLoadedLegs, IsNew, IsOpened, FitsLoad, FitOpening, place_of, HasCall, HasShape, IsInside, IsAsked, filled_block, fuse_legs};
 ghost use Rattle.nm_script_lib.specs.RunErrors.{EndsRun};
 ghost use Rattle.nm_script_lib.specs.Runs.{Answers};
 
 use crate::fused_call::FusedCall;
+use crate::load::Load;
 use crate::mirror_line::MirrorLine;
 use crate::run_error::RunError;
+use crate::script::Script;
 use crate::step::StripeStep;
 use bytes::Bytes;
 use nm_fanout::Data;
-use nm_leg::FuseLeg;
+use nm_leg::{FuseLeg, LegFault, write_leg_at};
 use nm_stripe::{Answer, At, Step, Stripe};
 use std::alloc::Global;
 
@@ -36,6 +42,18 @@ fn all_in_sync(legs: u8) -> u8
     u8::MAX >> (8 - legs)
 }
 
+/// The place of a mirror's one stripe.
+fn place_of(mirror: &MirrorLine) -> At
+    ensures { result ≡ place_of mirror.now }
+{
+    At {
+        stripe: 0,
+        blocks: mirror.blocks,
+        region: mirror.region,
+        chunk: mirror.chunk,
+    }
+}
+
 /// A new stripe for this mirror.
 fn open(alloc: Global, mirror: &MirrorLine) -> Result<Stripe<FuseLeg>, RunError>
     requires { InRange mirror.now }
@@ -44,30 +62,88 @@ fn open(alloc: Global, mirror: &MirrorLine) -> Result<Stripe<FuseLeg>, RunError>
 {
     let legs = new_legs(alloc, mirror)?;
     let in_sync = all_in_sync(mirror.legs);
-    let place = At {
-        stripe: 0,
-        blocks: mirror.blocks,
-        region: mirror.region,
-        chunk: mirror.chunk,
-    };
+    let place = place_of(mirror);
     match Stripe::open(alloc, place, legs, in_sync, mirror.first, mirror.policy) {
         Ok(stripe) => Ok(stripe),
         Err((memory, _)) => Err(RunError::from(memory)),
     }
 }
 
-/// A new stripe for this mirror, of whose legs one call fails.
-pub fn open_fused(
-    alloc: Global,
-    mirror: &MirrorLine,
-    fuse: Option<FusedCall>,
-) -> Result<Stripe<FuseLeg>, RunError>
-    requires range { InRange mirror.now }
-    requires call { HasCall mirror.now fuse }
-    ensures opened { IfOk result (λ stripe. IsNew mirror.now stripe) }
+/// Writes a load to its leg. No call of a leg fails here, as no fuse is set.
+fn load_leg(legs: &mut [FuseLeg], load: &Load) -> Result<(), RunError>
+    requires leg { load.now.leg < length legs.old }
+    requires block { HasBlock of_fuse legs.old load.now.leg load.now.block }
+    ensures ok { OnOk result (WritesLegAt fuse_legs true load.now.leg load.now.block
+        (filled_block load.now.fill) legs.old legs.new) }
     ensures cause { IfErr result EndsRun }
 {
-    let stripe = open(alloc, mirror)?;
+    match write_leg_at(legs, load.leg, load.block, &filled_block(load.fill)) {
+        Ok(()) => Ok(()),
+        Err(LegFault) => Err(RunError::Memory),
+    }
+}
+
+/// The mirror's legs, with these loads.
+fn loaded_legs(alloc: Global, mirror: &MirrorLine, loads: &[Load]) -> Result<Vec<FuseLeg>, RunError>
+    requires { AllByRecursion (FitsLoad mirror.now) loads.now }
+    ensures legs { IfOk result (λ v. AreLoadedLegs mirror.now loads.now v.items) }
+    ensures cause { IfErr result EndsRun }
+{
+    let mut legs = new_legs(alloc, mirror)?;
+    for load in loads {
+        load_leg(&mut legs, load)?;
+    }
+    Ok(legs)
+}
+
+/// A stripe for this mirror whose legs have these loads, and were compared with the master.
+fn open_compared(
+    alloc: Global,
+    mirror: &MirrorLine,
+    loads: &[Load],
+    master: u8,
+) -> Result<Stripe<FuseLeg>, RunError>
+    requires range { InRange mirror.now }
+    requires fits { FitOpening mirror.now loads.now (Some master) }
+    ensures opened { IfOk result (IsOpened mirror.now loads.now (Some master)) }
+    ensures cause { IfErr result EndsRun }
+{
+    let legs = loaded_legs(alloc, mirror, loads)?;
+    let place = place_of(mirror);
+    match Stripe::open_compared(alloc, place, legs, master, mirror.first, mirror.policy) {
+        Ok(stripe) => Ok(stripe),
+        Err(_) => Err(RunError::Memory),
+    }
+}
+
+/// The stripe of a script.
+fn open_script(alloc: Global, script: &Script) -> Result<Stripe<FuseLeg>, RunError>
+    requires range { InRange script.now.mirror }
+    requires fits { FitOpening script.now.mirror script.now.loads.items script.now.master }
+    ensures opened { IfOk result
+        (IsOpened script.now.mirror script.now.loads.items script.now.master) }
+    ensures cause { IfErr result EndsRun }
+{
+    match script.master {
+        Some(master) => open_compared(alloc, &script.mirror, &script.loads, master),
+        None => open(alloc, &script.mirror),
+    }
+}
+
+/// The stripe of a script, of whose legs one call fails once it is open.
+pub fn open_fused(
+    alloc: Global,
+    script: &Script,
+    fuse: Option<FusedCall>,
+) -> Result<Stripe<FuseLeg>, RunError>
+    requires range { InRange script.now.mirror }
+    requires fits { FitOpening script.now.mirror script.now.loads.items script.now.master }
+    requires call { HasCall script.now.mirror fuse }
+    ensures opened { IfOk result
+        (IsOpened script.now.mirror script.now.loads.items script.now.master) }
+    ensures cause { IfErr result EndsRun }
+{
+    let stripe = open_script(alloc, script)?;
     if let Some(fused) = fuse {
         stripe.part(fused.leg).set(fused.call);
     }

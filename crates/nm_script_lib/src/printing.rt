@@ -117,6 +117,20 @@ pub fn put_fused(text: &mut Vec<u8>) -> Result<(), AllocError>
     put(text, b"fused\n")
 }
 
+/// Adds the line of a load to a text.
+pub fn put_loaded(text: &mut Vec<u8>) -> Result<(), AllocError>
+    ensures { OnOk result (text.new.items ≡ text.old.items ++ ended_line (codes "loaded")) }
+{
+    put(text, b"loaded\n")
+}
+
+/// Adds the line of a start to a text.
+pub fn put_started(text: &mut Vec<u8>) -> Result<(), AllocError>
+    ensures { OnOk result (text.new.items ≡ text.old.items ++ ended_line (codes "started")) }
+{
+    put(text, b"started\n")
+}
+
 /// Adds the line of what a leg has in a block to a text.
 pub fn put_holds(text: &mut Vec<u8>, block: &Block) -> Result<(), AllocError>
     ensures { OnOk result (text.new.items ≡ text.old.items ++ ended_line (holds_text block.now)) }

@@ -18,7 +18,7 @@ use std::io::{Read, Write};
 /// Reads a whole input as a script.
 fn read_script<R: Read>(alloc: Global, input: &mut R) -> Result<Script, RunError>
     ensures ok { IfOk result (λ script. ReadsScript (R.remaining input.old) (R.remaining input.new)
-        script.mirror script.steps.items) }
+        script.mirror script.loads.items script.master script.steps.items) }
     ensures cause { IfErr result (CannotRead (R.remaining input.old) (R.remaining input.new)) }
 {
     let text = read_all(alloc, input)?;
@@ -95,10 +95,10 @@ fn run_and_report<R: Read, W: Write, E: Write>(
 
 /// Runs the script that `input` holds, and returns the exit status.
 ///
-/// `out` gets a line for each step, and then the history of the stripe. The status is 0 for a whole
-/// run. Otherwise `err` gets one line: `line N: bad step` with status 2, `no memory` with status 3,
-/// `cannot read` or `cannot write` with status 4. An input may have 2^24 bytes, and must end within
-/// 2^24 + 1 reads.
+/// `out` gets the lines of the opening, a line for each step, and then the history of the stripe.
+/// The status is 0 for a whole run. Otherwise `err` gets one line: `line N: bad step` with status 2,
+/// `no memory` with status 3, `cannot read` or `cannot write` with status 4. An input may have 2^24
+/// bytes, and must end within 2^24 + 1 reads.
 pub fn run_script<R: Read, W: Write, E: Write>(
     alloc: Global,
     input: &mut R,
@@ -113,7 +113,7 @@ pub fn run_script<R: Read, W: Write, E: Write>(
 }
 
 /// Runs the script that `input` holds as `run_script` does, while the `call`-th call of this leg,
-/// counted from 1 and from the first step, fails once.
+/// counted from 1 and from the first step, fails once. What a start reads is not counted.
 ///
 /// Where the script's mirror lacks the leg, or `call` is 0, the status is 2 with
 /// `line 1: bad step`, and nothing is written to `out`.

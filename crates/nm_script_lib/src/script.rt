@@ -1,27 +1,34 @@
-//! Reads a script: its mirror line, and the steps after it.
+//! Reads a script: its mirror line, how its stripe opens, and the steps.
 ghost use Rattle.std.specs.Prelude.{◌≡◌, ℕ, ◌+◌, ◌<◌, ◌≤◌, ◌^◌, not, List, length, Option, Some, None, IfSome, Result, IfOk, MatchResult, IsErrOf};
 ghost use Rattle.std.specs.Option.{option_copied, option_map};
 ghost use Rattle.std.specs.List.{list_any, AllByRecursion};
 ghost use Rattle.std.specs.Str.{is_utf8};
 ghost use Rattle.nm_script_lib.specs.Grammar.{has_content, IsScript};
 ghost use Rattle.nm_script_lib.specs.Reading.{pieces, pieces_of_rest, rest_size};
-ghost use Rattle.nm_script_lib.specs.ScriptReading.{first_where, content_from, steps_of, names_mirror, script_of, Reads};
+ghost use Rattle.nm_script_lib.specs.ScriptReading.{first_where, content_from, opening_of, steps_of, names_mirror, script_of, Reads, SaysAll};
 ghost use Rattle.nm_script_lib.specs.declared.parse_error.ParseError.TheVariants.{Memory, BadStep};
+ghost use Rattle.nm_script_lib.specs.declared.load.Load.{Load};
 ghost use Rattle.nm_script_lib.specs.declared.mirror_line.MirrorLine.{MirrorLine};
 ghost use Rattle.nm_script_lib.specs.declared.step.Step.{Step};
 ghost use Rattle.nm_script_lib.specs.BadLine.{NamesLine};
 
+use crate::load::{Load, load_of, start_of};
 use crate::mirror_line::{MirrorLine, mirror_of};
 use crate::parse_error::ParseError;
 use crate::step::{Step, step_of};
 use crate::words::{cut, is_word};
 use std::alloc::Global;
 
-/// A script: the mirror and the steps.
+/// A script: the mirror, how its stripe opens, and the steps.
 #[derive(Drop)]
 pub struct Script {
     /// The mirror that the steps run on.
     pub mirror: MirrorLine,
+    /// What the legs have before the stripe opens, in the order of the lines.
+    pub loads: Vec<Load>,
+    /// The leg that the others are compared with as the stripe opens. Where there is none, all legs
+    /// are new and in sync.
+    pub master: Option<u8>,
     /// The steps, in the order of their lines.
     pub steps: Vec<Step>,
 }
@@ -34,6 +41,64 @@ fn has_content(line: &[u8]) -> bool
         [] => false,
         [byte, ..] => *byte != b'#',
     }
+}
+
+/// Where a script's steps begin, and what stands between them and its mirror line.
+#[derive(Drop)]
+struct Opening<'a> {
+    loads: Vec<Load>,
+    master: Option<u8>,
+    number: u64,
+    following: Option<&'a [u8]>,
+}
+
+/// The loads and the start that the lines begin with. The first line is line `number`. Where the
+/// lines begin with no loads and a start, there are none, and the steps begin with the first line.
+fn opening_of<'a>(
+    alloc: Global,
+    mirror: &MirrorLine,
+    text: Option<&'a [u8]>,
+    number: u64,
+) -> Result<Opening<'a>, ParseError>
+    requires { number + rest_size (option_copied text) < 2 ^ 64 }
+    ensures opens { Reads (λ o. (
+      o.loads.items,
+      o.master,
+      o.number,
+      pieces_of_rest 10 (option_copied o.following),
+    )) result
+        (opening_of mirror.now number (pieces_of_rest 10 (option_copied text.entry))) }
+    ensures room { IfOk result (λ o. o.number + rest_size (option_copied o.following)
+        ≤ number + rest_size (option_copied text.entry)) }
+{
+    let mut loads = Vec::new(alloc);
+    let mut at = number;
+    let mut rest = text;
+    while let Some(piece) = rest {
+        let (line, following) = cut(piece, b'\n');
+        at += 1;
+        rest = following;
+        if has_content(line) {
+            if let Some(load) = load_of(mirror, line) {
+                loads.push(load)?;
+            } else if let Some(master) = start_of(mirror, line) {
+                return Ok(Opening {
+                    loads,
+                    master: Some(master),
+                    number: at,
+                    following,
+                });
+            } else {
+                rest = None;
+            }
+        }
+    }
+    Ok(Opening {
+        loads: Vec::new(alloc),
+        master: None,
+        number,
+        following: text,
+    })
 }
 
 /// The steps of the lines, of which the first is line `number`.
@@ -147,7 +212,8 @@ fn first_content_line(text: &[u8]) -> Option<ContentLine<'_>>
 /// The script that a text is, read from its first line on.
 #[tactic(auto, unfolding(crate::specs::ScriptReading::script_of))]
 fn script_of(alloc: Global, text: &[u8]) -> Result<Script, ParseError>
-    ensures { Reads (λ s. (s.mirror, s.steps.items)) result (script_of (pieces 10 text.now)) }
+    ensures { Reads (λ s. (s.mirror, s.loads.items, s.master, s.steps.items)) result
+        (script_of (pieces 10 text.now)) }
 {
     if let Some(line) = first_not_utf8(text) {
         return Err(ParseError::BadStep { line });
@@ -163,19 +229,29 @@ fn script_of(alloc: Global, text: &[u8]) -> Result<Script, ParseError>
         };
         return Err(ParseError::BadStep { line });
     };
-    let steps = steps_of(alloc, &mirror, content.following, content.number + 1)?;
-    Ok(Script { mirror, steps })
+    let opening = opening_of(alloc, &mirror, content.following, content.number + 1)?;
+    let steps = steps_of(alloc, &mirror, opening.following, opening.number)?;
+    Ok(Script {
+        mirror,
+        loads: opening.loads,
+        master: opening.master,
+        steps,
+    })
 }
 
-/// Reads a script: a mirror line, then a step a line.
+/// Reads a script: a mirror line, then how the stripe opens, then a step a line.
+///
+/// Loads that no start follows are no steps: the first of them is named.
 ///
 /// Empty lines and those that begin with `#` are skipped. An error's line counts all lines, from 1.
 pub fn parse(alloc: Global, text: &[u8]) -> Result<Script, ParseError>
     // What is read is the script that the text is.
-    ensures parsed { IfOk result (λ s. IsScript text.now s.mirror s.steps.items) }
+    ensures parsed { IfOk result (λ s. IsScript text.now s.mirror s.loads.items s.master
+        s.steps.items) }
     // A text that is a script is read, unless memory runs out.
-    ensures script { (m : MirrorLine) (steps : List Step) → IsScript text.now m steps
-        → MatchResult result (λ s. (s.mirror ≡ m) × (s.steps.items ≡ steps)) (λ e. e ≡ Memory) }
+    ensures script { (m : MirrorLine) (loads : List Load) (master : Option ℕ) (steps : List Step)
+        → IsScript text.now m loads master steps
+        → MatchResult result (SaysAll m loads master steps) (λ e. e ≡ Memory) }
     ensures named { (n : ℕ) → IsErrOf result (BadStep n) → NamesLine text.now n }
 {
     script_of(alloc, text)

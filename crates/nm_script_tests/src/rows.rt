@@ -8,7 +8,7 @@ use std::test::Fail;
 pub type Row = (u8, u64, &'static [u8], &'static [u8]);
 
 /// Scripts in which no leg's call fails.
-pub const PLAIN: [Row; 13] = [
+pub const PLAIN: [Row; 15] = [
     // A write to two legs, with reads before, between and after.
     (
         2,
@@ -133,6 +133,8 @@ pub const PLAIN: [Row; 13] = [
           1 patch 1 0 510 2 mixed\n2 read 0 mixed\nlegal yes\n",
     ),
     PARTS,
+    COMPARED,
+    COMPARED_WRITE,
 ];
 
 /// A part of a block is written, and then its old bytes again.
@@ -147,6 +149,35 @@ const PARTS: Row = (
       pushed 1\ncomplete 4\nvalue 5 aa\nvalue 6 aa\nvalue 7 aa\nhistory 8 of 8\n\
       0 write 0 0 aa\n1 read 0 aa\n2 patch 1 0 510 2 mixed\n3 read 0 mixed\n\
       4 patch 2 0 510 2 aa\n5 read 0 aa\n6 read 0 aa\n7 read 0 aa\nlegal yes\n",
+);
+
+/// Legs are loaded and compared: only the regions that differ are copied.
+const COMPARED: Row = (
+    3,
+    10,
+    b"mirror 3 10 4 2 rr 0\nload 1 9 ee\nload 2 0 ff\nload 2 5 ff\nstart 0\nstate\ncopy 1\n\
+      copy 1\ncopy 1\ncopy 1\ncopy 1\npromote 1\npeek 1 9\n",
+    b"loaded\nloaded\nloaded\nstarted\nmaster 0 settling no legs in join(2) join(8)\n\
+      copied 2\ncopied 2\ncopied 1\ncopied 0\nnothing\ninsync\nholds 00\n\
+      history 0 of 0\nlegal yes\n",
+);
+
+/// The last leg is the master of a comparison. A write before the copy owes it alone where the other
+/// is behind, and both where it is not.
+const COMPARED_WRITE: Row = (
+    2,
+    12,
+    b"mirror 2 12 4 2 rr 5\nload 1 1 aa\nload 0 6 bb\nload 0 9 cc\nload 1 9 cc\nstart 1\nstate\n\
+      begin 5 dd\nbegin 8 ee\npush 0 0\npush 0 1\npush 1 0\npush 1 1\nclaim 0\nclaim 1\n\
+      copy 0\ncopy 0\ncopy 0\ncopy 0\ncopy 0\ncopy 0\ncopy 0\ncopy 0\nread 1\n\
+      copy 0\ncopy 0\ncopy 0\ncopy 0\ncopy 0\ncopy 0\ncopy 0\ncopy 0\ncopy 0\npromote 0\n\
+      peek 0 1\npeek 0 5\npeek 0 6\npeek 0 8\npeek 0 9\n",
+    b"loaded\nloaded\nloaded\nloaded\nstarted\nmaster 1 settling no legs join(8) in\n\
+      begun 0\nbegun 1\nrefused 8 NotOwed\ncomplete 5\npushed 1\ncomplete 6\nwritten 5\n\
+      written 6\ncopied 8\ncopied 8\ncopied 7\ncopied 6\ncopied 6\ncopied 6\ncopied 5\n\
+      copied 4\nvalue 7 aa\ncopied 4\ncopied 4\ncopied 3\ncopied 2\ncopied 2\ncopied 2\n\
+      copied 1\ncopied 0\nnothing\ninsync\nholds aa\nholds dd\nholds 00\nholds ee\n\
+      holds cc\nhistory 3 of 3\n5 write 0 5 dd\n6 write 1 8 ee\n7 read 1 aa\nlegal yes\n",
 );
 
 /// Scripts in which a leg's call fails.

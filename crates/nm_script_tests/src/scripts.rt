@@ -28,7 +28,7 @@ const WRITE: (&[u8], &[u8]) = (
 );
 
 /// Scripts, each with all that it prints.
-const SCRIPTS: [(&[u8], &[u8]); 6] = [
+const SCRIPTS: [(&[u8], &[u8]); 8] = [
     // All numbers are in use from the start.
     (
         b"mirror 8 65536 65536 65536 st 9223372036854775808\nbegin 65535 00\nread 0",
@@ -63,6 +63,15 @@ const SCRIPTS: [(&[u8], &[u8]); 6] = [
         b"begun 0\ncomplete 0\nbegun 1\ncomplete 1\nvalue 2 mixed\nbegun 2\ncomplete 3\n\
           holds aa\nhistory 4 of 4\n0 patch 0 0 0 512 aa\n1 patch 1 0 511 1 mixed\n\
           2 read 0 mixed\n3 patch 2 0 511 1 aa\nlegal yes\n",
+    ),
+    // A start alone; comments and empty lines may stand between loads.
+    (
+        b"mirror 2 8 4 2 rr 0\nstart 1\nstate",
+        b"started\nmaster 1 settling no legs join(0) in\nhistory 0 of 0\nlegal yes\n",
+    ),
+    (
+        b"mirror 2 8 4 2 rr 7\n# one\nload 1 3 aa\n\nload 1 3 bb\n#\nstart 1\nread 3",
+        b"loaded\nloaded\nstarted\nvalue 7 bb\nhistory 1 of 1\n7 read 3 bb\nlegal yes\n",
     ),
     // A ticket may be any number of 64 bits.
     (
@@ -210,7 +219,7 @@ const NO_STEP: [&[u8]; 60] = [
 ];
 
 /// Whole texts that are no script, each with the line to name.
-const NO_SCRIPT: [(&[u8], u64); 12] = [
+const NO_SCRIPT: [(&[u8], u64); 18] = [
     (b"", 1),
     (b"\n\n#\n", 1),
     (b"\n\nread 0\nread 1\n", 1),
@@ -224,6 +233,16 @@ const NO_SCRIPT: [(&[u8], u64); 12] = [
     (b"mirror 1 1 1 1 rr 0\nread 9\n\n# \xff\n\xfe", 4),
     (b"read 0\n\xe2\x80\n\xa8\n", 2),
     (b"mirror 1 1 1 1 rr 0\n#\xc3", 2),
+    // Loads are followed by a start, and neither comes after a step.
+    (b"mirror 1 1 1 1 rr 0\nload 0 0 aa\n", 2),
+    (b"mirror 1 1 1 1 rr 0\nload 0 0 aa\nread 0\nstart 0\n", 2),
+    (b"mirror 1 1 1 1 rr 0\nread 0\nload 0 0 aa\nstart 0\n", 3),
+    (b"mirror 1 1 1 1 rr 0\nread 0\nstart 0\n", 3),
+    (b"mirror 1 1 1 1 rr 0\nstart 0\nstart 0\n", 3),
+    (
+        b"mirror 1 1 1 1 rr 0\nload 0 0 aa\nload 0 1 aa\nstart 0\n",
+        2,
+    ),
 ];
 
 /// Whether a text is refused by this line's number, with nothing on standard output.

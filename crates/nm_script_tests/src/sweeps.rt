@@ -40,6 +40,24 @@ fn a_fuse_fails_the_call_that_it_names(rt: HostRuntime) {
     assert_eq!(rt; lost.err.as_slice(), b"".as_slice());
 }
 
+/// A start whose comparison reads four blocks of each leg, and then a copy: two reads of the master
+/// and a write to leg 1.
+const STARTED: &[u8] =
+    b"mirror 2 4 4 2 rr 0\nload 1 0 aa\nstart 0\ncopy 1\ncopy 1\ncopy 1\nstate\n";
+
+#[test]
+fn a_fuse_counts_from_the_start(rt: HostRuntime) {
+    let lost = run_with_fuse(rt.alloc(), STARTED, 1, 1);
+    assert_eq!(rt; lost.status, 0);
+    assert_eq!(rt;
+        lost.out.as_slice(),
+        b"loaded\nstarted\ncopied 4\ncopied 4\nlost 1\nmaster 0 settling no legs in out\n\
+          history 0 of 0\nlegal yes\n"
+            .as_slice()
+    );
+    assert_eq!(rt; lost.err.as_slice(), b"".as_slice());
+}
+
 #[test]
 fn a_fuse_names_a_leg_and_a_call(rt: HostRuntime) {
     for (leg, call) in [(2, 1), (255, 1), (0, 0)] {

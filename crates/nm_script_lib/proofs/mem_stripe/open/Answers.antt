@@ -1,28 +1,18 @@
 -- All legs are alike: as many zero blocks as the mirror has.
-use Rattle.std.proofs.Common.{arith}
-use Rattle.nm_script_lib.proofs.Legs.{new_lengths, equal_legs, names_first}
+use Rattle.nm_script_lib.proofs.Legs.{new_lengths, equal_legs, names_first, sizes_fit, chunk_fits, place_lengths}
 use Rattle.nm_script_lib.proofs.mem_stripe.open.Goals as goal
 
 pub open-requires-clause-sizes : goal.open-requires-clause-sizes
 open-requires-clause-sizes c =
-    let count = c.in_ok-legs.ensures.legs.count in
-    let m = c.requires in
-    record {
-      some_blocks = m.blocks.0;
-      most_blocks = omega (arith, m.blocks.1);
-      some_region = m.region.0;
-      most_region = m.region.1;
-      some_legs = omega (arith, m.legs.0, count);
-      most_legs = omega (arith, m.legs.1, count);
-    }
+    sizes_fit c.args.mirror.now _ _ c.requires c.in_ok-legs.ensures.legs.count c.place_of-place.ensures
 
 pub open-requires-clause-chunk : goal.open-requires-clause-chunk
-open-requires-clause-chunk c =
-    let m = c.requires in
-    record { some = m.chunk.0; limit = omega (arith, m.chunk.1, m.region.1) }
+open-requires-clause-chunk c = chunk_fits c.args.mirror.now _ c.requires c.place_of-place.ensures
 
 pub open-requires-clause-lengths : goal.open-requires-clause-lengths
-open-requires-clause-lengths c = new_lengths c.args.mirror.now c.in_ok-legs.legs.items c.in_ok-legs.ensures.legs
+open-requires-clause-lengths c =
+    place_lengths c.args.mirror.now _ _ c.place_of-place.ensures
+    (new_lengths c.args.mirror.now c.in_ok-legs.legs.items c.in_ok-legs.ensures.legs)
 
 pub open-requires-clause-some_in_sync : goal.open-requires-clause-some_in_sync
 open-requires-clause-some_in_sync c =
