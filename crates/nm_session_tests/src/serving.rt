@@ -314,8 +314,9 @@ fn serves_requests_byte_by_byte(rt: HostRuntime) -> Result<(), Fail> {
 }
 
 #[test]
-fn ends_as_the_client_does(rt: HostRuntime) -> Result<(), Fail> {
+fn ends_where_the_client_leaves(rt: HostRuntime) -> Result<(), Fail> {
     let alloc = rt.alloc();
+    expect(&rt, alloc, &[], &[&GREETING], End::EndOfInput)?;
     expect(
         &rt,
         alloc,
@@ -337,6 +338,12 @@ fn ends_as_the_client_does(rt: HostRuntime) -> Result<(), Fail> {
         &[&GREETING, &ABORTED],
         End::Aborted,
     )?;
+    Ok(())
+}
+
+#[test]
+fn ends_at_an_unknown_flag_and_at_an_unknown_name(rt: HostRuntime) -> Result<(), Fail> {
+    let alloc = rt.alloc();
     expect(&rt, alloc, &[b"\0\0\0\x04"], &[&GREETING], End::Protocol)?;
     expect(
         &rt,
@@ -345,13 +352,18 @@ fn ends_as_the_client_does(rt: HostRuntime) -> Result<(), Fail> {
         &[&GREETING],
         End::Protocol,
     )?;
-    expect(&rt, alloc, &[], &[&GREETING], End::EndOfInput)?;
-    let named: [&[u8]; 3] = [&GREETING, &SIZE_AND_FLAGS, &[0; 124]];
+    Ok(())
+}
+
+#[test]
+fn answers_export_name_with_zeroes_and_without(rt: HostRuntime) -> Result<(), Fail> {
+    let alloc = rt.alloc();
+    let zeroes: [&[u8]; 3] = [&GREETING, &SIZE_AND_FLAGS, &[0; 124]];
     expect(
         &rt,
         alloc,
         &[b"\0\0\0\x01", &EXPORT_NAME_DISK],
-        &named,
+        &zeroes,
         End::EndOfInput,
     )?;
     expect(
