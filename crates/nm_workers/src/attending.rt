@@ -16,7 +16,6 @@ use crate::hearing::listen;
 use crate::input::Input;
 use crate::leave::Leave;
 use crate::pause::Pause;
-use crossbeam_channel::Sender;
 use nm_mailbox::Inbox;
 use nm_replies::ReplyWriter;
 use nm_session::{Called, End, ServeFault, Served, SessionCore, send_out};
@@ -32,7 +31,7 @@ pub(crate) fn attend<R: Wait, O: Write, E: Extent>(
     core: &mut SessionCore,
     sender: &mut ReplyWriter<O>,
     inbox: &mut Inbox<Called>,
-    desk: Desk<E>,
+    mut desk: Desk<E>,
 ) -> Result<Served, ServeFault>
     requires size { size_of core.old.haggling.export ≤ E.bytes }
     ensures ok { IfOk result (λ served. Attends served
@@ -45,7 +44,7 @@ pub(crate) fn attend<R: Wait, O: Write, E: Extent>(
 {
     let mut input = Input::Idle;
     'rounds: for _ in rt.forever() {
-        match attend_once(rt, alloc, core, sender, inbox, &desk, input) {
+        match attend_once(rt, alloc, core, sender, inbox, &mut desk, input) {
             Ok(Attended::On(next)) => input = next,
             Ok(Attended::Over(served)) => return Ok(served),
             Err(fault) => return Err(fault),
@@ -62,7 +61,7 @@ fn attend_once<R: Wait, O: Write, E: Extent>(
     core: &mut SessionCore,
     sender: &mut ReplyWriter<O>,
     inbox: &mut Inbox<Called>,
-    desk: &Desk<E>,
+    desk: &mut Desk<E>,
     input: Input,
 ) -> Result<Attended, ServeFault>
     requires size { size_of core.old.haggling.export ≤ E.bytes }
@@ -79,7 +78,7 @@ fn attend_once<R: Wait, O: Write, E: Extent>(
         Ok(pause) => pause,
         Err(fault) => return Err(fault),
     };
-    let input = match ask_for_piece(rt, alloc, core, pause, input, &desk.leaves) {
+    let input = match ask_for_piece(rt, alloc, core, pause, input, desk) {
         Ok(input) => input,
         Err(fault) => return Err(fault),
     };
@@ -89,7 +88,7 @@ fn attend_once<R: Wait, O: Write, E: Extent>(
     if let Some(served) = over(core, pause, input) {
         return Ok(Attended::Over(served));
     }
-    match listen(rt, alloc, core, inbox, input) {
+    match listen(rt, alloc, core, inbox, input, &mut desk.room) {
         Ok(next) => Ok(Attended::On(next)),
         Err(fault) => Err(fault),
     }
@@ -97,13 +96,13 @@ fn attend_once<R: Wait, O: Write, E: Extent>(
 
 // Gives the leave to read a piece where no whole request is there, no piece is still to come, and
 // the client's bytes have not ended.
-fn ask_for_piece<R: Wait>(
+fn ask_for_piece<R: Wait, E: Extent>(
     rt: &R,
     alloc: Global,
     core: &SessionCore,
     pause: Pause,
     input: Input,
-    leaves: &Sender<Leave>,
+    desk: &Desk<E>,
 ) -> Result<Input, ServeFault>
     requires pause { PausesAt pause core.now }
     ensures ok { IfOk result (λ next. next ≡ Ended → input ≡ Ended) }
@@ -111,10 +110,10 @@ fn ask_for_piece<R: Wait>(
 {
     match (pause, input) {
         (Pause::Starved, Input::Idle) => {
-            let Ok(leave) = Leave::new(alloc, core, input) else {
+            let Ok(leave) = Leave::new(alloc, core, input, desk.room) else {
                 return Err(ServeFault::Memory);
             };
-            if leaves.send(rt, leave).is_err() {
+            if desk.leaves.send(rt, leave).is_err() {
                 return Err(ServeFault::Memory);
             }
             Ok(Input::Coming)

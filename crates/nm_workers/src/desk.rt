@@ -1,6 +1,7 @@
 use crate::extent::Extent;
 use crate::job::Job;
 use crate::leave::Leave;
+use crate::room::Room;
 use crossbeam_channel::Sender;
 
 // Where the owner of a session's core hands out tasks, and leaves to read. Workers and the reading
@@ -9,4 +10,5 @@ use crossbeam_channel::Sender;
 pub struct Desk<E: Extent> {
     pub(crate) jobs: Sender<Job<E>>,
     pub(crate) leaves: Sender<Leave>,
+    pub(crate) room: Room,
 }

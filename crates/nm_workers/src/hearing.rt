@@ -6,6 +6,7 @@ ghost use Rattle.nm_workers.specs.Moving.{stand, Moves, BreaksOff, IsKnown, IsLe
 
 use crate::answering::answer;
 use crate::input::Input;
+use crate::room::Room;
 use nm_mailbox::{Inbox, Message, Piece};
 use nm_session::{Called, ServeFault, SessionCore};
 use std::alloc::Global;
@@ -21,6 +22,7 @@ pub(crate) fn listen<R: Wait>(
     core: &mut SessionCore,
     inbox: &mut Inbox<Called>,
     input: Input,
+    room: &mut Room,
 ) -> Result<Input, ServeFault>
     requires known { IsKnown input (received_by inbox.old) }
     ensures ok { IfOk result (λ next. (output : Option (List ℕ))
@@ -35,7 +37,7 @@ pub(crate) fn listen<R: Wait>(
     let Some(first) = inbox.recv(rt) else {
         return Err(ServeFault::Read);
     };
-    let mut input = match hear(alloc, core, first, input) {
+    let mut input = match hear(alloc, core, first, input, room) {
         Ok(input) => input,
         Err(fault) => return Err(fault),
     };
@@ -43,7 +45,7 @@ pub(crate) fn listen<R: Wait>(
         let Some(message) = inbox.try_recv(rt) else {
             return Ok(input);
         };
-        match hear(alloc, core, message, input) {
+        match hear(alloc, core, message, input, room) {
             Ok(next) => input = next,
             Err(fault) => return Err(fault),
         }
@@ -51,13 +53,14 @@ pub(crate) fn listen<R: Wait>(
     Ok(input)
 }
 
-// Feeds the piece to the core, or answers a request with what came of its task. Gives what is known
-// then of the client's bytes.
+// Feeds the piece to the core, by whose length the next one has room, or answers a request with what
+// came of its task. Gives what is known then of the client's bytes.
 fn hear(
     alloc: Global,
     core: &mut SessionCore,
     message: Message<Called>,
     input: Input,
+    room: &mut Room,
 ) -> Result<Input, ServeFault>
     ensures ok { IfOk result (λ next. Hears core.old message core.new) }
     ensures learned { IfOk result (λ next. IsLearned next input message) }
@@ -69,10 +72,13 @@ fn hear(
             Ok(()) => Ok(input),
             Err(fault) => Err(fault),
         },
-        Message::Piece(Piece::Bytes(bytes)) => match core.feed(alloc, bytes.as_slice()) {
-            Ok(()) => Ok(Input::Idle),
-            Err(_) => Err(ServeFault::Memory),
-        },
+        Message::Piece(Piece::Bytes(bytes)) => {
+            *room = room.after(bytes.len());
+            match core.feed(alloc, bytes.as_slice()) {
+                Ok(()) => Ok(Input::Idle),
+                Err(_) => Err(ServeFault::Memory),
+            }
+        }
         Message::Piece(Piece::Ended) => Ok(Input::Ended),
         Message::Piece(Piece::Failed) => Err(ServeFault::Read),
     }

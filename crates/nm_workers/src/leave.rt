@@ -3,12 +3,10 @@ ghost use Rattle.nm_session.specs.Turning.{IsStarved};
 ghost use Rattle.nm_workers.specs.declared.input.Input.TheVariants.{Idle};
 
 use crate::input::Input;
+use crate::room::Room;
 use nm_session::SessionCore;
 use nm_wire::Memory;
 use std::alloc::Global;
-
-// How many bytes a read has room for.
-const ROOM: usize = 128 * 1024;
 
 // The leave to read one piece, with the room that it is read into.
 #[derive(Drop)]
@@ -18,12 +16,17 @@ pub struct Leave {
 }
 
 impl Leave {
-    // A leave with room for 128 KiB, where no whole request is there and no read is under way.
-    pub(crate) fn new(alloc: Global, _core: &SessionCore, _input: Input) -> Result<Leave, Memory>
+    // A leave with so much room, where no whole request is there and no read is under way.
+    pub(crate) fn new(
+        alloc: Global,
+        _core: &SessionCore,
+        _input: Input,
+        room: Room,
+    ) -> Result<Leave, Memory>
         requires starved { IsStarved _core.now }
         requires idle { _input ≡ Idle }
     {
-        let room = vec![in alloc; 0; ROOM]?;
+        let room = vec![in alloc; 0; room.bytes]?;
         Ok(Leave { room })
     }
 

@@ -24,6 +24,7 @@ mod leave;
 mod pause;
 mod read_side;
 mod reading;
+mod room;
 mod serving;
 mod threads;
 mod working;

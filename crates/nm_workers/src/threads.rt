@@ -12,6 +12,7 @@ use crate::finished::Finished;
 use crate::job::Job;
 use crate::read_side::ReadSide;
 use crate::reading::{AllRead, read_pieces};
+use crate::room::Room;
 use crate::working::work;
 use crossbeam_channel::{Receiver, bounded};
 use nm_mailbox::{Inbox, OutcomeEnd, PieceEnd, mailbox};
@@ -58,7 +59,11 @@ where
     let Ok((leaves, given)) = bounded(alloc, 1) else {
         return broken_off(sender);
     };
-    let desk = Desk { jobs, leaves };
+    let desk = Desk {
+        jobs,
+        leaves,
+        room: Room::new(),
+    };
     thread::scope(
         thread::scope_env(),
         rt,
