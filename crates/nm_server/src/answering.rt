@@ -1,7 +1,6 @@
 //! The control port: lines in, lines out.
 
-use crate::control_command::{ControlCommand, control_line};
-use crate::line_room::{Fed, LineRoom};
+use nm_commands::{ControlCommand, Fed, LineRoom, control_line};
 use nm_lanes::Gate;
 use nm_leg::LegPart;
 use nm_mirror::Mirror;

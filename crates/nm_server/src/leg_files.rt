@@ -4,7 +4,8 @@ ghost use Rattle.nm_file_leg.specs.Places.{HasPlaces};
 ghost use Rattle.nm_geometry.specs.Geometry.{stripe_blocks};
 
 use crate::start_fault::StartFault;
-use nm_file_leg::{FileLeg, FileMedium, Places};
+use crate::watched_file::{ReadCount, WatchedFile};
+use nm_file_leg::{FileLeg, Places, ReadAhead};
 use nm_geometry::Shape;
 use nm_geometry::laws::stripes_lie_inside;
 use std::alloc::Global;
@@ -13,7 +14,7 @@ use std::io::{Seek, SeekFrom};
 use std::rt::Files;
 
 /// How many bytes a block has.
-const BLOCK_BYTES: u64 = 512;
+const BLOCK_BYTES: u64 = nm_replay::BLOCK_BYTES as u64;
 
 /// How many blocks an export has at most.
 const MOST_BLOCKS: u64 = 1 << 31;
@@ -24,8 +25,12 @@ const REGION: u64 = 128;
 /// How many blocks a chunk of a copy has.
 const CHUNK: u64 = 8;
 
+/// How many bytes are read at once where reads follow one another. A region has a whole number of
+/// these, so that none is read which belongs to another stripe.
+const AHEAD: u64 = 32 * BLOCK_BYTES;
+
 /// A leg on a file.
-pub type Leg = FileLeg<FileMedium>;
+pub type Leg = FileLeg<ReadAhead<WatchedFile>>;
 
 /// The legs' files, each opened once and locked, so that no other server and no other leg uses it.
 #[derive(Drop)]
@@ -86,6 +91,12 @@ impl LegFiles {
         Ok(LegFiles { files, blocks })
     }
 
+    /// How many bytes all the files have.
+    pub fn bytes(&self) -> u64 {
+        let own = self.blocks.saturating_mul(BLOCK_BYTES);
+        own.saturating_mul(self.files.len() as u64)
+    }
+
     /// The shape of a mirror over these files, with so many stripes or one a region.
     pub fn shape(&self, stripes: u8) -> Option<Shape> {
         let regions = self.blocks.div_ceil(REGION);
@@ -116,13 +127,14 @@ fn places_of(shape: &Shape, stripe: u32) -> Places
     }
 }
 
-/// The legs of one stripe: each leg's file, opened once more.
+/// The legs of one stripe: each leg's file, opened once more, and what is read of it counted.
 pub fn stripe_legs<'a, R: Files<File = File>>(
     rt: &R,
     alloc: Global,
     names: &[&str],
     shape: &Shape,
     stripe: u32,
+    read: &ReadCount,
 ) -> Result<Vec<Leg>, StartFault<'a>>
     requires { stripe < shape.now.stripes }
 {
@@ -130,8 +142,11 @@ pub fn stripe_legs<'a, R: Files<File = File>>(
     let blocks = shape.stripe_blocks(stripe);
     let mut legs = Vec::new(alloc);
     for number in 0..names.len() {
-        let Ok(medium) = FileMedium::open(rt, names[number]) else {
+        let Ok(file) = WatchedFile::open(rt, names[number], read) else {
             return Err(StartFault::CannotOpen(number));
+        };
+        let Ok(medium) = ReadAhead::new(alloc, file, AHEAD) else {
+            return Err(StartFault::Memory);
         };
         let Ok(leg) = FileLeg::new(medium, places, blocks) else {
             return Err(StartFault::CannotOpen(number));

@@ -1,6 +1,7 @@
 //! What a session's requests act on: a mirror, through a pass.
 ghost use Rattle.std.specs.Prelude.{◌≡◌, ◌*◌, ⊤, length, IsTrue};
 
+use crate::hang_up::HangUp;
 use bytes::Bytes;
 use nm_lanes::{Gate, WriteFault};
 use nm_leg::LegPart;
@@ -16,6 +17,8 @@ pub struct MirrorTarget<'a, R: Wait, L: LegPart, G: Gate + Drop> {
     pub alloc: Global,
     pub mirror: &'a Mirror<L, G>,
     pub pass: &'a mut Pass<L>,
+    /// Dropped with the target, once its session asks for nothing more.
+    pub hang_up: HangUp<'a>,
 }
 
 // Whether the pass has a part for each stripe of the mirror.

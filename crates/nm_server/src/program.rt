@@ -1,26 +1,28 @@
 //! The whole program: from its command line to its exit status.
 
-use crate::command_line::settings;
 use crate::control_port::serve_control;
 use crate::leg_files::{Leg, LegFiles, stripe_legs};
+use crate::progress::{Comparison, tell_progress};
 use crate::resync::resynchronise;
-use crate::server_settings::Settings;
 use crate::session_places::SessionPlaces;
-use crate::sessions::{ExportName, serve_place, take_clients};
+use crate::sessions::{AT_ONCE, ExportName, serve_place, take_clients};
 use crate::start_fault::StartFault;
+use crate::watched_file::ReadCount;
 use clap::Error;
 use clap::error::ErrorKind;
+use crossbeam_channel::bounded;
 use log::{Log, warn};
+use nm_commands::{Settings, settings};
 use nm_lanes::NoGate;
-use nm_mirror::{Mirror, Pass, open_stripes};
+use nm_mirror::{Mirror, OpenFault, Pass, Start, open_stripes};
 use std::alloc::Global;
 use std::convert::AsStr;
 use std::fs::File;
 use std::io::Write;
 use std::net::{Net, TcpListener, TcpStream};
 use std::rt::Files;
-use std::sync::Wait;
-use std::sync::atomic::{AtomicBool, Ordering};
+use std::sync::atomic::{AtomicBool, AtomicU64, Ordering};
+use std::sync::{Arc, Wait};
 use std::thread;
 use std::thread::Threads;
 use std::time::Clock;
@@ -45,31 +47,76 @@ fn export_asked<'a>(settings: &Settings<'a>) -> Result<ExportName<'a>, StartFaul
     }
 }
 
+// How the mirror's legs stand as it is opened.
+fn start_of(settings: &Settings<'_>) -> Start {
+    match settings.start {
+        nm_commands::Start::Compare => Start::Compare,
+        nm_commands::Start::Full => Start::Full,
+    }
+}
+
 // The mirror over the legs' files, which are opened once more for each stripe.
 fn open_mirror<'a, R: Files<File = File>>(
     rt: &R,
     alloc: Global,
     settings: &Settings<'a>,
     files: &LegFiles,
+    read: &ReadCount,
 ) -> Result<FileMirror, StartFault<'a>> {
     let Some(shape) = files.shape(settings.stripes) else {
         return Err(StartFault::Memory);
     };
     let mut legs = Vec::new(alloc);
     for stripe in 0..shape.stripes {
-        let own = stripe_legs(rt, alloc, &settings.legs, &shape, stripe)?;
+        let own = stripe_legs(rt, alloc, &settings.legs, &shape, stripe, read)?;
         if legs.push(own).is_err() {
             return Err(StartFault::Memory);
         }
     }
-    // That they do not fit cannot be: each leg was made with the blocks of its stripe.
-    let Ok(stripes) = open_stripes(alloc, &shape, legs, settings.master, settings.policy) else {
-        return Err(StartFault::Memory);
+    let (master, policy, start) = (settings.master, settings.policy, start_of(settings));
+    let stripes = match open_stripes(alloc, &shape, legs, master, policy, start) {
+        Ok(stripes) => stripes,
+        Err(OpenFault::MasterFault) => return Err(StartFault::CannotRead(master)),
+        // That they do not fit cannot be: each leg was made with the blocks of its stripe.
+        Err(OpenFault::Memory | OpenFault::Misfit) => return Err(StartFault::Memory),
     };
     match Mirror::new(alloc, shape, stripes, NoGate) {
         Ok(mirror) => Ok(mirror),
         Err(_) => Err(StartFault::Memory),
     }
+}
+
+// Opens the mirror, while a thread tells how far the comparison of its legs is. Where no thread can be
+// had nothing is told.
+fn open_watched<'a, R>(
+    rt: &R,
+    alloc: Global,
+    settings: &Settings<'a>,
+    files: &LegFiles,
+) -> Result<FileMirror, StartFault<'a>>
+where
+    R: Threads + Wait + Sync + Clock + Log + Files<File = File>,
+{
+    let Ok(read) = Arc::new(alloc, AtomicU64::new(0)) else {
+        return Err(StartFault::Memory);
+    };
+    if start_of(settings) == Start::Full || settings.legs.len() < 2 {
+        return open_mirror(rt, alloc, settings, files, &read);
+    }
+    let Ok((comparing, ended)) = bounded(alloc, 1) else {
+        return Err(StartFault::Memory);
+    };
+    let comparison = Comparison {
+        legs: settings.legs.len(),
+        bytes: files.bytes(),
+        read: &read,
+    };
+    thread::scope(thread::scope_env(), rt, |scope| {
+        let _ = scope.spawn(move || tell_progress(rt, &ended, &comparison));
+        let mirror = open_mirror(rt, alloc, settings, files, &read);
+        drop(comparing);
+        mirror
+    })
 }
 
 // A listening socket.
@@ -83,15 +130,15 @@ fn listen<'a, R: Net<Listener = TcpListener, Stream = TcpStream>>(
     }
 }
 
-// So many passes.
+// The passes of so many sessions.
 fn passes_of<'a, R: Wait>(
     rt: &R,
     alloc: Global,
     mirror: &FileMirror,
-    count: u8,
+    sessions: u8,
 ) -> Result<Vec<Pass<Leg>>, StartFault<'a>> {
     let mut passes = Vec::new(alloc);
-    for _ in 0..count {
+    for _ in 0..sessions as usize * AT_ONCE {
         let Ok(pass) = mirror.pass(rt, alloc) else {
             return Err(StartFault::Memory);
         };
@@ -120,8 +167,8 @@ where
     let ending = &is_ending;
     let (clients, control) = listeners;
     thread::scope(thread::scope_env(), rt, |scope| {
-        for pass in passes.iter_mut() {
-            let start = scope.spawn(move || serve_place(rt, alloc, places, named, mirror, pass));
+        for own in passes.chunks_mut(AT_ONCE) {
+            let start = scope.spawn(move || serve_place(rt, alloc, places, named, mirror, own));
             if start.is_err() {
                 places.close(rt);
                 return false;
@@ -150,7 +197,7 @@ fn serve_and_copy<'a, R>(
 where
     R: Threads + Wait + Sync + Clock + Log + Net<Listener = TcpListener, Stream = TcpStream>,
 {
-    let Ok(places) = SessionPlaces::new(alloc, passes.len()) else {
+    let Ok(places) = SessionPlaces::new(alloc, passes.len() / AT_ONCE) else {
         return Err(StartFault::Memory);
     };
     let has_ended = AtomicBool::new(false);
@@ -215,7 +262,7 @@ where
 {
     let named = export_asked(settings)?;
     let files = LegFiles::open(rt, alloc, &settings.legs)?;
-    let mirror = open_mirror(rt, alloc, settings, &files)?;
+    let mirror = open_watched(rt, alloc, settings, &files)?;
     let mut passes = passes_of(rt, alloc, &mirror, settings.sessions)?;
     let clients = listen(rt, settings.listen)?;
     let control = listen(rt, settings.control)?;

@@ -1,8 +1,8 @@
 //! Sessions over TCP: who listens, who serves.
-ghost use Rattle.std.specs.Prelude.{◌≡◌, ◌≤◌, ◌^◌, [], length, true, IfSome, IfOk};
-ghost use Rattle.nm_session.specs.Session.{session_of};
+ghost use Rattle.std.specs.Prelude.{◌≡◌, ◌≤◌, ◌^◌, [], length, true, All, IfSome, IfOk};
 
 use crate::handshake_reader::HandshakeReader;
+use crate::hang_up::HangUp;
 use crate::mirror_target::MirrorTarget;
 use crate::session_places::SessionPlaces;
 use log::{Log, warn};
@@ -10,14 +10,22 @@ use nm_lanes::Gate;
 use nm_leg::LegPart;
 use nm_mirror::{Mirror, Pass};
 use nm_replies::ReplyWriter;
-use nm_session::{Connection, ServeFault, Target};
+use nm_session::{ServeFault, SessionCore};
 use nm_wire::{Export, Name};
+use nm_workers::{greet, transmit};
 use std::alloc::Global;
 use std::net::{Shutdown, TcpListener, TcpStream};
 use std::sync::Wait;
 use std::sync::atomic::{AtomicBool, Ordering};
 use std::thread;
+use std::thread::Threads;
 use std::time::{Clock, Duration};
+
+/// How many requests of a session are served at once: each goes through a pass of its own.
+pub const AT_ONCE: usize = 16;
+
+/// How many bytes of a handshake are read at once.
+const ROOM: usize = 4096;
 
 /// How many seconds a handshake may take.
 const HANDSHAKE_SECONDS: u64 = 30;
@@ -57,79 +65,111 @@ fn export_of(alloc: Global, named: &ExportName<'_>, blocks: u64) -> Option<Expor
     })
 }
 
-// Haggles with a client within its time. Behind it no limit stands.
+// Haggles with a client within its time, and tells whether requests follow. Behind it no limit
+// stands.
 fn shake_hands<R: Wait + Clock>(
     rt: &R,
     alloc: Global,
     stream: &TcpStream,
-    connection: &mut Connection,
+    core: &mut SessionCore,
+    sender: &mut ReplyWriter<&TcpStream>,
 ) -> Result<bool, ServeFault>
-    requires idle { connection.old.outstanding ≡ [] }
-    requires limit { connection.old.limit ≡ 1 }
-    ensures idle { IfOk result (λ goes_on. goes_on ≡ true → connection.new.outstanding ≡ []) }
-    ensures limit { IfOk result (λ goes_on. goes_on ≡ true → connection.new.limit ≡ 1) }
+    requires idle { core.old.outstanding ≡ [] }
     ensures export { IfOk result (λ goes_on. goes_on ≡ true
-        → connection.new.haggling.export ≡ connection.old.haggling.export) }
+        → core.new.haggling.export ≡ core.old.haggling.export) }
 {
     let within = Duration::from_secs(HANDSHAKE_SECONDS);
+    let Ok(mut room) = vec![in alloc; 0; ROOM] else {
+        return Err(ServeFault::Memory);
+    };
     let Ok(mut reader) = HandshakeReader::new(rt, stream, within) else {
         return Err(ServeFault::Read);
     };
     let _ = stream.set_write_timeout(Some(within));
-    let mut sender = ReplyWriter::new(stream);
-    let ended = connection.handshake(rt, alloc, &mut reader, &mut sender)?;
-    let _ = stream.set_read_timeout(None);
-    let _ = stream.set_write_timeout(None);
-    Ok(ended.is_none())
+    match greet(rt, alloc, core, &mut room, &mut reader, sender) {
+        Ok(None) => {
+            let _ = stream.set_read_timeout(None);
+            let _ = stream.set_write_timeout(None);
+            Ok(true)
+        }
+        Ok(Some(_)) => Ok(false),
+        Err(fault) => Err(fault),
+    }
+}
+
+// The mirror as a target through each of the passes. The first of them that ends, once the session
+// asks for nothing more, ends the read under way.
+fn targets_of<'a, R: Wait, L: LegPart, G: Gate + Drop>(
+    rt: &'a R,
+    alloc: Global,
+    mirror: &'a Mirror<L, G>,
+    passes: &'a mut [Pass<L>],
+    stream: &'a TcpStream,
+) -> Result<Vec<MirrorTarget<'a, R, L, G>>, ServeFault>
+    ensures { IfOk result (λ targets. All (λ target.
+        target.mirror.now.shape.blocks ≡ mirror.now.shape.blocks) targets.items) }
+{
+    let mut targets = Vec::new(alloc);
+    'passes: for pass in passes.iter_mut() {
+        let target = MirrorTarget {
+            rt,
+            alloc,
+            mirror,
+            pass,
+            hang_up: HangUp { stream },
+        };
+        if targets.push(target).is_err() {
+            return Err(ServeFault::Memory);
+        }
+    }
+    Ok(targets)
 }
 
 // Serves one client from its greeting to its end.
-fn serve_client<R: Wait + Clock, L: LegPart, G: Gate + Drop>(
+fn serve_client<R: Threads + Wait + Sync + Clock, L: LegPart + Send, G: Gate + Sync + Drop>(
     rt: &R,
     alloc: Global,
     stream: &TcpStream,
     named: &ExportName<'_>,
     mirror: &Mirror<L, G>,
-    pass: &mut Pass<L>,
+    passes: &mut [Pass<L>],
 ) -> Result<(), ServeFault> {
     let _ = stream.set_nodelay(true);
     let Some(export) = export_of(alloc, named, mirror.shape().blocks) else {
         return Err(ServeFault::Memory);
     };
-    let Ok(mut connection) = Connection::new(alloc, export) else {
+    let Ok(mut core) = SessionCore::new(alloc, export, AT_ONCE) else {
         return Err(ServeFault::Memory);
     };
-    if !shake_hands(rt, alloc, stream, &mut connection)? {
+    let mut sender = ReplyWriter::new(stream);
+    if !shake_hands(rt, alloc, stream, &mut core, &mut sender)? {
         return Ok(());
     }
-    let mut target = MirrorTarget {
-        rt,
-        alloc,
-        mirror,
-        pass,
-    };
-    let mut reader = stream;
-    let mut sender = ReplyWriter::new(stream);
-    connection.transmit(rt, alloc, &mut reader, &mut sender, &mut target)?;
+    let targets = targets_of(rt, alloc, mirror, passes, stream)?;
+    transmit(rt, alloc, core, stream, sender, targets).result?;
     Ok(())
 }
 
-/// Serves the clients that get this place, one after the other, until the places are closed.
+/// Serves the clients that get this place, one after the other, until the places are closed. Their
+/// requests take the passes, as many at once as there are.
 ///
 /// A client's place is free again before its connection is closed.
-pub fn serve_place<R: Wait + Clock + Log, L: LegPart, G: Gate + Drop>(
+pub fn serve_place<R, L: LegPart + Send, G: Gate + Sync + Drop>(
     rt: &R,
     alloc: Global,
     places: &SessionPlaces,
     named: &ExportName<'_>,
     mirror: &Mirror<L, G>,
-    pass: &mut Pass<L>,
-) {
+    passes: &mut [Pass<L>],
+)
+where
+    R: Threads + Wait + Sync + Clock + Log,
+{
     for _ in rt.forever() {
         let Some(stream) = places.take(rt) else {
             return;
         };
-        if let Err(fault) = serve_client(rt, alloc, &stream, named, mirror, pass) {
+        if let Err(fault) = serve_client(rt, alloc, &stream, named, mirror, passes) {
             warn!(rt; "a session broke off: {}", fault);
         }
         places.free(rt);

@@ -21,6 +21,9 @@ pub enum StartFault<'a> {
     /// This leg is longer or shorter than leg 0.
     #[error("nbdmirror: leg {0}: length differs from leg 0")]
     OtherLength(usize),
+    /// This leg, the master, cannot be read.
+    #[error("nbdmirror: leg {0}: cannot read")]
+    CannotRead(u8),
     /// No socket listens at this address.
     #[error("nbdmirror: cannot listen on {0}")]
     CannotListen(&'a str),
@@ -41,7 +44,8 @@ impl StartFault<'_> {
             | StartFault::BadName
             | StartFault::CannotOpen(_)
             | StartFault::BadLength(_)
-            | StartFault::OtherLength(_) => 3,
+            | StartFault::OtherLength(_)
+            | StartFault::CannotRead(_) => 3,
             StartFault::CannotListen(_) => 4,
             StartFault::Memory => 5,
             StartFault::CannotClose => 6,

@@ -2,7 +2,7 @@
 
 use clap::error::ErrorKind;
 use nm_choice::Policy;
-use nm_server::{Settings, settings};
+use nm_commands::{Settings, Start, settings};
 use std::alloc::Global;
 use std::test::Fail;
 
@@ -20,6 +20,7 @@ struct Asked {
     name: &'static str,
     numbers: [u8; 3],
     policy: Policy,
+    start: Start,
     read_only: bool,
     legs: usize,
 }
@@ -31,11 +32,12 @@ const PLAIN: Asked = Asked {
     name: "disk",
     numbers: [16, 0, 16],
     policy: Policy::RoundRobin,
+    start: Start::Compare,
     read_only: false,
     legs: 1,
 };
 
-const TAKEN: [Taken; 15] = [
+const TAKEN: [Taken; 17] = [
     (&["a"], PLAIN),
     (&["a", "b", "c"], Asked { legs: 3, ..PLAIN }),
     (
@@ -97,6 +99,14 @@ const TAKEN: [Taken; 15] = [
     ),
     (&["--policy", "round-robin", "a"], PLAIN),
     (
+        &["--start", "full", "a"],
+        Asked {
+            start: Start::Full,
+            ..PLAIN
+        },
+    ),
+    (&["--start=compare", "a"], PLAIN),
+    (
         &["--read-only", "a"],
         Asked {
             read_only: true,
@@ -110,7 +120,7 @@ const TAKEN: [Taken; 15] = [
     ),
 ];
 
-const REFUSED: [Refused; 16] = [
+const REFUSED: [Refused; 17] = [
     (&[], ErrorKind::MissingRequiredArgument),
     (&["--read-only"], ErrorKind::MissingRequiredArgument),
     (&["--help"], ErrorKind::DisplayHelp),
@@ -124,6 +134,7 @@ const REFUSED: [Refused; 16] = [
     (&["--sessions", "65", "a"], ErrorKind::ValueValidation),
     (&["--master", "8", "a"], ErrorKind::ValueValidation),
     (&["--policy", "other", "a"], ErrorKind::InvalidValue),
+    (&["--start", "other", "a"], ErrorKind::InvalidValue),
     (&["a", "--listen"], ErrorKind::InvalidValue),
     (
         &["--name", "x", "--name", "y", "a"],
@@ -147,6 +158,7 @@ fn is_asked(settings: &Settings<'_>, asked: Asked) -> bool {
         && settings.name == asked.name
         && [settings.stripes, settings.master, settings.sessions] == asked.numbers
         && settings.policy == asked.policy
+        && settings.start == asked.start
         && settings.read_only == asked.read_only
         && settings.legs.len() == asked.legs
 }

@@ -3,7 +3,7 @@
 use nm_geometry::Shape;
 use nm_lanes::NoGate;
 use nm_leg::MemLeg;
-use nm_mirror::{Mirror, open_stripes};
+use nm_mirror::{Mirror, Start, open_stripes};
 use nm_server::control;
 use nm_stripe::Policy;
 use std::alloc::Global;
@@ -92,7 +92,7 @@ fn mirror(alloc: Global) -> Result<Mirror<MemLeg, NoGate>, Fail> {
         own.push(MemLeg::new(alloc, blocks)?)?;
         legs.push(own)?;
     }
-    let Ok(stripes) = open_stripes(alloc, &shape, legs, 0, Policy::RoundRobin) else {
+    let Ok(stripes) = open_stripes(alloc, &shape, legs, 0, Policy::RoundRobin, Start::Full) else {
         return Err(Fail::new("no stripes"));
     };
     match Mirror::new(alloc, shape, stripes, NoGate) {

@@ -1,4 +1,4 @@
-//! Tests of nm_server through its public surface: what no clause says.
+//! Tests of nm_commands and nm_server through their public surface: what no clause says.
 #![tactic(auto)]
 
 #[cfg(test)]

@@ -1,4 +1,4 @@
-//! The whole server in one process: two sessions over two files, and its end.
+//! The whole server in one process: two sessions over two files, many requests at once, and its end.
 
 use nm_server::start;
 use std::alloc::Global;
@@ -16,10 +16,13 @@ const HELLO: &[u8] = b"\0\0\0\x03IHAVEOPT\0\0\0\x01\0\0\0\x04disk";
 const WELCOME: &[u8] = b"NBDMAGICIHAVEOPT\0\x03\0\0\0\0\0\x01\0\0\x01\x6d";
 
 /// A WRITE of 3 bytes at 1022, across two blocks, and its reply.
-const WRITE: &[u8] =
-    b"\x25\x60\x95\x13\0\0\0\x01\0\0\0\0\0\0\0\x21\0\0\0\0\0\0\x03\xfe\0\0\0\x03abc";
+const WRITE: [u8; 31] =
+    *b"\x25\x60\x95\x13\0\0\0\x01\0\0\0\0\0\0\0\x21\0\0\0\0\0\0\x03\xfe\0\0\0\x03abc";
 
 const WRITTEN: &[u8] = b"\x67\x44\x66\x98\0\0\0\0\0\0\0\0\0\0\0\x21";
+
+/// A reply without an error, up to the last byte of its cookie.
+const REPLIED: &[u8] = b"\x67\x44\x66\x98\0\0\0\0\0\0\0\0\0\0\0";
 
 /// A FLUSH and its reply.
 const FLUSH: &[u8] = b"\x25\x60\x95\x13\0\0\0\x03\0\0\0\0\0\0\0\x22\0\0\0\0\0\0\0\0\0\0\0\0";
@@ -81,7 +84,7 @@ fn two_sessions<R: Clock + Net<Listener = TcpListener, Stream = TcpStream>>(
     let second = connect(rt, address)?;
     let is_right = ask(&first, HELLO, WELCOME)?
         && ask(&second, HELLO, WELCOME)?
-        && ask(&first, WRITE, WRITTEN)?
+        && ask(&first, &WRITE, WRITTEN)?
         && ask(&first, FLUSH, FLUSHED)?
         && ask(&second, READ, FOUND)?
         && ask(&first, DISC, b"")?;
@@ -89,17 +92,70 @@ fn two_sessions<R: Clock + Net<Listener = TcpListener, Stream = TcpStream>>(
     Ok(is_right)
 }
 
-/// What the clients do, and then the end.
+/// A WRITE of 3 bytes into this block, whose number is its cookie.
+fn write_into(block: u8) -> [u8; 31] {
+    let mut request = WRITE;
+    request[15] = block;
+    request[22] = block.wrapping_mul(2);
+    request
+}
+
+/// A session of 40 WRITEs and a DISC, sent one after the other before any reply is read: whether
+/// each is replied to, in whatever order, and nothing follows.
+fn forty_writes<R: Clock + Net<Listener = TcpListener, Stream = TcpStream>>(
+    rt: &R,
+    address: &str,
+) -> io::Result<bool> {
+    let stream = connect(rt, address)?;
+    let mut is_right = ask(&stream, HELLO, WELCOME)?;
+    let mut writer = &stream;
+    for block in 0..40 {
+        writer.write_all(&write_into(block))?;
+    }
+    writer.write_all(DISC)?;
+    let mut reader = &stream;
+    let mut seen = [false; 40];
+    for _ in 0..40 {
+        is_right = is_right && ask(&stream, b"", REPLIED)?;
+        let mut block = [0u8; 1];
+        reader.read_exact(&mut block)?;
+        match seen.get_mut(block[0] as usize) {
+            Some(is_seen) => *is_seen = true,
+            None => is_right = false,
+        }
+    }
+    let mut more = [0u8; 1];
+    Ok(is_right && seen.iter().all(|is_seen| *is_seen) && reader.read(&mut more)? == 0)
+}
+
+/// Ends the server; whether it answers.
+fn quit<R: Clock + Net<Listener = TcpListener, Stream = TcpStream>>(rt: &R, control: &str) -> bool {
+    match connect(rt, control) {
+        Ok(stream) => ask(&stream, b"quit\n", b"bye\n").unwrap_or(false),
+        Err(_) => false,
+    }
+}
+
+/// Two sessions at once, and then the end.
 fn visit<R: Clock + Net<Listener = TcpListener, Stream = TcpStream>>(
     rt: &R,
     clients: &str,
     control: &str,
 ) -> bool {
     let is_right = two_sessions(rt, clients).unwrap_or(false);
-    let has_quit = match connect(rt, control) {
-        Ok(stream) => ask(&stream, b"quit\n", b"bye\n").unwrap_or(false),
-        Err(_) => false,
-    };
+    let has_quit = quit(rt, control);
+    is_right && has_quit
+}
+
+/// Two sessions one after the other at the same place, and then the end.
+fn visit_again<R: Clock + Net<Listener = TcpListener, Stream = TcpStream>>(
+    rt: &R,
+    clients: &str,
+    control: &str,
+) -> bool {
+    let is_right = forty_writes(rt, clients).unwrap_or(false)
+        && forty_writes(rt, clients).unwrap_or(false);
+    let has_quit = quit(rt, control);
     is_right && has_quit
 }
 
@@ -157,5 +213,36 @@ fn two_sessions_over_two_files(rt: HostRuntime) -> Result<(), Fail> {
     for leg in ["nm_server_tests.leg0", "nm_server_tests.leg1"] {
         fs::remove_file(&rt, leg)?;
     }
+    Ok(())
+}
+
+#[test]
+fn forty_writes_at_once_over_one_place(rt: HostRuntime) -> Result<(), Fail> {
+    let alloc = rt.alloc();
+    fs::write(&rt, "nm_server_tests.leg", [0u8; 65_536].as_slice())?;
+    let clients = format!(in alloc; "127.0.0.1:{}", free_port(&rt)?)?;
+    let control = format!(in alloc; "127.0.0.1:{}", free_port(&rt)?)?;
+    let words = [
+        "nbdmirror",
+        "--listen",
+        clients.as_str(),
+        "--control",
+        control.as_str(),
+        "--sessions",
+        "1",
+        "nm_server_tests.leg",
+    ];
+    let mut out = Vec::new(alloc);
+    let mut err = Vec::new(alloc);
+    let (status, is_right) = join(
+        &rt,
+        || start(&rt, alloc, words.as_slice(), &mut out, &mut err),
+        || visit_again(&rt, clients.as_str(), control.as_str()),
+    );
+    assert!(rt; is_right);
+    assert_eq!(rt; status, 0);
+    assert!(rt; err.is_empty());
+    assert!(rt; out.ends_with(b"stripe 0: entries 80\n"));
+    fs::remove_file(&rt, "nm_server_tests.leg")?;
     Ok(())
 }

@@ -1,0 +1,67 @@
+-- What the getters of matches give is what the rows of the command line have.
+use Rattle.std.proofs.Common.{◌≡◌, ◌∙◌, ℕ, List, Some, Bool, true, false, option_map, refl, ap, sym, codes, inl, inr, Result, Ok, Err, IsErrAnd, IfErr}
+use Rattle.std.specs.Borrow.{Bor}
+use Rattle.clap.specs.Words.{App, HasKind, Row, Text, fault_of, is_simple, is_simple_and_free, first_of, one_of, all_of, first_value, one_text, matched_of, raw_values, rows_of}
+use Rattle.clap.specs.declared.parser.matches.Found.{Found}
+use Rattle.clap.proofs.WalkLemmas.{first_value-rows, one_text-rows, raw_values-rows}
+use Rattle.clap.proofs.OnLiterals.{clap_on_literals}
+use Rattle.nm_commands.specs.CommandLine.{nbdmirror}
+use Rattle.clap.specs.declared.error.Error.{Error}
+use Rattle.nm_commands.specs.CommandLine.{ArePolicies, AreStarts}
+use Rattle.nm_commands.specs.Settings.{IsNumber, IsRefusal, HasFlag}
+
+pub simple : (policies starts : Bor (List (Bor Text))) →
+    is_simple (nbdmirror policies starts) ≡ true
+unfolding clap_on_literals
+simple policies starts = refl
+
+pub simple_and_free : (policies starts : Bor (List (Bor Text))) →
+    is_simple_and_free (nbdmirror policies starts) ≡ true
+unfolding clap_on_literals
+simple_and_free policies starts = refl
+
+pub said_fault : (policies starts : Bor (List (Bor Text))) (app : App) (words : List Text)
+    (e : Error) →
+    ArePolicies policies → AreStarts starts → app ≡ nbdmirror policies starts →
+    HasKind (fault_of app words) e → IsRefusal words e
+said_fault policies starts app words e known known_starts same (inl memory) = inl memory
+said_fault policies starts app words e known known_starts same (inr among) = inr (record {
+  policies = policies;
+  known = known;
+  starts = starts;
+  known_starts = known_starts;
+  among = rw (← ap (λ (a : App). fault_of a words) same) among;
+})
+
+pub said_text : (f : Found) (rows : List Row) (id text : Text) → rows_of f ≡ rows →
+    first_value f id ≡ Some text → first_of id rows ≡ Some text
+said_text f rows id text e h = sym (first_value-rows f id ∙ ap (first_of id) e) ∙ h
+
+said_one : (f : Found) (rows : List Row) (id : Text) → rows_of f ≡ rows →
+    one_text f id ≡ one_of id rows
+said_one f rows id e = one_text-rows f id ∙ ap (one_of id) e
+
+pub said_number : (f : Found) (rows : List Row) (id : Text) (n : ℕ) → rows_of f ≡ rows →
+    IsNumber (one_text f id) n → IsNumber (one_of id rows) n
+said_number f rows id n e h = record {
+  text = h.text;
+  is = sym (said_one f rows id e) ∙ h.is;
+  numeral = h.numeral;
+  value = h.value;
+}
+
+pub said_flag : (f : Found) (rows : List Row) (id : Text) (flag : Bool) → rows_of f ≡ rows →
+    ((one_text f id ≡ Some (codes "true")) → flag ≡ true) →
+    ((one_text f id ≡ Some (codes "false")) → flag ≡ false) → HasFlag rows id flag
+said_flag f rows id flag e set unset =
+    (λ h. set (said_one f rows id e ∙ h), λ h. unset (said_one f rows id e ∙ h))
+
+pub said_words : (f : Found) (rows : List Row) (id : Text) (words : List Text) → rows_of f ≡ rows →
+    Some words ≡ option_map raw_values (matched_of f id) → all_of id rows ≡ Some words
+said_words f rows id words e h = sym (raw_values-rows f id ∙ ap (all_of id) e) ∙ sym h
+
+-- what `?` hands on of an error
+pub handed_on : {T : Type 0} (r : Result T Error) (e : Error) (Q : Error → Type 0) →
+    IsErrAnd r (λ x. x ≡ e) → Q e → IfErr r Q
+handed_on (Ok x) e Q same q = absurd same
+handed_on (Err x) e Q same q = rw same q

@@ -1,0 +1,16 @@
+use Rattle.std.proofs.Common.{◌∙◌, ◌≡◌, ap₂}
+use Rattle.clap.specs.Words.{app_of, with_rule}
+use Rattle.nm_commands.specs.CommandLine.{nbdmirror}
+use Rattle.nm_commands.proofs.command_line.command_line.Goals as goal
+
+pub returns-clause-ok : goal.returns-clause-ok
+returns-clause-ok c =
+    let line = c.in_ok-program.ensures.ok in
+    let one = c.in_ok-with_sessions.ensures.shape c.number_option-sessions.ensures.own
+    ∙ ap₂ with_rule line.2.2 c.number_option-sessions.ensures.rule in
+    let two = c.in_ok-with_flag.ensures.shape c.flag-read_only.ensures.own
+    ∙ ap₂ with_rule one c.flag-read_only.ensures.rule in
+    let all : app_of c.in_ok-command.command ≡ nbdmirror line.0 line.2.0 =
+    c.in_ok-command.ensures.shape c.words-legs.ensures.own
+    ∙ ap₂ with_rule two c.words-legs.ensures.rule in
+    (line.0, line.1, (line.2.0, line.2.1, all))

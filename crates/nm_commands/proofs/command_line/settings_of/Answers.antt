@@ -1,0 +1,22 @@
+use Rattle.std.proofs.Common.{codes, refl}
+use Rattle.clap.specs.Words.{found_of, rows_of}
+use Rattle.nm_commands.proofs.Said.{said_text, said_number, said_flag, said_words}
+use Rattle.nm_commands.proofs.command_line.settings_of.Goals as goal
+
+pub returns-clause-ok : goal.returns-clause-ok
+returns-clause-ok c =
+    let f = found_of c.args.matches.now in
+    let rows = rows_of f in
+    record {
+      listen = said_text f rows (codes "listen") _ refl c.in_ok-listen.ensures.ok;
+      control = said_text f rows (codes "control") _ refl c.in_ok-control.ensures.ok;
+      name = said_text f rows (codes "name") _ refl c.in_ok-name.ensures.ok;
+      stripes = said_number f rows (codes "stripes") _ refl c.in_ok-stripes.ensures.ok;
+      policy = said_text f rows (codes "policy") _ refl c.in_ok-policy.ensures.ok;
+      master = said_number f rows (codes "master") _ refl c.in_ok-master.ensures.ok;
+      start = said_text f rows (codes "start") _ refl c.in_ok-start.ensures.ok;
+      sessions = said_number f rows (codes "sessions") _ refl c.in_ok-sessions.ensures.ok;
+      read_only = said_flag f rows (codes "read-only") _ refl c.get_flag-read_only.ensures.value
+          c.get_flag-read_only.ensures.other;
+      legs = said_words f rows (codes "leg") _ refl c.in_ok-legs.ensures.ok;
+    }

@@ -1,0 +1,7 @@
+use Rattle.std.proofs.Common.{rules, refl}
+use Rattle.nm_commands.proofs.Digits.{asks_nothing}
+use Rattle.nm_commands.proofs.control_command.control_line.Goals as goal
+
+pub returns : goal.returns
+returns c = asks_nothing c.args.line.now (λ same. search rules) (λ same. search rules)
+    (c.in_default.ensures.none refl) (c.in_default-leg_after.ensures.none refl)

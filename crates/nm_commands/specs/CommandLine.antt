@@ -1,0 +1,63 @@
+-- The command line of nbdmirror, as clap is told of it.
+use Rattle.std.specs.Prelude.{◌≡◌, ℤ, List, [], ◌∷◌, Some, true, codes, pos, map, ◌^◌, ◌-◌}
+use Rattle.std.specs.Borrow.{Bor}
+use Rattle.clap.specs.Words.{App, Rule, Text, new_app, new_rule, with_rule}
+use Rattle.clap.specs.declared.builder.value_parser.ValueParser.{ValueParser}
+use Rattle.clap.specs.declared.builder.value_parser.ValueParser.TheVariants as vp
+use Rattle.clap.specs.declared.builder.action.ArgAction.TheVariants.{SetTrue}
+
+-- An option --ID with one value, which is this text where the words have none.
+abbrev pub option_rule : Text → Text → Rule
+option_rule id default =
+    record (new_rule id) { long = Some id; value_names = 1; defaults = default ∷ [] }
+
+-- The same, whose value passes a parser.
+abbrev pub parsed_rule : Text → Text → ValueParser → Rule
+parsed_rule id default parser = record (option_rule id default) { parser = Some parser }
+
+-- The same, whose value is a number from `least` to `most`.
+abbrev pub number_rule : Text → Text → ℤ → ℤ → Rule
+number_rule id default least most = parsed_rule id default (vp.Signed least most)
+
+-- The option --ID, without a value.
+abbrev pub flag_rule : Text → Rule
+flag_rule id = record (new_rule id) { long = Some id; action = Some SetTrue }
+
+-- One or more words that are no options.
+abbrev pub words_rule : Text → Rule
+words_rule id = record (new_rule id) {
+  value_names = 1;
+  range = Some (record { start_inclusive = 1; end_inclusive = 2 ^ 64 - 1 });
+  required = true;
+}
+
+-- The policies that the command line knows.
+abbrev pub ArePolicies : Bor (List (Bor Text)) → Type 0
+ArePolicies names =
+    map (λ name. name.now) names.now ≡ codes "round-robin" ∷ codes "striped" ∷ []
+
+-- The starts that the command line knows.
+abbrev pub AreStarts : Bor (List (Bor Text)) → Type 0
+AreStarts names = map (λ name. name.now) names.now ≡ codes "compare" ∷ codes "full" ∷ []
+
+-- The program, with the options that say where clients and control connect, and to what.
+abbrev pub addressed : App
+addressed = with_rule (with_rule (with_rule (new_app (codes "nbdmirror"))
+    (option_rule (codes "listen") (codes "127.0.0.1:10809")))
+    (option_rule (codes "control") (codes "127.0.0.1:10810")))
+    (option_rule (codes "name") (codes "disk"))
+
+-- The same, and the options that say what mirror it is.
+abbrev pub mirrored : (policies starts : Bor (List (Bor Text))) → App
+mirrored policies starts = with_rule (with_rule (with_rule (with_rule addressed
+    (number_rule (codes "stripes") (codes "16") (pos 1) (pos 64)))
+    (parsed_rule (codes "policy") (codes "round-robin") (vp.Names policies)))
+    (number_rule (codes "master") (codes "0") (pos 0) (pos 7)))
+    (parsed_rule (codes "start") (codes "compare") (vp.Names starts))
+
+-- The command line, with its options' defaults and ranges.
+abbrev pub nbdmirror : (policies starts : Bor (List (Bor Text))) → App
+nbdmirror policies starts = with_rule (with_rule (with_rule (mirrored policies starts)
+    (number_rule (codes "sessions") (codes "16") (pos 1) (pos 64)))
+    (flag_rule (codes "read-only")))
+    (words_rule (codes "leg"))

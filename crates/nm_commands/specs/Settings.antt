@@ -1,0 +1,72 @@
+-- What the words of a command line ask for.
+use Rattle.std.specs.Prelude.{◌≡◌, ◌⊎◌, ℕ, Bool, true, false, List, [], map, Option, Some}
+use Rattle.std.specs.Prelude.{codes}
+use Rattle.std.specs.Borrow.{Bor}
+use Rattle.std.specs.Str.Parse.{IsNumeral, digits_value, without_leading_plus}
+use Rattle.clap.specs.Words.{IsAmong, Row, Text, all_of, fault_of, first_of, kind_of, matches_of}
+use Rattle.clap.specs.Words.{one_of}
+use Rattle.clap.specs.declared.error.Error.{Error}
+use Rattle.clap.specs.declared.error.kind.ErrorKind.TheVariants.{OutOfMemory}
+use Rattle.nm_choice.specs.declared.policy.Policy.{Policy}
+use Rattle.nm_choice.specs.declared.policy.Policy.TheVariants.{RoundRobin, Striped}
+use Rattle.nm_commands.specs.declared.start.Start.{Start}
+use Rattle.nm_commands.specs.declared.start.Start.TheVariants.{Compare, Full}
+use Rattle.nm_commands.specs.declared.server_settings.Settings.{Settings}
+use Rattle.nm_commands.specs.CommandLine.{ArePolicies, AreStarts, nbdmirror}
+
+-- The word for a policy.
+abbrev pub policy_text : Policy → Text
+policy_text RoundRobin = codes "round-robin"
+policy_text Striped = codes "striped"
+
+-- The word for a start.
+abbrev pub start_text : Start → Text
+start_text Compare = codes "compare"
+start_text Full = codes "full"
+
+-- What was found is this number: decimal digits, with or without a plus before them.
+pub record IsNumber (found : Option Text) (number : ℕ) : Type 0 where
+  pub text : Text
+  pub is : found ≡ Some text
+  pub numeral : IsNumeral 10 (without_leading_plus text)
+  pub value : digits_value 10 (without_leading_plus text) ≡ number
+
+-- The flag is set where the rows have it as true.
+abbrev pub HasFlag : List Row → Text → Bool → Type 0
+HasFlag rows id flag = (one_of id rows ≡ Some (codes "true") → flag ≡ true)
+    × (one_of id rows ≡ Some (codes "false") → flag ≡ false)
+
+-- The settings are the values that the rows have.
+pub record HasSettings (rows : List Row) (s : Settings) : Type 0 where
+  pub listen : first_of (codes "listen") rows ≡ Some s.listen.now
+  pub control : first_of (codes "control") rows ≡ Some s.control.now
+  pub name : first_of (codes "name") rows ≡ Some s.name.now
+  pub stripes : IsNumber (one_of (codes "stripes") rows) s.stripes
+  pub policy : first_of (codes "policy") rows ≡ Some (policy_text s.policy)
+  pub master : IsNumber (one_of (codes "master") rows) s.master
+  pub start : first_of (codes "start") rows ≡ Some (start_text s.start)
+  pub sessions : IsNumber (one_of (codes "sessions") rows) s.sessions
+  pub read_only : HasFlag rows (codes "read-only") s.read_only
+  pub legs : all_of (codes "leg") rows ≡ Some (map (λ leg. leg.now) s.legs.items)
+
+-- The settings are those that the words of a command line ask for, with the defaults for the rest.
+-- Such words have no fault.
+pub record AsksFor (words : List Text) (s : Settings) : Type 0 where
+  pub policies : Bor (List (Bor Text))
+  pub known : ArePolicies policies
+  pub starts : Bor (List (Bor Text))
+  pub known_starts : AreStarts starts
+  pub faultless : fault_of (nbdmirror policies starts) words ≡ []
+  pub settings : HasSettings (matches_of (nbdmirror policies starts) words) s
+
+-- The words have a fault, and the error is of its kind.
+pub record IsFault (words : List Text) (error : Error) : Type 0 where
+  pub policies : Bor (List (Bor Text))
+  pub known : ArePolicies policies
+  pub starts : Bor (List (Bor Text))
+  pub known_starts : AreStarts starts
+  pub among : IsAmong (kind_of error) (fault_of (nbdmirror policies starts) words)
+
+-- The error says that there is no memory, or what is wrong with the words.
+abbrev pub IsRefusal : List Text → Error → Type 0
+IsRefusal words error = (kind_of error ≡ OutOfMemory) ⊎ IsFault words error

@@ -1,0 +1,17 @@
+//! What `nbdmirror` is asked for: its command line, and the lines of its control port.
+//!
+//! `settings` reads the command line, `control_line` a line of the control port, which `LineRoom`
+//! cuts; what each gives is proved.
+#![tactic(auto)]
+
+mod command_line;
+mod control_command;
+mod line_room;
+mod server_settings;
+mod start;
+
+pub use crate::command_line::settings;
+pub use crate::control_command::{ControlCommand, control_line};
+pub use crate::line_room::{Fed, LineRoom};
+pub use crate::server_settings::Settings;
+pub use crate::start::Start;

@@ -1,0 +1,8 @@
+/// How the legs other than the master are to stand as the server starts.
+#[derive(Clone, Copy, Debug, PartialEq, Eq)]
+pub enum Start {
+    /// Each is compared with the master, and only what differs is copied.
+    Compare,
+    /// Each is copied whole.
+    Full,
+}
