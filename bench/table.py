@@ -6,7 +6,7 @@ Two words after the files name the sides that are compared, if not `proved` and 
 import statistics
 import sys
 
-ROW = "{:22} {:6} {:>10} {:>10} {:>7} {:>7} {:>7}   {:>12} {:>8}"
+ROW = "{:30} {:6} {:>10} {:>10} {:>7} {:>7} {:>7}   {:>12} {:>8}"
 
 
 FIRST, SECOND = sys.argv[3:] or ("proved", "plain")

@@ -262,9 +262,9 @@ fn main() {
         bytes: vec![0; SIZE],
     };
     for (name, kind, length, requests) in [
-        ("WRITE of 4 KiB", 1, 4096, 4096),
-        ("READ of 4 KiB", 0, 4096, 4096),
-        ("READ of 128 KiB", 0, 131_072, 256),
+        ("session, WRITE of 4 KiB", 1, 4096, 4096),
+        ("session, READ of 4 KiB", 0, 4096, 4096),
+        ("session, READ of 128 KiB", 0, 131_072, 256),
     ] {
         let bytes = stream(kind, length, requests);
         for (is_lent, how) in [(false, ""), (true, ", lent")] {
