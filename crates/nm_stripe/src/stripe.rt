@@ -116,9 +116,10 @@ impl<L: LegPart> Stripe<L> {
         self.store.place().blocks
     }
 
-    /// How many legs the stripe has.
+    /// How many legs the stripe has: eight at most.
     pub fn legs(&self) -> usize
-        ensures { result ≡ length self.now.legs }
+        ensures legs { result ≡ length self.now.legs }
+        ensures most { result ≤ 8 }
     {
         self.store.legs()
     }
