@@ -2,45 +2,72 @@
 #
 # A script ends with status 0, with 77 where something that it needs is not on this machine, and with
 # anything else where it fails. BUDGET bounds all of them together, in seconds. Where NOT_TRIED=told, a
-# script that could not be tried is told and counted as neither passed nor failed; else it has failed.
-# Where TRIES=2, a script that failed is run once more, and that it was is told.
+# script that could not be tried, or whose end the budget did not leave time for, is told and counted as
+# neither passed nor failed; else it has failed. Where TRIES=2, a script that failed is run once more, and
+# that it was is told.
 passed=0 failed=0 not_tried=
 
-# try NAME SECONDS COMMAND..
-try() {
-    local name=$1 limit=$2 started=$SECONDS left status
-    shift 2
-    left=$((${BUDGET:-1000000} - SECONDS))
+# run_one SECONDS COMMAND..: runs a command for so long, or as long as the budget lasts. `status` is its
+# status, or `late` where the budget ended first.
+run_one() {
+    local limit=$1 left=$((${BUDGET:-1000000} - SECONDS))
+    shift
     if [ "$left" -lt 5 ]; then
-        failed=$((failed + 1))
-        echo "$name: FAILED: no time is left of the $BUDGET seconds for all"
+        status=late
         return
     fi
     timeout -k 10 "$((left < limit ? left : limit))" "$@" 2>&1
     status=$?
-    if [ "$status" != 0 ] && [ "$status" != 77 ] && [ "${TRIES:-1}" -gt 1 ]; then
-        echo "$name: failed with status $status after $((SECONDS - started)) s; tried once more"
-        timeout -k 10 "$limit" "$@" 2>&1
-        status=$?
-    fi
-    if [ "$status" = 0 ]; then
-        passed=$((passed + 1))
-        echo "$name: passed, $((SECONDS - started)) s"
-    elif [ "$status" = 77 ] && [ "${NOT_TRIED:-}" = told ]; then
-        not_tried="$not_tried${not_tried:+; }$name"
-        echo "$name: NOT TRIED on this machine"
+    case $status in 124 | 137) [ "$left" -ge "$limit" ] || status=late ;; esac
+}
+
+# was_not_tried NAME WHY: a script that says nothing of the program.
+was_not_tried() {
+    if [ "${NOT_TRIED:-}" = told ]; then
+        not_tried="$not_tried${not_tried:+; }$1"
+        echo "$1: NOT TRIED: $2"
     else
         failed=$((failed + 1))
-        case $status in
-            124 | 137) echo "$name: FAILED: not ended after $((SECONDS - started)) s" ;;
-            *) echo "$name: FAILED" ;;
-        esac
+        echo "$1: FAILED: $2"
     fi
+}
+
+# try NAME SECONDS COMMAND..
+try() {
+    local name=$1 limit=$2 started=$SECONDS status
+    shift 2
+    run_one "$limit" "$@"
+    case $status in
+        0 | 77 | late) ;;
+        *)
+            if [ "${TRIES:-1}" -gt 1 ]; then
+                echo "$name: failed with status $status after $((SECONDS - started)) s; tried once more"
+                run_one "$limit" "$@"
+                # It has failed once, and a second try that had no time does not change that.
+                [ "$status" != late ] || status=1
+            fi
+            ;;
+    esac
+    case $status in
+        0)
+            passed=$((passed + 1))
+            echo "$name: passed, $((SECONDS - started)) s"
+            ;;
+        77) was_not_tried "$name" "this machine lacks something" ;;
+        late) was_not_tried "$name" "no time was left of the $BUDGET seconds for all" ;;
+        *)
+            failed=$((failed + 1))
+            case $status in
+                124 | 137) echo "$name: FAILED: not ended after $((SECONDS - started)) s" ;;
+                *) echo "$name: FAILED" ;;
+            esac
+            ;;
+    esac
 }
 
 # Ends the run: what was not tried, then 'N passed, M failed'.
 finish() {
-    [ -z "$not_tried" ] || echo "NOT TRIED on this machine: $not_tried"
+    [ -z "$not_tried" ] || echo "NOT TRIED: $not_tried"
     echo "$passed passed, $failed failed"
     [ "$failed" = 0 ]
     exit

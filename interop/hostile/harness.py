@@ -26,6 +26,8 @@ REQUEST, REPLY = 0x25609513, 0x67446698
 READ, WRITE, DISC, FLUSH, TRIM, WRITE_ZEROES = 0, 1, 2, 3, 4, 6
 FUA = 1
 EIO, ENOMEM = 5, 12
+# Bounds on waiting are for a machine with nothing else to do, and a slow or busy one gets so many times as much.
+PATIENCE = 5
 
 # A script that is told to stop ends its server first.
 signal.signal(signal.SIGTERM, lambda *_: sys.exit(1))
@@ -53,7 +55,8 @@ def not_run(why):
 
 
 def wait_until(holds, seconds, what):
-    """Waits until holds() is true."""
+    """Waits until holds() is true, for so many seconds on an idle machine."""
+    seconds *= PATIENCE
     end = time.monotonic() + seconds
     while not holds():
         assert time.monotonic() < end, f"not within {seconds} seconds: {what}"
@@ -129,7 +132,7 @@ class Server:
         with open(f"{self.room}/out", "wb") as out, open(f"{self.room}/err", "wb") as err:
             self.process = subprocess.Popen(words, stdin=subprocess.DEVNULL, stdout=out, stderr=err,
                                             preexec_fn=bound, env=own)
-        end = time.monotonic() + 60
+        end = time.monotonic() + 60 * PATIENCE
         while time.monotonic() < end and self.process.poll() is None:
             with open(f"{self.room}/out", encoding="utf-8") as file:
                 if "control on" in file.read():
@@ -150,7 +153,7 @@ class Server:
     def quit(self, seconds=60):
         """Ends it by the control port; all clients have left."""
         assert self.control("quit") == ["bye"]
-        status = self.process.wait(seconds)
+        status = self.process.wait(seconds * PATIENCE)
         assert status == 0, f"the server ends with status {status}: {self.errors()}"
         self.process = None
 
@@ -173,7 +176,7 @@ class Server:
 
     def control(self, line):
         """The lines of an answer of the control port."""
-        with socket.create_connection(("127.0.0.1", self.control_port), timeout=60) as stream:
+        with socket.create_connection(("127.0.0.1", self.control_port), timeout=60 * PATIENCE) as stream:
             stream.sendall(line.encode() + b"\n")
             lines = stream.makefile("r", encoding="ascii", newline="\n")
             found = [lines.readline().rstrip("\n")]
@@ -222,7 +225,7 @@ class Server:
 
     def used_at_rest(self, seconds=60):
         """What is used once threads and descriptors have stayed the same for half a second."""
-        end, last, since = time.monotonic() + seconds, None, 0.0
+        end, last, since = time.monotonic() + seconds * PATIENCE, None, 0.0
         while time.monotonic() < end:
             now = self.used()
             if last is None or now[:2] != last[:2]:
@@ -280,7 +283,7 @@ class Refused(Exception):
 class Client:
     """A session after its handshake. Requests may be sent ahead; a reply is told by its cookie."""
 
-    def __init__(self, port, timeout=60.0):
+    def __init__(self, port, timeout=60.0 * PATIENCE):
         self.socket = socket.create_connection(("127.0.0.1", port), timeout=timeout)
         self.socket.setsockopt(socket.IPPROTO_TCP, socket.TCP_NODELAY, 1)
         self.input = self.socket.makefile("rb", buffering=1 << 18)
