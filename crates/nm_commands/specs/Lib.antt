@@ -1,4 +1,5 @@
 pub mod CommandLine
 pub mod ControlLine
 pub mod Digits
+pub mod Feeding
 pub mod Settings
