@@ -1,5 +1,7 @@
 pub mod Done
 pub mod Fits
+pub mod Told
+pub mod Hinders
 pub mod Own
 pub mod Lane
 pub mod Steps

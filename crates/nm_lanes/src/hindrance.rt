@@ -1,4 +1,5 @@
 ghost use Rattle.std.specs.Prelude.{◌≡◌};
+ghost use Rattle.nm_lanes.specs.Hinders.{hindrance_of};
 ghost use Rattle.nm_lanes.specs.Own.{claim_end_of, end_of, finds_out};
 
 use crate::cause_kind::CauseKind;
@@ -17,7 +18,9 @@ pub(crate) enum Hindrance {
 
 impl Hindrance {
     /// What stood in the way of a step that was refused so.
-    pub(crate) fn of(refusal: Refusal) -> Self {
+    pub(crate) fn of(refusal: Refusal) -> Self
+        ensures { result ≡ hindrance_of refusal }
+    {
         match refusal {
             Refusal::Busy(ticket) => Hindrance::Write(Some(ticket)),
             Refusal::Settling | Refusal::Full => Hindrance::Write(None),

@@ -8,6 +8,7 @@ ghost use Rattle.nm_lanes.specs.Lane.{LaneDoes, LaneStops};
 ghost use Rattle.nm_lanes.specs.Own.{EndsSo};
 ghost use Rattle.nm_lanes.specs.Reads.{IsValue, value_bytes};
 ghost use Rattle.nm_lanes.specs.Steps.{Nobodys, Meets, IsWritten, BeginsSo};
+ghost use Rattle.nm_lanes.specs.Told.{number_of};
 
 use crate::beginning::Beginning;
 use crate::call_kind::CallKind;
@@ -36,7 +37,9 @@ pub(crate) struct Site<'a, R, G, K> {
 }
 
 /// The number of the entry that a step was given.
-fn number_of<L>(answer: &Answer<L>) -> Option<u64> {
+fn number_of<L>(answer: &Answer<L>) -> Option<u64>
+    ensures { result ≡ number_of answer.now }
+{
     match answer {
         Answer::Value(value) => Some(value.number()),
         Answer::Written(written) => Some(written.number()),

@@ -1,4 +1,5 @@
 ghost use Rattle.std.specs.Prelude.{◌≡◌};
+ghost use Rattle.nm_lanes.specs.Told.{kind_of};
 
 use nm_stripe::Step;
 
@@ -29,7 +30,9 @@ pub enum StepKind {
 
 impl StepKind {
     /// The kind of this step.
-    pub fn of<L>(step: &Step<L>) -> Self {
+    pub fn of<L>(step: &Step<L>) -> Self
+        ensures { result ≡ kind_of «step».now }
+    {
         match step {
             Step::Begin(_, _) => StepKind::Begin,
             Step::Push(_, _) => StepKind::Push,
