@@ -37,6 +37,7 @@ pub(crate) struct Site<'a, R, G, K> {
 }
 
 /// The number of the entry that a step was given.
+#[inline(always)]
 fn number_of<L>(answer: &Answer<L>) -> Option<u64>
     ensures { result ≡ number_of answer.now }
 {
@@ -49,6 +50,7 @@ fn number_of<L>(answer: &Answer<L>) -> Option<u64>
 
 impl<R: Wait, G: Gate, K> Site<'_, R, G, K> {
     /// One step, and then the gate.
+    #[inline(always)]
     fn step<L: LegPart, D: Lane<L, K>>(&self, lane: &mut D, step: Step<L>) -> Answer<L>
         ensures follows { D.follows lane.old (done_as «step» result ∷ []) lane.new }
         ensures fits { AnswerFits «step» result }

@@ -30,6 +30,7 @@ pub enum StepKind {
 
 impl StepKind {
     /// The kind of this step.
+    #[inline(always)]
     pub fn of<L>(step: &Step<L>) -> Self
         ensures { result ≡ kind_of «step».now }
     {

@@ -12,6 +12,7 @@ use nm_stripe::{Answer, Refusal, Step, Stripe};
 
 /// Whether the step may be asked of the stripe: its block and its leg are there, and what is
 /// handed in fits.
+#[inline(always)]
 fn may_be_asked<L: LegPart>(stripe: &Stripe<L>, step: &Step<L>) -> bool
     ensures { IsTrue result ↔ MayBeAsked L.model stripe.now step.now }
 {
@@ -35,6 +36,7 @@ fn may_be_asked<L: LegPart>(stripe: &Stripe<L>, step: &Step<L>) -> bool
 ///
 /// Of what stands behind a lock nothing is known but that it is a stripe. So a step that it may not
 /// be asked for is refused here, as one of a stripe that is not the part's.
+#[inline(always)]
 pub fn ask<L: LegPart>(part: &mut Part<L>, stripe: &mut Stripe<L>, step: Step<L>) -> Answer<L>
     ensures step { AsksStripe (leg_type L.model L.honest) «step» result part.old
         stripe.old stripe.new }

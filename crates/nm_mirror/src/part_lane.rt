@@ -54,6 +54,7 @@ impl<L: LegPart> Lane<L, Lock<L>> for PartLane<L> {
 
     ghost follows = { Follows };
 
+    #[inline(always)]
     fn step<R: Wait>(&mut self, rt: &R, lock: &Lock<L>, step: Step<L>) -> Answer<L>
         ensures follows { self.new ≡ part_after_all (done_as «step» result ∷ []) self.old }
         ensures fits { AnswerFits «step» result }

@@ -62,6 +62,7 @@ impl<L> Part<L> {
     }
 
     /// Takes note of an answer.
+    #[inline(always)]
     fn note(&mut self, answer: &Answer<L>)
         requires { self.old.count < 2 ^ 64 - 1 }
         ensures { self.new ≡ part_after answer.now self.old }
@@ -90,6 +91,7 @@ impl<L: LegPart> Part<L> {
     }
 
     /// Whether the stripe is not the part's, or the part can count no more.
+    #[inline(always)]
     fn is_astray(&self, stripe: &Stripe<L>) -> bool
         ensures astray { result ≡ is_astray self.now stripe.now }
         ensures room { IsFalse result → self.now.count < 2 ^ 64 - 1 }
@@ -103,6 +105,7 @@ impl<L: LegPart> Part<L> {
     ///
     /// Refused as `Astray` before anything else where the stripe is not the part's or the part can
     /// count no more; then nothing changes, and what was handed in comes back.
+    #[inline(always)]
     pub fn step(&mut self, stripe: &mut Stripe<L>, step: Step<L>) -> Answer<L>
         requires { MayBeAsked L.model stripe.old «step» }
         ensures astray { IsTrue (is_astray self.old stripe.old)

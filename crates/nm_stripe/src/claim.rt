@@ -13,6 +13,7 @@ impl<L: LegPart> Stripe<L> {
     /// Takes a finished write's record away, and answers with the number of its entry.
     ///
     /// Refused as `Stopped`, `NoTicket` or `NotYet`, the first whose condition holds.
+    #[inline(always)]
     pub fn claim(&mut self, ticket: u64) -> Result<Written<L>, Refusal>
         ensures ok { IfOk result (Claims self.old self.new ticket) }
         ensures acts { IsTrue L.honest → IfOk result (λ written. IsExplainedStep L.model

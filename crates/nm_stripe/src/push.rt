@@ -26,6 +26,7 @@ pub enum Reach {
 }
 
 /// The answer of a push that reached its leg.
+#[inline(always)]
 fn reach_of<L: LegPart>(store: &Store<L>, place: usize) -> Reach
     requires place { place < length store.now.records }
     requires landed { (r : Record) → slice_get store.now.records place ≡ Some r
@@ -47,6 +48,7 @@ impl<L: LegPart> Stripe<L> {
     ///
     /// A leg that fails goes out; the only leg in sync stops the stripe. Refused as `Stopped`,
     /// `NoTicket` or `NotOwed`, the first whose condition holds.
+    #[inline(always)]
     pub fn push(&mut self, ticket: u64, leg: u8) -> Result<Reach, Refusal>
         requires { leg < length self.old.legs }
         ensures ok { IfOk result (Reaches (leg_type L.model L.honest) self.old self.new

@@ -26,6 +26,7 @@ impl<L: LegPart> Stripe<L> {
     ///
     /// Refused as `Stopped`, `Settling`, `Exhausted` or `Fault` (the only leg in sync failed), the
     /// first whose condition holds. But for a `Value` `into` is as it was.
+    #[inline(always)]
     pub fn read(&mut self, block: u64, into: &mut Block) -> Result<Reading<L>, Refusal>
         requires { block < self.old.place.blocks }
         ensures ok { IfOk result (Reads (leg_type L.model L.honest) self.old self.new

@@ -46,6 +46,7 @@ pub enum Step<L> {
 }
 
 /// A refusal with nothing to hand back.
+#[inline(always)]
 fn refusal_answer<L: LegPart>(refusal: Refusal) -> Answer<L>
     ensures { result ≡ Answer.Refused refusal Handed.Nothing }
 {
@@ -53,6 +54,7 @@ fn refusal_answer<L: LegPart>(refusal: Refusal) -> Answer<L>
 }
 
 /// A lost leg with nothing to hand back.
+#[inline(always)]
 fn loss_answer<L: LegPart>(leg: u8) -> Answer<L>
     ensures { result ≡ Answer.LegLost leg Handed.Nothing }
 {
@@ -61,6 +63,7 @@ fn loss_answer<L: LegPart>(leg: u8) -> Answer<L>
 
 impl<L: LegPart> Stripe<L> {
     /// A begin. The data come back with every answer but `Begun`.
+    #[inline(always)]
     fn step_begin(&mut self, block: u64, data: Data) -> Answer<L>
         requires inside { block < self.old.place.blocks }
         requires fits { FitsBlock «data» }
@@ -78,6 +81,7 @@ impl<L: LegPart> Stripe<L> {
     }
 
     /// A read, whose answer carries the block.
+    #[inline(always)]
     fn step_read(&mut self, block: u64) -> Answer<L>
         requires { block < self.old.place.blocks }
         ensures step { StepOf (leg_type L.model L.honest) (Step.Read block) result
@@ -100,6 +104,7 @@ impl<L: LegPart> Stripe<L> {
     }
 
     /// A push.
+    #[inline(always)]
     fn step_push(&mut self, ticket: u64, leg: u8) -> Answer<L>
         requires { leg < length self.old.legs }
         ensures step { StepOf (leg_type L.model L.honest) (Step.Push ticket leg) result
@@ -180,6 +185,9 @@ impl<L: LegPart> Stripe<L> {
 
     /// Does one step, with at most one call of a leg. Each answer is one that the step may have,
     /// and the stripe is then as that answer says.
+    // Inlined, with all that stands between a lane and the steps: an answer has room for a block,
+    // and where a call's kind of step is known most of it is never made.
+    #[inline(always)]
     pub fn step(&mut self, step: Step<L>) -> Answer<L>
         requires { MayBeAsked L.model self.old step }
         ensures step { StepOf (leg_type L.model L.honest) step result self.old self.new }
