@@ -1,8 +1,11 @@
 -- The stripes that a mirror is made of.
-use Rattle.std.specs.Prelude.{◌≡◌, ℕ, ◌<◌, ◌≤◌, List, length, slice_get, Some}
+use Rattle.std.specs.Prelude.{◌≡◌, ℕ, ◌<◌, ◌≤◌, ◌^◌, List, [], ◌∷◌, ◌++◌, length, slice_get, Some}
+use Rattle.nm_choice.specs.declared.policy.Policy.{Policy}
 use Rattle.nm_geometry.specs.Geometry.{Geometry, stripe_blocks}
-use Rattle.nm_leg.specs.Leg.{Leg}
+use Rattle.nm_leg.specs.Leg.{Leg, LegType}
 use Rattle.nm_leg.specs.LegCalls.{EachHas}
+use Rattle.nm_rules.specs.Comparing.{comparing, OpensCompared}
+use Rattle.nm_rules.specs.Opening.{opened}
 use Rattle.nm_rules.specs.State.{StripeState}
 use Rattle.nm_rules.specs.declared.at.At.{At}
 
@@ -48,3 +51,17 @@ pub record FitNext {L : Type 0} (model : L → Leg) (shape : Geometry) (stripe :
   pub all : length fitting ≡ shape.legs
   pub lengths : EachHas model fitting (stripe_blocks stripe shape)
   pub one : master < shape.legs
+
+-- the next stripe of the shape was opened on these legs, those of the bits in sync
+abbrev pub OpensNext : {L : Type 0} → Geometry → List L → ℕ → Policy
+    → List (StripeState L) → List (StripeState L) → Type 0
+OpensNext shape legs bits policy old new =
+    new ≡ old ++ opened (place_of (length old) shape) legs bits 0 policy ∷ []
+
+-- the next stripe of the shape was opened by comparing these legs with the master
+pub record ComparesNext {L : Type 0} (type : LegType L) (shape : Geometry) (legs : List L)
+    (master : ℕ) (policy : Policy) (old new : List (StripeState L)) : Type 0 where
+  pub stripe : StripeState L
+  pub opens : OpensCompared type
+      (comparing (place_of (length old) shape) legs master 0 policy) stripe
+  pub added : new ≡ old ++ stripe ∷ []

@@ -1,5 +1,5 @@
 //! The stripes of a mirror, as they are opened.
-ghost use Rattle.std.specs.Prelude.{◌≡◌, ◌+◌, ◌<◌, ◌≤◌, ℕ, List, [], length, IsTrue, IfSome, IfOk, IfErr, OnOk, OnErr, ◌↔◌, IsSome};
+ghost use Rattle.std.specs.Prelude.{◌≡◌, ◌+◌, ◌<◌, ◌≤◌, ◌^◌, ℕ, List, [], length, IsTrue, IfSome, IfOk, IfErr, OnOk, OnErr, ◌↔◌, IsSome};
 ghost use Rattle.nm_geometry.specs.Geometry.{stripe_blocks};
 ghost use Rattle.nm_leg.specs.Leg.{leg_type};
 ghost use Rattle.nm_leg.specs.LegCalls.{EachHas};
@@ -8,7 +8,7 @@ ghost use Rattle.nm_resync.specs.Chunk.{IsChunkSize};
 ghost use Rattle.nm_rules.specs.Comparing.{comparing, FailsToOpen};
 ghost use Rattle.nm_rules.specs.Opening.{HoldEqual};
 ghost use Rattle.nm_stripe.specs.Opening.{NamesALeg};
-ghost use Rattle.nm_mirror.specs.Stripes.{AreFirst, AreStripesOf, FitNext, place_of};
+ghost use Rattle.nm_mirror.specs.Stripes.{AreFirst, AreStripesOf, ComparesNext, FitNext, OpensNext, place_of};
 
 use crate::start::Start;
 use nm_geometry::Shape;
@@ -45,7 +45,7 @@ fn place_of(shape: &Shape, number: usize) -> At
 
 /// Whether each leg has so many blocks.
 fn have_all<L: LegPart>(legs: &[L], blocks: u64) -> bool
-    ensures { IsTrue result → EachHas L.model legs.now blocks }
+    ensures { IsTrue result ↔ EachHas L.model legs.now blocks }
 {
     legs.iter().all(|leg| leg.len() == blocks)
 }
@@ -55,6 +55,7 @@ fn only_bit<L: LegPart>(leg: u8) -> u8
     requires { leg < 8 }
     ensures named { (legs : ℕ) → leg < legs → NamesALeg result legs }
     ensures equal { (legs : List L) → HoldEqual L.model legs result }
+    ensures bit { result ≡ 2 ^ leg }
 {
     1 << leg
 }
@@ -111,6 +112,8 @@ impl<L: LegPart> Opening<L> {
         ensures shape { self.new.shape ≡ self.old.shape }
         ensures handed_back { IfErr result (λ back. back.1.items ≡ legs.items) }
         ensures stays { OnErr result (self.new.stripes.items ≡ self.old.stripes.items) }
+        ensures opened { OnOk result (OpensNext self.old.shape legs.items in_sync policy
+            self.old.stripes.items self.new.stripes.items) }
     {
         let place = place_of(&self.shape, self.stripes.len());
         if self.stripes.reserve(1).is_err() {
@@ -123,8 +126,10 @@ impl<L: LegPart> Opening<L> {
 
     /// Whether these legs fit the next stripe, if there is one, and this is one of them.
     pub fn fits(&self, legs: &[L], master: u8) -> bool
-        ensures { IsTrue result → FitNext L.model self.now.shape
+        ensures fit { IsTrue result → FitNext L.model self.now.shape
             (length self.now.stripes.items) legs.now master }
+        ensures all { FitNext L.model self.now.shape (length self.now.stripes.items) legs.now
+            master → IsTrue result }
     {
         match self.next_place() {
             Some(place) => {
@@ -151,6 +156,8 @@ impl<L: LegPart> Opening<L> {
         ensures shape { self.new.shape ≡ self.old.shape }
         ensures handed_back { IfErr result (λ back. back.1.items ≡ legs.items) }
         ensures stays { OnErr result (self.new.stripes.items ≡ self.old.stripes.items) }
+        ensures opened { OnOk result (OpensNext self.old.shape legs.items (2 ^ master) policy
+            self.old.stripes.items self.new.stripes.items) }
     {
         // It tells that there are at most eight legs.
         let _regions = self.shape.regions();
@@ -175,6 +182,8 @@ impl<L: LegPart> Opening<L> {
             (comparing (place_of (length self.old.stripes.items) self.old.shape) legs.items
             master 0 policy) refused.0 refused.1.items) }
         ensures stays { OnErr result (self.new.stripes.items ≡ self.old.stripes.items) }
+        ensures opened { OnOk result (ComparesNext (leg_type L.model L.honest) self.old.shape
+            legs.items master policy self.old.stripes.items self.new.stripes.items) }
     {
         let place = place_of(&self.shape, self.stripes.len());
         if self.stripes.reserve(1).is_err() {

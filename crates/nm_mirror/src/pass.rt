@@ -1,6 +1,6 @@
 //! One client's way through a mirror.
-ghost use Rattle.std.specs.Prelude.{◌≡◌, length, IfOk};
-ghost use Rattle.nm_mirror.specs.Passes.{HasCountedNothing};
+ghost use Rattle.std.specs.Prelude.{◌≡◌, length, IfOk, IfErr};
+ghost use Rattle.nm_mirror.specs.Passes.{HasCountedNothing, RefusesPass};
 
 use crate::mirror::Mirror;
 use crate::part_lane::PartLane;
@@ -49,6 +49,7 @@ impl<L: LegPart, G: Gate + Drop> Mirror<L, G> {
         ensures stripes { IfOk result (λ pass.
             length pass.parts.items ≡ length self.now.locks.items) }
         ensures counted { IfOk result (λ pass. HasCountedNothing pass.parts.items) }
+        ensures refused { IfErr result RefusesPass }
     {
         let mut parts = Vec::new(alloc);
         if parts.reserve(self.locks.len()).is_err() {

@@ -13,3 +13,6 @@ pub returns-clause-equal : goal.returns-clause-equal
 returns-clause-equal g c =
     let bit = one_shl c.args.leg 8 (omega (arith, c.requires)) in
     rw bit (λ legs. one_equal g.L.LegPart.model legs c.args.leg)
+
+pub returns-clause-bit : goal.returns-clause-bit
+returns-clause-bit g c = one_shl c.args.leg 8 (omega (arith, c.requires))
