@@ -1,16 +1,15 @@
 -- The lines of the control port.
 use Rattle.std.specs.Prelude.{◌≡◌, ◌<◌, ◌≤◌, ℕ, ◌^◌, List, ◌++◌, length, codes}
-use Rattle.std.specs.Str.Parse.{AllDigits, digits_value_after}
+use Rattle.std.specs.Str.Parse.{IsNumeral, digits_value}
 use Rattle.nm_commands.specs.declared.control_command.ControlCommand.{ControlCommand}
 use Rattle.nm_commands.specs.declared.control_command.ControlCommand.TheVariants.{Status, Fail}
 use Rattle.nm_commands.specs.declared.control_command.ControlCommand.TheVariants.{Attach, Quit, Bad}
 
 -- The word names a leg: 1 to 20 decimal digits of this number, which fits 64 bits.
 pub record NamesLeg (word : List ℕ) (leg : ℕ) : Type 0 where
-  pub some : 0 < length word
+  pub digits : IsNumeral 10 word
   pub few : length word ≤ 20
-  pub digits : AllDigits 10 word
-  pub value : digits_value_after 10 0 word ≡ leg
+  pub value : digits_value 10 word ≡ leg
   pub fits : leg < 2 ^ 64
 
 -- The line is this beginning and the name of a leg.

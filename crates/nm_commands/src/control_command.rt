@@ -1,7 +1,8 @@
 //! The lines of the control port.
 ghost use Rattle.std.specs.Prelude.{◌≡◌, ℕ, List, ◌++◌, IfSome, IsNone};
-ghost use Rattle.nm_commands.specs.ControlLine.{IsOfLeg, IsReadAs};
-ghost use Rattle.nm_commands.specs.Digits.{leg_of};
+ghost use Rattle.nm_commands.specs.ControlLine.{IsOfLeg, IsReadAs, NamesLeg};
+
+use std::str::from_utf8;
 
 /// What a line asks for.
 #[derive(Clone, Copy, Debug, PartialEq, Eq)]
@@ -18,21 +19,19 @@ pub enum ControlCommand {
     Bad,
 }
 
-// The number of a leg: 1 to 20 decimal digits, and below 2^64.
+// The leg that a word names: 1 to 20 decimal digits, of a number below 2^64. `parse` alone would
+// take a plus before them.
 fn leg_number(word: &[u8]) -> Option<u64>
-    ensures { result ≡ leg_of word.now }
+    ensures some { IfSome result (λ leg. NamesLeg word.now leg) }
+    ensures none { IsNone result → (leg : ℕ) → NamesLeg word.now leg → ⊥ }
 {
-    if word.is_empty() || word.len() > 20 {
+    if word.len() > 20 || word.starts_with(b"+") {
         return None;
     }
-    let mut number = 0u64;
-    for digit in word {
-        if !digit.is_ascii_digit() {
-            return None;
-        }
-        number = number.checked_mul(10)?.checked_add((*digit - b'0') as u64)?;
+    match from_utf8(word) {
+        Ok(text) => text.parse().ok(),
+        Err(_) => None,
     }
-    Some(number)
 }
 
 // What follows this beginning of a line.

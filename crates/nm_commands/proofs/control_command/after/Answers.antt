@@ -1,5 +1,5 @@
 use Rattle.std.proofs.Common.{◌≡◌, rules, take, length}
-use Rattle.nm_commands.proofs.Digits.{other_start}
+use Rattle.nm_commands.proofs.Lines.{other_start}
 use Rattle.nm_commands.proofs.control_command.after.Goals as goal
 
 pub returns-else-eq-clause-none : goal.returns-else-eq-clause-none

@@ -1,5 +1,5 @@
 use Rattle.std.proofs.Common.{rules, refl}
-use Rattle.nm_commands.proofs.Digits.{asks_nothing}
+use Rattle.nm_commands.proofs.Lines.{asks_nothing}
 use Rattle.nm_commands.proofs.control_command.control_line.Goals as goal
 
 pub returns : goal.returns
