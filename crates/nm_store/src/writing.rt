@@ -20,7 +20,7 @@ ghost use Rattle.nm_rules.specs.State.{next_number};
 use crate::store::Store;
 use nm_fanout::{Data, Record, RecordData};
 use nm_leg::{LegFault, LegPart, write_leg_at};
-use nm_replay::{Block, Entry, Kind};
+use nm_replay::{BLOCK_BYTES, Block, Entry, Kind};
 
 /// The kind of the entry of a write of these data, under this ticket.
 fn write_kind(ticket: u64, data: &RecordData) -> Kind
@@ -46,13 +46,15 @@ pub(crate) fn write_entry(record: &Record, number: u64) -> Entry
     requires { FillsBlock record.now.data }
     ensures { result ≡ write_entry number record.now }
 {
-    let mut bytes = Block::ZERO;
-    bytes.0.copy_from_slice(record.data.bytes());
+    // Seen as an array, the bytes are copied once, with no zeroes laid before.
+    let Ok(bytes) = <&[u8; BLOCK_BYTES]>::try_from(record.data.bytes()) else {
+        unreachable!()
+    };
     Entry {
         seq: number,
         kind: write_kind(record.ticket, &record.data),
         block: record.block,
-        bytes,
+        bytes: Block(*bytes),
     }
 }
 
