@@ -4,6 +4,7 @@ pub mod Joined
 pub mod FormLaws
 pub mod LineLaws
 pub mod OpeningLaws
+pub mod RestLaws
 pub mod ScriptLaws
 pub mod Sent
 pub mod Legs

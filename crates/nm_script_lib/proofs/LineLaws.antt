@@ -38,7 +38,7 @@ pub record FirstFrom (Holds : List ℕ →
   pub none_before : AllByRecursion (λ other. Holds other → ⊥) before
   pub holds : Holds line
 
-first_here : (Holds : List ℕ → Type 0) (n : ℕ) (line : List ℕ) (lines : List (List ℕ)) (k : ℕ) →
+abbrev pub first_here : (Holds : List ℕ → Type 0) (n : ℕ) (line : List ℕ) (lines : List (List ℕ)) (k : ℕ) →
     n ≡ k → Holds line → FirstFrom Holds n (line ∷ lines) k
 first_here Holds n line lines k e h = record {
   before = [];
@@ -51,7 +51,7 @@ first_here Holds n line lines k e h = record {
   holds = h;
 }
 
-first_later : (Holds : List ℕ → Type 0) (n : ℕ) (line : List ℕ) (lines : List (List ℕ)) (k : ℕ) →
+abbrev pub first_later : (Holds : List ℕ → Type 0) (n : ℕ) (line : List ℕ) (lines : List (List ℕ)) (k : ℕ) →
     (Holds line → ⊥) → FirstFrom Holds (n + 1) lines k → FirstFrom Holds n (line ∷ lines) k
 first_later Holds n line lines k fails f = record {
   before = line ∷ f.before;
@@ -225,7 +225,7 @@ steps_sound m n (line ∷ lines) ss h =
       | inr p ↦ rw p.0 (steps_sound m (n + 1) lines ss p.1)
     ]
 
-no_step : (m : MirrorLine) (line : List ℕ) → read_step m line ≡ None → (s : Step) → IsStepLine m line s →
+pub no_step : (m : MirrorLine) (line : List ℕ) → read_step m line ≡ None → (s : Step) → IsStepLine m line s →
     ⊥
 no_step m line none s is = let some = step_read m line s is in cc
 

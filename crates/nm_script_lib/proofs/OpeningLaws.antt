@@ -1,18 +1,18 @@
 -- What the lines after the mirror line open with is read as the grammar says, each way.
 use Rattle.std.proofs.Common.{◌≡◌, ℕ, ◌+◌, Bool, true, false, cond, List, [], ◌∷◌, ◌++◌, length, filter, Some, None, Option, Result, Ok, Err, codes, refl, sym, ap, subst, ◌∙◌, append_assoc, arith, ◌⊎◌, inl, inr}
-use Rattle.std.specs.List.{AllZip}
+use Rattle.std.specs.List.{AllZip, AllByRecursion}
+use Rattle.std.proofs.lemmas.Bool.{both_ways}
 use Rattle.std.proofs.lemmas.List.{append-nil}
-use Rattle.std.proofs.lemmas.List.Elements.{filter-append}
 use Rattle.nm_script_lib.specs.declared.load.Load.{Load}
 use Rattle.nm_script_lib.specs.declared.mirror_line.MirrorLine.{MirrorLine}
 use Rattle.nm_script_lib.specs.declared.step.Step.{Step}
 use Rattle.nm_script_lib.specs.Forms.{Form, Keyword, NoForm, IsLine}
 use Rattle.nm_script_lib.specs.Grammar.{IsStepLine, IsOpening, load_form, start_form, step_form, leg_form, look_form, has_content}
-use Rattle.nm_script_lib.specs.BadLine.{FollowsOpening, Opens, OpensNone, IsBadStep, IsFirst}
+use Rattle.nm_script_lib.specs.BadLine.{IsNoLoad, IsNoStartOrStep}
 use Rattle.nm_script_lib.specs.Reading.{pieces, is_word, read, read_line, if_at_end, ◌>>=◌}
-use Rattle.nm_script_lib.specs.ScriptReading.{Opened, Said, by_load, by_start, opening_from, steps_of, with_opening, from_opening}
+use Rattle.nm_script_lib.specs.ScriptReading.{Opened, by_load, by_start, opening_from}
 use Rattle.nm_script_lib.proofs.FormLaws.{same_word, line_sound, line_complete}
-use Rattle.nm_script_lib.proofs.LineLaws.{chosen, later_first, steps_sound, steps_bad, steps_read}
+use Rattle.nm_script_lib.proofs.LineLaws.{chosen, FirstFrom, first_here, first_later, no_step}
 
 -- a line with another first word is not read
 
@@ -143,50 +143,161 @@ started_first m sofar n line lines master o full reads e =
           (sym (append-nil sofar));
     }
 
+-- the lines open with no start: the first with content that is no load is a step, or there is none
+
+no_load : (m : MirrorLine) (line : List ℕ) → read_line (load_form m) line ≡ None → (load : Load) →
+    IsLine (load_form m) line load → ⊥
+no_load m line none load is = let some = line_complete (load_form m) line load is in cc
+
+no_start : (m : MirrorLine) (line : List ℕ) → read_line (start_form m) line ≡ None → (master : ℕ) →
+    IsLine (start_form m) line master → ⊥
+no_start m line none master is = let some = line_complete (start_form m) line master is in cc
+
+no_content_is_load : (m : MirrorLine) (line : List ℕ) → has_content line ≡ false → IsNoLoad m line → ⊥
+no_content_is_load m line empty bad = both_ways (has_content line) empty bad.0
+
+a_load_is_load : (m : MirrorLine) (line : List ℕ) (load : Load) →
+    read_line (load_form m) line ≡ Some load → IsNoLoad m line → ⊥
+a_load_is_load m line load reads bad = bad.1 load (line_sound (load_form m) line load reads)
+
+-- the first line that is no load is a step
+pub record StepFirst (m : MirrorLine) (n : ℕ) (lines : List (List ℕ)) : Type 0 where
+  pub number : ℕ
+  pub first : FirstFrom (IsNoLoad m) n lines number
+  pub step : Step
+  pub is : IsStepLine m first.line step
+
+abbrev pub OpensNothing : MirrorLine → ℕ → List (List ℕ) → Type 0
+OpensNothing m n lines = AllByRecursion (λ line. IsNoLoad m line → ⊥) lines ⊎ StepFirst m n lines
+
+nothing_later : (m : MirrorLine) (n : ℕ) (line : List ℕ) (lines : List (List ℕ)) →
+    (IsNoLoad m line → ⊥) → OpensNothing m (n + 1) lines → OpensNothing m n (line ∷ lines)
+nothing_later m n line lines fails (inl none) = inl (fails, none)
+nothing_later m n line lines fails (inr s) = inr (record {
+  number = s.number;
+  first = first_later (IsNoLoad m) n line lines s.number fails s.first;
+  step = s.step;
+  is = s.is;
+})
+
+-- what is read is none, and the lines open with no start; or it is what they open with
+abbrev pub Opening : MirrorLine → Opened → List Load → ℕ → List (List ℕ) → Opened → Type 0
+Opening m none sofar n lines o = ((o ≡ none) × OpensNothing m n lines) ⊎ Found m sofar n lines o
+
 by_start_found : (m : MirrorLine) (none : Opened) (sofar : List Load) (n : ℕ) (line : List ℕ)
-    (lines : List (List ℕ)) (o : Opened) (master : Option ℕ) → has_content line ≡ true →
-    read_line (start_form m) line ≡ master → by_start master none sofar (n + 1) lines ≡ o →
-    (o ≡ none) ⊎ Found m sofar n (line ∷ lines) o
-by_start_found m none sofar n line lines o None full reads h = inl (sym h)
-by_start_found m none sofar n line lines o (Some master) full reads h =
-    inr (started_first m sofar n line lines master o full reads h)
+    (lines : List (List ℕ)) (o : Opened) (master : Option ℕ) (step : Option Step) →
+    has_content line ≡ true → read_line (load_form m) line ≡ None →
+    read_line (start_form m) line ≡ master → read_line (step_form m) line ≡ step →
+    by_start master step none sofar n lines ≡ Ok o → Opening m none sofar n (line ∷ lines) o
+by_start_found m none sofar n line lines o None None full loads starts steps h = cc
+by_start_found m none sofar n line lines o None (Some step) full loads starts steps h =
+    let same : o ≡ none = cc in
+    inl (
+      same,
+      inr (record {
+        number = n;
+        first = first_here (IsNoLoad m) n line lines n refl (full, no_load m line loads);
+        step = step;
+        is = line_sound (step_form m) line step steps;
+      }),
+    )
+by_start_found m none sofar n line lines o (Some master) step full loads starts steps h =
+    let same : ◌≡◌ {A = Opened} (sofar, Some master, n + 1, lines) o = cc in
+    inr (started_first m sofar n line lines master o full starts same)
 
 by_load_found : (m : MirrorLine) (none : Opened) (sofar : List Load) (n : ℕ) (line : List ℕ)
     (lines : List (List ℕ)) (o : Opened) (load : Option Load) → has_content line ≡ true →
-    ((more : List Load) → opening_from m none more (n + 1) lines ≡ o →
-    (o ≡ none) ⊎ Found m more (n + 1) lines o) →
+    ((more : List Load) → opening_from m none more (n + 1) lines ≡ Ok o →
+    Opening m none more (n + 1) lines o) →
     read_line (load_form m) line ≡ load →
     by_load load (λ load. opening_from m none (sofar ++ (load ∷ [])) (n + 1) lines)
-    (by_start (read_line (start_form m) line) none sofar (n + 1) lines) ≡ o →
-    (o ≡ none) ⊎ Found m sofar n (line ∷ lines) o
+    (by_start (read_line (start_form m) line) (read_line (step_form m) line) none sofar n lines) ≡ Ok o →
+    Opening m none sofar n (line ∷ lines) o
 by_load_found m none sofar n line lines o None full rest reads h =
-    by_start_found m none sofar n line lines o (read_line (start_form m) line) full refl h
+    by_start_found m none sofar n line lines o (read_line (start_form m) line)
+    (read_line (step_form m) line) full reads refl refl h
 by_load_found m none sofar n line lines o (Some load) full rest reads h =
     elim (rest (sofar ++ load ∷ []) h) [
-      | inl is ↦ inl is
+      | inl is ↦ inl (is.0, nothing_later m n line lines (a_load_is_load m line load reads) is.1)
       | inr f ↦ inr (loaded_first m sofar n line lines load o full reads f)
     ]
 
-found : (m : MirrorLine) (none : Opened) (sofar : List Load) (n : ℕ) (lines : List (List ℕ)) (o : Opened) →
-    opening_from m none sofar n lines ≡ o → (o ≡ none) ⊎ Found m sofar n lines o
-found m none sofar n [] o h = inl (sym h)
+pub found : (m : MirrorLine) (none : Opened) (sofar : List Load) (n : ℕ) (lines : List (List ℕ)) (o : Opened) →
+    opening_from m none sofar n lines ≡ Ok o → Opening m none sofar n lines o
+found m none sofar n [] o h = let same : o ≡ none = cc in inl (same, inl tt)
 found m none sofar n (line ∷ lines) o h =
     elim (chosen (has_content line)
     (by_load (read_line (load_form m) line)
     (λ load. opening_from m none (sofar ++ (load ∷ [])) (n + 1) lines)
-    (by_start (read_line (start_form m) line) none sofar (n + 1) lines))
-    (opening_from m none sofar (n + 1) lines) o h) [
+    (by_start (read_line (start_form m) line) (read_line (step_form m) line) none sofar n lines))
+    (opening_from m none sofar (n + 1) lines) (Ok o) h) [
       | inl p ↦ by_load_found m none sofar n line lines o (read_line (load_form m) line) p.0
           (λ more. found m none more (n + 1) lines o) refl p.1
       | inr p ↦ elim (found m none sofar (n + 1) lines o p.1) [
-        | inl is ↦ inl is
+        | inl is ↦ inl (is.0, nothing_later m n line lines (no_content_is_load m line p.0) is.1)
         | inr f ↦ inr (skipped m sofar n line lines o p.0 f)
       ]
     ]
 
+-- the line that is named is the first with content that is no load, and no start and no step either
+
+pub record WrongFrom (m : MirrorLine) (n : ℕ) (lines : List (List ℕ)) (k : ℕ) : Type 0 where
+  pub first : FirstFrom (IsNoLoad m) n lines k
+  pub is : IsNoStartOrStep m first.line
+
+wrong_later : (m : MirrorLine) (n : ℕ) (line : List ℕ) (lines : List (List ℕ)) (k : ℕ) →
+    (IsNoLoad m line → ⊥) → WrongFrom m (n + 1) lines k → WrongFrom m n (line ∷ lines) k
+wrong_later m n line lines k fails w = record {
+  first = first_later (IsNoLoad m) n line lines k fails w.first;
+  is = w.is;
+}
+
+by_start_wrong : (m : MirrorLine) (none : Opened) (sofar : List Load) (n : ℕ) (line : List ℕ)
+    (lines : List (List ℕ)) (k : ℕ) (master : Option ℕ) (step : Option Step) →
+    has_content line ≡ true → read_line (load_form m) line ≡ None →
+    read_line (start_form m) line ≡ master → read_line (step_form m) line ≡ step →
+    by_start master step none sofar n lines ≡ Err k → WrongFrom m n (line ∷ lines) k
+by_start_wrong m none sofar n line lines k None None full loads starts steps h =
+    let here : n ≡ k = cc in
+    record {
+      first = first_here (IsNoLoad m) n line lines k here (full, no_load m line loads);
+      is = (no_start m line starts, no_step m line steps);
+    }
+by_start_wrong m none sofar n line lines k None (Some step) full loads starts steps h = cc
+by_start_wrong m none sofar n line lines k (Some master) step full loads starts steps h = cc
+
+by_load_wrong : (m : MirrorLine) (none : Opened) (sofar : List Load) (n : ℕ) (line : List ℕ)
+    (lines : List (List ℕ)) (k : ℕ) (load : Option Load) → has_content line ≡ true →
+    ((more : List Load) → opening_from m none more (n + 1) lines ≡ Err k →
+    WrongFrom m (n + 1) lines k) →
+    read_line (load_form m) line ≡ load →
+    by_load load (λ load. opening_from m none (sofar ++ (load ∷ [])) (n + 1) lines)
+    (by_start (read_line (start_form m) line) (read_line (step_form m) line) none sofar n lines) ≡ Err k →
+    WrongFrom m n (line ∷ lines) k
+by_load_wrong m none sofar n line lines k None full rest reads h =
+    by_start_wrong m none sofar n line lines k (read_line (start_form m) line)
+    (read_line (step_form m) line) full reads refl refl h
+by_load_wrong m none sofar n line lines k (Some load) full rest reads h =
+    wrong_later m n line lines k (a_load_is_load m line load reads) (rest (sofar ++ load ∷ []) h)
+
+pub wrong : (m : MirrorLine) (none : Opened) (sofar : List Load) (n : ℕ) (lines : List (List ℕ)) (k : ℕ) →
+    opening_from m none sofar n lines ≡ Err k → WrongFrom m n lines k
+wrong m none sofar n [] k h = cc
+wrong m none sofar n (line ∷ lines) k h =
+    elim (chosen (has_content line)
+    (by_load (read_line (load_form m) line)
+    (λ load. opening_from m none (sofar ++ (load ∷ [])) (n + 1) lines)
+    (by_start (read_line (start_form m) line) (read_line (step_form m) line) none sofar n lines))
+    (opening_from m none sofar (n + 1) lines) (Err k) h) [
+      | inl p ↦ by_load_wrong m none sofar n line lines k (read_line (load_form m) line) p.0
+          (λ more. wrong m none more (n + 1) lines k) refl p.1
+      | inr p ↦ wrong_later m n line lines k (no_content_is_load m line p.0)
+          (wrong m none sofar (n + 1) lines k p.1)
+    ]
+
 -- an opening is read as it is
 
-abbrev AreLoadLines : MirrorLine → List (List ℕ) → List Load → Type 0
+abbrev pub AreLoadLines : MirrorLine → List (List ℕ) → List Load → Type 0
 AreLoadLines m before loads = AllZip (λ line load. IsLine (load_form m) line load) before loads
 
 -- the lines are read as this opening, and these with content follow
@@ -194,7 +305,7 @@ pub record ReadsOpening (m : MirrorLine) (none : Opened) (sofar : List Load) (n 
     (lines others : List (List ℕ)) (loads : List Load) (master : ℕ) : Type 0 where
   pub number : ℕ
   pub after : List (List ℕ)
-  pub reads : opening_from m none sofar n lines ≡ (sofar ++ loads, Some master, number, after)
+  pub reads : opening_from m none sofar n lines ≡ Ok (sofar ++ loads, Some master, number, after)
   pub content : filter has_content after ≡ others
 
 no_content : (before others : List (List ℕ)) (last : List ℕ) → [] ≡ before ++ (last ∷ others) → ⊥
@@ -228,7 +339,7 @@ reads_first m none sofar n line lines (b ∷ before) others last (l ∷ loads) m
       number = r.number;
       after = r.after;
       reads = rw (full, here, line_complete (load_form m) b l are.0) (r.reads
-          ∙ ap (λ ls. let x : Opened = (ls, Some master, r.number, r.after) in x)
+          ∙ ap (λ ls. let x : Result Opened ℕ = Ok (ls, Some master, r.number, r.after) in x)
           (append_assoc sofar (l ∷ []) loads));
       content = r.content;
     }
@@ -261,7 +372,7 @@ reads_opening m none sofar n (line ∷ lines) before others last loads master h 
     ]
 
 -- an opening with a start, and what follows it
-opening_then : (m : MirrorLine) (n : ℕ) (lines opening others : List (List ℕ)) (loads : List Load)
+pub opening_then : (m : MirrorLine) (n : ℕ) (lines opening others : List (List ℕ)) (loads : List Load)
     (master : ℕ) → filter has_content lines ≡ opening ++ others →
     IsOpening m opening loads (Some master) →
     ReadsOpening m ([], None, n, lines) [] n lines others loads master
@@ -273,161 +384,23 @@ opening_then m n lines opening others loads master h o =
 
 none_before : (m : MirrorLine) (none : Opened) (sofar : List Load) (n : ℕ) (line : List ℕ)
     (lines rest : List (List ℕ)) (ss : List Step) → has_content line ≡ true →
-    AllZip (IsStepLine m) (line ∷ rest) ss → opening_from m none sofar n (line ∷ lines) ≡ none
+    AllZip (IsStepLine m) (line ∷ rest) ss → opening_from m none sofar n (line ∷ lines) ≡ Ok none
 none_before m none sofar n line lines rest [] full h = absurd h
 none_before m none sofar n line lines rest (s ∷ ss) full h =
-    rw (full, step_no_load m line s h.0, step_no_start m line s h.0) refl
+    rw (
+      full,
+      step_no_load m line s h.0,
+      step_no_start m line s h.0,
+      line_complete (step_form m) line s h.0,
+    ) refl
 
-no_opening_read : (m : MirrorLine) (none : Opened) (sofar : List Load) (n : ℕ) (lines rest : List (List ℕ))
+pub no_opening_read : (m : MirrorLine) (none : Opened) (sofar : List Load) (n : ℕ) (lines rest : List (List ℕ))
     (ss : List Step) → filter has_content lines ≡ rest → AllZip (IsStepLine m) rest ss →
-    opening_from m none sofar n lines ≡ none
+    opening_from m none sofar n lines ≡ Ok none
 no_opening_read m none sofar n [] rest ss e h = refl
 no_opening_read m none sofar n (line ∷ lines) rest ss e h =
     elim (chosen (has_content line) (line ∷ filter has_content lines) (filter has_content lines) rest e) [
       | inl p ↦ none_before m none sofar n line lines (filter has_content lines) ss p.0
           (subst (λ x. AllZip (IsStepLine m) x ss) (sym p.1) h)
       | inr p ↦ let r = no_opening_read m none sofar (n + 1) lines rest ss p.1 h in rw p.0 r
-    ]
-
--- the opening and the steps, each way
-
--- what it takes to be the lines after the mirror line
-pub record ReadRest (m : MirrorLine) (rest : List (List ℕ)) (loads : List Load) (master : Option ℕ)
-    (ss : List Step) : Type 0 where
-  pub opening : List (List ℕ)
-  pub others : List (List ℕ)
-  pub content : filter has_content rest ≡ opening ++ others
-  pub opens : IsOpening m opening loads master
-  pub each_step : AllZip (IsStepLine m) others ss
-
--- the reading of the lines after the mirror line, of which the first is line n
-abbrev pub read_rest : MirrorLine → ℕ → List (List ℕ) → Result Said ℕ
-read_rest m n rest = from_opening m (opening_from m ([], None, n, rest) [] n rest)
-
-with_opening_ok : (m p : MirrorLine) (o : Opened) (r : Result (List Step) ℕ) (loads : List Load)
-    (master : Option ℕ) (ss : List Step) → with_opening m o r ≡ Ok (p, loads, master, ss) →
-    (m ≡ p) × (o.0 ≡ loads) × (o.1 ≡ master) × (r ≡ Ok ss)
-with_opening_ok m p o (Ok rest) loads master ss h =
-    let e : ◌≡◌ {A = Said} (m, o.0, o.1, rest) (p, loads, master, ss) = cc in
-    (ap (λ x. x.0) e, ap (λ x. x.1) e, ap (λ x. x.2) e, ap Ok (ap (λ x. x.3) e))
-with_opening_ok m p o (Err k) loads master ss h = cc
-
-with_opening_err : (m : MirrorLine) (o : Opened) (r : Result (List Step) ℕ) (k : ℕ) →
-    with_opening m o r ≡ Err k → r ≡ Err k
-with_opening_err m o (Ok rest) k h = cc
-with_opening_err m o (Err j) k h = cc
-
-none_sound : (m : MirrorLine) (n : ℕ) (rest : List (List ℕ)) (o : Opened) (loads : List Load)
-    (master : Option ℕ) (ss : List Step) → o ≡ ([], None, n, rest) → o.0 ≡ loads → o.1 ≡ master →
-    steps_of m o.2 o.3 ≡ Ok ss → ReadRest m rest loads master ss
-none_sound m n rest o loads master ss e ls st steps =
-    let loads_are : [] ≡ loads = ap (λ (x : Opened). x.0) (sym e) ∙ ls in
-    let master_is : None ≡ master = ap (λ (x : Opened). x.1) (sym e) ∙ st in
-    let steps_are : steps_of m n rest ≡ Ok ss = ap (λ (x : Opened). steps_of m x.2 x.3) (sym e) ∙ steps in
-    let opens : IsOpening m [] [] None = (refl, refl) in
-    record {
-      opening = [];
-      others = filter has_content rest;
-      content = refl;
-      opens = subst (λ x. IsOpening m [] loads x) master_is
-          (subst (λ x. IsOpening m [] x None) loads_are opens);
-      each_step = steps_sound m n rest ss steps_are;
-    }
-
-found_sound : (m : MirrorLine) (n : ℕ) (rest : List (List ℕ)) (o : Opened) (loads : List Load)
-    (master : Option ℕ) (ss : List Step) → Found m [] n rest o → o.0 ≡ loads → o.1 ≡ master →
-    steps_of m o.2 o.3 ≡ Ok ss → ReadRest m rest loads master ss
-found_sound m n rest o loads master ss f ls st steps =
-    let loads_are : f.loads ≡ loads = ap (λ (x : Opened). x.0) (sym f.is) ∙ ls in
-    let master_is : Some f.master ≡ master = ap (λ (x : Opened). x.1) (sym f.is) ∙ st in
-    let steps_are : steps_of m (length f.before + n) f.after ≡ Ok ss =
-    ap (λ (x : Opened). steps_of m x.2 x.3) (sym f.is) ∙ steps in
-    record {
-      opening = filter has_content f.before;
-      others = filter has_content f.after;
-      content = ap (filter has_content) f.split ∙ filter-append has_content f.before f.after;
-      opens = subst (λ x. IsOpening m (filter has_content f.before) loads x) master_is
-          (subst (λ x. IsOpening m (filter has_content f.before) x (Some f.master)) loads_are f.opens);
-      each_step = steps_sound m (length f.before + n) f.after ss steps_are;
-    }
-
--- what is read of the lines after the mirror line is what they say
-pub rest_sound : (m p : MirrorLine) (n : ℕ) (rest : List (List ℕ)) (loads : List Load)
-    (master : Option ℕ) (ss : List Step) → read_rest m n rest ≡ Ok (p, loads, master, ss) →
-    (m ≡ p) × ReadRest m rest loads master ss
-rest_sound m p n rest loads master ss h =
-    let o : Opened = opening_from m ([], None, n, rest) [] n rest in
-    let w = with_opening_ok m p o (steps_of m o.2 o.3) loads master ss h in (
-      w.0,
-      elim (found m ([], None, n, rest) [] n rest o refl) [
-        | inl e ↦ none_sound m n rest o loads master ss e w.1 w.2 w.3
-        | inr f ↦ found_sound m n rest o loads master ss f w.1 w.2 w.3
-      ],
-    )
-
--- what they say is read
-pub rest_read : (m : MirrorLine) (n : ℕ) (rest opening others : List (List ℕ)) (loads : List Load)
-    (master : Option ℕ) (ss : List Step) → filter has_content rest ≡ opening ++ others →
-    IsOpening m opening loads master → AllZip (IsStepLine m) others ss →
-    read_rest m n rest ≡ Ok (m, loads, master, ss)
-rest_read m n rest opening others loads None ss h o each =
-    let all : filter has_content rest ≡ others = h ∙ ap (λ x. x ++ others) o.0 in
-    let none = no_opening_read m ([], None, n, rest) [] n rest others ss all each in
-    rw (none, o.1, steps_read m n rest ss (rw all each)) refl
-rest_read m n rest opening others loads (Some master) ss h o each =
-    let r = opening_then m n rest opening others loads master h o in
-    rw (r.reads, steps_read m r.number r.after ss (rw r.content each)) refl
-
--- the line that is named is the first after the opening that is no step
-
-none_follows : (m : MirrorLine) (n : ℕ) (rest : List (List ℕ)) →
-    opening_from m ([], None, n, rest) [] n rest ≡ ([], None, n, rest) →
-    (before after : List (List ℕ)) (loads : List Load) (master : ℕ) → rest ≡ before ++ after →
-    IsOpening m (filter has_content before) loads (Some master) → ⊥
-none_follows m n rest none before after loads master split o =
-    let r = opening_then m n rest (filter has_content before) (filter has_content after) loads master
-    (ap (filter has_content) split ∙ filter-append has_content before after) o in
-    let clash : ◌≡◌ {A = Option ℕ} None (Some master) =
-    ap (λ (x : Opened). x.1) (sym none ∙ r.reads) in
-    cc
-
--- where the line to name is, counted from the mirror line
-pub record BadAfter (m : MirrorLine) (n : ℕ) (rest : List (List ℕ)) (k : ℕ) : Type 0 where
-  pub skipped : ℕ
-  pub line : ℕ
-  pub after : List (List ℕ)
-  pub number : n + skipped + line ≡ k
-  pub follows : FollowsOpening m rest skipped after
-  pub first : IsFirst (IsBadStep m) after line
-
-bad_here : (m : MirrorLine) (n from j : ℕ) (rest after : List (List ℕ)) (k : ℕ) → from ≡ j + (n + 1) →
-    FollowsOpening m rest j after → steps_of m from after ≡ Err k → BadAfter m n rest k
-bad_here m n from j rest after k e follows h =
-    let bad = steps_bad m from after k h in
-    let first = later_first (IsBadStep m) (n + j) from after k (omega (arith, e)) bad in
-    record {
-      skipped = j;
-      line = first.0;
-      after = after;
-      number = sym first.1;
-      follows = follows;
-      first = first.2;
-    }
-
-pub rest_bad : (m : MirrorLine) (n : ℕ) (rest : List (List ℕ)) (k : ℕ) → read_rest m (n + 1) rest ≡ Err k →
-    BadAfter m n rest k
-rest_bad m n rest k h =
-    let none : Opened = ([], None, n + 1, rest) in
-    let o : Opened = opening_from m none [] (n + 1) rest in
-    let steps : steps_of m o.2 o.3 ≡ Err k = with_opening_err m o (steps_of m o.2 o.3) k h in
-    elim (found m none [] (n + 1) rest o refl) [
-      | inl e ↦
-          let here : steps_of m (n + 1) rest ≡ Err k =
-          ap (λ (x : Opened). steps_of m x.2 x.3) (sym e) ∙ steps in
-          bad_here m n (n + 1) 0 rest rest k (omega arith) (OpensNone (none_follows m (n + 1) rest e)) here
-      | inr f ↦
-          let here : steps_of m (length f.before + (n + 1)) f.after ≡ Err k =
-          ap (λ (x : Opened). steps_of m x.2 x.3) (sym f.is) ∙ steps in
-          bad_here m n (length f.before + (n + 1)) (length f.before) rest f.after k refl
-          (Opens f.before f.after f.loads f.master f.split f.opens) here
     ]

@@ -11,14 +11,14 @@ use Rattle.nm_script_lib.specs.declared.load.Load.{Load}
 use Rattle.nm_script_lib.specs.declared.mirror_line.MirrorLine.{MirrorLine}
 use Rattle.nm_script_lib.specs.declared.step.Step.{Step}
 use Rattle.nm_script_lib.specs.Grammar.{IsMirrorLine, mirror_form, IsScript, has_content}
-use Rattle.nm_script_lib.specs.BadLine.{IsFirst, IsNotUtf8, HasContent, NamesMirror, IsBadMirror, Names, NotUtf8, NoMirrorLine, WrongMirrorLine, WrongStep, NamesLine}
+use Rattle.nm_script_lib.specs.BadLine.{IsFirst, IsNotUtf8, HasContent, NamesMirror, IsBadMirror, Names, NotUtf8, NoMirrorLine, WrongMirrorLine, WrongOpening, WrongStep, NamesLine}
 use Rattle.nm_script_lib.specs.Reading.{pieces, is_word, read_line}
 use Rattle.nm_script_lib.specs.ScriptReading.{first_where, content_from, names_mirror, Said, after_mirror, from_content, from_utf8, script_of}
 use Rattle.nm_script_lib.proofs.Pieces.{split_whole}
 use Rattle.nm_script_lib.proofs.Joined.{are_separated, pieces_are}
 use Rattle.nm_script_lib.proofs.FormLaws.{same_word, word_same, line_sound, line_complete}
 use Rattle.nm_script_lib.proofs.LineLaws.{first_of_lines, where_found, where_none, none_where, ContentFrom, content_found, content_none, content_back}
-use Rattle.nm_script_lib.proofs.OpeningLaws.{ReadRest, read_rest, rest_sound, rest_read, rest_bad}
+use Rattle.nm_script_lib.proofs.RestLaws.{ReadRest, read_rest, rest_sound, rest_read, rest_bad}
 
 -- UTF-8
 
@@ -220,10 +220,14 @@ after_bad lines rest n line None k e u f h =
           named_at 1 k lines (sym t) (NoMirrorLine u (none_names lines fails))
     ]
 after_bad lines rest n line (Some m) k e u f h =
-    let bad = rest_bad m n rest k h in
-    named_at (n + bad.skipped + bad.line) k lines (sym bad.number)
-    (WrongStep n bad.skipped bad.line m u (one_first n lines rest line f)
-    (line_sound mirror_form line m (sym e)) bad.after bad.follows bad.first)
+    elim (rest_bad m n rest k h) [
+      | inl bad ↦ named_at (n + bad.line) k lines (sym bad.number)
+          (WrongOpening n bad.line m u (one_first n lines rest line f)
+          (line_sound mirror_form line m (sym e)) bad.next bad.is)
+      | inr bad ↦ named_at (n + bad.skipped + bad.line) k lines (sym bad.number)
+          (WrongStep n bad.skipped bad.line m u (one_first n lines rest line f)
+          (line_sound mirror_form line m (sym e)) bad.after bad.follows bad.first)
+    ]
 
 content_bad : (lines : List (List ℕ)) (o : Option (ℕ × List ℕ × List (List ℕ))) (k : ℕ) →
     content_from 1 lines ≡ o →

@@ -5,7 +5,9 @@ use Rattle.std.specs.List.{before_first, AllByRecursion, Any}
 use Rattle.nm_script_lib.specs.declared.load.Load.{Load}
 use Rattle.nm_script_lib.specs.declared.mirror_line.MirrorLine.{MirrorLine}
 use Rattle.nm_script_lib.specs.declared.step.Step.{Step}
+use Rattle.nm_script_lib.specs.Forms.{IsLine}
 use Rattle.nm_script_lib.specs.Grammar.{IsMirrorLine, IsOpening, IsStepLine, AreLines, has_content}
+use Rattle.nm_script_lib.specs.Grammar.{load_form, start_form}
 
 -- The number, counted from 1, of the first line for which a fact holds.
 pub record IsFirst (Holds : List ℕ → Type 0) (lines : List (List ℕ)) (n : ℕ) : Type 0 where
@@ -35,20 +37,31 @@ IsBadMirror line = (m : MirrorLine) → IsMirrorLine line m → ⊥
 abbrev pub IsBadStep : MirrorLine → List ℕ → Type 0
 IsBadStep m line = HasContent line × ((s : Step) → IsStepLine m line s → ⊥)
 
--- The lines after the opening, of which the first is the one after line j: where the lines with
--- content begin with loads and one start, those after the start; else all.
+-- The line has content, and is no load on this mirror.
+abbrev pub IsNoLoad : MirrorLine → List ℕ → Type 0
+IsNoLoad m line = HasContent line × ((load : Load) → IsLine (load_form m) line load → ⊥)
+
+-- The line is no start and no step on this mirror.
+abbrev pub IsNoStartOrStep : MirrorLine → List ℕ → Type 0
+IsNoStartOrStep m line =
+    ((master : ℕ) → IsLine (start_form m) line master → ⊥) × ((s : Step) → IsStepLine m line s → ⊥)
+
+-- The lines after the opening, of which the first is the one after line j. The first line with
+-- content that is no load decides: where it is a start, they are those after it; where it is a step,
+-- or there is none, nothing is opened, and they are all lines.
 pub data FollowsOpening (m : MirrorLine) (lines : List (List ℕ)) : ℕ → List (List ℕ) → Type 0 where
   Opens : (before after : List (List ℕ)) (loads : List Load) (master : ℕ) → lines ≡ before ++ after
       → IsOpening m (filter has_content before) loads (Some master)
       → FollowsOpening m lines (length before) after
-  OpensNone : ((before after : List (List ℕ)) (loads : List Load) (master : ℕ)
-      → lines ≡ before ++ after
-      → IsOpening m (filter has_content before) loads (Some master) → ⊥)
+  StepFollows : (i : ℕ) (next : IsFirst (IsNoLoad m) lines i) (s : Step) → IsStepLine m next.line s
+      → FollowsOpening m lines 0 lines
+  NothingFollows : AllByRecursion (λ line. IsNoLoad m line → ⊥) lines
       → FollowsOpening m lines 0 lines
 
 -- Line n is named. The first line that is not UTF-8 is, whatever stands before it. In a text that
 -- is UTF-8: where no line's first word is `mirror`, line 1; else the first line with content, if it
--- is no mirror line; else the first line after it, or after the start of its opening, that has
+-- is no mirror line; else the first line with content after it that is no load, if it is no start
+-- and no step either; else the first line after it, or after the start of its opening, that has
 -- content and is no step.
 pub data Names (lines : List (List ℕ)) : ℕ → Type 0 where
   NotUtf8 : (n : ℕ) → IsFirst IsNotUtf8 lines n → Names lines n
@@ -56,6 +69,10 @@ pub data Names (lines : List (List ℕ)) : ℕ → Type 0 where
       → AllByRecursion (λ line. NamesMirror line → ⊥) lines → Names lines 1
   WrongMirrorLine : (n : ℕ) → AllByRecursion IsUtf8 lines → Any NamesMirror lines
       → (first : IsFirst HasContent lines n) → IsBadMirror first.line → Names lines n
+  WrongOpening : (n i : ℕ) (m : MirrorLine) → AllByRecursion IsUtf8 lines
+      → (first : IsFirst HasContent lines n) → IsMirrorLine first.line m
+      → (next : IsFirst (IsNoLoad m) first.after i) → IsNoStartOrStep m next.line
+      → Names lines (n + i)
   WrongStep : (n j k : ℕ) (m : MirrorLine) → AllByRecursion IsUtf8 lines
       → (first : IsFirst HasContent lines n) → IsMirrorLine first.line m
       → (after : List (List ℕ)) → FollowsOpening m first.after j after

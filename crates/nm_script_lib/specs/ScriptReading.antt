@@ -42,30 +42,32 @@ steps_of m n (line ∷ lines) =
 abbrev pub Opened : Type 0
 Opened = List Load × Option ℕ × ℕ × List (List ℕ)
 
--- the opening that a start ends, or else none
-abbrev pub by_start : Option ℕ → Opened → List Load → ℕ → List (List ℕ) → Opened
-by_start (Some master) none loads n lines = (loads, Some master, n, lines)
-by_start None none loads n lines = none
+-- the opening that a start ends; where a step stands in its place, none; else the number of the line
+abbrev pub by_start : Option ℕ → Option Step → Opened → List Load → ℕ → List (List ℕ)
+    → Result Opened ℕ
+by_start (Some master) step none loads n lines = Ok (loads, Some master, n + 1, lines)
+by_start None (Some step) none loads n lines = Ok none
+by_start None None none loads n lines = Err n
 
 -- the opening after one load more, or another
-abbrev pub by_load : Option Load → (Load → Opened) → Opened → Opened
+abbrev pub by_load : Option Load → (Load → Result Opened ℕ) → Result Opened ℕ → Result Opened ℕ
 by_load (Some load) on other = on load
 by_load None on other = other
 
--- the opening of the lines, of which the first is line n, after these loads; where they do not go
--- on with loads and a start, none
-abbrev pub opening_from : MirrorLine → Opened → List Load → ℕ → List (List ℕ) → Opened
-opening_from m none loads n [] = none
+-- the opening of the lines, of which the first is line n, after these loads; where a step or the end
+-- stands in the place of the start, none; else the number of the line that is no load
+abbrev pub opening_from : MirrorLine → Opened → List Load → ℕ → List (List ℕ) → Result Opened ℕ
+opening_from m none loads n [] = Ok none
 opening_from m none loads n (line ∷ lines) =
     if has_content line
     then by_load (read_line (load_form m) line)
     (λ load. opening_from m none (loads ++ (load ∷ [])) (n + 1) lines)
-    (by_start (read_line (start_form m) line) none loads (n + 1) lines)
+    (by_start (read_line (start_form m) line) (read_line (step_form m) line) none loads n lines)
     else opening_from m none loads (n + 1) lines
 
--- the opening of the lines; where they begin with no loads and a start, the steps begin with them
+-- the opening of the lines; where there is none, the steps begin with them
 abbrev pub opening_of : MirrorLine → ℕ → List (List ℕ) → Result Opened ℕ
-opening_of m n lines = Ok (opening_from m ([], None, n, lines) [] n lines)
+opening_of m n lines = opening_from m ([], None, n, lines) [] n lines
 
 -- some steps before those that were read
 abbrev pub with_prefix : List Step → Result (List Step) ℕ → Result (List Step) ℕ
@@ -96,14 +98,14 @@ with_opening m o (Ok steps) = Ok (m, o.0, o.1, steps)
 with_opening m o (Err bad) = Err bad
 
 -- the script of the lines after the mirror line
-abbrev pub from_opening : MirrorLine → Opened → Result Said ℕ
-from_opening m o = with_opening m o (steps_of m o.2 o.3)
+abbrev pub from_opening : MirrorLine → Result Opened ℕ → Result Said ℕ
+from_opening m (Ok o) = with_opening m o (steps_of m o.2 o.3)
+from_opening m (Err bad) = Err bad
 
 -- the script of the first line with content and the lines after it, by the mirror of that line
 abbrev pub after_mirror : List (List ℕ) → ℕ → List (List ℕ) → Option MirrorLine → Result Said ℕ
 after_mirror lines n rest None = Err (if list_any names_mirror lines then n else 1)
-after_mirror lines n rest (Some m) =
-    from_opening m (opening_from m ([], None, n + 1, rest) [] (n + 1) rest)
+after_mirror lines n rest (Some m) = from_opening m (opening_of m (n + 1) rest)
 
 -- the script of the lines, by the first with content
 abbrev pub from_content : List (List ℕ) → Option (ℕ × List ℕ × List (List ℕ)) → Result Said ℕ

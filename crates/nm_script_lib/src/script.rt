@@ -52,8 +52,9 @@ struct Opening<'a> {
     following: Option<&'a [u8]>,
 }
 
-/// The loads and the start that the lines begin with. The first line is line `number`. Where the
-/// lines begin with no loads and a start, there are none, and the steps begin with the first line.
+/// The loads and the start that the lines begin with. The first line is line `number`. Where a step
+/// or the end stands in the place of the start, there are none, and the steps begin with the first
+/// line.
 fn opening_of<'a>(
     alloc: Global,
     mirror: &MirrorLine,
@@ -76,7 +77,6 @@ fn opening_of<'a>(
     let mut rest = text;
     while let Some(piece) = rest {
         let (line, following) = cut(piece, b'\n');
-        at += 1;
         rest = following;
         if has_content(line) {
             if let Some(load) = load_of(mirror, line) {
@@ -85,13 +85,16 @@ fn opening_of<'a>(
                 return Ok(Opening {
                     loads,
                     master: Some(master),
-                    number: at,
+                    number: at + 1,
                     following,
                 });
-            } else {
+            } else if step_of(mirror, line).is_some() {
                 rest = None;
+            } else {
+                return Err(ParseError::BadStep { line: at });
             }
         }
+        at += 1;
     }
     Ok(Opening {
         loads: Vec::new(alloc),
@@ -241,7 +244,8 @@ fn script_of(alloc: Global, text: &[u8]) -> Result<Script, ParseError>
 
 /// Reads a script: a mirror line, then how the stripe opens, then a step a line.
 ///
-/// Loads that no start follows are no steps: the first of them is named.
+/// Loads that no start follows are no steps: where a step or the end follows them, the first of them
+/// is named, and a line after them that is no load, no start and no step is named itself.
 ///
 /// Empty lines and those that begin with `#` are skipped. An error's line counts all lines, from 1.
 pub fn parse(alloc: Global, text: &[u8]) -> Result<Script, ParseError>

@@ -219,7 +219,7 @@ const NO_STEP: [&[u8]; 60] = [
 ];
 
 /// Whole texts that are no script, each with the line to name.
-const NO_SCRIPT: [(&[u8], u64); 18] = [
+const NO_SCRIPT: [(&[u8], u64); 24] = [
     (b"", 1),
     (b"\n\n#\n", 1),
     (b"\n\nread 0\nread 1\n", 1),
@@ -240,7 +240,26 @@ const NO_SCRIPT: [(&[u8], u64); 18] = [
     (b"mirror 1 1 1 1 rr 0\nread 0\nstart 0\n", 3),
     (b"mirror 1 1 1 1 rr 0\nstart 0\nstart 0\n", 3),
     (
+        b"mirror 1 1 1 1 rr 0\n\nload 0 0 aa\nload 0 0 bb\nread 0\nread 1\n",
+        3,
+    ),
+    // A line among the loads, or after them, that is no load, no start and no step is named itself.
+    (
+        b"mirror 1 1 1 1 rr 0\nload 1 0 aa\nload 0 0 aa\nstart 0\n",
+        2,
+    ),
+    (
         b"mirror 1 1 1 1 rr 0\nload 0 0 aa\nload 0 1 aa\nstart 0\n",
+        3,
+    ),
+    (
+        b"mirror 1 1 1 1 rr 0\nload 0 0 aa\n#\nload 0 0 bb\nlaod 0 0 cc\nstart 0\n",
+        5,
+    ),
+    (b"mirror 1 1 1 1 rr 0\nload 0 0 aa\nload 0 0 AA\n", 3),
+    (b"mirror 1 1 1 1 rr 0\nload 0 0 aa\nstart 1\nread 0\n", 3),
+    (
+        b"mirror 1 1 1 1 rr 0\nload 0 0 aa\nread 0\nload 0 1 aa\nstart 0\n",
         2,
     ),
 ];
