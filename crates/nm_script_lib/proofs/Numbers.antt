@@ -1,72 +1,72 @@
--- A number that is read is spelled by its digits, and a number that is spelled is read.
-use Rattle.std.proofs.Common.{◌≡◌, ℕ, ◌+◌, ◌-◌, ◌*◌, ◌/◌, ◌%◌, ◌<◌, ◌≤◌, ◌^◌, Bool, true, false, cond, ◌&&◌, nat_lt, leb, List, [], ◌∷◌, Some, None, Option, refl, ap, ◌∙◌, arith}
-use Rattle.std.specs.Char.{is_ascii_digit, digit_value}
+-- A number that is read is spelled by its digits, and a number that is spelled is read; std's
+-- `parse` finds it.
+use Rattle.std.proofs.Common.{◌≡◌, ◌≢◌, ℕ, ◌+◌, ◌*◌, ◌/◌, ◌%◌, ◌<◌, ◌^◌, Bool, true, false, cond, ◌&&◌, nat_lt, List, [], ◌∷◌, length, Some, None, Option, Result, Ok, Err, get_or, sym, refl, ap, arith}
 use Rattle.std.specs.Fmt.{digit_glyph}
-use Rattle.std.specs.Str.Parse.{AllDigits, digits_value_after}
-use Rattle.std.proofs.lemmas.Str.{digit_value_digit}
-use Rattle.std.proofs.lemmas.Str.Parse.{digit_from_value}
-use Rattle.std.proofs.lemmas.Bool.{and_parts, and_from, ltb-true, lt-ltb, leb-true, le-leb}
+use Rattle.std.specs.Result.{OkIff, result_ok}
+use Rattle.std.specs.Str.{all_ascii_digits, IsUtf8}
+use Rattle.std.specs.Str.Parse.{digits_value, ParsesUnsigned}
+use Rattle.std.proofs.lemmas.Fmt.{IsAscii-from_digits}
+use Rattle.std.proofs.lemmas.Str.{IsUtf8-from_ascii}
+use Rattle.std.proofs.lemmas.Str.Parse.{IsNumeralModel, numerals_by_value, tells_all_ascii_digits, parse_plain}
+use Rattle.std.proofs.lemmas.Bool.{and_parts, and_from, ltb-true, lt-ltb}
 use Rattle.std.proofs.lemmas.Option.{same_Some}
 use Rattle.nm_script_lib.specs.Forms.{IsDecimal, hex_byte}
-use Rattle.nm_script_lib.specs.Reading.{digits_on, number_of, hex_digit_of, byte_of, ◌>>=◌}
+use Rattle.nm_script_lib.specs.Reading.{number_of, hex_digit_of, byte_of, ◌>>=◌}
 
 pub guarded : {A : Type 0} (b : Bool) (x : Option A) (y : A) → cond b x None ≡ Some y →
     (b ≡ true) × (x ≡ Some y)
 guarded true x y h = (refl, h)
 guarded false x y h = cc
 
-is_digit_range : (c : ℕ) → is_ascii_digit c ≡ true → (48 ≤ c) × (c ≤ 57)
-is_digit_range c h = let p = and_parts (leb 48 c) (leb c 57) h in
-    (leb-true 48 c p.0, leb-true c 57 p.1)
-
-range_is_digit : (c : ℕ) → (48 ≤ c) → (c ≤ 57) → is_ascii_digit c ≡ true
-range_is_digit c low high = and_from (leb 48 c) (leb c 57) (le-leb 48 c low) (le-leb c 57 high)
-
-value_of_digit : (c : ℕ) → (48 ≤ c) → (c ≤ 57) → digit_value c ≡ c - 48
-value_of_digit c low high = omega (arith, digit_value_digit c (low, high))
-
--- what is read has digits alone, and is their value
-read_digits : (w : List ℕ) (n m : ℕ) → n < 2 ^ 64 → digits_on n w ≡ Some m →
-    AllDigits 10 w × (digits_value_after 10 n w ≡ m) × (m < 2 ^ 64)
-read_digits [] n m small h = let e = same_Some n m h in (tt, e, omega arith)
-read_digits (c ∷ cs) n m small h =
-    let next : ℕ = n * 10 + (c - 48) in
-    let g = guarded (is_ascii_digit c && nat_lt next (2 ^ 64)) (digits_on next cs) m h in
-    let tests = and_parts (is_ascii_digit c) (nat_lt next (2 ^ 64)) g.0 in
-    let range = is_digit_range c tests.0 in
-    let e : digit_value c ≡ c - 48 = value_of_digit c range.0 range.1 in
-    let rest = read_digits cs next m (ltb-true next (2 ^ 64) tests.1) g.1 in
-    ((omega arith, rest.0), rw e rest.1, rest.2)
-
--- digits do not make a number less
-grown : (w : List ℕ) (n : ℕ) → n ≤ digits_value_after 10 n w
-grown [] n = omega arith
-grown (c ∷ cs) n = let h = grown cs (n * 10 + digit_value c) in omega arith
-
-read_back : (w : List ℕ) (n : ℕ) → AllDigits 10 w → digits_value_after 10 n w < 2 ^ 64 →
-    digits_on n w ≡ Some (digits_value_after 10 n w)
-read_back [] n all small = refl
-read_back (c ∷ cs) n all small =
-    let range = digit_from_value c all.0 in
-    let e : digit_value c ≡ c - 48 = value_of_digit c range.0 range.1 in
-    let next : ℕ = n * 10 + (c - 48) in
-    let more : digits_value_after 10 next cs < 2 ^ 64 = rw (← e) small in
-    let fits : next < 2 ^ 64 = omega (arith, grown cs next) in
-    let t = and_from (is_ascii_digit c) (nat_lt next (2 ^ 64)) (range_is_digit c range.0 range.1)
-    (lt-ltb next (2 ^ 64) fits) in
-    rw (t, e) (read_back cs next all.1 more)
+numerals : IsNumeralModel (λ ds. all_ascii_digits ds ≡ true) (digits_value 10)
+numerals = numerals_by_value (λ ds. all_ascii_digits ds ≡ true) tells_all_ascii_digits
 
 pub number_spells : (w : List ℕ) (n : ℕ) → number_of w ≡ Some n → IsDecimal w n
-number_spells [] n h = cc
-number_spells (c ∷ cs) n h =
-    let r = read_digits (c ∷ cs) 0 n (omega arith) h in
-    record { digits = (omega arith, r.0); value = r.1; fits = r.2 }
+number_spells w n h =
+    let some : Bool = nat_lt 0 (length w) in
+    let small : Bool = nat_lt (digits_value 10 w) (2 ^ 64) in
+    let g = guarded (all_ascii_digits w && (some && small)) (Some (digits_value 10 w)) n h in
+    let tests = and_parts (all_ascii_digits w) (some && small) g.0 in
+    let bounds = and_parts some small tests.1 in
+    let value : digits_value 10 w ≡ n = same_Some (digits_value 10 w) n g.1 in
+    record {
+      digits = (ltb-true 0 (length w) bounds.0, numerals.to w tests.0);
+      value = value;
+      fits = rw (← value) (ltb-true (digits_value 10 w) (2 ^ 64) bounds.1);
+    }
 
 pub spells_number : (w : List ℕ) (n : ℕ) → IsDecimal w n → number_of w ≡ Some n
-spells_number [] n s = absurd (omega (arith, s.digits.0))
-spells_number (c ∷ cs) n s =
-    let e : digits_value_after 10 0 (c ∷ cs) ≡ n = s.value in
-    read_back (c ∷ cs) 0 s.digits.1 (rw e s.fits) ∙ ap Some e
+spells_number w n s =
+    let small : digits_value 10 w < 2 ^ 64 = rw s.value s.fits in
+    let bounds = and_from (nat_lt 0 (length w)) (nat_lt (digits_value 10 w) (2 ^ 64))
+    (lt-ltb 0 (length w) s.digits.0) (lt-ltb (digits_value 10 w) (2 ^ 64) small) in
+    let all = and_from (all_ascii_digits w)
+    (nat_lt 0 (length w) && nat_lt (digits_value 10 w) (2 ^ 64)) (numerals.from w s.digits.1) bounds in
+    rw all (ap Some s.value)
+
+none_found : (found : Option ℕ) → ((n : ℕ) → found ≡ Some n → ⊥) → None ≡ found
+none_found None never = refl
+none_found (Some n) never = absurd (never n refl)
+
+-- what std parses, of a text without a plus in front, is the number
+pub parsed_number : {E : Type 0} (w : List ℕ) (r : Result ℕ E) → ParsesUnsigned 64 10 w r
+    → get_or w 0 0 ≢ 43 → result_ok r ≡ number_of w
+parsed_number w r parses plain = by_result r (parse_plain numerals 64 w r parses plain) where
+  by_result : {E : Type 0} (r : Result ℕ E)
+      → OkIff r ((all_ascii_digits w ≡ true) × (0 < length w) × (digits_value 10 w < 2 ^ 64))
+      (digits_value 10 w) → result_ok r ≡ number_of w
+  by_result (Ok n) is = sym (spells_number w n (record {
+    digits = (is.0.1, numerals.to w is.0.0);
+    value = sym is.1;
+    fits = rw is.1 is.0.2;
+  }))
+  by_result (Err error) is = none_found (number_of w) (λ n found. let s = number_spells w n found in
+      is (numerals.from w s.digits.1, s.digits.0, rw s.value s.fits))
+
+-- bytes that are no text are no number
+pub no_text_no_number : (w : List ℕ) → (IsUtf8 w → ⊥) → None ≡ number_of w
+no_text_no_number w no_text = none_found (number_of w) (λ n found.
+    no_text (IsUtf8-from_ascii w (IsAscii-from_digits w (number_spells w n found).digits.1)))
 
 -- hexadecimal digits
 

@@ -4,7 +4,8 @@ use Rattle.std.specs.Prelude.{◌&&◌, length, Option, Some, None, nat_lt, nat_
 use Rattle.std.specs.Prelude.{codes}
 use Rattle.std.specs.List.{slice_split}
 use Rattle.std.specs.Option.{option_copied}
-use Rattle.std.specs.Char.{is_ascii_digit}
+use Rattle.std.specs.Str.{all_ascii_digits}
+use Rattle.std.specs.Str.Parse.{digits_value}
 use Rattle.nm_choice.specs.declared.policy.Policy.{Policy}
 use Rattle.nm_choice.specs.declared.policy.Policy.TheVariants.{RoundRobin, Striped}
 use Rattle.nm_script_lib.specs.declared.words.Words.{Words}
@@ -39,16 +40,11 @@ abbrev pub Gives : {X : Type 0} → Option X → List (List ℕ) → Option (X �
 Gives None rest read = read ≡ None
 Gives (Some x) rest read = read ≡ Some (x, rest)
 
--- the number n, with more digits after it
-abbrev pub digits_on : ℕ → List ℕ → Option ℕ
-digits_on n [] = Some n
-digits_on n (c ∷ cs) =
-    if is_ascii_digit c && nat_lt (n * 10 + (c - 48)) (2 ^ 64)
-    then digits_on (n * 10 + (c - 48)) cs else None
-
+-- the number that a word of decimal digits spells, below 2^64
 abbrev pub number_of : List ℕ → Option ℕ
-number_of [] = None
-number_of (c ∷ cs) = digits_on 0 (c ∷ cs)
+number_of word =
+    if all_ascii_digits word && (nat_lt 0 (length word) && nat_lt (digits_value 10 word) (2 ^ 64))
+    then Some (digits_value 10 word) else None
 
 abbrev pub hex_digit_of : ℕ → Option ℕ
 hex_digit_of c =

@@ -2,9 +2,10 @@
 ghost use Rattle.std.specs.Prelude.{◌≡◌, ℕ, ◌+◌, ◌*◌, ◌-◌, ◌<◌, ◌≤◌, ◌^◌, ◌&&◌, ◌==◌, nat_lt, nat_le, Bool, List, [], ◌∷◌, Option, length, position, MatchBool, ◌≢◌, IfSome};
 ghost use Rattle.std.specs.Option.{option_copied};
 ghost use Rattle.nm_script_lib.specs.Forms.{Number, Below, Within, Byte};
-ghost use Rattle.nm_script_lib.specs.Reading.{pieces, pieces_of_rest, rest_size, number_of, byte_of, hex_digit_of, digits_on, word_at, value_at, policy_at, is_word, Gives, rest_words};
+ghost use Rattle.nm_script_lib.specs.Reading.{pieces, pieces_of_rest, rest_size, number_of, byte_of, hex_digit_of, word_at, value_at, policy_at, is_word, Gives, rest_words};
 
 use nm_choice::Policy;
+use std::str::from_utf8;
 
 /// The index of the first byte `at`.
 fn place_of(text: &[u8], at: u8) -> Option<usize>
@@ -32,22 +33,18 @@ pub fn is_word(word: &[u8], name: &[u8]) -> bool
     word == name
 }
 
-/// The number that a word of decimal digits spells, below 2^64.
+/// The number that a word of decimal digits spells, below 2^64. `parse` alone would take a plus
+/// before them.
 fn number_of(word: &[u8]) -> Option<u64>
     ensures { result ≡ number_of word.now }
 {
-    if word.is_empty() {
+    if word.starts_with(b"+") {
         return None;
     }
-    let mut number = 0u64;
-    for byte in word {
-        if !byte.is_ascii_digit() {
-            return None;
-        }
-        let digit = u64::from(*byte - b'0');
-        number = number.checked_mul(10)?.checked_add(digit)?;
+    match from_utf8(word) {
+        Ok(text) => text.parse().ok(),
+        Err(_) => None,
     }
-    Some(number)
 }
 
 /// The value of a lower-case hexadecimal digit.
