@@ -1,5 +1,6 @@
 -- Which line is named where a text is no script.
-use Rattle.std.specs.Prelude.{◌≡◌, ℕ, ◌+◌, List, ◌∷◌, ◌++◌, length, ◌==◌, IsTrue, IsUtf8, Some, codes}
+use Rattle.std.specs.Prelude.{◌≡◌, ℕ, ◌+◌, List, ◌∷◌, ◌++◌, length, ◌==◌, IsTrue, IsUtf8, Some}
+use Rattle.std.specs.Prelude.{codes}
 use Rattle.std.specs.Prelude.{filter}
 use Rattle.std.specs.List.{before_first, AllByRecursion, Any}
 use Rattle.nm_script_lib.specs.declared.load.Load.{Load}
@@ -47,8 +48,8 @@ IsNoStartOrStep m line =
     ((master : ℕ) → IsLine (start_form m) line master → ⊥) × ((s : Step) → IsStepLine m line s → ⊥)
 
 -- The lines after the opening, of which the first is the one after line j. The first line with
--- content that is no load decides: where it is a start, they are those after it; where it is a step,
--- or there is none, nothing is opened, and they are all lines.
+-- content that is no load decides: where it is a start, they are those after it; where it is a
+-- step, or there is none, nothing is opened, and they are all lines.
 pub data FollowsOpening (m : MirrorLine) (lines : List (List ℕ)) : ℕ → List (List ℕ) → Type 0 where
   Opens : (before after : List (List ℕ)) (loads : List Load) (master : ℕ) → lines ≡ before ++ after
       → IsOpening m (filter has_content before) loads (Some master)

@@ -42,7 +42,7 @@ steps_of m n (line ∷ lines) =
 abbrev pub Opened : Type 0
 Opened = List Load × Option ℕ × ℕ × List (List ℕ)
 
--- the opening that a start ends; where a step stands in its place, none; else the number of the line
+-- the opening that a start ends; where a step stands in its place, none; else the line's number
 abbrev pub by_start : Option ℕ → Option Step → Opened → List Load → ℕ → List (List ℕ)
     → Result Opened ℕ
 by_start (Some master) step none loads n lines = Ok (loads, Some master, n + 1, lines)
@@ -54,8 +54,8 @@ abbrev pub by_load : Option Load → (Load → Result Opened ℕ) → Result Ope
 by_load (Some load) on other = on load
 by_load None on other = other
 
--- the opening of the lines, of which the first is line n, after these loads; where a step or the end
--- stands in the place of the start, none; else the number of the line that is no load
+-- the opening of the lines, of which the first is line n, after these loads; where a step or the
+-- end stands in the place of the start, none; else the number of the line that is no load
 abbrev pub opening_from : MirrorLine → Opened → List Load → ℕ → List (List ℕ) → Result Opened ℕ
 opening_from m none loads n [] = Ok none
 opening_from m none loads n (line ∷ lines) =

@@ -96,9 +96,9 @@ fn run_and_report<R: Read, W: Write, E: Write>(
 /// Runs the script that `input` holds, and returns the exit status.
 ///
 /// `out` gets the lines of the opening, a line for each step, and then the history of the stripe.
-/// The status is 0 for a whole run. Otherwise `err` gets one line: `line N: bad step` with status 2,
-/// `no memory` with status 3, `cannot read` or `cannot write` with status 4. An input may have 2^24
-/// bytes, and must end within 2^24 + 1 reads.
+/// The status is 0 for a whole run. Otherwise `err` gets one line: `line N: bad step` with status
+/// 2, `no memory` with status 3, `cannot read` or `cannot write` with status 4. An input may have
+/// 2^24 bytes, and must end within 2^24 + 1 reads.
 pub fn run_script<R: Read, W: Write, E: Write>(
     alloc: Global,
     input: &mut R,

@@ -244,8 +244,8 @@ fn script_of(alloc: Global, text: &[u8]) -> Result<Script, ParseError>
 
 /// Reads a script: a mirror line, then how the stripe opens, then a step a line.
 ///
-/// Loads that no start follows are no steps: where a step or the end follows them, the first of them
-/// is named, and a line after them that is no load, no start and no step is named itself.
+/// Loads that no start follows are no steps: where a step or the end follows them, the first of
+/// them is named, and a line after them that is no load, no start and no step is named itself.
 ///
 /// Empty lines and those that begin with `#` are skipped. An error's line counts all lines, from 1.
 pub fn parse(alloc: Global, text: &[u8]) -> Result<Script, ParseError>
