@@ -18,6 +18,8 @@ mod mirrors;
 #[cfg(test)]
 mod note_lane;
 #[cfg(test)]
+mod openings;
+#[cfg(test)]
 mod reading;
 #[cfg(test)]
 mod row;
