@@ -1,4 +1,5 @@
 mod OneInSync
+mod OpenedLemmas
 mod OpeningLemmas
 mod Places
 mod StatusLemmas

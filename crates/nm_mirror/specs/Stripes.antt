@@ -1,5 +1,5 @@
 -- The stripes that a mirror is made of.
-use Rattle.std.specs.Prelude.{◌≡◌, ℕ, ◌<◌, ◌≤◌, ◌^◌, List, [], ◌∷◌, ◌++◌, length, slice_get, Some}
+use Rattle.std.specs.Prelude.{◌≡◌, ℕ, ◌<◌, ◌≤◌, List, [], ◌∷◌, ◌++◌, length, slice_get, Some}
 use Rattle.nm_choice.specs.declared.policy.Policy.{Policy}
 use Rattle.nm_geometry.specs.Geometry.{Geometry, stripe_blocks}
 use Rattle.nm_leg.specs.Leg.{Leg, LegType}

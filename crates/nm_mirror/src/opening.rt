@@ -1,5 +1,5 @@
 //! The stripes of a mirror, as they are opened.
-ghost use Rattle.std.specs.Prelude.{◌≡◌, ◌+◌, ◌<◌, ◌≤◌, ◌^◌, ℕ, List, [], length, IsTrue, IfSome, IfOk, IfErr, OnOk, OnErr, ◌↔◌, IsSome};
+ghost use Rattle.std.specs.Prelude.{◌≡◌, ◌+◌, ◌<◌, ◌≤◌, ◌^◌, ℕ, List, [], length, map, IsTrue, IfSome, IfOk, IfErr, OnOk, OnErr, ◌↔◌, IsSome};
 ghost use Rattle.nm_geometry.specs.Geometry.{stripe_blocks};
 ghost use Rattle.nm_leg.specs.Leg.{leg_type};
 ghost use Rattle.nm_leg.specs.LegCalls.{EachHas};
@@ -8,6 +8,8 @@ ghost use Rattle.nm_resync.specs.Chunk.{IsChunkSize};
 ghost use Rattle.nm_rules.specs.Comparing.{comparing, FailsToOpen};
 ghost use Rattle.nm_rules.specs.Opening.{HoldEqual};
 ghost use Rattle.nm_stripe.specs.Opening.{NamesALeg};
+ghost use Rattle.nm_mirror.specs.Opening.{AddsNext, AreAllOpened, RefusesFitting};
+ghost use Rattle.nm_mirror.specs.Opening.{RefusesOpening, start_of};
 ghost use Rattle.nm_mirror.specs.Stripes.{AreFirst, AreStripesOf, ComparesNext, FitNext, OpensNext, place_of};
 
 use crate::start::Start;
@@ -58,6 +60,14 @@ fn only_bit<L: LegPart>(leg: u8) -> u8
     ensures bit { result ≡ 2 ^ leg }
 {
     1 << leg
+}
+
+/// How stripes of so many legs are opened: a single leg has no other to be compared with, so it is
+/// not read.
+fn start_of(legs: u8, start: Start) -> Start
+    ensures { result ≡ start_of legs start }
+{
+    if legs == 1 { Start::Full } else { start }
 }
 
 impl<L: LegPart> Opening<L> {
@@ -205,11 +215,16 @@ impl<L: LegPart> Opening<L> {
     ) -> Result<(), OpenFault>
         requires { FitNext L.model self.old.shape (length self.old.stripes.items) legs.items
             master }
-        ensures ok { OnOk result
-            (length self.new.stripes.items ≡ length self.old.stripes.items + 1) }
+        ensures opened { OnOk result (AddsNext (leg_type L.model L.honest)
+            (record { shape = self.old.shape; master = master; policy = policy; start = start })
+            legs.items self.old.stripes.items self.new.stripes.items) }
+        ensures refused { IfErr result (RefusesFitting (leg_type L.model L.honest)
+            (record { shape = self.old.shape; master = master; policy = policy; start = start })
+            (start_of self.old.shape.legs start) (length self.old.stripes.items) legs.items) }
         ensures shape { self.new.shape ≡ self.old.shape }
+        ensures stays { OnErr result (self.new.stripes.items ≡ self.old.stripes.items) }
     {
-        match start {
+        match start_of(self.shape.legs, start) {
             Start::Full => match self.open_under(alloc, legs, master, policy) {
                 Ok(()) => Ok(()),
                 Err(_) => Err(OpenFault::Memory),
@@ -225,7 +240,8 @@ impl<L: LegPart> Opening<L> {
     /// All stripes, for `Mirror::new`.
     pub fn into_stripes(self) -> Vec<Stripe<L>>
         requires { self.shape.stripes ≤ length self.stripes.items }
-        ensures { AreStripesOf self.shape result.items }
+        ensures stripes { AreStripesOf self.shape result.items }
+        ensures items { result.items ≡ self.stripes.items }
     {
         self.stripes
     }
@@ -243,8 +259,11 @@ pub enum OpenFault {
 }
 
 /// Opens the stripes of a mirror of this shape on these legs, one list a stripe, with this leg of
-/// each in sync and the others joining: behind everywhere, or where they differ from it. A mirror of
-/// one leg reads nothing, since that leg has no other to be compared with.
+/// each in sync and the others joining: behind everywhere, or where they differ from it. A mirror
+/// of one leg reads nothing, since that leg has no other to be compared with.
+///
+/// They are opened one after the other, and the first that is not ends it: its legs do not fit, or
+/// there are none; then memory is refused for it; then its master cannot be read.
 pub fn open_stripes<L: LegPart>(
     alloc: Global,
     shape: &Shape,
@@ -253,9 +272,14 @@ pub fn open_stripes<L: LegPart>(
     policy: Policy,
     start: Start,
 ) -> Result<Vec<Stripe<L>>, OpenFault>
-    ensures { IfOk result (λ stripes. AreStripesOf shape.now stripes.items) }
+    ensures stripes { IfOk result (λ stripes. AreStripesOf shape.now stripes.items) }
+    ensures opened { IfOk result (λ stripes. AreAllOpened (leg_type L.model L.honest)
+        (record { shape = shape.now; master = master; policy = policy; start = start })
+        (map (λ own. own.items) legs.items) stripes.items) }
+    ensures refused { IfErr result (RefusesOpening (leg_type L.model L.honest)
+        (record { shape = shape.now; master = master; policy = policy; start = start })
+        (map (λ own. own.items) legs.items)) }
 {
-    let start = if shape.legs == 1 { Start::Full } else { start };
     let mut opening = Opening::new(alloc, *shape);
     let mut rest = legs;
     rest.reverse();
