@@ -13,7 +13,7 @@ use Rattle.nm_session.specs.Event.{Event, Fed, Asked, Stopped, Answered, Took, R
 use Rattle.nm_session.specs.Feeding.{FeedsAt, IsEnded}
 use Rattle.nm_session.specs.Laws.{AreReadings, IsRead}
 use Rattle.nm_session.specs.Reading.{Reads, StaysEnded, Disconnects, Breaks}
-use Rattle.nm_session.specs.Session.{Session}
+use Rattle.nm_session.specs.Session.{Session, IsFull}
 use Rattle.nm_session.specs.Turning.{IsStarved}
 use Rattle.nm_wire.specs.declared.export.Export.{Export}
 use Rattle.nm_wire.specs.Export.{size_of}
@@ -89,6 +89,10 @@ callable_by task.Disconnect payload size larger more is = absurd is
 -- nothing is there to be read
 pub starves : (old new : Session) → Reads old next.Starved new → IsStarved new
 starves old new reads = subst IsStarved (sym reads.tells.unchanged) reads.tells.unfinished
+
+-- as many requests are outstanding as may be
+pub fills_up : (old new : Session) → Reads old next.Full new → IsFull new
+fills_up old new reads = subst IsFull (sym reads.tells.unchanged) reads.tells.full
 
 -- nothing more is read
 ends_by : (mid new : Session) → StaysEnded mid new ⊎ (Disconnects mid new ⊎ Breaks mid new) → IsEnded new.stage

@@ -9,7 +9,7 @@ use Rattle.nm_session.specs.CalledValue.{CalledValue}
 use Rattle.nm_session.specs.Event.{Takes}
 use Rattle.nm_session.specs.Laws.{IsRead}
 use Rattle.nm_session.specs.MovingBytes.{SendsOut, SendsPart}
-use Rattle.nm_session.specs.Session.{Session}
+use Rattle.nm_session.specs.Session.{Session, IsFull}
 use Rattle.nm_workers.specs.declared.input.Input.{Input}
 use Rattle.nm_workers.specs.declared.input.Input.TheVariants as input
 use Rattle.nm_workers.specs.declared.pause.Pause.{Pause}
@@ -32,11 +32,14 @@ pub stops_there : (found : ServeFault) → found ≡ fault.Memory → (a b : Sta
 stops_there found is a b moves =
     subst (λ (f : ServeFault). BreaksOff f a b) (sym is) (stops fault.Memory tt a b moves)
 
+full_as : (old : Session) → IsFull old → IsFull (record old { out = [] })
+full_as old full = record { serving = full.serving; full = full.full }
+
 -- why no request was handed out stays so as replies are taken
 pub pauses_after_send : (why : Pause) (old new : Session) (bytes : List ℕ) → PausesAt why old → Takes old bytes new
     → PausesAt why new
 pauses_after_send pause.Starved old new bytes pauses takes = starved_after_send old new bytes pauses takes
-pauses_after_send pause.Full old new bytes pauses takes = tt
+pauses_after_send pause.Full old new bytes pauses takes = subst IsFull (sym takes.new_is) (full_as old pauses)
 pauses_after_send pause.Ended old new bytes pauses takes = ended_after_send old new bytes pauses takes
 
 -- what is known of the client's bytes is not called more than it is

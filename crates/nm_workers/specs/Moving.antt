@@ -14,7 +14,7 @@ use Rattle.nm_session.specs.CalledValue.{CalledValue}
 use Rattle.nm_session.specs.Event.{Event, Runs, fed_bytes, taken_bytes}
 use Rattle.nm_session.specs.Feeding.{IsEnded}
 use Rattle.nm_session.specs.Serving.{CoreEnds}
-use Rattle.nm_session.specs.Session.{Session}
+use Rattle.nm_session.specs.Session.{Session, IsFull}
 use Rattle.nm_session.specs.Turning.{IsStarved}
 use Rattle.nm_workers.specs.declared.attended.Attended.{Attended}
 use Rattle.nm_workers.specs.declared.attended.Attended.TheVariants as attended
@@ -66,10 +66,11 @@ pub record BreaksOff (fault : ServeFault) (from to : Stand) : Type 0 where
   pub appends : Appends from.output to.output written
   pub cause : IsCause fault (taken_bytes events) written
 
--- where no further request is handed out
+-- why no further request is handed out: none is there as a whole, as many are outstanding as may be,
+-- or nothing more is read
 abbrev pub PausesAt : Pause → Session → Type 0
 PausesAt pause.Starved core = IsStarved core
-PausesAt pause.Full core = Unit {0}
+PausesAt pause.Full core = IsFull core
 PausesAt pause.Ended core = IsEnded core.stage
 
 -- the client's bytes are only called ended where a message told it

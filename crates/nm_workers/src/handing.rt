@@ -9,7 +9,7 @@ use crate::extent::Extent;
 use crate::job::Job;
 use crate::pause::Pause;
 use crossbeam_channel::Sender;
-use nm_session::{Next, ServeFault, SessionCore};
+use nm_session::{ServeFault, SessionCore};
 use std::alloc::Global;
 use std::sync::Wait;
 
@@ -47,18 +47,17 @@ fn issue<R: Wait, E: Extent>(
     ensures pause { IfOk result (λ pause. IfSome pause (λ why. PausesAt why core.new)) }
     ensures err { IfErr result (λ fault. (fault ≡ Memory) × IsRead core.old core.new) }
 {
-    let Ok(next) = core.next(alloc) else {
-        return Err(ServeFault::Memory);
+    let next = match Job::next(alloc, core) {
+        Ok(next) => next,
+        Err(fault) => return Err(fault),
     };
     match next {
-        Next::Issue(index, task, payload) => {
-            if jobs.send(rt, Job::new(index, task, payload)).is_err() {
+        Ok(job) => {
+            if jobs.send(rt, job).is_err() {
                 return Err(ServeFault::Memory);
             }
             Ok(None)
         }
-        Next::Starved => Ok(Some(Pause::Starved)),
-        Next::Full => Ok(Some(Pause::Full)),
-        Next::Ended => Ok(Some(Pause::Ended)),
+        Err(pause) => Ok(Some(pause)),
     }
 }

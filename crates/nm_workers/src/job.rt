@@ -1,12 +1,15 @@
 ghost use Rattle.std.specs.Prelude.{◌≡◌};
 
 use crate::extent::Extent;
+use crate::pause::Pause;
 use bytes::Bytes;
 use nm_requests::Task;
+use nm_session::{Next, ServeFault, SessionCore};
+use std::alloc::Global;
 use std::marker::{Model, PhantomData};
 
 // A task on its way to a worker, with its payload and the index of its request. Each target of the
-// session has its bytes.
+// session has its bytes. `next` alone makes one, so that a worker only calls for what was read.
 #[derive(Drop)]
 pub struct Job<E: Extent> {
     index: u64,
@@ -27,10 +30,40 @@ impl<E: Extent> Model for Job<E> {
 }
 
 impl<E: Extent> Job<E> {
+    ghost use Rattle.std.specs.Prelude.{◌≤◌, IfOk, IfErr};
+    ghost use Rattle.nm_session.specs.declared.next.Next.TheVariants.{Issue};
+    ghost use Rattle.nm_session.specs.declared.serve_fault.ServeFault.TheVariants.{Memory};
     ghost use Rattle.nm_session.specs.Calling.{IsCallable};
+    ghost use Rattle.nm_session.specs.Laws.{IsRead};
+    ghost use Rattle.nm_session.specs.Reading.{Reads};
+    ghost use Rattle.nm_wire.specs.Export.{size_of};
+    ghost use Rattle.nm_workers.specs.Moving.{PausesAt};
+
+    // The job of the next request that the core hands out, or why it hands out none.
+    pub(crate) fn next(
+        alloc: Global,
+        core: &mut SessionCore,
+    ) -> Result<Result<Job<E>, Pause>, ServeFault>
+        requires size { size_of core.old.haggling.export ≤ E.bytes }
+        ensures job { IfOk result (λ next. IfOk next (λ job.
+            Reads core.old (Issue job.index job.task job.payload) core.new)) }
+        ensures pause { IfOk result (λ next. IfErr next (λ pause.
+            IsRead core.old core.new × PausesAt pause core.new)) }
+        ensures err { IfErr result (λ fault. (fault ≡ Memory) × IsRead core.old core.new) }
+    {
+        let Ok(next) = core.next(alloc) else {
+            return Err(ServeFault::Memory);
+        };
+        match next {
+            Next::Issue(index, task, payload) => Ok(Ok(Job::new(index, task, payload))),
+            Next::Starved => Ok(Err(Pause::Starved)),
+            Next::Full => Ok(Err(Pause::Full)),
+            Next::Ended => Ok(Err(Pause::Ended)),
+        }
+    }
 
     // A job for any target of the session.
-    pub(crate) fn new(index: u64, task: Task, payload: Bytes) -> Job<E>
+    fn new(index: u64, task: Task, payload: Bytes) -> Job<E>
         requires { IsCallable E.bytes task payload }
         ensures { result ≡ record { index = index; task = task; payload = payload } }
     {
