@@ -23,14 +23,6 @@ pub holds-same : (b : ℕ) (r : Record) → r.block ≡ b → is_under_way r ≡
 holds-same b r e busy = let same : (r.block == b) ≡ true = eq-eqb r.block b e in rw (same, busy)
     refl
 
-pub holds-is : (b : ℕ) (r : Record) → holds b r ≡ true
-    → (r.block ≡ b) × (is_under_way r ≡ true)
-holds-is b r h =
-    elim (eqb_tells r.block b) [
-      | inl w ↦ (w.1, rw w.0 at h)
-      | inr w ↦ absurd (let no : false ≡ true = rw w.0 at h in cc)
-    ]
-
 -- what a block is busy with is under way there
 first-holds : (b : ℕ) (r x : Record) (o : Option Record)
     → (o ≡ Some x → (x.block ≡ b) × (is_under_way x ≡ true)) → cond (holds b r) (Some r) o ≡ Some x

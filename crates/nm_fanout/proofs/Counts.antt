@@ -1,9 +1,8 @@
 -- Which writes are under way on some of the blocks, and how many: after each change of the records.
-use Rattle.std.proofs.Common.{◌≡◌, ℕ, ◌+◌, ◌≤◌, Bool, true, false, cond, ◌==◌, ◌&&◌, List, [], ◌∷◌, ◌++◌, refl, sym, ap, ◌∙◌, inl, inr}
+use Rattle.std.proofs.Common.{◌≡◌, ℕ, Bool, true, false, cond, ◌&&◌, List, refl, ap, ◌∙◌}
 use Rattle.nm_fanout.specs.declared.write_record.Record.{Record}
 use Rattle.nm_fanout.specs.Record.{is_under_way}
-use Rattle.nm_fanout.specs.Records.{is_among, any_under_way}
-use Rattle.nm_fanout.proofs.Owed.{tells}
+use Rattle.nm_fanout.specs.Records.{is_among}
 use Rattle.nm_fanout.proofs.Members.{Member}
 
 -- one for a record under way on a block that passes the test, else none
@@ -28,16 +27,3 @@ pub record NamesBusy (first count : ℕ) (rs : List Record) (x : Record) : Type 
   pub member : Member x rs
   pub among : is_among first count x.block ≡ true
   pub under_way : is_under_way x ≡ true
-
-pub Member-any_under_way : (rs : List Record) (x : Record) → Member x rs → is_under_way x ≡ true
-    → any_under_way rs ≡ true
-Member-any_under_way [] x m h = absurd m
-Member-any_under_way (r ∷ rs) x m h =
-    elim m [
-      | inl e ↦ let here : is_under_way r ≡ true = ap (λ (y : Record). is_under_way y) (sym e)
-          ∙ h in rw here refl
-      | inr k ↦ elim (tells (is_under_way r)) [
-        | inl w ↦ rw w refl
-        | inr w ↦ rw w (Member-any_under_way rs x k h)
-      ]
-    ]

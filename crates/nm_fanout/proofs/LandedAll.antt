@@ -1,5 +1,5 @@
 -- All writes without an entry land, one after the other: the lowest ticket first, until none is left.
-use Rattle.std.proofs.Common.{◌≡◌, ◌⊎◌, ℕ, ◌+◌, ◌<◌, ◌≤◌, zero, suc, Bool, true, false, cond, ◌==◌, List, [], ◌∷◌, length, get_or, Option, None, Some, is_none, refl, sym, ap, ◌∙◌, arith, eq-eqb, ne_eqb, inl, inr}
+use Rattle.std.proofs.Common.{◌≡◌, ◌⊎◌, ℕ, ◌+◌, ◌<◌, ◌≤◌, zero, suc, Bool, true, false, cond, ◌==◌, List, [], ◌∷◌, length, get_or, Option, None, Some, is_none, refl, sym, ap, arith, eq-eqb, ne_eqb, inl, inr}
 use Rattle.std.specs.List.{find, slice_get}
 use Rattle.std.proofs.lemmas.Grind.{common_steps}
 use Rattle.std.proofs.lemmas.List.Quantifiers.{position-Some}
@@ -7,8 +7,7 @@ use Rattle.std.proofs.lemmas.List.Sums.{fails_before_first, sum_by-cons}
 use Rattle.std.proofs.lemmas.Option.{slice_get-get_or}
 use Rattle.nm_fanout.specs.declared.write_record.Record.{Record}
 use Rattle.nm_fanout.specs.Record.{with_entry}
-use Rattle.nm_fanout.specs.Records.{Ascends, AllAbove, AllBelow, AllWhole, AreInOrder, IsAt, OneWriterABlock, busy_on, unlanded, first_unlanded, landed, landed_all, landings}
-use Rattle.nm_fanout.proofs.InOrder.{with_entry-keeps}
+use Rattle.nm_fanout.specs.Records.{Ascends, IsAt, busy_on, unlanded, first_unlanded, landed, landed_all, landings}
 use Rattle.nm_fanout.proofs.Landing.{waits}
 use Rattle.nm_fanout.proofs.Owed.{tells}
 use Rattle.nm_fanout.proofs.Busy.{holds}
@@ -101,14 +100,6 @@ none_to_land next [] h = (refl, refl, refl)
 none_to_land next (r ∷ rs) h = landed_all-none next (r ∷ rs) r (λ k lt. fails_before_first
     (λ (x : Record). is_none x.entry) (r ∷ rs) k r (grind (arith, common_steps)))
 
-pub length-landed_all : (next : ℕ) (rs : List Record) → length (landed_all next rs) ≡ length rs
-length-landed_all next [] = refl
-length-landed_all next (r ∷ rs) =
-    elim (tells (is_none r.entry)) [
-      | inl w ↦ rw w (ap (λ n. suc n) (length-landed_all (next + 1) rs))
-      | inr w ↦ rw w (ap (λ n. suc n) (length-landed_all next rs))
-    ]
-
 numbered : (next i : ℕ) (r : Record) (rs : List Record) (p : ℕ × Record)
     → ((k : ℕ) → slice_get (landings (next + 1) rs) k ≡ Some p → p.0 ≡ next + 1 + k)
     → slice_get ((next, r) ∷ landings (next + 1) rs) i ≡ Some p → p.0 ≡ next + i
@@ -116,56 +107,6 @@ numbered next zero r rs p later h =
     let e : (next, r) ≡ p = cc in
     let is : next ≡ p.0 = ap (λ (q : ℕ × Record). q.0) e in omega (arith, is)
 numbered next (suc i) r rs p later h = omega (arith, later i h)
-
-AllAbove-landed_all : (next low : ℕ) (rs : List Record) → AllAbove low rs
-    → AllAbove low (landed_all next rs)
-AllAbove-landed_all next low [] h = tt
-AllAbove-landed_all next low (r ∷ rs) h =
-    elim (tells (is_none r.entry)) [
-      | inl w ↦ rw w (h.0, AllAbove-landed_all (next + 1) low rs h.1)
-      | inr w ↦ rw w (h.0, AllAbove-landed_all next low rs h.1)
-    ]
-
--- a ticket above all stays above all
-pub AllBelow-landed_all : (next high : ℕ) (rs : List Record) → AllBelow high rs
-    → AllBelow high (landed_all next rs)
-AllBelow-landed_all next high [] h = tt
-AllBelow-landed_all next high (r ∷ rs) h =
-    elim (tells (is_none r.entry)) [
-      | inl w ↦ rw w (h.0, AllBelow-landed_all (next + 1) high rs h.1)
-      | inr w ↦ rw w (h.0, AllBelow-landed_all next high rs h.1)
-    ]
-
-Ascends-landed_all : (next : ℕ) (rs : List Record) → Ascends rs → Ascends (landed_all next rs)
-Ascends-landed_all next [] h = tt
-Ascends-landed_all next (r ∷ rs) h =
-    elim (tells (is_none r.entry)) [
-      | inl w ↦ rw w (
-        AllAbove-landed_all (next + 1) r.ticket rs h.0,
-        Ascends-landed_all (next + 1) rs h.1,
-      )
-      | inr w ↦ rw w (AllAbove-landed_all next r.ticket rs h.0, Ascends-landed_all next rs h.1)
-    ]
-
-AllWhole-landed_all : (next : ℕ) (rs : List Record) → AllWhole rs → AllWhole (landed_all next rs)
-AllWhole-landed_all next [] h = tt
-AllWhole-landed_all next (r ∷ rs) h =
-    elim (tells (is_none r.entry)) [
-      | inl w ↦ rw w (
-        (with_entry-keeps next).whole r h.0,
-        AllWhole-landed_all (next + 1) rs h.1,
-      )
-      | inr w ↦ rw w (h.0, AllWhole-landed_all next rs h.1)
-    ]
-
--- the records stay whole and in order
-pub AreInOrder-landed_all : (next : ℕ) (rs : List Record) → AreInOrder rs
-    → AreInOrder (landed_all next rs)
-AreInOrder-landed_all next rs h = record {
-  few = omega (arith, h.few, length-landed_all next rs);
-  ascending = Ascends-landed_all next rs h.ascending;
-  whole = AllWhole-landed_all next rs h.whole;
-}
 
 -- a record after all landed: as it was if it had its entry, else with one of the next numbers
 abbrev pub LandedAs : ℕ → ℕ → Record → Record → Type 0
@@ -216,19 +157,3 @@ later next m n r new less (inr k) = inr (
 pub busy_on-landed_all_none : (next b : ℕ) (rs : List Record) → busy_on b rs ≡ None
     → busy_on b (landed_all next rs) ≡ None
 busy_on-landed_all_none next b rs h = find-landed_all_none (holds b) (λ n r. refl) next rs h
-
--- no block gets two records under way
-pub OneWriterABlock-landed_all : (next : ℕ) (rs : List Record) → OneWriterABlock rs
-    → OneWriterABlock (landed_all next rs)
-OneWriterABlock-landed_all next [] one = tt
-OneWriterABlock-landed_all next (r ∷ rs) one =
-    elim (tells (is_none r.entry)) [
-      | inl w ↦ rw w (
-        λ busy. busy_on-landed_all_none (next + 1) r.block rs (one.0 busy),
-        OneWriterABlock-landed_all (next + 1) rs one.1,
-      )
-      | inr w ↦ rw w (
-        λ busy. busy_on-landed_all_none next r.block rs (one.0 busy),
-        OneWriterABlock-landed_all next rs one.1,
-      )
-    ]

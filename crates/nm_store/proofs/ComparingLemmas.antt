@@ -1,5 +1,5 @@
 -- A comparison goes on: the legs that join stay out in the region table until it ends.
-use Rattle.std.proofs.Common.{◌≡◌, ◌≢◌, ⊎_elim, ℕ, zero, suc, ◌+◌, ◌<◌, ◌≤◌, ◌/◌, ◌%◌, ◌^◌, ◌==◌, Bool, true, false, cond, List, ◌∷◌, map, length, length-set, replicate, refl, sym, ap, ◌∙◌, subst, arith, get_or, slice_set}
+use Rattle.std.proofs.Common.{◌≡◌, ◌≢◌, ⊎_elim, ℕ, zero, suc, ◌+◌, ◌<◌, ◌≤◌, ◌/◌, ◌%◌, ◌^◌, ◌==◌, Bool, true, false, List, ◌∷◌, map, length, length-set, replicate, refl, sym, ap, ◌∙◌, subst, arith, get_or, slice_set}
 use Rattle.std.proofs.Math.Nat.{zero-div}
 use Rattle.std.proofs.lemmas.List.{get_or-replicate, length-replicate}
 use Rattle.nm_replay.specs.declared.block.Block.{Block}
@@ -13,7 +13,7 @@ use Rattle.nm_regions.specs.LegFlags.{LegRegions, no_leg, opened_leg, set_aside}
 use Rattle.nm_regions.specs.LegFlags as leg_flags
 use Rattle.nm_regions.specs.Table.{regions_of}
 use Rattle.nm_rules.specs.declared.at.At.{At}
-use Rattle.nm_rules.specs.Comparing.{comparing, marked_at, dropped, changed_where, ComparesLeg, IsPassedOver, HoldsSame, HoldsOther, FailsRead, ComparesLegs, ComparesBlock, ComparesBlocks}
+use Rattle.nm_rules.specs.Comparing.{comparing, marked_at, dropped, ComparesLeg, IsPassedOver, HoldsSame, HoldsOther, FailsRead, ComparesLegs, ComparesBlock, ComparesBlocks}
 use Rattle.nm_rules.specs.Opening.{opened, opened_state, bits_from, has_bit}
 use Rattle.nm_rules.specs.State.{StripeState, is_joining, leg_state, table}
 use Rattle.nm_rules.proofs.AttachLemmas.{set-same, set-other}
@@ -201,12 +201,3 @@ module _ {L : Type 0} (place : At) (legs : List L) (master first : ℕ) (policy 
         (λ ne. ap (λ (l : LegRegions). l.out) (set-other (replicate (length legs) waiting) master j (opened_leg (regions_of place.blocks place.region) true) no_leg ne ∙ get_or-replicate (length legs) j waiting no_leg within))
         (one_or_two j master);
   }
-
--- one leg fewer is out in the region table
-pub ended-more : {L : Type 0} (old now : StripeState L) (leg : ℕ) → now ≡ record old { flags = changed_where (λ i. is_joining (leg_state i old)) leg_flags.attached leg old.flags }
-    → cond (is_joining (leg_state leg now)) (record now { flags = (attached leg (table now)).legs }) now ≡ record old { flags = changed_where (λ i. is_joining (leg_state i old)) leg_flags.attached (suc leg) old.flags }
-ended-more {L} old now leg is =
-    let flags : List LegRegions = changed_where (λ i. is_joining (leg_state i old)) leg_flags.attached leg old.flags in
-    ap (λ (s : StripeState L). cond (is_joining (leg_state leg s)) (let x : StripeState L = record s { flags = (attached leg (table s)).legs } in x) s) is
-    ∙ elim (is_joining (leg_state leg old)) as (λ b. cond b (let x : StripeState L = record old { flags = slice_set flags leg (leg_flags.attached (get_or flags leg no_leg)) } in x) (let y : StripeState L = record old { flags = flags } in y)
-    ≡ record old { flags = cond b (slice_set flags leg (leg_flags.attached (get_or flags leg no_leg))) flags }) [ true ↦ refl | false ↦ refl ]
