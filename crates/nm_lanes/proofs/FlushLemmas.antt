@@ -1,16 +1,13 @@
 -- Syncs of every leg, one stripe more at a time.
-use Rattle.std.proofs.Common.{◌≡◌, ◌⊎◌, inl, inr, ℕ, ◌+◌, ◌%◌, ◌<◌, List, [], ◌∷◌, ◌++◌, length, get_or, slice_set, refl, sym, ap, ◌∙◌, subst, arith}
-use Rattle.std.proofs.Math.Nat.{mod-eq_of_lt, mod-lt}
-use Rattle.std.proofs.lemmas.Bool.{cases_lt}
-use Rattle.nm_geometry.specs.Geometry.{Geometry}
+use Rattle.std.proofs.Common.{◌≡◌, ◌⊎◌, inl, inr, ℕ, ◌<◌, List, [], ◌∷◌, ◌++◌, length, get_or, slice_set, refl, sym, ap, ◌∙◌, subst}
 use Rattle.nm_lanes.specs.declared.cause.Cause.{Cause}
-use Rattle.nm_lanes.specs.declared.cause_kind.CauseKind.{CauseKind}
 use Rattle.nm_lanes.specs.Done.{Done}
-use Rattle.nm_lanes.specs.Flushes.{OnlySyncs, IsStripeFlush, IsStripeOf, HasFlushed, HasFlushedSome}
+use Rattle.nm_lanes.specs.Ends.{LaneTries}
+use Rattle.nm_lanes.specs.Flushes.{OnlySyncs, SyncsIn, IsStripeFlush, HasFlushed, HasFlushedSome}
 use Rattle.nm_lanes.specs.Lists.{MirrorStep, steps_in, stripe_list, own_steps}
-use Rattle.nm_lanes.specs.Steps.{Nobodys}
-use Rattle.nm_lanes.specs.Syncs.{AllSync, LaneSyncs, LaneSyncStops, IsAround}
-use Rattle.nm_lanes.proofs.LiftLemmas.{list-same, list-append, own_steps-append, own-in, leads-none, leads-lane, leads-append, stops-lane, stops-append}
+use Rattle.nm_lanes.specs.Syncs.{AllSync, LaneSyncs}
+use Rattle.nm_lanes.proofs.EachLemmas.{each-map}
+use Rattle.nm_lanes.proofs.LiftLemmas.{list-same, list-append, own_steps-append, own-in, leads-none, leads-lane, leads-append}
 use Rattle.nm_lanes.proofs.SyncLemmas.{synced-left, synced-right, own-flush}
 
 only-in : {L : Type 0} (legs stripe : ℕ) (own : List (Done L)) → AllSync legs own → OnlySyncs legs (λ other. other ≡ stripe) (steps_in stripe own)
@@ -43,15 +40,6 @@ module _ {L D : Type 0} (follows : D → List (Done L) → D → Type 0) (stays 
         each = λ other is. subst (λ (n : ℕ). IsStripeFlush legs (stripe_list n (steps_in stripe a.does.list))) (sym is) there;
       }
 
-  pub flush-lane-stops : (old : List D) (stripe : ℕ) (d behind : D) (legs : ℕ) (kind : CauseKind) → stripe < length old → LaneSyncStops follows (get_or old stripe d, behind) legs kind
-      → HasFlushedSome follows legs (λ other. other ≡ stripe) (old, slice_set old stripe behind) (record { stripe = stripe; kind = kind })
-  flush-lane-stops old stripe d behind legs kind inside a = record {
-    own = steps_in stripe a.own;
-    only = only-in legs stripe a.own a.only;
-    stops = stops-lane follows stays old stripe d behind a.own Nobodys kind inside (λ ticket none. absurd none) a.stops;
-    stripe = refl;
-  }
-
   -- no stripe
   pub flush-none : (old : List D) (legs : ℕ) (In : ℕ → Type 0) → ((stripe : ℕ) → In stripe → ⊥) → HasFlushed follows legs In (old, old)
   flush-none old legs In none = record { own = []; does = record { list = []; leads = leads-none follows stays old; own_is = refl }; only = tt; each = λ stripe is. absurd (none stripe is) }
@@ -75,14 +63,9 @@ module _ {L D : Type 0} (follows : D → List (Done L) → D → Type 0)
     ]);
   }
 
-  pub flush-stop : (old mid new : List D) (legs : ℕ) (In Next All : ℕ → Type 0) (cause : Cause) → ((stripe : ℕ) → In stripe → All stripe) → ((stripe : ℕ) → Next stripe → All stripe)
-      → HasFlushed follows legs In (old, mid) → HasFlushedSome follows legs Next (mid, new) cause → HasFlushedSome follows legs All (old, new) cause
-  flush-stop old mid new legs In Next All cause first second a b = record {
-    own = a.own ++ b.own;
-    only = only-append legs All a.own b.own (only-more legs In All first a.own a.only) (only-more legs Next All second b.own b.only);
-    stops = stops-append follows joins old mid new a.own b.own cause a.does b.stops;
-    stripe = second cause.stripe b.stripe;
-  }
+in-more : {L : Type 0} (legs : ℕ) (In All : ℕ → Type 0) (stripe : ℕ) → (In stripe → All stripe) → (own : List (Done L)) → SyncsIn legs In stripe own → SyncsIn legs All stripe own
+in-more legs In All stripe there [] share = tt
+in-more legs In All stripe there (d ∷ own) share = (there share.0, share.1, in-more legs In All stripe there own share.2)
 
 module _ {L D : Type 0} (follows : D → List (Done L) → D → Type 0) where
   -- the same stripes in other words
@@ -90,31 +73,11 @@ module _ {L D : Type 0} (follows : D → List (Done L) → D → Type 0) where
   flush-as lanes legs In All there back a = record { own = a.own; does = a.does; only = only-more legs In All there a.own a.only; each = λ stripe is. a.each stripe (back stripe is) }
 
   pub flush_some-as : (lanes : List D × List D) (legs : ℕ) (In All : ℕ → Type 0) (cause : Cause) → ((stripe : ℕ) → In stripe → All stripe) → HasFlushedSome follows legs In lanes cause → HasFlushedSome follows legs All lanes cause
-  flush_some-as lanes legs In All cause there a = record { own = a.own; only = only-more legs In All there a.own a.only; stops = a.stops; stripe = there cause.stripe a.stripe }
-
--- stripes in turn, one more at a time
-pub around-none : (shape : Geometry) (first stripe : ℕ) → IsAround shape first 0 stripe → ⊥
-around-none shape first stripe a = omega (arith, a.inside)
-
-pub around-more : (shape : Geometry) (first count stripe : ℕ) → IsAround shape first count stripe → IsAround shape first (count + 1) stripe
-around-more shape first count stripe a = record { number = a.number; inside = omega (arith, a.inside); stripe_is = a.stripe_is }
-
-pub around-next : (shape : Geometry) (first count next stripe : ℕ) → next ≡ (first + count) % shape.stripes → stripe ≡ next → IsAround shape first (count + 1) stripe
-around-next shape first count next stripe is same = record { number = count; inside = omega arith; stripe_is = sym is ∙ sym same }
-
-pub around-either : (shape : Geometry) (first count next stripe : ℕ) → next ≡ (first + count) % shape.stripes → IsAround shape first (count + 1) stripe → IsAround shape first count stripe ⊎ (stripe ≡ next)
-around-either shape first count next stripe is a = elim (cases_lt a.number count) [
-  | inl before ↦ inl (record { number = a.number; inside = before; stripe_is = a.stripe_is })
-  | inr above ↦
-      let last : a.number ≡ count = omega (arith, above, a.inside) in
-      inr (sym a.stripe_is ∙ ap (λ n. (first + n) % shape.stripes) last ∙ sym is)
-]
-
-pub around-all : (shape : Geometry) (stripe : ℕ) → IsAround shape 0 shape.stripes stripe → IsStripeOf shape stripe
-around-all shape stripe a = subst (λ (n : ℕ). n < shape.stripes) a.stripe_is (mod-lt (0 + a.number) (omega (arith, a.inside)))
-
-pub all-around : (shape : Geometry) (stripe : ℕ) → IsStripeOf shape stripe → IsAround shape 0 shape.stripes stripe
-all-around shape stripe lt = record { number = stripe; inside = lt; stripe_is = let e : 0 + stripe ≡ stripe = omega arith in rw e (mod-eq_of_lt lt) }
-
-pub around-upto : (shape : Geometry) (first less count stripe : ℕ) → less < count + 1 → IsAround shape first less stripe → IsAround shape first count stripe
-around-upto shape first less count stripe upto a = record { number = a.number; inside = omega (arith, a.inside, upto); stripe_is = a.stripe_is }
+  flush_some-as lanes legs In All cause there a = record {
+    stripe = there cause.stripe a.stripe;
+    tried = record {
+      inside = a.tried.inside;
+      each = each-map (λ stripe old new. LaneTries follows (SyncsIn legs In stripe) cause stripe old new) (λ stripe old new. LaneTries follows (SyncsIn legs All stripe) cause stripe old new) 0 lanes.0 lanes.1
+          (λ stripe old new from upto t. record { own = t.own; share = in-more legs In All stripe (there stripe) t.own t.share; did = t.did; ends = t.ends }) a.tried.each;
+    };
+  }

@@ -1,8 +1,11 @@
+pub mod EachLemmas
 pub mod FlushLemmas
 pub mod LaneLemmas
 pub mod LiftLemmas
 pub mod PieceLemmas
 pub mod ReadLemmas
+pub mod RoundLemmas
+pub mod SpanLemmas
 pub mod SyncLemmas
 pub mod TouchLemmas
 pub mod TurnLemmas

@@ -6,7 +6,8 @@ use Rattle.nm_geometry.specs.Pieces.{touched, piece_at}
 use Rattle.nm_stripe.specs.Flush.{SyncsLeg, IsFlush}
 use Rattle.nm_lanes.specs.declared.cause.Cause.{Cause}
 use Rattle.nm_lanes.specs.Done.{Done}
-use Rattle.nm_lanes.specs.Lists.{MirrorStep, stripe_list, Does, Stops}
+use Rattle.nm_lanes.specs.Ends.{HasTried}
+use Rattle.nm_lanes.specs.Lists.{MirrorStep, stripe_list, Does}
 
 -- the step synced one of so many legs, or found or made it out
 pub record SyncsOne {L : Type 0} (legs : ℕ) (d : Done L) : Type 0 where
@@ -41,11 +42,14 @@ pub record HasFlushed {L D : Type 0} (follows : D → List (Done L) → D → Ty
   pub only : OnlySyncs legs In own
   pub each : (stripe : ℕ) → In stripe → IsStripeFlush legs (stripe_list stripe does.list)
 
--- legs were synced in these stripes, and nothing else was done; then a sync in one of them ended
+-- the steps are syncs of so many legs, in one of these stripes
+abbrev pub SyncsIn : {L : Type 0} → ℕ → (ℕ → Type 0) → ℕ → List (Done L) → Type 0
+SyncsIn legs In stripe [] = Unit {0}
+SyncsIn legs In stripe (d ∷ own) = In stripe × SyncsOne legs d × SyncsIn legs In stripe own
+
+-- legs were synced in these stripes, and nothing else was done, until syncs in some of them ended
 -- the call
 pub record HasFlushedSome {L D : Type 0} (follows : D → List (Done L) → D → Type 0) (legs : ℕ)
     (In : ℕ → Type 0) (lanes : List D × List D) (cause : Cause) : Type 0 where
-  pub own : List (MirrorStep L)
-  pub only : OnlySyncs legs In own
-  pub stops : Stops follows lanes.0 lanes.1 own cause
   pub stripe : In cause.stripe
+  pub tried : HasTried follows (SyncsIn legs In) lanes cause

@@ -6,6 +6,8 @@ pub mod Own
 pub mod Lane
 pub mod Steps
 pub mod Lists
+pub mod Ends
+pub mod Rounds
 pub mod Reads
 pub mod Cuts
 pub mod Writes

@@ -1,8 +1,9 @@
 //! Syncs of every leg.
-ghost use Rattle.std.specs.Prelude.{◌≡◌, ℕ, ◌<◌, ◌+◌, ◌^◌, length, IfErr, OnOk};
+ghost use Rattle.std.specs.Prelude.{◌≡◌, ℕ, ◌<◌, ◌≤◌, ◌+◌, ◌^◌, length, IfErr, OnOk};
+ghost use Rattle.nm_geometry.specs.Geometry.{IsGeometry};
 ghost use Rattle.nm_geometry.specs.Pieces.{LiesInside, end_of, touched};
 ghost use Rattle.nm_lanes.specs.Flushes.{HasFlushed, HasFlushedSome, IsStripeOf, Touches};
-ghost use Rattle.nm_lanes.specs.Syncs.{LaneSyncs, LaneSyncStops, IsAround};
+ghost use Rattle.nm_lanes.specs.Syncs.{InSpans, IsAround, LaneSyncs, LaneSyncStops};
 
 use crate::call::{Call, range_inside, within_bounds};
 use crate::call_kind::CallKind;
@@ -10,14 +11,21 @@ use crate::cause::Cause;
 use crate::cause_kind::CauseKind;
 use crate::gate::Gate;
 use crate::lane::Lane;
+use crate::rounds::flush_lanes;
 use crate::site::Site;
 use nm_geometry::{ByteRange, Shape};
 use nm_leg::LegPart;
+use std::marker::{Send, Sync};
 use std::sync::Wait;
+use std::thread::Threads;
 
 impl<R: Wait, G: Gate, K> Site<'_, R, G, K> {
     /// Syncs each of so many legs that is not out.
-    fn sync_all<L: LegPart, D: Lane<L, K>>(&self, lane: &mut D, legs: u8) -> Result<(), CauseKind>
+    pub(crate) fn sync_all<L: LegPart, D: Lane<L, K>>(
+        &self,
+        lane: &mut D,
+        legs: u8,
+    ) -> Result<(), CauseKind>
         ensures ok { OnOk result (LaneSyncs D.follows (lane.old, lane.new) legs legs) }
         ensures err { IfErr result (LaneSyncStops D.follows (lane.old, lane.new) legs) }
     {
@@ -28,56 +36,52 @@ impl<R: Wait, G: Gate, K> Site<'_, R, G, K> {
     }
 }
 
-impl<R: Wait, G: Gate, K> Call<'_, R, G, K> {
-    /// Syncs every leg of a stripe.
-    fn flush_stripe<L: LegPart, D: Lane<L, K>>(
-        &self,
-        lanes: &mut [D],
-        stripe: u32,
-    ) -> Result<(), Cause>
-        requires locks { length self.now.locks.now ≡ self.now.shape.now.stripes }
-        requires lanes { length lanes.old ≡ self.now.shape.now.stripes }
-        requires inside { stripe < self.now.shape.now.stripes }
-        ensures ok { OnOk result (HasFlushed D.follows self.now.shape.now.legs
-            (λ other. other ≡ stripe) (lanes.old, lanes.new)) }
-        ensures err { IfErr result (HasFlushedSome D.follows self.now.shape.now.legs
-            (λ other. other ≡ stripe) (lanes.old, lanes.new)) }
-    {
-        let shape = self.shape;
-        let site = self.site(stripe, None);
-        match site.sync_all(&mut lanes[stripe as usize], shape.legs) {
-            Ok(()) => Ok(()),
-            Err(kind) => Err(Cause { stripe, kind }),
-        }
-    }
+/// The stripes below one number, and those from a second on below a third.
+struct Spans {
+    low: u32,
+    first: u32,
+    end: u32,
+}
 
-    /// Syncs every leg of so many stripes, which follow one another in turn.
-    fn flush_around<L: LegPart, D: Lane<L, K>>(
-        &self,
-        lanes: &mut [D],
-        first: u64,
-        count: u64,
-    ) -> Result<(), Cause>
-        requires locks { length self.now.locks.now ≡ self.now.shape.now.stripes }
-        requires lanes { length lanes.old ≡ self.now.shape.now.stripes }
-        requires some { 0 < self.now.shape.now.stripes }
-        requires fits { first + count < 2 ^ 64 }
-        ensures ok { OnOk result (HasFlushed D.follows self.now.shape.now.legs
-            (IsAround self.now.shape.now first count) (lanes.old, lanes.new)) }
-        ensures err { IfErr result (HasFlushedSome D.follows self.now.shape.now.legs
-            (IsAround self.now.shape.now first count) (lanes.old, lanes.new)) }
-    {
-        let shape = self.shape;
-        for number in 0..count {
-            let stripe = ((first + number) % shape.stripes as u64) as u32;
-            self.flush_stripe(lanes, stripe)?;
-        }
-        Ok(())
+/// Syncs every leg of the stripes below one number, and of those from a second on below a third.
+fn flush_spans<
+    L: LegPart + Send,
+    K: Sync,
+    D: Lane<L, K> + Send,
+    R: Threads + Wait + Sync,
+    G: Gate + Sync,
+>(call: &Call<'_, R, G, K>, spans: Spans, lanes: &mut [D]) -> Result<(), Cause>
+    requires locks { length call.now.locks.now ≡ call.now.shape.now.stripes }
+    requires lanes { length lanes.old ≡ call.now.shape.now.stripes }
+    requires order { (spans.low ≤ spans.first) × (spans.first ≤ spans.end) }
+    requires inside { spans.end ≤ call.now.shape.now.stripes }
+    ensures ok { OnOk result (HasFlushed D.follows call.now.shape.now.legs
+        (InSpans spans.low spans.first spans.end) (lanes.old, lanes.new)) }
+    ensures err { IfErr result (HasFlushedSome D.follows call.now.shape.now.legs
+        (InSpans spans.low spans.first spans.end) (lanes.old, lanes.new)) }
+{
+    within_bounds(call.shape);
+    let Spans { low, first, end } = spans;
+    let (front, rest) = lanes.split_at_mut(low as usize);
+    let (_, rest) = rest.split_at_mut((first - low) as usize);
+    let (back, _) = rest.split_at_mut((end - first) as usize);
+    if let Err(cause) = flush_lanes(call, 0, front) {
+        return Err(cause);
+    }
+    match flush_lanes(call, first, back) {
+        Ok(()) => Ok(()),
+        Err(cause) => Err(cause),
     }
 }
 
 /// Syncs every leg of every stripe. A leg that is out, or goes out by it, is passed over.
-pub fn flush_by<L: LegPart, K, D: Lane<L, K>, R: Wait, G: Gate>(
+pub fn flush_by<
+    L: LegPart + Send,
+    K: Sync,
+    D: Lane<L, K> + Send,
+    R: Threads + Wait + Sync,
+    G: Gate + Sync,
+>(
     rt: &R,
     shape: &Shape,
     gate: &G,
@@ -100,9 +104,15 @@ pub fn flush_by<L: LegPart, K, D: Lane<L, K>, R: Wait, G: Gate>(
         pass,
         kind: CallKind::Flush,
     };
-    within_bounds(shape);
-    call.flush_around(lanes, 0, shape.stripes as u64)?;
-    Ok(())
+    let spans = Spans {
+        low: 0,
+        first: 0,
+        end: shape.stripes,
+    };
+    match flush_spans(&call, spans, lanes) {
+        Ok(()) => Ok(()),
+        Err(cause) => Err(cause),
+    }
 }
 
 /// The first region that the bytes touch, and how many stripes they touch, from that region's on in
@@ -115,7 +125,7 @@ fn stripes_touched(shape: &Shape, range: ByteRange) -> (u64, u64)
         → IsAround shape.now result.0 result.1 stripe }
     ensures only { (stripe : ℕ) → IsAround shape.now result.0 result.1 stripe
         → Touches shape.now range stripe }
-    ensures fits { result.0 + result.1 < 2 ^ 64 }
+    ensures few { result.1 ≤ shape.now.stripes }
 {
     within_bounds(shape);
     let first = shape.region_of(range.piece(0).block);
@@ -124,8 +134,35 @@ fn stripes_touched(shape: &Shape, range: ByteRange) -> (u64, u64)
     (first, count)
 }
 
+/// The stripes of so many regions that follow one another, from this one on, as two runs.
+fn spans_around(shape: &Shape, region: u64, count: u64) -> Spans
+    requires geometry { IsGeometry shape.now }
+    requires few { count ≤ shape.now.stripes }
+    ensures some { (stripe : ℕ) → IsAround shape.now region count stripe
+        → InSpans result.low result.first result.end stripe }
+    ensures only { (stripe : ℕ) → InSpans result.low result.first result.end stripe
+        → IsAround shape.now region count stripe }
+    ensures order { (result.low ≤ result.first) × (result.first ≤ result.end) }
+    ensures inside { result.end ≤ shape.now.stripes }
+{
+    let stripes = shape.stripes;
+    let first = (region % stripes as u64) as u32;
+    let end = first + count as u32;
+    Spans {
+        low: end.saturating_sub(stripes),
+        first,
+        end: end.min(stripes),
+    }
+}
+
 /// Syncs every leg of the stripes in which some of the bytes from `offset` on lie.
-pub fn sync_by<L: LegPart, K, D: Lane<L, K>, R: Wait, G: Gate>(
+pub fn sync_by<
+    L: LegPart + Send,
+    K: Sync,
+    D: Lane<L, K> + Send,
+    R: Threads + Wait + Sync,
+    G: Gate + Sync,
+>(
     rt: &R,
     shape: &Shape,
     gate: &G,
@@ -159,7 +196,8 @@ pub fn sync_by<L: LegPart, K, D: Lane<L, K>, R: Wait, G: Gate>(
         return Ok(());
     }
     let (first, count) = stripes_touched(shape, range);
-    match call.flush_around(lanes, first, count) {
+    let spans = spans_around(shape, first, count);
+    match flush_spans(&call, spans, lanes) {
         Ok(()) => Ok(()),
         Err(cause) => Err(cause),
     }

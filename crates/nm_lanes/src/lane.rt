@@ -27,6 +27,10 @@ pub trait Lane<L: LegPart, K> {
     /// of the lowest ticket under way where none is given. One hold of the lock.
     fn owed<R: Wait>(&self, rt: &R, lock: &K, ticket: Option<u64>) -> Option<(u64, u8)>;
 
+    /// Whether something was written in the stripe since its last sync began, as far as is known
+    /// without the lock. Nothing is promised of it: it tells where a sync is worth a thread.
+    fn is_unsynced(&self, lock: &K) -> bool;
+
     /// No step leads from a state to itself.
     ghost stays: { (lane : Self) → follows lane [] lane };
 

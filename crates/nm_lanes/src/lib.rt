@@ -32,6 +32,7 @@ mod met;
 mod piece_write;
 mod place;
 mod reading;
+mod rounds;
 mod site;
 mod step_kind;
 mod turns;

@@ -10,7 +10,9 @@ use crate::pass::Pass;
 use nm_lanes::{Cause, Gate, flush_by, read_by, sync_by};
 use nm_leg::LegPart;
 use nm_replay::BLOCK_BYTES;
+use std::marker::{Send, Sync};
 use std::sync::Wait;
+use std::thread::Threads;
 
 impl<L: LegPart, G: Gate + Drop> Mirror<L, G> {
     /// Reads the bytes of the export from `offset` on into all of `into`: each block that they
@@ -70,9 +72,14 @@ impl<L: LegPart, G: Gate + Drop> Mirror<L, G> {
         let _regions = self.shape.regions();
         self.read_at(rt, pass, BLOCK_BYTES as u64 * from, into)
     }
+}
 
-    /// Syncs every leg of every stripe. A leg that is out, or goes out by it, is passed over.
-    pub fn flush<R: Wait>(&self, rt: &R, pass: &mut Pass<L>) -> Result<(), Cause>
+impl<L: LegPart + Send, G: Gate + Drop + Sync> Mirror<L, G> {
+    /// Syncs every leg of every stripe, up to 8 stripes side by side. A leg that is out, or goes
+    /// out by it, is passed over.
+    ///
+    /// Where a stripe cannot go on, its round is finished, and no further round begins.
+    pub fn flush<R: Threads + Wait + Sync>(&self, rt: &R, pass: &mut Pass<L>) -> Result<(), Cause>
         requires pass { length pass.old.parts.items ≡ self.now.shape.stripes }
         ensures ok { OnOk result (HasFlushed {L = L} Follows self.now.shape.legs
             (IsStripeOf self.now.shape) (pass.old.parts.items, pass.new.parts.items)) }
@@ -90,7 +97,7 @@ impl<L: LegPart, G: Gate + Drop> Mirror<L, G> {
     }
 
     /// Syncs every leg of the stripes in which some of the bytes from `offset` on lie, as `flush`.
-    pub fn sync_touched<R: Wait>(
+    pub fn sync_touched<R: Threads + Wait + Sync>(
         &self,
         rt: &R,
         pass: &mut Pass<L>,

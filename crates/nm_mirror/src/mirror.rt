@@ -37,9 +37,7 @@ fn lock_each<L: LegPart>(
     let mut rest = stripes;
     rest.reverse();
     while let Some(stripe) = rest.pop() {
-        locks.push_reserved(Lock {
-            stripe: Mutex::new(stripe),
-        });
+        locks.push_reserved(Lock::new(stripe));
     }
     Ok(locks)
 }

@@ -60,6 +60,7 @@ impl<L: LegPart> Lane<L, Lock<L>> for PartLane<L> {
         ensures fits { AnswerFits «step» result }
     {
         let mut stripe = lock.stripe.lock(rt);
+        lock.note(&step);
         ask(&mut self.part, &mut stripe, step)
     }
 
@@ -69,6 +70,10 @@ impl<L: LegPart> Lane<L, Lock<L>> for PartLane<L> {
             Some(ticket) => Some((ticket, stripe.next_owed(ticket)?)),
             None => stripe.first_owed(),
         }
+    }
+
+    fn is_unsynced(&self, lock: &Lock<L>) -> bool {
+        lock.is_unsynced()
     }
 
     ghost stays = { λ part. refl };

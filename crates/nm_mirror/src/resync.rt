@@ -89,6 +89,7 @@ impl<L: LegPart, G: Gate + Drop> Mirror<L, G> {
         let Some(first) = tried else {
             return 0;
         };
+        lock.note_write();
         self.pass_gate(CallKind::ResyncTurn, stripe, first.step);
         let Some(refusal) = first.refusal else {
             return 1;

@@ -13,9 +13,11 @@ use nm_mirror::{Start, open_stripes};
 use nm_part::Part;
 use nm_stripe::{Policy, Step};
 use std::alloc::Global;
+use std::marker::Sync;
 use std::process::Abort;
 use std::sync::{Mutex, Wait};
 use std::test::Fail;
+use std::thread::Threads;
 
 /// Stripes of zeroes behind locks, with their lanes. Leg 0 of each is in sync, the others join.
 #[derive(Drop)]
@@ -141,7 +143,12 @@ const BOTH_SYNCED: [Note; 2] = [
 ];
 
 /// Syncs the stripes of so many bytes.
-fn sync<R: Wait + Abort>(rt: &R, on: &mut Lanes, offset: u64, len: u64) -> Result<(), Cause> {
+fn sync<R: Threads + Wait + Sync + Abort>(
+    rt: &R,
+    on: &mut Lanes,
+    offset: u64,
+    len: u64,
+) -> Result<(), Cause> {
     want_lanes(rt, on, offset, len);
     let lanes = on.lanes.as_mut_slice();
     sync_by(rt, &on.shape, &NoGate, None, &on.locks, lanes, offset, len)
@@ -170,19 +177,23 @@ fn a_sync_reaches_each_leg_of_the_stripes_that_are_touched(rt: HostRuntime) -> R
 }
 
 /// Syncs every stripe.
-fn flush<R: Wait + Abort>(rt: &R, on: &mut Lanes) -> Result<(), Cause> {
+fn flush<R: Threads + Wait + Sync + Abort>(rt: &R, on: &mut Lanes) -> Result<(), Cause> {
     want_lanes(rt, on, 0, 0);
     let lanes = on.lanes.as_mut_slice();
     flush_by(rt, &on.shape, &NoGate, None, &on.locks, lanes)
 }
 
+// 11 stripes: a round of 8 and one of 3.
 #[test]
 fn a_flush_reaches_each_leg_of_every_stripe(rt: HostRuntime) -> Result<(), Fail> {
     let alloc = rt.alloc();
-    let mut on = opened(&rt, alloc, shape(11, 4, 2, 2, 2)?)?;
-    assert!(rt; flush(&rt, &mut on).is_ok());
-    check_notes(&rt, &on, 0, &BOTH_SYNCED);
-    check_notes(&rt, &on, 1, &BOTH_SYNCED);
+    for stripes in [1, 2, 11] {
+        let mut on = opened(&rt, alloc, shape(44, 4, 2, stripes, 2)?)?;
+        assert!(rt; flush(&rt, &mut on).is_ok());
+        for stripe in 0..stripes as usize {
+            check_notes(&rt, &on, stripe, &BOTH_SYNCED);
+        }
+    }
     Ok(())
 }
 

@@ -22,6 +22,8 @@ mod openings;
 #[cfg(test)]
 mod reading;
 #[cfg(test)]
+mod rounds;
+#[cfg(test)]
 mod row;
 #[cfg(test)]
 mod starts;

@@ -10,9 +10,11 @@ use nm_mirror::{Mirror, Pass, Start, Totals, open_stripes};
 use nm_replay::BLOCK_BYTES;
 use nm_stripe::Policy;
 use std::alloc::Global;
+use std::marker::{Send, Sync};
 use std::process::Abort;
 use std::sync::Wait;
 use std::test::Fail;
+use std::thread::Threads;
 
 /// The shape of these numbers.
 pub fn shape(blocks: u64, region: u64, chunk: u64, stripes: u32, legs: u8) -> Result<Shape, Fail> {
@@ -205,7 +207,7 @@ pub fn zero_at<R: Wait + Abort, L: LegPart, G: Gate + Drop>(
 }
 
 /// Syncs each leg of every stripe.
-pub fn flush<R: Wait + Abort, L: LegPart, G: Gate + Drop>(
+pub fn flush<R: Threads + Wait + Sync + Abort, L: LegPart + Send, G: Gate + Drop + Sync>(
     rt: &R,
     mirror: &Mirror<L, G>,
     pass: &mut Pass<L>,

@@ -114,6 +114,10 @@ impl Lane<FuseLeg, Door> for NoteLane {
         }
     }
 
+    fn is_unsynced(&self, _lock: &Door) -> bool {
+        true
+    }
+
     ghost stays = { λ part. refl };
 
     ghost joins = { λ first mid last before after p q. part-joined first mid last before after p q };

@@ -8,6 +8,8 @@ use crate::watched_file::{ReadCount, WatchedFile};
 use nm_file_leg::{FileLeg, Places, ReadAhead};
 use nm_geometry::Shape;
 use nm_geometry::laws::stripes_lie_inside;
+use nm_lanes::NoGate;
+use nm_mirror::Mirror;
 use std::alloc::Global;
 use std::fs::{File, OpenOptions};
 use std::io::{Seek, SeekFrom};
@@ -31,6 +33,9 @@ const AHEAD: u64 = 32 * BLOCK_BYTES;
 
 /// A leg on a file.
 pub type Leg = FileLeg<ReadAhead<WatchedFile>>;
+
+/// The mirror that the program serves.
+pub type FileMirror = Mirror<Leg, NoGate>;
 
 /// The legs' files, each opened once and locked, so that no other server and no other leg uses it.
 #[derive(Drop)]

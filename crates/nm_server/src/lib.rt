@@ -16,9 +16,11 @@ mod resync;
 mod session_places;
 mod sessions;
 mod start_fault;
+mod syncing;
 mod watched_file;
 
 pub use crate::answering::control;
 pub use crate::mirror_target::MirrorTarget;
 pub use crate::program::start;
 pub use crate::start_fault::StartFault;
+pub use crate::syncing::{MirrorSync, ReadySync, Synced, Syncs};

@@ -2,7 +2,9 @@
 ghost use Rattle.std.specs.Prelude.{◌≡◌, ◌*◌, ⊤, length, IsTrue};
 
 use crate::hang_up::HangUp;
+use crate::syncing::{ReadySync, Synced, Syncs};
 use bytes::Bytes;
+use nm_geometry::ByteRange;
 use nm_lanes::{Gate, WriteFault};
 use nm_leg::LegPart;
 use nm_mirror::{Mirror, Pass};
@@ -12,23 +14,26 @@ use std::sync::Wait;
 
 /// A mirror as a session's target.
 #[derive(Drop)]
-pub struct MirrorTarget<'a, R: Wait, L: LegPart, G: Gate + Drop> {
+pub struct MirrorTarget<'a, R: Wait, L: LegPart, G: Gate + Drop, S: Syncs<L> + Drop> {
     pub rt: &'a R,
     pub alloc: Global,
     pub mirror: &'a Mirror<L, G>,
     pub pass: &'a mut Pass<L>,
+    /// What syncs the mirror.
+    pub sync: &'a ReadySync<L, S>,
     /// Dropped with the target, once its session asks for nothing more.
     pub hang_up: HangUp<'a>,
 }
 
 // Whether the pass has a part for each stripe of the mirror.
-fn is_even<L: LegPart, G: Gate + Drop>(mirror: &Mirror<L, G>, pass: &Pass<L>) -> bool
+pub(crate) fn is_even<L: LegPart, G: Gate + Drop>(mirror: &Mirror<L, G>, pass: &Pass<L>) -> bool
     ensures { IsTrue result → length pass.now.parts.items ≡ mirror.now.shape.stripes }
 {
     pass.stripes() == mirror.shape().stripes as usize
 }
 
-impl<'a, R: Wait, L: LegPart, G: Gate + Drop> Target for MirrorTarget<'a, R, L, G> {
+impl<'a, R: Wait, L: LegPart, G: Gate + Drop, S: Syncs<L> + Drop> Target
+    for MirrorTarget<'a, R, L, G, S> {
     ghost size = { λ target. 512 * target.mirror.now.shape.blocks };
 
     ghost follows = { λ _ _ _. ⊤ };
@@ -72,22 +77,19 @@ impl<'a, R: Wait, L: LegPart, G: Gate + Drop> Target for MirrorTarget<'a, R, L, 
     }
 
     fn flush(&mut self) -> Result<(), TargetFault> {
-        if !is_even(self.mirror, self.pass) {
-            return Err(TargetFault::Io);
-        }
-        match self.mirror.flush(self.rt, self.pass) {
-            Ok(()) => Ok(()),
-            Err(_) => Err(TargetFault::Io),
+        if self.sync.sync(self.pass, Synced::All) {
+            Ok(())
+        } else {
+            Err(TargetFault::Io)
         }
     }
 
     fn sync_touched(&mut self, offset: u64, length: u64) -> Result<(), TargetFault> {
-        if !is_even(self.mirror, self.pass) {
-            return Err(TargetFault::Io);
-        }
-        match self.mirror.sync_touched(self.rt, self.pass, offset, length) {
-            Ok(()) => Ok(()),
-            Err(_) => Err(TargetFault::Io),
+        let range = ByteRange { offset, length };
+        if self.sync.sync(self.pass, Synced::Bytes(range)) {
+            Ok(())
+        } else {
+            Err(TargetFault::Io)
         }
     }
 }

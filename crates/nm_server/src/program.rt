@@ -1,7 +1,7 @@
 //! The whole program: from its command line to its exit status.
 
 use crate::control_port::serve_control;
-use crate::leg_files::{Leg, LegFiles, stripe_legs};
+use crate::leg_files::{FileMirror, Leg, LegFiles, stripe_legs};
 use crate::progress::{Comparison, tell_progress};
 use crate::resync::resynchronise;
 use crate::session_places::SessionPlaces;
@@ -29,9 +29,6 @@ use std::time::Clock;
 
 /// How many legs a mirror has at most.
 const MOST_LEGS: usize = 8;
-
-/// The mirror that the program serves.
-type FileMirror = Mirror<Leg, NoGate>;
 
 // The export that the settings ask for, unless they are wrong by themselves.
 fn export_asked<'a>(settings: &Settings<'a>) -> Result<ExportName<'a>, StartFault<'a>> {
@@ -161,7 +158,7 @@ fn serve_all<R>(
     places: &SessionPlaces,
 ) -> bool
 where
-    R: Threads + Wait + Sync + Clock + Log + Net<Listener = TcpListener, Stream = TcpStream>,
+    R: Threads + Wait + Sync + Copy + Clock + Log + Net<Listener = TcpListener, Stream = TcpStream>,
 {
     let is_ending = AtomicBool::new(false);
     let ending = &is_ending;
@@ -195,7 +192,7 @@ fn serve_and_copy<'a, R>(
     passes: &mut [Pass<Leg>],
 ) -> Result<(), StartFault<'a>>
 where
-    R: Threads + Wait + Sync + Clock + Log + Net<Listener = TcpListener, Stream = TcpStream>,
+    R: Threads + Wait + Sync + Copy + Clock + Log + Net<Listener = TcpListener, Stream = TcpStream>,
 {
     let Ok(places) = SessionPlaces::new(alloc, passes.len() / AT_ONCE) else {
         return Err(StartFault::Memory);
@@ -255,6 +252,7 @@ where
     R: Threads
         + Wait
         + Sync
+        + Copy
         + Clock
         + Log
         + Files<File = File>
@@ -321,6 +319,7 @@ where
     R: Threads
         + Wait
         + Sync
+        + Copy
         + Clock
         + Log
         + Files<File = File>

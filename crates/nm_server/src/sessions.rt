@@ -1,10 +1,13 @@
 //! Sessions over TCP: who listens, who serves.
-ghost use Rattle.std.specs.Prelude.{◌≡◌, ◌≤◌, ◌^◌, [], length, true, All, IfSome, IfOk};
+ghost use Rattle.std.specs.Prelude.{◌≡◌, ◌*◌, ◌≤◌, ◌^◌, [], length, true, All, IfSome, IfOk};
+ghost use Rattle.nm_wire.specs.Export.{size_of};
 
 use crate::handshake_reader::HandshakeReader;
 use crate::hang_up::HangUp;
+use crate::leg_files::{FileMirror, Leg};
 use crate::mirror_target::MirrorTarget;
 use crate::session_places::SessionPlaces;
+use crate::syncing::{MirrorSync, ReadySync, Syncs};
 use log::{Log, warn};
 use nm_lanes::Gate;
 use nm_leg::LegPart;
@@ -99,13 +102,14 @@ fn shake_hands<R: Wait + Clock>(
 
 // The mirror as a target through each of the passes. The first of them that ends, once the session
 // asks for nothing more, ends the read under way.
-fn targets_of<'a, R: Wait, L: LegPart, G: Gate + Drop>(
+fn targets_of<'a, R: Wait, L: LegPart, G: Gate + Drop, S: Syncs<L> + Drop>(
     rt: &'a R,
     alloc: Global,
     mirror: &'a Mirror<L, G>,
     passes: &'a mut [Pass<L>],
+    sync: &'a ReadySync<L, S>,
     stream: &'a TcpStream,
-) -> Result<Vec<MirrorTarget<'a, R, L, G>>, ServeFault>
+) -> Result<Vec<MirrorTarget<'a, R, L, G, S>>, ServeFault>
     ensures { IfOk result (λ targets. All (λ target.
         target.mirror.now.shape.blocks ≡ mirror.now.shape.blocks) targets.items) }
 {
@@ -116,6 +120,7 @@ fn targets_of<'a, R: Wait, L: LegPart, G: Gate + Drop>(
             alloc,
             mirror,
             pass,
+            sync,
             hang_up: HangUp { stream },
         };
         if targets.push(target).is_err() {
@@ -125,14 +130,34 @@ fn targets_of<'a, R: Wait, L: LegPart, G: Gate + Drop>(
     Ok(targets)
 }
 
+// Answers a client's requests until it asks for nothing more.
+fn answer_requests<R, L: LegPart + Send, G: Gate + Sync + Drop, S: Syncs<L> + Sync + Drop>(
+    rt: &R,
+    alloc: Global,
+    stream: &TcpStream,
+    mirror: &Mirror<L, G>,
+    passes: &mut [Pass<L>],
+    sync: &ReadySync<L, S>,
+    core: SessionCore,
+    sender: ReplyWriter<&TcpStream>,
+) -> Result<(), ServeFault>
+where
+    R: Threads + Wait + Sync,
+    requires size { size_of core.haggling.export ≤ 512 * mirror.now.shape.blocks }
+{
+    let targets = targets_of(rt, alloc, mirror, passes, sync, stream)?;
+    transmit(rt, alloc, core, stream, sender, targets).result?;
+    Ok(())
+}
+
 // Serves one client from its greeting to its end.
-fn serve_client<R: Threads + Wait + Sync + Clock, L: LegPart + Send, G: Gate + Sync + Drop>(
+fn serve_client<R: Threads + Wait + Sync + Copy + Clock>(
     rt: &R,
     alloc: Global,
     stream: &TcpStream,
     named: &ExportName<'_>,
-    mirror: &Mirror<L, G>,
-    passes: &mut [Pass<L>],
+    mirror: &FileMirror,
+    passes: &mut [Pass<Leg>],
 ) -> Result<(), ServeFault> {
     let _ = stream.set_nodelay(true);
     let Some(export) = export_of(alloc, named, mirror.shape().blocks) else {
@@ -145,25 +170,24 @@ fn serve_client<R: Threads + Wait + Sync + Clock, L: LegPart + Send, G: Gate + S
     if !shake_hands(rt, alloc, stream, &mut core, &mut sender)? {
         return Ok(());
     }
-    let targets = targets_of(rt, alloc, mirror, passes, stream)?;
-    transmit(rt, alloc, core, stream, sender, targets).result?;
-    Ok(())
+    let sync = ReadySync::new(MirrorSync { rt, mirror });
+    answer_requests(rt, alloc, stream, mirror, passes, &sync, core, sender)
 }
 
 /// Serves the clients that get this place, one after the other, until the places are closed. Their
 /// requests take the passes, as many at once as there are.
 ///
 /// A client's place is free again before its connection is closed.
-pub fn serve_place<R, L: LegPart + Send, G: Gate + Sync + Drop>(
+pub fn serve_place<R>(
     rt: &R,
     alloc: Global,
     places: &SessionPlaces,
     named: &ExportName<'_>,
-    mirror: &Mirror<L, G>,
-    passes: &mut [Pass<L>],
+    mirror: &FileMirror,
+    passes: &mut [Pass<Leg>],
 )
 where
-    R: Threads + Wait + Sync + Clock + Log,
+    R: Threads + Wait + Sync + Copy + Clock + Log,
 {
     for _ in rt.forever() {
         let Some(stream) = places.take(rt) else {

@@ -1,0 +1,118 @@
+//! Calls that are at work in several stripes at once.
+
+use crate::mirrors::{fill_bytes, flush, mirror_of, pass_of, shape, write_at};
+use nm_lanes::NoGate;
+use nm_leg::{Hold, HoldLeg, MemLeg};
+use nm_mirror::Mirror;
+use std::alloc::Global;
+use std::marker::Sync;
+use std::sync::atomic::{AtomicU64, Ordering};
+use std::test::Fail;
+use std::thread::sleep;
+use std::time::{Clock, Duration};
+
+/// How often a held call looks at most whether it may go on. It sleeps a millisecond after each
+/// look, so that a machine which starts the other thread late has ten seconds for it.
+const LOOKS: u32 = 10_000;
+
+/// Which of two stripes' legs have been called, and how often the calls looked.
+#[derive(Drop)]
+struct BothCalled {
+    first: AtomicU64,
+    second: AtomicU64,
+    looks: AtomicU64,
+}
+
+/// Holds the calls of one stripe's leg until the other stripe's has been called.
+#[derive(Drop)]
+struct UntilBoth<'a, R: Clock + Sync> {
+    rt: &'a R,
+    both: &'a BothCalled,
+    is_first: bool,
+}
+
+impl<R: Clock + Sync> Hold for UntilBoth<'_, R> {
+    fn is_held(&self) -> bool {
+        let (own, other) = if self.is_first {
+            (&self.both.first, &self.both.second)
+        } else {
+            (&self.both.second, &self.both.first)
+        };
+        own.store(1, Ordering::SeqCst);
+        if other.load(Ordering::SeqCst) == 1 {
+            return false;
+        }
+        self.both.looks.fetch_add(1, Ordering::SeqCst);
+        sleep(self.rt, Duration::from_millis(1));
+        true
+    }
+}
+
+/// A leg whose calls wait for those of the other stripe's.
+type Meeting<'a, R> = HoldLeg<MemLeg, UntilBoth<'a, R>>;
+
+/// Two stripes of four blocks, of one leg each, whose calls wait for one another, so many looks at
+/// most.
+fn meeting_stripes<'a, R: Clock + Sync>(
+    rt: &'a R,
+    alloc: Global,
+    both: &'a BothCalled,
+    looks: u32,
+) -> Result<Mirror<Meeting<'a, R>, NoGate>, Fail> {
+    let mut legs = Vec::new(alloc);
+    for is_first in [true, false] {
+        let hold = UntilBoth { rt, both, is_first };
+        let mut own = Vec::new(alloc);
+        own.push(HoldLeg::new(MemLeg::new(alloc, 4)?, hold, looks))?;
+        legs.push(own)?;
+    }
+    mirror_of(alloc, shape(8, 4, 2, 2, 1)?, legs, NoGate)
+}
+
+/// Both stripes' legs as called, so that no call is held.
+fn both_called() -> BothCalled {
+    BothCalled {
+        first: AtomicU64::new(1),
+        second: AtomicU64::new(1),
+        looks: AtomicU64::new(0),
+    }
+}
+
+/// From now on calls are held.
+fn hold_calls(both: &BothCalled) {
+    both.first.store(0, Ordering::SeqCst);
+    both.second.store(0, Ordering::SeqCst);
+}
+
+// One stripe after the other: the first call goes on after its last look, and the test fails.
+#[test]
+fn a_flush_syncs_two_stripes_at_once(rt: HostRuntime) -> Result<(), Fail> {
+    let alloc = rt.alloc();
+    let both = both_called();
+    let mirror = meeting_stripes(&rt, alloc, &both, LOOKS)?;
+    let mut pass = pass_of(&rt, alloc, &mirror)?;
+    for offset in [0, 4 * 512] {
+        let payload = fill_bytes(alloc, 512, 7)?;
+        assert!(rt; write_at(&rt, alloc, &mirror, &mut pass, offset, payload).is_ok());
+    }
+    hold_calls(&both);
+    assert!(rt; flush(&rt, &mirror, &mut pass).is_ok());
+    assert_eq!(rt; both.first.load(Ordering::SeqCst), 1);
+    assert_eq!(rt; both.second.load(Ordering::SeqCst), 1);
+    assert!(rt; both.looks.load(Ordering::SeqCst) < LOOKS as u64);
+    Ok(())
+}
+
+// The first stripe's call is held until its last look, since no thread is at work in the second.
+#[test]
+fn a_flush_of_stripes_without_writes_starts_no_thread(rt: HostRuntime) -> Result<(), Fail> {
+    let alloc = rt.alloc();
+    let both = both_called();
+    let mirror = meeting_stripes(&rt, alloc, &both, 20)?;
+    let mut pass = pass_of(&rt, alloc, &mirror)?;
+    hold_calls(&both);
+    assert!(rt; flush(&rt, &mirror, &mut pass).is_ok());
+    assert_eq!(rt; both.second.load(Ordering::SeqCst), 1);
+    assert_eq!(rt; both.looks.load(Ordering::SeqCst), 20);
+    Ok(())
+}
