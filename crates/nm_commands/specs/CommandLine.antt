@@ -41,15 +41,15 @@ abbrev pub AreStarts : Bor (List (Bor Text)) → Type 0
 AreStarts names = map (λ name. name.now) names.now ≡ codes "compare" ∷ codes "full" ∷ []
 
 -- The program, with the options that say where clients and control connect, and to what.
-abbrev pub addressed : App
-addressed = with_rule (with_rule (with_rule (new_app (codes "nbdmirror"))
+abbrev pub base_command : App
+base_command = with_rule (with_rule (with_rule (new_app (codes "nbdmirror"))
     (option_rule (codes "listen") (codes "127.0.0.1:10809")))
     (option_rule (codes "control") (codes "127.0.0.1:10810")))
     (option_rule (codes "name") (codes "disk"))
 
 -- The same, and the options that say what mirror it is.
-abbrev pub mirrored : (policies starts : Bor (List (Bor Text))) → App
-mirrored policies starts = with_rule (with_rule (with_rule (with_rule addressed
+abbrev pub mirror_command : (policies starts : Bor (List (Bor Text))) → App
+mirror_command policies starts = with_rule (with_rule (with_rule (with_rule base_command
     (number_rule (codes "stripes") (codes "16") (pos 1) (pos 64)))
     (parsed_rule (codes "policy") (codes "round-robin") (vp.Names policies)))
     (number_rule (codes "master") (codes "0") (pos 0) (pos 7)))
@@ -57,7 +57,7 @@ mirrored policies starts = with_rule (with_rule (with_rule (with_rule addressed
 
 -- The command line, with its options' defaults and ranges.
 abbrev pub nbdmirror : (policies starts : Bor (List (Bor Text))) → App
-nbdmirror policies starts = with_rule (with_rule (with_rule (mirrored policies starts)
+nbdmirror policies starts = with_rule (with_rule (with_rule (mirror_command policies starts)
     (number_rule (codes "sessions") (codes "16") (pos 1) (pos 64)))
     (flag_rule (codes "read-only")))
     (words_rule (codes "leg"))

@@ -5,7 +5,7 @@ ghost use Rattle.clap.specs.declared.builder.value_parser.ValueParser.TheVariant
 ghost use Rattle.clap.specs.Words.{app_of, kind_of, rule_of, first_value, found_of, one_text};
 ghost use Rattle.clap.specs.Words.{matched_of, raw_values, rows_of};
 ghost use Rattle.clap.specs.declared.error.kind.ErrorKind.TheVariants.{OutOfMemory};
-ghost use Rattle.nm_commands.specs.CommandLine.{ArePolicies, AreStarts, addressed, mirrored};
+ghost use Rattle.nm_commands.specs.CommandLine.{ArePolicies, AreStarts, base_command, mirror_command};
 ghost use Rattle.nm_commands.specs.CommandLine.{flag_rule, nbdmirror, number_rule};
 ghost use Rattle.nm_commands.specs.CommandLine.{option_rule, parsed_rule, words_rule};
 ghost use Rattle.nm_commands.specs.Settings.{AsksFor, HasSettings, IsNumber, IsRefusal};
@@ -110,8 +110,8 @@ fn words<'a>(alloc: Global, id: &'a str, help: &'a str) -> Arg<'a>
 }
 
 // The program, and the options that say where clients and control connect, and to what.
-fn addressed<'a>(alloc: Global) -> Result<Command<'a>, Error>
-    ensures ok { IfOk result (λ command. app_of command ≡ addressed) }
+fn base_command<'a>(alloc: Global) -> Result<Command<'a>, Error>
+    ensures ok { IfOk result (λ command. app_of command ≡ base_command) }
     ensures memory { IfErr result (λ error. kind_of error ≡ OutOfMemory) }
 {
     let program = Command::new(alloc, "nbdmirror").bin_name("nbdmirror")?;
@@ -137,12 +137,12 @@ fn addressed<'a>(alloc: Global) -> Result<Command<'a>, Error>
 }
 
 // The same, and the options that say what mirror it is.
-fn mirrored<'a>(alloc: Global) -> Result<Command<'a>, Error>
+fn mirror_command<'a>(alloc: Global) -> Result<Command<'a>, Error>
     ensures ok { IfOk result (λ command. (policies : _) × ArePolicies policies
-        × ((starts : _) × AreStarts starts × (app_of command ≡ mirrored policies starts))) }
+        × ((starts : _) × AreStarts starts × (app_of command ≡ mirror_command policies starts))) }
     ensures memory { IfErr result (λ error. kind_of error ≡ OutOfMemory) }
 {
-    let program = addressed(alloc)?;
+    let program = base_command(alloc)?;
     let stripes = number_option(alloc, "stripes", "16", 1, 64, "how many lock shards");
     let with_stripes = program.arg(stripes)?;
     let policy = policy_option(alloc);
@@ -167,7 +167,7 @@ fn command_line<'a>(alloc: Global) -> Result<Command<'a>, Error>
         × ((starts : _) × AreStarts starts × (app_of command ≡ nbdmirror policies starts))) }
     ensures memory { IfErr result (λ error. kind_of error ≡ OutOfMemory) }
 {
-    let program = mirrored(alloc)?;
+    let program = mirror_command(alloc)?;
     let sessions = number_option(alloc, "sessions", "16", 1, 64, "how many clients at once");
     let with_sessions = program.arg(sessions)?;
     let read_only = flag(alloc, "read-only", "refuse writes");

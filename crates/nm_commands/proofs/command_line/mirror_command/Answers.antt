@@ -1,7 +1,7 @@
 use Rattle.std.proofs.Common.{◌∙◌, ◌≡◌, ap₂}
 use Rattle.clap.specs.Words.{app_of, with_rule}
-use Rattle.nm_commands.specs.CommandLine.{mirrored}
-use Rattle.nm_commands.proofs.command_line.mirrored.Goals as goal
+use Rattle.nm_commands.specs.CommandLine.{mirror_command}
+use Rattle.nm_commands.proofs.command_line.mirror_command.Goals as goal
 
 pub returns-clause-ok : goal.returns-clause-ok
 returns-clause-ok c =
@@ -13,7 +13,7 @@ returns-clause-ok c =
     ∙ ap₂ with_rule one policy.2 in
     let three = c.in_ok-with_master.ensures.shape c.number_option-master.ensures.own
     ∙ ap₂ with_rule two c.number_option-master.ensures.rule in
-    let all : app_of c.in_ok-command.command ≡ mirrored policy.0 start.0 =
+    let all : app_of c.in_ok-command.command ≡ mirror_command policy.0 start.0 =
     c.in_ok-command.ensures.shape c.start_option-start.ensures.own
     ∙ ap₂ with_rule three start.2 in
     (policy.0, policy.1, (start.0, start.1, all))
