@@ -40,12 +40,6 @@ whole-fits shape arrays whole s (Write t) b v is lt w fits =
 whole-fits shape arrays whole s (Patch t from len) b v is lt w fits =
     (fits.0, (found-there shape arrays whole s b is lt w (slice_get_within (arrays s) b fits.0 fits.1)).1 ∙ fits.1, fits.2)
 
--- an entry that fits an array is of a block of it
-pub fits-inside : (kind : Kind) (b : ℕ) (v : Block) (array : Array) → Fits kind b v array → b < length array
-fits-inside Read b v array fits = slice_get_within array b v fits
-fits-inside (Write t) b v array fits = fits
-fits-inside (Patch t from len) b v array fits = slice_get_within array b fits.0 fits.1
-
 -- what differs from the stripes' arrays in one stripe alone, by a block that was set there
 set-whole : (shape : Geometry) (arrays next : ℕ → Array) (whole : Array) (s b : ℕ) (v : Block) → IsGeometry shape → s < shape.stripes → IsWhole shape arrays whole → b < length (arrays s) → next s ≡ slice_set (arrays s) b v → ((t : ℕ) → s ≢ t → next t ≡ arrays t) → IsWhole shape next (slice_set whole (in_export shape s b) v)
 set-whole shape arrays next whole s b v is lt w inside set others =
