@@ -1,6 +1,7 @@
 //! The places of sessions: who is served now, and who is served next.
 
 use nm_replay::Memory;
+use nm_workers::Lookout;
 use std::alloc::Global;
 use std::net::TcpStream;
 use std::sync::{Condvar, Mutex, Wait};
@@ -18,6 +19,7 @@ struct Waiting {
 pub struct SessionPlaces {
     waiting: Mutex<Waiting>,
     changed: Condvar,
+    lookout: Lookout,
 }
 
 impl SessionPlaces {
@@ -34,7 +36,13 @@ impl SessionPlaces {
                 is_closed: false,
             }),
             changed: Condvar::new(),
+            lookout: Lookout::new(),
         })
+    }
+
+    /// The lookout that the sessions share.
+    pub(crate) fn lookout(&self) -> &Lookout {
+        &self.lookout
     }
 
     /// Gives a connection a place, or drops it where none is free.

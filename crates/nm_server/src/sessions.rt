@@ -15,7 +15,7 @@ use nm_mirror::{Mirror, Pass};
 use nm_replies::ReplyWriter;
 use nm_session::{ServeFault, SessionCore};
 use nm_wire::{Export, Name};
-use nm_workers::{greet, transmit};
+use nm_workers::{Lookout, greet, transmit};
 use std::alloc::Global;
 use std::net::{Shutdown, TcpListener, TcpStream};
 use std::sync::Wait;
@@ -140,13 +140,14 @@ fn answer_requests<R, L: LegPart + Send, G: Gate + Sync + Drop, S: Syncs<L> + Sy
     sync: &ReadySync<L, S>,
     core: SessionCore,
     sender: ReplyWriter<&TcpStream>,
+    lookout: &Lookout,
 ) -> Result<(), ServeFault>
 where
     R: Threads + Wait + Sync,
     requires size { size_of core.haggling.export ≤ 512 * mirror.now.shape.blocks }
 {
     let targets = targets_of(rt, alloc, mirror, passes, sync, stream)?;
-    transmit(rt, alloc, core, stream, sender, targets).result?;
+    transmit(rt, alloc, core, stream, sender, targets, lookout).result?;
     Ok(())
 }
 
@@ -158,6 +159,7 @@ fn serve_client<R: Threads + Wait + Sync + Copy + Clock>(
     named: &ExportName<'_>,
     mirror: &FileMirror,
     passes: &mut [Pass<Leg>],
+    lookout: &Lookout,
 ) -> Result<(), ServeFault> {
     let _ = stream.set_nodelay(true);
     let Some(export) = export_of(alloc, named, mirror.shape().blocks) else {
@@ -171,7 +173,9 @@ fn serve_client<R: Threads + Wait + Sync + Copy + Clock>(
         return Ok(());
     }
     let sync = ReadySync::new(MirrorSync { rt, mirror });
-    answer_requests(rt, alloc, stream, mirror, passes, &sync, core, sender)
+    answer_requests(
+        rt, alloc, stream, mirror, passes, &sync, core, sender, lookout,
+    )
 }
 
 /// Serves the clients that get this place, one after the other, until the places are closed. Their
@@ -193,7 +197,15 @@ where
         let Some(stream) = places.take(rt) else {
             return;
         };
-        if let Err(fault) = serve_client(rt, alloc, &stream, named, mirror, passes) {
+        if let Err(fault) = serve_client(
+            rt,
+            alloc,
+            &stream,
+            named,
+            mirror,
+            passes,
+            places.lookout(),
+        ) {
             warn!(rt; "a session broke off: {}", fault);
         }
         places.free(rt);

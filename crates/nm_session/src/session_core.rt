@@ -267,6 +267,13 @@ impl SessionCore {
         self.outstanding.is_empty()
     }
 
+    /// How many requests are outstanding.
+    pub fn under_way(&self) -> usize
+        ensures { result ≡ length self.now.outstanding }
+    {
+        self.outstanding.len()
+    }
+
     /// What ended the session, if anything did.
     pub fn ended_by(&self) -> Option<EndedBy>
         ensures { result ≡ session.ended_by self.now.stage }

@@ -31,7 +31,7 @@ pub(crate) fn attend<R: Wait, O: Write, E: Extent>(
     core: &mut SessionCore,
     sender: &mut ReplyWriter<O>,
     inbox: &mut Inbox<Called>,
-    mut desk: Desk<E>,
+    mut desk: Desk<'_, E>,
 ) -> Result<Served, ServeFault>
     requires size { size_of core.old.haggling.export ≤ E.bytes }
     ensures ok { IfOk result (λ served. Attends served
@@ -61,7 +61,7 @@ fn attend_once<R: Wait, O: Write, E: Extent>(
     core: &mut SessionCore,
     sender: &mut ReplyWriter<O>,
     inbox: &mut Inbox<Called>,
-    desk: &mut Desk<E>,
+    desk: &mut Desk<'_, E>,
     input: Input,
 ) -> Result<Attended, ServeFault>
     requires size { size_of core.old.haggling.export ≤ E.bytes }
@@ -88,7 +88,7 @@ fn attend_once<R: Wait, O: Write, E: Extent>(
     if let Some(served) = over(core, pause, input) {
         return Ok(Attended::Over(served));
     }
-    match listen(rt, alloc, core, inbox, input, &mut desk.room) {
+    match listen(rt, alloc, core, inbox, input, desk) {
         Ok(next) => Ok(Attended::On(next)),
         Err(fault) => Err(fault),
     }
@@ -102,7 +102,7 @@ fn ask_for_piece<R: Wait, E: Extent>(
     core: &SessionCore,
     pause: Pause,
     input: Input,
-    desk: &Desk<E>,
+    desk: &Desk<'_, E>,
 ) -> Result<Input, ServeFault>
     requires pause { PausesAt pause core.now }
     ensures ok { IfOk result (λ next. next ≡ Ended → input ≡ Ended) }

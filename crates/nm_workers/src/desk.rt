@@ -1,14 +1,16 @@
 use crate::extent::Extent;
 use crate::job::Job;
 use crate::leave::Leave;
+use crate::looking::Looking;
 use crate::room::Room;
 use crossbeam_channel::Sender;
 
 // Where the owner of a session's core hands out tasks, and leaves to read. Workers and the reading
 // thread end once it is gone.
 #[derive(Drop)]
-pub struct Desk<E: Extent> {
+pub struct Desk<'a, E: Extent> {
     pub(crate) jobs: Sender<Job<E>>,
     pub(crate) leaves: Sender<Leave>,
     pub(crate) room: Room,
+    pub(crate) looking: Looking<'a>,
 }

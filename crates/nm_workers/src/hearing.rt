@@ -5,6 +5,8 @@ ghost use Rattle.nm_workers.specs.Hearing.{Hears, IsCausedBy};
 ghost use Rattle.nm_workers.specs.Moving.{stand, Moves, BreaksOff, IsKnown, IsLearned};
 
 use crate::answering::answer;
+use crate::desk::Desk;
+use crate::extent::Extent;
 use crate::input::Input;
 use crate::room::Room;
 use nm_mailbox::{Inbox, Message, Piece};
@@ -16,13 +18,13 @@ use std::sync::Wait;
 const WAITING: usize = 32;
 
 // Waits for a message, and takes it and all others that wait by then.
-pub(crate) fn listen<R: Wait>(
+pub(crate) fn listen<R: Wait, E: Extent>(
     rt: &R,
     alloc: Global,
     core: &mut SessionCore,
     inbox: &mut Inbox<Called>,
     input: Input,
-    room: &mut Room,
+    desk: &mut Desk<'_, E>,
 ) -> Result<Input, ServeFault>
     requires known { IsKnown input (received_by inbox.old) }
     ensures ok { IfOk result (λ next. (output : Option (List ℕ))
@@ -34,10 +36,10 @@ pub(crate) fn listen<R: Wait>(
         (stand core.new (received_by inbox.new) output)) }
     ensures channel { IsSameInbox inbox.new inbox.old }
 {
-    let Some(first) = inbox.recv(rt) else {
+    let Some(first) = desk.looking.wait(rt, inbox, core.under_way()) else {
         return Err(ServeFault::Read);
     };
-    let mut input = match hear(alloc, core, first, input, room) {
+    let mut input = match hear(alloc, core, first, input, &mut desk.room) {
         Ok(input) => input,
         Err(fault) => return Err(fault),
     };
@@ -45,7 +47,7 @@ pub(crate) fn listen<R: Wait>(
         let Some(message) = inbox.try_recv(rt) else {
             return Ok(input);
         };
-        match hear(alloc, core, message, input, room) {
+        match hear(alloc, core, message, input, &mut desk.room) {
             Ok(next) => input = next,
             Err(fault) => return Err(fault),
         }

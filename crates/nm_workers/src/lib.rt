@@ -7,6 +7,7 @@
 
 pub use finished::Finished;
 pub use greeting::greet;
+pub use lookout::Lookout;
 pub use serving::{serve_many, transmit};
 
 mod answering;
@@ -21,6 +22,9 @@ mod hearing;
 mod input;
 mod job;
 mod leave;
+mod looking;
+mod lookout;
+mod patience;
 mod pause;
 mod read_side;
 mod reading;

@@ -6,6 +6,7 @@ ghost use Rattle.nm_workers.specs.Serving.{Ends, Breaks, IsServed, IsBrokenOff};
 
 use crate::finished::Finished;
 use crate::greeting::greet;
+use crate::lookout::Lookout;
 use crate::threads::serve_requests;
 use nm_replies::ReplyWriter;
 use nm_session::{ServeFault, SessionCore, Target, laws};
@@ -90,7 +91,7 @@ where
         };
     };
     match greet(rt, alloc, &mut core, &mut room, &mut reader, &mut sender) {
-        Ok(None) => transmit(rt, alloc, core, reader, sender, targets),
+        Ok(None) => transmit(rt, alloc, core, reader, sender, targets, &Lookout::new()),
         Ok(Some(served)) => Finished {
             result: Ok(served),
             sender,
@@ -105,7 +106,8 @@ where
 /// Serves the requests of a session whose haggling has ended, up to its end, as `serve_many` does.
 ///
 /// A program that does something between the two parts, as to clear a timeout, calls `greet` and
-/// then this. Over no target the first request that needs one breaks the session off.
+/// then this. Over no target the first request that needs one breaks the session off. Sessions that
+/// share a lookout do not all look for messages at once.
 pub fn transmit<R, I, O, T>(
     rt: &R,
     alloc: Global,
@@ -113,6 +115,7 @@ pub fn transmit<R, I, O, T>(
     reader: I,
     sender: ReplyWriter<O>,
     targets: Vec<T>,
+    lookout: &Lookout,
 ) -> Finished<O>
 where
     R: Threads + Wait + Sync,
@@ -125,5 +128,5 @@ where
     ensures err { IfErr result.result (λ fault. Breaks fault core (I.remaining reader)
         (O.contents (device_of sender)) (O.contents (device_of result.sender))) }
 {
-    serve_requests::<Brand, R, I, O, T>(rt, alloc, core, reader, sender, targets)
+    serve_requests::<Brand, R, I, O, T>(rt, alloc, core, reader, sender, targets, lookout)
 }

@@ -10,6 +10,8 @@ use crate::desk::Desk;
 use crate::extent::Extent;
 use crate::finished::Finished;
 use crate::job::Job;
+use crate::looking::Looking;
+use crate::lookout::Lookout;
 use crate::read_side::ReadSide;
 use crate::reading::{AllRead, read_pieces};
 use crate::room::Room;
@@ -36,6 +38,7 @@ pub(crate) fn serve_requests<E, R, I, O, T>(
     reader: I,
     sender: ReplyWriter<O>,
     targets: Vec<T>,
+    lookout: &Lookout,
 ) -> Finished<O>
 where
     E: Extent + Send,
@@ -63,6 +66,7 @@ where
         jobs,
         leaves,
         room: Room::new(),
+        looking: Looking::new(lookout),
     };
     thread::scope(
         thread::scope_env(),
@@ -143,7 +147,7 @@ fn own<E, R, I, O>(
     core: SessionCore,
     sender: ReplyWriter<O>,
     inbox: Inbox<Called>,
-    desk: Desk<E>,
+    desk: Desk<'_, E>,
     reading: PromisedHandle<ReadSide<I>, AllRead<I>>,
 ) -> Finished<O>
 where

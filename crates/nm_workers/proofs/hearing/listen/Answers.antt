@@ -11,14 +11,14 @@ returns-in_default-clause-err g c output = stops_hearing _ _ _ output c.in_defau
 pub returns-in-Err-clause-err : goal.returns-in-Err-clause-err
 returns-in-Err-clause-err g c output =
     loses_at c.args.core.now c.hear.new.core c.in-Some.first (received_by c.args.inbox.now)
-    (received_by c.recv.new.self) c.in-Some.ensures.some c.in-Err.fault output c.in-Err.ensures.cause c.in-Err.ensures.err
+    (received_by c.wait.new.inbox) c.in-Some.ensures.some c.in-Err.fault output c.in-Err.ensures.cause c.in-Err.ensures.err
 
 pub messages-init : goal.messages-init
 messages-init g c = record {
   moves = λ output. hears_at c.args.core.now c.hear.new.core c.in-Some.first (received_by c.args.inbox.now)
-      (received_by c.recv.new.self) c.in-Some.ensures.some output c.in-Ok.ensures.ok;
+      (received_by c.wait.new.inbox) c.in-Some.ensures.some output c.in-Ok.ensures.ok;
   known = learns_at c.args.core.now c.hear.new.core c.in-Some.first (received_by c.args.inbox.now)
-      (received_by c.recv.new.self) c.in-Some.ensures.some c.in-Ok.input c.args.input c.in-Ok.ensures.learned
+      (received_by c.wait.new.inbox) c.in-Some.ensures.some c.in-Ok.input c.args.input c.in-Ok.ensures.learned
       c.requires.known;
   channel = c.in-Some.ensures.channel;
 }
