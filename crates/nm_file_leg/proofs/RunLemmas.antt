@@ -1,7 +1,7 @@
 -- Bytes that were read ahead stay those of the medium, cut out of it or changed with it.
 use Rattle.std.proofs.Common.{◌≡◌, ℕ, ◌+◌, ◌-◌, ◌≤◌, List, ◌++◌, length, take, drop, refl, ap, sym, ◌∙◌, arith, inl, inr}
-use Rattle.std.proofs.lemmas.List.{take-take, drop-take, drop-drop, take-append-drop, take-append-le}
-use Rattle.nm_file_leg.specs.Medium.{window, spliced, Apart}
+use Rattle.std.proofs.lemmas.List.{take-take, drop-take, drop-drop, take-append-drop}
+use Rattle.nm_file_leg.specs.Medium.{window, spliced}
 use Rattle.nm_file_leg.specs.Run.{Changes}
 use Rattle.nm_file_leg.proofs.WindowLemmas.{window-front, window-spliced, window-before, window-behind}
 
@@ -65,8 +65,3 @@ read-spliced first kept place bytes part old new fits inside changes read =
     ∙ ap (λ (ys : List ℕ). window first place new ++ (ys ++ window (place + n) rest mine)) middle
     ∙ ap (λ (ys : List ℕ). window first place new ++ (window (first + place) n new ++ ys)) back
     ∙ sym new_cut
-
--- no bytes were read
-pub read-none : (first : ℕ) (bytes contents : List ℕ) → take 0 bytes ≡ window first 0 contents
-unfolding window
-read-none first bytes contents = refl
