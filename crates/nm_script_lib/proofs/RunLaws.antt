@@ -340,13 +340,6 @@ start_done loads master start old cur new buffer some added kept is h e w =
     (flushes_more old cur new (buffer ++ flat_map loaded_line loads) some (ended_line (codes "started"))
     kept h (subst (λ (x : List ℕ). FlushesPrefix cur new x kept) e w))
 
--- without a start nothing is written
-pub no_opening : (loads : List Load) (start : Option ℕ) (a : Option (List ℕ)) (buffer : List ℕ) →
-    start ≡ None → FlushesPrefix a a (buffer ++ opening_text loads start) buffer
-no_opening loads start a buffer is =
-    subst (λ (s : Option ℕ). FlushesPrefix a a (buffer ++ opening_text loads s) buffer) (sym is)
-    ([], append-nil buffer, Appends-nil a)
-
 pub ok_then : {T E : Type 0} (r : Result T E) (P Q : Type 0) → (P → Q) → OnOk r P → OnOk r Q
 ok_then (Ok x) P Q f p = f p
 ok_then (Err e) P Q f p = tt
