@@ -7,7 +7,7 @@ ghost use Rattle.nm_leg.specs.LegCalls.{HasBlock, WritesLegAt};
 ghost use Rattle.nm_leg.specs.TestLegs.{of_fuse};
 ghost use Rattle.nm_script_lib.specs.declared.step.Step.TheVariants.{Ask};
 ghost use Rattle.nm_script_lib.specs.MemStripe.{InRange, AreNewLegs, AreLoadedLegs, IsNew, IsOpened, FitsLoad, FitOpening, place_of, HasCall, HasShape, IsInside, IsAsked, filled_block, fuse_legs};
-ghost use Rattle.nm_script_lib.specs.RunErrors.{EndsRun};
+ghost use Rattle.nm_script_lib.specs.declared.run_error.RunError.TheVariants.{Memory};
 ghost use Rattle.nm_script_lib.specs.Runs.{Answers};
 
 use crate::fused_call::FusedCall;
@@ -25,7 +25,7 @@ use std::alloc::Global;
 /// The mirror's legs, of zero blocks.
 fn new_legs(alloc: Global, mirror: &MirrorLine) -> Result<Vec<FuseLeg>, RunError>
     ensures legs { IfOk result (λ v. AreNewLegs mirror.now v.items) }
-    ensures cause { IfErr result EndsRun }
+    ensures cause { IfErr result (λ e. e ≡ Memory) }
 {
     let mut all = Vec::new(alloc);
     for _ in 0..mirror.legs {
@@ -58,7 +58,7 @@ fn place_of(mirror: &MirrorLine) -> At
 fn open(alloc: Global, mirror: &MirrorLine) -> Result<Stripe<FuseLeg>, RunError>
     requires { InRange mirror.now }
     ensures opened { IfOk result (λ stripe. IsNew mirror.now stripe) }
-    ensures cause { IfErr result EndsRun }
+    ensures cause { IfErr result (λ e. e ≡ Memory) }
 {
     let legs = new_legs(alloc, mirror)?;
     let in_sync = all_in_sync(mirror.legs);
@@ -75,7 +75,7 @@ fn load_leg(legs: &mut [FuseLeg], load: &Load) -> Result<(), RunError>
     requires block { HasBlock of_fuse legs.old load.now.leg load.now.block }
     ensures ok { OnOk result (WritesLegAt fuse_legs true load.now.leg load.now.block
         (filled_block load.now.fill) legs.old legs.new) }
-    ensures cause { IfErr result EndsRun }
+    ensures cause { IfErr result (λ e. e ≡ Memory) }
 {
     match write_leg_at(legs, load.leg, load.block, &filled_block(load.fill)) {
         Ok(()) => Ok(()),
@@ -87,7 +87,7 @@ fn load_leg(legs: &mut [FuseLeg], load: &Load) -> Result<(), RunError>
 fn loaded_legs(alloc: Global, mirror: &MirrorLine, loads: &[Load]) -> Result<Vec<FuseLeg>, RunError>
     requires { AllByRecursion (FitsLoad mirror.now) loads.now }
     ensures legs { IfOk result (λ v. AreLoadedLegs mirror.now loads.now v.items) }
-    ensures cause { IfErr result EndsRun }
+    ensures cause { IfErr result (λ e. e ≡ Memory) }
 {
     let mut legs = new_legs(alloc, mirror)?;
     for load in loads {
@@ -106,7 +106,7 @@ fn open_compared(
     requires range { InRange mirror.now }
     requires fits { FitOpening mirror.now loads.now (Some master) }
     ensures opened { IfOk result (IsOpened mirror.now loads.now (Some master)) }
-    ensures cause { IfErr result EndsRun }
+    ensures cause { IfErr result (λ e. e ≡ Memory) }
 {
     let legs = loaded_legs(alloc, mirror, loads)?;
     let place = place_of(mirror);
@@ -122,7 +122,7 @@ fn open_script(alloc: Global, script: &Script) -> Result<Stripe<FuseLeg>, RunErr
     requires fits { FitOpening script.now.mirror script.now.loads.items script.now.master }
     ensures opened { IfOk result
         (IsOpened script.now.mirror script.now.loads.items script.now.master) }
-    ensures cause { IfErr result EndsRun }
+    ensures cause { IfErr result (λ e. e ≡ Memory) }
 {
     match script.master {
         Some(master) => open_compared(alloc, &script.mirror, &script.loads, master),
@@ -141,7 +141,7 @@ pub fn open_fused(
     requires call { HasCall script.now.mirror fuse }
     ensures opened { IfOk result
         (IsOpened script.now.mirror script.now.loads.items script.now.master) }
-    ensures cause { IfErr result EndsRun }
+    ensures cause { IfErr result (λ e. e ≡ Memory) }
 {
     let stripe = open_script(alloc, script)?;
     if let Some(fused) = fuse {
@@ -162,7 +162,7 @@ fn filled_block(fill: u8) -> [u8; 512]
 fn patch(alloc: Global, from: u16, len: u16, fill: u8) -> Result<Data, RunError>
     requires { len ≤ 512 }
     ensures part { IfOk result (λ «data». «data» ≡ Part from (replicate len fill)) }
-    ensures cause { IfErr result EndsRun }
+    ensures cause { IfErr result (λ e. e ≡ Memory) }
 {
     let bytes = Bytes::copy_from_slice(alloc, &filled_block(fill)[..len as usize])?;
     Ok(Data::Part { from, bytes })
@@ -172,7 +172,7 @@ fn patch(alloc: Global, from: u16, len: u16, fill: u8) -> Result<Data, RunError>
 fn step_for(alloc: Global, mirror: &MirrorLine, step: StripeStep) -> Result<Step<FuseLeg>, RunError>
     requires { IsInside mirror.now (Ask step) }
     ensures asked { IfOk result (λ s. IsAsked mirror.now step s) }
-    ensures cause { IfErr result EndsRun }
+    ensures cause { IfErr result (λ e. e ≡ Memory) }
 {
     match step {
         StripeStep::Begin { block, fill } => {
@@ -212,7 +212,7 @@ pub fn step(
     requires inside { IsInside mirror.now (Ask step) }
     ensures ok { IfOk result (λ answer. Answers mirror.now step answer stripe.old stripe.new) }
     ensures shape { HasShape mirror.now stripe.new }
-    ensures cause { IfErr result EndsRun }
+    ensures cause { IfErr result (λ e. e ≡ Memory) }
 {
     let asked = step_for(alloc, mirror, step)?;
     let answer = stripe.step(asked);
