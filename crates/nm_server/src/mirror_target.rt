@@ -1,5 +1,6 @@
 //! What a session's requests act on: a mirror, through a pass.
-ghost use Rattle.std.specs.Prelude.{◌≡◌, ◌*◌, ⊤, length, IsTrue};
+ghost use Rattle.std.specs.Prelude.{◌≡◌, ◌*◌, length, IsTrue, ◌↔◌};
+ghost use Rattle.nm_server.specs.Calls.{Leads, way, leads-nowhere, leads-on};
 
 use crate::hang_up::HangUp;
 use crate::syncing::{ReadySync, Synced, Syncs};
@@ -23,11 +24,12 @@ pub struct MirrorTarget<'a, R: Wait, L: LegPart, G: Gate + Drop, S: Syncs<L> + D
     pub sync: &'a ReadySync<L, S>,
     /// Dropped with the target, once its session asks for nothing more.
     pub hang_up: HangUp<'a>,
+    pub ghost same_shape: { sync.now ≡ mirror.now.shape },
 }
 
 // Whether the pass has a part for each stripe of the mirror.
 pub(crate) fn is_even<L: LegPart, G: Gate + Drop>(mirror: &Mirror<L, G>, pass: &Pass<L>) -> bool
-    ensures { IsTrue result → length pass.now.parts.items ≡ mirror.now.shape.stripes }
+    ensures { IsTrue result ↔ length pass.now.parts.items ≡ mirror.now.shape.stripes }
 {
     pass.stripes() == mirror.shape().stripes as usize
 }
@@ -36,11 +38,17 @@ impl<'a, R: Wait, L: LegPart, G: Gate + Drop, S: Syncs<L> + Drop> Target
     for MirrorTarget<'a, R, L, G, S> {
     ghost size = { λ target. 512 * target.mirror.now.shape.blocks };
 
-    ghost follows = { λ _ _ _. ⊤ };
+    ghost follows = { λ old calls new. Leads L
+        (way old.mirror.now.shape old.pass.now.parts.items) calls
+        (way new.mirror.now.shape new.pass.now.parts.items) };
 
-    ghost stays = { λ _. tt };
+    ghost stays = { λ target. leads-nowhere L
+        (way target.mirror.now.shape target.pass.now.parts.items) };
 
-    ghost joins = { λ _ _ _ _ _ _ _. tt };
+    ghost joins = { λ from between to first second before after. leads-on L
+        (way from.mirror.now.shape from.pass.now.parts.items)
+        (way between.mirror.now.shape between.pass.now.parts.items)
+        (way to.mirror.now.shape to.pass.now.parts.items) first second before after };
 
     fn read(&mut self, offset: u64, into: &mut [u8]) -> Result<(), TargetFault> {
         if !is_even(self.mirror, self.pass) {

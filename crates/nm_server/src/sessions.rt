@@ -1,5 +1,7 @@
 //! Sessions over TCP: who listens, who serves.
-ghost use Rattle.std.specs.Prelude.{◌≡◌, ◌*◌, ◌≤◌, ◌^◌, [], length, true, All, IfSome, IfOk};
+ghost use Rattle.std.specs.Prelude.{◌≡◌, ◌*◌, ◌≤◌, ◌^◌, ◌↔◌, [], length, map, true, All};
+ghost use Rattle.std.specs.Prelude.{IsSome, IfSome, IfOk};
+ghost use Rattle.nm_server.specs.Handshake.{HasGreeted};
 ghost use Rattle.nm_wire.specs.Export.{size_of};
 
 use crate::handshake_reader::HandshakeReader;
@@ -46,7 +48,11 @@ pub struct ExportName<'a> {
 
 impl<'a> ExportName<'a> {
     /// An export of this name, where it has 1 to 255 bytes.
-    pub fn new(name: &'a str, read_only: bool) -> Option<Self> {
+    pub fn new(name: &'a str, read_only: bool) -> Option<Self>
+        ensures some { IsSome result ↔ ((1 ≤ length name.now) × (length name.now ≤ 255)) }
+        ensures named { IfSome result (λ named.
+            (named.name.now ≡ name.now) × (named.read_only ≡ read_only)) }
+    {
         if name.is_empty() || name.len() > 255 {
             return None;
         }
@@ -57,7 +63,9 @@ impl<'a> ExportName<'a> {
 // The export for one session.
 fn export_of(alloc: Global, named: &ExportName<'_>, blocks: u64) -> Option<Export>
     requires { blocks ≤ 2 ^ 31 }
-    ensures { IfSome result (λ export. export.blocks ≡ blocks) }
+    ensures named { IfSome result (λ export. export.name ≡ named.now.name.now) }
+    ensures blocks { IfSome result (λ export. export.blocks ≡ blocks) }
+    ensures read_only { IfSome result (λ export. export.read_only ≡ named.now.read_only) }
 {
     let mut name = Vec::new(alloc);
     name.extend_from_slice(named.name.as_bytes()).ok()?;
@@ -78,6 +86,7 @@ fn shake_hands<R: Wait + Clock>(
     sender: &mut ReplyWriter<&TcpStream>,
 ) -> Result<bool, ServeFault>
     requires idle { core.old.outstanding ≡ [] }
+    ensures greeted { IfOk result (λ goes_on. HasGreeted goes_on core.old core.new) }
     ensures export { IfOk result (λ goes_on. goes_on ≡ true
         → core.new.haggling.export ≡ core.old.haggling.export) }
 {
@@ -110,8 +119,11 @@ fn targets_of<'a, R: Wait, L: LegPart, G: Gate + Drop, S: Syncs<L> + Drop>(
     sync: &'a ReadySync<L, S>,
     stream: &'a TcpStream,
 ) -> Result<Vec<MirrorTarget<'a, R, L, G, S>>, ServeFault>
-    ensures { IfOk result (λ targets. All (λ target.
-        target.mirror.now.shape.blocks ≡ mirror.now.shape.blocks) targets.items) }
+    requires shape { sync.now ≡ mirror.now.shape }
+    ensures mirror { IfOk result (λ targets.
+        All (λ target. target.mirror.now ≡ mirror.now) targets.items) }
+    ensures passes { IfOk result (λ targets.
+        map (λ target. target.pass.now) targets.items ≡ passes.old) }
 {
     let mut targets = Vec::new(alloc);
     'passes: for pass in passes.iter_mut() {
@@ -144,6 +156,7 @@ fn answer_requests<R, L: LegPart + Send, G: Gate + Sync + Drop, S: Syncs<L> + Sy
 ) -> Result<(), ServeFault>
 where
     R: Threads + Wait + Sync,
+    requires shape { sync.now ≡ mirror.now.shape }
     requires size { size_of core.haggling.export ≤ 512 * mirror.now.shape.blocks }
 {
     let targets = targets_of(rt, alloc, mirror, passes, sync, stream)?;

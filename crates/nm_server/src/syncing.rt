@@ -1,10 +1,14 @@
 //! Syncs of the mirror, lent to the targets of a session.
-ghost use Rattle.std.specs.Prelude.{ℕ};
+ghost use Rattle.std.specs.Prelude.{◌≡◌};
+ghost use Rattle.nm_geometry.specs.Geometry.{Geometry};
+ghost use Rattle.nm_server.specs.Syncing.{SyncsMirror};
 
 use crate::leg_files::{FileMirror, Leg};
 use crate::mirror_target::is_even;
 use nm_geometry::ByteRange;
-use nm_mirror::Pass;
+use nm_lanes::Gate;
+use nm_leg::LegPart;
+use nm_mirror::{Mirror, Pass};
 use std::marker::{Model, PhantomData};
 use std::sync::{Mutex, Wait};
 use std::thread::Threads;
@@ -23,9 +27,15 @@ pub trait Syncs<L> {
     /// What a call asks for: that it may start threads.
     ghost ready: { Self → Type 0 };
 
-    /// Syncs, and tells whether that succeeded.
+    /// How the blocks of the mirror lie in its stripes.
+    ghost shape: { Self → Geometry };
+
+    /// Syncs, and tells whether that succeeded. It fails where the pass is of another shape, or the
+    /// bytes do not lie in the export.
     fn sync(&self, pass: &mut Pass<L>, synced: Synced) -> bool
-        requires { ready self.now };
+        requires { ready self.now }
+        ensures { SyncsMirror L (shape self.now) synced result
+            (pass.old.parts.items, pass.new.parts.items) };
 }
 
 /// The mirror of the program, with the runtime whose threads sync it.
@@ -40,6 +50,8 @@ impl<'a, R: Threads + Wait + Sync + Copy> Syncs<Leg> for MirrorSync<'a, R> {
 
     ghost ready = { λ sync. IsSync R.row };
 
+    ghost shape = { λ sync. sync.mirror.now.shape };
+
     fn sync(&self, pass: &mut Pass<Leg>, synced: Synced) -> bool {
         sync_through(self.rt, self.mirror, pass, synced)
     }
@@ -47,27 +59,32 @@ impl<'a, R: Threads + Wait + Sync + Copy> Syncs<Leg> for MirrorSync<'a, R> {
 
 // Syncs the mirror through the pass, unless the pass is of another shape or the bytes do not lie in
 // the export.
-fn sync_through<R: Threads + Wait + Sync>(
+fn sync_through<R: Threads + Wait + Sync, L: LegPart + Send, G: Gate + Drop + Sync>(
     rt: &R,
-    mirror: &FileMirror,
-    pass: &mut Pass<Leg>,
+    mirror: &Mirror<L, G>,
+    pass: &mut Pass<L>,
     synced: Synced,
-) -> bool {
+) -> bool
+    ensures { SyncsMirror L mirror.now.shape synced result
+        (pass.old.parts.items, pass.new.parts.items) }
+{
     if !is_even(mirror, pass) {
         return false;
     }
     match synced {
         Synced::All => mirror.flush(rt, pass).is_ok(),
         Synced::Bytes(range) => {
-            mirror.shape().holds(range)
-                && mirror
-                    .sync_touched(rt, pass, range.offset, range.length)
-                    .is_ok()
+            if !mirror.shape().holds(range) {
+                return false;
+            }
+            mirror
+                .sync_touched(rt, pass, range.offset, range.length)
+                .is_ok()
         }
     }
 }
 
-/// A sync that is ready, so that a target may call it.
+/// A sync that is ready, so that a target may call it. Contracts see the shape of its mirror.
 ///
 /// A target's methods do not know that the runtime may be shared among threads, which a sync of
 /// several stripes asks for. Where this is made that is known, and it keeps it.
@@ -79,9 +96,9 @@ pub struct ReadySync<L, S: Syncs<L> + Drop> {
 }
 
 impl<L, S: Syncs<L> + Drop> Model for ReadySync<L, S> {
-    ghost Value = { ℕ };
+    ghost Value = { Geometry };
 
-    ghost view = { λ ready. 0 };
+    ghost view = { λ ready. S.shape ready.sync };
 
     ghost invariant = { λ ready. S.ready ready.sync };
 }
@@ -90,6 +107,7 @@ impl<L, S: Syncs<L> + Drop> ReadySync<L, S> {
     /// This sync, which is ready.
     pub(crate) fn new(sync: S) -> Self
         requires { S.ready sync }
+        ensures { result ≡ S.shape sync }
     {
         ReadySync {
             sync,
@@ -98,7 +116,10 @@ impl<L, S: Syncs<L> + Drop> ReadySync<L, S> {
     }
 
     /// Syncs, and tells whether that succeeded.
-    pub(crate) fn sync(&self, pass: &mut Pass<L>, synced: Synced) -> bool {
+    pub(crate) fn sync(&self, pass: &mut Pass<L>, synced: Synced) -> bool
+        ensures { SyncsMirror L self.now synced result
+            (pass.old.parts.items, pass.new.parts.items) }
+    {
         self.sync.sync(pass, synced)
     }
 }

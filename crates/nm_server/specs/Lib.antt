@@ -1,0 +1,3 @@
+pub mod Calls
+pub mod Handshake
+pub mod Syncing
