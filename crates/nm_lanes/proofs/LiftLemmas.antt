@@ -1,17 +1,13 @@
 -- Steps on one lane are steps of the mirror, and lists of the mirror's steps join.
-use Rattle.std.proofs.Common.{◌≡◌, ◌≢◌, inl, inr, ℕ, ◌<◌, ◌==◌, Bool, true, false, Some, List, [], ◌∷◌, ◌++◌, length, get_or, slice_get, slice_set, refl, sym, ap, ◌∙◌, subst, append_assoc, if◌then◌else◌, rules, arith}
+use Rattle.std.proofs.Common.{◌≡◌, ◌≢◌, inl, inr, ℕ, ◌<◌, ◌==◌, Bool, true, false, Some, List, [], ◌∷◌, ◌++◌, length, get_or, slice_get, slice_set, refl, sym, ap, ◌∙◌, subst, if◌then◌else◌, rules, arith}
 use Rattle.std.proofs.lemmas.Bool.Decides.{eqb_tells}
 use Rattle.std.proofs.lemmas.List.{length-set}
 use Rattle.std.proofs.lemmas.Option.{slice_get_within, slice_get-get_or}
 use Rattle.nm_replay.proofs.Arrays.{slice_get-set_same, slice_get-set_other}
-use Rattle.nm_lanes.specs.declared.cause.Cause.{Cause}
-use Rattle.nm_lanes.specs.declared.cause_kind.CauseKind.{CauseKind}
 use Rattle.nm_lanes.specs.Done.{Done}
-use Rattle.nm_lanes.specs.Own.{helps, own_done, EndsSo}
-use Rattle.nm_lanes.specs.Lane.{LaneDoes, LaneStops}
-use Rattle.nm_lanes.specs.Lists.{MirrorStep, steps_in, stripe_list, own_steps, Leads, Does, BeganLast, Stops, StopsIn}
-use Rattle.nm_lanes.specs.Steps.{Nobodys}
-use Rattle.nm_lanes.proofs.LaneLemmas.{ends-more}
+use Rattle.nm_lanes.specs.Own.{helps, own_done}
+use Rattle.nm_lanes.specs.Lane.{LaneDoes}
+use Rattle.nm_lanes.specs.Lists.{MirrorStep, steps_in, stripe_list, own_steps, Leads, Does}
 
 -- a stripe's own list is the list itself, another stripe's is empty
 pub list-same : {L : Type 0} (stripe : ℕ) (xs : List (Done L)) → stripe_list stripe (steps_in stripe xs) ≡ xs
@@ -101,22 +97,6 @@ module _ {L D : Type 0} (follows : D → List (Done L) → D → Type 0) (stays 
     own_is = own-in stripe a.list ∙ ap (λ xs. steps_in stripe xs) a.own_is;
   }
 
-  pub stops-lane : (old : List D) (stripe : ℕ) (d behind : D) (own : List (Done L)) (ours : ℕ → Type 0) (kind : CauseKind) → stripe < length old → ((ticket : ℕ) → ours ticket → BeganLast stripe (steps_in stripe own) ticket)
-      → LaneStops follows (get_or old stripe d) behind own (EndsSo ours kind) → Stops follows old (slice_set old stripe behind) (steps_in stripe own) (record { stripe = stripe; kind = kind })
-  stops-lane old stripe d behind own ours kind inside more a = record {
-    list = steps_in stripe a.list;
-    last = record { stripe = stripe; done = a.last };
-    leads = subst (λ (xs : List (MirrorStep L)). Leads follows old xs (slice_set old stripe behind)) (in-append stripe a.list (a.last ∷ [])) (leads-lane old stripe d behind (a.list ++ a.last ∷ []) inside a.leads);
-    own_is = own-in stripe a.list ∙ ap (λ xs. steps_in stripe xs) a.own_is;
-    stripe = refl;
-    ends = ends-more ours (BeganLast stripe (steps_in stripe own)) kind a.last more a.ends;
-  }
-
-  -- the same, with no step of the call's own
-  pub stops_in-lane : (old : List D) (stripe : ℕ) (d behind : D) (kind : CauseKind) → stripe < length old
-      → LaneStops follows (get_or old stripe d) behind [] (EndsSo Nobodys kind) → StopsIn follows (old, slice_set old stripe behind) stripe (record { stripe = stripe; kind = kind })
-  stops_in-lane old stripe d behind kind inside a = record { stops = stops-lane old stripe d behind [] Nobodys kind inside (λ ticket none. absurd none) a; stripe_is = refl }
-
 module _ {L D : Type 0} (follows : D → List (Done L) → D → Type 0)
     (joins : (first mid last : D) (before after : List (Done L)) → follows first before mid → follows mid after last → follows first (before ++ after) last) where
   -- a list behind a list
@@ -135,23 +115,4 @@ module _ {L D : Type 0} (follows : D → List (Done L) → D → Type 0)
     list = a.list ++ b.list;
     leads = leads-append old mid new a.list b.list a.leads b.leads;
     own_is = own_steps-append a.list b.list ∙ ap (λ zs. zs ++ own_steps b.list) a.own_is ∙ ap (λ zs. xs ++ zs) b.own_is;
-  }
-
-  began-behind : (stripe : ℕ) (xs ys : List (MirrorStep L)) (ticket : ℕ) → BeganLast stripe ys ticket → BeganLast stripe (xs ++ ys) ticket
-  began-behind stripe xs ys ticket a = record {
-    before = xs ++ a.before;
-    last = a.last;
-    own_is = ap (λ zs. xs ++ zs) a.own_is ∙ sym (append_assoc xs a.before (a.last ∷ []));
-    stripe_is = a.stripe_is;
-    begun = a.begun;
-  }
-
-  pub stops-append : (old mid new : List D) (xs ys : List (MirrorStep L)) (cause : Cause) → Does follows old mid xs → Stops follows mid new ys cause → Stops follows old new (xs ++ ys) cause
-  stops-append old mid new xs ys cause a b = record {
-    list = a.list ++ b.list;
-    last = b.last;
-    leads = subst (λ (zs : List (MirrorStep L)). Leads follows old zs new) (sym (append_assoc a.list b.list (b.last ∷ []))) (leads-append old mid new a.list (b.list ++ b.last ∷ []) a.leads b.leads);
-    own_is = own_steps-append a.list b.list ∙ ap (λ zs. zs ++ own_steps b.list) a.own_is ∙ ap (λ zs. xs ++ zs) b.own_is;
-    stripe = b.stripe;
-    ends = ends-more (BeganLast cause.stripe ys) (BeganLast cause.stripe (xs ++ ys)) cause.kind b.last.done (λ ticket was. began-behind cause.stripe xs ys ticket was) b.ends;
   }

@@ -1,8 +1,8 @@
 -- The pieces of a range, one more at a time.
-use Rattle.std.proofs.Common.{◌≡◌, ℕ, zero, suc, ◌+◌, ◌-◌, ◌*◌, ◌/◌, ◌<◌, ◌==◌, inl, inr, false, [], ◌∷◌, ◌++◌, min, refl, ap, ◌∙◌, arith, pos_of_ne-zero}
+use Rattle.std.proofs.Common.{◌≡◌, ℕ, zero, suc, ◌+◌, ◌-◌, ◌*◌, ◌/◌, ◌<◌, ◌==◌, inl, inr, false, [], ◌∷◌, ◌++◌, min, refl, ap, arith, pos_of_ne-zero}
 use Rattle.std.proofs.lemmas.Bool.Decides.{eqb_tells}
 use Rattle.nm_geometry.specs.declared.byte_range.ByteRange.{ByteRange}
-use Rattle.nm_geometry.specs.Pieces.{end_of, touched, piece_in, piece_at, pieces_from, pieces_of, bytes_before}
+use Rattle.nm_geometry.specs.Pieces.{end_of, touched, piece_in, piece_at, pieces_from, bytes_before}
 
 -- the first byte of the range, and some byte before its end, stand in the touched block
 pub record Inside (range : ByteRange) (number : ℕ) : Type 0 where
@@ -28,18 +28,6 @@ done-before range number h = omega (arith, h.some, h.goes_on)
 pub done-behind : (range : ByteRange) (number : ℕ) → Inside range number → min (bytes_before (number + 1) range) range.length ≡ bytes_before number range + (piece_at number range).len
 done-behind range number h = omega (arith, h.some, h.goes_on)
 
-pub done-none : (range : ByteRange) → min (bytes_before 0 range) range.length ≡ 0
-done-none range = omega arith
-
-pub done-all : (range : ByteRange) → min (bytes_before (touched range) range) range.length ≡ range.length
-done-all range = elim (eqb_tells range.length 0) [
-  | inl none ↦ rw none.1 (omega arith)
-  | inr some ↦ all-of some.0 (pos_of_ne-zero some.1)
-]
-  where
-    all-of : (range.length == 0) ≡ false → 0 < range.length → min (bytes_before (touched range) range) range.length ≡ range.length
-    all-of full some = let upto : touched range ≡ (end_of range - 1) / 512 - range.offset / 512 + 1 = rw full refl in omega (arith, upto, some)
-
 -- one piece more
 pub pieces-add : (block n m : ℕ) (range : ByteRange) → pieces_from block (n + m) range ≡ pieces_from block n range ++ pieces_from (block + n) m range
 pieces-add block zero m range = let a : 0 + m ≡ m = omega arith in let b : block + 0 ≡ block = omega arith in rw (a, b) refl
@@ -50,10 +38,3 @@ pieces-add block (suc n) m range =
 
 pub pieces-one : (number : ℕ) (range : ByteRange) → pieces_from (range.offset / 512) (number + 1) range ≡ pieces_from (range.offset / 512) number range ++ piece_at number range ∷ []
 pieces-one number range = pieces-add (range.offset / 512) number 1 range
-
--- the pieces before one, it, and those behind it
-pub pieces-split : (number : ℕ) (range : ByteRange) → number < touched range
-    → pieces_of range ≡ pieces_from (range.offset / 512) number range ++ piece_at number range ∷ pieces_from (range.offset / 512 + number + 1) (touched range - number - 1) range
-pieces-split number range lt =
-    let a : touched range ≡ number + suc (touched range - number - 1) = omega (arith, lt) in
-    ap (λ (n : ℕ). pieces_from (range.offset / 512) n range) a ∙ pieces-add (range.offset / 512) number (suc (touched range - number - 1)) range

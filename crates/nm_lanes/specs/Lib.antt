@@ -11,5 +11,7 @@ pub mod Rounds
 pub mod Reads
 pub mod Cuts
 pub mod Writes
+pub mod Puts
+pub mod Gets
 pub mod Flushes
 pub mod Syncs

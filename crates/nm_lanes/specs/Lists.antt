@@ -1,10 +1,8 @@
 -- The list of the steps that a call does on all stripes, and each stripe's part of it.
-use Rattle.std.specs.Prelude.{◌≡◌, ℕ, ◌==◌, if◌then◌else◌, List, [], ◌∷◌, ◌++◌, length, map}
+use Rattle.std.specs.Prelude.{◌≡◌, ℕ, ◌==◌, if◌then◌else◌, List, [], ◌∷◌, length, map}
 use Rattle.std.specs.Prelude.{slice_get, Some}
-use Rattle.nm_stripe.specs.declared.answer.Answer.TheVariants.{Begun}
-use Rattle.nm_lanes.specs.declared.cause.Cause.{Cause}
 use Rattle.nm_lanes.specs.Done.{Done}
-use Rattle.nm_lanes.specs.Own.{helps, EndsSo}
+use Rattle.nm_lanes.specs.Own.{helps}
 
 -- a step that was done in this stripe
 pub record MirrorStep (L : Type 0) : Type 0 where
@@ -41,29 +39,3 @@ pub record Does {L D : Type 0} (follows : D → List (Done L) → D → Type 0) 
   pub list : List (MirrorStep L)
   pub leads : Leads follows old list new
   pub own_is : own_steps list ≡ own
-
--- the last of the steps began the write of this ticket in this stripe
-pub record BeganLast {L : Type 0} (stripe : ℕ) (own : List (MirrorStep L)) (ticket : ℕ)
-    : Type 0 where
-  pub before : List (MirrorStep L)
-  pub last : MirrorStep L
-  pub own_is : own ≡ before ++ last ∷ []
-  pub stripe_is : last.stripe ≡ stripe
-  pub begun : last.done.answer ≡ Begun ticket
-
--- the same as `Does`, with one step more at the end, whose answer is the cause: a halt, a refusal
--- that ends a call, or a claim of the write that the call began last whose record is gone
-pub record Stops {L D : Type 0} (follows : D → List (Done L) → D → Type 0) (old new : List D)
-    (own : List (MirrorStep L)) (cause : Cause) : Type 0 where
-  pub list : List (MirrorStep L)
-  pub last : MirrorStep L
-  pub leads : Leads follows old (list ++ last ∷ []) new
-  pub own_is : own_steps list ≡ own
-  pub stripe : cause.stripe ≡ last.stripe
-  pub ends : EndsSo (BeganLast cause.stripe own) cause.kind last.done
-
--- a call ended in this stripe, with no step of its own
-pub record StopsIn {L D : Type 0} (follows : D → List (Done L) → D → Type 0)
-    (lanes : List D × List D) (stripe : ℕ) (cause : Cause) : Type 0 where
-  pub stops : Stops {L = L} follows lanes.0 lanes.1 [] cause
-  pub stripe_is : cause.stripe ≡ stripe

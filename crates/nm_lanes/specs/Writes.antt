@@ -1,5 +1,5 @@
 -- What a write of some bytes does: one begin with its data and one claim for each piece.
-use Rattle.std.specs.Prelude.{◌≡◌, ℕ, List, [], ◌∷◌, ◌++◌}
+use Rattle.std.specs.Prelude.{◌≡◌, ℕ, ◌==◌, if◌then◌else◌, List, [], ◌∷◌, ◌++◌}
 use Rattle.nm_geometry.specs.Geometry.{Geometry, stripe_of, block_in_stripe}
 use Rattle.nm_stripe.specs.declared.answer.Answer.TheVariants.{Begun}
 use Rattle.nm_stripe.specs.declared.step.Step.TheVariants.{Begin, Claim}
@@ -8,7 +8,8 @@ use Rattle.nm_lanes.specs.declared.piece_write.PieceWrite.{PieceWrite}
 use Rattle.nm_lanes.specs.declared.write_fault.WriteFault.{WriteFault}
 use Rattle.nm_lanes.specs.declared.write_fault.WriteFault.TheVariants.{Memory, Io}
 use Rattle.nm_lanes.specs.Done.{Done}
-use Rattle.nm_lanes.specs.Lists.{MirrorStep, Does, Stops}
+use Rattle.nm_lanes.specs.Ends.{HasTried}
+use Rattle.nm_lanes.specs.Lists.{MirrorStep, steps_in, Does}
 use Rattle.nm_lanes.specs.Steps.{IsWritten}
 
 -- the step began the write of this piece, with its data, in its block's stripe
@@ -27,29 +28,6 @@ pub record WritesPiece {L : Type 0} (shape : Geometry) (write : PieceWrite)
   pub claims : claimed.done.step ≡ Claim ticket
   pub written : IsWritten claimed.done.answer
 
--- one piece was written
-pub record HasWrittenPiece {L D : Type 0} (follows : D → List (Done L) → D → Type 0)
-    (shape : Geometry) (write : PieceWrite) (lanes : List D × List D) : Type 0 where
-  pub begun : MirrorStep L
-  pub claimed : MirrorStep L
-  pub does : Does follows lanes.0 lanes.1 (begun ∷ claimed ∷ [])
-  pub writes : WritesPiece shape write begun claimed
-
--- nothing, or the begin of the write of this piece
-abbrev pub BeginsAtMost : {L : Type 0} → Geometry → PieceWrite → List (MirrorStep L) → Type 0
-BeginsAtMost shape write [] = Unit {0}
-BeginsAtMost shape write (begun ∷ []) = (ticket : ℕ) × BeginsPiece shape write ticket begun
-BeginsAtMost shape write own = ⊥
-
--- the call ended in the write of this piece: before it began, or after its begin
-pub record StopsWriting {L D : Type 0} (follows : D → List (Done L) → D → Type 0)
-    (shape : Geometry) (write : PieceWrite) (lanes : List D × List D) (cause : Cause)
-    : Type 0 where
-  pub begun : List (MirrorStep L)
-  pub last : BeginsAtMost shape write begun
-  pub stops : Stops follows lanes.0 lanes.1 begun cause
-  pub stripe : cause.stripe ≡ stripe_of write.piece.block shape
-
 -- one write for each piece, in order, each claimed before the next one begins
 abbrev pub WritesEach : {L : Type 0} → Geometry → List PieceWrite → List (MirrorStep L) → Type 0
 WritesEach shape [] [] = Unit {0}
@@ -64,21 +42,43 @@ pub record HasWritten {L D : Type 0} (follows : D → List (Done L) → D → Ty
   pub does : Does follows lanes.0 lanes.1 own
   pub each : WritesEach shape writes own
 
--- the first pieces were written once, in order, and at most a begin of the next one was done; then
--- a step ended the call
+-- those of the pieces that lie in this stripe
+abbrev pub writes_in : Geometry → ℕ → List PieceWrite → List PieceWrite
+writes_in shape stripe [] = []
+writes_in shape stripe (write ∷ writes) =
+    if stripe_of write.piece.block shape == stripe
+    then write ∷ writes_in shape stripe writes else writes_in shape stripe writes
+
+-- the first of the pieces were written once, in order, and at most a begin of the next one was done
+abbrev pub WritesSome : {L : Type 0} → Geometry → List PieceWrite → List (MirrorStep L) → Type 0
+WritesSome shape writes [] = Unit {0}
+WritesSome shape (write ∷ writes) (begun ∷ []) =
+    (ticket : ℕ) × BeginsPiece shape write ticket begun
+WritesSome shape (write ∷ writes) (begun ∷ (claimed ∷ own)) =
+    WritesPiece shape write begun claimed × WritesSome shape writes own
+WritesSome shape writes own = ⊥
+
+-- of a stripe's steps these are the first writes of its pieces
+abbrev pub WritesSomeIn : {L : Type 0} → Geometry → List PieceWrite → ℕ → List (Done L) → Type 0
+WritesSomeIn shape writes stripe own =
+    WritesSome shape (writes_in shape stripe writes) (steps_in stripe own)
+
+-- one of the pieces lies in this stripe
+pub record LiesIn (shape : Geometry) (writes : List PieceWrite) (stripe : ℕ) : Type 0 where
+  pub first : List PieceWrite
+  pub write : PieceWrite
+  pub rest : List PieceWrite
+  pub writes_are : writes ≡ first ++ write ∷ rest
+  pub stripe_is : stripe ≡ stripe_of write.piece.block shape
+
+-- in each stripe the first of its pieces were written once, in order, and at most a begin of its
+-- next one was done, until steps in some of the stripes ended the call
 pub record HasWrittenSome {L D : Type 0} (follows : D → List (Done L) → D → Type 0)
     (shape : Geometry) (writes : List PieceWrite) (lanes : List D × List D) (cause : Cause)
     : Type 0 where
-  pub own : List (MirrorStep L)
-  pub begun : List (MirrorStep L)
-  pub first : List PieceWrite
-  pub next : PieceWrite
-  pub rest : List PieceWrite
-  pub writes_are : writes ≡ first ++ next ∷ rest
-  pub each : WritesEach shape first own
-  pub last : BeginsAtMost shape next begun
-  pub stops : Stops follows lanes.0 lanes.1 (own ++ begun) cause
-  pub stripe : cause.stripe ≡ stripe_of next.piece.block shape
+  pub stripe : LiesIn shape writes cause.stripe
+  pub tried :
+      HasTried follows (λ stripe own. WritesSomeIn shape writes stripe own) lanes cause
 
 -- what is left by a write that failed: nothing was done, or some of it
 abbrev pub FailsWriting : {L D : Type 0} → (D → List (Done L) → D → Type 0) → Geometry

@@ -1,17 +1,12 @@
 //! A call of a mirror: what its steps on each stripe have in common.
-ghost use Rattle.std.specs.Prelude.{◌≡◌, ◌<◌, ◌+◌, ◌≤◌, ◌^◌, length, IfErr, OnOk};
-ghost use Rattle.nm_geometry.specs.Geometry.{stripe_of, IsGeometry};
+ghost use Rattle.std.specs.Prelude.{◌≡◌, ◌<◌, ◌^◌, length};
+ghost use Rattle.nm_geometry.specs.Geometry.{IsGeometry};
 ghost use Rattle.nm_geometry.specs.Pieces.{LiesInside, end_of};
-ghost use Rattle.nm_lanes.specs.Lists.{StopsIn};
-ghost use Rattle.nm_lanes.specs.Reads.{HasReadPiece};
 
 use crate::call_kind::CallKind;
-use crate::cause::Cause;
 use crate::gate::Gate;
-use crate::lane::Lane;
 use crate::site::Site;
-use nm_geometry::{ByteRange, Piece, Shape};
-use nm_leg::LegPart;
+use nm_geometry::{ByteRange, Shape};
 use std::sync::Wait;
 
 /// Tells that a shape's numbers are within their bounds, as each shape's are.
@@ -57,32 +52,6 @@ impl<R: Wait, G: Gate, K> Call<'_, R, G, K> {
             call: self.kind,
             stripe,
             block,
-        }
-    }
-
-    /// Reads one piece into the target.
-    pub(crate) fn read_piece<L: LegPart, D: Lane<L, K>>(
-        &self,
-        lanes: &mut [D],
-        piece: Piece,
-        into: &mut [u8],
-    ) -> Result<(), Cause>
-        requires locks { length self.now.locks.now ≡ self.now.shape.now.stripes }
-        requires lanes { length lanes.old ≡ self.now.shape.now.stripes }
-        requires inside { piece.block < self.now.shape.now.blocks }
-        requires in_block { piece.from + piece.len ≤ 512 }
-        requires target { length into.old ≡ piece.len }
-        ensures ok { OnOk result (HasReadPiece D.follows self.now.shape.now piece
-            (lanes.old, lanes.new) into.new) }
-        ensures err { IfErr result (StopsIn D.follows (lanes.old, lanes.new)
-            (stripe_of piece.block self.now.shape.now)) }
-    {
-        let stripe = self.shape.stripe_of(piece.block);
-        let block = self.shape.block_in_stripe(piece.block);
-        let site = self.site(stripe, Some(block));
-        match site.read_one(&mut lanes[stripe as usize], block, piece.from, into) {
-            Ok(()) => Ok(()),
-            Err(kind) => Err(Cause { stripe, kind }),
         }
     }
 }

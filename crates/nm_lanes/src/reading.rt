@@ -1,3 +1,4 @@
+//! The read of a range.
 ghost use Rattle.std.specs.Prelude.{◌≡◌, length, IfErr, OnOk};
 ghost use Rattle.nm_geometry.specs.Pieces.{LiesInside, pieces_of};
 ghost use Rattle.nm_lanes.specs.Reads.{HasRead, HasReadSome};
@@ -6,17 +7,27 @@ use crate::call::{Call, range_inside};
 use crate::call_kind::CallKind;
 use crate::cause::Cause;
 use crate::gate::Gate;
+use crate::getting::get_all;
 use crate::lane::Lane;
+use crate::stretch::Stretch;
 use nm_geometry::Shape;
 use nm_leg::LegPart;
+use std::marker::{Send, Sync};
 use std::sync::Wait;
+use std::thread::Threads;
 
 /// Reads the bytes of the export from `offset` on into all of `into`: each block that they touch
-/// once, in order.
+/// once, in order, up to 8 stripes side by side.
 ///
-/// On an error the blocks before the one that ended it were read, and the rest of `into` is as it
-/// was.
-pub fn read_by<L: LegPart, K, D: Lane<L, K>, R: Wait, G: Gate>(
+/// On an error, in each stripe the first of its blocks were read, and what stands in `into` is not
+/// told.
+pub fn read_by<
+    L: LegPart + Send,
+    K: Sync,
+    D: Lane<L, K> + Send,
+    R: Threads + Wait + Sync,
+    G: Gate + Sync,
+>(
     rt: &R,
     shape: &Shape,
     gate: &G,
@@ -45,11 +56,14 @@ pub fn read_by<L: LegPart, K, D: Lane<L, K>, R: Wait, G: Gate>(
         kind: CallKind::Read,
     };
     let range = range_inside(shape, offset, into.len() as u64);
-    for number in 0..range.pieces() {
-        let piece = range.piece(number);
-        let at = range.before(number) as usize;
-        let len = piece.len as usize;
-        call.read_piece(lanes, piece, &mut into[at..at + len])?;
+    let stretch = Stretch {
+        range,
+        first: 0,
+        count: range.pieces(),
+        uncut: true,
+    };
+    match get_all(&call, stretch, lanes, into) {
+        Ok(()) => Ok(()),
+        Err(cause) => Err(cause),
     }
-    Ok(())
 }

@@ -14,7 +14,7 @@ use std::sync::Wait;
 use std::thread::{Threads, join_mut};
 
 /// In how many stripes a call is at work at once, at most.
-const MOST_AT_ONCE: usize = 8;
+pub(crate) const MOST_AT_ONCE: usize = 8;
 
 /// Syncs every leg of this stripe, whose lane stands alone.
 fn flush_one<L: LegPart, K, D: Lane<L, K>, R: Wait, G: Gate>(

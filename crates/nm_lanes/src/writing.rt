@@ -1,76 +1,27 @@
-//! The write of a range, one piece after the other.
-ghost use Rattle.std.specs.Prelude.{◌≡◌, ◌<◌, length, IfErr, IsOk, OnOk};
+//! The write of a range.
+ghost use Rattle.std.specs.Prelude.{◌≡◌, length, IfErr, IsOk, OnOk};
 ghost use Rattle.nm_geometry.specs.Pieces.{LiesInside, pieces_of};
-ghost use Rattle.nm_lanes.specs.Cuts.{EachInside, cuts_for};
-ghost use Rattle.nm_lanes.specs.Writes.{FailsWriting, HasWritten, HasWrittenPiece, HasWrittenSome};
-ghost use Rattle.nm_lanes.specs.Writes.{StopsWriting};
+ghost use Rattle.nm_lanes.specs.Cuts.{cuts_for};
+ghost use Rattle.nm_lanes.specs.Writes.{FailsWriting, HasWritten};
 
 use crate::call::{Call, range_inside};
 use crate::call_kind::CallKind;
-use crate::cause::Cause;
 use crate::cutting::cut_up;
 use crate::gate::Gate;
 use crate::lane::Lane;
-use crate::piece_write::PieceWrite;
+use crate::putting::put_all;
+use crate::stretch::Stretch;
 use crate::write_fault::WriteFault;
 use bytes::Bytes;
-use nm_fanout::Data;
-use nm_geometry::{Piece, Shape};
+use nm_geometry::Shape;
 use nm_leg::LegPart;
 use std::alloc::Global;
+use std::marker::{Send, Sync};
 use std::sync::Wait;
-
-impl<R: Wait, G: Gate, K> Call<'_, R, G, K> {
-    /// Writes one piece: its begin with these data, its pushes and its claim.
-    pub(crate) fn write_piece<L: LegPart, D: Lane<L, K>>(
-        &self,
-        lanes: &mut [D],
-        piece: Piece,
-        slice: Data,
-    ) -> Result<(), Cause>
-        requires locks { length self.now.locks.now ≡ self.now.shape.now.stripes }
-        requires lanes { length lanes.old ≡ self.now.shape.now.stripes }
-        requires inside { piece.block < self.now.shape.now.blocks }
-        ensures ok { OnOk result (HasWrittenPiece D.follows self.now.shape.now
-            (record { piece = piece; bytes = slice }) (lanes.old, lanes.new)) }
-        ensures err { IfErr result (StopsWriting D.follows self.now.shape.now
-            (record { piece = piece; bytes = slice }) (lanes.old, lanes.new)) }
-    {
-        let shape = self.shape;
-        let stripe = shape.stripe_of(piece.block);
-        let block = shape.block_in_stripe(piece.block);
-        let site = self.site(stripe, Some(block));
-        match site.write_one(&mut lanes[stripe as usize], block, slice, shape.legs) {
-            Ok(()) => Ok(()),
-            Err(kind) => Err(Cause { stripe, kind }),
-        }
-    }
-
-    /// Writes one piece after the other.
-    fn write_all<L: LegPart, D: Lane<L, K>>(
-        &self,
-        lanes: &mut [D],
-        writes: Vec<PieceWrite>,
-    ) -> Result<(), Cause>
-        requires locks { length self.now.locks.now ≡ self.now.shape.now.stripes }
-        requires lanes { length lanes.old ≡ self.now.shape.now.stripes }
-        requires inside { EachInside self.now.shape.now writes.items }
-        ensures ok { OnOk result (HasWritten D.follows self.now.shape.now writes.items
-            (lanes.old, lanes.new)) }
-        ensures err { IfErr result (HasWrittenSome D.follows self.now.shape.now writes.items
-            (lanes.old, lanes.new)) }
-    {
-        let mut rest = writes;
-        rest.reverse();
-        while let Some(write) = rest.pop() {
-            self.write_piece(lanes, write.piece, write.bytes)?;
-        }
-        Ok(())
-    }
-}
+use std::thread::Threads;
 
 /// Writes all of the payload to the bytes of the export from `offset` on: each block that they
-/// touch once, in order.
+/// touch once, in order, up to 8 stripes side by side.
 ///
 /// The payload is cut where blocks end before the first step is done. A block that they fill is
 /// written whole; of another the rest stays. A payload without bytes does no step, and succeeds.
@@ -78,9 +29,16 @@ impl<R: Wait, G: Gate, K> Call<'_, R, G, K> {
 /// # Errors
 ///
 /// `WriteFault::Memory` where the cuts are refused their memory, and no step was done.
-/// `WriteFault::Io` where a stripe could not go on: the blocks before the one that ended it were
-/// written, and that one's write may have begun.
-pub fn write_by<L: LegPart, K, D: Lane<L, K>, R: Wait, G: Gate>(
+/// `WriteFault::Io` where a stripe could not go on: the others of its round run to their end, and
+/// no further round begins. In each stripe the first of its blocks were written, and the next one's
+/// write may have begun.
+pub fn write_by<
+    L: LegPart + Send,
+    K: Sync,
+    D: Lane<L, K> + Send,
+    R: Threads + Wait + Sync,
+    G: Gate + Sync,
+>(
     rt: &R,
     alloc: Global,
     shape: &Shape,
@@ -114,10 +72,16 @@ pub fn write_by<L: LegPart, K, D: Lane<L, K>, R: Wait, G: Gate>(
         return Ok(());
     }
     let range = range_inside(shape, offset, payload.len() as u64);
-    let Ok(writes) = cut_up(alloc, range, payload) else {
+    let Ok(mut writes) = cut_up(alloc, range, payload) else {
         return Err(WriteFault::Memory);
     };
-    match call.write_all(lanes, writes) {
+    let stretch = Stretch {
+        range,
+        first: 0,
+        count: range.pieces(),
+        uncut: false,
+    };
+    match put_all(&call, stretch, lanes, writes.as_mut_slice()) {
         Ok(()) => Ok(()),
         Err(cause) => Err(WriteFault::Io(cause)),
     }

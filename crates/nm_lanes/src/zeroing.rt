@@ -1,7 +1,7 @@
-//! The write of zeroes to a range, one piece after the other.
+//! The write of zeroes to a range.
 ghost use Rattle.std.specs.Prelude.{◌≡◌, length, IfErr, OnOk};
 ghost use Rattle.nm_geometry.specs.Pieces.{LiesInside, pieces_of};
-ghost use Rattle.nm_lanes.specs.Cuts.{zero_for, zeroes_for};
+ghost use Rattle.nm_lanes.specs.Cuts.{zeroes_for};
 ghost use Rattle.nm_lanes.specs.Writes.{HasWritten, HasWrittenSome};
 
 use crate::call::{Call, range_inside};
@@ -9,32 +9,26 @@ use crate::call_kind::CallKind;
 use crate::cause::Cause;
 use crate::gate::Gate;
 use crate::lane::Lane;
-use nm_fanout::Data;
-use nm_geometry::{Piece, Shape};
+use crate::putting::put_all;
+use crate::stretch::Stretch;
+use nm_geometry::Shape;
 use nm_leg::LegPart;
-use nm_replay::BLOCK_BYTES;
+use std::marker::{Send, Sync};
 use std::sync::Wait;
-
-/// Zeroes for this piece.
-fn zero_for(piece: Piece) -> Data
-    ensures zeroes { result ≡ zero_for piece }
-{
-    if piece.len as usize == BLOCK_BYTES {
-        Data::Zero
-    } else {
-        Data::ZeroPart {
-            from: piece.from,
-            len: piece.len,
-        }
-    }
-}
+use std::thread::Threads;
 
 /// Writes zeroes to so many bytes of the export from `offset` on: to each block that they touch
-/// once, in order.
+/// once, in order, up to 8 stripes side by side.
 ///
-/// It takes no memory. On an error the blocks before the one that ended it were written, and that
-/// one's write may have begun.
-pub fn zero_by<L: LegPart, K, D: Lane<L, K>, R: Wait, G: Gate>(
+/// It takes no memory. On an error the first blocks of each stripe were written, and the next one's
+/// write may have begun.
+pub fn zero_by<
+    L: LegPart + Send,
+    K: Sync,
+    D: Lane<L, K> + Send,
+    R: Threads + Wait + Sync,
+    G: Gate + Sync,
+>(
     rt: &R,
     shape: &Shape,
     gate: &G,
@@ -63,9 +57,14 @@ pub fn zero_by<L: LegPart, K, D: Lane<L, K>, R: Wait, G: Gate>(
         kind: CallKind::Zero,
     };
     let range = range_inside(shape, offset, len);
-    for number in 0..range.pieces() {
-        let piece = range.piece(number);
-        call.write_piece(lanes, piece, zero_for(piece))?;
+    let stretch = Stretch {
+        range,
+        first: 0,
+        count: range.pieces(),
+        uncut: true,
+    };
+    match put_all(&call, stretch, lanes, &mut []) {
+        Ok(()) => Ok(()),
+        Err(cause) => Err(cause),
     }
-    Ok(())
 }

@@ -14,13 +14,13 @@ use std::marker::{Send, Sync};
 use std::sync::Wait;
 use std::thread::Threads;
 
-impl<L: LegPart, G: Gate + Drop> Mirror<L, G> {
+impl<L: LegPart + Send, G: Gate + Drop + Sync> Mirror<L, G> {
     /// Reads the bytes of the export from `offset` on into all of `into`: each block that they
-    /// touch once, in order.
+    /// touch once, in order, up to 8 stripes side by side.
     ///
-    /// On an error the blocks before the one that ended it were read, and the rest of `into` is as
-    /// it was.
-    pub fn read_at<R: Wait>(
+    /// Where a stripe cannot go on, its round is finished, and no further round begins. In each
+    /// stripe the first of its blocks were read, and what stands in `into` is not told.
+    pub fn read_at<R: Threads + Wait + Sync>(
         &self,
         rt: &R,
         pass: &mut Pass<L>,
@@ -50,7 +50,7 @@ impl<L: LegPart, G: Gate + Drop> Mirror<L, G> {
     }
 
     /// Reads whole blocks of the export from this one on into all of `into`, as `read_at`.
-    pub fn read<R: Wait>(
+    pub fn read<R: Threads + Wait + Sync>(
         &self,
         rt: &R,
         pass: &mut Pass<L>,
@@ -72,9 +72,7 @@ impl<L: LegPart, G: Gate + Drop> Mirror<L, G> {
         let _regions = self.shape.regions();
         self.read_at(rt, pass, BLOCK_BYTES as u64 * from, into)
     }
-}
 
-impl<L: LegPart + Send, G: Gate + Drop + Sync> Mirror<L, G> {
     /// Syncs every leg of every stripe, up to 8 stripes side by side. A leg that is out, or goes
     /// out by it, is passed over.
     ///

@@ -12,18 +12,22 @@ use nm_lanes::{Cause, Gate, WriteFault, write_by, zero_by};
 use nm_leg::LegPart;
 use nm_replay::BLOCK_BYTES;
 use std::alloc::Global;
+use std::marker::{Send, Sync};
 use std::sync::Wait;
+use std::thread::Threads;
 
-impl<L: LegPart, G: Gate + Drop> Mirror<L, G> {
+impl<L: LegPart + Send, G: Gate + Drop + Sync> Mirror<L, G> {
     /// Writes the payload to the export from `offset` on: to each block that it touches once, in
-    /// order. A block that it fills is written whole; of another the rest stays.
+    /// order, up to 8 stripes side by side. A block that it fills is written whole; of another the
+    /// rest stays.
     ///
     /// # Errors
     ///
     /// `WriteFault::Memory` where the cuts of the payload are refused their memory, and nothing was
-    /// done. `WriteFault::Io` where a stripe could not go on: the blocks before the one that ended
-    /// it were written, and that one's write may have begun.
-    pub fn write_at<R: Wait>(
+    /// done. `WriteFault::Io` where a stripe could not go on: its round is finished, and no further
+    /// round begins. In each stripe the first of its blocks were written, and the next one's write
+    /// may have begun.
+    pub fn write_at<R: Threads + Wait + Sync>(
         &self,
         rt: &R,
         alloc: Global,
@@ -56,7 +60,7 @@ impl<L: LegPart, G: Gate + Drop> Mirror<L, G> {
     }
 
     /// Writes whole blocks of the export from this one on, as `write_at`.
-    pub fn write<R: Wait>(
+    pub fn write<R: Threads + Wait + Sync>(
         &self,
         rt: &R,
         alloc: Global,
@@ -82,11 +86,11 @@ impl<L: LegPart, G: Gate + Drop> Mirror<L, G> {
     }
 
     /// Writes zeroes to so many bytes of the export from `offset` on: to each block that they touch
-    /// once, in order. It takes no memory.
+    /// once, in order, up to 8 stripes side by side. It takes no memory.
     ///
-    /// On an error the blocks before the one that ended it were written, and that one's write may
-    /// have begun.
-    pub fn zero_at<R: Wait>(
+    /// On an error the first blocks of each stripe were written, and the next one's write may have
+    /// begun, as for `write_at`.
+    pub fn zero_at<R: Threads + Wait + Sync>(
         &self,
         rt: &R,
         pass: &mut Pass<L>,
@@ -115,7 +119,7 @@ impl<L: LegPart, G: Gate + Drop> Mirror<L, G> {
     }
 
     /// Writes zeroes to so many whole blocks of the export from this one on, as `zero_at`.
-    pub fn zero<R: Wait>(
+    pub fn zero<R: Threads + Wait + Sync>(
         &self,
         rt: &R,
         pass: &mut Pass<L>,

@@ -7,9 +7,11 @@ use nm_lanes::NoGate;
 use nm_leg::FuseLeg;
 use nm_mirror::{Mirror, Pass};
 use std::alloc::Global;
+use std::marker::Sync;
 use std::process::Abort;
 use std::sync::Wait;
 use std::test::Fail;
+use std::thread::Threads;
 
 /// What is done to a range of bytes.
 #[derive(Clone, Copy)]
@@ -20,8 +22,8 @@ enum Act {
     Zero,
 }
 
-/// Three regions of four blocks, the last of three, which lie in the stripes 0, 1 and 0.
-const BYTES: usize = 11 * 512;
+/// Seventeen regions of four blocks, the last of three.
+const BYTES: usize = 67 * 512;
 
 /// The byte that this row writes at this place of its payload: none is zero.
 fn byte_of(row: usize, place: usize) -> u8 {
@@ -50,7 +52,7 @@ fn put(plain: &mut Vec<u8>, act: Act, row: usize, offset: usize, len: usize) {
 }
 
 /// Reads these bytes, which are to be those of the plain array.
-fn check<R: Wait + Abort>(
+fn check<R: Threads + Wait + Sync + Abort>(
     rt: &R,
     alloc: Global,
     mirror: &Mirror<FuseLeg, NoGate>,
@@ -71,7 +73,7 @@ fn check<R: Wait + Abort>(
 
 /// Does one row to the mirror and to the plain array, and compares them: twice, since the legs are
 /// read in turn.
-fn check_row<R: Wait + Abort>(
+fn check_row<R: Threads + Wait + Sync + Abort>(
     rt: &R,
     alloc: Global,
     mirror: &Mirror<FuseLeg, NoGate>,
@@ -94,11 +96,14 @@ fn check_row<R: Wait + Abort>(
     check(rt, alloc, mirror, pass, plain, 0, BYTES)
 }
 
-#[test]
-fn bytes_across_each_edge_are_those_of_a_plain_array(rt: HostRuntime) -> Result<(), Fail> {
-    let alloc = rt.alloc();
-    let mirror = in_sync(&rt, alloc, shape(11, 4, 2, 2, 2)?, NoGate)?;
-    let mut pass = pass_of(&rt, alloc, &mirror)?;
+/// Does each row to a mirror of so many stripes and to a plain array.
+fn check_rows<R: Threads + Wait + Sync + Abort>(
+    rt: &R,
+    alloc: Global,
+    stripes: u32,
+) -> Result<(), Fail> {
+    let mirror = in_sync(rt, alloc, shape(67, 4, 2, stripes, 2)?, NoGate)?;
+    let mut pass = pass_of(rt, alloc, &mirror)?;
     let mut plain = Vec::new(alloc);
     plain.resize(BYTES, 0)?;
     for (number, (act, offset, len)) in [
@@ -117,14 +122,27 @@ fn bytes_across_each_edge_are_those_of_a_plain_array(rt: HostRuntime) -> Result<
         (Act::Zero, 1537, 3000),
         (Act::Write, 5631, 1),
         (Act::Write, 3, 5000),
-        (Act::Zero, 5632, 0),
+        (Act::Zero, 4095, 16_386),
+        (Act::Write, 2049, 32_000),
+        (Act::Write, 34_303, 1),
+        (Act::Zero, 34_304, 0),
         (Act::Zero, 0, BYTES),
     ]
     .into_iter()
     .enumerate()
     {
         let row = (number, act, offset, len);
-        check_row(&rt, alloc, &mirror, &mut pass, &mut plain, row)?;
+        check_row(rt, alloc, &mirror, &mut pass, &mut plain, row)?;
+    }
+    Ok(())
+}
+
+// With two stripes or sixteen, several are at work side by side where a row is long enough.
+#[test]
+fn bytes_across_each_edge_are_those_of_a_plain_array(rt: HostRuntime) -> Result<(), Fail> {
+    let alloc = rt.alloc();
+    for stripes in [1, 2, 16] {
+        check_rows(&rt, alloc, stripes)?;
     }
     Ok(())
 }

@@ -11,11 +11,12 @@ use nm_leg::{FuseLeg, Hold, HoldLeg, LegPart, MemLeg};
 use nm_mirror::{Mirror, Pass};
 use nm_replay::{Block, Entry, Kind};
 use std::alloc::Global;
+use std::marker::Sync;
 use std::process::Abort;
 use std::sync::atomic::{AtomicU64, Ordering};
 use std::sync::{Arc, Wait};
 use std::test::Fail;
-use std::thread::join;
+use std::thread::{Threads, join};
 
 /// Holds the first pass behind the first push of its write, and counts the second's steps.
 #[derive(Drop)]
@@ -62,7 +63,7 @@ impl Gate for AfterAPush {
 }
 
 /// Reads a block: whether each of its bytes is this one.
-fn finds<R: Wait + Abort, L: LegPart, G: Gate + Drop>(
+fn finds<R: Threads + Wait + Sync + Abort, L: LegPart + Send, G: Gate + Drop + Sync>(
     rt: &R,
     mirror: &Mirror<L, G>,
     pass: &mut Pass<L>,
@@ -75,7 +76,7 @@ fn finds<R: Wait + Abort, L: LegPart, G: Gate + Drop>(
 }
 
 /// Writes block 3: whether it was written.
-fn writes_block_3<R: Wait + Abort>(
+fn writes_block_3<R: Threads + Wait + Sync + Abort>(
     rt: &R,
     alloc: Global,
     mirror: &Mirror<FuseLeg, AfterAPush>,
@@ -86,7 +87,7 @@ fn writes_block_3<R: Wait + Abort>(
 }
 
 /// Reads block 3 while the write of it is held: whether it is found, and the write is let go.
-fn reads_block_3<R: Wait + Abort>(
+fn reads_block_3<R: Threads + Wait + Sync + Abort>(
     rt: &R,
     mirror: &Mirror<FuseLeg, AfterAPush>,
     pass: &mut Pass<FuseLeg>,
@@ -115,7 +116,7 @@ fn a_read_answers_while_a_write_is_under_way(rt: HostRuntime) -> Result<(), Fail
 
 /// Takes leg 0 out while the write of block 3 is held, and reads block 3: whether that is found,
 /// and the write is let go.
-fn fails_the_master<R: Wait + Abort>(
+fn fails_the_master<R: Threads + Wait + Sync + Abort>(
     rt: &R,
     mirror: &Mirror<FuseLeg, AfterAPush>,
     pass: &mut Pass<FuseLeg>,
@@ -264,7 +265,7 @@ fn held_in_stripe_0(
 }
 
 /// Reads a block of stripe 1 while a call of stripe 0's leg is held, and lets that go.
-fn reads_other_stripe<R: Wait + Abort>(
+fn reads_other_stripe<R: Threads + Wait + Sync + Abort>(
     rt: &R,
     mirror: &Mirror<Held, nm_lanes::NoGate>,
     pass: &mut Pass<Held>,

@@ -64,7 +64,7 @@ fn want_lanes<R: Abort>(rt: &R, on: &Lanes, offset: u64, len: u64)
 }
 
 /// Writes so many bytes of one value.
-fn write<R: Wait + Abort, G: Gate>(
+fn write<R: Threads + Wait + Sync + Abort, G: Gate + Sync>(
     rt: &R,
     alloc: Global,
     on: &mut Lanes,
@@ -216,7 +216,7 @@ impl<R: Wait> Gate for Claiming<'_, R> {
 }
 
 /// Writes block 0 of the only stripe, while somebody else claims what the write pushes.
-fn write_beside_a_claim<R: Wait + Abort>(
+fn write_beside_a_claim<R: Threads + Wait + Sync + Abort>(
     rt: &R,
     alloc: Global,
     on: &mut Lanes,

@@ -170,7 +170,7 @@ fn want_inside<R: Abort, L: LegPart, G: Gate + Drop>(
 }
 
 /// Reads these bytes of the export, which must lie in it.
-pub fn read_at<R: Wait + Abort, L: LegPart, G: Gate + Drop>(
+pub fn read_at<R: Threads + Wait + Sync + Abort, L: LegPart + Send, G: Gate + Drop + Sync>(
     rt: &R,
     mirror: &Mirror<L, G>,
     pass: &mut Pass<L>,
@@ -182,7 +182,7 @@ pub fn read_at<R: Wait + Abort, L: LegPart, G: Gate + Drop>(
 }
 
 /// Writes these bytes of the export, which must lie in it.
-pub fn write_at<R: Wait + Abort, L: LegPart, G: Gate + Drop>(
+pub fn write_at<R: Threads + Wait + Sync + Abort, L: LegPart + Send, G: Gate + Drop + Sync>(
     rt: &R,
     alloc: Global,
     mirror: &Mirror<L, G>,
@@ -195,7 +195,7 @@ pub fn write_at<R: Wait + Abort, L: LegPart, G: Gate + Drop>(
 }
 
 /// Writes zeroes to these bytes of the export, which must lie in it.
-pub fn zero_at<R: Wait + Abort, L: LegPart, G: Gate + Drop>(
+pub fn zero_at<R: Threads + Wait + Sync + Abort, L: LegPart + Send, G: Gate + Drop + Sync>(
     rt: &R,
     mirror: &Mirror<L, G>,
     pass: &mut Pass<L>,

@@ -5,12 +5,14 @@ use nm_lanes::{Gate, NoGate};
 use nm_leg::FuseLeg;
 use nm_mirror::{Mirror, Pass};
 use std::alloc::Global;
+use std::marker::Sync;
 use std::process::Abort;
 use std::sync::Wait;
 use std::test::Fail;
+use std::thread::Threads;
 
 /// Reads so many bytes from this offset on, and looks at each.
-fn check_read<R: Wait + Abort, G: Gate + Drop>(
+fn check_read<R: Threads + Wait + Sync + Abort, G: Gate + Drop + Sync>(
     rt: &R,
     alloc: Global,
     mirror: &Mirror<FuseLeg, G>,

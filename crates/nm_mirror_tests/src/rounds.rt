@@ -1,7 +1,7 @@
 //! Calls that are at work in several stripes at once.
 
-use crate::mirrors::{fill_bytes, flush, mirror_of, pass_of, shape, write_at};
-use nm_lanes::NoGate;
+use crate::mirrors::{fill_bytes, flush, mirror_of, pass_of, read_at, shape, write_at};
+use nm_lanes::{Gate, NoGate, Place};
 use nm_leg::{Hold, HoldLeg, MemLeg};
 use nm_mirror::Mirror;
 use std::alloc::Global;
@@ -114,5 +114,116 @@ fn a_flush_of_stripes_without_writes_starts_no_thread(rt: HostRuntime) -> Result
     assert!(rt; flush(&rt, &mirror, &mut pass).is_ok());
     assert_eq!(rt; both.second.load(Ordering::SeqCst), 1);
     assert_eq!(rt; both.looks.load(Ordering::SeqCst), 20);
+    Ok(())
+}
+
+/// What the second stripe's steps tell the first stripe's leg: how many entries they were given, and
+/// how often the leg's calls looked.
+#[derive(Drop)]
+struct Told {
+    entries: AtomicU64,
+    looks: AtomicU64,
+}
+
+impl Told {
+    /// Nothing is held yet.
+    fn new() -> Self {
+        Told {
+            entries: AtomicU64::new(REGION),
+            looks: AtomicU64::new(0),
+        }
+    }
+}
+
+/// How many blocks a region has.
+const REGION: u64 = 4;
+
+/// Counts the reads and finished writes of the second stripe.
+#[derive(Drop)]
+struct CountEntries<'a> {
+    told: &'a Told,
+}
+
+impl Gate for CountEntries<'_> {
+    fn between(&self, place: &Place) {
+        if place.stripe == 1 && place.number.is_some() {
+            self.told.entries.fetch_add(1, Ordering::SeqCst);
+        }
+    }
+}
+
+/// Holds the calls of the first stripe's leg until the second stripe's blocks are done, so many
+/// looks at most.
+#[derive(Drop)]
+struct UntilDone<'a, R: Clock + Sync> {
+    rt: &'a R,
+    told: &'a Told,
+    is_first: bool,
+}
+
+impl<R: Clock + Sync> Hold for UntilDone<'_, R> {
+    fn is_held(&self) -> bool {
+        if !self.is_first || self.told.entries.load(Ordering::SeqCst) >= REGION {
+            return false;
+        }
+        if self.told.looks.fetch_add(1, Ordering::SeqCst) >= LOOKS as u64 {
+            return false;
+        }
+        sleep(self.rt, Duration::from_millis(1));
+        true
+    }
+}
+
+/// A mirror of two regions in two stripes, whose legs hold.
+type Holding<'a> = Mirror<HoldLeg<MemLeg, UntilDone<'a, HostRuntime>>, CountEntries<'a>>;
+
+/// The mirror, which holds once nothing is told.
+fn holding<'a>(rt: &'a HostRuntime, alloc: Global, told: &'a Told) -> Result<Holding<'a>, Fail> {
+    let mut legs = Vec::new(alloc);
+    for is_first in [true, false] {
+        let hold = UntilDone { rt, told, is_first };
+        let mut own = Vec::new(alloc);
+        own.push(HoldLeg::new(MemLeg::new(alloc, REGION)?, hold, LOOKS))?;
+        legs.push(own)?;
+    }
+    mirror_of(
+        alloc,
+        shape(2 * REGION, REGION, 2, 2, 1)?,
+        legs,
+        CountEntries { told },
+    )
+}
+
+// One piece after the other: the first call goes on after its last look, and the test fails.
+#[test]
+fn gate_two_pieces(rt: HostRuntime) -> Result<(), Fail> {
+    let alloc = rt.alloc();
+    let told = Told::new();
+    let mirror = holding(&rt, alloc, &told)?;
+    let mut pass = pass_of(&rt, alloc, &mirror)?;
+    told.entries.store(0, Ordering::SeqCst);
+    let payload = fill_bytes(alloc, 8 * 512, 7)?;
+    assert!(rt; write_at(&rt, alloc, &mirror, &mut pass, 0, payload).is_ok());
+    assert_eq!(rt; told.entries.load(Ordering::SeqCst), REGION);
+    assert!(rt; told.looks.load(Ordering::SeqCst) < LOOKS as u64);
+    Ok(())
+}
+
+// The same for a read.
+#[test]
+fn a_read_is_at_work_in_two_stripes_at_once(rt: HostRuntime) -> Result<(), Fail> {
+    let alloc = rt.alloc();
+    let told = Told::new();
+    let mirror = holding(&rt, alloc, &told)?;
+    let mut pass = pass_of(&rt, alloc, &mirror)?;
+    told.entries.store(0, Ordering::SeqCst);
+    let mut into = Vec::new(alloc);
+    into.resize(8 * 512, 255)?;
+    assert!(rt; read_at(&rt, &mirror, &mut pass, 0, &mut into).is_ok());
+    for byte in into.iter() {
+        assert_eq!(rt; *byte, 0);
+    }
+    assert_eq!(rt; told.entries.load(Ordering::SeqCst), REGION);
+    assert!(rt; told.looks.load(Ordering::SeqCst) < LOOKS as u64);
     Ok(())
 }

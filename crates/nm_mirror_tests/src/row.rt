@@ -6,15 +6,17 @@ use nm_lanes::{Cause, NoGate, WriteFault};
 use nm_leg::FuseLeg;
 use nm_mirror::{Mirror, Pass};
 use std::alloc::Global;
+use std::marker::Sync;
 use std::process::Abort;
 use std::sync::Wait;
 use std::test::Fail;
+use std::thread::Threads;
 
 /// An export of 2,050 blocks in regions of 128 and two stripes, with two legs.
 type Row = Mirror<FuseLeg, NoGate>;
 
 /// Writes whole blocks from this one on.
-fn write<R: Wait + Abort>(
+fn write<R: Threads + Wait + Sync + Abort>(
     rt: &R,
     alloc: Global,
     mirror: &Row,
@@ -29,7 +31,7 @@ fn write<R: Wait + Abort>(
 }
 
 /// Writes so many blocks of zeroes from this one on.
-fn zero<R: Wait + Abort>(
+fn zero<R: Threads + Wait + Sync + Abort>(
     rt: &R,
     mirror: &Row,
     pass: &mut Pass<FuseLeg>,
@@ -42,7 +44,7 @@ fn zero<R: Wait + Abort>(
 }
 
 /// Reads whole blocks from this one on.
-fn read<R: Wait + Abort>(
+fn read<R: Threads + Wait + Sync + Abort>(
     rt: &R,
     mirror: &Row,
     pass: &mut Pass<FuseLeg>,
@@ -56,7 +58,7 @@ fn read<R: Wait + Abort>(
 }
 
 /// Reads blocks 127 to 129, which are to hold these bytes.
-fn check_blocks<R: Wait + Abort>(
+fn check_blocks<R: Threads + Wait + Sync + Abort>(
     rt: &R,
     mirror: &Row,
     pass: &mut Pass<FuseLeg>,

@@ -1,4 +1,5 @@
 //! Four passes at once, while each leg in turn is taken out, joins again and is copied to.
+ghost use Rattle.std.specs.Thread.{IsSync};
 
 use crate::mirrors::{closed, in_sync, pass_of, read_at, shape, try_filled, write_at};
 use nm_lanes::{Gate, Place};
@@ -65,7 +66,7 @@ type Healing = Mirror<FuseLeg, Rising>;
 
 /// Writes a block with this byte, or reads one, each byte of which must be the same: whether the
 /// call succeeded.
-fn call<R: Wait + Abort>(
+fn call<R: Threads + Wait + Sync + Abort>(
     rt: &R,
     alloc: Global,
     mirror: &Healing,
@@ -86,7 +87,7 @@ fn call<R: Wait + Abort>(
 }
 
 /// A pass's calls: how many succeeded.
-fn calls<R: Wait + Abort>(
+fn calls<R: Threads + Wait + Sync + Abort>(
     rt: &R,
     alloc: Global,
     mirror: &Healing,
@@ -170,19 +171,33 @@ fn run<R: Threads + Wait + Abort + Sync>(
     let (healed, (one, (two, (three, four)))) = join(
         rt,
         || fail_in_turn(rt, alloc, mirror),
-        || {
+        || -> (u64, (u64, (u64, u64)))
+            requires { IsSync R.row }
+        {
             join(
                 rt,
-                || calls(rt, alloc, mirror, a, 1),
-                || {
+                || -> u64
+                    requires { IsSync R.row }
+                { calls(rt, alloc, mirror, a, 1) },
+                || -> (u64, (u64, u64))
+                    requires { IsSync R.row }
+                {
                     join(
                         rt,
-                        || calls(rt, alloc, mirror, b, 2),
-                        || {
+                        || -> u64
+                            requires { IsSync R.row }
+                        { calls(rt, alloc, mirror, b, 2) },
+                        || -> (u64, u64)
+                            requires { IsSync R.row }
+                        {
                             join(
                                 rt,
-                                || calls(rt, alloc, mirror, c, 3),
-                                || calls(rt, alloc, mirror, d, 4),
+                                || -> u64
+                                    requires { IsSync R.row }
+                                { calls(rt, alloc, mirror, c, 3) },
+                                || -> u64
+                                    requires { IsSync R.row }
+                                { calls(rt, alloc, mirror, d, 4) },
                             )
                         },
                     )

@@ -9,10 +9,10 @@ pub has-one-more : {A : Type 0} (is_pushed : Bool) (was now : List A) (one : A)
 has-one-more is_pushed was now one went pushed = rw went at pushed
 
 -- its own of the parts are one more too
-pub one-more : {A B : Type 0} (own : A → B) (was now : List A) (one : A) (all : List B) (index : ℕ)
+pub one-more : {A B : Type 0} (was now : List A) (one : A) (own : A → B) (all : List B) (index : ℕ)
     → now ≡ was ++ one ∷ [] → index < length all → map own was ≡ take index all
     → own one ≡ get_or all index (own one) → map own now ≡ take (index + 1) all
-one-more own was now one all index pushed inside so is =
+one-more was now one own all index pushed inside so is =
     rw pushed (map-append own was (one ∷ []) ∙ (ap (λ list. list ++ own one ∷ []) so
     ∙ (ap (λ last. take index all ++ last ∷ []) is ∙ sym (take_more all index (own one) inside))))
 
@@ -21,7 +21,7 @@ all-one P one here zero d inside = here
 all-one P one here (suc k) d inside = absurd (omega arith)
 
 -- what holds of each element, and of one more, holds of all
-pub all-more : {A : Type 0} (P : A → Type 0) (was now : List A) (one : A) → now ≡ was ++ one ∷ []
+pub all-more : {A : Type 0} (was now : List A) (one : A) (P : A → Type 0) → now ≡ was ++ one ∷ []
     → All P was → P one → All P now
-all-more P was now one pushed all here =
+all-more was now one P pushed all here =
     rw pushed (All-append P was (one ∷ []) all (all-one P one here))

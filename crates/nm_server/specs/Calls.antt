@@ -1,5 +1,5 @@
 -- What a session's calls do to a mirror, through a pass.
-use Rattle.std.specs.Prelude.{◌≡◌, ℕ, true, false, List, [], ◌∷◌, ◌++◌, length, Ok, Err, refl}
+use Rattle.std.specs.Prelude.{◌≡◌, ℕ, List, [], ◌∷◌, ◌++◌, length, Ok, Err, refl}
 use Rattle.std.proofs.Common.{◌∙◌}
 use Rattle.nm_geometry.specs.declared.byte_range.ByteRange.{ByteRange}
 use Rattle.nm_geometry.specs.declared.piece.Piece.{Piece}
@@ -7,16 +7,22 @@ use Rattle.nm_geometry.specs.Geometry.{Geometry}
 use Rattle.nm_geometry.specs.Pieces.{pieces_of}
 use Rattle.nm_lanes.specs.declared.cause.Cause.{Cause}
 use Rattle.nm_lanes.specs.Cuts.{cuts_for, zeroes_for}
+use Rattle.nm_lanes.specs.Flushes.{HasFlushed, HasFlushedSome, IsStripeOf, Touches}
 use Rattle.nm_lanes.specs.Reads.{HasRead, HasReadSome}
 use Rattle.nm_lanes.specs.Writes.{HasWritten, HasWrittenSome}
 use Rattle.nm_mirror.specs.Counting.{Follows}
 use Rattle.nm_part.specs.PartState.{PartState}
-use Rattle.nm_server.specs.declared.syncing.Synced.{Synced}
-use Rattle.nm_server.specs.declared.syncing.Synced.TheVariants.{All, Bytes}
-use Rattle.nm_server.specs.Syncing.{Parts, IsEven, HasSynced}
 use Rattle.nm_session.specs.declared.target_fault.TargetFault.TheVariants.{Memory, Io}
 use Rattle.nm_session.specs.Target.{Answer, TargetCall}
 use Rattle.nm_session.specs.Target.{Reads, Writes, Zeroes, Flushes, Syncs}
+
+-- the parts of a pass before a call, and after it
+abbrev pub Parts : Type 0
+Parts = List PartState × List PartState
+
+-- the pass has a part for each stripe of the shape
+abbrev pub IsEven : Geometry → Parts → Type 0
+IsEven shape parts = length parts.0 ≡ shape.stripes
 
 -- so many bytes from the offset on
 abbrev pub range_at : (offset length : ℕ) → ByteRange
@@ -45,11 +51,13 @@ Zero L shape pieces (Err Memory) parts = ⊥
 Zero L shape pieces (Err Io) parts =
     (cause : Cause) × HasWrittenSome {L = L} Follows shape (zeroes_for pieces) parts cause
 
--- a sync, which takes no memory
-abbrev pub Sync : (L : Type 0) → Geometry → Synced → Answer → Parts → Type 0
-Sync L shape synced (Ok done) parts = HasSynced L shape synced true parts
-Sync L shape synced (Err Memory) parts = ⊥
-Sync L shape synced (Err Io) parts = HasSynced L shape synced false parts
+-- a sync, which takes no memory: each leg was synced in each of these stripes; or in some of them,
+-- and then a step ended it
+abbrev pub Sync : (L : Type 0) → Geometry → (ℕ → Type 0) → Answer → Parts → Type 0
+Sync L shape Synced (Ok done) parts = HasFlushed {L = L} Follows shape.legs Synced parts
+Sync L shape Synced (Err Memory) parts = ⊥
+Sync L shape Synced (Err Io) parts =
+    (cause : Cause) × HasFlushedSome {L = L} Follows shape.legs Synced parts cause
 
 -- what a call does, answered so, where the pass has a part for each stripe
 abbrev pub Acts : (L : Type 0) → Geometry → TargetCall → Parts → Type 0
@@ -59,8 +67,9 @@ Acts L shape (Writes offset bytes answer) =
     Write L shape (pieces_of (range_at offset (length bytes))) bytes answer
 Acts L shape (Zeroes offset count answer) =
     Zero L shape (pieces_of (range_at offset count)) answer
-Acts L shape (Flushes answer) = Sync L shape All answer
-Acts L shape (Syncs offset count answer) = Sync L shape (Bytes (range_at offset count)) answer
+Acts L shape (Flushes answer) = Sync L shape (IsStripeOf shape) answer
+Acts L shape (Syncs offset count answer) =
+    Sync L shape (Touches shape (range_at offset count)) answer
 
 -- what a call was answered
 abbrev pub answer_of : TargetCall → Answer

@@ -6,9 +6,11 @@
 
 mod answering;
 mod control_port;
+mod file_calls;
 mod handshake_reader;
 mod hang_up;
 mod leg_files;
+mod mirror_calls;
 mod mirror_target;
 mod program;
 mod progress;
@@ -16,11 +18,11 @@ mod resync;
 mod session_places;
 mod sessions;
 mod start_fault;
-mod syncing;
 mod watched_file;
 
 pub use crate::answering::control;
+pub use crate::file_calls::FileCalls;
+pub use crate::mirror_calls::{MirrorCalls, ReadyMirror};
 pub use crate::mirror_target::MirrorTarget;
 pub use crate::program::start;
 pub use crate::start_fault::StartFault;
-pub use crate::syncing::{MirrorSync, ReadySync, Synced, Syncs};

@@ -4,16 +4,16 @@ ghost use Rattle.std.specs.Prelude.{IsSome, IfSome, IfOk};
 ghost use Rattle.nm_server.specs.Handshake.{HasGreeted};
 ghost use Rattle.nm_wire.specs.Export.{size_of};
 
+use crate::file_calls::FileCalls;
 use crate::handshake_reader::HandshakeReader;
 use crate::hang_up::HangUp;
 use crate::leg_files::{FileMirror, Leg};
+use crate::mirror_calls::{MirrorCalls, ReadyMirror};
 use crate::mirror_target::MirrorTarget;
 use crate::session_places::SessionPlaces;
-use crate::syncing::{MirrorSync, ReadySync, Syncs};
 use log::{Log, warn};
-use nm_lanes::Gate;
 use nm_leg::LegPart;
-use nm_mirror::{Mirror, Pass};
+use nm_mirror::Pass;
 use nm_replies::ReplyWriter;
 use nm_session::{ServeFault, SessionCore};
 use nm_wire::{Export, Name};
@@ -111,15 +111,12 @@ fn shake_hands<R: Wait + Clock>(
 
 // The mirror as a target through each of the passes. The first of them that ends, once the session
 // asks for nothing more, ends the read under way.
-fn targets_of<'a, R: Wait, L: LegPart, G: Gate + Drop, S: Syncs<L> + Drop>(
-    rt: &'a R,
+fn targets_of<'a, L, C: MirrorCalls<L> + Drop>(
     alloc: Global,
-    mirror: &'a Mirror<L, G>,
+    mirror: &'a ReadyMirror<L, C>,
     passes: &'a mut [Pass<L>],
-    sync: &'a ReadySync<L, S>,
     stream: &'a TcpStream,
-) -> Result<Vec<MirrorTarget<'a, R, L, G, S>>, ServeFault>
-    requires shape { sync.now ≡ mirror.now.shape }
+) -> Result<Vec<MirrorTarget<'a, L, C>>, ServeFault>
     ensures mirror { IfOk result (λ targets.
         All (λ target. target.mirror.now ≡ mirror.now) targets.items) }
     ensures passes { IfOk result (λ targets.
@@ -128,11 +125,8 @@ fn targets_of<'a, R: Wait, L: LegPart, G: Gate + Drop, S: Syncs<L> + Drop>(
     let mut targets = Vec::new(alloc);
     'passes: for pass in passes.iter_mut() {
         let target = MirrorTarget {
-            rt,
-            alloc,
             mirror,
             pass,
-            sync,
             hang_up: HangUp { stream },
         };
         if targets.push(target).is_err() {
@@ -143,23 +137,21 @@ fn targets_of<'a, R: Wait, L: LegPart, G: Gate + Drop, S: Syncs<L> + Drop>(
 }
 
 // Answers a client's requests until it asks for nothing more.
-fn answer_requests<R, L: LegPart + Send, G: Gate + Sync + Drop, S: Syncs<L> + Sync + Drop>(
+fn answer_requests<R, L: LegPart + Send, C: MirrorCalls<L> + Sync + Drop>(
     rt: &R,
     alloc: Global,
     stream: &TcpStream,
-    mirror: &Mirror<L, G>,
+    mirror: &ReadyMirror<L, C>,
     passes: &mut [Pass<L>],
-    sync: &ReadySync<L, S>,
     core: SessionCore,
     sender: ReplyWriter<&TcpStream>,
     lookout: &Lookout,
 ) -> Result<(), ServeFault>
 where
     R: Threads + Wait + Sync,
-    requires shape { sync.now ≡ mirror.now.shape }
-    requires size { size_of core.haggling.export ≤ 512 * mirror.now.shape.blocks }
+    requires size { size_of core.haggling.export ≤ 512 * mirror.now.blocks }
 {
-    let targets = targets_of(rt, alloc, mirror, passes, sync, stream)?;
+    let targets = targets_of(alloc, mirror, passes, stream)?;
     transmit(rt, alloc, core, stream, sender, targets, lookout).result?;
     Ok(())
 }
@@ -185,10 +177,8 @@ fn serve_client<R: Threads + Wait + Sync + Copy + Clock>(
     if !shake_hands(rt, alloc, stream, &mut core, &mut sender)? {
         return Ok(());
     }
-    let sync = ReadySync::new(MirrorSync { rt, mirror });
-    answer_requests(
-        rt, alloc, stream, mirror, passes, &sync, core, sender, lookout,
-    )
+    let ready = ReadyMirror::new(FileCalls { rt, alloc, mirror });
+    answer_requests(rt, alloc, stream, &ready, passes, core, sender, lookout)
 }
 
 /// Serves the clients that get this place, one after the other, until the places are closed. Their

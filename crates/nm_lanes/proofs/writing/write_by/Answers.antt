@@ -1,10 +1,13 @@
--- The pieces of a range that lies in the export are the export's.
-use Rattle.std.proofs.Common.{rules}
-use Rattle.nm_geometry.specs.Pieces.{LiesInside}
-use Rattle.nm_lanes.proofs.CutLemmas.{cuts-inside}
+-- The pieces of a range that lies in the export are a stretch.
+use Rattle.std.proofs.Common.{rules, ◌<◌, ◌^◌}
+use Rattle.nm_geometry.specs.Pieces.{LiesInside, end_of}
+use Rattle.nm_lanes.proofs.StretchLemmas.{cuts-stretch}
 use Rattle.nm_lanes.proofs.writing.write_by.Goals as goal
 
-pub write_all-requires-clause-inside : goal.write_all-requires-clause-inside
-write_all-requires-clause-inside g c =
-    let inside : LiesInside c.range_inside-range.result c.args.shape.now = search rules in
-    rw c.in-Ok.ensures.cuts (cuts-inside c.args.shape.now c.range_inside-range.result c.args.payload inside)
+pub put_all-requires-clause-stretch : goal.put_all-requires-clause-stretch
+put_all-requires-clause-stretch g c =
+    let range = c.range_inside-range.result in
+    let end : end_of range < 2 ^ 64 = search rules in
+    let inside : LiesInside range c.args.shape.now = search rules in
+    let all = cuts-stretch c.args.shape.now range c.pieces.result c.in-Ok.writes.items c.args.payload inside end c.pieces.ensures.pieces c.in-Ok.ensures.cuts in
+    search (rules, all)

@@ -1,6 +1,5 @@
 -- The target that was pushed is this mirror through the next pass.
 use Rattle.std.proofs.Common.{arith, ◌≡◌, ◌<◌, length, true, not, is_ok, refl, ap, ◌∙◌}
-use Rattle.nm_server.specs.declared.mirror_target.MirrorTarget.{MirrorTarget}
 use Rattle.nm_server.proofs.Pushing.{has-one-more, one-more, all-more}
 use Rattle.nm_server.proofs.sessions.targets_of.Goals as goal
 
@@ -12,13 +11,9 @@ passes-preserved g c =
     c.push.new.self.items _ went c.push.ensures.items in
     let inside : c.passes.pass-index < length c.args.passes.now = omega arith in
     record {
-      mirrors = all-more
-          (λ (target : MirrorTarget g.row.R.Denot g.row.L.Denot g.row.G.Denot g.row.S.Denot
-          g.L.LegPart g.S.Syncs). target.mirror.now ≡ c.args.mirror.now)
-          c.passes.targets.items c.push.new.self.items _ pushed c.passes.invariant.mirrors refl;
-      passes = one-more
-          (λ (target : MirrorTarget g.row.R.Denot g.row.L.Denot g.row.G.Denot g.row.S.Denot
-          g.L.LegPart g.S.Syncs). target.pass.now)
-          c.passes.targets.items c.push.new.self.items _ c.args.passes.now c.passes.pass-index
+      mirrors = all-more c.passes.targets.items c.push.new.self.items _
+          (λ target. target.mirror.now ≡ c.args.mirror.now) pushed c.passes.invariant.mirrors refl;
+      passes = one-more c.passes.targets.items c.push.new.self.items _
+          (λ target. target.pass.now) c.args.passes.now c.passes.pass-index
           pushed inside c.passes.invariant.passes c.passes-item.is;
     }

@@ -1,0 +1,86 @@
+-- A call's share of each lane: in other words, and behind what was done before.
+use Rattle.std.proofs.Common.{Result, Ok, Err, ◌≡◌, inl, inr, ℕ, suc, ◌+◌, ◌≤◌, ◌==◌, Bool, true, false, if◌then◌else◌, Some, List, [], ◌∷◌, ◌++◌, length, slice_get, refl, sym, ap, ◌∙◌, subst, append_assoc, arith}
+use Rattle.nm_lanes.specs.declared.cause.Cause.{Cause}
+use Rattle.nm_lanes.specs.declared.cause_kind.CauseKind.{CauseKind}
+use Rattle.nm_lanes.specs.Done.{Done}
+use Rattle.nm_lanes.specs.Ends.{BeganOwn, EachLane, LaneDid, LaneEnds, LaneTries}
+use Rattle.nm_lanes.specs.Lane.{LaneDoes}
+use Rattle.nm_lanes.specs.Lists.{MirrorStep, stripe_list, own_steps}
+use Rattle.nm_lanes.specs.Own.{helps, own_done, EndsSo}
+use Rattle.nm_lanes.specs.Rounds.{RunsLanes}
+use Rattle.nm_lanes.proofs.EachLemmas.{each-map}
+use Rattle.nm_lanes.proofs.LaneLemmas.{does-does, does-stops, stops-more}
+
+-- the own steps of a stripe's list are the stripe's own steps
+own-both : {L : Type 0} (help here : Bool) (x : MirrorStep L) (stripe : ℕ) (own : List (MirrorStep L)) (list : List (Done L)) → (x.stripe == stripe) ≡ here → helps x.done.step x.done.answer ≡ help → own_done list ≡ stripe_list stripe own
+    → own_done (if here then x.done ∷ list else list) ≡ stripe_list stripe (if help then own else x ∷ own)
+own-both true true x stripe own list at is same = rw is same
+own-both true false x stripe own list at is same = same
+own-both false true x stripe own list at is same = rw (is, at) (ap (λ ds. x.done ∷ ds) same)
+own-both false false x stripe own list at is same = rw at same
+
+pub own-list : {L : Type 0} (stripe : ℕ) (list : List (MirrorStep L)) → own_done (stripe_list stripe list) ≡ stripe_list stripe (own_steps list)
+own-list stripe [] = refl
+own-list stripe (x ∷ list) = own-both (helps x.done.step x.done.answer) (x.stripe == stripe) x stripe (own_steps list) (stripe_list stripe list) refl refl (own-list stripe list)
+
+module _ {L D : Type 0} (follows : D → List (Done L) → D → Type 0) where
+  pub did-share : (All Other : List (Done L) → Type 0) (old new : D) → ((own : List (Done L)) → All own → Other own) → LaneDid follows All old new → LaneDid follows Other old new
+  did-share All Other old new more a = record { own = a.own; all = more a.own a.all; does = a.does }
+
+  pub tries-share : (Share Other : List (Done L) → Type 0) (cause : Cause) (stripe : ℕ) (old new : D) → ((own : List (Done L)) → Share own → Other own) → LaneTries follows Share cause stripe old new → LaneTries follows Other cause stripe old new
+  tries-share Share Other cause stripe old new more a = record { own = a.own; share = more a.own a.share; did = a.did; ends = a.ends }
+
+  -- the same shares in other words
+  pub runs-share : {A : Type 0} (Share Other : ℕ → List (Done L) → Type 0) (first : ℕ) (xs us : List D) (result : Result A Cause) → ((stripe : ℕ) → first ≤ stripe → (own : List (Done L)) → Share stripe own → Other stripe own)
+      → RunsLanes follows Share Share first (xs, us) result → RunsLanes follows Other Other first (xs, us) result
+  runs-share Share Other first xs us (Ok done) more a =
+      each-map (λ stripe old new. LaneDid follows (Share stripe) old new) (λ stripe old new. LaneDid follows (Other stripe) old new) first xs us (λ stripe old new from upto did. did-share (Share stripe) (Other stripe) old new (more stripe from) did) a
+  runs-share Share Other first xs us (Err cause) more a = record {
+    from = a.from;
+    upto = a.upto;
+    each = each-map (λ stripe old new. LaneTries follows (Share stripe) cause stripe old new) (λ stripe old new. LaneTries follows (Other stripe) cause stripe old new) first xs us
+        (λ stripe old new from upto tries. tries-share (Share stripe) (Other stripe) cause stripe old new (more stripe from) tries) a.each;
+  }
+
+  -- what was done on each lane, and then something else
+  pub each-behind : (Goes Later All : ℕ → D → D → Type 0) (first : ℕ) (olds mids news : List D) → ((stripe : ℕ) (old mid new : D) → Goes stripe old mid → Later stripe mid new → All stripe old new)
+      → length mids ≡ length olds → ((number : ℕ) (old mid : D) → slice_get olds number ≡ Some old → slice_get mids number ≡ Some mid → Goes (first + number) old mid) → EachLane Later first mids news → EachLane All first olds news
+  each-behind Goes Later All first [] [] [] both long a b = tt
+  each-behind Goes Later All first (old ∷ olds) (mid ∷ mids) (new ∷ news) both long a b =
+      let here : first + 0 ≡ first = omega arith in (
+        both first old mid new (subst (λ (n : ℕ). Goes n old mid) here (a 0 old mid refl refl)) b.0,
+        each-behind Goes Later All (first + 1) olds mids news both (omega (arith, long))
+            (λ number before after was is. let next : first + suc number ≡ first + 1 + number = omega arith in subst (λ (n : ℕ). Goes n before after) next (a (suc number) before after was is)) b.1,
+      )
+  each-behind Goes Later All first [] [] (new ∷ news) both long a b = absurd b
+  each-behind Goes Later All first [] (mid ∷ mids) news both long a b = absurd (omega (arith, long))
+  each-behind Goes Later All first (old ∷ olds) [] news both long a b = absurd (omega (arith, long))
+  each-behind Goes Later All first (old ∷ olds) (mid ∷ mids) [] both long a b = absurd b
+
+module _ {L D : Type 0} (follows : D → List (Done L) → D → Type 0)
+    (joins : (first mid last : D) (before after : List (Done L)) → follows first before mid → follows mid after last → follows first (before ++ after) last) where
+  -- steps on a lane, and then the end of the call
+  began-behind : (xs ys : List (Done L)) (ticket : ℕ) → BeganOwn ys ticket → BeganOwn (xs ++ ys) ticket
+  began-behind xs ys ticket a = record {
+    before = xs ++ a.before;
+    last = a.last;
+    own_is = ap (λ zs. xs ++ zs) a.own_is ∙ sym (append_assoc xs a.before (a.last ∷ []));
+    begun = a.begun;
+  }
+
+  ends-behind : (old mid new : D) (xs ys : List (Done L)) (kind : CauseKind) → LaneDoes follows old mid xs → LaneEnds follows (mid, new) ys kind → LaneEnds follows (old, new) (xs ++ ys) kind
+  ends-behind old mid new xs ys kind a b =
+      stops-more follows old new (xs ++ ys) (BeganOwn ys) (BeganOwn (xs ++ ys)) kind (λ ticket was. began-behind xs ys ticket was) (does-stops follows joins old mid new xs ys (EndsSo (BeganOwn ys) kind) a b)
+
+  -- all of one share, and then some of another
+  pub tries-behind : (All Share Whole : List (Done L) → Type 0) (cause : Cause) (stripe : ℕ) (old mid new : D) → ((first second : List (Done L)) → All first → Share second → Whole (first ++ second))
+      → LaneDid follows All old mid → LaneTries follows Share cause stripe mid new → LaneTries follows Whole cause stripe old new
+  tries-behind All Share Whole cause stripe old mid new both a b = record {
+    own = a.own ++ b.own;
+    share = both a.own b.own a.all b.share;
+    did = elim b.did [
+      | inl does ↦ inl (does-does follows joins old mid new a.own b.own a.does does)
+      | inr ends ↦ inr (ends.0, ends-behind old mid new a.own b.own ends.0 a.does ends.1)
+    ];
+    ends = λ same. ends-behind old mid new a.own b.own cause.kind a.does (b.ends same);
+  }

@@ -1,0 +1,278 @@
+//! Reads of pieces in rounds: those of up to 8 stripes side by side.
+ghost use Rattle.std.specs.Prelude.{◌≡◌, ◌+◌, ◌≤◌, ◌<◌, ◌++◌, ◌^◌, length, IfErr, IfOk, OnOk};
+ghost use Rattle.std.specs.Thread.{IsSend, IsSync};
+ghost use Rattle.nm_geometry.specs.Geometry.{IsGeometry};
+ghost use Rattle.nm_geometry.specs.Pieces.{end_of};
+ghost use Rattle.nm_lanes.specs.Ends.{LaneDid, LaneTries};
+ghost use Rattle.nm_lanes.specs.Gets.{bytes_of, pieces_in_stretch, IsReadStretch, ReadsInto, ReadsLanes};
+ghost use Rattle.nm_lanes.specs.Gets.{ReadsNext};
+ghost use Rattle.nm_lanes.specs.Lists.{steps_in};
+ghost use Rattle.nm_lanes.specs.Puts.{block_of, IsRun};
+ghost use Rattle.nm_lanes.specs.Reads.{HasRead, HasReadSome, ReadsSome};
+
+use crate::call::{Call, within_bounds};
+use crate::cause::Cause;
+use crate::cause_kind::CauseKind;
+use crate::gate::Gate;
+use crate::lane::Lane;
+use crate::putting::{halves, next_run};
+use crate::run::Run;
+use crate::stretch::Stretch;
+use nm_geometry::Shape;
+use nm_leg::LegPart;
+use nm_replay::BLOCK_BYTES;
+use std::marker::{Send, Sync};
+use std::sync::Wait;
+use std::thread::{Threads, join_mut};
+
+/// How many bytes the first pieces of a stretch have, so many of them.
+fn bytes_of(shape: &Shape, stretch: Stretch, count: u64) -> usize
+    requires end { end_of stretch.range < 2 ^ 64 }
+    requires blocks { block_of stretch + count ≤ shape.now.blocks }
+    ensures { result ≡ bytes_of stretch count }
+{
+    within_bounds(shape);
+    let start = stretch.block() * BLOCK_BYTES as u64;
+    let end = stretch.range.offset + stretch.range.length;
+    let skipped = stretch.range.offset.saturating_sub(start);
+    let upto = end.saturating_sub(start).min(count * BLOCK_BYTES as u64);
+    upto.saturating_sub(skipped) as usize
+}
+
+/// Reads one piece of a stripe after the other.
+fn get_lane<L: LegPart, K, D: Lane<L, K>, R: Wait, G: Gate>(
+    call: &Call<'_, R, G, K>,
+    run: Run,
+    lane: &mut D,
+    into: &mut [u8],
+) -> Result<(), CauseKind>
+    requires locks { length call.now.locks.now ≡ call.now.shape.now.stripes }
+    requires stretch { IsReadStretch call.now.shape.now run.stretch (length into.old) }
+    requires run { IsRun call.now.shape.now 1 run }
+    ensures ok { OnOk result (LaneDid D.follows (λ own. ReadsInto call.now.shape.now
+        (pieces_in_stretch run.stretch) into.new (steps_in run.stripe own)) lane.old lane.new) }
+    ensures err { IfErr result (λ kind. LaneTries D.follows (λ own. ReadsSome
+        call.now.shape.now (pieces_in_stretch run.stretch) (steps_in run.stripe own))
+        (record { stripe = run.stripe; kind = kind }) run.stripe lane.old lane.new) }
+{
+    let shape = call.shape;
+    within_bounds(shape);
+    for at in 0..run.stretch.count {
+        let piece = run.stretch.range.piece(run.stretch.first + at);
+        let block = shape.block_in_stripe(piece.block);
+        let site = call.site(run.stripe, Some(block));
+        let from = bytes_of(shape, run.stretch, at);
+        let to = from + piece.len as usize;
+        site.read_one(lane, block, piece.from, &mut into[from..to])?;
+    }
+    Ok(())
+}
+
+/// Reads the pieces of this stripe, whose lane stands alone.
+fn get_one<L: LegPart, K, D: Lane<L, K>, R: Wait, G: Gate>(
+    call: &Call<'_, R, G, K>,
+    run: Run,
+    lanes: &mut [D],
+    into: &mut [u8],
+) -> Result<(), Cause>
+    requires one { length lanes.old ≡ 1 }
+    requires locks { length call.now.locks.now ≡ call.now.shape.now.stripes }
+    requires stretch { IsReadStretch call.now.shape.now run.stretch (length into.old) }
+    requires run { IsRun call.now.shape.now (length lanes.old) run }
+    ensures reads { ReadsLanes D.follows call.now.shape.now (pieces_in_stretch run.stretch)
+        run.stripe (lanes.old, lanes.new) into.new result }
+{
+    within_bounds(call.shape);
+    match get_lane(call, run, &mut lanes[0], into) {
+        Ok(()) => Ok(()),
+        Err(kind) => Err(Cause {
+            stripe: run.stripe,
+            kind,
+        }),
+    }
+}
+
+/// Reads the pieces of the stripes of these lanes.
+///
+/// Halves that have a region's blocks each, or more, go side by side. Else one follows the other,
+/// since a thread costs more than a few blocks.
+#[cycle(get)]
+fn get_round<
+    L: LegPart + Send,
+    K: Sync,
+    D: Lane<L, K> + Send,
+    R: Threads + Wait + Sync,
+    G: Gate + Sync,
+>(call: &Call<'_, R, G, K>, run: Run, lanes: &mut [D], into: &mut [u8]) -> Result<(), Cause>
+    requires some { 0 < length lanes.old }
+    requires locks { length call.now.locks.now ≡ call.now.shape.now.stripes }
+    requires stretch { IsReadStretch call.now.shape.now run.stretch (length into.old) }
+    requires run { IsRun call.now.shape.now (length lanes.old) run }
+    ensures reads { ReadsLanes D.follows call.now.shape.now (pieces_in_stretch run.stretch)
+        run.stripe (lanes.old, lanes.new) into.new result }
+{
+    if lanes.len() == 1 {
+        return get_one(call, run, lanes, into);
+    }
+    let shape = call.shape;
+    let half = lanes.len() / 2;
+    let (low, high) = halves(shape, run, lanes.len(), half);
+    let (front, back) = lanes.split_at_mut(half);
+    let (own, rest) = into.split_at_mut(bytes_of(shape, run.stretch, low.stretch.count));
+    let least = shape.region;
+    if low.stretch.count >= least && high.stretch.count >= least {
+        return get_both(call, low, front, own, high, back, rest);
+    }
+    get_in_turn(call, low, front, own, high, back, rest)
+}
+
+/// Does both halves of a round, one after the other. Of two causes it is the lower stripe's.
+#[cycle(get)]
+fn get_in_turn<
+    L: LegPart + Send,
+    K: Sync,
+    D: Lane<L, K> + Send,
+    R: Threads + Wait + Sync,
+    G: Gate + Sync,
+>(
+    call: &Call<'_, R, G, K>,
+    low: Run,
+    front: &mut [D],
+    own: &mut [u8],
+    high: Run,
+    back: &mut [D],
+    rest: &mut [u8],
+) -> Result<(), Cause>
+    requires locks { length call.now.locks.now ≡ call.now.shape.now.stripes }
+    requires some { (0 < length front.old) × (0 < length back.old) }
+    requires low { IsReadStretch call.now.shape.now low.stretch (length own.old)
+        × IsRun call.now.shape.now (length front.old) low }
+    requires high { IsReadStretch call.now.shape.now high.stretch (length rest.old)
+        × IsRun call.now.shape.now (length back.old) high }
+    requires next { high.stripe ≡ low.stripe + length front.old }
+    ensures reads { ReadsLanes D.follows call.now.shape.now
+        (pieces_in_stretch low.stretch ++ pieces_in_stretch high.stretch) low.stripe
+        (front.old ++ back.old, front.new ++ back.new) (own.new ++ rest.new) result }
+{
+    within_bounds(call.shape);
+    let lower = get_round(call, low, front, own);
+    let upper = get_round(call, high, back, rest);
+    match lower {
+        Ok(()) => upper,
+        Err(cause) => Err(cause),
+    }
+}
+
+/// Does both halves of a round, side by side. Of two causes it is the lower stripe's.
+#[cycle(get)]
+fn get_both<
+    L: LegPart + Send,
+    K: Sync,
+    D: Lane<L, K> + Send,
+    R: Threads + Wait + Sync,
+    G: Gate + Sync,
+>(
+    call: &Call<'_, R, G, K>,
+    low: Run,
+    front: &mut [D],
+    own: &mut [u8],
+    high: Run,
+    back: &mut [D],
+    rest: &mut [u8],
+) -> Result<(), Cause>
+    requires locks { length call.now.locks.now ≡ call.now.shape.now.stripes }
+    requires some { (0 < length front.old) × (0 < length back.old) }
+    requires low { IsReadStretch call.now.shape.now low.stretch (length own.old)
+        × IsRun call.now.shape.now (length front.old) low }
+    requires high { IsReadStretch call.now.shape.now high.stretch (length rest.old)
+        × IsRun call.now.shape.now (length back.old) high }
+    requires next { high.stripe ≡ low.stripe + length front.old }
+    ensures reads { ReadsLanes D.follows call.now.shape.now
+        (pieces_in_stretch low.stretch ++ pieces_in_stretch high.stretch) low.stripe
+        (front.old ++ back.old, front.new ++ back.new) (own.new ++ rest.new) result }
+{
+    within_bounds(call.shape);
+    let mut below = || -> Result<(), Cause>
+        requires { IsSync R.row × IsSync G.row × IsSync K.row × IsSend D.row
+            × (0 < length front.now)
+            × (length call.now.locks.now ≡ call.now.shape.now.stripes)
+            × IsReadStretch call.now.shape.now low.stretch (length own.now)
+            × IsRun call.now.shape.now (length front.now) low }
+        ensures { ReadsLanes D.follows call.entry.now.shape.now (pieces_in_stretch low.stretch) low.stripe
+            (front.entry.now, front.exit.now) own.exit.now result }
+    { get_round(call, low, front, own) };
+    let mut above = || -> Result<(), Cause>
+        requires { IsSync R.row × IsSync G.row × IsSync K.row × IsSend D.row
+            × (0 < length back.now)
+            × (length call.now.locks.now ≡ call.now.shape.now.stripes)
+            × IsReadStretch call.now.shape.now high.stretch (length rest.now)
+            × IsRun call.now.shape.now (length back.now) high }
+        ensures { ReadsLanes D.follows call.entry.now.shape.now (pieces_in_stretch high.stretch)
+            high.stripe (back.entry.now, back.exit.now) rest.exit.now result }
+    { get_round(call, high, back, rest) };
+    let (lower, upper) = join_mut(call.rt, &mut below, &mut above);
+    match lower {
+        Ok(()) => upper,
+        Err(cause) => Err(cause),
+    }
+}
+
+/// Reads the pieces of the next round into the front of the target, and tells how many they are.
+fn get_next<
+    L: LegPart + Send,
+    K: Sync,
+    D: Lane<L, K> + Send,
+    R: Threads + Wait + Sync,
+    G: Gate + Sync,
+>(
+    call: &Call<'_, R, G, K>,
+    stretch: Stretch,
+    lanes: &mut [D],
+    into: &mut [u8],
+) -> Result<u64, Cause>
+    requires locks { length call.now.locks.now ≡ call.now.shape.now.stripes }
+    requires lanes { length lanes.old ≡ call.now.shape.now.stripes }
+    requires stretch { IsReadStretch call.now.shape.now stretch (length into.old) }
+    requires some { 0 < stretch.count }
+    ensures ok { IfOk result (ReadsNext D.follows call.now.shape.now stretch
+        (lanes.old, lanes.new) into.new) }
+    ensures err { IfErr result (HasReadSome D.follows call.now.shape.now
+        (pieces_in_stretch stretch) (lanes.old, lanes.new)) }
+{
+    let (run, stripes) = next_run(call.shape, stretch);
+    let done = run.stretch.count;
+    let (_, rest) = lanes.split_at_mut(run.stripe as usize);
+    let (round, _) = rest.split_at_mut(stripes as usize);
+    let (own, _) = into.split_at_mut(bytes_of(call.shape, stretch, done));
+    match get_round(call, run, round, own) {
+        Ok(()) => Ok(done),
+        Err(cause) => Err(cause),
+    }
+}
+
+/// Reads all pieces of a stretch, in rounds. After a round in which a stripe could not go on comes no
+/// other.
+pub(crate) fn get_all<
+    L: LegPart + Send,
+    K: Sync,
+    D: Lane<L, K> + Send,
+    R: Threads + Wait + Sync,
+    G: Gate + Sync,
+>(call: &Call<'_, R, G, K>, stretch: Stretch, lanes: &mut [D], into: &mut [u8]) -> Result<(), Cause>
+    requires locks { length call.now.locks.now ≡ call.now.shape.now.stripes }
+    requires lanes { length lanes.old ≡ call.now.shape.now.stripes }
+    requires stretch { IsReadStretch call.now.shape.now stretch (length into.old) }
+    ensures ok { OnOk result (HasRead D.follows call.now.shape.now
+        (pieces_in_stretch stretch) (lanes.old, lanes.new) into.new) }
+    ensures err { IfErr result (HasReadSome D.follows call.now.shape.now
+        (pieces_in_stretch stretch) (lanes.old, lanes.new)) }
+{
+    let mut left = stretch;
+    let mut taken = 0;
+    while left.count > 0 {
+        let done = get_next(call, left, lanes, &mut into[taken..])?;
+        taken += bytes_of(call.shape, left, done);
+        left = left.rest_of(done);
+    }
+    Ok(())
+}
