@@ -68,6 +68,19 @@ wait_for_copy() {
     "$ctl" watch --interval 0.2 > /dev/null || fail "the copy does not end"
 }
 
+# Takes leg 1 out in the midst of a client's work, where there is a leg 1.
+lose_leg() {
+    [ "$legs" -lt 2 ] || "$ctl" fail 1 > "$room/told" || fail "leg 1 does not go out: $(cat "$room/told")"
+}
+
+# Attaches leg 1 again, where there is one. It must lack something: a client has written meanwhile.
+attach_leg() {
+    [ "$legs" -ge 2 ] || return 0
+    "$ctl" attach 1 > "$room/told" || fail "leg 1 is not attached: $(cat "$room/told")"
+    grep -q '^attach 1: joining [1-9][0-9]* left [1-9]' "$room/told" ||
+        fail "leg 1 has missed nothing: $(cat "$room/told")"
+}
+
 # Ends the server, which must end with status 0.
 stop() {
     "$ctl" quit > /dev/null || fail "quit is not answered"
