@@ -21,7 +21,7 @@ use Rattle.nm_fanout.proofs.Owed.{tells}
 use Rattle.nm_fanout.proofs.InOrder.{AreInOrder-with_new}
 use Rattle.nm_fanout.proofs.Landing.{waits, unlanded-with_new, unlanded-numbered}
 use Rattle.nm_fanout.proofs.Leaving.{mapped_to, mapped-step, length-mapped_to, AreInOrder-left_by, unlanded-left_by}
-use Rattle.nm_fanout.proofs.Counts.{holds_among}
+use Rattle.nm_fanout.proofs.Busy.{holds_among}
 use Rattle.nm_fanout.proofs.Places.{FindsPlace, IsAt-own, set-at, tickets-rise as record_tickets-rise, no-place}
 use Rattle.nm_fanout.proofs.Tickets.{find_record-at}
 use Rattle.nm_fanout.proofs.Counted.{found-own, reached-counted, numbered-counted, claimed-counted}

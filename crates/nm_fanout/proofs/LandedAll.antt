@@ -100,28 +100,6 @@ none_to_land next [] h = (refl, refl, refl)
 none_to_land next (r ∷ rs) h = landed_all-none next (r ∷ rs) r (λ k lt. fails_before_first
     (λ (x : Record). is_none x.entry) (r ∷ rs) k r (grind (arith, common_steps)))
 
-numbered : (next i : ℕ) (r : Record) (rs : List Record) (p : ℕ × Record)
-    → ((k : ℕ) → slice_get (landings (next + 1) rs) k ≡ Some p → p.0 ≡ next + 1 + k)
-    → slice_get ((next, r) ∷ landings (next + 1) rs) i ≡ Some p → p.0 ≡ next + i
-numbered next zero r rs p later h =
-    let e : (next, r) ≡ p = cc in
-    let is : next ≡ p.0 = ap (λ (q : ℕ × Record). q.0) e in omega (arith, is)
-numbered next (suc i) r rs p later h = omega (arith, later i h)
-
--- a record after all landed: as it was if it had its entry, else with one of the next numbers
-abbrev pub LandedAs : ℕ → ℕ → Record → Record → Type 0
-LandedAs next count r new =
-    ((is_none r.entry ≡ false) × (new ≡ r))
-    ⊎ ((number : ℕ)
-    × (next ≤ number) × (number < next + count) × (r.entry ≡ None) × (new ≡ with_entry number r))
-
--- what a test that takes no note of entries finds after all landed
-pub record FoundLanded (test : Record → Bool) (next : ℕ) (rs : List Record) (r : Record)
-    : Type 0 where
-  pub now : Record
-  pub found : find test (landed_all next rs) ≡ Some now
-  pub is : LandedAs next (unlanded rs) r now
-
 skipped : (test : Record → Bool) (r : Record) (o : Option Record)
     → cond (test r) (Some r) o ≡ None → (test r ≡ false) × (o ≡ None)
 skipped test r o h =
@@ -141,18 +119,6 @@ find-landed_all_none test same next (r ∷ rs) h =
       | inl w ↦ rw (w, same next r, skip.0) (find-landed_all_none test same (next + 1) rs skip.1)
       | inr w ↦ rw (w, skip.0) (find-landed_all_none test same next rs skip.1)
     ]
-
--- fewer are left to land after one more number, or as many after a record with its entry
-later : (next m n : ℕ) (r new : Record) → m + 1 ≡ n → LandedAs (next + 1) m r new
-    → LandedAs next n r new
-later next m n r new less (inl k) = inl k
-later next m n r new less (inr k) = inr (
-  k.0,
-  omega (arith, k.1),
-  omega (arith, k.2, less),
-  k.3,
-  k.4,
-)
 
 pub busy_on-landed_all_none : (next b : ℕ) (rs : List Record) → busy_on b rs ≡ None
     → busy_on b (landed_all next rs) ≡ None

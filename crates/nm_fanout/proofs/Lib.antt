@@ -11,7 +11,6 @@ pub mod Counted
 pub mod Members
 pub mod Leaving
 pub mod LandedAll
-pub mod Counts
 pub mod Storing
 pub mod Indexed
 pub mod DataLemmas

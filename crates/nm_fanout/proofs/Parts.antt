@@ -1,8 +1,7 @@
 -- A record that is found splits the list into the records before it and those after it. Every change
 -- of that record leaves both, so a fact about the list is a fact about three parts.
-use Rattle.std.proofs.Common.{◌≡◌, ℕ, ◌+◌, suc, List, [], ◌∷◌, ◌++◌, length, Some, refl, ap, ◌∙◌, subst, arith, inl, inr}
+use Rattle.std.proofs.Common.{◌≡◌, ℕ, ◌+◌, suc, List, [], ◌∷◌, ◌++◌, length, Some, refl, ap, ◌∙◌, subst, inl, inr}
 use Rattle.std.proofs.lemmas.Bool.Decides.{eqb_tells}
-use Rattle.std.proofs.lemmas.List.{length-append}
 use Rattle.nm_fanout.specs.declared.write_record.Record.{Record}
 use Rattle.nm_fanout.specs.Records.{Ascends, AllAbove, find_record, changed, without}
 use Rattle.nm_fanout.proofs.Tickets.{changed-above, without-above}
@@ -49,14 +48,3 @@ pub length-changed : (f : Record → Record) (t : ℕ) (rs : List Record)
     → length (changed f t rs) ≡ length rs
 length-changed f t [] = refl
 length-changed f t (r ∷ rs) = ap (λ n. suc n) (length-changed f t rs)
-
--- a claim takes one of them
-pub length-without : (t : ℕ) (rs : List Record) (x : Record) → Ascends rs
-    → find_record t rs ≡ Some x → length (without t rs) + 1 ≡ length rs
-length-without t rs x h found =
-    let p = parts t rs x h found in
-    let a : length (without t rs) ≡ length p.older + length p.newer = ap
-    (λ (l : List Record). length l) p.rest ∙ length-append p.older p.newer in
-    let b : length rs ≡ length p.older + length (x ∷ p.newer) = ap (λ (l : List Record). length l)
-    p.whole ∙ length-append p.older (x ∷ p.newer) in
-    omega (arith, a, b)

@@ -25,17 +25,9 @@ is_among first count block = nat_le first block && nat_lt block (first + count)
 abbrev pub busy_among : ℕ → ℕ → List Record → Option Record
 busy_among first count list = find (λ r. is_among first count r.block && is_under_way r) list
 
--- how many records are under way on the blocks that pass this test
-abbrev pub busy_count : (ℕ → Bool) → List Record → ℕ
-busy_count test list = count_by (λ r. test r.block && is_under_way r) list
-
 -- whether some write is under way
 abbrev pub any_under_way : List Record → Bool
 any_under_way list = list_any is_under_way list
-
--- the number of the entry of this ticket's write
-abbrev pub entry_of : ℕ → List Record → Option ℕ
-entry_of ticket list = option_and_then (λ r. r.entry) (find_record ticket list)
 
 -- the record of this ticket is at this place
 pub record IsAt (ticket place : ℕ) (list : List Record) : Type 0 where

@@ -5,7 +5,7 @@ use Rattle.nm_file_leg.specs.Medium.{window, spliced, ReadsMedium, WritesMedium}
 use Rattle.nm_file_leg.specs.Media.{steady}
 use Rattle.nm_file_leg.proofs.WindowLemmas.{window-none, window-spliced, window-apart}
 
--- a read behind the end finds nothing
+-- a read past the end finds nothing
 pub reads-none : {E : Type 0} (at : ℕ) (bytes filled : List ℕ) → ReadsMedium {E = E} true (Ok 0) at (steady bytes) (steady bytes) filled
 reads-none at bytes filled = record {
   bound = omega arith;
@@ -13,7 +13,7 @@ reads-none at bytes filled = record {
   same = λ _. refl;
 }
 
--- a write behind the end writes nothing
+-- a write past the end writes nothing
 pub writes-none : {E : Type 0} (at : ℕ) (bytes held : List ℕ) → WritesMedium {E = E} true (Ok 0) at bytes (steady held) (steady held)
 writes-none at bytes held = record {
   written = λ _. window-none at held;

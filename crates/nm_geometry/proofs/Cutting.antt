@@ -6,7 +6,7 @@ use Rattle.nm_geometry.specs.declared.byte_range.ByteRange.{ByteRange}
 use Rattle.nm_geometry.specs.Pieces.{end_of, stop_of, touched, piece_in, pieces_from, pieces_of, IsPieceAt, Cuts}
 use Rattle.nm_geometry.specs.PieceLaws.{AreByNumber}
 
--- what a range has of a block is not empty: it begins before the block's end, and ends behind the
+-- what a range has of a block is not empty: it begins before the block's end, and ends after the
 -- block's beginning
 record Meets (block : ℕ) (range : ByteRange) : Type 0 where
   some : range.offset < end_of range
@@ -84,7 +84,7 @@ record Span (more : ℕ) (range : ByteRange) : Type 0 where
   stops : end_of range ≤ 512 * (range.offset / 512 + more + 1)
   from : goes_from (range.offset / 512) range ≡ range.offset
 
--- how many blocks a range touches behind its first
+-- how many blocks a range touches after its first
 abbrev further : ByteRange → ℕ
 further range = (end_of range - 1) / 512 - range.offset / 512
 

@@ -1,17 +1,17 @@
 -- A payload, cut at one piece more at a time.
-use Rattle.std.proofs.Common.{◌≡◌, ℕ, zero, suc, ◌+◌, ◌-◌, ◌/◌, ◌≤◌, ◌<◌, ◌==◌, inl, inr, false, List, [], ◌∷◌, ◌++◌, length, min, take, drop, refl, sym, ap, ◌∙◌, arith, pos_of_ne-zero}
+use Rattle.std.proofs.Common.{◌≡◌, ℕ, ◌+◌, ◌-◌, ◌/◌, ◌≤◌, ◌<◌, ◌==◌, inl, inr, false, List, [], ◌∷◌, ◌++◌, length, min, take, drop, refl, sym, ap, ◌∙◌, arith, pos_of_ne-zero}
 use Rattle.std.proofs.lemmas.Bool.Decides.{eqb_tells}
 use Rattle.std.proofs.lemmas.List.{length-drop}
 use Rattle.nm_fanout.specs.declared.block_data.Data.{Data}
 use Rattle.nm_geometry.specs.declared.piece.Piece.{Piece}
 use Rattle.nm_geometry.specs.declared.byte_range.ByteRange.{ByteRange}
 use Rattle.nm_geometry.specs.Geometry.{Geometry}
-use Rattle.nm_geometry.specs.Pieces.{LiesInside, end_of, touched, piece_at, piece_in, pieces_from, pieces_of, bytes_before}
+use Rattle.nm_geometry.specs.Pieces.{LiesInside, end_of, touched, piece_at, pieces_from, bytes_before}
 use Rattle.nm_lanes.specs.declared.piece_write.PieceWrite.{PieceWrite}
-use Rattle.nm_lanes.specs.Cuts.{cut_for, cuts_for, EachInside}
+use Rattle.nm_lanes.specs.Cuts.{cut_for, cuts_for}
 use Rattle.nm_lanes.proofs.PieceLemmas.{touched-inside, done-before, done-behind, pieces-one}
 
--- what is left of the payload behind these pieces
+-- what is left of the payload after these pieces
 abbrev pub drop_pieces : List Piece → List ℕ → List ℕ
 drop_pieces [] payload = payload
 drop_pieces (piece ∷ pieces) payload = drop_pieces pieces (drop piece.len payload)
@@ -55,12 +55,6 @@ pub cut-next : (range : ByteRange) (payload : List ℕ) (number : ℕ) (writes i
 cut-next range payload number writes items rest cut behind piece bytes inside a is_piece is_cut is_behind is_bytes is_items =
     rw (is_items, is_bytes, is_cut, is_behind, is_piece) (cut-more range payload number writes rest inside a)
 
--- the blocks of a range that lies in the export are the export's
-inside-from : (shape : Geometry) (range : ByteRange) (payload : List ℕ) (block count : ℕ) → block + count ≤ shape.blocks → EachInside shape (cuts_for (pieces_from block count range) payload)
-inside-from shape range payload block zero fits = tt
-inside-from shape range payload block (suc more) fits =
-    (omega (arith, fits), inside-from shape range (drop (piece_in block range).len payload) (block + 1) more (omega (arith, fits)))
-
 pub touched-fits : (shape : Geometry) (range : ByteRange) → LiesInside range shape → range.offset / 512 + touched range ≤ shape.blocks
 touched-fits shape range inside = elim (eqb_tells range.length 0) [
   | inl none ↦ rw none.0 (omega (arith, inside))
@@ -69,6 +63,3 @@ touched-fits shape range inside = elim (eqb_tells range.length 0) [
   where
     full : (range.length == 0) ≡ false → 0 < range.length → range.offset / 512 + touched range ≤ shape.blocks
     full much some = let upto : touched range ≡ (end_of range - 1) / 512 - range.offset / 512 + 1 = rw much refl in omega (arith, upto, some, inside)
-
-pub cuts-inside : (shape : Geometry) (range : ByteRange) (payload : List ℕ) → LiesInside range shape → EachInside shape (cuts_for (pieces_of range) payload)
-cuts-inside shape range payload inside = inside-from shape range payload (range.offset / 512) (touched range) (touched-fits shape range inside)

@@ -1,4 +1,4 @@
--- Rounds of reads, one behind the other.
+-- Rounds of reads, one after the other.
 use Rattle.std.proofs.Common.{◌≡◌, inl, ℕ, ◌+◌, ◌-◌, ◌≤◌, Some, List, [], ◌++◌, length, take, drop, slice_get, refl, sym, ap, ◌∙◌, subst, append_assoc, rules, arith}
 use borrow.Rule.Slice.PartMut.{put_mid}
 use Rattle.std.proofs.Math.Seq.{take-append-add}
@@ -26,7 +26,7 @@ module _ {L D : Type 0} (follows : D → List (Done L) → D → Type 0) (stays 
   rests : (shape : Geometry) (pieces : List Piece) (cause : Cause) (stripe : ℕ) (lane : D) → (stripe ≡ cause.stripe → ⊥) → LaneTries follows (λ own. ReadsSomeIn shape pieces stripe own) cause stripe lane lane
   rests shape pieces cause stripe lane other = record { own = []; share = tt; did = inl (record { list = []; leads = stays lane; own_is = refl }); ends = λ same. absurd (other same) }
 
-  -- the call ended in a round, behind which other pieces are left
+  -- the call ended in a round, after which other pieces are left
   pub round-ended : (shape : Geometry) (now later : List Piece) (cause : Cause) (first : ℕ) (before xs us after : List D) → length before ≡ first → PieceIn shape now cause.stripe
       → EndedLanes follows (λ stripe own. ReadsSomeIn shape now stripe own) first (xs, us) cause → HasReadSome follows shape (now ++ later) (before ++ (xs ++ after), before ++ (us ++ after)) cause
   round-ended shape now later cause first before xs us after at lies a =
@@ -110,7 +110,7 @@ module _ {L D : Type 0} (follows : D → List (Done L) → D → Type 0) (stays 
   pub all-begins : (shape : Geometry) (stretch : Stretch) (target : ℕ) (old : List D) → IsReadStretch shape stretch target → GetAllSoFar follows shape (pieces_in_stretch stretch) stretch [] target old old
   all-begins shape stretch target old a = record { done = []; all_are = refl; read = record { own = []; does = does-none follows stays old; each = tt; filled = refl }; rest = a }
 
--- what stands in a target up to a byte of what was put behind its first bytes
+-- what stands in a target up to a byte of what was put after its first bytes
 pub taken-more : (taken more : ℕ) (into new : List ℕ) → taken ≤ length into → more ≤ length new → take (taken + more) (put_mid taken (length into - taken) into new) ≡ take taken into ++ take more new
 taken-more taken more into new le fits =
     let front = take taken into in

@@ -37,7 +37,7 @@ pub record GetSoFar {L D : Type 0} (follows : D → List (Done L) → D → Type
 
 module _ {L D : Type 0} (follows : D → List (Done L) → D → Type 0)
     (joins : (first mid last : D) (before after : List (Done L)) → follows first before mid → follows mid after last → follows first (before ++ after) last) where
-  -- one piece more, behind others
+  -- one piece more, after others
   got-more : (shape : Geometry) (pieces : List Piece) (piece : Piece) (stripe block count : ℕ) (first last whole : List ℕ) (old mid new : D)
       → stripe ≡ stripe_of piece.block shape → block ≡ block_in_stripe piece.block shape → count ≡ piece.len → whole ≡ first ++ last
       → LaneDid follows (λ own. Got shape pieces first stripe own) old mid → Completes follows mid new (Read block) (λ told. IsValue told × (last ≡ take count (drop piece.from (value_bytes told))))

@@ -1,4 +1,4 @@
--- Lists of pieces that are read: those of one stripe, and one list behind the other.
+-- Lists of pieces that are read: those of one stripe, and one list after the other.
 use Rattle.std.proofs.Common.{◌≡◌, inl, inr, ℕ, zero, suc, ◌+◌, ◌<◌, ◌≤◌, ◌==◌, Bool, true, false, List, [], ◌∷◌, ◌++◌, refl, sym, ap, ◌∙◌, append_assoc, if◌then◌else◌, arith}
 use Rattle.std.proofs.lemmas.Bool.Decides.{eqb_tells}
 use Rattle.nm_geometry.specs.declared.byte_range.ByteRange.{ByteRange}

@@ -25,7 +25,7 @@ module _ {L : Type 0} where
 
 module _ {L D : Type 0} (follows : D → List (Done L) → D → Type 0)
     (joins : (first mid last : D) (before after : List (Done L)) → follows first before mid → follows mid after last → follows first (before ++ after) last) where
-  -- reads behind reads
+  -- reads after reads
   pub read-append : (shape : Geometry) (first rest : List Piece) (old mid new : List D) (front back : List ℕ) → HasRead follows shape first (old, mid) front → HasRead follows shape rest (mid, new) back → HasRead follows shape (first ++ rest) (old, new) (front ++ back)
   read-append shape first rest old mid new front back a b = record {
     own = a.own ++ b.own;

@@ -1,4 +1,4 @@
--- A lane's steps, one list behind the other: their own ones, and the one that ends a call.
+-- A lane's steps, one list after the other: their own ones, and the one that ends a call.
 use Rattle.std.proofs.Common.{◌≡◌, inl, inr, ℕ, Bool, true, false, Some, None, List, [], ◌∷◌, ◌++◌, refl, sym, ap, ◌∙◌, subst, append_assoc, rules, if◌then◌else◌}
 use Rattle.nm_rules.specs.declared.refusal.Refusal.{Refusal}
 use Rattle.nm_rules.specs.declared.refusal.Refusal.TheVariants as refusal
@@ -72,7 +72,7 @@ module _ {L D : Type 0} (follows : D → List (Done L) → D → Type 0) where
   stops-refused old new step answer r kind ours leads meant is =
       stops-one old new step answer (EndsSo ours kind) leads (record { answer = meant ∙ is; ticket = λ e. absurd (no-claim r (is ∙ ap (λ k. Some k) e)) })
 
-  -- a list behind a list
+  -- a list after a list
   pub does-does : ((first mid last : D) (before after : List (Done L)) → follows first before mid → follows mid after last → follows first (before ++ after) last)
       → (old mid new : D) (first second : List (Done L)) → LaneDoes follows old mid first → LaneDoes follows mid new second → LaneDoes follows old new (first ++ second)
   does-does joins old mid new first second a b = record {

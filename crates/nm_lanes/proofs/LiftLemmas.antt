@@ -99,7 +99,7 @@ module _ {L D : Type 0} (follows : D → List (Done L) → D → Type 0) (stays 
 
 module _ {L D : Type 0} (follows : D → List (Done L) → D → Type 0)
     (joins : (first mid last : D) (before after : List (Done L)) → follows first before mid → follows mid after last → follows first (before ++ after) last) where
-  -- a list behind a list
+  -- a list after a list
   pub leads-append : (old mid new : List D) (xs ys : List (MirrorStep L)) → Leads follows old xs mid → Leads follows mid ys new → Leads follows old (xs ++ ys) new
   leads-append old mid new xs ys a b = record {
     as_many = b.as_many ∙ a.as_many;

@@ -1,5 +1,5 @@
--- Rounds of writes, one behind the other.
-use Rattle.std.proofs.Common.{◌≡◌, inl, ℕ, ◌+◌, Some, List, [], ◌∷◌, ◌++◌, length, drop, slice_get, append-nil, refl, sym, ap, ◌∙◌, subst, append_assoc, arith}
+-- Rounds of writes, one after the other.
+use Rattle.std.proofs.Common.{◌≡◌, inl, ℕ, ◌+◌, Some, List, [], ◌∷◌, ◌++◌, length, drop, slice_get, refl, sym, ap, ◌∙◌, subst, append_assoc, arith}
 use Rattle.std.proofs.lemmas.List.{length-append}
 use Rattle.nm_geometry.specs.Geometry.{Geometry}
 use Rattle.nm_lanes.specs.declared.cause.Cause.{Cause}
@@ -22,7 +22,7 @@ module _ {L D : Type 0} (follows : D → List (Done L) → D → Type 0) (stays 
   rests : (shape : Geometry) (writes : List PieceWrite) (cause : Cause) (stripe : ℕ) (lane : D) → (stripe ≡ cause.stripe → ⊥) → LaneTries follows (λ own. WritesSomeIn shape writes stripe own) cause stripe lane lane
   rests shape writes cause stripe lane other = record { own = []; share = tt; did = inl (record { list = []; leads = stays lane; own_is = refl }); ends = λ same. absurd (other same) }
 
-  -- the call ended in a round, behind which other pieces are left
+  -- the call ended in a round, after which other pieces are left
   pub round-ended : (shape : Geometry) (now later : List PieceWrite) (cause : Cause) (first : ℕ) (before xs us after : List D) → length before ≡ first → LiesIn shape now cause.stripe
       → EndedLanes follows (λ stripe own. WritesSomeIn shape now stripe own) first (xs, us) cause → HasWrittenSome follows shape (now ++ later) (before ++ (xs ++ after), before ++ (us ++ after)) cause
   round-ended shape now later cause first before xs us after at lies a =
@@ -77,11 +77,6 @@ module _ {L D : Type 0} (follows : D → List (Done L) → D → Type 0)
     };
   }
 
--- a list of no length
-nothing-long : (ws : List PieceWrite) → length ws ≡ 0 → ws ≡ []
-nothing-long [] none = refl
-nothing-long (w ∷ ws) none = absurd (omega (arith, none))
-
 -- so many rounds are done
 pub record PutAllSoFar {L D : Type 0} (follows : D → List (Done L) → D → Type 0) (shape : Geometry) (all : List PieceWrite) (left : Stretch) (cuts : List PieceWrite) (old lanes : List D) : Type 0 where
   pub done : List PieceWrite
@@ -108,9 +103,3 @@ module _ {L D : Type 0} (follows : D → List (Done L) → D → Type 0)
 module _ {L D : Type 0} (follows : D → List (Done L) → D → Type 0) (stays : (lane : D) → follows lane [] lane) where
   pub all-begins : (shape : Geometry) (stretch : Stretch) (cuts : List PieceWrite) (old : List D) → IsStretch shape stretch cuts → PutAllSoFar follows shape (filling stretch cuts) stretch cuts old old
   all-begins shape stretch cuts old a = record { done = []; all_are = refl; written = record { own = []; does = does-none follows stays old; each = tt }; rest = a }
-
-  -- nothing is left
-  pub all-done : (shape : Geometry) (all : List PieceWrite) (left : Stretch) (cuts : List PieceWrite) (old new : List D) → left.count ≡ 0 → PutAllSoFar follows shape all left cuts old new → HasWritten follows shape all (old, new)
-  all-done shape all left cuts old new none a =
-      let empty : filling left cuts ≡ [] = nothing-long (filling left cuts) (a.rest.long ∙ none) in
-      subst (λ (ws : List PieceWrite). HasWritten follows shape ws (old, new)) (sym (a.all_are ∙ ap (λ (ws : List PieceWrite). a.done ++ ws) empty ∙ append-nil a.done)) a.written

@@ -1,4 +1,4 @@
--- Lists of writes: those of one stripe, and one list behind the other.
+-- Lists of writes: those of one stripe, and one list after the other.
 use Rattle.std.proofs.Common.{◌≡◌, inl, inr, ℕ, ◌+◌, ◌<◌, ◌≤◌, ◌==◌, Bool, true, false, List, [], ◌∷◌, ◌++◌, length, refl, sym, ap, ◌∙◌, subst, append_assoc, if◌then◌else◌, arith}
 use Rattle.std.proofs.lemmas.Bool.Decides.{eqb_tells}
 use Rattle.nm_geometry.specs.Geometry.{Geometry, stripe_of}

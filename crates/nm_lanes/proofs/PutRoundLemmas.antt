@@ -25,7 +25,7 @@ module _ {L : Type 0} where
 
 module _ {L D : Type 0} (follows : D → List (Done L) → D → Type 0)
     (joins : (first mid last : D) (before after : List (Done L)) → follows first before mid → follows mid after last → follows first (before ++ after) last) where
-  -- writes behind writes
+  -- writes after writes
   pub written-append : (shape : Geometry) (first rest : List PieceWrite) (old mid new : List D) → HasWritten follows shape first (old, mid) → HasWritten follows shape rest (mid, new) → HasWritten follows shape (first ++ rest) (old, new)
   written-append shape first rest old mid new a b = record {
     own = a.own ++ b.own;

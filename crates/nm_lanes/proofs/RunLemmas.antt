@@ -35,7 +35,7 @@ run-stripe shape lanes run block is a from upto =
     let stripe : stripe_of block shape ≡ run.stripe + number = ap (λ n. n % shape.stripes) (sym region) ∙ region-stripe run.region number run.stripe shape.stripes a.stripe_is (omega (arith, at, below, a.stripes)) in
     record { from = omega (arith, stripe); upto = omega (arith, stripe, at, below) }
 
--- so do its pieces; none lies in a stripe behind them
+-- so do its pieces; none lies in a stripe after them
 pub run-apart : (shape : Geometry) (lanes : ℕ) (run : Run) (cuts : List PieceWrite) (stripe : ℕ) → IsGeometry shape → IsStretch shape run.stretch cuts → IsRun shape lanes run → run.stripe + lanes ≤ stripe → writes_in shape stripe (filling run.stretch cuts) ≡ []
 run-apart shape lanes run cuts stripe is stretch a behind =
     none-in shape stripe (filling run.stretch cuts) (follow-lie (λ n. n ≡ stripe → ⊥) shape (block_of run.stretch) (filling run.stretch cuts)

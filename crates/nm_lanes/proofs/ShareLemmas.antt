@@ -1,4 +1,4 @@
--- A call's share of each lane: in other words, and behind what was done before.
+-- A call's share of each lane: in other words, and after what was done before.
 use Rattle.std.proofs.Common.{Result, Ok, Err, ◌≡◌, inl, inr, ℕ, suc, ◌+◌, ◌≤◌, ◌==◌, Bool, true, false, if◌then◌else◌, Some, List, [], ◌∷◌, ◌++◌, length, slice_get, refl, sym, ap, ◌∙◌, subst, append_assoc, arith}
 use Rattle.nm_lanes.specs.declared.cause.Cause.{Cause}
 use Rattle.nm_lanes.specs.declared.cause_kind.CauseKind.{CauseKind}

@@ -1,6 +1,6 @@
 -- A stretch of the pieces of a range: its first pieces and the others, and one taken out of it.
-use Rattle.std.proofs.Common.{◌≡◌, ℕ, zero, suc, ◌+◌, ◌-◌, ◌/◌, ◌<◌, ◌≤◌, Bool, true, false, List, [], ◌∷◌, ◌++◌, length, take, drop, append-nil, rules, get_or, slice_set, refl, sym, ap, ◌∙◌, subst, ◌^◌, if◌then◌else◌, arith}
-use Rattle.std.proofs.lemmas.List.{length-append, length-drop, drop_more, drop_at, drop_all, drop-set-lt}
+use Rattle.std.proofs.Common.{◌≡◌, ℕ, zero, suc, ◌+◌, ◌-◌, ◌/◌, ◌<◌, ◌≤◌, Bool, true, false, List, [], ◌∷◌, ◌++◌, length, take, drop, append-nil, rules, refl, sym, ap, ◌∙◌, subst, ◌^◌, if◌then◌else◌, arith}
+use Rattle.std.proofs.lemmas.List.{length-append, length-drop, drop_at, drop_all}
 use borrow.Rule.Slice.PartMut.{put_mid}
 use Rattle.nm_fanout.specs.declared.block_data.Data.{Data}
 use Rattle.nm_geometry.specs.declared.byte_range.ByteRange.{ByteRange}
@@ -108,16 +108,9 @@ zeroes-drop block (suc more) (suc at) range lt =
     let f : suc at + 1 ≡ suc (at + 1) = omega arith in
     rw (e, f) (zeroes-drop (block + 1) more at range (omega (arith, lt)))
 
-pub cuts-drop : (cuts : List PieceWrite) (at : ℕ) (d new : PieceWrite) → at < length cuts → drop at cuts ≡ get_or cuts at d ∷ drop (at + 1) (slice_set cuts at new)
-cuts-drop cuts at d new lt =
-    drop_more cuts at d lt ∙ ap (λ (ws : List PieceWrite). get_or cuts at d ∷ ws) (sym (drop-set-lt (at + 1) cuts at new (omega arith)))
-
 -- all pieces of a range
 abbrev pub all_of : ByteRange → ℕ → Bool → Stretch
 all_of range count zeroes = record { range = range; first = 0; count = count; uncut = zeroes }
-
-pub zeroes-filling : (range : ByteRange) (count : ℕ) (cuts : List PieceWrite) → count ≡ touched range → filling (all_of range count true) cuts ≡ zeroes_for (pieces_of range)
-zeroes-filling range count cuts is = let e : range.offset / 512 + 0 ≡ range.offset / 512 = omega arith in rw (is, e) refl
 
 pub zeroes-stretch : (shape : Geometry) (range : ByteRange) (count : ℕ) (cuts : List PieceWrite) → LiesInside range shape → end_of range < 2 ^ 64 → count ≡ touched range → IsStretch shape (all_of range count true) cuts
 zeroes-stretch shape range count cuts inside end is =
@@ -142,7 +135,7 @@ cuts-stretch shape range count cuts payload inside end is are =
       follow = rw (first, are) (cuts-follow (range.offset / 512) (touched range) range payload);
     }
 
--- behind the cuts that were taken, once what lies there was written
+-- after the cuts that were taken, once what lies there was written
 pub rest-written : (taken : ℕ) (cuts new : List PieceWrite) → taken ≤ length cuts → length new ≡ length cuts - taken → drop taken (put_mid taken (length cuts - taken) cuts new) ≡ new
 rest-written taken cuts new le is =
     let first : length (take taken cuts) ≡ taken = search (rules, le) in

@@ -1,5 +1,5 @@
 -- Syncs of legs, one more at a time.
-use Rattle.std.proofs.Common.{◌≡◌, inl, inr, ℕ, ◌+◌, ◌<◌, Bool, true, false, List, [], ◌∷◌, ◌++◌, map, refl, subst, append-nil, arith, if◌then◌else◌}
+use Rattle.std.proofs.Common.{◌≡◌, inl, inr, ℕ, ◌+◌, ◌<◌, Bool, true, false, List, [], ◌∷◌, ◌++◌, map, subst, append-nil, arith, if◌then◌else◌}
 use Rattle.std.proofs.lemmas.Bool.{cases_lt}
 use Rattle.nm_stripe.specs.Flush.{SyncsLeg, HasSynced}
 use Rattle.nm_stripe.specs.declared.step.Step.TheVariants.{Sync}
@@ -44,8 +44,6 @@ all-more legs [] d all one = (one, tt)
 all-more legs (x ∷ xs) d all one = (all.0, all-more legs xs d all.1 one)
 
 module _ {L D : Type 0} (follows : D → List (Done L) → D → Type 0) where
-  pub syncs-none : ((lane : D) → follows lane [] lane) → (old : D) (legs : ℕ) → LaneSyncs follows (old, old) legs 0
-  syncs-none stays old legs = record { own = []; does = record { list = []; leads = stays old; own_is = refl }; only = tt; each = λ leg lt. absurd (omega (arith, lt)) }
 
 module _ {L D : Type 0} (follows : D → List (Done L) → D → Type 0)
     (joins : (first mid last : D) (before after : List (Done L)) → follows first before mid → follows mid after last → follows first (before ++ after) last) where

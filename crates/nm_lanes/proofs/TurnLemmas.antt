@@ -21,7 +21,7 @@ sync-helps leg r handed e other = rw (e, other) refl
 
 module _ {L D : Type 0} (follows : D → List (Done L) → D → Type 0)
     (joins : (first mid last : D) (before after : List (Done L)) → follows first before mid → follows mid after last → follows first (before ++ after) last) where
-  -- a refused step, and what helped behind it
+  -- a refused step, and what helped after it
   pub turn-goes : (old mid new : D) (step : Step L) (r : Refusal) → IsRefused follows old mid step r → ((handed : Handed L) → helps step (Refused r handed) ≡ true)
       → LaneDoes follows mid new [] → LaneDoes follows old new []
   turn-goes old mid new step r met is after = refused-goes follows joins old mid new step (Refused r met.handed) met.leads (is met.handed) after

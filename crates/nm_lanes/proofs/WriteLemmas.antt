@@ -19,7 +19,7 @@ module _ {L D : Type 0} (follows : D → List (Done L) → D → Type 0) where
 
 module _ {L D : Type 0} (follows : D → List (Done L) → D → Type 0)
     (joins : (first mid last : D) (before after : List (Done L)) → follows first before mid → follows mid after last → follows first (before ++ after) last) where
-  -- a claim that was refused, and the pushes behind it
+  -- a claim that was refused, and the pushes after it
   pub claim-goes : (old mid new : D) (ticket : ℕ) (r : Refusal) → IsRefused follows old mid (Claim ticket) r → claim_end_of r ≡ None → LaneDoes follows mid new [] → LaneDoes follows old new []
   claim-goes old mid new ticket r met none after =
       refused-goes follows joins old mid new (Claim ticket) (Refused r met.handed) met.leads (ap (λ x. is_none x) none) after

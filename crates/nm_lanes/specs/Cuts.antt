@@ -3,7 +3,6 @@ use Rattle.std.specs.Prelude.{ℕ, ◌<◌, ◌==◌, if◌then◌else◌, List,
 use Rattle.nm_fanout.specs.declared.block_data.Data.{Data}
 use Rattle.nm_fanout.specs.declared.block_data.Data.TheVariants.{Cut, Zero, Part, ZeroPart}
 use Rattle.nm_geometry.specs.declared.piece.Piece.{Piece}
-use Rattle.nm_geometry.specs.Geometry.{Geometry}
 use Rattle.nm_lanes.specs.declared.piece_write.PieceWrite.{PieceWrite}
 
 -- these bytes: a whole block's as a cut, others as a part
@@ -26,9 +25,3 @@ abbrev pub zeroes_for : List Piece → List PieceWrite
 zeroes_for [] = []
 zeroes_for (piece ∷ pieces) =
     record { piece = piece; bytes = zero_for piece } ∷ zeroes_for pieces
-
--- each is a write of one of the shape's blocks
-abbrev pub EachInside : Geometry → List PieceWrite → Type 0
-EachInside shape [] = Unit {0}
-EachInside shape (write ∷ writes) =
-    write.piece.block < shape.blocks × EachInside shape writes

@@ -35,7 +35,7 @@ first_of count stretch = record {
   uncut = stretch.uncut;
 }
 
--- those behind so many
+-- those after so many
 abbrev pub rest_of : ℕ → Stretch → Stretch
 rest_of count stretch = record {
   range = stretch.range;
@@ -76,7 +76,7 @@ pub record IsRun (shape : Geometry) (lanes : ℕ) (run : Run) : Type 0 where
 abbrev pub blocks_in : Geometry → ℕ → Run → ℕ
 blocks_in shape lanes run = (run.region + lanes) * shape.region - block_of run.stretch
 
--- the first regions of a run, and those behind them
+-- the first regions of a run, and those after them
 abbrev pub lower : Geometry → ℕ → Run → Run
 lower shape lanes run = record {
   stretch = first_of (blocks_in shape lanes run) run.stretch;

@@ -52,7 +52,7 @@ impl Stretch {
         Stretch { count, ..self }
     }
 
-    /// The pieces behind so many.
+    /// The pieces after so many.
     pub(crate) fn rest_of(self, count: u64) -> Stretch
         requires most { count ≤ self.count }
         requires first { self.first + count < 2 ^ 64 }

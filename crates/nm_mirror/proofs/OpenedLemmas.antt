@@ -7,8 +7,8 @@ use Rattle.nm_leg.specs.Leg.{LegType}
 use Rattle.nm_rules.specs.State.{StripeState}
 use Rattle.nm_mirror.proofs.Places.{one_more}
 use Rattle.nm_mirror.specs.Opening.{AddsNext, AreOpened, Asked, IsOpened, RefusesFitting, RefusesLegs, start_of}
-use Rattle.nm_mirror.specs.declared.opening.OpenFault.{OpenFault}
-use Rattle.nm_mirror.specs.declared.opening.OpenFault.TheVariants.{Memory, MasterFault, Misfit}
+use Rattle.nm_mirror.specs.declared.open_fault.OpenFault.{OpenFault}
+use Rattle.nm_mirror.specs.declared.open_fault.OpenFault.TheVariants.{Memory, MasterFault, Misfit}
 use Rattle.nm_mirror.specs.Stripes.{FitNext}
 
 at_front : {A : Type 0} (xs : List A) (k : ℕ) (x : A) (ys : List A) → drop k xs ≡ x ∷ ys → (slice_get xs k ≡ Some x) × (drop (suc k) xs ≡ ys)
@@ -17,7 +17,7 @@ at_front [] (suc k) x ys e = cc
 at_front (z ∷ zs) zero x ys e = (cc, cc)
 at_front (z ∷ zs) (suc k) x ys e = at_front zs k x ys e
 
--- the element at the end of what is left, which lies last first, and what is left behind it
+-- the element at the end of what is left, which lies last first, and what is left after it
 pub next_left : {A : Type 0} (xs rest : List A) (x : A) (k : ℕ) → reverse (drop k xs) ≡ rest ++ x ∷ [] → (slice_get xs k ≡ Some x) × (rest ≡ reverse (drop (suc k) xs))
 next_left xs rest x k e =
     let front : drop k xs ≡ x ∷ reverse rest =

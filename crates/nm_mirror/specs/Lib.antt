@@ -2,6 +2,7 @@ pub mod Asking
 pub mod Closing
 pub mod Counting
 pub mod Counts
+pub mod OpenFault
 pub mod Opening
 pub mod Passes
 pub mod Refused

@@ -8,8 +8,8 @@ use Rattle.nm_rules.specs.Comparing.{comparing, FailsOnMaster, OpensCompared}
 use Rattle.nm_rules.specs.Opening.{opened}
 use Rattle.nm_rules.specs.State.{StripeState}
 use Rattle.nm_mirror.specs.Stripes.{FitNext, place_of}
-use Rattle.nm_mirror.specs.declared.opening.OpenFault.{OpenFault}
-use Rattle.nm_mirror.specs.declared.opening.OpenFault.TheVariants.{Memory, MasterFault, Misfit}
+use Rattle.nm_mirror.specs.declared.open_fault.OpenFault.{OpenFault}
+use Rattle.nm_mirror.specs.declared.open_fault.OpenFault.TheVariants.{Memory, MasterFault, Misfit}
 use Rattle.nm_mirror.specs.declared.start.Start.{Start}
 use Rattle.nm_mirror.specs.declared.start.Start.TheVariants.{Compare, Full}
 

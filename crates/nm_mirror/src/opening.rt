@@ -12,6 +12,7 @@ ghost use Rattle.nm_mirror.specs.Opening.{AddsNext, AreAllOpened, RefusesFitting
 ghost use Rattle.nm_mirror.specs.Opening.{RefusesOpening, start_of};
 ghost use Rattle.nm_mirror.specs.Stripes.{AreFirst, AreStripesOf, ComparesNext, FitNext, OpensNext, place_of};
 
+use crate::open_fault::OpenFault;
 use crate::start::Start;
 use nm_geometry::Shape;
 use nm_leg::LegPart;
@@ -245,17 +246,6 @@ impl<L: LegPart> Opening<L> {
     {
         self.stripes
     }
-}
-
-/// Why the stripes of a mirror were not opened.
-#[derive(Clone, Copy, Debug, PartialEq, Eq)]
-pub enum OpenFault {
-    /// Out of memory.
-    Memory,
-    /// The master cannot be read, in a start that compares.
-    MasterFault,
-    /// The legs do not fit the shape.
-    Misfit,
 }
 
 /// Opens the stripes of a mirror of this shape on these legs, one list a stripe, with this leg of

@@ -18,7 +18,7 @@ use std::sync::{Arc, Wait};
 use std::test::Fail;
 use std::thread::{Threads, join};
 
-/// Holds the first pass behind the first push of its write, and counts the second's steps.
+/// Holds the first pass after the first push of its write, and counts the second's steps.
 #[derive(Drop)]
 struct AfterAPush {
     meeting: Meeting,

@@ -107,7 +107,7 @@ fn written(block: u64, ticket: u64) -> [Note; 3] {
     ]
 }
 
-/// The steps of so many writes, one behind the other, from this block and from ticket 0 on.
+/// The steps of so many writes, one after the other, from this block and from ticket 0 on.
 fn all_written(alloc: Global, from: u64, count: u64) -> Result<Vec<Note>, Fail> {
     let mut notes = Vec::new(alloc);
     for ticket in 0..count {
@@ -197,7 +197,7 @@ fn a_flush_reaches_each_leg_of_every_stripe(rt: HostRuntime) -> Result<(), Fail>
     Ok(())
 }
 
-/// Claims ticket 0 behind each push, by a part of its own.
+/// Claims ticket 0 after each push, by a part of its own.
 #[derive(Drop)]
 struct Claiming<'a, R: Wait> {
     rt: &'a R,

@@ -87,6 +87,20 @@ fn a_master_that_cannot_be_read_is_told(rt: HostRuntime) -> Result<(), Fail> {
 }
 
 #[test]
+fn faults_of_a_start_have_numbers_and_texts(rt: HostRuntime) -> Result<(), Fail> {
+    let faults = [
+        (OpenFault::Memory, 1, "out of memory"),
+        (OpenFault::MasterFault, 2, "the master cannot be read"),
+        (OpenFault::Misfit, 3, "the legs do not fit the shape"),
+    ];
+    for (fault, number, text) in faults {
+        assert_eq!(rt; fault.number(), number);
+        assert_eq!(rt; fault.to_string(rt.alloc())?.as_str(), text);
+    }
+    Ok(())
+}
+
+#[test]
 fn a_single_leg_is_not_read(rt: HostRuntime) -> Result<(), Fail> {
     let alloc = rt.alloc();
     let shape = shape(8, 4, 2, 1, 1)?;

@@ -13,7 +13,7 @@ AgreeAfter before [] = Unit {0}
 AgreeAfter before (e ∷ es) = Agrees before e × AgreeAfter (before ++ e ∷ []) es
 
 -- the place of any entry among them will do
-pub agree-at : (es before front : List Entry) (e : Entry) (later : List Entry) → AgreeAfter before es → es ≡ front ++ e ∷ later → Agrees (before ++ front) e
+pub agree-at : (es before earlier : List Entry) (e : Entry) (later : List Entry) → AgreeAfter before es → es ≡ earlier ++ e ∷ later → Agrees (before ++ earlier) e
 agree-at [] before [] e later agree cut = absurd (cc)
 agree-at [] before (y ∷ ys) e later agree cut = absurd (cc)
 agree-at (x ∷ xs) before [] e later agree cut =
@@ -27,15 +27,15 @@ agree-at (x ∷ xs) before (y ∷ ys) e later agree cut =
     let moved : before ++ x ∷ [] ++ ys ≡ before ++ y ∷ ys = append_assoc before (x ∷ []) ys ∙ ap (λ z. before ++ z ∷ ys) same in
     subst P moved (agree-at xs (before ++ x ∷ []) ys e later agree.1 rest)
 
-pub agree-from : (es before whole : List Entry) → ((front : List Entry) (e : Entry) (later : List Entry) → whole ≡ front ++ e ∷ later → Agrees front e) → whole ≡ before ++ es → AgreeAfter before es
+pub agree-from : (es before whole : List Entry) → ((earlier : List Entry) (e : Entry) (later : List Entry) → whole ≡ earlier ++ e ∷ later → Agrees earlier e) → whole ≡ before ++ es → AgreeAfter before es
 agree-from [] before whole each cut = tt
 agree-from (x ∷ xs) before whole each cut =
     (each before x xs cut, agree-from xs (before ++ x ∷ []) whole each (cut ∙ sym (append_assoc before (x ∷ []) xs)))
 
 pub agree-append : (xs ys before : List Entry) → AgreeAfter before xs → AgreeAfter (before ++ xs) ys → AgreeAfter before (xs ++ ys)
-agree-append [] ys before front rest = subst (λ b. AgreeAfter b ys) (append-nil before) rest
-agree-append (x ∷ xs) ys before front rest =
-    (front.0, agree-append xs ys (before ++ x ∷ []) front.1 (subst (λ b. AgreeAfter b ys) (sym (append_assoc before (x ∷ []) xs)) rest))
+agree-append [] ys before earlier rest = subst (λ b. AgreeAfter b ys) (append-nil before) rest
+agree-append (x ∷ xs) ys before earlier rest =
+    (earlier.0, agree-append xs ys (before ++ x ∷ []) earlier.1 (subst (λ b. AgreeAfter b ys) (sym (append_assoc before (x ∷ []) xs)) rest))
 
 pub agree-front : (xs ys before : List Entry) → AgreeAfter before (xs ++ ys) → AgreeAfter before xs
 agree-front [] ys before all = tt
@@ -52,16 +52,16 @@ later None earlier P all = tt
 later (Some bytes) earlier P all = all
 
 -- entries agree with fewer entries before them
-agrees-fewer : (front before : List Entry) (e : Entry) → Agrees (front ++ before) e → Agrees before e
-agrees-fewer front before e agrees =
-    later (last_on e.block before) (last_on e.block front) (λ last. MayReplace e.kind last e.bytes)
-    (subst (λ o. IfSome o (λ last. MayReplace e.kind last e.bytes)) (last_on-append e.block front before) agrees)
+agrees-fewer : (earlier before : List Entry) (e : Entry) → Agrees (earlier ++ before) e → Agrees before e
+agrees-fewer earlier before e agrees =
+    later (last_on e.block before) (last_on e.block earlier) (λ last. MayReplace e.kind last e.bytes)
+    (subst (λ o. IfSome o (λ last. MayReplace e.kind last e.bytes)) (last_on-append e.block earlier before) agrees)
 
-pub agree-fewer : (es front before : List Entry) → AgreeAfter (front ++ before) es → AgreeAfter before es
-agree-fewer [] front before all = tt
-agree-fewer (x ∷ xs) front before all = (
-  agrees-fewer front before x all.0,
-  agree-fewer xs front (before ++ x ∷ []) (subst (λ b. AgreeAfter b xs) (append_assoc front before (x ∷ [])) all.1),
+pub agree-fewer : (es earlier before : List Entry) → AgreeAfter (earlier ++ before) es → AgreeAfter before es
+agree-fewer [] earlier before all = tt
+agree-fewer (x ∷ xs) earlier before all = (
+  agrees-fewer earlier before x all.0,
+  agree-fewer xs earlier (before ++ x ∷ []) (subst (λ b. AgreeAfter b xs) (append_assoc earlier before (x ∷ [])) all.1),
 )
 
 -- the two forms of consistency
@@ -69,4 +69,4 @@ pub consistent-agree : (es : List Entry) → Consistent es → AgreeAfter [] es
 consistent-agree es consistent = agree-from es [] es consistent.agree refl
 
 pub agree-consistent : (es : List Entry) → IsNumbered es → AgreeAfter [] es → Consistent es
-agree-consistent es numbers agree = record { numbers = numbers; agree = λ front e later cut. agree-at es [] front e later agree cut }
+agree-consistent es numbers agree = record { numbers = numbers; agree = λ earlier e later cut. agree-at es [] earlier e later agree cut }

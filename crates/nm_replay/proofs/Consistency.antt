@@ -61,7 +61,7 @@ consistent-pushed es e consistent = record {
   agrees = (agree-rest es (e ∷ []) [] (consistent-agree (es ++ e ∷ []) consistent)).0;
 }
 
--- the front piece of consistent entries is consistent
+-- the earlier piece of consistent entries is consistent
 pub consistent-front : (xs ys : List Entry) → Consistent (xs ++ ys) → Consistent xs
 consistent-front xs ys consistent =
     agree-consistent xs (is_numbered-front xs ys consistent.numbers)
@@ -82,5 +82,5 @@ consistent-more es i d inside consistent follows =
 pub consistent-at : (es : List Entry) (i : ℕ) (d : Entry) → i < length es → Consistent es → MayFollow (take i es) (get_or es i d)
 consistent-at es i d inside consistent =
     let cut : Consistent (take (i + 1) es ++ drop (i + 1) es) = subst (λ xs. Consistent xs) (sym (take-append-drop (i + 1) es)) consistent in
-    let front : Consistent (take (i + 1) es) = consistent-front (take (i + 1) es) (drop (i + 1) es) cut in
-    consistent-pushed (take i es) (get_or es i d) (subst (λ xs. Consistent xs) (take_more es i d inside) front)
+    let earlier : Consistent (take (i + 1) es) = consistent-front (take (i + 1) es) (drop (i + 1) es) cut in
+    consistent-pushed (take i es) (get_or es i d) (subst (λ xs. Consistent xs) (take_more es i d inside) earlier)

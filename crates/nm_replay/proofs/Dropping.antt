@@ -60,7 +60,3 @@ ends-last_kept es array ends = ends-drop (length es - 1024) es array ends
 
 pub numbered-last_kept : (first : ℕ) (es : List Entry) → NumberedFrom first es → NumberedFrom (first + (length es - 1024)) (last_kept es)
 numbered-last_kept first es numbers = numbered-drop (length es - 1024) first es (omega arith) numbers
-
--- one more entry in a kept history: how many are kept, and their numbers
-pub length-kept : (total : ℕ) (es : List Entry) (e : Entry) → length es ≡ min 1024 total → length (last_kept (es ++ e ∷ [])) ≡ min 1024 (total + 1)
-length-kept total es e kept = omega (arith, kept, length-last_kept (es ++ e ∷ []), length-append es (e ∷ []))

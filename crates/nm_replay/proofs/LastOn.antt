@@ -33,7 +33,7 @@ pub last_on-push_other : (block : ℕ) (xs : List Entry) (e : Entry) → (e.bloc
 last_on-push_other block xs e other =
     last_on-append block xs (e ∷ []) ∙ ap (λ o. option_or o (last_on block xs)) (cond-false (e.block == block) (Some e.bytes) None (ne_eqb e.block block other))
 
--- an entry at the front counts only where no later one is on its block
+-- an entry at the earlier counts only where no later one is on its block
 pub last_on-front_later : (block : ℕ) (e : Entry) (es : List Entry) (bytes : Block) → last_on block es ≡ Some bytes → last_on block (e ∷ es) ≡ Some bytes
 last_on-front_later block e es bytes later = ap (λ o. option_or o (if e.block == block then Some e.bytes else None)) later
 

@@ -14,7 +14,7 @@ length-after (Write ticket) block bytes array = length-set array block bytes
 length-after (Patch ticket start len) block bytes array = length-set array block bytes
 
 -- legal entries followed by legal entries are legal
-pub legal-append : (front piece : List Entry) (next : ℕ) (array middle to : Array) → Legal next front array middle → Legal (next + length front) piece middle to → Legal next (front ++ piece) array to
+pub legal-append : (earlier piece : List Entry) (next : ℕ) (array middle to : Array) → Legal next earlier array middle → Legal (next + length earlier) piece middle to → Legal next (earlier ++ piece) array to
 legal-append [] piece next array middle to begun ended =
     let same : next + 0 ≡ next = omega arith in
     subst (λ a. Legal next piece a to) begun (subst (λ n. Legal n piece middle to) same ended)
@@ -22,8 +22,8 @@ legal-append (e ∷ es) piece next array middle to begun ended =
     let same : next + suc (length es) ≡ next + 1 + length es = omega arith in
     (begun.0, begun.1, legal-append es piece (next + 1) (after (operation e.kind e.block e.bytes) array) middle to begun.2 (subst (λ n. Legal n piece middle to) same ended))
 
--- the end piece of legal entries is legal, from what the front piece leaves
-pub legal-split : (front piece : List Entry) (next : ℕ) (array to : Array) → Legal next (front ++ piece) array to → (middle : Array) × Legal next front array middle × Legal (next + length front) piece middle to
+-- the end piece of legal entries is legal, from what the earlier piece leaves
+pub legal-split : (earlier piece : List Entry) (next : ℕ) (array to : Array) → Legal next (earlier ++ piece) array to → (middle : Array) × Legal next earlier array middle × Legal (next + length earlier) piece middle to
 legal-split [] piece next array to all =
     let same : next ≡ next + 0 = omega arith in (array, refl, subst (λ n. Legal n piece array to) same all)
 legal-split (e ∷ es) piece next array to all =

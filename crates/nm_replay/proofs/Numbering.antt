@@ -6,10 +6,10 @@ use Rattle.nm_replay.specs.declared.entry.Entry.{Entry}
 use Rattle.nm_replay.specs.History.{NumberedFrom, IsNumbered}
 
 pub numbered-append : (next : ℕ) (xs ys : List Entry) → NumberedFrom next xs → NumberedFrom (next + length xs) ys → NumberedFrom next (xs ++ ys)
-numbered-append next [] ys front rest = let same : next + 0 ≡ next = omega arith in subst (λ n. NumberedFrom n ys) same rest
-numbered-append next (x ∷ xs) ys front rest =
+numbered-append next [] ys earlier rest = let same : next + 0 ≡ next = omega arith in subst (λ n. NumberedFrom n ys) same rest
+numbered-append next (x ∷ xs) ys earlier rest =
     let same : next + suc (length xs) ≡ next + 1 + length xs = omega arith in
-    (front.0, numbered-append (next + 1) xs ys front.1 (subst (λ n. NumberedFrom n ys) same rest))
+    (earlier.0, numbered-append (next + 1) xs ys earlier.1 (subst (λ n. NumberedFrom n ys) same rest))
 
 pub numbered-front : (next : ℕ) (xs ys : List Entry) → NumberedFrom next (xs ++ ys) → NumberedFrom next xs
 numbered-front next [] ys all = tt

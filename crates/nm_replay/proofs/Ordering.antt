@@ -17,11 +17,11 @@ use Rattle.nm_replay.proofs.Lives.{entries_of-append}
 use Rattle.nm_replay.proofs.Numbering.{numbered-rest}
 
 -- the number of an entry follows from how many entries stand before it
-pub lands-number : (from to : Point) (front later : List Event) (e : Entry) → Explained from to (front ++ Lands e ∷ later) → e.seq ≡ from.next + length (entries_of front)
-lands-number from to front later e explained =
-    let split : entries_of (front ++ Lands e ∷ later) ≡ entries_of front ++ e ∷ entries_of later = entries_of-append front (Lands e ∷ later) in
-    let all = legal-numbered (entries_of (front ++ Lands e ∷ later)) from.next from.array to.array explained.legal in
-    (numbered-rest from.next (entries_of front) (e ∷ entries_of later) (subst (λ es. NumberedFrom from.next es) split all)).0
+pub lands-number : (from to : Point) (earlier later : List Event) (e : Entry) → Explained from to (earlier ++ Lands e ∷ later) → e.seq ≡ from.next + length (entries_of earlier)
+lands-number from to earlier later e explained =
+    let split : entries_of (earlier ++ Lands e ∷ later) ≡ entries_of earlier ++ e ∷ entries_of later = entries_of-append earlier (Lands e ∷ later) in
+    let all = legal-numbered (entries_of (earlier ++ Lands e ∷ later)) from.next from.array to.array explained.legal in
+    (numbered-rest from.next (entries_of earlier) (e ∷ entries_of later) (subst (λ es. NumberedFrom from.next es) split all)).0
 
 -- of two entries the later has the higher number
 pub lands-higher : (from to : Point) (before between later : List Event) (low high : Entry) → Explained from to (before ++ Lands low ∷ (between ++ Lands high ∷ later)) → low.seq < high.seq
@@ -32,9 +32,9 @@ lands-higher from to before between later low high explained =
     omega (arith, first, second, ap (λ es. length es) (entries_of-append before (Lands low ∷ between)), length-append (entries_of before) (low ∷ entries_of between))
 
 -- so has any that lands after events that one is among
-pub lands-after : (from to : Point) (front before following between later : List Event) (low high : Entry) → front ≡ before ++ Lands low ∷ following → Explained from to (front ++ (between ++ Lands high ∷ later)) → low.seq < high.seq
-lands-after from to front before following between later low high split explained =
-    let whole : front ++ (between ++ Lands high ∷ later) ≡ before ++ Lands low ∷ (following ++ between ++ Lands high ∷ later) =
+pub lands-after : (from to : Point) (earlier before following between later : List Event) (low high : Entry) → earlier ≡ before ++ Lands low ∷ following → Explained from to (earlier ++ (between ++ Lands high ∷ later)) → low.seq < high.seq
+lands-after from to earlier before following between later low high split explained =
+    let whole : earlier ++ (between ++ Lands high ∷ later) ≡ before ++ Lands low ∷ (following ++ between ++ Lands high ∷ later) =
     ap (λ es. es ++ (between ++ Lands high ∷ later)) split ∙ append_assoc before (Lands low ∷ following) (between ++ Lands high ∷ later) ∙ ap (λ es. before ++ Lands low ∷ es) (sym (append_assoc following between (Lands high ∷ later))) in
     lands-higher from to before (following ++ between) later low high (subst (λ es. Explained from to es) whole explained)
 
@@ -52,18 +52,18 @@ legal-reads_last (e ∷ es) next block from to legal =
     ]
 
 -- and a read's entry has them
-pub read-finds_last : (from to : Point) (number block : ℕ) (bytes : Block) (front later : List Event) → Explained from to (front ++ Lands (entry_of_read number block bytes) ∷ later) → option_or (last_on block (entries_of front)) (slice_get from.array block) ≡ Some bytes
-read-finds_last from to number block bytes front later explained =
+pub read-finds_last : (from to : Point) (number block : ℕ) (bytes : Block) (earlier later : List Event) → Explained from to (earlier ++ Lands (entry_of_read number block bytes) ∷ later) → option_or (last_on block (entries_of earlier)) (slice_get from.array block) ≡ Some bytes
+read-finds_last from to number block bytes earlier later explained =
     let e : Entry = entry_of_read number block bytes in
-    let split : entries_of (front ++ Lands e ∷ later) ≡ entries_of front ++ e ∷ entries_of later = entries_of-append front (Lands e ∷ later) in
-    let cut = legal-split (entries_of front) (e ∷ entries_of later) from.next from.array to.array (subst (λ es. Legal from.next es from.array to.array) split explained.legal) in
-    sym (legal-reads_last (entries_of front) from.next block from.array cut.0 cut.1) ∙ (cut.2).1
+    let split : entries_of (earlier ++ Lands e ∷ later) ≡ entries_of earlier ++ e ∷ entries_of later = entries_of-append earlier (Lands e ∷ later) in
+    let cut = legal-split (entries_of earlier) (e ∷ entries_of later) from.next from.array to.array (subst (λ es. Legal from.next es from.array to.array) split explained.legal) in
+    sym (legal-reads_last (entries_of earlier) from.next block from.array cut.0 cut.1) ∙ (cut.2).1
 
 -- and a patch's entry has them outside its part
-pub patch-keeps_rest : (from to : Point) (number ticket block start len : ℕ) (bytes : Block) (front later : List Event) → Explained from to (front ++ Lands (entry_of_write number ticket block (Piece start len) bytes) ∷ later) → (old : Block) × (option_or (last_on block (entries_of front)) (slice_get from.array block) ≡ Some old) × SameOutside start len old bytes
-patch-keeps_rest from to number ticket block start len bytes front later explained =
+pub patch-keeps_rest : (from to : Point) (number ticket block start len : ℕ) (bytes : Block) (earlier later : List Event) → Explained from to (earlier ++ Lands (entry_of_write number ticket block (Piece start len) bytes) ∷ later) → (old : Block) × (option_or (last_on block (entries_of earlier)) (slice_get from.array block) ≡ Some old) × SameOutside start len old bytes
+patch-keeps_rest from to number ticket block start len bytes earlier later explained =
     let e : Entry = entry_of_write number ticket block (Piece start len) bytes in
-    let split : entries_of (front ++ Lands e ∷ later) ≡ entries_of front ++ e ∷ entries_of later = entries_of-append front (Lands e ∷ later) in
-    let cut = legal-split (entries_of front) (e ∷ entries_of later) from.next from.array to.array (subst (λ es. Legal from.next es from.array to.array) split explained.legal) in
+    let split : entries_of (earlier ++ Lands e ∷ later) ≡ entries_of earlier ++ e ∷ entries_of later = entries_of-append earlier (Lands e ∷ later) in
+    let cut = legal-split (entries_of earlier) (e ∷ entries_of later) from.next from.array to.array (subst (λ es. Legal from.next es from.array to.array) split explained.legal) in
     let fits = (cut.2).1 in
-    (fits.0, sym (legal-reads_last (entries_of front) from.next block from.array cut.0 cut.1) ∙ fits.1, fits.2)
+    (fits.0, sym (legal-reads_last (entries_of earlier) from.next block from.array cut.0 cut.1) ∙ fits.1, fits.2)

@@ -64,10 +64,10 @@ read-forward number old new (event ∷ events) lives =
     omega (arith, forward number old lives.0 event (read-move number old lives.0 event lives.1), read-forward number lives.0 new events lives.2)
 
 -- a life, cut where a list is
-pub read-cut : (number : ℕ) (old new : ReadLife) (front later : List Event) → ReadLives number old (front ++ later) new → (mid : ReadLife) × ReadLives number old front mid × ReadLives number mid later new
+pub read-cut : (number : ℕ) (old new : ReadLife) (earlier later : List Event) → ReadLives number old (earlier ++ later) new → (mid : ReadLife) × ReadLives number old earlier mid × ReadLives number mid later new
 read-cut number old new [] later lives = (old, refl, lives)
-read-cut number old new (event ∷ front) later lives =
-    let rest = read-cut number lives.0 new front later lives.2 in
+read-cut number old new (event ∷ earlier) later lives =
+    let rest = read-cut number lives.0 new earlier later lives.2 in
     (rest.0, (lives.0, lives.1, rest.1), rest.2)
 
 -- its own events do what they say
@@ -160,14 +160,14 @@ read-took_effect number bytes old new events none lives is =
     (read-landed number bytes old new events lives is)
 
 -- a read that lands, and had not begun, began before the entry
-pub read-begin : (number block : ℕ) (bytes : Block) (old new : ReadLife) (front later : List Event) → old ≡ NotBegun → ReadLives number old (front ++ Lands (entry_of_read number block bytes) ∷ later) new → BegunAmong number block front
-read-begin number block bytes old new front later none lives =
-    let cut = read-cut number old new front (Lands (entry_of_read number block bytes) ∷ later) lives in
+pub read-begin : (number block : ℕ) (bytes : Block) (old new : ReadLife) (earlier later : List Event) → old ≡ NotBegun → ReadLives number old (earlier ++ Lands (entry_of_read number block bytes) ∷ later) new → BegunAmong number block earlier
+read-begin number block bytes old new earlier later none lives =
+    let cut = read-cut number old new earlier (Lands (entry_of_read number block bytes) ∷ later) lives in
     let lands = read-lands number block bytes cut.0 (cut.2).0 (cut.2).1 in
     ⊎_elim
     (λ was. absurd (let clash : NotBegun ≡ Begun block = sym none ∙ was in cc))
     (λ begun. begun)
-    (read-begun number block old cut.0 front cut.1 lands.0)
+    (read-begun number block old cut.0 earlier cut.1 lands.0)
 
 -- what has landed with bytes keeps them until it is replied to
 pub read-keeps_bytes : (number : ℕ) (bytes others : Block) (old new : ReadLife) (events : List Event) → ReadLives number old events new → old ≡ Landed bytes → new ≡ Landed others → others ≡ bytes
@@ -207,15 +207,15 @@ pub record BetweenTwo (number : ℕ) (between : List Event) (first second : Even
   pub lives : ReadLives number after between found
   pub closes : ReadStep number found second end
 
-pub read-between : (number : ℕ) (old new : ReadLife) (front between later : List Event) (first second : Event) → ReadLives number old (front ++ first ∷ (between ++ second ∷ later)) new → BetweenTwo number between first second
-read-between number old new front between later first second lives =
-    let whole = read-cut number old new front (first ∷ (between ++ second ∷ later)) lives in
+pub read-between : (number : ℕ) (old new : ReadLife) (earlier between later : List Event) (first second : Event) → ReadLives number old (earlier ++ first ∷ (between ++ second ∷ later)) new → BetweenTwo number between first second
+read-between number old new earlier between later first second lives =
+    let whole = read-cut number old new earlier (first ∷ (between ++ second ∷ later)) lives in
     let rest = read-cut number (whole.2).0 new between (second ∷ later) (whole.2).2 in
     record { before = whole.0; after = (whole.2).0; found = rest.0; end = (rest.2).0; opens = (whole.2).1; lives = rest.1; closes = (rest.2).1 }
 
 -- a read that is replied to, and had not begun, took effect before the reply
-pub read-effect : (number : ℕ) (bytes : Block) (old new : ReadLife) (front later : List Event) → old ≡ NotBegun → ReadLives number old (front ++ RepliesRead number bytes ∷ later) new → ReadTookEffect number bytes front
-read-effect number bytes old new front later none lives =
-    let cut = read-cut number old new front (RepliesRead number bytes ∷ later) lives in
+pub read-effect : (number : ℕ) (bytes : Block) (old new : ReadLife) (earlier later : List Event) → old ≡ NotBegun → ReadLives number old (earlier ++ RepliesRead number bytes ∷ later) new → ReadTookEffect number bytes earlier
+read-effect number bytes old new earlier later none lives =
+    let cut = read-cut number old new earlier (RepliesRead number bytes ∷ later) lives in
     let replies = read-replies number bytes cut.0 (cut.2).0 (cut.2).1 in
-    read-took_effect number bytes old cut.0 front none cut.1 replies.0
+    read-took_effect number bytes old cut.0 earlier none cut.1 replies.0

@@ -66,10 +66,10 @@ write-forward ticket old new (event ∷ events) lives =
     omega (arith, forward ticket old lives.0 event (write-move ticket old lives.0 event lives.1), write-forward ticket lives.0 new events lives.2)
 
 -- a life, cut where a list is
-pub write-cut : (ticket : ℕ) (old new : WriteLife) (front later : List Event) → WriteLives ticket old (front ++ later) new → (mid : WriteLife) × WriteLives ticket old front mid × WriteLives ticket mid later new
+pub write-cut : (ticket : ℕ) (old new : WriteLife) (earlier later : List Event) → WriteLives ticket old (earlier ++ later) new → (mid : WriteLife) × WriteLives ticket old earlier mid × WriteLives ticket mid later new
 write-cut ticket old new [] later lives = (old, refl, lives)
-write-cut ticket old new (event ∷ front) later lives =
-    let rest = write-cut ticket lives.0 new front later lives.2 in
+write-cut ticket old new (event ∷ earlier) later lives =
+    let rest = write-cut ticket lives.0 new earlier later lives.2 in
     (rest.0, (lives.0, lives.1, rest.1), rest.2)
 
 -- its own events do what they say
@@ -168,14 +168,14 @@ write-took_effect ticket number old new events none lives is =
     (write-landed ticket number old new events lives is)
 
 -- a write that lands, and had not begun, began before the entry
-pub write-begin : (ticket number block : ℕ) (span : Span) (bytes : Block) (old new : WriteLife) (front later : List Event) → old ≡ NotBegun → WriteLives ticket old (front ++ Lands (entry_of_write number ticket block span bytes) ∷ later) new → BegunAmong ticket block (put_of span bytes) front
-write-begin ticket number block span bytes old new front later none lives =
-    let cut = write-cut ticket old new front (Lands (entry_of_write number ticket block span bytes) ∷ later) lives in
+pub write-begin : (ticket number block : ℕ) (span : Span) (bytes : Block) (old new : WriteLife) (earlier later : List Event) → old ≡ NotBegun → WriteLives ticket old (earlier ++ Lands (entry_of_write number ticket block span bytes) ∷ later) new → BegunAmong ticket block (put_of span bytes) earlier
+write-begin ticket number block span bytes old new earlier later none lives =
+    let cut = write-cut ticket old new earlier (Lands (entry_of_write number ticket block span bytes) ∷ later) lives in
     let lands = write-lands number ticket block span bytes cut.0 (cut.2).0 (cut.2).1 in
     ⊎_elim
     (λ was. absurd (let clash : NotBegun ≡ Begun block (put_of span bytes) = sym none ∙ was in cc))
     (λ begun. begun)
-    (write-begun ticket block (put_of span bytes) old cut.0 front cut.1 lands.0)
+    (write-begun ticket block (put_of span bytes) old cut.0 earlier cut.1 lands.0)
 
 -- what has landed under a number stays so until it is replied to
 pub write-keeps_number : (ticket number other : ℕ) (old new : WriteLife) (events : List Event) → WriteLives ticket old events new → old ≡ Landed number → new ≡ Landed other → other ≡ number
@@ -213,15 +213,15 @@ pub record BetweenTwo (ticket : ℕ) (between : List Event) (first second : Even
   pub lives : WriteLives ticket after between found
   pub closes : WriteStep ticket found second end
 
-pub write-between : (ticket : ℕ) (old new : WriteLife) (front between later : List Event) (first second : Event) → WriteLives ticket old (front ++ first ∷ (between ++ second ∷ later)) new → BetweenTwo ticket between first second
-write-between ticket old new front between later first second lives =
-    let whole = write-cut ticket old new front (first ∷ (between ++ second ∷ later)) lives in
+pub write-between : (ticket : ℕ) (old new : WriteLife) (earlier between later : List Event) (first second : Event) → WriteLives ticket old (earlier ++ first ∷ (between ++ second ∷ later)) new → BetweenTwo ticket between first second
+write-between ticket old new earlier between later first second lives =
+    let whole = write-cut ticket old new earlier (first ∷ (between ++ second ∷ later)) lives in
     let rest = write-cut ticket (whole.2).0 new between (second ∷ later) (whole.2).2 in
     record { before = whole.0; after = (whole.2).0; found = rest.0; end = (rest.2).0; opens = (whole.2).1; lives = rest.1; closes = (rest.2).1 }
 
 -- a write that is replied to, and had not begun, took effect before the reply
-pub write-effect : (ticket number : ℕ) (old new : WriteLife) (front later : List Event) → old ≡ NotBegun → WriteLives ticket old (front ++ RepliesWrite ticket number ∷ later) new → WriteTookEffect ticket number front
-write-effect ticket number old new front later none lives =
-    let cut = write-cut ticket old new front (RepliesWrite ticket number ∷ later) lives in
+pub write-effect : (ticket number : ℕ) (old new : WriteLife) (earlier later : List Event) → old ≡ NotBegun → WriteLives ticket old (earlier ++ RepliesWrite ticket number ∷ later) new → WriteTookEffect ticket number earlier
+write-effect ticket number old new earlier later none lives =
+    let cut = write-cut ticket old new earlier (RepliesWrite ticket number ∷ later) lives in
     let replies = write-replies ticket number cut.0 (cut.2).0 (cut.2).1 in
-    write-took_effect ticket number old cut.0 front none cut.1 replies.0
+    write-took_effect ticket number old cut.0 earlier none cut.1 replies.0

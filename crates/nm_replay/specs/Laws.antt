@@ -23,18 +23,18 @@ ConsistentIsExplained =
 -- each end piece of legal entries is legal, from some array up to the same one
 abbrev pub EndPieceIsLegal : Type 0
 EndPieceIsLegal =
-    (front piece : List Entry) (next : ℕ) (from to : Array)
-    → Legal next (front ++ piece) from to
-    → (middle : Array) × Legal next front from middle
-    × Legal (next + length front) piece middle to
+    (earlier piece : List Entry) (next : ℕ) (from to : Array)
+    → Legal next (earlier ++ piece) from to
+    → (middle : Array) × Legal next earlier from middle
+    × Legal (next + length earlier) piece middle to
 
 -- legal entries followed by legal entries are legal
 abbrev pub LegalThenLegal : Type 0
 LegalThenLegal =
-    (front piece : List Entry) (next : ℕ) (from middle to : Array)
-    → Legal next front from middle
-    → Legal (next + length front) piece middle to
-    → Legal next (front ++ piece) from to
+    (earlier piece : List Entry) (next : ℕ) (from middle to : Array)
+    → Legal next earlier from middle
+    → Legal (next + length earlier) piece middle to
+    → Legal next (earlier ++ piece) from to
 
 -- where entries are consistent and end in an array, so are and so do those of them that are kept
 abbrev pub KeptIsConsistent : Type 0

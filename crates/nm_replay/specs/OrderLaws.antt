@@ -13,8 +13,8 @@ use Rattle.nm_replay.specs.Explained.{Point, Explained, ExplainsWrite, ExplainsR
 abbrev pub WriteBeforeWrite : Type 0
 WriteBeforeWrite =
     (ticket number other above block : ℕ) (put : Put) (span : Span) (bytes : Block)
-    (front between following later : List Event)
-    → ExplainsWrite ticket (front ++ RepliesWrite ticket number
+    (earlier between following later : List Event)
+    → ExplainsWrite ticket (earlier ++ RepliesWrite ticket number
     ∷ (between ++ BeginsWrite other block put
     ∷ (following ++ Lands (entry_of_write above other block span bytes) ∷ later)))
     → number < above
@@ -22,8 +22,8 @@ WriteBeforeWrite =
 -- a write that was replied to before a read began has the lower number
 abbrev pub WriteBeforeRead : Type 0
 WriteBeforeRead =
-    (ticket number above block : ℕ) (bytes : Block) (front between following later : List Event)
-    → ExplainsWrite ticket (front ++ RepliesWrite ticket number
+    (ticket number above block : ℕ) (bytes : Block) (earlier between following later : List Event)
+    → ExplainsWrite ticket (earlier ++ RepliesWrite ticket number
     ∷ (between ++ BeginsRead above block
     ∷ (following ++ Lands (entry_of_read above block bytes) ∷ later)))
     → number < above
@@ -32,8 +32,8 @@ WriteBeforeRead =
 abbrev pub ReadBeforeWrite : Type 0
 ReadBeforeWrite =
     (number other above block : ℕ) (found bytes : Block) (put : Put) (span : Span)
-    (front between following later : List Event)
-    → ExplainsRead number (front ++ RepliesRead number found
+    (earlier between following later : List Event)
+    → ExplainsRead number (earlier ++ RepliesRead number found
     ∷ (between ++ BeginsWrite other block put
     ∷ (following ++ Lands (entry_of_write above other block span bytes) ∷ later)))
     → number < above
@@ -41,8 +41,8 @@ ReadBeforeWrite =
 -- a read that was replied to before another read began has the lower number
 abbrev pub ReadBeforeRead : Type 0
 ReadBeforeRead =
-    (number above block : ℕ) (found bytes : Block) (front between following later : List Event)
-    → ExplainsRead number (front ++ RepliesRead number found
+    (number above block : ℕ) (found bytes : Block) (earlier between following later : List Event)
+    → ExplainsRead number (earlier ++ RepliesRead number found
     ∷ (between ++ BeginsRead above block
     ∷ (following ++ Lands (entry_of_read above block bytes) ∷ later)))
     → number < above
@@ -51,18 +51,18 @@ ReadBeforeRead =
 -- none, those that the array had there at first
 abbrev pub ReadFindsTheLastBytes : Type 0
 ReadFindsTheLastBytes =
-    (from to : Point) (number block : ℕ) (bytes : Block) (front later : List Event)
-    → Explained from to (front ++ Lands (entry_of_read number block bytes) ∷ later)
-    → option_or (last_on block (entries_of front)) (slice_get from.array block) ≡ Some bytes
+    (from to : Point) (number block : ℕ) (bytes : Block) (earlier later : List Event)
+    → Explained from to (earlier ++ Lands (entry_of_read number block bytes) ∷ later)
+    → option_or (last_on block (entries_of earlier)) (slice_get from.array block) ≡ Some bytes
 
 -- the entry of a write of a part has, outside the part, the bytes of the last entry before it on
 -- its block, or, where there is none, those that the array had there at first
 abbrev pub PatchKeepsTheRest : Type 0
 PatchKeepsTheRest =
     (from to : Point) (number ticket block start len : ℕ) (bytes : Block)
-    (front later : List Event)
+    (earlier later : List Event)
     → Explained from to
-    (front ++ Lands (entry_of_write number ticket block (Piece start len) bytes) ∷ later)
+    (earlier ++ Lands (entry_of_write number ticket block (Piece start len) bytes) ∷ later)
     → (old : Block)
-    × (option_or (last_on block (entries_of front)) (slice_get from.array block) ≡ Some old)
+    × (option_or (last_on block (entries_of earlier)) (slice_get from.array block) ≡ Some old)
     × SameOutside start len old bytes

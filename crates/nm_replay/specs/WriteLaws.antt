@@ -9,46 +9,46 @@ use Rattle.nm_replay.specs.Explained.{Point, Explained, ExplainsWrite, NothingEx
 abbrev pub NoWriteEntryBeforeItsBegin : Type 0
 NoWriteEntryBeforeItsBegin =
     (ticket number block other : ℕ) (span : Span) (bytes : Block) (put : Put)
-    (front between later : List Event)
-    → NothingExplains (front ++ Lands (entry_of_write number ticket block span bytes)
+    (earlier between later : List Event)
+    → NothingExplains (earlier ++ Lands (entry_of_write number ticket block span bytes)
     ∷ (between ++ BeginsWrite ticket other put ∷ later))
 
 -- no reply to a write comes before its entry
 abbrev pub NoWriteReplyBeforeItsEntry : Type 0
 NoWriteReplyBeforeItsEntry =
     (ticket number block other : ℕ) (span : Span) (bytes : Block)
-    (front between later : List Event)
-    → NothingExplains (front ++ RepliesWrite ticket other
+    (earlier between later : List Event)
+    → NothingExplains (earlier ++ RepliesWrite ticket other
     ∷ (between ++ Lands (entry_of_write number ticket block span bytes) ∷ later))
 
 -- no write begins twice
 abbrev pub NoSecondWriteBegin : Type 0
 NoSecondWriteBegin =
-    (ticket block other : ℕ) (put others : Put) (front between later : List Event)
-    → NothingExplains (front ++ BeginsWrite ticket block put
+    (ticket block other : ℕ) (put others : Put) (earlier between later : List Event)
+    → NothingExplains (earlier ++ BeginsWrite ticket block put
     ∷ (between ++ BeginsWrite ticket other others ∷ later))
 
 -- no write has two entries
 abbrev pub NoSecondWriteEntry : Type 0
 NoSecondWriteEntry =
     (ticket number again block other : ℕ) (span spans : Span) (bytes others : Block)
-    (front between later : List Event)
-    → NothingExplains (front ++ Lands (entry_of_write number ticket block span bytes)
+    (earlier between later : List Event)
+    → NothingExplains (earlier ++ Lands (entry_of_write number ticket block span bytes)
     ∷ (between ++ Lands (entry_of_write again ticket other spans others) ∷ later))
 
 -- no write is replied to twice
 abbrev pub NoSecondWriteReply : Type 0
 NoSecondWriteReply =
-    (ticket number again : ℕ) (front between later : List Event)
-    → NothingExplains (front ++ RepliesWrite ticket number
+    (ticket number again : ℕ) (earlier between later : List Event)
+    → NothingExplains (earlier ++ RepliesWrite ticket number
     ∷ (between ++ RepliesWrite ticket again ∷ later))
 
 -- a write lands on the block that it began with, and puts there what it began with
 abbrev pub WriteLandsAsItBegan : Type 0
 WriteLandsAsItBegan =
     (from to : Point) (ticket number block other : ℕ) (put : Put) (span : Span) (bytes : Block)
-    (front between later : List Event)
-    → Explained from to (front ++ BeginsWrite ticket block put
+    (earlier between later : List Event)
+    → Explained from to (earlier ++ BeginsWrite ticket block put
     ∷ (between ++ Lands (entry_of_write number ticket other span bytes) ∷ later))
     → (other ≡ block) × (put_of span bytes ≡ put)
 
@@ -56,18 +56,18 @@ WriteLandsAsItBegan =
 abbrev pub WriteRepliedWithItsNumber : Type 0
 WriteRepliedWithItsNumber =
     (from to : Point) (ticket number other block : ℕ) (span : Span) (bytes : Block)
-    (front between later : List Event)
-    → Explained from to (front ++ Lands (entry_of_write number ticket block span bytes)
+    (earlier between later : List Event)
+    → Explained from to (earlier ++ Lands (entry_of_write number ticket block span bytes)
     ∷ (between ++ RepliesWrite ticket other ∷ later))
     → other ≡ number
 
 -- a write that had not begun lands only after it began, with its block and what it puts there
 abbrev pub WriteLandsAfterItsBegin : Type 0
 WriteLandsAfterItsBegin =
-    (ticket number block : ℕ) (span : Span) (bytes : Block) (front later : List Event)
-    → ExplainsWrite ticket (front ++ Lands (entry_of_write number ticket block span bytes) ∷ later)
+    (ticket number block : ℕ) (span : Span) (bytes : Block) (earlier later : List Event)
+    → ExplainsWrite ticket (earlier ++ Lands (entry_of_write number ticket block span bytes) ∷ later)
     → (before following : List Event)
-    × (front ≡ before ++ BeginsWrite ticket block (put_of span bytes) ∷ following)
+    × (earlier ≡ before ++ BeginsWrite ticket block (put_of span bytes) ∷ following)
 
 -- events in which a write began and then landed, under this number, with its own block and what it
 -- put there
@@ -84,6 +84,6 @@ pub record WriteTookEffect (ticket number : ℕ) (events : List Event) : Type 0 
 -- a write that had not begun is replied to only after it began and took effect
 abbrev pub WriteRepliedAfterItsEntry : Type 0
 WriteRepliedAfterItsEntry =
-    (ticket number : ℕ) (front later : List Event)
-    → ExplainsWrite ticket (front ++ RepliesWrite ticket number ∷ later)
-    → WriteTookEffect ticket number front
+    (ticket number : ℕ) (earlier later : List Event)
+    → ExplainsWrite ticket (earlier ++ RepliesWrite ticket number ∷ later)
+    → WriteTookEffect ticket number earlier

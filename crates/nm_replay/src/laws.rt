@@ -28,7 +28,7 @@ pub fn consistent_is_explained()
     ensures { ConsistentIsExplained }
 {}
 
-/// Each end piece of a legal list of entries is legal, from what the front piece leaves up to the
+/// Each end piece of a legal list of entries is legal, from what the first piece leaves up to the
 /// same array.
 pub fn end_piece_is_legal()
     ensures { EndPieceIsLegal }

@@ -2,11 +2,8 @@
 -- master. So it is one of the legs, and not out, and holds what the array has.
 use Rattle.std.proofs.Common.{◌≡◌, ℕ, zero, suc, ◌+◌, ◌-◌, ◌<◌, ◌≤◌, ◌/◌, ◌==◌, ◌&&◌, ◌||◌, Bool, true, false, not, IsTrue, List, [], ◌∷◌, length, Option, None, Some, is_some, refl, sym, ap, ◌∙◌, subst, arith, cond, slice_get, get_or, eq-eqb}
 use Rattle.std.proofs.lemmas.List.Sums.{sum_by-cons}
-use Rattle.std.proofs.lemmas.Nat.{mod_below}
-use Rattle.std.proofs.lemmas.Option.{same_Some, slice_get-get_or}
+use Rattle.std.proofs.lemmas.Option.{same_Some}
 use Rattle.nm_choice.specs.declared.leg_state.LegState.{LegState}
-use Rattle.nm_choice.specs.declared.policy.Policy.{Policy}
-use Rattle.nm_choice.specs.declared.policy.Policy.TheVariants.{RoundRobin, Striped}
 use Rattle.nm_choice.specs.Choice.{picked, place_of}
 use Rattle.nm_fanout.specs.declared.write_record.Record.{Record}
 use Rattle.nm_fanout.specs.Record.{is_under_way, owes}
@@ -112,20 +109,6 @@ module _ {L : Type 0} (type : LegType L) (s : StripeState L) (block : ℕ) where
 
   pub read-inside : HasLegs type.model s → HasChunk s.copy s.chunk s → (leg : ℕ) → read_leg block s ≡ Some leg → leg < length s.legs
   read-inside k chunk leg is = attached_inside type.model s k leg (read-attached k chunk leg is)
-
-  -- and there is always one
-  pub read-some : HasLegs type.model s → (leg : ℕ) × (read_leg block s ≡ Some leg)
-  read-some k =
-      (elim (is_quiet block s) as (λ b. (leg : ℕ) × (picked s.policy s.turn (region_of block (table s)) (current_legs block s) s.master b ≡ Some leg)) [
-        | true ↦
-            let place : ℕ = place_of s.policy s.turn (region_of block (table s)) (length (current_legs block s)) in
-            (get_or (current_legs block s) place 0, slice_get-get_or (current_legs block s) place 0 (place-within s.policy))
-        | false ↦ (s.master, refl)
-      ])
-    where
-      place-within : (policy : Policy) → place_of policy s.turn (region_of block (table s)) (length (current_legs block s)) < length (current_legs block s)
-      place-within RoundRobin = mod_below s.turn (length (current_legs block s)) (some_current k)
-      place-within Striped = mod_below (region_of block (table s)) (length (current_legs block s)) (some_current k)
 
   -- what has its entry is not owed to the master
   not_owed : (owed : Bool) → true ≡ not owed → owed ≡ false

@@ -1,5 +1,8 @@
-ghost use Rattle.std.specs.Prelude.{◌≡◌};
-ghost use Rattle.nm_rules.specs.OpenFault.{fault_number};
+ghost use Rattle.std.specs.Prelude.{◌≡◌, Some};
+ghost use Rattle.nm_rules.specs.OpenFault.{fault_number, fault_text};
+
+use std::error::Error;
+use std::fmt;
 
 /// Why a stripe did not open by comparing its legs.
 #[derive(Clone, Copy, Debug, PartialEq, Eq)]
@@ -21,3 +24,16 @@ impl OpenFault {
         }
     }
 }
+
+impl fmt::Display for OpenFault {
+    ghost output = { λ fault. Some (fault_text fault) };
+
+    fn fmt<W: fmt::Write>(&self, f: &mut fmt::Formatter<W>) -> fmt::Result {
+        f.write_str(match self {
+            OpenFault::Memory => "out of memory",
+            OpenFault::MasterFault => "the master cannot be read",
+        })
+    }
+}
+
+impl Error for OpenFault {}

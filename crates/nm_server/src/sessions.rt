@@ -76,7 +76,7 @@ fn export_of(alloc: Global, named: &ExportName<'_>, blocks: u64) -> Option<Expor
     })
 }
 
-// Haggles with a client within its time, and tells whether requests follow. Behind it no limit
+// Haggles with a client within its time, and tells whether requests follow. After it no limit
 // stands.
 fn shake_hands<R: Wait + Clock>(
     rt: &R,

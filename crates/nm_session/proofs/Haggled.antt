@@ -4,7 +4,7 @@ use Rattle.std.proofs.lemmas.List.{append-nil, drop-append-le}
 use Rattle.std.proofs.Math.Seq.{drop-append-add}
 use Rattle.nm_haggle.specs.declared.next.Next.{Next}
 use Rattle.nm_haggle.specs.declared.next.Next.TheVariants as next
-use Rattle.nm_haggle.specs.Haggling.{Haggling, Haggles, HagglesFrom, Response, End, IsUsed, initial_state, end_at}
+use Rattle.nm_haggle.specs.Haggling.{Haggling, Haggles, HagglesFrom, End, IsUsed, initial_state, end_at}
 use Rattle.nm_haggle.specs.Haggling as haggle
 use Rattle.nm_haggle.specs.Handshake.{NoFlags, handshake_destination}
 use Rattle.nm_haggle.specs.Laws.{GoesOn, EndsThere}
@@ -111,7 +111,7 @@ ends_with goes_on ends_there export text replied old new piece out used shown la
       end_is = refl;
     }
 
--- the bytes behind what is used
+-- the bytes after what is used
 rest_after_used : (text piece later : List ℕ) (used : ℕ) → used ≤ length piece
     → drop (length text + used) (text ++ (piece ++ later)) ≡ drop used piece ++ later
 rest_after_used text piece later used within =

@@ -1,6 +1,6 @@
 -- A request that was read and settled is asked, and what comes next is what was answered.
-use Rattle.std.proofs.Common.{◌≡◌, ℕ, zero, suc, ◌+◌, List, ◌++◌, length, Option, Some, None, Result, Ok, Err, refl, sym, ◌∙◌, subst, inl, inr}
-use Rattle.std.specs.Prelude.{◌<◌, [], ◌∷◌, All, IfOk, IfSome, IfNone}
+use Rattle.std.proofs.Common.{◌≡◌, ℕ, zero, suc, ◌+◌, List, ◌++◌, length, Option, Result, Ok, Err, refl, sym, ◌∙◌, subst, inl, inr}
+use Rattle.std.specs.Prelude.{◌<◌, [], ◌∷◌, All, IfOk, IfSome}
 use Rattle.std.proofs.Common.{arith}
 use Rattle.std.proofs.lemmas.List.Elements.{All-append, All-nil}
 use Rattle.nm_session.specs.declared.held.Held.{Held}
@@ -15,7 +15,7 @@ use Rattle.nm_session.specs.declared.next.Next.{Next}
 use Rattle.nm_session.specs.declared.stage.Stage.TheVariants as stage
 use Rattle.nm_session.specs.Session.{Session, IsReading}
 use Rattle.nm_session.specs.Asking.{Asks, held_for, own_reply, stage_after, next_after}
-use Rattle.nm_session.specs.Reading.{Tells, RepliesItself}
+use Rattle.nm_session.specs.Reading.{Tells}
 use Rattle.nm_session.proofs.Sessions.{same_session}
 
 -- what was found out of the first request
@@ -91,13 +91,6 @@ pub tells : (old new : Session) (request : Request) (judged : Result Task ℕ)
 tells old new request judged next asks e =
     subst (λ (o : Option Next). IfSome o (λ n. Tells old n new)) (sym e)
     (tells_at old new request judged asks)
-
-pub replies : (old new : Session) (request : Request) (judged : Result Task ℕ)
-    (next : Option Next) → Asks old request judged new → next ≡ next_after request judged
-    → IfNone next (RepliesItself old new)
-replies old new request judged None asks e =
-    record { request = request; judged = judged; asks = asks; no_target = sym e }
-replies old new request judged (Some next) asks e = tt
 
 -- after a request the haggling does not begin again
 pub goes_on : (judged : Result Task ℕ) → stage_after judged ≡ stage.Haggling → ⊥

@@ -7,13 +7,13 @@ use Rattle.nm_choice.specs.declared.leg_state.LegState.{LegState}
 use Rattle.nm_choice.specs.declared.leg_state.LegState.TheVariants.{InSync, Joining, Out}
 use Rattle.nm_choice.specs.declared.policy.Policy.{Policy}
 use Rattle.nm_leg.specs.Leg.{Leg, LegType}
-use Rattle.nm_leg.specs.LegCalls.{EachHas, HasBlock, ReadsLegAt}
+use Rattle.nm_leg.specs.LegCalls.{EachHas, ReadsLegAt}
 use Rattle.nm_regions.specs.Changes.{all_set_aside, attached}
 use Rattle.nm_regions.specs.LegFlags.{LegRegions, no_leg, opened_leg, set_aside}
 use Rattle.nm_regions.specs.LegFlags as leg_flags
 use Rattle.nm_regions.specs.Table.{regions_of}
 use Rattle.nm_rules.specs.declared.at.At.{At}
-use Rattle.nm_rules.specs.Comparing.{comparing, marked_at, dropped, ComparesLeg, IsPassedOver, HoldsSame, HoldsOther, FailsRead, ComparesLegs, ComparesBlock, ComparesBlocks}
+use Rattle.nm_rules.specs.Comparing.{comparing, marked_at, dropped, ComparesLeg, IsPassedOver, HoldsSame, HoldsOther, FailsRead, ComparesLegs, ComparesBlock}
 use Rattle.nm_rules.specs.Opening.{opened, opened_state, bits_from, has_bit}
 use Rattle.nm_rules.specs.State.{StripeState, is_joining, leg_state, table}
 use Rattle.nm_rules.proofs.AttachLemmas.{set-same, set-other}
@@ -113,13 +113,6 @@ module _ {L : Type 0} (type : LegType L) where
         (legs-count block b.bytes (length old.legs) (record old { legs = b.legs }) new b.compares).1,
       )
 
-  pub blocks-comparing : (n : ℕ) (old new : StripeState L) → IsComparing type.model old → ComparesBlocks type n old new → IsComparing type.model new × (new.place ≡ old.place)
-  blocks-comparing zero old new k c = (subst (λ (s : StripeState L). IsComparing type.model s) (sym c) k, ap (λ (s : StripeState L). s.place) c)
-  blocks-comparing (suc n) old new k c =
-      let before = blocks-comparing n old c.0 k c.1 in
-      let last = block-comparing n c.0 new before.0 c.2 in
-      (last.0, last.1 ∙ before.1)
-
   -- a leg was read: what the call and the change after it say, as one comparison
   module _ (leg block : ℕ) (bytes target found : Block) (old mid new : StripeState L) (joins : is_joining (leg_state leg old) ≡ true) (ok : Bool) (reads : ReadsLegAt type ok leg block old.legs mid.legs target found) (others : mid ≡ record old { legs = mid.legs }) where
     read-as : (is : Bool) → ok ≡ is → (legs : List L) → legs ≡ mid.legs → ReadsLegAt type is leg block old.legs legs target found
@@ -146,10 +139,6 @@ module _ {L : Type 0} (type : LegType L) where
         HoldsSame joins target
         (subst (λ (b : Block). ReadsLegAt type true leg block old.legs mid.legs target b) same (read-as true went_well mid.legs refl))
         others
-
-  -- a leg has each block of the stripe
-  pub comparing-block : (s : StripeState L) (leg block : ℕ) → IsComparing type.model s → block < s.place.blocks → HasBlock type.model s.legs leg block
-  comparing-block s leg block k within l at = omega (arith, within, k.lengths leg l at)
 
 -- no leg is in sync where no bit is set
 joining-bits : (n i : ℕ) → map opened_state (bits_from 0 n i) ≡ replicate n Joining

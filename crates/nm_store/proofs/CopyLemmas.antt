@@ -1,5 +1,5 @@
 -- The copy and the chunk that a step of a copy goes on with.
-use Rattle.std.proofs.Common.{Vec, ◌≡◌, ℕ, ◌*◌, ◌<◌, ◌==◌, Bool, true, false, cond, IsFalse, List, [], ◌∷◌, None, Some, Option, length, nat_lt, refl, sym, ap, ◌∙◌, subst, arith, position}
+use Rattle.std.proofs.Common.{Vec, ◌≡◌, ℕ, ◌*◌, ◌<◌, ◌==◌, Bool, true, false, cond, List, [], ◌∷◌, None, Some, Option, length, nat_lt, refl, sym, ap, ◌∙◌, subst, arith, position}
 use Rattle.std.specs.List.{list_any}
 use Rattle.std.specs.Option.{IsSome, option_map, option_or}
 use Rattle.std.specs.Vec.{with_items}
@@ -16,7 +16,7 @@ use Rattle.nm_regions.specs.Changes.{advanced, cleared_for, moved, region_finish
 use Rattle.nm_regions.specs.LegFlags.{no_leg}
 use Rattle.nm_regions.specs.Links.{before_lowest}
 use Rattle.nm_regions.specs.Sound.{IsRegionTable}
-use Rattle.nm_regions.specs.Table.{RegionTable, copy_rest, has_behind, is_out, leg_at, lowest_behind, length_of, regions_of}
+use Rattle.nm_regions.specs.Table.{RegionTable, copy_rest, has_behind, leg_at, lowest_behind, length_of, regions_of}
 use Rattle.nm_regions.proofs.Linking.{lowest-position}
 use Rattle.nm_rules.specs.Copy.{GoesOn, copy_cause, copy_of, chunk_copied}
 use Rattle.nm_rules.specs.Invariant.{IsCopy, Keeps}
@@ -24,7 +24,7 @@ use Rattle.nm_rules.specs.State.{StripeState, Chunk, table}
 use Rattle.nm_rules.proofs.ChunkLemmas.{copy-is}
 use Rattle.nm_rules.proofs.CopyLemmas.{may_copy, region-some}
 use Rattle.nm_rules.proofs.CopySteps.{goes-ready}
-use Rattle.nm_rules.proofs.StateLemmas.{joining_inside, joining_attached}
+use Rattle.nm_rules.proofs.StateLemmas.{joining_inside}
 
 -- a place before the end of a region is in one of the regions
 pub region-inside : (t : RegionTable) (region cursor : ℕ) → IsRegionTable t → cursor < length_of region t → region < length t.writes
@@ -40,10 +40,6 @@ module _ {L : Type 0} (type : LegType L) (s : StripeState L) (leg : ℕ) (k : Ke
   -- the leg is one of the stripe's
   pub asked-inside : leg < length s.legs
   asked-inside = joining_inside type.model s k.legs leg (may_copy s leg asked).joining
-
-  -- and not out
-  pub asked-attached : IsFalse (is_out leg (table s))
-  asked-attached = joining_attached type.model s k.legs leg (may_copy s leg asked).joining
 
   abbrev start : ℕ → CopyPlace
   start region = record { leg = leg; region = region; cursor = 0 }
@@ -91,7 +87,7 @@ goes-some type s leg copy chunk k on =
     let some : 0 < chunk.length = omega (arith, more) in
     grind (arith, nat_tests)
 
--- a region table behind a chunk: its legs and its copy change, and no more
+-- a region table after a chunk: its legs and its copy change, and no more
 behind-chunk : (blocks : ℕ) (t : RegionTable) → chunk_copied blocks t ≡ record { blocks = t.blocks; region = t.region; legs = (chunk_copied blocks t).legs; writes = t.writes; copy = (chunk_copied blocks t).copy }
 behind-chunk blocks t =
     (elim (copy_rest (advanced blocks t) == 0) as (λ b. let u : RegionTable = cond b (region_finished (advanced blocks t)) (advanced blocks t) in u ≡ record { blocks = t.blocks; region = t.region; legs = u.legs; writes = t.writes; copy = u.copy }) [

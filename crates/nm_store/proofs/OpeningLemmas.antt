@@ -2,7 +2,7 @@
 use Rattle.std.proofs.Common.{◌≡◌, ℕ, zero, suc, ◌+◌, [], ◌∷◌, ◌++◌, length, refl, ap, ◌∙◌, arith}
 use Rattle.nm_rules.specs.Opening.{bits_from, has_bit}
 
--- the flag of one more leg stands behind those of the legs before it
+-- the flag of one more leg stands after those of the legs before it
 pub bits-next : (bits legs leg : ℕ) → bits_from bits (suc legs) leg ≡ bits_from bits legs leg ++ has_bit bits (legs + leg) ∷ []
 bits-next bits zero leg = ap (λ (k : ℕ). has_bit bits k ∷ []) (omega arith)
 bits-next bits (suc legs) leg =

@@ -116,7 +116,7 @@ module _ {L : Type 0} (type : LegType L) (old new : StripeState L) (b : ℕ) (wa
     step-makes step answer j synced is = absurd synced
 
 module _ {L : Type 0} (type : LegType L) (b j : ℕ) (is_honest : IsTrue type.honest) where
-  -- one step more of a list: what is known of the stripe behind it
+  -- one step more of a list: what is known of the stripe after it
   record Behind (step : Step L) (answer : Answer L) (steps : List (Step L)) (old mid : StripeState L) : Type 0 where
     keeps : Keeps type mid
     asked : AllAsked type.model mid steps

@@ -155,6 +155,14 @@ fn the_legs_come_back_where_the_master_fails(rt: HostRuntime) -> Result<(), Fail
     };
     assert_eq!(rt; fault, OpenFault::MasterFault);
     assert_eq!(rt; (OpenFault::Memory.number(), fault.number()), (1, 2));
+    assert_eq!(rt;
+        OpenFault::Memory.to_string(rt.alloc())?.as_str(),
+        "out of memory"
+    );
+    assert_eq!(rt;
+        fault.to_string(rt.alloc())?.as_str(),
+        "the master cannot be read"
+    );
     assert!(rt; legs.len() == 3);
     assert_eq!(rt; legs[0].faults(), 1);
     Ok(())

@@ -1,5 +1,5 @@
 -- What reading requests does to a core, and that each task can be called for.
-use Rattle.std.proofs.Common.{◌≡◌, ℕ, ◌≤◌, List, [], ◌∷◌, ◌++◌, refl, sym, ap, ◌∙◌, subst, ◌⊎◌, inl, inr, arith}
+use Rattle.std.proofs.Common.{◌≡◌, ℕ, ◌≤◌, List, [], ◌∷◌, ◌++◌, sym, ap, ◌∙◌, subst, ◌⊎◌, inl, inr}
 use Rattle.nm_requests.specs.declared.task.Task.{Task}
 use Rattle.nm_requests.specs.declared.task.Task.TheVariants as task
 use Rattle.nm_session.proofs.Motion.{runs-append}
@@ -63,9 +63,6 @@ reads_on a b d first more = record {
   runs = runs-append a b d first.events more.events first.runs more.runs;
 }
 
-pub reads_nothing : (a : Session) → IsRead a a
-reads_nothing a = record { events = []; are_readings = tt; runs = refl }
-
 -- a task that is handed out can be called for
 pub issued_callable : (old new : Session) (index : ℕ) (task : Task) (payload : List ℕ) (size : ℕ)
     → Reads old (next.Issue index task payload) new → size_of old.haggling.export ≤ size
@@ -75,16 +72,6 @@ issued_callable old new index task payload size reads large =
     callable reads.tells.request reads.mid.haggling.export task index payload size
     reads.tells.asks.inside reads.tells.fills
     (size_stays old reads.mid read.events size read.runs large) reads.tells.is_next
-
--- and so by a target that has more bytes
-pub callable_by : (task : Task) (payload : List ℕ) (size larger : ℕ) → size ≤ larger
-    → IsCallable size task payload → IsCallable larger task payload
-callable_by (task.Read offset count) payload size larger more is = omega (arith, is, more)
-callable_by (task.Write offset count fua) payload size larger more is = (omega (arith, is.0, more), is.1)
-callable_by (task.Zero offset count fua) payload size larger more is = omega (arith, is, more)
-callable_by task.Flush payload size larger more is = tt
-callable_by task.Nothing payload size larger more is = absurd is
-callable_by task.Disconnect payload size larger more is = absurd is
 
 -- nothing is there to be read
 pub starves : (old new : Session) → Reads old next.Starved new → IsStarved new

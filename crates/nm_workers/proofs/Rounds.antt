@@ -1,20 +1,18 @@
 -- What the parts of a round do together.
-use Rattle.std.proofs.Common.{◌≡◌, ℕ, List, [], ◌∷◌, ◌++◌, Option, refl, sym, ap, ◌∙◌, subst, append-nil}
+use Rattle.std.proofs.Common.{◌≡◌, ℕ, List, [], ◌∷◌, ◌++◌, Option, refl, sym, ◌∙◌, subst}
 use Rattle.nm_mailbox.specs.declared.message.Message.{Message}
-use Rattle.nm_session.proofs.Pieces.{starved_after_send, ended_after_send, none_after_send}
+use Rattle.nm_session.proofs.Pieces.{none_after_send}
 use Rattle.nm_session.specs.declared.serve_fault.ServeFault.{ServeFault}
 use Rattle.nm_session.specs.declared.serve_fault.ServeFault.TheVariants as fault
 use Rattle.nm_session.specs.declared.served.Served.{Served}
 use Rattle.nm_session.specs.CalledValue.{CalledValue}
-use Rattle.nm_session.specs.Event.{Takes}
 use Rattle.nm_session.specs.Laws.{IsRead}
 use Rattle.nm_session.specs.MovingBytes.{SendsOut, SendsPart}
-use Rattle.nm_session.specs.Session.{Session, IsFull}
+use Rattle.nm_session.specs.Session.{Session}
 use Rattle.nm_workers.specs.declared.input.Input.{Input}
 use Rattle.nm_workers.specs.declared.input.Input.TheVariants as input
-use Rattle.nm_workers.specs.declared.pause.Pause.{Pause}
 use Rattle.nm_workers.specs.declared.pause.Pause.TheVariants as pause
-use Rattle.nm_workers.specs.Moving.{Stand, stand, Moves, BreaksOff, PausesAt, IsKnown, IsOverAt, Attends}
+use Rattle.nm_workers.specs.Moving.{Stand, stand, Moves, BreaksOff, IsKnown, IsOverAt, Attends}
 use Rattle.nm_workers.proofs.Steps.{moves_on, breaks_on, stops, reads, sends, sends_part}
 
 -- a move, and then the rest of the session
@@ -31,16 +29,6 @@ attends_on served a b c first second = record {
 pub stops_there : (found : ServeFault) → found ≡ fault.Memory → (a b : Stand) → Moves a b → BreaksOff found a b
 stops_there found is a b moves =
     subst (λ (f : ServeFault). BreaksOff f a b) (sym is) (stops fault.Memory tt a b moves)
-
-full_as : (old : Session) → IsFull old → IsFull (record old { out = [] })
-full_as old full = record { serving = full.serving; full = full.full }
-
--- why no request was handed out stays so as replies are taken
-pub pauses_after_send : (why : Pause) (old new : Session) (bytes : List ℕ) → PausesAt why old → Takes old bytes new
-    → PausesAt why new
-pauses_after_send pause.Starved old new bytes pauses takes = starved_after_send old new bytes pauses takes
-pauses_after_send pause.Full old new bytes pauses takes = subst IsFull (sym takes.new_is) (full_as old pauses)
-pauses_after_send pause.Ended old new bytes pauses takes = ended_after_send old new bytes pauses takes
 
 -- what is known of the client's bytes is not called more than it is
 pub known_as : (next before : Input) (heard : List (Message CalledValue)) → (next ≡ input.Ended → before ≡ input.Ended)

@@ -12,7 +12,7 @@ use Rattle.nm_session.proofs.Motion.{runs-append, fed-append, taken-append}
 use Rattle.nm_session.specs.declared.serve_fault.ServeFault.{ServeFault}
 use Rattle.nm_session.specs.declared.serve_fault.ServeFault.TheVariants as fault
 use Rattle.nm_session.specs.CalledValue.{CalledValue}
-use Rattle.nm_session.specs.Event.{Event, Fed, Asked, Stopped, Answered, Took, Runs, fed_bytes, taken_bytes}
+use Rattle.nm_session.specs.Event.{Event, Fed, Asked, Stopped, Answered, Took, fed_bytes, taken_bytes}
 use Rattle.nm_session.specs.Laws.{AreReadings, IsRead}
 use Rattle.nm_session.specs.MovingBytes.{SendsOut, SendsPart}
 use Rattle.nm_session.specs.Session.{Session}

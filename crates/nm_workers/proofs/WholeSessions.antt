@@ -28,7 +28,7 @@ use Rattle.nm_workers.specs.declared.input.Input.TheVariants as input
 use Rattle.nm_workers.specs.Moving.{stand, Attends, BreaksOff, ComesTo, IsCause, IsKnown}
 use Rattle.nm_workers.specs.Pieces.{bytes_of, HasEnded}
 use Rattle.nm_workers.specs.Reading.{HasRead}
-use Rattle.nm_workers.specs.Serving.{Wires, wires, Goes, Ends, Breaks, IsServed, IsBrokenOff}
+use Rattle.nm_workers.specs.Serving.{Wires, Goes, Ends, Breaks, IsServed, IsBrokenOff}
 use Rattle.nm_workers.proofs.Steps.{bytes-append, heard-append, cause_on}
 
 -- one part of a session after the other
@@ -42,14 +42,6 @@ goes_on a b c u v w first second = record {
   appends = subst (Appends u.output w.output) (sym (taken-append first.events second.events))
       (Appends-trans u.output v.output w.output (taken_bytes first.events) (taken_bytes second.events)
       first.appends second.appends);
-}
-
-pub goes_nowhere : (a : Session) (u : Wires) → Goes a a u u
-goes_nowhere a u = record {
-  events = [];
-  runs = refl;
-  consumes = Consumes-nil u.input;
-  appends = Appends-nil u.output;
 }
 
 -- fed bytes, and what follows them unfed

@@ -66,8 +66,8 @@ pub record BreaksOff (fault : ServeFault) (from to : Stand) : Type 0 where
   pub appends : Appends from.output to.output written
   pub cause : IsCause fault (taken_bytes events) written
 
--- why no further request is handed out: none is there as a whole, as many are outstanding as may be,
--- or nothing more is read
+-- why no further request is handed out: none is there as a whole, as many are outstanding as may
+-- be, or nothing more is read
 abbrev pub PausesAt : Pause → Session → Type 0
 PausesAt pause.Starved core = IsStarved core
 PausesAt pause.Full core = IsFull core

@@ -24,7 +24,7 @@ use std::io::Write;
 use std::sync::Wait;
 
 // Hands out requests, hears what the threads tell and sends replies until the session ends. The
-// threads end behind it, since the desk is gone then.
+// threads end after it, since the desk is gone then.
 pub(crate) fn attend<R: Wait, O: Write, E: Extent>(
     rt: &R,
     alloc: Global,

@@ -124,7 +124,7 @@ impl Talk {
     }
 }
 
-/// Requests inside, across the end and behind the end of the export, of bytes across two blocks and
+/// Requests inside, across the end and past the end of the export, of bytes across two blocks and
 /// of none, and a DISC, each sent once the one before was replied to.
 pub fn one_after_the_other(alloc: Global) -> Result<Talk, AllocError> {
     let mut talk = Talk::new(alloc)?;

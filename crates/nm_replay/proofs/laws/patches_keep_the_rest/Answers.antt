@@ -3,4 +3,4 @@ use Rattle.nm_replay.proofs.Ordering.{patch-keeps_rest}
 use Rattle.nm_replay.proofs.laws.patches_keep_the_rest.Goals as goal
 
 pub returns : goal.returns
-returns c = λ from to number ticket block start len bytes front later x. patch-keeps_rest from to number ticket block start len bytes front later x
+returns c = λ from to number ticket block start len bytes earlier later x. patch-keeps_rest from to number ticket block start len bytes earlier later x

@@ -3,4 +3,4 @@ use Rattle.nm_replay.proofs.Ordering.{read-finds_last}
 use Rattle.nm_replay.proofs.laws.reads_find_the_last_bytes.Goals as goal
 
 pub returns : goal.returns
-returns c from to number block bytes front later x = read-finds_last from to number block bytes front later x
+returns c from to number block bytes earlier later x = read-finds_last from to number block bytes earlier later x

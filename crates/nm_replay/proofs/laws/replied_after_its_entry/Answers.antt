@@ -4,7 +4,7 @@ use Rattle.nm_replay.proofs.ReadStages.{read-effect}
 use Rattle.nm_replay.proofs.laws.replied_after_its_entry.Goals as goal
 
 pub returns-clause-write : goal.returns-clause-write
-returns-clause-write c ticket number front later x = write-effect ticket number (x.from.writes ticket) (x.to.writes ticket) front later x.not_begun (x.explained.each_write ticket)
+returns-clause-write c ticket number earlier later x = write-effect ticket number (x.from.writes ticket) (x.to.writes ticket) earlier later x.not_begun (x.explained.each_write ticket)
 
 pub returns-clause-read : goal.returns-clause-read
-returns-clause-read c number bytes front later x = read-effect number bytes (x.from.reads number) (x.to.reads number) front later x.not_begun (x.explained.each_read number)
+returns-clause-read c number bytes earlier later x = read-effect number bytes (x.from.reads number) (x.to.reads number) earlier later x.not_begun (x.explained.each_read number)

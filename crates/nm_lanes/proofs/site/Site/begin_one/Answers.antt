@@ -1,4 +1,4 @@
--- A try behind those that did nothing of their own.
+-- A try after those that did nothing of their own.
 use Rattle.std.proofs.Common.{rules, [], ◌∷◌, ◌∙◌}
 use Rattle.nm_stripe.specs.declared.answer.Answer.TheVariants as answer
 use Rattle.nm_stripe.specs.declared.step.Step.TheVariants as step

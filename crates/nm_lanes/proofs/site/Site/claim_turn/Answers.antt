@@ -1,4 +1,4 @@
--- A refused claim is the end, or pushes stand behind it.
+-- A refused claim is the end, or pushes stand after it.
 use Rattle.std.proofs.Common.{rules, ◌≡◌, Some, None}
 use Rattle.nm_lanes.specs.Own.{claim_end_of}
 use Rattle.nm_lanes.proofs.WriteLemmas.{claim-ends, claim-goes, claim-stops}

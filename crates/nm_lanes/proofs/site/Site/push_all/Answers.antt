@@ -1,4 +1,4 @@
--- A push behind pushes.
+-- A push after pushes.
 use Rattle.std.proofs.Common.{rules, []}
 use Rattle.nm_lanes.specs.Own.{EndsSo}
 use Rattle.nm_lanes.specs.Steps.{Nobodys}

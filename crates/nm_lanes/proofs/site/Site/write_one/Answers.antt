@@ -1,4 +1,4 @@
--- Begun, pushed and claimed, or the end behind the begin.
+-- Begun, pushed and claimed, or the end after the begin.
 use Rattle.std.proofs.Common.{rules}
 use Rattle.nm_lanes.proofs.WriteLemmas.{write-done, pushes-stop, claims-stop}
 use Rattle.nm_lanes.proofs.site.Site.write_one.Goals as goal
