@@ -8,6 +8,7 @@ pub mod Transmission
 pub mod Haggled
 pub mod Once
 pub mod Changing
+pub mod Reading
 pub mod Motion
 pub mod OneTurn
 pub mod Pieces
