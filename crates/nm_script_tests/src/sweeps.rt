@@ -154,6 +154,22 @@ fn is_well_kept(script: &Ended, printed: &str) -> bool {
     state.contains(" settling no legs ")
 }
 
+/// Runs the script with this call of the leg failing, and tells whether the leg had that many calls.
+/// Either way the run ends well; `unfused` is what the script prints where none fails.
+fn ends_well(
+    rt: &impl Abort,
+    alloc: Global,
+    script: &Ended,
+    (leg, call): (u8, u64),
+    unfused: &Ran,
+) -> Result<bool, Fail> {
+    let ran = run_with_fuse(alloc, &script.text, leg, call);
+    assert_eq!(rt; ran.status, 0, "leg {leg}, call {call}");
+    assert!(rt; ran.out.as_slice().ends_with(b"\nlegal yes\n"));
+    assert!(rt; is_well_kept(script, str::from_utf8(&ran.out)?));
+    Ok(ran.out.as_slice() != unfused.out.as_slice())
+}
+
 /// Runs the script with this call of the leg failing, then with the next, and so on until no call
 /// fails. Each run ends well.
 fn fail_in_turn(
@@ -165,11 +181,7 @@ fn fail_in_turn(
 ) -> Result<(), Fail> {
     let unfused = run_with_fuse(alloc, &script.text, leg, u64::MAX);
     for call in first..2_000 {
-        let ran = run_with_fuse(alloc, &script.text, leg, call);
-        assert_eq!(rt; ran.status, 0, "leg {leg}, call {call}");
-        assert!(rt; ran.out.as_slice().ends_with(b"\nlegal yes\n"));
-        assert!(rt; is_well_kept(script, str::from_utf8(&ran.out)?));
-        if ran.out.as_slice() == unfused.out.as_slice() {
+        if !ends_well(rt, alloc, script, (leg, call), &unfused)? {
             return Ok(());
         }
     }
@@ -202,10 +214,20 @@ fn each_call_may_fail_where_all_records_are_in_use(rt: HostRuntime) -> Result<()
     sweep(&rt, rt.alloc(), &with_ending(rt.alloc(), 1, 1, &script)?)
 }
 
-/// Of 1,025 reads the last six: there the oldest entries are dropped.
+/// Which calls fail of a script with 1,025 reads, beside the last ones, which drop the oldest
+/// entries. All in turn would take longer than a test may.
+const SOME_CALLS: [u64; 16] = [
+    1, 2, 3, 4, 5, 10, 50, 100, 200, 300, 400, 500, 600, 700, 850, 1_000,
+];
+
 #[test]
-fn each_late_read_may_fail(rt: HostRuntime) -> Result<(), Fail> {
-    let (script, _) = long_history(rt.alloc())?;
-    let script = with_ending(rt.alloc(), 1, 1, &script)?;
-    fail_in_turn(&rt, rt.alloc(), &script, 0, 1_020)
+fn reads_may_fail_where_entries_are_dropped(rt: HostRuntime) -> Result<(), Fail> {
+    let alloc = rt.alloc();
+    let (script, _) = long_history(alloc)?;
+    let script = with_ending(alloc, 1, 1, &script)?;
+    let unfused = run_with_fuse(alloc, &script.text, 0, u64::MAX);
+    for call in SOME_CALLS {
+        assert!(rt; ends_well(&rt, alloc, &script, (0, call), &unfused)?);
+    }
+    fail_in_turn(&rt, alloc, &script, 0, 1_020)
 }

@@ -1,6 +1,7 @@
 //! Single calls of a stripe, and which legs a step calls.
 use crate::asking::{Ask, Summary, fill_block, may_ask, step_of, summary_of};
 use crate::opening::{Mirror, ONE_LEG, TWO_LEGS, opened};
+use crate::stripes::WRITE_AND_READS;
 use nm_leg::{CountingLeg, FuseLeg, LegPart, MemLeg};
 use nm_replay::Block;
 use nm_stripe::{
@@ -270,4 +271,12 @@ pub fn compare_calls(
 #[test]
 fn a_step_makes_at_most_one_call_of_a_leg(rt: HostRuntime) -> Result<(), Fail> {
     compare_calls(&rt, rt.alloc(), &HEALING, &CALLS)
+}
+
+/// How many calls each leg has had after each step of `WRITE_AND_READS`.
+const CALLS_OF_A_WRITE: [(u64, u64); 7] = [(0, 0), (1, 0), (2, 0), (3, 0), (3, 1), (3, 1), (4, 1)];
+
+#[test]
+fn a_write_calls_each_leg_once_and_a_read_the_master(rt: HostRuntime) -> Result<(), Fail> {
+    compare_calls(&rt, rt.alloc(), &WRITE_AND_READS, &CALLS_OF_A_WRITE)
 }

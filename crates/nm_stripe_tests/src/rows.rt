@@ -16,6 +16,12 @@ const LONGER: Mirror = Mirror {
     ..TWO_LEGS
 };
 
+/// As `LONGER`, where the first leg fails its first call.
+const FIRST_OF_LONGER_FAILS: Mirror = Mirror {
+    fuse: Some((0, 1)),
+    ..LONGER
+};
+
 /// As `LONGER`, on three legs.
 const LONGER_OF_THREE: Mirror = Mirror {
     legs: 3,
@@ -264,4 +270,20 @@ fn a_read_loses_the_master(rt: HostRuntime) -> Result<(), Fail> {
         &[(LegState::Out, 0), (LegState::InSync, 0)],
     );
     Ok(())
+}
+
+/// The fuse fails the read, which is the first call of the leg, and not the step that asks first.
+const NAMED_CALL: [(Ask, Summary); 7] = [
+    (Ask::Begin(3, 0xaa), Summary::Begun(0)),
+    (Ask::Read(3), Summary::LegLost(0)),
+    (Ask::Push(0, 0), Summary::Refused(Refusal::NotOwed)),
+    (Ask::Read(3), SETTLING),
+    (Ask::Push(0, 1), Summary::Complete(0)),
+    (Ask::Claim(0), Summary::Written(0)),
+    (Ask::Read(3), Summary::Value(1, 0xaa)),
+];
+
+#[test]
+fn a_fuse_fails_the_call_that_it_names(rt: HostRuntime) -> Result<(), Fail> {
+    has(&rt, rt.alloc(), FIRST_OF_LONGER_FAILS, &NAMED_CALL)
 }

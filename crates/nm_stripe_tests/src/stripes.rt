@@ -11,7 +11,8 @@ use std::alloc::{AllocError, Global};
 use std::process::Abort;
 use std::test::Fail;
 
-const WRITE_AND_READS: [(Ask, Summary); 7] = [
+/// A write to two legs, with reads before, between and after.
+pub const WRITE_AND_READS: [(Ask, Summary); 7] = [
     (Ask::Begin(3, 0xaa), Summary::Begun(0)),
     (Ask::Read(3), Summary::Value(0, 0x00)),
     (Ask::Push(0, 0), Summary::Pushed(1)),
