@@ -65,7 +65,8 @@ WriteRepliedWithItsNumber =
 abbrev pub WriteLandsAfterItsBegin : Type 0
 WriteLandsAfterItsBegin =
     (ticket number block : ℕ) (span : Span) (bytes : Block) (earlier later : List Event)
-    → ExplainsWrite ticket (earlier ++ Lands (entry_of_write number ticket block span bytes) ∷ later)
+    → ExplainsWrite ticket (earlier ++ Lands (entry_of_write number ticket block span bytes)
+    ∷ later)
     → (before following : List Event)
     × (earlier ≡ before ++ BeginsWrite ticket block (put_of span bytes) ∷ following)
 
