@@ -9,7 +9,7 @@ help:
 	@echo 'make run           build nbdmirror and serve two legs of 64 MiB, until a quit'
 	@echo 'make demo          build nbdmirror and show it: a leg fails, comes back, and is copied'
 	@echo 'make interop       other programs against nbdmirror; installs what is missing'
-	@echo 'make hostile       clients, legs and crashes that do harm, for about half an hour; FORM=short for a minute or two'
+	@echo 'make hostile       clients, legs and crashes that do harm, for about three quarters of an hour; FORM=short for a minute or two'
 	@echo 'make script        build nm_script and run it on the example script'
 	@echo 'make check         the whole gate: every proof from nothing, every must-fail edit, every test'
 	@echo 'make gate-cost     the gate, with what each crate costs written into docs/ARCHITECTURE.md'
