@@ -43,8 +43,6 @@ all-more : {L : Type 0} (legs : ℕ) (xs : List (Done L)) (d : Done L) → AllSy
 all-more legs [] d all one = (one, tt)
 all-more legs (x ∷ xs) d all one = (all.0, all-more legs xs d all.1 one)
 
-module _ {L D : Type 0} (follows : D → List (Done L) → D → Type 0) where
-
 module _ {L D : Type 0} (follows : D → List (Done L) → D → Type 0)
     (joins : (first mid last : D) (before after : List (Done L)) → follows first before mid → follows mid after last → follows first (before ++ after) last) where
   -- one leg more
