@@ -8,4 +8,6 @@ mod control_lines;
 #[cfg(test)]
 mod mirror_sessions;
 #[cfg(test)]
+mod mirrors;
+#[cfg(test)]
 mod whole_server;

@@ -1,15 +1,14 @@
 //! Sessions over a mirror of 1, 2 and 16 stripes in memory: each gets the same bytes, and leaves no
 //! write under way.
-ghost use Rattle.std.specs.Prelude.{◌≤◌};
 
+use crate::mirrors::zeroes;
 use nm_geometry::Shape;
 use nm_lanes::{Gate, NoGate, Place};
 use nm_leg::MemLeg;
-use nm_mirror::{Mirror, Pass, Start, open_stripes};
+use nm_mirror::{Mirror, Pass};
 use nm_replies::ReplyWriter;
 use nm_server::{PassCalls, ReadyMirror, targets_of};
 use nm_session::{CutReader, CutWriter, End, ServeFault, Served};
-use nm_stripe::Policy;
 use nm_wire::Memory;
 use nm_workers::{Finished, serve_many};
 use nm_workers_tests::counting_writer::CountingWriter;
@@ -38,25 +37,13 @@ const APART: u64 = 8_192;
 
 const LENGTH: u32 = 6_144;
 
-/// A mirror of zeroes in so many stripes, with regions of eight blocks. Leg 0 of each stripe is in
-/// sync, leg 1 joins.
+/// A mirror of zeroes in so many stripes, with regions of eight blocks, on two legs.
 fn mirror<G: Gate + Drop>(alloc: Global, stripes: u32, gate: G) -> Result<Mirror<MemLeg, G>, Fail> {
-    let shape = Shape::new(2_048, 8, 4, stripes, 2).ok_or("no shape")?;
-    let mut legs = Vec::new(alloc);
-    for stripe in 0..shape.stripes {
-        let blocks = shape.stripe_blocks(stripe);
-        let mut own = Vec::new(alloc);
-        own.push(MemLeg::new(alloc, blocks)?)?;
-        own.push(MemLeg::new(alloc, blocks)?)?;
-        legs.push(own)?;
-    }
-    let Ok(stripes) = open_stripes(alloc, &shape, legs, 0, Policy::RoundRobin, Start::Full) else {
-        return Err(Fail::new("no stripes"));
-    };
-    match Mirror::new(alloc, shape, stripes, gate) {
-        Ok(mirror) => Ok(mirror),
-        Err(_) => Err(Fail::new("no memory")),
-    }
+    zeroes(
+        alloc,
+        Shape::new(2_048, 8, 4, stripes, 2).ok_or("no shape")?,
+        gate,
+    )
 }
 
 /// So many passes of the mirror.
