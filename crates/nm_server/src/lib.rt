@@ -6,12 +6,12 @@
 
 mod answering;
 mod control_port;
+mod file_calls;
 mod handshake_reader;
 mod hang_up;
 mod leg_files;
 mod mirror_calls;
 mod mirror_target;
-mod pass_calls;
 mod program;
 mod progress;
 mod resync;
@@ -21,9 +21,8 @@ mod start_fault;
 mod watched_file;
 
 pub use crate::answering::control;
+pub use crate::file_calls::FileCalls;
 pub use crate::mirror_calls::{MirrorCalls, ReadyMirror};
 pub use crate::mirror_target::MirrorTarget;
-pub use crate::pass_calls::PassCalls;
 pub use crate::program::start;
-pub use crate::sessions::targets_of;
 pub use crate::start_fault::StartFault;

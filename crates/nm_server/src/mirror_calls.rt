@@ -75,7 +75,7 @@ impl<L, C: MirrorCalls<L> + Drop> Model for ReadyMirror<L, C> {
 
 impl<L, C: MirrorCalls<L> + Drop> ReadyMirror<L, C> {
     /// This mirror, whose calls are ready.
-    pub fn new(calls: C) -> Self
+    pub(crate) fn new(calls: C) -> Self
         requires { C.ready calls }
         ensures { result ≡ C.shape calls }
     {

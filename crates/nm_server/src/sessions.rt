@@ -4,12 +4,12 @@ ghost use Rattle.std.specs.Prelude.{IsSome, IfSome, IfOk};
 ghost use Rattle.nm_server.specs.Handshake.{HasGreeted};
 ghost use Rattle.nm_wire.specs.Export.{size_of};
 
+use crate::file_calls::FileCalls;
 use crate::handshake_reader::HandshakeReader;
 use crate::hang_up::HangUp;
 use crate::leg_files::{FileMirror, Leg};
 use crate::mirror_calls::{MirrorCalls, ReadyMirror};
 use crate::mirror_target::MirrorTarget;
-use crate::pass_calls::PassCalls;
 use crate::session_places::SessionPlaces;
 use log::{Log, warn};
 use nm_leg::LegPart;
@@ -109,11 +109,9 @@ fn shake_hands<R: Wait + Clock>(
     }
 }
 
-/// The mirror as a target through each of the passes. The first of them that ends, once the session
-/// asks for nothing more, ends the stream's read that is under way.
-///
-/// Out of memory it answers so.
-pub fn targets_of<'a, L, C: MirrorCalls<L> + Drop>(
+// The mirror as a target through each of the passes. The first of them that ends, once the session
+// asks for nothing more, ends the read under way.
+fn targets_of<'a, L, C: MirrorCalls<L> + Drop>(
     alloc: Global,
     mirror: &'a ReadyMirror<L, C>,
     passes: &'a mut [Pass<L>],
@@ -179,7 +177,7 @@ fn serve_client<R: Threads + Wait + Sync + Copy + Clock>(
     if !shake_hands(rt, alloc, stream, &mut core, &mut sender)? {
         return Ok(());
     }
-    let ready = ReadyMirror::new(PassCalls { rt, alloc, mirror });
+    let ready = ReadyMirror::new(FileCalls { rt, alloc, mirror });
     answer_requests(rt, alloc, stream, &ready, passes, core, sender, lookout)
 }
 

@@ -1,11 +1,11 @@
 //! The control port's answers over two legs in memory, without a thread that copies.
 
-use crate::mirrors::zeroes;
 use nm_geometry::Shape;
 use nm_lanes::NoGate;
 use nm_leg::MemLeg;
-use nm_mirror::Mirror;
+use nm_mirror::{Mirror, Start, open_stripes};
 use nm_server::control;
+use nm_stripe::Policy;
 use std::alloc::Global;
 use std::process::Abort;
 use std::sync::Wait;
@@ -81,6 +81,26 @@ const TALKS: [Talk; 14] = [
     (b"quit\nfail 0\n", b"bye\n", true),
 ];
 
+/// A mirror of 1 MiB in two stripes, on two legs in memory; leg 0 is in sync, leg 1 joins.
+fn mirror(alloc: Global) -> Result<Mirror<MemLeg, NoGate>, Fail> {
+    let shape = Shape::new(2048, 128, 8, 2, 2).ok_or("no shape")?;
+    let mut legs = Vec::new(alloc);
+    for stripe in 0..shape.stripes {
+        let blocks = shape.stripe_blocks(stripe);
+        let mut own = Vec::new(alloc);
+        own.push(MemLeg::new(alloc, blocks)?)?;
+        own.push(MemLeg::new(alloc, blocks)?)?;
+        legs.push(own)?;
+    }
+    let Ok(stripes) = open_stripes(alloc, &shape, legs, 0, Policy::RoundRobin, Start::Full) else {
+        return Err(Fail::new("no stripes"));
+    };
+    match Mirror::new(alloc, shape, stripes, NoGate) {
+        Ok(mirror) => Ok(mirror),
+        Err(_) => Err(Fail::new("no memory")),
+    }
+}
+
 /// Whether a connection goes as it must.
 fn goes<R: Wait + Abort>(
     rt: &R,
@@ -99,8 +119,7 @@ fn goes<R: Wait + Abort>(
 #[test]
 fn lines_are_answered(rt: HostRuntime) -> Result<(), Fail> {
     let alloc = rt.alloc();
-    let shape = Shape::new(2_048, 128, 8, 2, 2).ok_or("no shape")?;
-    let mirror = zeroes(alloc, shape, NoGate)?;
+    let mirror = mirror(alloc)?;
     for (place, (sent, answered, ends)) in TALKS.into_iter().enumerate() {
         assert!(rt;
             goes(&rt, alloc, &mirror, sent, answered, ends),

@@ -6,8 +6,4 @@ mod command_lines;
 #[cfg(test)]
 mod control_lines;
 #[cfg(test)]
-mod mirror_sessions;
-#[cfg(test)]
-mod mirrors;
-#[cfg(test)]
 mod whole_server;

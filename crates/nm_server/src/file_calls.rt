@@ -1,8 +1,9 @@
-//! A mirror's calls, as the targets of a session make them.
+//! The calls of the mirror that the program serves.
 ghost use Rattle.std.specs.Prelude.{◌≡◌, ◌+◌, ◌*◌, ◌≤◌, length, IsTrue, ◌↔◌};
 ghost use Rattle.nm_server.specs.Calls.{CallsMirror};
 ghost use Rattle.nm_session.specs.Target.{Reads, Writes, Zeroes, Flushes, Syncs};
 
+use crate::leg_files::{FileMirror, Leg};
 use crate::mirror_calls::MirrorCalls;
 use bytes::Bytes;
 use nm_lanes::{Gate, WriteFault};
@@ -14,43 +15,43 @@ use std::marker::{Send, Sync};
 use std::sync::Wait;
 use std::thread::Threads;
 
-/// The calls of a mirror, with the runtime whose threads are at work in its stripes.
+/// The mirror of the program, with the runtime whose threads are at work in its stripes.
 #[derive(Drop)]
-pub struct PassCalls<'a, R, L: LegPart, G: Gate + Drop> {
-    pub rt: &'a R,
-    pub alloc: Global,
-    pub mirror: &'a Mirror<L, G>,
+pub struct FileCalls<'a, R> {
+    pub(crate) rt: &'a R,
+    pub(crate) alloc: Global,
+    pub(crate) mirror: &'a FileMirror,
 }
 
-impl<'a, R, L, G> MirrorCalls<L> for PassCalls<'a, R, L, G>
-where
-    R: Threads + Wait + Sync + Copy,
-    L: LegPart + Send,
-    G: Gate + Drop + Sync,
-{
+impl<'a, R: Threads + Wait + Sync + Copy> MirrorCalls<Leg> for FileCalls<'a, R> {
     ghost use Rattle.std.specs.Thread.{IsSync};
 
     ghost ready = { λ calls. IsSync R.row };
 
     ghost shape = { λ calls. calls.mirror.now.shape };
 
-    fn read(&self, pass: &mut Pass<L>, offset: u64, into: &mut [u8]) -> Result<(), TargetFault> {
+    fn read(&self, pass: &mut Pass<Leg>, offset: u64, into: &mut [u8]) -> Result<(), TargetFault> {
         read_through(self.rt, self.mirror, pass, offset, into)
     }
 
-    fn write(&self, pass: &mut Pass<L>, offset: u64, payload: Bytes) -> Result<(), TargetFault> {
+    fn write(&self, pass: &mut Pass<Leg>, offset: u64, payload: Bytes) -> Result<(), TargetFault> {
         write_through(self.rt, self.alloc, self.mirror, pass, offset, payload)
     }
 
-    fn zero(&self, pass: &mut Pass<L>, offset: u64, count: u64) -> Result<(), TargetFault> {
+    fn zero(&self, pass: &mut Pass<Leg>, offset: u64, count: u64) -> Result<(), TargetFault> {
         zero_through(self.rt, self.mirror, pass, offset, count)
     }
 
-    fn flush(&self, pass: &mut Pass<L>) -> Result<(), TargetFault> {
+    fn flush(&self, pass: &mut Pass<Leg>) -> Result<(), TargetFault> {
         flush_through(self.rt, self.mirror, pass)
     }
 
-    fn sync_touched(&self, pass: &mut Pass<L>, offset: u64, count: u64) -> Result<(), TargetFault> {
+    fn sync_touched(
+        &self,
+        pass: &mut Pass<Leg>,
+        offset: u64,
+        count: u64,
+    ) -> Result<(), TargetFault> {
         sync_through(self.rt, self.mirror, pass, offset, count)
     }
 }
