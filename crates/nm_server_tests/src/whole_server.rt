@@ -1,12 +1,16 @@
 //! The whole server in one process: two sessions over two files, many requests at once, and its end.
 
+use log::Log;
 use nm_server::start;
 use std::alloc::Global;
 use std::fs::File;
 use std::io::{Read, Write};
 use std::net::{Net, TcpListener, TcpStream};
+use std::process::Abort;
+use std::rt::Files;
+use std::sync::Wait;
 use std::test::Fail;
-use std::thread::join;
+use std::thread::{Threads, join};
 use std::time::{Clock, Duration};
 use std::{fs, io, thread};
 
@@ -319,33 +323,49 @@ fn forty_writes_at_once_over_one_place(rt: HostRuntime) -> Result<(), Fail> {
     Ok(())
 }
 
+/// Serves a file in so many stripes to a session across regions.
+fn serve_in_stripes<R>(rt: &R, alloc: Global, leg: &str, stripes: &str) -> Result<(), Fail>
+where
+    R: Threads
+        + Wait
+        + Sync
+        + Copy
+        + Clock
+        + Log
+        + Abort
+        + Files<File = File>
+        + Net<Listener = TcpListener, Stream = TcpStream>,
+{
+    fs::write(rt, leg, vec![in alloc; 0u8; 1_048_576]?.as_slice())?;
+    let clients = format!(in alloc; "127.0.0.1:{}", free_port(rt)?)?;
+    let control = format!(in alloc; "127.0.0.1:{}", free_port(rt)?)?;
+    let words = [
+        "nbdmirror",
+        "--listen",
+        clients.as_str(),
+        "--control",
+        control.as_str(),
+        "--stripes",
+        stripes,
+        leg,
+    ];
+    let mut out = Vec::new(alloc);
+    let mut err = Vec::new(alloc);
+    let (status, is_right) = join(
+        rt,
+        || start(rt, alloc, words.as_slice(), &mut out, &mut err),
+        || visit_across(rt, clients.as_str(), control.as_str()),
+    );
+    assert!(rt; is_right, "{stripes} stripes");
+    assert_eq!(rt; status, 0);
+    Ok(())
+}
+
 #[test]
 fn a_session_gets_the_same_bytes_over_1_2_and_16_stripes(rt: HostRuntime) -> Result<(), Fail> {
-    let alloc = rt.alloc();
     let leg = "nm_server_tests.striped";
     for stripes in ["1", "2", "16"] {
-        fs::write(&rt, leg, vec![in alloc; 0u8; 1_048_576]?.as_slice())?;
-        let clients = format!(in alloc; "127.0.0.1:{}", free_port(&rt)?)?;
-        let control = format!(in alloc; "127.0.0.1:{}", free_port(&rt)?)?;
-        let words = [
-            "nbdmirror",
-            "--listen",
-            clients.as_str(),
-            "--control",
-            control.as_str(),
-            "--stripes",
-            stripes,
-            leg,
-        ];
-        let mut out = Vec::new(alloc);
-        let mut err = Vec::new(alloc);
-        let (status, is_right) = join(
-            &rt,
-            || start(&rt, alloc, words.as_slice(), &mut out, &mut err),
-            || visit_across(&rt, clients.as_str(), control.as_str()),
-        );
-        assert!(rt; is_right, "{stripes} stripes");
-        assert_eq!(rt; status, 0);
+        serve_in_stripes(&rt, rt.alloc(), leg, stripes)?;
         assert!(rt; holds_the_writes_across(fs::read(&rt, leg)?.as_slice()));
     }
     fs::remove_file(&rt, leg)?;
