@@ -1,16 +1,12 @@
 //! The whole server in one process: two sessions over two files, many requests at once, and its end.
 
-use log::Log;
 use nm_server::start;
 use std::alloc::Global;
 use std::fs::File;
 use std::io::{Read, Write};
 use std::net::{Net, TcpListener, TcpStream};
-use std::process::Abort;
-use std::rt::Files;
-use std::sync::Wait;
 use std::test::Fail;
-use std::thread::{Threads, join};
+use std::thread::join;
 use std::time::{Clock, Duration};
 use std::{fs, io, thread};
 
@@ -37,27 +33,6 @@ const FLUSHED: &[u8] = b"\x67\x44\x66\x98\0\0\0\0\0\0\0\0\0\0\0\x22";
 const READ: &[u8] = b"\x25\x60\x95\x13\0\0\0\0\0\0\0\0\0\0\0\x23\0\0\0\0\0\0\x03\xfc\0\0\0\x07";
 
 const FOUND: &[u8] = b"\x67\x44\x66\x98\0\0\0\0\0\0\0\0\0\0\0\x23\0\0abc\0\0";
-
-/// A WRITE of 4 bytes at 65,534, across the end of the first region, and its reply.
-const WRITE_ACROSS: &[u8] =
-    b"\x25\x60\x95\x13\0\0\0\x01\0\0\0\0\0\0\0\x25\0\0\0\0\0\0\xff\xfe\0\0\0\x04wxyz";
-
-const WRITTEN_ACROSS: &[u8] = b"\x67\x44\x66\x98\0\0\0\0\0\0\0\0\0\0\0\x25";
-
-/// A READ of 8 bytes at 65,532, and its reply.
-const READ_ACROSS: &[u8] =
-    b"\x25\x60\x95\x13\0\0\0\0\0\0\0\0\0\0\0\x26\0\0\0\0\0\0\xff\xfc\0\0\0\x08";
-
-const FOUND_ACROSS: &[u8] = b"\x67\x44\x66\x98\0\0\0\0\0\0\0\0\0\0\0\x26\0\0wxyz\0\0";
-
-/// A WRITE of the last 2 bytes of 1 MiB, and its reply.
-const WRITE_LAST: &[u8] =
-    b"\x25\x60\x95\x13\0\0\0\x01\0\0\0\0\0\0\0\x27\0\0\0\0\0\x0f\xff\xfe\0\0\0\x02pq";
-
-const WRITTEN_LAST: &[u8] = b"\x67\x44\x66\x98\0\0\0\0\0\0\0\0\0\0\0\x27";
-
-/// How an export of 1 MiB is welcomed.
-const WELCOME_TO_A_MEBIBYTE: &[u8] = b"NBDMAGICIHAVEOPT\0\x03\0\0\0\0\0\x10\0\0\x01\x6d";
 
 /// A DISC, which has no reply.
 const DISC: &[u8] = b"\x25\x60\x95\x13\0\0\0\x02\0\0\0\0\0\0\0\x24\0\0\0\0\0\0\0\0\0\0\0\0";
@@ -153,24 +128,6 @@ fn forty_writes<R: Clock + Net<Listener = TcpListener, Stream = TcpStream>>(
     Ok(is_right && seen.iter().all(|is_seen| *is_seen) && reader.read(&mut more)? == 0)
 }
 
-/// A session whose requests lie in one region, across two, and in the last one.
-fn across_regions<R: Clock + Net<Listener = TcpListener, Stream = TcpStream>>(
-    rt: &R,
-    address: &str,
-) -> io::Result<bool> {
-    let stream = connect(rt, address)?;
-    Ok(
-        ask(&stream, HELLO, WELCOME_TO_A_MEBIBYTE)?
-            && ask(&stream, &WRITE, WRITTEN)?
-            && ask(&stream, WRITE_ACROSS, WRITTEN_ACROSS)?
-            && ask(&stream, WRITE_LAST, WRITTEN_LAST)?
-            && ask(&stream, READ, FOUND)?
-            && ask(&stream, READ_ACROSS, FOUND_ACROSS)?
-            && ask(&stream, FLUSH, FLUSHED)?
-            && ask(&stream, DISC, b"")?,
-    )
-}
-
 /// Ends the server; whether it answers.
 fn quit<R: Clock + Net<Listener = TcpListener, Stream = TcpStream>>(rt: &R, control: &str) -> bool {
     match connect(rt, control) {
@@ -202,17 +159,6 @@ fn visit_again<R: Clock + Net<Listener = TcpListener, Stream = TcpStream>>(
     is_right && has_quit
 }
 
-/// A session across regions, and then the end.
-fn visit_across<R: Clock + Net<Listener = TcpListener, Stream = TcpStream>>(
-    rt: &R,
-    clients: &str,
-    control: &str,
-) -> bool {
-    let is_right = across_regions(rt, clients).unwrap_or(false);
-    let has_quit = quit(rt, control);
-    is_right && has_quit
-}
-
 /// The byte that lies at this place in the end.
 fn wanted(at: usize) -> u8 {
     match at {
@@ -221,28 +167,6 @@ fn wanted(at: usize) -> u8 {
         1024 => b'c',
         _ => 0,
     }
-}
-
-/// The byte that lies at this place after the session across regions.
-fn wanted_across(at: usize) -> u8 {
-    match at {
-        65_534 => b'w',
-        65_535 => b'x',
-        65_536 => b'y',
-        65_537 => b'z',
-        1_048_574 => b'p',
-        1_048_575 => b'q',
-        _ => wanted(at),
-    }
-}
-
-/// Whether a file holds what the session across regions wrote, and zeroes around it.
-fn holds_the_writes_across(file: &[u8]) -> bool {
-    let mut is_right = file.len() == 1_048_576;
-    for (at, byte) in file.iter().enumerate() {
-        is_right = is_right && *byte == wanted_across(at);
-    }
-    is_right
 }
 
 /// Whether a file holds what the clients wrote, and zeroes around it.
@@ -320,54 +244,5 @@ fn forty_writes_at_once_over_one_place(rt: HostRuntime) -> Result<(), Fail> {
     assert!(rt; err.is_empty());
     assert!(rt; out.ends_with(b"stripe 0: entries 80\n"));
     fs::remove_file(&rt, "nm_server_tests.leg")?;
-    Ok(())
-}
-
-/// Serves a file in so many stripes to a session across regions.
-fn serve_in_stripes<R>(rt: &R, alloc: Global, leg: &str, stripes: &str) -> Result<(), Fail>
-where
-    R: Threads
-        + Wait
-        + Sync
-        + Copy
-        + Clock
-        + Log
-        + Abort
-        + Files<File = File>
-        + Net<Listener = TcpListener, Stream = TcpStream>,
-{
-    fs::write(rt, leg, vec![in alloc; 0u8; 1_048_576]?.as_slice())?;
-    let clients = format!(in alloc; "127.0.0.1:{}", free_port(rt)?)?;
-    let control = format!(in alloc; "127.0.0.1:{}", free_port(rt)?)?;
-    let words = [
-        "nbdmirror",
-        "--listen",
-        clients.as_str(),
-        "--control",
-        control.as_str(),
-        "--stripes",
-        stripes,
-        leg,
-    ];
-    let mut out = Vec::new(alloc);
-    let mut err = Vec::new(alloc);
-    let (status, is_right) = join(
-        rt,
-        || start(rt, alloc, words.as_slice(), &mut out, &mut err),
-        || visit_across(rt, clients.as_str(), control.as_str()),
-    );
-    assert!(rt; is_right, "{stripes} stripes");
-    assert_eq!(rt; status, 0);
-    Ok(())
-}
-
-#[test]
-fn a_session_gets_the_same_bytes_over_1_2_and_16_stripes(rt: HostRuntime) -> Result<(), Fail> {
-    let leg = "nm_server_tests.striped";
-    for stripes in ["1", "2", "16"] {
-        serve_in_stripes(&rt, rt.alloc(), leg, stripes)?;
-        assert!(rt; holds_the_writes_across(fs::read(&rt, leg)?.as_slice()));
-    }
-    fs::remove_file(&rt, leg)?;
     Ok(())
 }
