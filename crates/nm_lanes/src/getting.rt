@@ -198,8 +198,8 @@ fn get_both<
             × (length call.now.locks.now ≡ call.now.shape.now.stripes)
             × IsReadStretch call.now.shape.now low.stretch (length own.now)
             × IsRun call.now.shape.now (length front.now) low }
-        ensures { ReadsLanes D.follows call.entry.now.shape.now (pieces_in_stretch low.stretch) low.stripe
-            (front.entry.now, front.exit.now) own.exit.now result }
+        ensures { ReadsLanes D.follows call.entry.now.shape.now (pieces_in_stretch low.stretch)
+            low.stripe (front.entry.now, front.exit.now) own.exit.now result }
     { get_round(call, low, front, own) };
     let mut above = || -> Result<(), Cause>
         requires { IsSync R.row × IsSync G.row × IsSync K.row × IsSend D.row

@@ -30,7 +30,8 @@ fn fail_in<L: LegPart>(stripe: &mut Stripe<L>, leg: u8, counts: &mut FailCounts)
 fn attach_in<L: LegPart>(stripe: &mut Stripe<L>, leg: u8, counts: &mut AttachCounts)
     requires leg { leg < length stripe.old.legs }
     requires room { attaches counts.old < 2 ^ 64 - 1 }
-    ensures { counts.new ≡ attached_so (attach_cause stripe.old leg) (left leg stripe.new) counts.old }
+    ensures { counts.new
+        ≡ attached_so (attach_cause stripe.old leg) (left leg stripe.new) counts.old }
 {
     match stripe.attach(leg) {
         Ok(left) => {
