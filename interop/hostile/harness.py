@@ -343,6 +343,13 @@ class Client:
         length = self.lengths.pop(cookie)
         return cookie, error, self.take(length) if error == 0 else b""
 
+    def read_at_once(self, count):
+        """So many READs of a block in one piece, which are all handed out before the first reply."""
+        texts = [self.prepare(READ, turn * BLOCK, BLOCK)[0] for turn in range(count)]
+        self.socket.sendall(b"".join(texts))
+        for _ in texts:
+            self.receive()
+
     def call(self, *words, **more):
         """A request and its reply, with nothing else outstanding."""
         cookie = self.send(*words, **more)

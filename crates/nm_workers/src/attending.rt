@@ -9,6 +9,7 @@ ghost use Rattle.nm_workers.specs.Moving.{stand, BreaksOff, PausesAt, IsKnown, A
 ghost use Rattle.nm_workers.specs.Moving.{IsAttended, IsOverAt};
 
 use crate::attended::Attended;
+use crate::crew::Crew;
 use crate::desk::Desk;
 use crate::extent::Extent;
 use crate::handing::hand_out;
@@ -18,21 +19,27 @@ use crate::leave::Leave;
 use crate::pause::Pause;
 use nm_mailbox::Inbox;
 use nm_replies::ReplyWriter;
-use nm_session::{Called, End, ServeFault, Served, SessionCore, send_out};
+use nm_session::{Called, End, ServeFault, Served, SessionCore, Target, send_out};
 use std::alloc::Global;
 use std::io::Write;
 use std::sync::Wait;
+use std::thread::Threads;
 
 // Hands out requests, hears what the threads tell and sends replies until the session ends. The
 // threads end after it, since the desk is gone then.
-pub(crate) fn attend<R: Wait, O: Write, E: Extent>(
-    rt: &R,
+pub(crate) fn attend<'s, S, E, R, O, T>(
+    rt: &'s R,
     alloc: Global,
     core: &mut SessionCore,
     sender: &mut ReplyWriter<O>,
     inbox: &mut Inbox<Called>,
-    mut desk: Desk<'_, E>,
+    mut desk: Desk<'_, Crew<'_, 's, S, E, T>>,
 ) -> Result<Served, ServeFault>
+where
+    E: Extent + Send + 's,
+    R: Threads + Wait + Sync + 's,
+    O: Write,
+    T: Target + Send + Drop + 's,
     requires size { size_of core.old.haggling.export ≤ E.bytes }
     ensures ok { IfOk result (λ served. Attends served
         (stand core.old (received_by inbox.old) (O.contents (device_of sender.old)))
@@ -55,15 +62,20 @@ pub(crate) fn attend<R: Wait, O: Write, E: Extent>(
 
 // Hands out the requests that are there, gives the leave to read where none is left, sends the
 // replies that wait in one write and, unless the session is over, waits for what the threads tell.
-fn attend_once<R: Wait, O: Write, E: Extent>(
-    rt: &R,
+fn attend_once<'s, S, E, R, O, T>(
+    rt: &'s R,
     alloc: Global,
     core: &mut SessionCore,
     sender: &mut ReplyWriter<O>,
     inbox: &mut Inbox<Called>,
-    desk: &mut Desk<'_, E>,
+    desk: &mut Desk<'_, Crew<'_, 's, S, E, T>>,
     input: Input,
 ) -> Result<Attended, ServeFault>
+where
+    E: Extent + Send + 's,
+    R: Threads + Wait + Sync + 's,
+    O: Write,
+    T: Target + Send + Drop + 's,
     requires size { size_of core.old.haggling.export ≤ E.bytes }
     requires known { IsKnown input (received_by inbox.old) }
     ensures ok { IfOk result (λ attended. IsAttended attended
@@ -74,7 +86,7 @@ fn attend_once<R: Wait, O: Write, E: Extent>(
         (stand core.new (received_by inbox.new) (O.contents (device_of sender.new)))) }
     ensures channel { IsSameInbox inbox.new inbox.old }
 {
-    let pause = match hand_out(rt, alloc, core, &desk.jobs) {
+    let pause = match hand_out(rt, alloc, core, &mut desk.crew) {
         Ok(pause) => pause,
         Err(fault) => return Err(fault),
     };
@@ -96,13 +108,13 @@ fn attend_once<R: Wait, O: Write, E: Extent>(
 
 // Gives the leave to read a piece where no whole request is there, no piece is still to come, and
 // the client's bytes have not ended.
-fn ask_for_piece<R: Wait, E: Extent>(
+fn ask_for_piece<R: Wait, C>(
     rt: &R,
     alloc: Global,
     core: &SessionCore,
     pause: Pause,
     input: Input,
-    desk: &Desk<'_, E>,
+    desk: &Desk<'_, C>,
 ) -> Result<Input, ServeFault>
     requires pause { PausesAt pause core.now }
     ensures ok { IfOk result (λ next. next ≡ Ended → input ≡ Ended) }

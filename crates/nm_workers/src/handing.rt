@@ -5,28 +5,33 @@ ghost use Rattle.nm_session.specs.Laws.{IsRead};
 ghost use Rattle.nm_wire.specs.Export.{size_of};
 ghost use Rattle.nm_workers.specs.Moving.{PausesAt};
 
+use crate::crew::{Crew, give_job};
 use crate::extent::Extent;
 use crate::job::Job;
 use crate::pause::Pause;
-use crossbeam_channel::Sender;
-use nm_session::{ServeFault, SessionCore};
+use nm_session::{ServeFault, SessionCore, Target};
 use std::alloc::Global;
 use std::sync::Wait;
+use std::thread::Threads;
 
 // Hands out the tasks of the requests that are there, in their order, and says why no more are.
-pub(crate) fn hand_out<R: Wait, E: Extent>(
-    rt: &R,
+pub(crate) fn hand_out<'s, S, E, R, T>(
+    rt: &'s R,
     alloc: Global,
     core: &mut SessionCore,
-    jobs: &Sender<Job<E>>,
+    crew: &mut Crew<'_, 's, S, E, T>,
 ) -> Result<Pause, ServeFault>
+where
+    E: Extent + Send + 's,
+    R: Threads + Wait + Sync + 's,
+    T: Target + Send + Drop + 's,
     requires size { size_of core.old.haggling.export ≤ E.bytes }
     ensures ok { IfOk result (λ pause. IsRead core.old core.new) }
     ensures pause { IfOk result (λ pause. PausesAt pause core.new) }
     ensures err { IfErr result (λ fault. (fault ≡ Memory) × IsRead core.old core.new) }
 {
     'requests: for _ in rt.forever() {
-        match issue(rt, alloc, core, jobs) {
+        match issue(rt, alloc, core, crew) {
             Ok(None) => (),
             Ok(Some(pause)) => return Ok(pause),
             Err(fault) => return Err(fault),
@@ -36,12 +41,16 @@ pub(crate) fn hand_out<R: Wait, E: Extent>(
 }
 
 // Hands out the next task, or says why none is there.
-fn issue<R: Wait, E: Extent>(
-    rt: &R,
+fn issue<'s, S, E, R, T>(
+    rt: &'s R,
     alloc: Global,
     core: &mut SessionCore,
-    jobs: &Sender<Job<E>>,
+    crew: &mut Crew<'_, 's, S, E, T>,
 ) -> Result<Option<Pause>, ServeFault>
+where
+    E: Extent + Send + 's,
+    R: Threads + Wait + Sync + 's,
+    T: Target + Send + Drop + 's,
     requires size { size_of core.old.haggling.export ≤ E.bytes }
     ensures ok { IfOk result (λ pause. IsRead core.old core.new) }
     ensures pause { IfOk result (λ pause. IfSome pause (λ why. PausesAt why core.new)) }
@@ -53,7 +62,7 @@ fn issue<R: Wait, E: Extent>(
     };
     match next {
         Ok(job) => {
-            if jobs.send(rt, job).is_err() {
+            if give_job(rt, alloc, crew, job, core.under_way()).is_err() {
                 return Err(ServeFault::Memory);
             }
             Ok(None)

@@ -6,7 +6,6 @@ ghost use Rattle.nm_workers.specs.Moving.{stand, Moves, BreaksOff, IsKnown, IsLe
 
 use crate::answering::answer;
 use crate::desk::Desk;
-use crate::extent::Extent;
 use crate::input::Input;
 use crate::room::Room;
 use nm_mailbox::{Inbox, Message, Piece};
@@ -18,13 +17,13 @@ use std::sync::Wait;
 const WAITING: usize = 32;
 
 // Waits for a message, and takes it and all others that wait by then.
-pub(crate) fn listen<R: Wait, E: Extent>(
+pub(crate) fn listen<R: Wait, C>(
     rt: &R,
     alloc: Global,
     core: &mut SessionCore,
     inbox: &mut Inbox<Called>,
     input: Input,
-    desk: &mut Desk<'_, E>,
+    desk: &mut Desk<'_, C>,
 ) -> Result<Input, ServeFault>
     requires known { IsKnown input (received_by inbox.old) }
     ensures ok { IfOk result (λ next. (output : Option (List ℕ))

@@ -1,4 +1,4 @@
-//! The threads of a session: one that reads, and one for each target.
+//! The threads of a session: one that reads, and those of its workers.
 ghost use Rattle.std.specs.Prelude.{◌≡◌, ◌≤◌, [], All, IfOk, IfErr, vec_len};
 ghost use Rattle.nm_mailbox.specs.Ends.{pieces_by, received_by, SendsTo};
 ghost use Rattle.nm_replies.specs.Sending.{device_of};
@@ -6,29 +6,24 @@ ghost use Rattle.nm_wire.specs.Export.{size_of};
 ghost use Rattle.nm_workers.specs.Serving.{Ends, Breaks};
 
 use crate::attending::attend;
+use crate::crew::{Crew, Roster};
 use crate::desk::Desk;
 use crate::extent::Extent;
 use crate::finished::Finished;
-use crate::job::Job;
 use crate::looking::Looking;
 use crate::lookout::Lookout;
 use crate::read_side::ReadSide;
 use crate::reading::{AllRead, read_pieces};
 use crate::room::Room;
-use crate::working::work;
-use crossbeam_channel::{Receiver, bounded};
-use nm_mailbox::{Inbox, OutcomeEnd, PieceEnd, mailbox};
+use crossbeam_channel::bounded;
+use nm_mailbox::{Inbox, mailbox};
 use nm_replies::ReplyWriter;
 use nm_session::{Called, ServeFault, SessionCore, Target};
-use nm_wire::Memory;
 use std::alloc::Global;
 use std::io::{Read, Write};
 use std::snapshot::Snapshot;
 use std::sync::Wait;
-use std::thread::{self, PromisedHandle, Scope, Threads};
-
-// How many jobs wait at most.
-const WAITING: usize = 16;
+use std::thread::{self, PromisedHandle, Threads};
 
 // Serves the requests of a session whose haggling has ended.
 pub(crate) fn serve_requests<E, R, I, O, T>(
@@ -56,24 +51,17 @@ where
     let Ok((pieces, ends, inbox)) = mailbox::<Called>(alloc, targets.len()) else {
         return broken_off(sender);
     };
-    let Ok((jobs, tasks)) = bounded::<Job<E>, Global>(alloc, WAITING) else {
-        return broken_off(sender);
-    };
     let Ok((leaves, given)) = bounded(alloc, 1) else {
         return broken_off(sender);
     };
-    let desk = Desk {
-        jobs,
-        leaves,
-        room: Room::new(),
-        looking: Looking::new(lookout),
+    let Ok(roster) = Roster::<E, T>::new(alloc, targets, ends) else {
+        return broken_off(sender);
     };
     thread::scope(
         thread::scope_env(),
         rt,
         move |scope| -> Finished<O>
             requires size { size_of core.haggling.export ≤ E.bytes }
-            requires sizes { All (λ target. E.bytes ≤ T.size target) targets.items }
             requires fresh { (pieces_by pieces ≡ []) × (received_by inbox ≡ []) }
             requires channel { SendsTo pieces inbox }
             ensures ok { IfOk result.result (λ served. Ends served core (I.remaining reader)
@@ -81,15 +69,18 @@ where
             ensures err { IfErr result.result (λ fault. Breaks fault core (I.remaining reader)
                 (O.contents (device_of sender)) (O.contents (device_of result.sender))) }
         {
-            if start_workers(scope, rt, alloc, targets, ends, tasks).is_err() {
-                return broken_off(sender);
-            }
             let promise = AllRead(Snapshot::of(&reader), Snapshot::of(&pieces));
             let Ok(reading) = scope.spawn_with(
                 promise,
                 move || read_pieces(rt, reader, pieces, given),
             ) else {
                 return broken_off(sender);
+            };
+            let desk = Desk {
+                crew: Crew::new(scope, roster),
+                leaves,
+                room: Room::new(),
+                looking: Looking::new(lookout),
             };
             own(rt, alloc, core, sender, inbox, desk, reading)
         },
@@ -107,54 +98,22 @@ fn broken_off<O>(sender: ReplyWriter<O>) -> Finished<O>
     }
 }
 
-// Starts a thread for each target.
-fn start_workers<'s, S, E, R, T>(
-    scope: &Scope<'s, S>,
-    rt: &'s R,
-    alloc: Global,
-    targets: Vec<T>,
-    ends: Vec<OutcomeEnd<Called>>,
-    tasks: Receiver<Job<E>>,
-) -> Result<(), Memory>
-where
-    E: Extent + Send + 's,
-    R: Threads + Wait + Sync + 's,
-    T: Target + Send + Drop + 's,
-    requires sizes { All (λ target. E.bytes ≤ T.size target) targets.items }
-{
-    let mut ends = ends;
-    'targets: for target in targets {
-        let Some(outcomes) = ends.pop() else {
-            return Ok(());
-        };
-        let jobs = tasks.clone()?;
-        let start = scope.spawn(
-            move ||
-                requires { E.bytes ≤ T.size target }
-            { work(rt, alloc, target, jobs, outcomes) },
-        );
-        if start.is_err() {
-            return Err(Memory);
-        }
-    }
-    Ok(())
-}
-
 // Owns the session's core until its end, and then waits for the read under way.
-fn own<E, R, I, O>(
-    rt: &R,
+fn own<'s, S, E, R, I, O, T>(
+    rt: &'s R,
     alloc: Global,
     core: SessionCore,
     sender: ReplyWriter<O>,
     inbox: Inbox<Called>,
-    desk: Desk<'_, E>,
+    desk: Desk<'_, Crew<'_, 's, S, E, T>>,
     reading: PromisedHandle<ReadSide<I>, AllRead<I>>,
 ) -> Finished<O>
 where
-    E: Extent + Send,
-    R: Threads + Wait + Sync,
+    E: Extent + Send + 's,
+    R: Threads + Wait + Sync + 's,
     I: Read + Send + Drop,
     O: Write + Drop,
+    T: Target + Send + Drop + 's,
     requires size { size_of core.haggling.export ≤ E.bytes }
     requires fresh { received_by inbox ≡ [] }
     requires channel { SendsTo reading.promise.1.value inbox }

@@ -17,7 +17,7 @@ rounds-init g c = record {
 }
 
 pub attend_once-requires-clause-size : goal.attend_once-requires-clause-size
-attend_once-requires-clause-size g c =
+attend_once-requires-clause-size g c κs within =
     size_stays c.args.core.now c.rounds.core c.rounds.invariant.moves.events g.E.Extent.bytes
     c.rounds.invariant.moves.runs c.requires.size
 

@@ -2,11 +2,10 @@
 use Rattle.nm_workers.proofs.Requests.{reads_on, size_stays}
 use Rattle.nm_workers.proofs.handing.hand_out.Goals as goal
 
-pub issue-requires : goal.issue-requires
-issue-requires g c = record {
-  size = size_stays c.args.core.now c.requests.core c.requests.invariant.events g.E.Extent.bytes
-      c.requests.invariant.runs c.requires.size;
-}
+pub issue-requires-clause-size : goal.issue-requires-clause-size
+issue-requires-clause-size g c κs within =
+    size_stays c.args.core.now c.requests.core c.requests.invariant.events g.E.Extent.bytes
+    c.requests.invariant.runs c.requires.size
 
 pub requests-preserved : goal.requests-preserved
 requests-preserved g c = reads_on _ _ _ c.requests.invariant c.in-Ok-None.ensures.ok

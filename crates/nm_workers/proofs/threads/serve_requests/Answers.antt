@@ -1,4 +1,5 @@
--- Where there is no memory for the channels nothing happened.
+-- Where there is no memory for the channels nothing happened; else the session begins with new ones.
+use Rattle.std.proofs.Common.{rules}
 use Rattle.nm_workers.proofs.Owning.{failed_err}
 use Rattle.nm_workers.proofs.threads.serve_requests.Goals as goal
 
@@ -11,7 +12,21 @@ returns-in_default-bounded-clause-err g c =
     failed_err g.O.Write.contents _ _ _ _ _ c.broken_off-in_default-bounded.ensures.result
     c.broken_off-in_default-bounded.ensures.sender
 
-pub returns-in_default-bounded-2-clause-err : goal.returns-in_default-bounded-2-clause-err
-returns-in_default-bounded-2-clause-err g c =
-    failed_err g.O.Write.contents _ _ _ _ _ c.broken_off-in_default-bounded-2.ensures.result
-    c.broken_off-in_default-bounded-2.ensures.sender
+pub returns-in_default-new-clause-err : goal.returns-in_default-new-clause-err
+returns-in_default-new-clause-err g c =
+    failed_err g.O.Write.contents _ _ _ _ _ c.broken_off-in_default-new.ensures.result
+    c.broken_off-in_default-new.ensures.sender
+
+pub scoped-requires : goal.scoped-requires
+scoped-requires g c = record {
+  at = λ scope. (
+    c.requires.size,
+    (
+      (c.in-Ok.ensures.sent.0, c.in-Ok.ensures.received),
+      (
+        c.in-Ok.ensures.pieces,
+        search rules,
+      ),
+    ),
+  );
+}

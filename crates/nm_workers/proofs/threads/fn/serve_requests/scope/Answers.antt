@@ -1,9 +1,9 @@
--- Where a thread cannot be started nothing happened.
+-- Where the reading thread cannot be started nothing happened.
 use Rattle.nm_workers.proofs.Owning.{failed_ok, failed_err}
 use Rattle.nm_workers.proofs.threads.fn.serve_requests.scope.Goals as goal
 
-pub returns-then-is_err : goal.returns-then-is_err
-returns-then-is_err g c =
+pub returns-in_default : goal.returns-in_default
+returns-in_default g c =
     let bytes = g.I.Read.remaining c.captures.reader in
     let failed = c.broken_off.result in
     record {
@@ -11,15 +11,4 @@ returns-then-is_err g c =
           c.broken_off.ensures.result;
       err = failed_err g.O.Write.contents c.captures.core bytes failed.sender c.captures.sender failed.result
           c.broken_off.ensures.result c.broken_off.ensures.sender;
-    }
-
-pub returns-in_default : goal.returns-in_default
-returns-in_default g c =
-    let bytes = g.I.Read.remaining c.captures.reader in
-    let failed = c.broken_off-in_default.result in
-    record {
-      ok = failed_ok g.O.Write.contents c.captures.core bytes failed.sender c.captures.sender failed.result
-          c.broken_off-in_default.ensures.result;
-      err = failed_err g.O.Write.contents c.captures.core bytes failed.sender c.captures.sender failed.result
-          c.broken_off-in_default.ensures.result c.broken_off-in_default.ensures.sender;
     }

@@ -1,0 +1,161 @@
+//! The workers of a session. Each gets its thread once there is something to do for it.
+ghost use Rattle.std.specs.Prelude.{◌≡◌, ◌≤◌, All};
+
+use crate::extent::Extent;
+use crate::job::Job;
+use crate::working::work;
+use crossbeam_channel::{Receiver, Sender, bounded};
+use nm_mailbox::OutcomeEnd;
+use nm_session::{Called, Target};
+use nm_wire::Memory;
+use std::alloc::Global;
+use std::marker::PhantomData;
+use std::sync::Wait;
+use std::thread::{Scope, Threads};
+
+// How many jobs wait at most.
+const WAITING: usize = 16;
+
+// A worker that has no thread yet: the target that it calls, and where it tells what came of it.
+#[derive(Drop)]
+pub struct Spare<E: Extent, T: Target> {
+    target: T,
+    outcomes: OutcomeEnd<Called>,
+    of: PhantomData<E>,
+    ghost size: { E.bytes ≤ T.size target },
+}
+
+impl<E: Extent, T: Target> Spare<E, T> {
+    // The worker of this target.
+    fn new(target: T, outcomes: OutcomeEnd<Called>) -> Spare<E, T>
+        requires { E.bytes ≤ T.size target }
+    {
+        Spare {
+            target,
+            outcomes,
+            of: PhantomData,
+        }
+    }
+}
+
+// The workers of a session while none of them has a thread, and the channel through which they get
+// their jobs.
+#[derive(Drop)]
+pub struct Roster<E: Extent, T: Target> {
+    jobs: Sender<Job<E>>,
+    tasks: Receiver<Job<E>>,
+    spare: Vec<Spare<E, T>>,
+}
+
+impl<E: Extent, T: Target + Drop> Roster<E, T> {
+    // A worker for each target, at most one for each end.
+    pub(crate) fn new(
+        alloc: Global,
+        targets: Vec<T>,
+        ends: Vec<OutcomeEnd<Called>>,
+    ) -> Result<Roster<E, T>, Memory>
+        requires sizes { All (λ target. E.bytes ≤ T.size target) targets.items }
+    {
+        let (jobs, tasks) = bounded::<Job<E>, Global>(alloc, WAITING)?;
+        let spare = spare_workers::<E, T>(alloc, targets, ends)?;
+        Ok(Roster { jobs, tasks, spare })
+    }
+}
+
+// A worker for each target, at most one for each end.
+fn spare_workers<E: Extent, T: Target + Drop>(
+    alloc: Global,
+    targets: Vec<T>,
+    ends: Vec<OutcomeEnd<Called>>,
+) -> Result<Vec<Spare<E, T>>, Memory>
+    requires sizes { All (λ target. E.bytes ≤ T.size target) targets.items }
+{
+    let mut ends = ends;
+    let mut spare = Vec::with_capacity(alloc, targets.len())?;
+    'targets: for target in targets {
+        let Some(outcomes) = ends.pop() else {
+            return Ok(spare);
+        };
+        if spare.push(Spare::new(target, outcomes)).is_err() {
+            return Err(Memory);
+        }
+    }
+    Ok(spare)
+}
+
+// The workers of a session, of whom some have a thread. They end once it is gone and all jobs are
+// done.
+#[derive(Drop)]
+pub struct Crew<'a, 's, S, E: Extent, T: Target> {
+    scope: &'a Scope<'s, S>,
+    roster: Roster<E, T>,
+    started: usize,
+}
+
+impl<'a, 's, S, E: Extent, T: Target> Crew<'a, 's, S, E, T> {
+    // A crew of which no worker has a thread yet.
+    pub(crate) fn new(scope: &'a Scope<'s, S>, roster: Roster<E, T>) -> Crew<'a, 's, S, E, T> {
+        Crew {
+            scope,
+            roster,
+            started: 0,
+        }
+    }
+}
+
+// Hands the job to the workers while so many requests are under way, this one among them. One more
+// gets its thread where all that have one may be at work.
+pub(crate) fn give_job<'s, S, E, R, T>(
+    rt: &'s R,
+    alloc: Global,
+    crew: &mut Crew<'_, 's, S, E, T>,
+    job: Job<E>,
+    under_way: usize,
+) -> Result<(), Memory>
+where
+    E: Extent + Send + 's,
+    R: Threads + Wait + Sync + 's,
+    T: Target + Send + Drop + 's,
+{
+    if crew.started < under_way && start_worker(rt, alloc, crew)? {
+        crew.started += 1;
+    }
+    if crew.started == 0 || crew.roster.jobs.send(rt, job).is_err() {
+        return Err(Memory);
+    }
+    Ok(())
+}
+
+// Starts the thread of one more worker, and tells whether there was one.
+fn start_worker<'s, S, E, R, T>(
+    rt: &'s R,
+    alloc: Global,
+    crew: &mut Crew<'_, 's, S, E, T>,
+) -> Result<bool, Memory>
+where
+    E: Extent + Send + 's,
+    R: Threads + Wait + Sync + 's,
+    T: Target + Send + Drop + 's,
+    ensures started { crew.new.started ≡ crew.old.started }
+{
+    let Some(
+        Spare {
+            target,
+            outcomes,
+            of: _,
+        },
+    ) = crew.roster.spare.pop()
+    else {
+        return Ok(false);
+    };
+    let jobs = crew.roster.tasks.clone()?;
+    let start = crew.scope.spawn(
+        move ||
+            requires { E.bytes ≤ T.size target }
+        { work(rt, alloc, target, jobs, outcomes) },
+    );
+    if start.is_err() {
+        return Err(Memory);
+    }
+    Ok(true)
+}
