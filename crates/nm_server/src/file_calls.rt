@@ -63,8 +63,9 @@ fn is_even<L: LegPart, G: Gate + Drop>(mirror: &Mirror<L, G>, pass: &Pass<L>) ->
     pass.stripes() == mirror.shape().stripes as usize
 }
 
-// Reads, unless the pass is of another shape.
-fn read_through<R: Threads + Wait + Sync, L: LegPart + Send, G: Gate + Drop + Sync>(
+/// Reads the bytes from `offset` on into all of `into`, through the pass, unless it is of another shape.
+/// A fault of the mirror is an I/O fault.
+pub fn read_through<R: Threads + Wait + Sync, L: LegPart + Send, G: Gate + Drop + Sync>(
     rt: &R,
     mirror: &Mirror<L, G>,
     pass: &mut Pass<L>,
@@ -84,8 +85,9 @@ fn read_through<R: Threads + Wait + Sync, L: LegPart + Send, G: Gate + Drop + Sy
     }
 }
 
-// Writes, unless the pass is of another shape.
-fn write_through<R: Threads + Wait + Sync, L: LegPart + Send, G: Gate + Drop + Sync>(
+/// Writes the payload to the bytes from `offset` on, through the pass, unless it is of another shape.
+/// Refused memory is told as such, a fault of the mirror as an I/O fault.
+pub fn write_through<R: Threads + Wait + Sync, L: LegPart + Send, G: Gate + Drop + Sync>(
     rt: &R,
     alloc: Global,
     mirror: &Mirror<L, G>,
@@ -107,8 +109,9 @@ fn write_through<R: Threads + Wait + Sync, L: LegPart + Send, G: Gate + Drop + S
     }
 }
 
-// Writes zeroes, unless the pass is of another shape.
-fn zero_through<R: Threads + Wait + Sync, L: LegPart + Send, G: Gate + Drop + Sync>(
+/// Writes zeroes to so many bytes from `offset` on, through the pass, unless it is of another shape. A
+/// fault of the mirror is an I/O fault.
+pub fn zero_through<R: Threads + Wait + Sync, L: LegPart + Send, G: Gate + Drop + Sync>(
     rt: &R,
     mirror: &Mirror<L, G>,
     pass: &mut Pass<L>,
@@ -128,8 +131,9 @@ fn zero_through<R: Threads + Wait + Sync, L: LegPart + Send, G: Gate + Drop + Sy
     }
 }
 
-// Syncs every stripe, unless the pass is of another shape.
-fn flush_through<R: Threads + Wait + Sync, L: LegPart + Send, G: Gate + Drop + Sync>(
+/// Syncs every stripe, through the pass, unless it is of another shape. A fault of the mirror is an I/O
+/// fault.
+pub fn flush_through<R: Threads + Wait + Sync, L: LegPart + Send, G: Gate + Drop + Sync>(
     rt: &R,
     mirror: &Mirror<L, G>,
     pass: &mut Pass<L>,
@@ -146,8 +150,9 @@ fn flush_through<R: Threads + Wait + Sync, L: LegPart + Send, G: Gate + Drop + S
     }
 }
 
-// Syncs the stripes of these bytes, unless the pass is of another shape.
-fn sync_through<R: Threads + Wait + Sync, L: LegPart + Send, G: Gate + Drop + Sync>(
+/// Syncs the stripes of so many bytes from `offset` on, through the pass, unless it is of another shape.
+/// A fault of the mirror is an I/O fault.
+pub fn sync_through<R: Threads + Wait + Sync, L: LegPart + Send, G: Gate + Drop + Sync>(
     rt: &R,
     mirror: &Mirror<L, G>,
     pass: &mut Pass<L>,

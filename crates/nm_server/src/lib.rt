@@ -21,7 +21,9 @@ mod start_fault;
 mod watched_file;
 
 pub use crate::answering::control;
-pub use crate::file_calls::FileCalls;
+pub use crate::file_calls::{
+    FileCalls, flush_through, read_through, sync_through, write_through, zero_through,
+};
 pub use crate::mirror_calls::{MirrorCalls, ReadyMirror};
 pub use crate::mirror_target::MirrorTarget;
 pub use crate::program::start;

@@ -75,7 +75,7 @@ impl<L, C: MirrorCalls<L> + Drop> Model for ReadyMirror<L, C> {
 
 impl<L, C: MirrorCalls<L> + Drop> ReadyMirror<L, C> {
     /// This mirror, whose calls are ready.
-    pub(crate) fn new(calls: C) -> Self
+    pub fn new(calls: C) -> Self
         requires { C.ready calls }
         ensures { result ≡ C.shape calls }
     {
@@ -86,7 +86,7 @@ impl<L, C: MirrorCalls<L> + Drop> ReadyMirror<L, C> {
     }
 
     /// The calls.
-    pub(crate) fn calls(&self) -> &C
+    pub fn calls(&self) -> &C
         ensures ready { C.ready result.now }
         ensures shape { C.shape result.now ≡ self.now }
     {

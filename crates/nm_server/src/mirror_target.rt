@@ -2,7 +2,6 @@
 ghost use Rattle.std.specs.Prelude.{◌*◌};
 ghost use Rattle.nm_server.specs.Calls.{Leads, way, leads-nowhere, leads-on};
 
-use crate::hang_up::HangUp;
 use crate::mirror_calls::{MirrorCalls, ReadyMirror};
 use bytes::Bytes;
 use nm_mirror::Pass;
@@ -10,14 +9,14 @@ use nm_session::{Target, TargetFault};
 
 /// A mirror as a session's target.
 #[derive(Drop)]
-pub struct MirrorTarget<'a, L, C: MirrorCalls<L> + Drop> {
+pub struct MirrorTarget<'a, L, C: MirrorCalls<L> + Drop, H> {
     pub mirror: &'a ReadyMirror<L, C>,
     pub pass: &'a mut Pass<L>,
     /// Dropped with the target, once its session asks for nothing more.
-    pub hang_up: HangUp<'a>,
+    pub hang_up: H,
 }
 
-impl<'a, L, C: MirrorCalls<L> + Drop> Target for MirrorTarget<'a, L, C> {
+impl<'a, L, C: MirrorCalls<L> + Drop, H> Target for MirrorTarget<'a, L, C, H> {
     ghost size = { λ target. 512 * target.mirror.now.blocks };
 
     ghost follows = { λ old calls new. Leads L

@@ -116,7 +116,7 @@ fn targets_of<'a, L, C: MirrorCalls<L> + Drop>(
     mirror: &'a ReadyMirror<L, C>,
     passes: &'a mut [Pass<L>],
     stream: &'a TcpStream,
-) -> Result<Vec<MirrorTarget<'a, L, C>>, ServeFault>
+) -> Result<Vec<MirrorTarget<'a, L, C, HangUp<'a>>>, ServeFault>
     ensures mirror { IfOk result (λ targets.
         All (λ target. target.mirror.now ≡ mirror.now) targets.items) }
     ensures passes { IfOk result (λ targets.

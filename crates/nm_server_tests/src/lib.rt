@@ -6,4 +6,6 @@ mod command_lines;
 #[cfg(test)]
 mod control_lines;
 #[cfg(test)]
+mod mirror_sessions;
+#[cfg(test)]
 mod whole_server;
