@@ -14,6 +14,7 @@ use Rattle.nm_lanes.specs.Lists.{MirrorStep, steps_in, stripe_list}
 use Rattle.nm_lanes.specs.Puts.{first_of, rest_of}
 use Rattle.nm_lanes.specs.Reads.{HasRead, HasReadSome, ReadsEach, ReadsSomeIn, PieceIn, pieces_in}
 use Rattle.nm_lanes.specs.Rounds.{EndedLanes}
+use Rattle.nm_lanes.proofs.ClaimedLemmas.{reads-claimed}
 use Rattle.nm_lanes.proofs.EachLemmas.{each-append, each-map, each-same}
 use Rattle.nm_lanes.proofs.GetListLemmas.{pieces_in-append, some-right, some-append, each-in, lies-left, lies-right}
 use Rattle.nm_lanes.proofs.GetStretchLemmas.{pieces-cut, rest-read}
@@ -24,7 +25,7 @@ use Rattle.nm_lanes.proofs.ShareLemmas.{own-list, tries-share, each-behind, trie
 module _ {L D : Type 0} (follows : D → List (Done L) → D → Type 0) (stays : (lane : D) → follows lane [] lane) where
   -- a lane that was left alone
   rests : (shape : Geometry) (pieces : List Piece) (cause : Cause) (stripe : ℕ) (lane : D) → (stripe ≡ cause.stripe → ⊥) → LaneTries follows (λ own. ReadsSomeIn shape pieces stripe own) cause stripe lane lane
-  rests shape pieces cause stripe lane other = record { own = []; share = tt; did = inl (record { list = []; leads = stays lane; own_is = refl }); ends = λ same. absurd (other same) }
+  rests shape pieces cause stripe lane other = record { own = []; share = tt; did = inl (tt, record { list = []; leads = stays lane; own_is = refl }); ends = λ same. absurd (other same) }
 
   -- the call ended in a round, after which other pieces are left
   pub round-ended : (shape : Geometry) (now later : List Piece) (cause : Cause) (first : ℕ) (before xs us after : List D) → length before ≡ first → PieceIn shape now cause.stripe
@@ -60,6 +61,7 @@ module _ {L D : Type 0} (follows : D → List (Done L) → D → Type 0)
   lane-read shape pieces olds mids target stripe old mid a was is = record {
     own = stripe_list stripe a.own;
     all = each-in shape stripe pieces a.own a.each;
+    claimed = reads-claimed shape (pieces_in shape stripe pieces) stripe (stripe_list stripe a.own) (each-in shape stripe pieces a.own a.each);
     does = record {
       list = stripe_list stripe a.does.list;
       leads = a.does.leads.each stripe old mid was is;

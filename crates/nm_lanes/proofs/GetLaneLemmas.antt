@@ -18,6 +18,7 @@ use Rattle.nm_lanes.specs.Own.{EndsSo}
 use Rattle.nm_lanes.specs.Puts.{block_of}
 use Rattle.nm_lanes.specs.Reads.{HasRead, IsValue, ReadsEach, ReadsPiece, ReadsSome, ReadsSomeIn, bytes_found, piece_bytes, pieces_in, value_bytes}
 use Rattle.nm_lanes.specs.Steps.{Completes, Nobodys}
+use Rattle.nm_lanes.proofs.ClaimedLemmas.{claimed-append, not-begun}
 use Rattle.nm_lanes.proofs.GetListLemmas.{each-append, each-some, found-append, some-append}
 use Rattle.nm_lanes.proofs.LaneLemmas.{does-does, does-stops, stops-more}
 use Rattle.nm_lanes.proofs.LiftLemmas.{does-lane, in-append}
@@ -54,6 +55,7 @@ module _ {L D : Type 0} (follows : D → List (Done L) → D → Type 0)
       record {
         own = a.own ++ read ∷ [];
         all = record { each = each; filled = filled };
+        claimed = claimed-append a.own (read ∷ []) a.claimed (not-begun (λ told. IsValue told) b.answer (λ ticket none. none) b.is_answer.0);
         does = does-does follows joins old mid new a.own (read ∷ []) a.does b.does;
       }
 
@@ -81,7 +83,7 @@ module _ {L D : Type 0} (follows : D → List (Done L) → D → Type 0)
       record {
         own = own;
         share = rw (whole, in-append stripe a.did.own []) (some-append shape (pieces_from (block_of stretch) at stretch.range) rest (steps_in stripe a.did.own) [] a.did.all.each tt);
-        did = inr (kind, stops);
+        did = inr (omega arith, kind, stops);
         ends = λ same. stops;
       }
 
@@ -89,7 +91,7 @@ module _ {L D : Type 0} (follows : D → List (Done L) → D → Type 0) (stays 
   pub get-begins : (shape : Geometry) (stretch : Stretch) (stripe : ℕ) (target : List ℕ) (old : D) → GetSoFar follows shape stretch stripe 0 target old old
   get-begins shape stretch stripe target old =
       let none : bytes_of stretch 0 ≡ 0 = omega arith in
-      record { did = record { own = []; all = record { each = tt; filled = ap (λ n. take n target) none }; does = record { list = []; leads = stays old; own_is = refl } } }
+      record { did = record { own = []; all = record { each = tt; filled = ap (λ n. take n target) none }; claimed = tt; does = record { list = []; leads = stays old; own_is = refl } } }
 
   -- all pieces of a lane among others
   read-at : (shape : Geometry) (pieces : List Piece) (target : List ℕ) (before : List D) (x u : D) (after : List D) → LaneDid follows (λ own. Got shape pieces target (length before) own) x u → HasRead follows shape pieces (before ++ x ∷ after, before ++ u ∷ after) target
@@ -113,7 +115,7 @@ module _ {L D : Type 0} (follows : D → List (Done L) → D → Type 0) (stays 
 module _ {L D : Type 0} (follows : D → List (Done L) → D → Type 0) where
   -- where all pieces are the stripe's
   pub did-some : (shape : Geometry) (pieces : List Piece) (target : List ℕ) (stripe : ℕ) (old new : D) → pieces_in shape stripe pieces ≡ pieces → LaneDid follows (λ own. Got shape pieces target stripe own) old new → LaneDid follows (λ own. ReadsSomeIn shape pieces stripe own) old new
-  did-some shape pieces target stripe old new is a = record { own = a.own; all = rw is (each-some shape pieces (steps_in stripe a.own) a.all.each); does = a.does }
+  did-some shape pieces target stripe old new is a = record { own = a.own; all = rw is (each-some shape pieces (steps_in stripe a.own) a.all.each); claimed = a.claimed; does = a.does }
 
   pub tries-some : (shape : Geometry) (pieces : List Piece) (stripe : ℕ) (cause : Cause) (old new : D) → pieces_in shape stripe pieces ≡ pieces → LaneTries follows (λ own. GotSome shape pieces stripe own) cause stripe old new → LaneTries follows (λ own. ReadsSomeIn shape pieces stripe own) cause stripe old new
   tries-some shape pieces stripe cause old new is a = record { own = a.own; share = rw is a.share; did = a.did; ends = a.ends }

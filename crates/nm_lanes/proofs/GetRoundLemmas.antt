@@ -1,18 +1,20 @@
 -- Reads on the lanes of a round: what came of both halves.
-use Rattle.std.proofs.Common.{Result, Ok, Err, ◌≡◌, ℕ, ◌+◌, ◌≤◌, List, [], ◌++◌, length, refl, sym, ap, ◌∙◌, subst, append_assoc, arith}
+use Rattle.std.proofs.Common.{Result, Ok, Err, ◌≡◌, ℕ, ◌+◌, ◌≤◌, List, [], ◌++◌, length, sym, ap, ◌∙◌, subst, append_assoc, arith}
 use Rattle.std.proofs.lemmas.List.{length-append}
 use Rattle.nm_geometry.specs.declared.piece.Piece.{Piece}
 use Rattle.nm_geometry.specs.Geometry.{Geometry}
 use Rattle.nm_lanes.specs.declared.cause.Cause.{Cause}
 use Rattle.nm_lanes.specs.Done.{Done}
 use Rattle.nm_lanes.specs.Ends.{LaneDid}
+use Rattle.nm_lanes.specs.Halves.{first_cause}
 use Rattle.nm_lanes.specs.Lists.{steps_in}
+use Rattle.nm_lanes.specs.Rounds.{RunsLanes}
 use Rattle.nm_lanes.specs.Gets.{ReadRun, EndsReads, ReadsLanes}
 use Rattle.nm_lanes.specs.Reads.{HasRead, ReadsSomeIn, bytes_found, pieces_in}
 use Rattle.nm_lanes.proofs.EachLemmas.{each-long}
 use Rattle.nm_lanes.proofs.GetListLemmas.{pieces_in-append, some-right, each-append, found-append, lies-left, lies-right}
 use Rattle.nm_lanes.proofs.LiftLemmas.{does-append}
-use Rattle.nm_lanes.proofs.RoundLemmas.{halves-ok, halves-err}
+use Rattle.nm_lanes.proofs.RoundLemmas.{both-halves}
 use Rattle.nm_lanes.proofs.ShareLemmas.{runs-share}
 
 module _ {L : Type 0} where
@@ -49,36 +51,19 @@ module _ {L D : Type 0} (follows : D → List (Done L) → D → Type 0)
   ends-both shape low high first xs us ys vs front back (Ok done) same a b = read-both shape low high first xs us ys vs front back same a b
   ends-both shape low high first xs us ys vs front back (Err cause) same a b = lies-right shape low high cause.stripe b
 
-  -- two halves, the first of which went through
-  get-done : {A B : Type 0} (shape : Geometry) (low high : List Piece) (first : ℕ) (xs us ys vs : List D) (front back : List ℕ) (done : A) (upper : Result B Cause)
+  ends-halves : {A : Type 0} (shape : Geometry) (low high : List Piece) (first : ℕ) (xs us ys vs : List D) (front back : List ℕ) (lower upper : Result A Cause)
+      → RunsLanes follows (λ stripe own. ReadsSomeIn shape low stripe own) (λ stripe own. ReadsSomeIn shape low stripe own) first (xs, us) lower
+      → EndsReads follows shape low first (xs, us) front lower → EndsReads follows shape high (first + length xs) (ys, vs) back upper → EndsReads follows shape (low ++ high) first (xs ++ ys, us ++ vs) (front ++ back) (first_cause lower upper)
+  ends-halves shape low high first xs us ys vs front back (Ok done) upper each a b = ends-both shape low high first xs us ys vs front back upper (each-long (λ stripe old new. LaneDid follows (λ own. ReadsSomeIn shape low stripe own) old new) first xs us each) a b
+  ends-halves shape low high first xs us ys vs front back (Err cause) upper each a b = lies-left shape low high cause.stripe a
+
+  -- two halves, of which the second has no piece in a stripe of the first
+  pub get-halves : {A : Type 0} (shape : Geometry) (low high : List Piece) (first next : ℕ) (xs us ys vs : List D) (front back : List ℕ) (lower upper : Result A Cause) → next ≡ first + length xs
       → ((stripe : ℕ) → first + length xs ≤ stripe → pieces_in shape stripe low ≡ [])
-      → ReadsLanes {A = A} follows shape low first (xs, us) front (Ok done) → ReadsLanes follows shape high (first + length xs) (ys, vs) back upper → ReadsLanes follows shape (low ++ high) first (xs ++ ys, us ++ vs) (front ++ back) upper
-  get-done {A} shape low high first xs us ys vs front back done upper apart a b = record {
-    each = halves-ok follows (λ stripe own. ReadsSomeIn shape (low ++ high) stripe own) (λ stripe own. ReadsSomeIn shape (low ++ high) stripe own) (λ stripe own all. all) {A = A} first (first + length xs) xs us ys vs (Ok done) upper done refl refl
-        (runs-share follows {A = A} (λ stripe own. ReadsSomeIn shape low stripe own) (λ stripe own. ReadsSomeIn shape (low ++ high) stripe own) first xs us (Ok done) (λ stripe from own some. some-low shape low high stripe own some) a.each)
-        (runs-share follows (λ stripe own. ReadsSomeIn shape high stripe own) (λ stripe own. ReadsSomeIn shape (low ++ high) stripe own) (first + length xs) ys vs upper (λ stripe from own some. some-high shape low high stripe own (apart stripe from) some) b.each);
-    all = ends-both shape low high first xs us ys vs front back upper (each-long (λ stripe old new. LaneDid follows (λ own. ReadsSomeIn shape low stripe own) old new) first xs us a.each) a.all b.all;
+      → ReadsLanes follows shape low first (xs, us) front lower → ReadsLanes follows shape high next (ys, vs) back upper → ReadsLanes follows shape (low ++ high) first (xs ++ ys, us ++ vs) (front ++ back) (first_cause lower upper)
+  get-halves shape low high first next xs us ys vs front back lower upper at apart a b = record {
+    each = both-halves follows (λ stripe own. ReadsSomeIn shape (low ++ high) stripe own) (λ stripe own. ReadsSomeIn shape (low ++ high) stripe own) (λ stripe own all. all) first next xs us ys vs lower upper at
+        (runs-share follows (λ stripe own. ReadsSomeIn shape low stripe own) (λ stripe own. ReadsSomeIn shape (low ++ high) stripe own) first xs us lower (λ stripe from own some. some-low shape low high stripe own some) a.each)
+        (runs-share follows (λ stripe own. ReadsSomeIn shape high stripe own) (λ stripe own. ReadsSomeIn shape (low ++ high) stripe own) next ys vs upper (λ stripe from own some. some-high shape low high stripe own (apart stripe (omega (arith, at, from))) some) b.each);
+    all = ends-halves shape low high first xs us ys vs front back lower upper a.each a.all (subst (λ (n : ℕ). EndsReads follows shape high n (ys, vs) back upper) at b.all);
   }
-
-  -- two halves, of which the first ended the call
-  get-ended : {B : Type 0} (A : Type 0) (shape : Geometry) (low high : List Piece) (first : ℕ) (xs us ys vs : List D) (front back : List ℕ) (cause : Cause) (upper : Result B Cause)
-      → ((stripe : ℕ) → first + length xs ≤ stripe → pieces_in shape stripe low ≡ [])
-      → ReadsLanes {A = A} follows shape low first (xs, us) front (Err cause) → ReadsLanes follows shape high (first + length xs) (ys, vs) back upper → ReadsLanes {A = A} follows shape (low ++ high) first (xs ++ ys, us ++ vs) (front ++ back) (Err cause)
-  get-ended A shape low high first xs us ys vs front back cause upper apart a b = record {
-    each = halves-err follows (λ stripe own. ReadsSomeIn shape (low ++ high) stripe own) (λ stripe own. ReadsSomeIn shape (low ++ high) stripe own) (λ stripe own all. all) {A = A} first (first + length xs) xs us ys vs (Err cause) upper cause refl refl
-        (runs-share follows {A = A} (λ stripe own. ReadsSomeIn shape low stripe own) (λ stripe own. ReadsSomeIn shape (low ++ high) stripe own) first xs us (Err cause) (λ stripe from own some. some-low shape low high stripe own some) a.each)
-        (runs-share follows (λ stripe own. ReadsSomeIn shape high stripe own) (λ stripe own. ReadsSomeIn shape (low ++ high) stripe own) (first + length xs) ys vs upper (λ stripe from own some. some-high shape low high stripe own (apart stripe from) some) b.each);
-    all = lies-left shape low high cause.stripe a.all;
-  }
-
-  pub get-ok : {A B : Type 0} (shape : Geometry) (low high : List Piece) (first next : ℕ) (xs us ys vs : List D) (front back : List ℕ) (lower : Result A Cause) (upper : Result B Cause) (done : A) → next ≡ first + length xs → lower ≡ Ok done
-      → ((stripe : ℕ) → first + length xs ≤ stripe → pieces_in shape stripe low ≡ [])
-      → ReadsLanes follows shape low first (xs, us) front lower → ReadsLanes follows shape high next (ys, vs) back upper → ReadsLanes follows shape (low ++ high) first (xs ++ ys, us ++ vs) (front ++ back) upper
-  get-ok {A} shape low high first next xs us ys vs front back lower upper done at is apart a b =
-      get-done {A = A} shape low high first xs us ys vs front back done upper apart (subst (λ (r : Result A Cause). ReadsLanes follows shape low first (xs, us) front r) is a) (subst (λ (n : ℕ). ReadsLanes follows shape high n (ys, vs) back upper) at b)
-
-  pub get-err : {A B : Type 0} (shape : Geometry) (low high : List Piece) (first next : ℕ) (xs us ys vs : List D) (front back : List ℕ) (lower : Result A Cause) (upper : Result B Cause) (cause : Cause) → next ≡ first + length xs → lower ≡ Err cause
-      → ((stripe : ℕ) → first + length xs ≤ stripe → pieces_in shape stripe low ≡ [])
-      → ReadsLanes follows shape low first (xs, us) front lower → ReadsLanes follows shape high next (ys, vs) back upper → ReadsLanes {A = A} follows shape (low ++ high) first (xs ++ ys, us ++ vs) (front ++ back) (Err cause)
-  get-err {A} shape low high first next xs us ys vs front back lower upper cause at is apart a b =
-      get-ended A shape low high first xs us ys vs front back cause upper apart (subst (λ (r : Result A Cause). ReadsLanes follows shape low first (xs, us) front r) is a) (subst (λ (n : ℕ). ReadsLanes follows shape high n (ys, vs) back upper) at b)

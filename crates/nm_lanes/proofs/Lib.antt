@@ -1,3 +1,4 @@
+pub mod ClaimedLemmas
 pub mod EachLemmas
 pub mod FlushLemmas
 pub mod LaneLemmas

@@ -1,5 +1,5 @@
 -- Rounds of writes, one after the other.
-use Rattle.std.proofs.Common.{◌≡◌, inl, ℕ, ◌+◌, Some, List, [], ◌∷◌, ◌++◌, length, drop, slice_get, refl, sym, ap, ◌∙◌, subst, append_assoc, arith}
+use Rattle.std.proofs.Common.{◌≡◌, inl, ℕ, ◌+◌, Some, List, [], ◌++◌, length, drop, slice_get, refl, sym, ap, ◌∙◌, subst, append_assoc, arith}
 use Rattle.std.proofs.lemmas.List.{length-append}
 use Rattle.nm_geometry.specs.Geometry.{Geometry}
 use Rattle.nm_lanes.specs.declared.cause.Cause.{Cause}
@@ -11,6 +11,7 @@ use Rattle.nm_lanes.specs.Lists.{MirrorStep, steps_in, stripe_list}
 use Rattle.nm_lanes.specs.Puts.{filling, cuts_of, rest_of, IsStretch, PutsNext}
 use Rattle.nm_lanes.specs.Rounds.{EndedLanes}
 use Rattle.nm_lanes.specs.Writes.{HasWritten, HasWrittenSome, WritesEach, WritesSomeIn, writes_in, LiesIn}
+use Rattle.nm_lanes.proofs.ClaimedLemmas.{writes-claimed}
 use Rattle.nm_lanes.proofs.EachLemmas.{each-append, each-map, each-same}
 use Rattle.nm_lanes.proofs.LiftLemmas.{in-append, does-none}
 use Rattle.nm_lanes.proofs.PutListLemmas.{writes_in-append, some-right, some-append, each-in, lies-left, lies-right}
@@ -20,7 +21,7 @@ use Rattle.nm_lanes.proofs.ShareLemmas.{own-list, tries-share, each-behind, trie
 module _ {L D : Type 0} (follows : D → List (Done L) → D → Type 0) (stays : (lane : D) → follows lane [] lane) where
   -- a lane that was left alone
   rests : (shape : Geometry) (writes : List PieceWrite) (cause : Cause) (stripe : ℕ) (lane : D) → (stripe ≡ cause.stripe → ⊥) → LaneTries follows (λ own. WritesSomeIn shape writes stripe own) cause stripe lane lane
-  rests shape writes cause stripe lane other = record { own = []; share = tt; did = inl (record { list = []; leads = stays lane; own_is = refl }); ends = λ same. absurd (other same) }
+  rests shape writes cause stripe lane other = record { own = []; share = tt; did = inl (tt, record { list = []; leads = stays lane; own_is = refl }); ends = λ same. absurd (other same) }
 
   -- the call ended in a round, after which other pieces are left
   pub round-ended : (shape : Geometry) (now later : List PieceWrite) (cause : Cause) (first : ℕ) (before xs us after : List D) → length before ≡ first → LiesIn shape now cause.stripe
@@ -56,6 +57,7 @@ module _ {L D : Type 0} (follows : D → List (Done L) → D → Type 0)
   lane-wrote shape writes olds mids stripe old mid a was is = record {
     own = stripe_list stripe a.own;
     all = each-in shape stripe writes a.own a.each;
+    claimed = writes-claimed shape (writes_in shape stripe writes) stripe (stripe_list stripe a.own) (each-in shape stripe writes a.own a.each);
     does = record {
       list = stripe_list stripe a.does.list;
       leads = a.does.leads.each stripe old mid was is;

@@ -15,8 +15,9 @@ use Rattle.nm_lanes.specs.Lane.{LaneDoes}
 use Rattle.nm_lanes.specs.Lists.{steps_in}
 use Rattle.nm_lanes.specs.Own.{EndsSo}
 use Rattle.nm_lanes.specs.Puts.{block_of, filling, BlocksFollow, WroteRun}
-use Rattle.nm_lanes.specs.Steps.{Nobodys, Only, LaneWrites, LaneWriteStops}
+use Rattle.nm_lanes.specs.Steps.{IsWritten, Nobodys, Only, LaneWrites, LaneWriteStops}
 use Rattle.nm_lanes.specs.Writes.{WritesPiece, WritesEach, WritesSome, WritesSomeIn, writes_in, HasWritten}
+use Rattle.nm_lanes.proofs.ClaimedLemmas.{claimed-append, not-begun}
 use Rattle.nm_lanes.proofs.LaneLemmas.{does-does, does-stops, stops-more}
 use Rattle.nm_lanes.proofs.LiftLemmas.{does-lane, in-append}
 use Rattle.nm_lanes.proofs.PutListLemmas.{each-append, each-some, some-append}
@@ -59,7 +60,12 @@ module _ {L D : Type 0} (follows : D → List (Done L) → D → Type 0)
       record {
         first = a.first ++ write ∷ [];
         all_are = a.all_are ∙ ap (λ (ws : List PieceWrite). a.first ++ ws) taken ∙ sym (append_assoc a.first (write ∷ []) (drop (at + 1) (filling stretch left)));
-        did = record { own = own; all = each; does = does-does follows joins old mid new a.did.own (begun ∷ claimed ∷ []) a.did.does b.does };
+        did = record {
+          own = own;
+          all = each;
+          claimed = claimed-append a.did.own (begun ∷ claimed ∷ []) a.did.claimed (not-begun (λ told. IsWritten told) b.answer (λ ticket none. none) b.written);
+          does = does-does follows joins old mid new a.did.own (begun ∷ claimed ∷ []) a.did.does b.does;
+        };
         follow = subst (λ (n : ℕ). BlocksFollow n (drop (at + 1) (filling stretch left))) next behind.1;
       }
 
@@ -75,7 +81,7 @@ module _ {L D : Type 0} (follows : D → List (Done L) → D → Type 0)
       record {
         own = own;
         share = rw (whole, in-append stripe a.did.own []) (some-append shape a.first (write ∷ drop (at + 1) (filling stretch left)) (steps_in stripe a.did.own) [] a.did.all tt);
-        did = inr (kind, stops);
+        did = inr (omega arith, kind, stops);
         ends = λ same. stops;
       }
   put-stops shape stretch stripe at all cuts left write block kind old mid new taken in_stripe is a (inr b) =
@@ -88,7 +94,7 @@ module _ {L D : Type 0} (follows : D → List (Done L) → D → Type 0)
         own = own;
         share = rw (whole, in-append stripe a.did.own (begun ∷ [])) (some-append shape a.first (write ∷ drop (at + 1) (filling stretch left)) (steps_in stripe a.did.own) (steps_in stripe (begun ∷ [])) a.did.all
             (b.0, record { stripe = in_stripe; step = ap (λ n. Begin n write.bytes) is; begun = refl }));
-        did = inr (kind, stops);
+        did = inr (omega arith, kind, stops);
         ends = λ same. stops;
       }
 
@@ -97,7 +103,7 @@ module _ {L D : Type 0} (follows : D → List (Done L) → D → Type 0) (stays 
   put-begins shape stretch stripe cuts old follow = record {
     first = [];
     all_are = refl;
-    did = record { own = []; all = tt; does = record { list = []; leads = stays old; own_is = refl } };
+    did = record { own = []; all = tt; claimed = tt; does = record { list = []; leads = stays old; own_is = refl } };
     follow = let e : block_of stretch + 0 ≡ block_of stretch = omega arith in rw e follow;
   }
 
@@ -122,7 +128,7 @@ module _ {L D : Type 0} (follows : D → List (Done L) → D → Type 0) (stays 
 module _ {L D : Type 0} (follows : D → List (Done L) → D → Type 0) where
   -- where all pieces are the stripe's
   pub did-some : (shape : Geometry) (writes : List PieceWrite) (stripe : ℕ) (old new : D) → writes_in shape stripe writes ≡ writes → LaneDid follows (λ own. Wrote shape writes stripe own) old new → LaneDid follows (λ own. WritesSomeIn shape writes stripe own) old new
-  did-some shape writes stripe old new is a = record { own = a.own; all = rw is (each-some shape writes (steps_in stripe a.own) a.all); does = a.does }
+  did-some shape writes stripe old new is a = record { own = a.own; all = rw is (each-some shape writes (steps_in stripe a.own) a.all); claimed = a.claimed; does = a.does }
 
   pub tries-some : (shape : Geometry) (writes : List PieceWrite) (stripe : ℕ) (cause : Cause) (old new : D) → writes_in shape stripe writes ≡ writes → LaneTries follows (λ own. WroteSome shape writes stripe own) cause stripe old new → LaneTries follows (λ own. WritesSomeIn shape writes stripe own) cause stripe old new
   tries-some shape writes stripe cause old new is a = record { own = a.own; share = rw is a.share; did = a.did; ends = a.ends }

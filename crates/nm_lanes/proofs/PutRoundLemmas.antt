@@ -1,18 +1,20 @@
 -- Writes on the lanes of a round: what came of both halves.
-use Rattle.std.proofs.Common.{Result, Ok, Err, ◌≡◌, ℕ, ◌+◌, ◌≤◌, List, [], ◌++◌, length, refl, subst, append_assoc, arith}
+use Rattle.std.proofs.Common.{Result, Ok, Err, ◌≡◌, ℕ, ◌+◌, ◌≤◌, List, [], ◌++◌, length, subst, append_assoc, arith}
 use Rattle.std.proofs.lemmas.List.{length-append}
 use Rattle.nm_geometry.specs.Geometry.{Geometry}
 use Rattle.nm_lanes.specs.declared.cause.Cause.{Cause}
 use Rattle.nm_lanes.specs.declared.piece_write.PieceWrite.{PieceWrite}
 use Rattle.nm_lanes.specs.Done.{Done}
 use Rattle.nm_lanes.specs.Ends.{LaneDid}
+use Rattle.nm_lanes.specs.Halves.{first_cause}
 use Rattle.nm_lanes.specs.Lists.{steps_in}
+use Rattle.nm_lanes.specs.Rounds.{RunsLanes}
 use Rattle.nm_lanes.specs.Puts.{WroteRun, EndsRun, PutsLanes}
 use Rattle.nm_lanes.specs.Writes.{HasWritten, WritesSomeIn, writes_in}
 use Rattle.nm_lanes.proofs.EachLemmas.{each-long}
 use Rattle.nm_lanes.proofs.LiftLemmas.{does-append}
 use Rattle.nm_lanes.proofs.PutListLemmas.{writes_in-append, some-right, each-append, lies-left, lies-right}
-use Rattle.nm_lanes.proofs.RoundLemmas.{halves-ok, halves-err}
+use Rattle.nm_lanes.proofs.RoundLemmas.{both-halves}
 use Rattle.nm_lanes.proofs.ShareLemmas.{runs-share}
 
 module _ {L : Type 0} where
@@ -48,36 +50,19 @@ module _ {L D : Type 0} (follows : D → List (Done L) → D → Type 0)
   ends-both shape low high first xs us ys vs (Ok done) same a b = wrote-both shape low high first xs us ys vs same a b
   ends-both shape low high first xs us ys vs (Err cause) same a b = lies-right shape low high cause.stripe b
 
-  -- two halves, the first of which went through
-  put-done : {A B : Type 0} (shape : Geometry) (low high : List PieceWrite) (first : ℕ) (xs us ys vs : List D) (done : A) (upper : Result B Cause)
+  ends-halves : {A : Type 0} (shape : Geometry) (low high : List PieceWrite) (first : ℕ) (xs us ys vs : List D) (lower upper : Result A Cause)
+      → RunsLanes follows (λ stripe own. WritesSomeIn shape low stripe own) (λ stripe own. WritesSomeIn shape low stripe own) first (xs, us) lower
+      → EndsRun follows shape low first (xs, us) lower → EndsRun follows shape high (first + length xs) (ys, vs) upper → EndsRun follows shape (low ++ high) first (xs ++ ys, us ++ vs) (first_cause lower upper)
+  ends-halves shape low high first xs us ys vs (Ok done) upper each a b = ends-both shape low high first xs us ys vs upper (each-long (λ stripe old new. LaneDid follows (λ own. WritesSomeIn shape low stripe own) old new) first xs us each) a b
+  ends-halves shape low high first xs us ys vs (Err cause) upper each a b = lies-left shape low high cause.stripe a
+
+  -- two halves, of which the second has no piece in a stripe of the first
+  pub put-halves : {A : Type 0} (shape : Geometry) (low high : List PieceWrite) (first next : ℕ) (xs us ys vs : List D) (lower upper : Result A Cause) → next ≡ first + length xs
       → ((stripe : ℕ) → first + length xs ≤ stripe → writes_in shape stripe low ≡ [])
-      → PutsLanes {A = A} follows shape low first (xs, us) (Ok done) → PutsLanes follows shape high (first + length xs) (ys, vs) upper → PutsLanes follows shape (low ++ high) first (xs ++ ys, us ++ vs) upper
-  put-done {A} shape low high first xs us ys vs done upper apart a b = record {
-    each = halves-ok follows (λ stripe own. WritesSomeIn shape (low ++ high) stripe own) (λ stripe own. WritesSomeIn shape (low ++ high) stripe own) (λ stripe own all. all) {A = A} first (first + length xs) xs us ys vs (Ok done) upper done refl refl
-        (runs-share follows {A = A} (λ stripe own. WritesSomeIn shape low stripe own) (λ stripe own. WritesSomeIn shape (low ++ high) stripe own) first xs us (Ok done) (λ stripe from own some. some-low shape low high stripe own some) a.each)
-        (runs-share follows (λ stripe own. WritesSomeIn shape high stripe own) (λ stripe own. WritesSomeIn shape (low ++ high) stripe own) (first + length xs) ys vs upper (λ stripe from own some. some-high shape low high stripe own (apart stripe from) some) b.each);
-    all = ends-both shape low high first xs us ys vs upper (each-long (λ stripe old new. LaneDid follows (λ own. WritesSomeIn shape low stripe own) old new) first xs us a.each) a.all b.all;
+      → PutsLanes follows shape low first (xs, us) lower → PutsLanes follows shape high next (ys, vs) upper → PutsLanes follows shape (low ++ high) first (xs ++ ys, us ++ vs) (first_cause lower upper)
+  put-halves shape low high first next xs us ys vs lower upper at apart a b = record {
+    each = both-halves follows (λ stripe own. WritesSomeIn shape (low ++ high) stripe own) (λ stripe own. WritesSomeIn shape (low ++ high) stripe own) (λ stripe own all. all) first next xs us ys vs lower upper at
+        (runs-share follows (λ stripe own. WritesSomeIn shape low stripe own) (λ stripe own. WritesSomeIn shape (low ++ high) stripe own) first xs us lower (λ stripe from own some. some-low shape low high stripe own some) a.each)
+        (runs-share follows (λ stripe own. WritesSomeIn shape high stripe own) (λ stripe own. WritesSomeIn shape (low ++ high) stripe own) next ys vs upper (λ stripe from own some. some-high shape low high stripe own (apart stripe (omega (arith, at, from))) some) b.each);
+    all = ends-halves shape low high first xs us ys vs lower upper a.each a.all (subst (λ (n : ℕ). EndsRun follows shape high n (ys, vs) upper) at b.all);
   }
-
-  -- two halves, of which the first ended the call
-  put-ended : {B : Type 0} (A : Type 0) (shape : Geometry) (low high : List PieceWrite) (first : ℕ) (xs us ys vs : List D) (cause : Cause) (upper : Result B Cause)
-      → ((stripe : ℕ) → first + length xs ≤ stripe → writes_in shape stripe low ≡ [])
-      → PutsLanes {A = A} follows shape low first (xs, us) (Err cause) → PutsLanes follows shape high (first + length xs) (ys, vs) upper → PutsLanes {A = A} follows shape (low ++ high) first (xs ++ ys, us ++ vs) (Err cause)
-  put-ended A shape low high first xs us ys vs cause upper apart a b = record {
-    each = halves-err follows (λ stripe own. WritesSomeIn shape (low ++ high) stripe own) (λ stripe own. WritesSomeIn shape (low ++ high) stripe own) (λ stripe own all. all) {A = A} first (first + length xs) xs us ys vs (Err cause) upper cause refl refl
-        (runs-share follows {A = A} (λ stripe own. WritesSomeIn shape low stripe own) (λ stripe own. WritesSomeIn shape (low ++ high) stripe own) first xs us (Err cause) (λ stripe from own some. some-low shape low high stripe own some) a.each)
-        (runs-share follows (λ stripe own. WritesSomeIn shape high stripe own) (λ stripe own. WritesSomeIn shape (low ++ high) stripe own) (first + length xs) ys vs upper (λ stripe from own some. some-high shape low high stripe own (apart stripe from) some) b.each);
-    all = lies-left shape low high cause.stripe a.all;
-  }
-
-  pub put-ok : {A B : Type 0} (shape : Geometry) (low high : List PieceWrite) (first next : ℕ) (xs us ys vs : List D) (lower : Result A Cause) (upper : Result B Cause) (done : A) → next ≡ first + length xs → lower ≡ Ok done
-      → ((stripe : ℕ) → first + length xs ≤ stripe → writes_in shape stripe low ≡ [])
-      → PutsLanes follows shape low first (xs, us) lower → PutsLanes follows shape high next (ys, vs) upper → PutsLanes follows shape (low ++ high) first (xs ++ ys, us ++ vs) upper
-  put-ok {A} shape low high first next xs us ys vs lower upper done at is apart a b =
-      put-done {A = A} shape low high first xs us ys vs done upper apart (subst (λ (r : Result A Cause). PutsLanes follows shape low first (xs, us) r) is a) (subst (λ (n : ℕ). PutsLanes follows shape high n (ys, vs) upper) at b)
-
-  pub put-err : {A B : Type 0} (shape : Geometry) (low high : List PieceWrite) (first next : ℕ) (xs us ys vs : List D) (lower : Result A Cause) (upper : Result B Cause) (cause : Cause) → next ≡ first + length xs → lower ≡ Err cause
-      → ((stripe : ℕ) → first + length xs ≤ stripe → writes_in shape stripe low ≡ [])
-      → PutsLanes follows shape low first (xs, us) lower → PutsLanes follows shape high next (ys, vs) upper → PutsLanes {A = A} follows shape (low ++ high) first (xs ++ ys, us ++ vs) (Err cause)
-  put-err {A} shape low high first next xs us ys vs lower upper cause at is apart a b =
-      put-ended A shape low high first xs us ys vs cause upper apart (subst (λ (r : Result A Cause). PutsLanes follows shape low first (xs, us) r) is a) (subst (λ (n : ℕ). PutsLanes follows shape high n (ys, vs) upper) at b)

@@ -1,9 +1,10 @@
 -- A call on the lanes of stripes that follow one another, some and then others.
-use Rattle.std.proofs.Common.{Result, Ok, Err, ◌≡◌, inl, ℕ, ◌+◌, List, [], ◌++◌, length, refl, subst, arith}
+use Rattle.std.proofs.Common.{Result, Ok, Err, ◌≡◌, inl, inr, ℕ, ◌+◌, ◌<◌, List, [], ◌++◌, length, refl, subst, arith}
 use Rattle.std.proofs.lemmas.List.{length-append}
 use Rattle.nm_lanes.specs.declared.cause.Cause.{Cause}
 use Rattle.nm_lanes.specs.Done.{Done}
 use Rattle.nm_lanes.specs.Ends.{EachLane, LaneDid, LaneTries}
+use Rattle.nm_lanes.specs.Halves.{first_cause}
 use Rattle.nm_lanes.specs.Rounds.{DidLanes, EndedLanes, RunsLanes}
 use Rattle.nm_lanes.proofs.EachLemmas.{each-append, each-map, each-same}
 
@@ -11,11 +12,19 @@ module _ {L D : Type 0} (follows : D → List (Done L) → D → Type 0) (All Sh
     (some : (stripe : ℕ) (own : List (Done L)) → All stripe own → Share stripe own) where
   -- a lane on which all was done, in a call that ended in another stripe
   pub did-tries : (stripe : ℕ) (cause : Cause) (old new : D) → (stripe ≡ cause.stripe → ⊥) → LaneDid follows (All stripe) old new → LaneTries follows (Share stripe) cause stripe old new
-  did-tries stripe cause old new other a = record { own = a.own; share = some stripe a.own a.all; did = inl a.does; ends = λ is. absurd (other is) }
+  did-tries stripe cause old new other a = record { own = a.own; share = some stripe a.own a.all; did = inl (a.claimed, a.does); ends = λ is. absurd (other is) }
 
-  -- the same lane, in a call whose cause is in another stripe
-  tries-other : (stripe : ℕ) (first second : Cause) (old new : D) → (stripe ≡ second.stripe → ⊥) → LaneTries follows (Share stripe) first stripe old new → LaneTries follows (Share stripe) second stripe old new
-  tries-other stripe first second old new other a = record { own = a.own; share = a.share; did = a.did; ends = λ is. absurd (other is) }
+  -- the same lane, in a call whose cause is in a stripe below
+  tries-other : (stripe : ℕ) (first second : Cause) (old new : D) → second.stripe < stripe → LaneTries follows (Share stripe) first stripe old new → LaneTries follows (Share stripe) second stripe old new
+  tries-other stripe first second old new below a = record {
+    own = a.own;
+    share = a.share;
+    did = elim a.did [
+      | inl does ↦ inl does
+      | inr ends ↦ inr (omega (arith, below), ends.1, ends.2)
+    ];
+    ends = λ is. absurd (omega (arith, is, below));
+  }
 
   -- lanes on which the call ended, and others
   ended-more : (first : ℕ) (cause : Cause) (xs us ys vs : List D) → EndedLanes follows Share first (xs, us) cause
@@ -34,7 +43,7 @@ module _ {L D : Type 0} (follows : D → List (Done L) → D → Type 0) (All Sh
       (λ stripe old new from upto did. did-tries stripe cause old new (λ is. omega (arith, is, from, a.upto)) did) b)
   first-ended first cause xs us ys vs (Err later) a b =
       ended-more first cause xs us ys vs a (each-map (λ stripe old new. LaneTries follows (Share stripe) later stripe old new) (λ stripe old new. LaneTries follows (Share stripe) cause stripe old new) (first + length xs) ys vs
-      (λ stripe old new from upto tries. tries-other stripe later cause old new (λ is. omega (arith, is, from, a.upto)) tries) b.each)
+      (λ stripe old new from upto tries. tries-other stripe later cause old new (omega (arith, from, a.upto)) tries) b.each)
 
   -- all was done on the first lanes, and so it is as for the others
   pub first-done : {A : Type 0} (first : ℕ) (xs us ys vs : List D) (second : Result A Cause) → DidLanes follows All first (xs, us)
@@ -56,15 +65,15 @@ module _ {L D : Type 0} (follows : D → List (Done L) → D → Type 0) (All Sh
   halves-ok {A} first next xs us ys vs lower upper done at is a b =
       first-done first xs us ys vs upper (subst (λ (r : Result A Cause). RunsLanes follows All Share first (xs, us) r) is a) (subst (λ (n : ℕ). RunsLanes follows All Share n (ys, vs) upper) at b)
 
-  -- two halves, of which the first ended the call
-  pub halves-err : {A B : Type 0} (first next : ℕ) (xs us ys vs : List D) (lower : Result A Cause) (upper : Result B Cause) (cause : Cause) → next ≡ first + length xs → lower ≡ Err cause
-      → RunsLanes follows All Share first (xs, us) lower → RunsLanes follows All Share next (ys, vs) upper → EndedLanes follows Share first (xs ++ ys, us ++ vs) cause
-  halves-err {A} first next xs us ys vs lower upper cause at is a b =
-      first-ended first cause xs us ys vs upper (subst (λ (r : Result A Cause). RunsLanes follows All Share first (xs, us) r) is a) (subst (λ (n : ℕ). RunsLanes follows All Share n (ys, vs) upper) at b)
+  -- two halves
+  pub both-halves : {A : Type 0} (first next : ℕ) (xs us ys vs : List D) (lower upper : Result A Cause) → next ≡ first + length xs
+      → RunsLanes follows All Share first (xs, us) lower → RunsLanes follows All Share next (ys, vs) upper → RunsLanes follows All Share first (xs ++ ys, us ++ vs) (first_cause lower upper)
+  both-halves first next xs us ys vs (Ok done) upper at a b = first-done first xs us ys vs upper a (subst (λ (n : ℕ). RunsLanes follows All Share n (ys, vs) upper) at b)
+  both-halves first next xs us ys vs (Err cause) upper at a b = first-ended first cause xs us ys vs upper a (subst (λ (n : ℕ). RunsLanes follows All Share n (ys, vs) upper) at b)
 
   -- the call ended on the first lanes, and the others were left alone
   pub first-ended-alone : ((lane : D) → follows lane [] lane) → ((stripe : ℕ) → Share stripe []) → (first : ℕ) (cause : Cause) (xs us ys : List D)
       → EndedLanes follows Share first (xs, us) cause → EndedLanes follows Share first (xs ++ ys, us ++ ys) cause
   first-ended-alone stays none first cause xs us ys a =
       ended-more first cause xs us ys ys a (each-same (λ stripe old new. LaneTries follows (Share stripe) cause stripe old new) (first + length xs) ys
-      (λ stripe lane from upto. record { own = []; share = none stripe; did = inl (record { list = []; leads = stays lane; own_is = refl }); ends = λ is. absurd (omega (arith, is, from, a.upto)) }))
+      (λ stripe lane from upto. record { own = []; share = none stripe; did = inl (tt, record { list = []; leads = stays lane; own_is = refl }); ends = λ is. absurd (omega (arith, is, from, a.upto)) }))

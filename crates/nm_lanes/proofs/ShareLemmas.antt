@@ -8,6 +8,7 @@ use Rattle.nm_lanes.specs.Lane.{LaneDoes}
 use Rattle.nm_lanes.specs.Lists.{MirrorStep, stripe_list, own_steps}
 use Rattle.nm_lanes.specs.Own.{helps, own_done, EndsSo}
 use Rattle.nm_lanes.specs.Rounds.{RunsLanes}
+use Rattle.nm_lanes.proofs.ClaimedLemmas.{claimed-append}
 use Rattle.nm_lanes.proofs.EachLemmas.{each-map}
 use Rattle.nm_lanes.proofs.LaneLemmas.{does-does, does-stops, stops-more}
 
@@ -25,7 +26,7 @@ own-list stripe (x ∷ list) = own-both (helps x.done.step x.done.answer) (x.str
 
 module _ {L D : Type 0} (follows : D → List (Done L) → D → Type 0) where
   pub did-share : (All Other : List (Done L) → Type 0) (old new : D) → ((own : List (Done L)) → All own → Other own) → LaneDid follows All old new → LaneDid follows Other old new
-  did-share All Other old new more a = record { own = a.own; all = more a.own a.all; does = a.does }
+  did-share All Other old new more a = record { own = a.own; all = more a.own a.all; claimed = a.claimed; does = a.does }
 
   pub tries-share : (Share Other : List (Done L) → Type 0) (cause : Cause) (stripe : ℕ) (old new : D) → ((own : List (Done L)) → Share own → Other own) → LaneTries follows Share cause stripe old new → LaneTries follows Other cause stripe old new
   tries-share Share Other cause stripe old new more a = record { own = a.own; share = more a.own a.share; did = a.did; ends = a.ends }
@@ -79,8 +80,8 @@ module _ {L D : Type 0} (follows : D → List (Done L) → D → Type 0)
     own = a.own ++ b.own;
     share = both a.own b.own a.all b.share;
     did = elim b.did [
-      | inl does ↦ inl (does-does follows joins old mid new a.own b.own a.does does)
-      | inr ends ↦ inr (ends.0, ends-behind old mid new a.own b.own ends.0 a.does ends.1)
+      | inl did ↦ inl (claimed-append a.own b.own a.claimed did.0, does-does follows joins old mid new a.own b.own a.does did.1)
+      | inr ends ↦ inr (ends.0, ends.1, ends-behind old mid new a.own b.own ends.1 a.does ends.2)
     ];
     ends = λ same. ends-behind old mid new a.own b.own cause.kind a.does (b.ends same);
   }

@@ -25,11 +25,11 @@ module _ {L D : Type 0} (follows : D → List (Done L) → D → Type 0) (stays 
 
   -- a lane whose legs are all synced
   goes-in : (legs : ℕ) (In : ℕ → Type 0) (cause : Cause) (stripe : ℕ) (old new : D) → In stripe → (stripe ≡ cause.stripe → ⊥) → LaneDid follows (λ own. IsLegSyncs legs own) old new → LaneTries follows (SyncsIn legs In stripe) cause stripe old new
-  goes-in legs In cause stripe old new is other a = record { own = a.own; share = in-all legs In stripe is a.own a.all.only; did = inl a.does; ends = λ same. absurd (other same) }
+  goes-in legs In cause stripe old new is other a = record { own = a.own; share = in-all legs In stripe is a.own a.all.only; did = inl (a.claimed, a.does); ends = λ same. absurd (other same) }
 
   -- a lane that was left alone
   rests-in : (legs : ℕ) (In : ℕ → Type 0) (cause : Cause) (stripe : ℕ) (lane : D) → (stripe ≡ cause.stripe → ⊥) → LaneTries follows (SyncsIn legs In stripe) cause stripe lane lane
-  rests-in legs In cause stripe lane other = record { own = []; share = tt; did = inl (record { list = []; leads = stays lane; own_is = refl }); ends = λ same. absurd (other same) }
+  rests-in legs In cause stripe lane other = record { own = []; share = tt; did = inl (tt, record { list = []; leads = stays lane; own_is = refl }); ends = λ same. absurd (other same) }
 
   -- the call ended in the first run of lanes
   pub front-ended : (legs : ℕ) (In : ℕ → Type 0) (cause : Cause) (xs us rest : List D) → ((stripe : ℕ) → stripe < length xs → In stripe) → EndedLanes follows (λ stripe own. AllSync legs own) 0 (xs, us) cause → HasFlushedSome follows legs In (xs ++ rest, us ++ rest) cause

@@ -11,6 +11,7 @@ use Rattle.nm_lanes.specs.Lane.{LaneStops}
 use Rattle.nm_lanes.specs.Own.{helps, own_done, EndsSo}
 use Rattle.nm_lanes.specs.Steps.{Nobodys, Completes}
 use Rattle.nm_lanes.specs.Syncs.{AllSync, IsLegSyncs, LaneSyncs, LaneSyncStops}
+use Rattle.nm_lanes.proofs.ClaimedLemmas.{syncs-claimed}
 use Rattle.nm_lanes.proofs.LaneLemmas.{does-does, does-stops, stops-more}
 
 -- one of these steps synced the leg
@@ -72,10 +73,10 @@ module _ {L D : Type 0} (follows : D → List (Done L) → D → Type 0)
 module _ {L D : Type 0} (follows : D → List (Done L) → D → Type 0) where
   -- each leg was synced
   pub syncs-did : (legs : ℕ) (old new : D) → LaneSyncs follows (old, new) legs legs → LaneDid follows (λ own. IsLegSyncs legs own) old new
-  syncs-did legs old new a = record { own = a.own; all = record { only = a.only; each = a.each }; does = a.does }
+  syncs-did legs old new a = record { own = a.own; all = record { only = a.only; each = a.each }; claimed = syncs-claimed legs a.own a.only; does = a.does }
 
   -- a sync ended the call
   pub syncs-tried : (legs stripe : ℕ) (kind : CauseKind) (old new : D) → LaneSyncStops follows (old, new) legs kind → LaneTries follows (λ own. AllSync legs own) (record { stripe = stripe; kind = kind }) stripe old new
   syncs-tried legs stripe kind old new a =
       let ends : LaneEnds follows (old, new) a.own kind = stops-more follows old new a.own Nobodys (BeganOwn a.own) kind (λ ticket none. absurd none) a.stops in
-      record { own = a.own; share = a.only; did = inr (kind, ends); ends = λ is. ends }
+      record { own = a.own; share = a.only; did = inr (omega arith, kind, ends); ends = λ is. ends }

@@ -8,6 +8,7 @@ pub mod Steps
 pub mod Lists
 pub mod Ends
 pub mod Rounds
+pub mod Halves
 pub mod Reads
 pub mod Cuts
 pub mod Writes

@@ -1,7 +1,6 @@
 //! Reads of pieces in rounds: those of up to 8 stripes side by side.
 ghost use Rattle.std.specs.Prelude.{◌≡◌, ◌+◌, ◌≤◌, ◌<◌, ◌++◌, ◌^◌, length, IfErr, IfOk, OnOk};
 ghost use Rattle.std.specs.Thread.{IsSend, IsSync};
-ghost use Rattle.nm_geometry.specs.Geometry.{IsGeometry};
 ghost use Rattle.nm_geometry.specs.Pieces.{end_of};
 ghost use Rattle.nm_lanes.specs.Ends.{LaneDid, LaneTries};
 ghost use Rattle.nm_lanes.specs.Gets.{bytes_of, pieces_in_stretch, IsReadStretch, ReadsInto, ReadsLanes};
@@ -14,16 +13,16 @@ use crate::call::{Call, within_bounds};
 use crate::cause::Cause;
 use crate::cause_kind::CauseKind;
 use crate::gate::Gate;
+use crate::halves::do_both;
 use crate::lane::Lane;
-use crate::putting::{halves, next_run};
-use crate::run::Run;
+use crate::run::{Run, are_worth_it, halves, next_run};
 use crate::stretch::Stretch;
 use nm_geometry::Shape;
 use nm_leg::LegPart;
 use nm_replay::BLOCK_BYTES;
 use std::marker::{Send, Sync};
 use std::sync::Wait;
-use std::thread::{Threads, join_mut};
+use std::thread::Threads;
 
 /// How many bytes the first pieces of a stretch have, so many of them.
 fn bytes_of(shape: &Shape, stretch: Stretch, count: u64) -> usize
@@ -93,9 +92,6 @@ fn get_one<L: LegPart, K, D: Lane<L, K>, R: Wait, G: Gate>(
 }
 
 /// Reads the pieces of the stripes of these lanes.
-///
-/// Halves that have a region's blocks each, or more, go side by side. Else one follows the other,
-/// since a thread costs more than a few blocks.
 #[cycle(get)]
 fn get_round<
     L: LegPart + Send,
@@ -119,16 +115,12 @@ fn get_round<
     let (low, high) = halves(shape, run, lanes.len(), half);
     let (front, back) = lanes.split_at_mut(half);
     let (own, rest) = into.split_at_mut(bytes_of(shape, run.stretch, low.stretch.count));
-    let least = shape.region;
-    if low.stretch.count >= least && high.stretch.count >= least {
-        return get_both(call, low, front, own, high, back, rest);
-    }
-    get_in_turn(call, low, front, own, high, back, rest)
+    get_halves(call, low, front, own, high, back, rest)
 }
 
-/// Does both halves of a round, one after the other. Of two causes it is the lower stripe's.
+/// Does both halves of a round, side by side where they are worth a thread.
 #[cycle(get)]
-fn get_in_turn<
+fn get_halves<
     L: LegPart + Send,
     K: Sync,
     D: Lane<L, K> + Send,
@@ -155,44 +147,8 @@ fn get_in_turn<
         (front.old ++ back.old, front.new ++ back.new) (own.new ++ rest.new) result }
 {
     within_bounds(call.shape);
-    let lower = get_round(call, low, front, own);
-    let upper = get_round(call, high, back, rest);
-    match lower {
-        Ok(()) => upper,
-        Err(cause) => Err(cause),
-    }
-}
-
-/// Does both halves of a round, side by side. Of two causes it is the lower stripe's.
-#[cycle(get)]
-fn get_both<
-    L: LegPart + Send,
-    K: Sync,
-    D: Lane<L, K> + Send,
-    R: Threads + Wait + Sync,
-    G: Gate + Sync,
->(
-    call: &Call<'_, R, G, K>,
-    low: Run,
-    front: &mut [D],
-    own: &mut [u8],
-    high: Run,
-    back: &mut [D],
-    rest: &mut [u8],
-) -> Result<(), Cause>
-    requires locks { length call.now.locks.now ≡ call.now.shape.now.stripes }
-    requires some { (0 < length front.old) × (0 < length back.old) }
-    requires low { IsReadStretch call.now.shape.now low.stretch (length own.old)
-        × IsRun call.now.shape.now (length front.old) low }
-    requires high { IsReadStretch call.now.shape.now high.stretch (length rest.old)
-        × IsRun call.now.shape.now (length back.old) high }
-    requires next { high.stripe ≡ low.stripe + length front.old }
-    ensures reads { ReadsLanes D.follows call.now.shape.now
-        (pieces_in_stretch low.stretch ++ pieces_in_stretch high.stretch) low.stripe
-        (front.old ++ back.old, front.new ++ back.new) (own.new ++ rest.new) result }
-{
-    within_bounds(call.shape);
-    let mut below = || -> Result<(), Cause>
+    let side_by_side = are_worth_it(call.shape, low, high);
+    let mut lower = || -> Result<(), Cause>
         requires { IsSync R.row × IsSync G.row × IsSync K.row × IsSend D.row
             × (0 < length front.now)
             × (length call.now.locks.now ≡ call.now.shape.now.stripes)
@@ -201,7 +157,7 @@ fn get_both<
         ensures { ReadsLanes D.follows call.entry.now.shape.now (pieces_in_stretch low.stretch)
             low.stripe (front.entry.now, front.exit.now) own.exit.now result }
     { get_round(call, low, front, own) };
-    let mut above = || -> Result<(), Cause>
+    let mut upper = || -> Result<(), Cause>
         requires { IsSync R.row × IsSync G.row × IsSync K.row × IsSend D.row
             × (0 < length back.now)
             × (length call.now.locks.now ≡ call.now.shape.now.stripes)
@@ -210,11 +166,7 @@ fn get_both<
         ensures { ReadsLanes D.follows call.entry.now.shape.now (pieces_in_stretch high.stretch)
             high.stripe (back.entry.now, back.exit.now) rest.exit.now result }
     { get_round(call, high, back, rest) };
-    let (lower, upper) = join_mut(call.rt, &mut below, &mut above);
-    match lower {
-        Ok(()) => upper,
-        Err(cause) => Err(cause),
-    }
+    do_both(call.rt, side_by_side, &mut lower, &mut upper)
 }
 
 /// Reads the pieces of the next round into the front of the target, and tells how many they are.

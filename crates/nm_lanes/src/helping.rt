@@ -1,5 +1,5 @@
 //! What a call does where a step was refused: it helps on what stands in the way.
-ghost use Rattle.std.specs.Prelude.{◌≡◌, [], ◌∷◌, None, IfErr, OnOk};
+ghost use Rattle.std.specs.Prelude.{◌≡◌, [], None, IfErr, OnOk};
 ghost use Rattle.nm_lanes.specs.Lane.{LaneDoes, LaneStops};
 ghost use Rattle.nm_lanes.specs.Own.{end_of, EndsSo};
 ghost use Rattle.nm_lanes.specs.Steps.{EndsHere, Nobodys};

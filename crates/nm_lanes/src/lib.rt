@@ -26,6 +26,7 @@ mod cutting;
 mod flushing;
 mod gate;
 mod getting;
+mod halves;
 mod helping;
 mod hindrance;
 mod lane;

@@ -1,27 +1,24 @@
 //! Writes of pieces in rounds: those of up to 8 stripes side by side.
-ghost use Rattle.std.specs.Prelude.{◌≡◌, ◌+◌, ◌≤◌, ◌<◌, ◌++◌, length, IfErr, IfOk, OnOk};
+ghost use Rattle.std.specs.Prelude.{◌≡◌, ◌+◌, ◌<◌, ◌++◌, length, IfErr, IfOk, OnOk};
 ghost use Rattle.std.specs.Thread.{IsSend, IsSync};
-ghost use Rattle.nm_geometry.specs.Geometry.{IsGeometry};
 ghost use Rattle.nm_lanes.specs.Ends.{LaneDid, LaneTries};
 ghost use Rattle.nm_lanes.specs.Lists.{steps_in};
-ghost use Rattle.nm_lanes.specs.Puts.{block_of, filling, first_of, lower, upper, IsStretch, IsRun};
-ghost use Rattle.nm_lanes.specs.Puts.{PutsLanes, PutsNext};
+ghost use Rattle.nm_lanes.specs.Puts.{filling, IsStretch, IsRun, PutsLanes, PutsNext};
 ghost use Rattle.nm_lanes.specs.Writes.{HasWritten, HasWrittenSome, WritesEach, WritesSome};
 
 use crate::call::{Call, within_bounds};
 use crate::cause::Cause;
 use crate::cause_kind::CauseKind;
 use crate::gate::Gate;
+use crate::halves::do_both;
 use crate::lane::Lane;
 use crate::piece_write::PieceWrite;
-use crate::rounds::MOST_AT_ONCE;
-use crate::run::Run;
+use crate::run::{Run, are_worth_it, halves, next_run};
 use crate::stretch::Stretch;
-use nm_geometry::Shape;
 use nm_leg::LegPart;
 use std::marker::{Send, Sync};
 use std::sync::Wait;
-use std::thread::{Threads, join_mut};
+use std::thread::Threads;
 
 /// Writes one piece of a stripe after the other.
 fn put_lane<L: LegPart, K, D: Lane<L, K>, R: Wait, G: Gate>(
@@ -74,34 +71,7 @@ fn put_one<L: LegPart, K, D: Lane<L, K>, R: Wait, G: Gate>(
     }
 }
 
-/// The pieces of the first so many regions of a run, and the others.
-pub(crate) fn halves(shape: &Shape, run: Run, lanes: usize, half: usize) -> (Run, Run)
-    requires run { IsRun shape.now lanes run }
-    requires blocks { block_of run.stretch + run.stretch.count ≤ shape.now.blocks }
-    requires half { (0 < half) × (half < lanes) }
-    ensures lower { result.0 ≡ lower shape.now half run }
-    ensures upper { result.1 ≡ upper shape.now half run }
-    ensures shape { IsGeometry shape.now }
-{
-    within_bounds(shape);
-    let next = run.region + half as u64;
-    let count = next * shape.region - run.stretch.block();
-    let low = Run {
-        stretch: run.stretch.first_of(count),
-        ..run
-    };
-    let high = Run {
-        stretch: run.stretch.rest_of(count),
-        region: next,
-        stripe: run.stripe + half as u32,
-    };
-    (low, high)
-}
-
 /// Writes the pieces of the stripes of these lanes.
-///
-/// Halves that have a region's blocks each, or more, go side by side. Else one follows the other,
-/// since a thread costs more than a few blocks.
 #[cycle(put)]
 fn put_round<
     L: LegPart + Send,
@@ -125,16 +95,12 @@ fn put_round<
     let (low, high) = halves(shape, run, lanes.len(), half);
     let (front, back) = lanes.split_at_mut(half);
     let (own, rest) = cuts.split_at_mut(run.stretch.cuts_of(low.stretch.count));
-    let least = shape.region;
-    if low.stretch.count >= least && high.stretch.count >= least {
-        return put_both(call, low, front, own, high, back, rest);
-    }
-    put_in_turn(call, low, front, own, high, back, rest)
+    put_halves(call, low, front, own, high, back, rest)
 }
 
-/// Does both halves of a round, one after the other. Of two causes it is the lower stripe's.
+/// Does both halves of a round, side by side where they are worth a thread.
 #[cycle(put)]
-fn put_in_turn<
+fn put_halves<
     L: LegPart + Send,
     K: Sync,
     D: Lane<L, K> + Send,
@@ -161,44 +127,8 @@ fn put_in_turn<
         low.stripe (front.old ++ back.old, front.new ++ back.new) result }
 {
     within_bounds(call.shape);
-    let lower = put_round(call, low, front, own);
-    let upper = put_round(call, high, back, rest);
-    match lower {
-        Ok(()) => upper,
-        Err(cause) => Err(cause),
-    }
-}
-
-/// Does both halves of a round, side by side. Of two causes it is the lower stripe's.
-#[cycle(put)]
-fn put_both<
-    L: LegPart + Send,
-    K: Sync,
-    D: Lane<L, K> + Send,
-    R: Threads + Wait + Sync,
-    G: Gate + Sync,
->(
-    call: &Call<'_, R, G, K>,
-    low: Run,
-    front: &mut [D],
-    own: &mut [PieceWrite],
-    high: Run,
-    back: &mut [D],
-    rest: &mut [PieceWrite],
-) -> Result<(), Cause>
-    requires locks { length call.now.locks.now ≡ call.now.shape.now.stripes }
-    requires some { (0 < length front.old) × (0 < length back.old) }
-    requires low { IsStretch call.now.shape.now low.stretch own.old
-        × IsRun call.now.shape.now (length front.old) low }
-    requires high { IsStretch call.now.shape.now high.stretch rest.old
-        × IsRun call.now.shape.now (length back.old) high }
-    requires next { high.stripe ≡ low.stripe + length front.old }
-    ensures puts { PutsLanes D.follows call.now.shape.now
-        (filling low.stretch own.old ++ filling high.stretch rest.old)
-        low.stripe (front.old ++ back.old, front.new ++ back.new) result }
-{
-    within_bounds(call.shape);
-    let mut below = || -> Result<(), Cause>
+    let side_by_side = are_worth_it(call.shape, low, high);
+    let mut lower = || -> Result<(), Cause>
         requires { IsSync R.row × IsSync G.row × IsSync K.row × IsSend D.row
             × (0 < length front.now)
             × (length call.now.locks.now ≡ call.now.shape.now.stripes)
@@ -207,7 +137,7 @@ fn put_both<
         ensures { PutsLanes D.follows call.entry.now.shape.now (filling low.stretch own.entry.now)
             low.stripe (front.entry.now, front.exit.now) result }
     { put_round(call, low, front, own) };
-    let mut above = || -> Result<(), Cause>
+    let mut upper = || -> Result<(), Cause>
         requires { IsSync R.row × IsSync G.row × IsSync K.row × IsSend D.row
             × (0 < length back.now)
             × (length call.now.locks.now ≡ call.now.shape.now.stripes)
@@ -216,39 +146,7 @@ fn put_both<
         ensures { PutsLanes D.follows call.entry.now.shape.now (filling high.stretch rest.entry.now)
             high.stripe (back.entry.now, back.exit.now) result }
     { put_round(call, high, back, rest) };
-    let (lower, upper) = join_mut(call.rt, &mut below, &mut above);
-    match lower {
-        Ok(()) => upper,
-        Err(cause) => Err(cause),
-    }
-}
-
-/// The pieces of the next round, and in how many stripes they lie: those up to the next region of
-/// the first stripe, of 8 regions at most.
-pub(crate) fn next_run(shape: &Shape, stretch: Stretch) -> (Run, u32)
-    requires some { 0 < stretch.count }
-    requires blocks { block_of stretch + stretch.count ≤ shape.now.blocks }
-    ensures run { IsRun shape.now result.1 result.0 }
-    ensures stretch { result.0.stretch ≡ first_of result.0.stretch.count stretch }
-    ensures most { result.0.stretch.count ≤ stretch.count }
-    ensures lanes { (0 < result.1) × (result.0.stripe + result.1 ≤ shape.now.stripes) }
-{
-    within_bounds(shape);
-    let block = stretch.block();
-    let end = block + stretch.count;
-    let region = block / shape.region;
-    let stripe = (region % shape.stripes as u64) as u32;
-    let last = (end - 1) / shape.region;
-    let lanes = (last - region + 1)
-        .min((shape.stripes - stripe) as u64)
-        .min(MOST_AT_ONCE as u64);
-    let count = ((region + lanes) * shape.region).min(end) - block;
-    let run = Run {
-        stretch: stretch.first_of(count),
-        region,
-        stripe,
-    };
-    (run, lanes as u32)
+    do_both(call.rt, side_by_side, &mut lower, &mut upper)
 }
 
 /// Writes the pieces of the next round, and tells how many they are.

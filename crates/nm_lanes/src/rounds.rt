@@ -1,5 +1,5 @@
 //! Syncs of every leg of stripes that follow one another, up to 8 stripes side by side.
-ghost use Rattle.std.specs.Prelude.{◌≡◌, ◌+◌, ◌≤◌, ◌<◌, ◌++◌, length};
+ghost use Rattle.std.specs.Prelude.{◌≡◌, ◌+◌, ◌≤◌, ◌<◌, length};
 ghost use Rattle.std.specs.Thread.{IsSend, IsSync};
 ghost use Rattle.nm_lanes.specs.Rounds.{IsRound};
 ghost use Rattle.nm_lanes.specs.Syncs.{SyncsLanes};
@@ -7,11 +7,12 @@ ghost use Rattle.nm_lanes.specs.Syncs.{SyncsLanes};
 use crate::call::Call;
 use crate::cause::Cause;
 use crate::gate::Gate;
+use crate::halves::do_both;
 use crate::lane::Lane;
 use nm_leg::LegPart;
 use std::marker::{Send, Sync};
 use std::sync::Wait;
-use std::thread::{Threads, join_mut};
+use std::thread::Threads;
 
 /// In how many stripes a call is at work at once, at most.
 pub(crate) const MOST_AT_ONCE: usize = 8;
@@ -74,79 +75,20 @@ fn flush_round<
     let half = lanes.len() / 2;
     let next = first + half as u32;
     let (front, back) = lanes.split_at_mut(half);
-    if any_unsynced(call, first, front) && any_unsynced(call, next, back) {
-        return flush_both(call, first, front, next, back);
-    }
-    flush_in_turn(call, first, front, next, back)
-}
-
-/// Does both halves of a round, one after the other. Of two causes it is the lower stripe's.
-#[cycle(flush)]
-fn flush_in_turn<
-    L: LegPart + Send,
-    K: Sync,
-    D: Lane<L, K> + Send,
-    R: Threads + Wait + Sync,
-    G: Gate + Sync,
->(
-    call: &Call<'_, R, G, K>,
-    first: u32,
-    front: &mut [D],
-    next: u32,
-    back: &mut [D],
-) -> Result<(), Cause>
-    requires front { IsRound (length call.now.locks.now) first (length front.old) }
-    requires back { IsRound (length call.now.locks.now) next (length back.old) }
-    requires next { next ≡ first + length front.old }
-    ensures syncs { SyncsLanes D.follows call.now.shape.now.legs first
-        (front.old ++ back.old, front.new ++ back.new) result }
-{
-    let lower = flush_round(call, first, front);
-    let upper = flush_round(call, next, back);
-    match lower {
-        Ok(()) => upper,
-        Err(cause) => Err(cause),
-    }
-}
-
-/// Does both halves of a round, side by side. Of two causes it is the lower stripe's.
-#[cycle(flush)]
-fn flush_both<
-    L: LegPart + Send,
-    K: Sync,
-    D: Lane<L, K> + Send,
-    R: Threads + Wait + Sync,
-    G: Gate + Sync,
->(
-    call: &Call<'_, R, G, K>,
-    first: u32,
-    front: &mut [D],
-    next: u32,
-    back: &mut [D],
-) -> Result<(), Cause>
-    requires front { IsRound (length call.now.locks.now) first (length front.old) }
-    requires back { IsRound (length call.now.locks.now) next (length back.old) }
-    requires next { next ≡ first + length front.old }
-    ensures syncs { SyncsLanes D.follows call.now.shape.now.legs first
-        (front.old ++ back.old, front.new ++ back.new) result }
-{
-    let mut below = || -> Result<(), Cause>
+    let side_by_side = any_unsynced(call, first, front) && any_unsynced(call, next, back);
+    let mut lower = || -> Result<(), Cause>
         requires { IsSync R.row × IsSync G.row × IsSync K.row × IsSend D.row
             × IsRound (length call.now.locks.now) first (length front.now) }
         ensures { SyncsLanes D.follows call.entry.now.shape.now.legs first
             (front.entry.now, front.exit.now) result }
     { flush_round(call, first, front) };
-    let mut above = || -> Result<(), Cause>
+    let mut upper = || -> Result<(), Cause>
         requires { IsSync R.row × IsSync G.row × IsSync K.row × IsSend D.row
             × IsRound (length call.now.locks.now) next (length back.now) }
         ensures { SyncsLanes D.follows call.entry.now.shape.now.legs next
             (back.entry.now, back.exit.now) result }
     { flush_round(call, next, back) };
-    let (lower, upper) = join_mut(call.rt, &mut below, &mut above);
-    match lower {
-        Ok(()) => upper,
-        Err(cause) => Err(cause),
-    }
+    do_both(call.rt, side_by_side, &mut lower, &mut upper)
 }
 
 /// Syncs every leg of the stripes of these lanes, of which the first is this stripe's, in rounds of

@@ -1,4 +1,12 @@
+//! Runs of regions in stripes that follow one another, each in a stripe of its own.
+ghost use Rattle.std.specs.Prelude.{◌≡◌, ◌+◌, ◌≤◌, ◌<◌};
+ghost use Rattle.nm_geometry.specs.Geometry.{IsGeometry};
+ghost use Rattle.nm_lanes.specs.Puts.{block_of, first_of, lower, upper, IsRun};
+
+use crate::call::within_bounds;
+use crate::rounds::MOST_AT_ONCE;
 use crate::stretch::Stretch;
+use nm_geometry::Shape;
 
 /// Pieces of regions that follow one another, of stripes that follow one another.
 #[derive(Clone, Copy)]
@@ -8,4 +16,63 @@ pub(crate) struct Run {
     /// The first of the regions, and its stripe.
     pub(crate) region: u64,
     pub(crate) stripe: u32,
+}
+
+/// The pieces of the next round, and in how many stripes they lie: those up to the next region of
+/// the first stripe, of 8 regions at most.
+pub(crate) fn next_run(shape: &Shape, stretch: Stretch) -> (Run, u32)
+    requires some { 0 < stretch.count }
+    requires blocks { block_of stretch + stretch.count ≤ shape.now.blocks }
+    ensures run { IsRun shape.now result.1 result.0 }
+    ensures stretch { result.0.stretch ≡ first_of result.0.stretch.count stretch }
+    ensures most { result.0.stretch.count ≤ stretch.count }
+    ensures lanes { (0 < result.1) × (result.0.stripe + result.1 ≤ shape.now.stripes) }
+{
+    within_bounds(shape);
+    let block = stretch.block();
+    let end = block + stretch.count;
+    let region = block / shape.region;
+    let stripe = (region % shape.stripes as u64) as u32;
+    let last = (end - 1) / shape.region;
+    let lanes = (last - region + 1)
+        .min((shape.stripes - stripe) as u64)
+        .min(MOST_AT_ONCE as u64);
+    let count = ((region + lanes) * shape.region).min(end) - block;
+    let run = Run {
+        stretch: stretch.first_of(count),
+        region,
+        stripe,
+    };
+    (run, lanes as u32)
+}
+
+/// The pieces of the first so many regions of a run, and the others.
+pub(crate) fn halves(shape: &Shape, run: Run, lanes: usize, half: usize) -> (Run, Run)
+    requires run { IsRun shape.now lanes run }
+    requires blocks { block_of run.stretch + run.stretch.count ≤ shape.now.blocks }
+    requires half { (0 < half) × (half < lanes) }
+    ensures lower { result.0 ≡ lower shape.now half run }
+    ensures upper { result.1 ≡ upper shape.now half run }
+    ensures shape { IsGeometry shape.now }
+{
+    within_bounds(shape);
+    let next = run.region + half as u64;
+    let count = next * shape.region - run.stretch.block();
+    let low = Run {
+        stretch: run.stretch.first_of(count),
+        ..run
+    };
+    let high = Run {
+        stretch: run.stretch.rest_of(count),
+        region: next,
+        stripe: run.stripe + half as u32,
+    };
+    (low, high)
+}
+
+/// Whether these halves of a run are worth a thread: each has a region's blocks, or more, since a thread
+/// costs more than a few blocks.
+pub(crate) fn are_worth_it(shape: &Shape, low: Run, high: Run) -> bool {
+    let least = shape.region;
+    low.stretch.count >= least && high.stretch.count >= least
 }

@@ -1,5 +1,5 @@
 //! One try of a step, and what helps after it.
-ghost use Rattle.std.specs.Prelude.{◌≡◌, ◌+◌, ◌≤◌, [], ◌∷◌, length, take, drop, IfOk, IfErr, OnOk};
+ghost use Rattle.std.specs.Prelude.{◌≡◌, ◌+◌, ◌≤◌, [], length, take, drop, IfOk, IfErr, OnOk};
 ghost use Rattle.nm_stripe.specs.declared.step.Step.TheVariants as step;
 ghost use Rattle.nm_stripe.specs.Flush.{SyncsLeg};
 ghost use Rattle.nm_lanes.specs.Lane.{LaneStops};

@@ -4,7 +4,7 @@ use Rattle.nm_lanes.specs.declared.run.Run.{Run}
 use Rattle.nm_lanes.specs.Gets.{pieces_in_stretch, bytes_of, ReadsLanes}
 use Rattle.nm_lanes.specs.Puts.{blocks_in}
 use Rattle.nm_lanes.proofs.GetStretchLemmas.{get-apart, read-halved, bytes-fit}
-use Rattle.nm_lanes.proofs.GetRoundLemmas.{get-ok, get-err}
+use Rattle.nm_lanes.proofs.GetRoundLemmas.{get-halves}
 use Rattle.nm_lanes.proofs.RunLemmas.{halves-fit}
 use Rattle.nm_lanes.proofs.getting.+get.Goals as goal
 
@@ -22,66 +22,21 @@ get_round-split_at_mut-own-requires g t c =
     let long : length c.args.into.now ≡ bytes_of run.stretch run.stretch.count = c.requires.stretch.long in
     omega (arith, bytes, long, c.bytes_of.ensures)
 
-pub get_in_turn-returns-in-Ok : goal.get_in_turn-returns-in-Ok
-get_in_turn-returns-in-Ok g t c =
+pub get_halves-returns : goal.get_halves-returns
+get_halves-returns g t c =
     let laws = g.met.D.Lane g.world.𝓛 g.world.𝓜 g.world.𝓡 ((λ s x. x), (λ x. x), (λ x. x), λ x. x) in
     let shape = c.args.call.now.shape.now in
     let low = pieces_in_stretch c.args.low.stretch in
     let high = pieces_in_stretch c.args.high.stretch in
-    record {
-      reads = get-ok g.D.Lane.follows laws.joins shape low high c.args.low.stripe c.args.high.stripe c.args.front.now c.get_round-lower.new.lanes c.args.back.now c.get_round-upper.new.lanes c.get_round-lower.new.into c.get_round-upper.new.into c.get_round-lower.result c.get_round-upper.result c.in-Ok.field-0 c.requires.next c.in-Ok.is
-          (λ stripe from. get-apart shape (length c.args.front.now) c.args.low stripe c.within_bounds.ensures c.requires.low.1 from) c.get_round-lower.ensures.reads c.get_round-upper.ensures.reads;
-    }
+    let ran = c.do_both.ensures in
+    let lower : ReadsLanes g.D.Lane.follows shape low c.args.low.stripe (c.args.front.now, c.front-1.given.0) c.own-1.given.0 ran.lower = search (rules, ran.low) in
+    let upper : ReadsLanes g.D.Lane.follows shape high c.args.high.stripe (c.args.back.now, c.back-1.given.0) c.rest-1.given.0 ran.upper = search (rules, ran.high) in
+    let both = get-halves g.D.Lane.follows laws.joins shape low high c.args.low.stripe c.args.high.stripe c.args.front.now c.front-1.given.0 c.args.back.now c.back-1.given.0 c.own-1.given.0 c.rest-1.given.0 ran.lower ran.upper c.requires.next
+    (λ stripe from. get-apart shape (length c.args.front.now) c.args.low stripe c.within_bounds.ensures c.requires.low.1 from) lower upper in
+    record { reads = rw ran.told both }
 
-pub get_in_turn-returns-in-Err : goal.get_in_turn-returns-in-Err
-get_in_turn-returns-in-Err g t c =
-    let laws = g.met.D.Lane g.world.𝓛 g.world.𝓜 g.world.𝓡 ((λ s x. x), (λ x. x), (λ x. x), λ x. x) in
-    let shape = c.args.call.now.shape.now in
-    let low = pieces_in_stretch c.args.low.stretch in
-    let high = pieces_in_stretch c.args.high.stretch in
-    record {
-      reads = get-err g.D.Lane.follows laws.joins shape low high c.args.low.stripe c.args.high.stripe c.args.front.now c.get_round-lower.new.lanes c.args.back.now c.get_round-upper.new.lanes c.get_round-lower.new.into c.get_round-upper.new.into c.get_round-lower.result c.get_round-upper.result c.in-Err.cause c.requires.next c.in-Err.is
-          (λ stripe from. get-apart shape (length c.args.front.now) c.args.low stripe c.within_bounds.ensures c.requires.low.1 from) c.get_round-lower.ensures.reads c.get_round-upper.ensures.reads;
-    }
-
-pub get_both-returns-in-Ok : goal.get_both-returns-in-Ok
-get_both-returns-in-Ok g t c =
-    let laws = g.met.D.Lane g.world.𝓛 g.world.𝓜 g.world.𝓡 ((λ s x. x), (λ x. x), (λ x. x), λ x. x) in
-    let shape = c.args.call.now.shape.now in
-    let low = pieces_in_stretch c.args.low.stretch in
-    let high = pieces_in_stretch c.args.high.stretch in
-    let both = c.join_mut-lower in
-    let front_is : both.new.f.2.now ≡ c.front-1.given.0 = search rules in
-    let own_is : both.new.f.3.now ≡ c.own-1.given.0 = search rules in
-    let back_is : both.new.g.2.now ≡ c.back-1.given.0 = search rules in
-    let rest_is : both.new.g.3.now ≡ c.rest-1.given.0 = search rules in
-    let lower : ReadsLanes g.D.Lane.follows shape low c.args.low.stripe (c.args.front.now, c.front-1.given.0) c.own-1.given.0 both.result.0 = rw (← front_is, ← own_is) both.ensures.0.met.1 in
-    let upper : ReadsLanes g.D.Lane.follows shape high c.args.high.stripe (c.args.back.now, c.back-1.given.0) c.rest-1.given.0 both.result.1 = rw (← back_is, ← rest_is) both.ensures.1.met.1 in
-    record {
-      reads = get-ok g.D.Lane.follows laws.joins shape low high c.args.low.stripe c.args.high.stripe c.args.front.now c.front-1.given.0 c.args.back.now c.back-1.given.0 c.own-1.given.0 c.rest-1.given.0 both.result.0 both.result.1 c.in-Ok.field-0 c.requires.next c.in-Ok.is
-          (λ stripe from. get-apart shape (length c.args.front.now) c.args.low stripe c.within_bounds.ensures c.requires.low.1 from) lower upper;
-    }
-
-pub get_both-returns-in-Err : goal.get_both-returns-in-Err
-get_both-returns-in-Err g t c =
-    let laws = g.met.D.Lane g.world.𝓛 g.world.𝓜 g.world.𝓡 ((λ s x. x), (λ x. x), (λ x. x), λ x. x) in
-    let shape = c.args.call.now.shape.now in
-    let low = pieces_in_stretch c.args.low.stretch in
-    let high = pieces_in_stretch c.args.high.stretch in
-    let both = c.join_mut-lower in
-    let front_is : both.new.f.2.now ≡ c.front-1.given.0 = search rules in
-    let own_is : both.new.f.3.now ≡ c.own-1.given.0 = search rules in
-    let back_is : both.new.g.2.now ≡ c.back-1.given.0 = search rules in
-    let rest_is : both.new.g.3.now ≡ c.rest-1.given.0 = search rules in
-    let lower : ReadsLanes g.D.Lane.follows shape low c.args.low.stripe (c.args.front.now, c.front-1.given.0) c.own-1.given.0 both.result.0 = rw (← front_is, ← own_is) both.ensures.0.met.1 in
-    let upper : ReadsLanes g.D.Lane.follows shape high c.args.high.stripe (c.args.back.now, c.back-1.given.0) c.rest-1.given.0 both.result.1 = rw (← back_is, ← rest_is) both.ensures.1.met.1 in
-    record {
-      reads = get-err g.D.Lane.follows laws.joins shape low high c.args.low.stripe c.args.high.stripe c.args.front.now c.front-1.given.0 c.args.back.now c.back-1.given.0 c.own-1.given.0 c.rest-1.given.0 both.result.0 both.result.1 c.in-Err.cause c.requires.next c.in-Err.is
-          (λ stripe from. get-apart shape (length c.args.front.now) c.args.low stripe c.within_bounds.ensures c.requires.low.1 from) lower upper;
-    }
-
-pub get_round-get_both-requires-clause-low : goal.get_round-get_both-requires-clause-low
-get_round-get_both-requires-clause-low g t c =
+pub get_round-get_halves-requires-clause-low : goal.get_round-get_halves-requires-clause-low
+get_round-get_halves-requires-clause-low g t c =
     let shape = c.args.call.now.shape.now in
     let lanes = length c.args.lanes.now in
     let front = c.split_at_mut-front in
@@ -97,8 +52,8 @@ get_round-get_both-requires-clause-low g t c =
     let run = all.low_run in
     search (rules, stretch, run)
 
-pub get_round-get_both-requires-clause-high : goal.get_round-get_both-requires-clause-high
-get_round-get_both-requires-clause-high g t c =
+pub get_round-get_halves-requires-clause-high : goal.get_round-get_halves-requires-clause-high
+get_round-get_halves-requires-clause-high g t c =
     let shape = c.args.call.now.shape.now in
     let lanes = length c.args.lanes.now in
     let front = c.split_at_mut-front in
@@ -113,55 +68,6 @@ get_round-get_both-requires-clause-high g t c =
     let stretch = all.high_stretch in
     let run = all.high_run in
     search (rules, stretch, run)
-
-pub get_round-get_in_turn-requires-clause-low : goal.get_round-get_in_turn-requires-clause-low
-get_round-get_in_turn-requires-clause-low g t c =
-    let shape = c.args.call.now.shape.now in
-    let lanes = length c.args.lanes.now in
-    let front = c.split_at_mut-front in
-    let own = c.split_at_mut-own in
-    let some : 0 < lanes / 2 = search rules in
-    let less : lanes / 2 < lanes = search rules in
-    let backs : length front.result.1.now ≡ lanes - lanes / 2 = omega (arith, front.ensures.back_len, less) in
-    let long = own.ensures.front_len ∙ c.bytes_of.ensures in
-    let split : length c.args.into.now ≡ length own.result.0.now + length own.result.1.now = ap (λ bs. length bs) own.ensures.value ∙ length-append own.result.0.now own.result.1.now in
-    let all = read-halved shape lanes (lanes / 2) (length front.result.0.now) (length front.result.1.now) c.args.run c.halves.result.0 c.halves.result.1 (length c.args.into.now) (length own.result.0.now) (length own.result.1.now) c.halves.ensures.shape c.requires.stretch c.requires.run some less
-    c.halves.ensures.lower c.halves.ensures.upper split long front.ensures.front_len backs in
-    let stretch = all.low_stretch in
-    let run = all.low_run in
-    search (rules, stretch, run)
-
-pub get_round-get_in_turn-requires-clause-high : goal.get_round-get_in_turn-requires-clause-high
-get_round-get_in_turn-requires-clause-high g t c =
-    let shape = c.args.call.now.shape.now in
-    let lanes = length c.args.lanes.now in
-    let front = c.split_at_mut-front in
-    let own = c.split_at_mut-own in
-    let some : 0 < lanes / 2 = search rules in
-    let less : lanes / 2 < lanes = search rules in
-    let backs : length front.result.1.now ≡ lanes - lanes / 2 = omega (arith, front.ensures.back_len, less) in
-    let long = own.ensures.front_len ∙ c.bytes_of.ensures in
-    let split : length c.args.into.now ≡ length own.result.0.now + length own.result.1.now = ap (λ bs. length bs) own.ensures.value ∙ length-append own.result.0.now own.result.1.now in
-    let all = read-halved shape lanes (lanes / 2) (length front.result.0.now) (length front.result.1.now) c.args.run c.halves.result.0 c.halves.result.1 (length c.args.into.now) (length own.result.0.now) (length own.result.1.now) c.halves.ensures.shape c.requires.stretch c.requires.run some less
-    c.halves.ensures.lower c.halves.ensures.upper split long front.ensures.front_len backs in
-    let stretch = all.high_stretch in
-    let run = all.high_run in
-    search (rules, stretch, run)
-
-pub get_round-returns-then-high-least : goal.get_round-returns-then-high-least
-get_round-returns-then-high-least g t c =
-    let shape = c.args.call.now.shape.now in
-    let lanes = length c.args.lanes.now in
-    let front = c.split_at_mut-front in
-    let own = c.split_at_mut-own in
-    let some : 0 < lanes / 2 = search rules in
-    let less : lanes / 2 < lanes = search rules in
-    let backs : length front.result.1.now ≡ lanes - lanes / 2 = omega (arith, front.ensures.back_len, less) in
-    let long = own.ensures.front_len ∙ c.bytes_of.ensures in
-    let split : length c.args.into.now ≡ length own.result.0.now + length own.result.1.now = ap (λ bs. length bs) own.ensures.value ∙ length-append own.result.0.now own.result.1.now in
-    let all = read-halved shape lanes (lanes / 2) (length front.result.0.now) (length front.result.1.now) c.args.run c.halves.result.0 c.halves.result.1 (length c.args.into.now) (length own.result.0.now) (length own.result.1.now) c.halves.ensures.shape c.requires.stretch c.requires.run some less
-    c.halves.ensures.lower c.halves.ensures.upper split long front.ensures.front_len backs in
-    record { reads = rw (all.pieces, all.stripe, front.ensures.value) c.get_both.ensures.reads }
 
 pub get_round-returns : goal.get_round-returns
 get_round-returns g t c =
@@ -176,4 +82,4 @@ get_round-returns g t c =
     let split : length c.args.into.now ≡ length own.result.0.now + length own.result.1.now = ap (λ bs. length bs) own.ensures.value ∙ length-append own.result.0.now own.result.1.now in
     let all = read-halved shape lanes (lanes / 2) (length front.result.0.now) (length front.result.1.now) c.args.run c.halves.result.0 c.halves.result.1 (length c.args.into.now) (length own.result.0.now) (length own.result.1.now) c.halves.ensures.shape c.requires.stretch c.requires.run some less
     c.halves.ensures.lower c.halves.ensures.upper split long front.ensures.front_len backs in
-    record { reads = rw (all.pieces, all.stripe, front.ensures.value) c.get_in_turn.ensures.reads }
+    record { reads = rw (all.pieces, all.stripe, front.ensures.value) c.get_halves.ensures.reads }

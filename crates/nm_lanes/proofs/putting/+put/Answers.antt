@@ -1,64 +1,25 @@
 -- What came of both halves.
-use Rattle.std.proofs.Common.{rules, arith, ◌≡◌, ◌-◌, ◌/◌, ◌<◌, ◌∙◌, length, sym}
+use Rattle.std.proofs.Common.{rules, arith, ◌≡◌, ◌-◌, ◌/◌, ◌<◌, ◌∙◌, length}
 use Rattle.nm_lanes.specs.Puts.{filling, PutsLanes}
-use Rattle.nm_lanes.proofs.PutRoundLemmas.{put-ok, put-err}
+use Rattle.nm_lanes.proofs.PutRoundLemmas.{put-halves}
 use Rattle.nm_lanes.proofs.RunLemmas.{run-apart, halved}
 use Rattle.nm_lanes.proofs.putting.+put.Goals as goal
 
-pub put_in_turn-returns-in-Ok : goal.put_in_turn-returns-in-Ok
-put_in_turn-returns-in-Ok g t c =
+pub put_halves-returns : goal.put_halves-returns
+put_halves-returns g t c =
     let laws = g.met.D.Lane g.world.𝓛 g.world.𝓜 g.world.𝓡 ((λ s x. x), (λ x. x), (λ x. x), λ x. x) in
     let shape = c.args.call.now.shape.now in
     let low = filling c.args.low.stretch c.args.own.now in
     let high = filling c.args.high.stretch c.args.rest.now in
-    record {
-      puts = put-ok g.D.Lane.follows laws.joins shape low high c.args.low.stripe c.args.high.stripe c.args.front.now c.put_round-lower.new.lanes c.args.back.now c.put_round-upper.new.lanes c.put_round-lower.result c.put_round-upper.result c.in-Ok.field-0 c.requires.next c.in-Ok.is
-          (λ stripe from. run-apart shape (length c.args.front.now) c.args.low c.args.own.now stripe c.within_bounds.ensures c.requires.low.0 c.requires.low.1 from) c.put_round-lower.ensures.puts c.put_round-upper.ensures.puts;
-    }
+    let ran = c.do_both.ensures in
+    let lower : PutsLanes g.D.Lane.follows shape low c.args.low.stripe (c.args.front.now, c.front-1.given.0) ran.lower = search (rules, ran.low) in
+    let upper : PutsLanes g.D.Lane.follows shape high c.args.high.stripe (c.args.back.now, c.back-1.given.0) ran.upper = search (rules, ran.high) in
+    let both = put-halves g.D.Lane.follows laws.joins shape low high c.args.low.stripe c.args.high.stripe c.args.front.now c.front-1.given.0 c.args.back.now c.back-1.given.0 ran.lower ran.upper c.requires.next
+    (λ stripe from. run-apart shape (length c.args.front.now) c.args.low c.args.own.now stripe c.within_bounds.ensures c.requires.low.0 c.requires.low.1 from) lower upper in
+    record { puts = rw ran.told both }
 
-pub put_in_turn-returns-in-Err : goal.put_in_turn-returns-in-Err
-put_in_turn-returns-in-Err g t c =
-    let laws = g.met.D.Lane g.world.𝓛 g.world.𝓜 g.world.𝓡 ((λ s x. x), (λ x. x), (λ x. x), λ x. x) in
-    let shape = c.args.call.now.shape.now in
-    let low = filling c.args.low.stretch c.args.own.now in
-    let high = filling c.args.high.stretch c.args.rest.now in
-    record {
-      puts = put-err g.D.Lane.follows laws.joins shape low high c.args.low.stripe c.args.high.stripe c.args.front.now c.put_round-lower.new.lanes c.args.back.now c.put_round-upper.new.lanes c.put_round-lower.result c.put_round-upper.result c.in-Err.cause c.requires.next c.in-Err.is
-          (λ stripe from. run-apart shape (length c.args.front.now) c.args.low c.args.own.now stripe c.within_bounds.ensures c.requires.low.0 c.requires.low.1 from) c.put_round-lower.ensures.puts c.put_round-upper.ensures.puts;
-    }
-
-pub put_both-returns-in-Ok : goal.put_both-returns-in-Ok
-put_both-returns-in-Ok g t c =
-    let laws = g.met.D.Lane g.world.𝓛 g.world.𝓜 g.world.𝓡 ((λ s x. x), (λ x. x), (λ x. x), λ x. x) in
-    let shape = c.args.call.now.shape.now in
-    let low = filling c.args.low.stretch c.args.own.now in
-    let high = filling c.args.high.stretch c.args.rest.now in
-    let front_is : c.front-1.given.0 ≡ c.join_mut-lower.new.f.2.now = c.front-1.given.1.1 (sym c.join_mut-lower.ensures.0.met.0.2) in
-    let lower : PutsLanes g.D.Lane.follows shape low c.args.low.stripe (c.args.front.now, c.front-1.given.0) c.join_mut-lower.result.0 = rw front_is c.join_mut-lower.ensures.0.met.1 in
-    let back_is : c.back-1.given.0 ≡ c.join_mut-lower.new.g.2.now = c.back-1.given.1.1 (sym c.join_mut-lower.ensures.1.met.0.2) in
-    let upper : PutsLanes g.D.Lane.follows shape high c.args.high.stripe (c.args.back.now, c.back-1.given.0) c.join_mut-lower.result.1 = rw back_is c.join_mut-lower.ensures.1.met.1 in
-    record {
-      puts = put-ok g.D.Lane.follows laws.joins shape low high c.args.low.stripe c.args.high.stripe c.args.front.now c.front-1.given.0 c.args.back.now c.back-1.given.0 c.join_mut-lower.result.0 c.join_mut-lower.result.1 c.in-Ok.field-0 c.requires.next c.in-Ok.is
-          (λ stripe from. run-apart shape (length c.args.front.now) c.args.low c.args.own.now stripe c.within_bounds.ensures c.requires.low.0 c.requires.low.1 from) lower upper;
-    }
-
-pub put_both-returns-in-Err : goal.put_both-returns-in-Err
-put_both-returns-in-Err g t c =
-    let laws = g.met.D.Lane g.world.𝓛 g.world.𝓜 g.world.𝓡 ((λ s x. x), (λ x. x), (λ x. x), λ x. x) in
-    let shape = c.args.call.now.shape.now in
-    let low = filling c.args.low.stretch c.args.own.now in
-    let high = filling c.args.high.stretch c.args.rest.now in
-    let front_is : c.front-1.given.0 ≡ c.join_mut-lower.new.f.2.now = c.front-1.given.1.1 (sym c.join_mut-lower.ensures.0.met.0.2) in
-    let lower : PutsLanes g.D.Lane.follows shape low c.args.low.stripe (c.args.front.now, c.front-1.given.0) c.join_mut-lower.result.0 = rw front_is c.join_mut-lower.ensures.0.met.1 in
-    let back_is : c.back-1.given.0 ≡ c.join_mut-lower.new.g.2.now = c.back-1.given.1.1 (sym c.join_mut-lower.ensures.1.met.0.2) in
-    let upper : PutsLanes g.D.Lane.follows shape high c.args.high.stripe (c.args.back.now, c.back-1.given.0) c.join_mut-lower.result.1 = rw back_is c.join_mut-lower.ensures.1.met.1 in
-    record {
-      puts = put-err g.D.Lane.follows laws.joins shape low high c.args.low.stripe c.args.high.stripe c.args.front.now c.front-1.given.0 c.args.back.now c.back-1.given.0 c.join_mut-lower.result.0 c.join_mut-lower.result.1 c.in-Err.cause c.requires.next c.in-Err.is
-          (λ stripe from. run-apart shape (length c.args.front.now) c.args.low c.args.own.now stripe c.within_bounds.ensures c.requires.low.0 c.requires.low.1 from) lower upper;
-    }
-
-pub put_round-put_both-requires-clause-low : goal.put_round-put_both-requires-clause-low
-put_round-put_both-requires-clause-low g t c =
+pub put_round-put_halves-requires-clause-low : goal.put_round-put_halves-requires-clause-low
+put_round-put_halves-requires-clause-low g t c =
     let shape = c.args.call.now.shape.now in
     let lanes = length c.args.lanes.now in
     let front = c.split_at_mut-front in
@@ -73,8 +34,8 @@ put_round-put_both-requires-clause-low g t c =
     let run = all.low_run in
     search (rules, stretch, run)
 
-pub put_round-put_both-requires-clause-high : goal.put_round-put_both-requires-clause-high
-put_round-put_both-requires-clause-high g t c =
+pub put_round-put_halves-requires-clause-high : goal.put_round-put_halves-requires-clause-high
+put_round-put_halves-requires-clause-high g t c =
     let shape = c.args.call.now.shape.now in
     let lanes = length c.args.lanes.now in
     let front = c.split_at_mut-front in
@@ -88,52 +49,6 @@ put_round-put_both-requires-clause-high g t c =
     let stretch = all.high_stretch in
     let run = all.high_run in
     search (rules, stretch, run)
-
-pub put_round-put_in_turn-requires-clause-low : goal.put_round-put_in_turn-requires-clause-low
-put_round-put_in_turn-requires-clause-low g t c =
-    let shape = c.args.call.now.shape.now in
-    let lanes = length c.args.lanes.now in
-    let front = c.split_at_mut-front in
-    let own = c.split_at_mut-own in
-    let some : 0 < lanes / 2 = search rules in
-    let less : lanes / 2 < lanes = search rules in
-    let backs : length front.result.1.now ≡ lanes - lanes / 2 = omega (arith, front.ensures.back_len, less) in
-    let long = own.ensures.front_len ∙ c.cuts_of.ensures in
-    let all = halved shape lanes (lanes / 2) (length front.result.0.now) (length front.result.1.now) c.args.run c.halves.result.0 c.halves.result.1 c.args.cuts.now own.result.0.now own.result.1.now c.halves.ensures.shape c.requires.stretch c.requires.run some less
-    c.halves.ensures.lower c.halves.ensures.upper own.ensures.value long front.ensures.front_len backs in
-    let stretch = all.low_stretch in
-    let run = all.low_run in
-    search (rules, stretch, run)
-
-pub put_round-put_in_turn-requires-clause-high : goal.put_round-put_in_turn-requires-clause-high
-put_round-put_in_turn-requires-clause-high g t c =
-    let shape = c.args.call.now.shape.now in
-    let lanes = length c.args.lanes.now in
-    let front = c.split_at_mut-front in
-    let own = c.split_at_mut-own in
-    let some : 0 < lanes / 2 = search rules in
-    let less : lanes / 2 < lanes = search rules in
-    let backs : length front.result.1.now ≡ lanes - lanes / 2 = omega (arith, front.ensures.back_len, less) in
-    let long = own.ensures.front_len ∙ c.cuts_of.ensures in
-    let all = halved shape lanes (lanes / 2) (length front.result.0.now) (length front.result.1.now) c.args.run c.halves.result.0 c.halves.result.1 c.args.cuts.now own.result.0.now own.result.1.now c.halves.ensures.shape c.requires.stretch c.requires.run some less
-    c.halves.ensures.lower c.halves.ensures.upper own.ensures.value long front.ensures.front_len backs in
-    let stretch = all.high_stretch in
-    let run = all.high_run in
-    search (rules, stretch, run)
-
-pub put_round-returns-then-high-least : goal.put_round-returns-then-high-least
-put_round-returns-then-high-least g t c =
-    let shape = c.args.call.now.shape.now in
-    let lanes = length c.args.lanes.now in
-    let front = c.split_at_mut-front in
-    let own = c.split_at_mut-own in
-    let some : 0 < lanes / 2 = search rules in
-    let less : lanes / 2 < lanes = search rules in
-    let backs : length front.result.1.now ≡ lanes - lanes / 2 = omega (arith, front.ensures.back_len, less) in
-    let long = own.ensures.front_len ∙ c.cuts_of.ensures in
-    let all = halved shape lanes (lanes / 2) (length front.result.0.now) (length front.result.1.now) c.args.run c.halves.result.0 c.halves.result.1 c.args.cuts.now own.result.0.now own.result.1.now c.halves.ensures.shape c.requires.stretch c.requires.run some less
-    c.halves.ensures.lower c.halves.ensures.upper own.ensures.value long front.ensures.front_len backs in
-    record { puts = rw (all.fill, all.stripe, front.ensures.value) c.put_both.ensures.puts }
 
 pub put_round-returns : goal.put_round-returns
 put_round-returns g t c =
@@ -147,4 +62,4 @@ put_round-returns g t c =
     let long = own.ensures.front_len ∙ c.cuts_of.ensures in
     let all = halved shape lanes (lanes / 2) (length front.result.0.now) (length front.result.1.now) c.args.run c.halves.result.0 c.halves.result.1 c.args.cuts.now own.result.0.now own.result.1.now c.halves.ensures.shape c.requires.stretch c.requires.run some less
     c.halves.ensures.lower c.halves.ensures.upper own.ensures.value long front.ensures.front_len backs in
-    record { puts = rw (all.fill, all.stripe, front.ensures.value) c.put_in_turn.ensures.puts }
+    record { puts = rw (all.fill, all.stripe, front.ensures.value) c.put_halves.ensures.puts }

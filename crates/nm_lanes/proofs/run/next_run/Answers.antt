@@ -2,7 +2,7 @@
 use Rattle.std.proofs.Common.{◌≡◌, ◌+◌, ◌-◌, ◌*◌, ◌/◌, ◌%◌, min, rules}
 use Rattle.nm_lanes.specs.Puts.{first_of}
 use Rattle.nm_lanes.proofs.RunLemmas.{next-run}
-use Rattle.nm_lanes.proofs.putting.next_run.Goals as goal
+use Rattle.nm_lanes.proofs.run.next_run.Goals as goal
 
 pub returns-clause-run : goal.returns-clause-run
 returns-clause-run c =
