@@ -14,6 +14,7 @@ import struct
 import subprocess
 import sys
 import tempfile
+import threading
 import time
 
 TOP = os.path.dirname(os.path.dirname(os.path.dirname(os.path.abspath(__file__))))
@@ -61,6 +62,27 @@ def wait_until(holds, seconds, what):
     while not holds():
         assert time.monotonic() < end, f"not within {seconds} seconds: {what}"
         time.sleep(0.05)
+
+
+class Hand(threading.Thread):
+    """A thread that is at work already, and whose fault `finish` raises."""
+
+    def __init__(self, work, *words):
+        super().__init__()
+        self.work, self.words, self.fault = work, words, None
+        self.start()
+
+    def run(self):
+        try:
+            self.work(*self.words)
+        except BaseException as fault:  # pylint: disable=broad-except
+            self.fault = fault
+
+    def finish(self):
+        """Waits for its end, which must be a good one."""
+        self.join()
+        if self.fault:
+            raise self.fault
 
 
 def free_port():

@@ -81,8 +81,8 @@ const TALKS: [Talk; 14] = [
     (b"quit\nfail 0\n", b"bye\n", true),
 ];
 
-/// A mirror of 1 MiB in two stripes, on two legs in memory; leg 0 is in sync, leg 1 joins.
-fn mirror(alloc: Global) -> Result<Mirror<MemLeg, NoGate>, Fail> {
+/// A mirror of 1 MiB in two stripes, on two equal legs in memory; leg 0 is in sync, leg 1 joins.
+fn mirror(alloc: Global, start: Start) -> Result<Mirror<MemLeg, NoGate>, Fail> {
     let shape = Shape::new(2048, 128, 8, 2, 2).ok_or("no shape")?;
     let mut legs = Vec::new(alloc);
     for stripe in 0..shape.stripes {
@@ -92,7 +92,7 @@ fn mirror(alloc: Global) -> Result<Mirror<MemLeg, NoGate>, Fail> {
         own.push(MemLeg::new(alloc, blocks)?)?;
         legs.push(own)?;
     }
-    let Ok(stripes) = open_stripes(alloc, &shape, legs, 0, Policy::RoundRobin, Start::Full) else {
+    let Ok(stripes) = open_stripes(alloc, &shape, legs, 0, Policy::RoundRobin, start) else {
         return Err(Fail::new("no stripes"));
     };
     match Mirror::new(alloc, shape, stripes, NoGate) {
@@ -119,12 +119,22 @@ fn goes<R: Wait + Abort>(
 #[test]
 fn lines_are_answered(rt: HostRuntime) -> Result<(), Fail> {
     let alloc = rt.alloc();
-    let mirror = mirror(alloc)?;
+    let mirror = mirror(alloc, Start::Full)?;
     for (place, (sent, answered, ends)) in TALKS.into_iter().enumerate() {
         assert!(rt;
             goes(&rt, alloc, &mirror, sent, answered, ends),
             "talk {place}"
         );
     }
+    Ok(())
+}
+
+#[test]
+fn equal_legs_that_are_compared_have_nothing_to_copy(rt: HostRuntime) -> Result<(), Fail> {
+    let alloc = rt.alloc();
+    let mirror = mirror(alloc, Start::Compare)?;
+    let told = b"stripe 0: master 0 settling no legs in join(0)\n\
+          stripe 1: master 0 settling no legs in join(0)\nend\n";
+    assert!(rt; goes(&rt, alloc, &mirror, b"status\n", told, false));
     Ok(())
 }

@@ -182,7 +182,8 @@ where
 fn have_blocks<'a, R>(targets: &[Over<'a, R>], blocks: u64) -> bool
 where
     R: Threads + Wait + Sync + Copy,
-    ensures { IsTrue result → All (λ target. 512 * blocks ≤ 512 * target.mirror.now.blocks) targets.now }
+    ensures { IsTrue result
+        → All (λ target. 512 * blocks ≤ 512 * target.mirror.now.blocks) targets.now }
 {
     targets.iter().all(|target| blocks <= target.mirror.calls().mirror.shape().blocks)
 }
@@ -316,6 +317,65 @@ fn leave<R: Threads + Wait + Clock + Sync + Copy>(
     Ok(finished.result)
 }
 
+/// Serves a client that sends all it has, over so many passes: whether this is what it got.
+fn gets<R: Threads + Wait + Clock + Sync + Copy>(
+    rt: &R,
+    alloc: Global,
+    mirror: &Memories<'_>,
+    passes: &mut [Pass<MemLeg>],
+    stream: Vec<u8>,
+    out: &[u8],
+) -> Result<bool, Fail> {
+    let ready = ReadyMirror::new(MemoryCalls { rt, alloc, mirror });
+    let targets = targets_through(alloc, &ready, passes)?;
+    let writer = CutWriter::new(alloc, 65_536)?;
+    let reader = CutReader::new(stream);
+    let finished = serve_over(rt, alloc, reader, writer, targets, export(alloc)?)?;
+    Ok(finished.sender.device().as_bytes() == out)
+}
+
+/// A session that writes eight blocks, from block 1 on, and one that reads them with a block
+/// around. Regions have two blocks, so that both calls are at work in up to five stripes at once.
+fn expect_regions<R: Threads + Wait + Clock + Sync + Copy + Abort>(
+    rt: &R,
+    alloc: Global,
+    stripes: u32,
+) -> Result<(), Fail> {
+    let gone = AtomicUsize::new(1);
+    let mirror = mirror_of(alloc, stripes, &gone)?;
+    let mut passes = passes_of(rt, alloc, &mirror, 16)?;
+    let mut blocks = Vec::new(alloc);
+    for block in 0..8u8 {
+        blocks.extend_from_slice(&[0xb0 + block; 512])?;
+    }
+    let mut stream = concat(alloc, &[&FLAGS, &GO])?;
+    put_request(&mut stream, WRITE, 0x41, 512, 4_096)?;
+    stream.extend_from_slice(&blocks)?;
+    stream.extend_from_slice(&DISC)?;
+    let mut out = concat(alloc, &[&GREETING, &DESCRIBED])?;
+    put_reply(&mut out, 0, 0x41)?;
+    assert!(rt; gets(rt, alloc, &mirror, passes.as_mut_slice(), stream, &out)?);
+    let mut stream = concat(alloc, &[&FLAGS, &GO])?;
+    put_request(&mut stream, READ, 0x42, 0, 5_120)?;
+    stream.extend_from_slice(&DISC)?;
+    let mut out = concat(alloc, &[&GREETING, &DESCRIBED])?;
+    put_reply(&mut out, 0, 0x42)?;
+    out.extend_from_slice(&[0; 512])?;
+    out.extend_from_slice(&blocks)?;
+    out.extend_from_slice(&[0; 512])?;
+    assert!(rt; gets(rt, alloc, &mirror, passes.as_mut_slice(), stream, &out)?);
+    expect_end(rt, alloc, mirror, passes, 18);
+    Ok(())
+}
+
+#[test]
+fn regions_side_by_side_give_the_same_bytes(rt: HostRuntime) -> Result<(), Fail> {
+    for stripes in [1, 2, 16] {
+        expect_regions(&rt, rt.alloc(), stripes)?;
+    }
+    Ok(())
+}
+
 /// A new session reads 16 blocks, of which the first 15 are new.
 fn expect_all_new<R: Threads + Wait + Clock + Sync + Copy + Abort>(
     rt: &R,
@@ -332,18 +392,7 @@ fn expect_all_new<R: Threads + Wait + Clock + Sync + Copy + Abort>(
         out.extend_from_slice(&[0xaa; 512])?;
     }
     out.extend_from_slice(&[0; 512])?;
-    let ready = ReadyMirror::new(MemoryCalls { rt, alloc, mirror });
-    let targets = targets_through(alloc, &ready, passes)?;
-    let writer = CutWriter::new(alloc, 65_536)?;
-    let finished = serve_over(
-        rt,
-        alloc,
-        CutReader::new(stream),
-        writer,
-        targets,
-        export(alloc)?,
-    )?;
-    assert!(rt; finished.sender.device().as_bytes() == out.as_slice());
+    assert!(rt; gets(rt, alloc, mirror, passes, stream, &out)?);
     Ok(())
 }
 
