@@ -9,7 +9,7 @@ ghost use Rattle.nm_workers.specs.Moving.{stand, BreaksOff, PausesAt, IsKnown, A
 ghost use Rattle.nm_workers.specs.Moving.{IsAttended, IsOverAt};
 
 use crate::attended::Attended;
-use crate::crew::Crew;
+use crate::crew::{Crew, give_held};
 use crate::desk::Desk;
 use crate::extent::Extent;
 use crate::handing::hand_out;
@@ -60,8 +60,10 @@ where
     unreachable!()
 }
 
-// Hands out the requests that are there, gives the leave to read where none is left, sends the
-// replies that wait in one write and, unless the session is over, waits for what the threads tell.
+// Hands out the requests that are there, sends the replies that wait in one write and, unless the
+// session is over, waits for what the threads tell. Where no request is left it gives the leave to
+// read, and does so before the last one is given to a worker: the thread that reads mostly looks for
+// it still then, and to give a job takes longer where a worker has to be woken for it.
 fn attend_once<'s, S, E, R, O, T>(
     rt: &'s R,
     alloc: Global,
@@ -94,6 +96,9 @@ where
         Ok(input) => input,
         Err(fault) => return Err(fault),
     };
+    if give_held(rt, alloc, &mut desk.crew, core.under_way()).is_err() {
+        return Err(ServeFault::Memory);
+    }
     if let Err(fault) = send_out(core, sender) {
         return Err(fault);
     }

@@ -83,13 +83,14 @@ fn spare_workers<E: Extent, T: Target + Drop>(
     Ok(spare)
 }
 
-// The workers of a session, of whom some have a thread. They end once it is gone and all jobs are
-// done.
+// The workers of a session, of whom some have a thread, and the job that was got last. They end once
+// it is gone and all jobs that they were handed are done.
 #[derive(Drop)]
 pub struct Crew<'a, 's, S, E: Extent, T: Target> {
     scope: &'a Scope<'s, S>,
     roster: Roster<E, T>,
     started: usize,
+    held: Option<Job<E>>,
 }
 
 impl<'a, 's, S, E: Extent, T: Target> Crew<'a, 's, S, E, T> {
@@ -99,13 +100,50 @@ impl<'a, 's, S, E: Extent, T: Target> Crew<'a, 's, S, E, T> {
             scope,
             roster,
             started: 0,
+            held: None,
         }
+    }
+}
+
+// Holds the job back, and hands the one before it to the workers.
+pub(crate) fn hold_job<'s, S, E, R, T>(
+    rt: &'s R,
+    alloc: Global,
+    crew: &mut Crew<'_, 's, S, E, T>,
+    job: Job<E>,
+    under_way: usize,
+) -> Result<(), Memory>
+where
+    E: Extent + Send + 's,
+    R: Threads + Wait + Sync + 's,
+    T: Target + Send + Drop + 's,
+{
+    give_held(rt, alloc, crew, under_way)?;
+    crew.held = Some(job);
+    Ok(())
+}
+
+// Hands the job that is held back to the workers, if there is one.
+pub(crate) fn give_held<'s, S, E, R, T>(
+    rt: &'s R,
+    alloc: Global,
+    crew: &mut Crew<'_, 's, S, E, T>,
+    under_way: usize,
+) -> Result<(), Memory>
+where
+    E: Extent + Send + 's,
+    R: Threads + Wait + Sync + 's,
+    T: Target + Send + Drop + 's,
+{
+    match crew.held.take() {
+        Some(job) => give_job(rt, alloc, crew, job, under_way),
+        None => Ok(()),
     }
 }
 
 // Hands the job to the workers while so many requests are under way, this one among them. One more
 // gets its thread where all that have one may be at work.
-pub(crate) fn give_job<'s, S, E, R, T>(
+fn give_job<'s, S, E, R, T>(
     rt: &'s R,
     alloc: Global,
     crew: &mut Crew<'_, 's, S, E, T>,

@@ -5,7 +5,7 @@ ghost use Rattle.nm_session.specs.Laws.{IsRead};
 ghost use Rattle.nm_wire.specs.Export.{size_of};
 ghost use Rattle.nm_workers.specs.Moving.{PausesAt};
 
-use crate::crew::{Crew, give_job};
+use crate::crew::{Crew, hold_job};
 use crate::extent::Extent;
 use crate::job::Job;
 use crate::pause::Pause;
@@ -14,7 +14,8 @@ use std::alloc::Global;
 use std::sync::Wait;
 use std::thread::Threads;
 
-// Hands out the tasks of the requests that are there, in their order, and says why no more are.
+// Hands out the tasks of the requests that are there, in their order, and says why no more are. The
+// last one is held back: it is given once the leave to read was.
 pub(crate) fn hand_out<'s, S, E, R, T>(
     rt: &'s R,
     alloc: Global,
@@ -62,7 +63,7 @@ where
     };
     match next {
         Ok(job) => {
-            if give_job(rt, alloc, crew, job, core.under_way()).is_err() {
+            if hold_job(rt, alloc, crew, job, core.under_way()).is_err() {
                 return Err(ServeFault::Memory);
             }
             Ok(None)

@@ -1,6 +1,8 @@
 -- A round is what its parts do.
+use Rattle.std.proofs.Common.{refl}
 use Rattle.nm_mailbox.specs.Ends.{received_by}
 use Rattle.nm_replies.specs.Sending.{device_of}
+use Rattle.nm_session.specs.declared.serve_fault.ServeFault.TheVariants as fault
 use Rattle.nm_workers.specs.Moving.{stand}
 use Rattle.nm_workers.proofs.Rounds.{stops_there, known_as, reads_sends, reads_sends_part, over_there}
 use Rattle.nm_workers.proofs.Steps.{moves_on, breaks_on, reads}
@@ -15,6 +17,12 @@ returns-in-Err-clause-err g c =
 pub returns-in-Err-ask_for_piece-clause-err : goal.returns-in-Err-ask_for_piece-clause-err
 returns-in-Err-ask_for_piece-clause-err g c =
     stops_there c.in-Err-ask_for_piece.fault c.in-Err-ask_for_piece.ensures.memory _ _
+    (reads c.args.core.now c.hand_out.new.core (received_by c.args.inbox.now)
+    (g.O.Write.contents (device_of c.args.sender.now)) c.in-Ok.ensures.ok)
+
+pub returns-then-is_err-clause-err : goal.returns-then-is_err-clause-err
+returns-then-is_err-clause-err g c =
+    stops_there fault.Memory refl _ _
     (reads c.args.core.now c.hand_out.new.core (received_by c.args.inbox.now)
     (g.O.Write.contents (device_of c.args.sender.now)) c.in-Ok.ensures.ok)
 
