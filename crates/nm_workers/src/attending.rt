@@ -119,7 +119,7 @@ fn ask_for_piece<R: Wait, C>(
     core: &SessionCore,
     pause: Pause,
     input: Input,
-    desk: &Desk<'_, C>,
+    desk: &mut Desk<'_, C>,
 ) -> Result<Input, ServeFault>
     requires pause { PausesAt pause core.now }
     ensures ok { IfOk result (λ next. next ≡ Ended → input ≡ Ended) }
@@ -130,7 +130,7 @@ fn ask_for_piece<R: Wait, C>(
             let Ok(leave) = Leave::new(alloc, core, input, desk.room) else {
                 return Err(ServeFault::Memory);
             };
-            if desk.leaves.send(rt, leave).is_err() {
+            if !desk.leaves.send(rt, leave) {
                 return Err(ServeFault::Memory);
             }
             Ok(Input::Coming)

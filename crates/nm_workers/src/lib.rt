@@ -23,6 +23,7 @@ mod hearing;
 mod input;
 mod job;
 mod leave;
+mod leaves;
 mod looking;
 mod lookout;
 mod patience;

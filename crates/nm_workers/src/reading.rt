@@ -5,8 +5,8 @@ ghost use Rattle.nm_workers.specs.Reading.{Gives, ReadsOn, HasRead, Goes};
 ghost use Rattle.nm_workers.specs.Reading as reading;
 
 use crate::leave::Leave;
+use crate::leaves::LeaveReceiver;
 use crate::read_side::ReadSide;
-use crossbeam_channel::Receiver;
 use nm_mailbox::{Piece, PieceEnd};
 use nm_session::Called;
 use std::io::Read;
@@ -20,16 +20,16 @@ pub(crate) fn read_pieces<R: Wait, I: Read + Drop>(
     rt: &R,
     reader: I,
     pieces: PieceEnd<Called>,
-    leaves: Receiver<Leave>,
+    leaves: LeaveReceiver,
 ) -> ReadSide<I>
     requires none { pieces_by pieces ≡ [] }
     ensures read { HasRead (I.remaining reader) (I.remaining result.reader)
         (pieces_by result.pieces) }
     ensures channel { IsSameEnd result.pieces pieces }
 {
-    let mut side = ReadSide { reader, pieces };
+    let (mut side, mut leaves) = (ReadSide { reader, pieces }, leaves);
     'leaves: for _ in rt.forever() {
-        let Ok(leave) = leaves.recv(rt) else {
+        let Some(leave) = leaves.recv(rt) else {
             return side;
         };
         if !read_piece(rt, &mut side.reader, &mut side.pieces, leave) {

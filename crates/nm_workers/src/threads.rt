@@ -10,12 +10,12 @@ use crate::crew::{Crew, Roster};
 use crate::desk::Desk;
 use crate::extent::Extent;
 use crate::finished::Finished;
+use crate::leaves::leave_channel;
 use crate::looking::Looking;
 use crate::lookout::Lookout;
 use crate::read_side::ReadSide;
 use crate::reading::{AllRead, read_pieces};
 use crate::room::Room;
-use crossbeam_channel::bounded;
 use nm_mailbox::{Inbox, mailbox};
 use nm_replies::ReplyWriter;
 use nm_session::{Called, ServeFault, SessionCore, Target};
@@ -51,7 +51,7 @@ where
     let Ok((pieces, ends, inbox)) = mailbox::<Called>(alloc, targets.len()) else {
         return broken_off(sender);
     };
-    let Ok((leaves, given)) = bounded(alloc, 1) else {
+    let Ok((leaves, given)) = leave_channel(alloc) else {
         return broken_off(sender);
     };
     let Ok(roster) = Roster::<E, T>::new(alloc, targets, ends) else {
