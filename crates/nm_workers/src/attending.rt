@@ -127,7 +127,7 @@ fn ask_for_piece<R: Wait, C>(
 {
     match (pause, input) {
         (Pause::Starved, Input::Idle) => {
-            let Ok(leave) = Leave::new(alloc, core, input, desk.room) else {
+            let Ok(leave) = Leave::new(alloc, core, input, &mut desk.room) else {
                 return Err(ServeFault::Memory);
             };
             if !desk.leaves.send(rt, leave) {

@@ -54,8 +54,8 @@ pub(crate) fn listen<R: Wait, C>(
     Ok(input)
 }
 
-// Feeds the piece to the core, by whose length the next one has room, or answers a request with what
-// came of its task. Gives what is known then of the client's bytes.
+// Feeds the piece to the core, and lets the room for the next one follow it, or answers a request with
+// what came of its task. Gives what is known then of the client's bytes.
 fn hear(
     alloc: Global,
     core: &mut SessionCore,
@@ -73,13 +73,13 @@ fn hear(
             Ok(()) => Ok(input),
             Err(fault) => Err(fault),
         },
-        Message::Piece(Piece::Bytes(bytes)) => {
-            *room = room.after(bytes.len());
-            match core.feed(alloc, bytes.as_slice()) {
-                Ok(()) => Ok(Input::Idle),
-                Err(_) => Err(ServeFault::Memory),
+        Message::Piece(Piece::Bytes(bytes)) => match core.feed(alloc, bytes.as_slice()) {
+            Ok(()) => {
+                room.follow(alloc, bytes);
+                Ok(Input::Idle)
             }
-        }
+            Err(_) => Err(ServeFault::Memory),
+        },
         Message::Piece(Piece::Ended) => Ok(Input::Ended),
         Message::Piece(Piece::Failed) => Err(ServeFault::Read),
     }

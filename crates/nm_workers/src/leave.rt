@@ -16,17 +16,17 @@ pub struct Leave {
 }
 
 impl Leave {
-    // A leave with so much room, where no whole request is there and no read is under way.
+    // A leave with this room, where no whole request is there and no read is under way.
     pub(crate) fn new(
         alloc: Global,
         _core: &SessionCore,
         _input: Input,
-        room: Room,
+        room: &mut Room,
     ) -> Result<Leave, Memory>
         requires starved { IsStarved _core.now }
         requires idle { _input ≡ Idle }
     {
-        let room = vec![in alloc; 0; room.bytes]?;
+        let room = room.take(alloc)?;
         Ok(Leave { room })
     }
 

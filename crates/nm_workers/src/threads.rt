@@ -79,7 +79,7 @@ where
             let desk = Desk {
                 crew: Crew::new(scope, roster),
                 leaves,
-                room: Room::new(),
+                room: Room::new(alloc),
                 looking: Looking::new(lookout),
             };
             own(rt, alloc, core, sender, inbox, desk, reading)
