@@ -17,5 +17,7 @@ pub mod running;
 #[cfg(test)]
 mod sessions;
 pub mod shared_target;
+#[cfg(test)]
+mod short_target;
 pub mod texts;
 pub mod waiting;

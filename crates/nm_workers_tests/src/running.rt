@@ -29,6 +29,7 @@ pub fn targets<'a, R: Wait>(
             size: shared.size,
             shared,
             hold,
+            is_short: false,
         })?;
     }
     Ok(targets)

@@ -56,6 +56,8 @@ pub struct SharedTarget<'a, R: Wait> {
     pub size: u64,
     pub shared: &'a SharedBytes,
     pub hold: Option<Hold<'a>>,
+    /// Whether it has no memory for a write.
+    pub is_short: bool,
 }
 
 impl<'a, R: Wait + Clock> SharedTarget<'a, R> {
@@ -152,6 +154,10 @@ impl<'a, R: Wait + Clock> Target for SharedTarget<'a, R> {
         self.begin();
         if !self.is_free(offset) {
             return Err(TargetFault::Io);
+        }
+        if self.is_short {
+            self.end();
+            return Err(TargetFault::Memory);
         }
         let mut bytes = self.shared.bytes.lock(self.rt);
         let result = overwrite(&mut bytes, offset, payload.as_slice());
