@@ -1,5 +1,6 @@
 -- Bytes of a medium that were read ahead.
-use Rattle.std.specs.Prelude.{◌≡◌, ℕ, ◌-◌, ◌&&◌, Bool, false, nat_le, Option, None, Some}
+use Rattle.std.specs.Prelude.{◌≡◌, ℕ, ◌-◌, ◌%◌, ◌&&◌, if◌then◌else◌, Bool, false, nat_le, min}
+use Rattle.std.specs.Prelude.{Option, None, Some}
 use Rattle.std.specs.Prelude.{List, length, take}
 use Rattle.nm_file_leg.specs.declared.run.Run.{Run}
 use Rattle.nm_file_leg.specs.Medium.{window, Apart}
@@ -18,3 +19,10 @@ pub record Changes (at : ℕ) (part old new : List ℕ) : Type 0 where
 abbrev pub follows : ℕ → Option ℕ → Bool
 follows at None = false
 follows at (Some next) = nat_le next at && nat_le (at - next) 4096
+
+-- how many bytes are read at once: to the end of the region where the read follows the last one,
+-- and else to the end of the page of 4096 bytes, or to the region's end where that comes first
+abbrev pub bytes_at_once : ℕ → Option ℕ → ℕ → ℕ
+bytes_at_once at next region =
+    if follows at next then region - at % region
+    else min (region - at % region) (4096 - at % 4096)

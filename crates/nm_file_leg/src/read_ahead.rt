@@ -1,5 +1,5 @@
 ghost use Rattle.std.specs.Prelude.{◌≡◌, ◌≢◌, ◌+◌, ◌%◌, ◌<◌, ◌≤◌, length, IsTrue, Ok, OnErr, IfOk};
-ghost use Rattle.nm_file_leg.specs.Run.{IsRunOf, follows};
+ghost use Rattle.nm_file_leg.specs.Run.{IsRunOf, follows, bytes_at_once};
 ghost use Rattle.nm_file_leg.specs.Medium.{ReadsMedium, WritesMedium, SyncsMedium};
 
 use crate::Medium;
@@ -11,10 +11,14 @@ use std::io;
 /// How many bytes may lie between two reads that follow one another: 8 blocks.
 const NEAR: u64 = 8 * 512;
 
-/// A medium that reads ahead where reads follow one another.
+/// How many bytes a page has, which is what a client mostly reads at once: 8 blocks.
+const PAGE: u64 = 8 * 512;
+
+/// A medium that reads ahead.
 ///
-/// It reads to the end of a region at once, and keeps what it found for the reads to come. It holds
-/// no write back, and after a call that failed it keeps nothing.
+/// It reads to the end of a region at once where reads follow one another, and else to the end of a
+/// page, and keeps what it found for the reads to come. It holds no write back, and after a call
+/// that failed it keeps nothing.
 #[derive(Drop)]
 pub struct ReadAhead<M: Medium> {
     medium: M,
@@ -67,12 +71,31 @@ impl<M: Medium> ReadAhead<M> {
         }
     }
 
-    /// Reads to the end of the region that has this place.
-    fn fill(&mut self, at: u64)
-        ensures { IsTrue M.honest → M.held self.new.medium ≡ M.held self.old.medium }
+    /// How many bytes are read at once from this place on: to the end of the region where the read
+    /// follows the last one, and else to the end of the page, or of the region if that comes first.
+    fn bytes_at_once(&self, at: u64) -> u64
+        ensures far { result ≡ bytes_at_once at self.now.next self.now.region }
+        ensures inside { at % self.now.region + result ≤ self.now.region }
     {
         let left = self.region - at % self.region;
-        self.run.fill(&mut self.medium, at, left as usize);
+        if self.follows(at) {
+            return left;
+        }
+        left.min(PAGE - at % PAGE)
+    }
+
+    /// Reads ahead from this place on, where that is more than what is asked for, of which not all
+    /// is kept.
+    fn read_ahead(&mut self, at: u64, asked: usize)
+        ensures { IsTrue M.honest → M.held self.new.medium ≡ M.held self.old.medium }
+    {
+        if self.run.keeps(at, asked) {
+            return;
+        }
+        let most = self.bytes_at_once(at);
+        if most > asked as u64 {
+            self.run.fill(&mut self.medium, at, most as usize);
+        }
     }
 }
 
@@ -86,9 +109,7 @@ impl<M: Medium> Medium for ReadAhead<M> {
         ensures reads { ReadsMedium M.honest result at (M.held self.old.medium)
             (M.held self.new.medium) into.new }
     {
-        if self.follows(at) && !self.run.keeps(at, into.len()) {
-            self.fill(at);
-        }
+        self.read_ahead(at, into.len());
         if self.run.find(at, into) {
             self.next = at.checked_add(into.len() as u64);
             return Ok(into.len());

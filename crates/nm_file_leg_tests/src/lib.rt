@@ -2,6 +2,10 @@
 #![tactic(auto)]
 
 #[cfg(test)]
+mod ahead;
+#[cfg(test)]
+mod counting_medium;
+#[cfg(test)]
 mod files;
 #[cfg(test)]
 mod media;

@@ -1,5 +1,5 @@
 //! Legs on media in memory: where their blocks lie, and what a failed sync does to later ones.
-use nm_file_leg::{FileLeg, FuseMedium, MemMedium, Places, ReadAhead};
+use nm_file_leg::{FileLeg, FuseMedium, MemMedium, Places};
 use nm_leg::{LegFault, LegPart};
 use nm_replay::Block;
 use std::process::Abort;
@@ -101,57 +101,5 @@ fn a_medium_that_is_too_short_makes_no_leg(rt: HostRuntime) -> Result<(), Fail> 
     assert!(rt; FileLeg::new(MemMedium::new(bytes), SECOND, 4).is_err());
     let empty = MemMedium::new(Vec::new(rt.alloc()));
     assert!(rt; FileLeg::new(empty, SECOND, 0).is_ok());
-    Ok(())
-}
-
-// One stripe that has the whole file, of regions of four blocks.
-const WHOLE: Places = Places {
-    region: 4,
-    stripes: 1,
-    stripe: 0,
-};
-
-type AheadLeg = FileLeg<ReadAhead<FuseMedium<MemMedium>>>;
-
-// A leg of six blocks that reads ahead.
-#[tactic(auto, unfolding(nm_file_leg::specs::Places::place_of))]
-fn ahead_leg(rt: &(impl AllocGlobal + Abort)) -> Result<AheadLeg, Fail> {
-    let mut bytes = Vec::new(rt.alloc());
-    bytes.resize(6 * 512, 7)?;
-    let medium = FuseMedium::new(MemMedium::new(bytes));
-    let ahead = ReadAhead::new(rt.alloc(), medium, 4 * 512)?;
-    Ok(FileLeg::new(ahead, WHOLE, 6)?)
-}
-
-#[test]
-fn reading_ahead_ends_with_the_region(rt: HostRuntime) -> Result<(), Fail> {
-    let mut leg = ahead_leg(&rt)?;
-    assert!(rt; leg.len() == 6);
-    let mut found = Block([9; 512]);
-    leg.read(0, &mut found)?;
-    leg.read(1, &mut found)?;
-    leg.write(3, &[0xaa; 512])?;
-    leg.medium().inner().fail_from(1);
-    leg.read(2, &mut found)?;
-    assert_eq!(rt; found, Block([7; 512]));
-    leg.read(3, &mut found)?;
-    assert_eq!(rt; found, Block([0xaa; 512]));
-    assert_eq!(rt; leg.read(4, &mut found), Err(LegFault));
-    assert_eq!(rt; leg.read(3, &mut found), Err(LegFault));
-    Ok(())
-}
-
-#[test]
-fn where_reading_ahead_fails_the_block_is_read_alone(rt: HostRuntime) -> Result<(), Fail> {
-    let mut leg = ahead_leg(&rt)?;
-    assert!(rt; leg.len() == 6);
-    let mut found = Block([9; 512]);
-    leg.read(0, &mut found)?;
-    leg.medium().inner().set(1);
-    leg.read(1, &mut found)?;
-    assert_eq!(rt; found, Block([7; 512]));
-    assert_eq!(rt; leg.faults(), 0);
-    leg.medium().inner().set(1);
-    assert_eq!(rt; leg.write(1, &[0xaa; 512]), Err(LegFault));
     Ok(())
 }

@@ -1,0 +1,67 @@
+//! A medium for tests that counts the reads that are asked of it.
+ghost use Rattle.std.specs.Prelude.{false};
+ghost use Rattle.nm_file_leg.specs.Media.{unknown};
+
+use nm_file_leg::{Medium, MemMedium};
+use std::io;
+
+/// A medium in memory that counts its reads.
+#[derive(Drop)]
+pub struct CountingMedium {
+    medium: MemMedium,
+    reads: u64,
+    last_at: u64,
+    last_bytes: usize,
+}
+
+impl CountingMedium {
+    /// This medium, of which nothing was read yet.
+    pub fn new(medium: MemMedium) -> Self {
+        CountingMedium {
+            medium,
+            reads: 0,
+            last_at: 0,
+            last_bytes: 0,
+        }
+    }
+
+    /// How many reads were asked for.
+    pub fn reads(&self) -> u64 {
+        self.reads
+    }
+
+    /// The place of the last of them.
+    pub fn last_at(&self) -> u64 {
+        self.last_at
+    }
+
+    /// How many bytes the last of them asked for.
+    pub fn last_bytes(&self) -> usize {
+        self.last_bytes
+    }
+}
+
+impl Medium for CountingMedium {
+    ghost honest = { false };
+
+    ghost held = { λ _. unknown };
+
+    fn read_at(&mut self, at: u64, into: &mut [u8]) -> io::Result<usize> {
+        self.reads = self.reads.saturating_add(1);
+        self.last_at = at;
+        self.last_bytes = into.len();
+        self.medium.read_at(at, into)
+    }
+
+    fn write_at(&mut self, at: u64, bytes: &[u8]) -> io::Result<usize> {
+        self.medium.write_at(at, bytes)
+    }
+
+    fn sync(&mut self) -> io::Result<()> {
+        self.medium.sync()
+    }
+
+    fn len(&self) -> io::Result<u64> {
+        self.medium.len()
+    }
+}
