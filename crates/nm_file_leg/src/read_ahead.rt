@@ -6,6 +6,7 @@ use crate::Medium;
 use crate::run::Run;
 use nm_replay::Memory;
 use std::alloc::Global;
+use std::cell::Cell;
 use std::io;
 
 /// How many bytes may lie between two reads that follow one another: 8 blocks.
@@ -27,6 +28,9 @@ pub struct ReadAhead<M: Medium> {
     region: u64,
     /// Where the last read ended, if it succeeded.
     next: Option<u64>,
+    /// The medium has failed to tell its length since the last read, so what is kept is dropped at
+    /// the next one.
+    length_failed: Cell<bool>,
     ghost some: { 0 < region },
     ghost room: { region ≡ length run.bytes.items },
     ghost inside: { run.first % region + run.kept ≤ region },
@@ -51,6 +55,7 @@ impl<M: Medium> ReadAhead<M> {
             },
             region,
             next: None,
+            length_failed: Cell::new(false),
         })
     }
 
@@ -89,6 +94,9 @@ impl<M: Medium> ReadAhead<M> {
     fn read_ahead(&mut self, at: u64, asked: usize)
         ensures { IsTrue M.honest → M.held self.new.medium ≡ M.held self.old.medium }
     {
+        if self.length_failed.take() {
+            self.run.clear();
+        }
         if self.run.keeps(at, asked) {
             return;
         }
@@ -148,6 +156,10 @@ impl<M: Medium> Medium for ReadAhead<M> {
     }
 
     fn len(&self) -> io::Result<u64> {
-        self.medium.len()
+        let size = self.medium.len();
+        if size.is_err() {
+            self.length_failed.set(true);
+        }
+        size
     }
 }

@@ -127,6 +127,21 @@ fn a_page_ends_with_its_region(rt: HostRuntime) -> Result<(), Fail> {
     Ok(())
 }
 
+#[test]
+#[tactic(auto, unfolding(nm_file_leg::specs::Places::place_of))]
+fn a_failed_length_drops_what_was_read_ahead(rt: HostRuntime) -> Result<(), Fail> {
+    let mut leg = counted_leg(&rt, WHOLE, 60, 32 * 512)?;
+    read_blocks(&rt, &mut leg, 0, 2);
+    assert_eq!(rt; calls(&leg), (1, 0, 8));
+    leg.medium().inner().set_tells_length(false);
+    assert!(rt; 0 < leg.len());
+    assert_eq!(rt; leg.write(0, &[0xaa; 512]), Err(LegFault));
+    leg.medium().inner().set_tells_length(true);
+    read_blocks(&rt, &mut leg, 1, 8);
+    assert_eq!(rt; calls(&leg), (2, 1, 7));
+    Ok(())
+}
+
 // Regions of four blocks.
 const SMALL: Places = Places {
     region: 4,
