@@ -5,8 +5,7 @@ use Rattle.nm_part.specs.PartState.{PartState}
 use Rattle.nm_stripe.specs.End.{EndOf}
 use Rattle.nm_mirror.specs.declared.pass.Pass.{Pass}
 use Rattle.nm_mirror.specs.declared.refused.Refused.{Refused}
-use Rattle.nm_mirror.specs.declared.refused.Refused.TheVariants.{Io, TooMany, PassesMissing}
-use Rattle.nm_mirror.specs.declared.refused.Refused.TheVariants.{Uneven}
+use Rattle.nm_mirror.specs.declared.refused.Refused.TheVariants.{Memory, PassesMissing, Uneven}
 
 -- what a part counted, if there is one
 abbrev pub count_of : Option PartState → ℕ
@@ -37,15 +36,14 @@ pub record IsFirstUneven {L : Type 0} (passes : List (Pass L)) (ends : List EndO
   pub uneven : ¬ IsEven passes end
   pub even_before : AreEven passes (take place ends)
 
--- why totals of these ends are refused, with so many passes made
-abbrev pub Refuses : {L : Type 0} → ℕ → List (Pass L) → List EndOf → Refused L → Type 0
-Refuses made passes ends PassesMissing = length passes < made
-Refuses made passes ends (Uneven end) = (made ≤ length passes) × IsFirstUneven passes ends end
-Refuses made passes ends refused = ⊥
+-- why the totals of a mirror's stripes are refused where so many passes were made: one is missing;
+-- or else a stripe is not even, or an allocation failed
+abbrev pub RefusesTotals : {L : Type 0} → ℕ → List (Pass L) → Refused L → Type 0
+RefusesTotals made passes PassesMissing = length passes < made
+RefusesTotals made passes (Uneven end) = (made ≤ length passes) × ¬ IsEven passes end
+RefusesTotals made passes Memory = made ≤ length passes
+RefusesTotals made passes refused = ⊥
 
--- why a mirror is not closed with these passes
+-- why a mirror is not closed with these passes: how many it made stands behind a lock
 abbrev pub RefusesClose : {L : Type 0} → List (Pass L) → Refused L → Type 0
-RefusesClose passes (Uneven end) = ¬ IsEven passes end
-RefusesClose passes TooMany = ⊥
-RefusesClose passes (Io cause) = ⊥
-RefusesClose passes refused = Unit {0}
+RefusesClose passes refused = (made : ℕ) × RefusesTotals made passes refused

@@ -1,7 +1,7 @@
 //! The end of a mirror: what its stripes have had is compared with what its passes counted.
-ghost use Rattle.std.specs.Prelude.{◌≡◌, ◌≤◌, ◌↔◌, length, IsTrue, IfOk, IfErr};
-ghost use Rattle.nm_mirror.specs.Closing.{AreEven, IsEven, Refuses, RefusesClose};
-ghost use Rattle.nm_mirror.specs.Closing.{count_in, count_in_all};
+ghost use Rattle.std.specs.Prelude.{◌≡◌, ◌≤◌, ◌↔◌, length, IsTrue, IfOk, IfErr, IfSome};
+ghost use Rattle.nm_mirror.specs.Closing.{AreEven, IsEven, IsFirstUneven};
+ghost use Rattle.nm_mirror.specs.Closing.{RefusesClose, RefusesTotals, count_in, count_in_all};
 
 use crate::lock::Lock;
 use crate::mirror::Mirror;
@@ -46,19 +46,15 @@ fn is_even<L>(end: &End<L>, passes: &[Pass<L>]) -> bool
 
 /// The totals of these ends.
 ///
-/// Refused as `PassesMissing`, or as `Uneven` with the first end that is.
-fn totals_of<L>(ends: Vec<End<L>>, made: u32, passes: &[Pass<L>]) -> Result<Totals<L>, Refused<L>>
+/// Refused with the first of them that is not even.
+fn even_totals<L>(ends: Vec<End<L>>, passes: &[Pass<L>]) -> Result<Totals<L>, End<L>>
     ensures ends { IfOk result (λ totals. totals.ends.items ≡ ends.items) }
-    ensures enough { IfOk result (λ totals. made ≤ length passes.now) }
     ensures even { IfOk result (λ totals. AreEven passes.now totals.ends.items) }
-    ensures refused { IfErr result (Refuses made passes.now ends.items) }
+    ensures uneven { IfErr result (IsFirstUneven passes.now ends.items) }
 {
     let mut ends = ends;
-    if passes.len() < made as usize {
-        return Err(Refused::PassesMissing);
-    }
     match ends.iter().position(|end| !is_even(end, passes)) {
-        Some(place) => Err(Refused::Uneven(ends.swap_remove(place))),
+        Some(place) => Err(ends.swap_remove(place)),
         None => Ok(Totals { ends }),
     }
 }
@@ -83,13 +79,58 @@ fn ends_of<L: LegPart>(alloc: Global, locks: &mut [Lock<L>]) -> Result<Vec<End<L
     Ok(ends)
 }
 
+/// Of the stripes behind these locks the end of the first that is not even. It takes no memory.
+fn first_uneven<L: LegPart>(locks: &mut [Lock<L>], passes: &[Pass<L>]) -> Option<End<L>>
+    ensures uneven { IfSome result (λ end. ¬ IsEven passes.now end) }
+    ensures locks { length locks.new ≡ length locks.old }
+{
+    for stripe in 0..locks.len() {
+        let end = locks[stripe].end();
+        if !is_even(&end, passes) {
+            return Some(end);
+        }
+    }
+    None
+}
+
+/// The totals of the stripes behind these locks, where so many passes were made.
+///
+/// Refused as `PassesMissing`, as `Uneven` with the first end that is, or as `Memory`, the first
+/// whose condition holds.
+fn totals_of<L: LegPart>(
+    alloc: Global,
+    locks: &mut [Lock<L>],
+    made: u32,
+    passes: &[Pass<L>],
+) -> Result<Totals<L>, Refused<L>>
+    ensures stripes { IfOk result (λ totals. length totals.ends.items ≡ length locks.old) }
+    ensures enough { IfOk result (λ totals. made ≤ length passes.now) }
+    ensures even { IfOk result (λ totals. AreEven passes.now totals.ends.items) }
+    ensures refused { IfErr result (RefusesTotals made passes.now) }
+    ensures locks { length locks.new ≡ length locks.old }
+{
+    if passes.len() < made as usize {
+        return Err(Refused::PassesMissing);
+    }
+    let Ok(ends) = ends_of(alloc, locks) else {
+        return match first_uneven(locks, passes) {
+            Some(end) => Err(Refused::Uneven(end)),
+            None => Err(Refused::Memory),
+        };
+    };
+    match even_totals(ends, passes) {
+        Ok(totals) => Ok(totals),
+        Err(end) => Err(Refused::Uneven(end)),
+    }
+}
+
 impl<L: LegPart, G: Gate + Drop> Mirror<L, G> {
     /// Ends the mirror, with all of its passes: for each stripe what it has had, which is what the
     /// passes counted and its records have.
     ///
-    /// Refused as `Memory`, `PassesMissing` where a pass was made that does not come with the
-    /// others, or `Uneven`, the first whose condition holds. Then the mirror and the passes come
-    /// back.
+    /// Refused as `PassesMissing` where a pass was made that does not come with the others, as
+    /// `Uneven` with the end of the first stripe that has had other entries, or as `Memory`, the
+    /// first whose condition holds. Then the mirror and the passes come back.
     pub fn close(
         self,
         alloc: Global,
@@ -105,10 +146,7 @@ impl<L: LegPart, G: Gate + Drop> Mirror<L, G> {
     {
         let mut mirror = self;
         let made = *mirror.made.get_mut();
-        let Ok(ends) = ends_of(alloc, mirror.locks.as_mut_slice()) else {
-            return Err((Refused::Memory, mirror, passes));
-        };
-        match totals_of(ends, made, &passes) {
+        match totals_of(alloc, mirror.locks.as_mut_slice(), made, &passes) {
             Ok(totals) => Ok(totals),
             Err(refused) => Err((refused, mirror, passes)),
         }

@@ -1,6 +1,7 @@
 //! One client's way through a mirror.
-ghost use Rattle.std.specs.Prelude.{◌≡◌, length, IfOk, IfErr};
-ghost use Rattle.nm_mirror.specs.Passes.{HasCountedNothing, RefusesPass};
+ghost use Rattle.std.specs.Prelude.{◌≡◌, ◌+◌, ◌≤◌, [], length, vec_capacity};
+ghost use Rattle.std.specs.Prelude.{IfOk, IfErr, OnErr, OnOk};
+ghost use Rattle.nm_mirror.specs.Passes.{HasCountedNothing, RefusesOneMore, RefusesPass};
 
 use crate::mirror::Mirror;
 use crate::part_lane::PartLane;
@@ -30,37 +31,45 @@ impl<L> Pass<L> {
     }
 }
 
-impl<L: LegPart, G: Gate + Drop> Mirror<L, G> {
-    /// Counts a pass, and answers its number; none once all that a mirror makes were made.
-    fn next_pass<R: Wait>(&self, rt: &R) -> Option<u32> {
-        let mut made = self.made.lock(rt);
-        let number = *made;
-        if number >= MOST_PASSES {
-            return None;
-        }
-        *made = number + 1;
-        Some(number)
+/// Counts one pass more than were made, which has room for so many parts.
+///
+/// Refused as `TooMany` where 1,024 were made, or as `Memory`: then it is not counted.
+fn begin_pass<L>(alloc: Global, made: &mut u32, stripes: usize) -> Result<Pass<L>, Refused<L>>
+    ensures number { IfOk result (λ pass. pass.number ≡ made.old) }
+    ensures counted { OnOk result (made.new ≡ made.old + 1) }
+    ensures none { IfOk result (λ pass. pass.parts.items ≡ []) }
+    ensures room { IfOk result (λ pass. stripes ≤ vec_capacity pass.parts) }
+    ensures refused { IfErr result (RefusesOneMore made.old) }
+    ensures stays { OnErr result (made.new ≡ made.old) }
+{
+    let number = *made;
+    if number >= MOST_PASSES {
+        return Err(Refused::TooMany);
     }
+    let mut parts = Vec::new(alloc);
+    if parts.reserve(stripes).is_err() {
+        return Err(Refused::Memory);
+    }
+    *made = number + 1;
+    Ok(Pass { number, parts })
+}
 
+impl<L: LegPart, G: Gate + Drop> Mirror<L, G> {
     /// A new pass, which has counted nothing.
     ///
-    /// Refused as `Memory`, or as `TooMany` where 1,024 passes were made.
+    /// Refused as `TooMany` where 1,024 passes were made, or as `Memory`, the first whose condition
+    /// holds. Then no pass is counted.
     pub fn pass<R: Wait>(&self, rt: &R, alloc: Global) -> Result<Pass<L>, Refused<L>>
         ensures stripes { IfOk result (λ pass.
             length pass.parts.items ≡ length self.now.locks.items) }
         ensures counted { IfOk result (λ pass. HasCountedNothing pass.parts.items) }
         ensures refused { IfErr result RefusesPass }
     {
-        let mut parts = Vec::new(alloc);
-        if parts.reserve(self.locks.len()).is_err() {
-            return Err(Refused::Memory);
-        }
-        let Some(number) = self.next_pass(rt) else {
-            return Err(Refused::TooMany);
-        };
+        let mut pass = begin_pass(alloc, &mut self.made.lock(rt), self.locks.len())?;
         for lock in &self.locks {
-            parts.push_reserved(PartLane::of(&lock.stripe.lock(rt)));
+            pass.parts
+                .push_reserved(PartLane::of(&lock.stripe.lock(rt)));
         }
-        Ok(Pass { number, parts })
+        Ok(pass)
     }
 }

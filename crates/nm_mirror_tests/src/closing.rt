@@ -1,6 +1,6 @@
 //! The end of a mirror, how many passes it makes, and a pass of another mirror.
 
-use crate::mirrors::{pass_of, read_at, shape, zeroes};
+use crate::mirrors::{closed, pass_of, read_at, shape, zeroes};
 use nm_lanes::{Cause, CauseKind, NoGate};
 use nm_leg::FuseLeg;
 use nm_mirror::{Mirror, Pass, Refused};
@@ -82,6 +82,27 @@ fn a_mirror_is_not_closed_with_a_pass_of_another(rt: HostRuntime) -> Result<(), 
     passes.push(pass)?;
     let (_, passes) = not_closed(alloc, other, passes, 5)?;
     assert_eq!(rt; passes.len(), 1);
+    Ok(())
+}
+
+// Stripe 0 is uneven too: it has had an entry that no pass which comes back counted.
+#[test]
+fn a_missing_pass_is_told_before_an_uneven_stripe(rt: HostRuntime) -> Result<(), Fail> {
+    let alloc = rt.alloc();
+    let mirror = row(alloc)?;
+    let mut reader = pass_of(&rt, alloc, &mirror)?;
+    let mut passes = Vec::new(alloc);
+    passes.push(pass_of(&rt, alloc, &mirror)?)?;
+    let mut into = [0; 512];
+    assert!(rt; read_at(&rt, &mirror, &mut reader, 0, &mut into).is_ok());
+    let (mirror, mut passes) = not_closed(alloc, mirror, passes, 4)?;
+    // As many as were made, one of them another mirror's.
+    let other = row(alloc)?;
+    passes.push(pass_of(&rt, alloc, &other)?)?;
+    let (mirror, mut passes) = not_closed(alloc, mirror, passes, 5)?;
+    passes.push(reader)?;
+    let totals = closed(alloc, mirror, passes)?;
+    assert_eq!(rt; totals.ends().len(), 2);
     Ok(())
 }
 

@@ -5,4 +5,4 @@ use Rattle.nm_mirror.proofs.mirror.Mirror.pass.Given as goal
 
 abbrev pub invariant-loop-lock : goal.invariant-loop-lock
 invariant-loop-lock g l =
-    (vec_len l.parts ≡ l.lock-index) × (vec_len l.self.locks ≤ vec_capacity l.parts) × HasCountedNothing l.parts.items
+    (vec_len l.pass.parts ≡ l.lock-index) × (vec_len l.self.locks ≤ vec_capacity l.pass.parts) × HasCountedNothing l.pass.parts.items

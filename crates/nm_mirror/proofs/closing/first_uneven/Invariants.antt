@@ -1,0 +1,6 @@
+-- As many locks as at the start.
+use Rattle.std.proofs.Common.{◌≡◌, length}
+use Rattle.nm_mirror.proofs.closing.first_uneven.Given as goal
+
+abbrev pub invariant-loop-stripe : goal.invariant-loop-stripe
+invariant-loop-stripe g l = length l.locks ≡ length l.fn.locks
