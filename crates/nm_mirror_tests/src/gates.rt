@@ -18,13 +18,16 @@ use std::sync::{Arc, Wait};
 use std::test::Fail;
 use std::thread::{Threads, join};
 
-/// Holds the first pass after the first push of its write, and counts the second's steps.
+/// Holds the first pass after the first push of its write, counts the second's steps, and counts
+/// the entries that each of them is given.
 #[derive(Drop)]
 struct AfterAPush {
     meeting: Meeting,
     pushes: AtomicU64,
     reads_of_second: AtomicU64,
     pushes_of_second: AtomicU64,
+    entries_of_first: AtomicU64,
+    entries_of_second: AtomicU64,
 }
 
 impl AfterAPush {
@@ -34,6 +37,21 @@ impl AfterAPush {
             pushes: AtomicU64::new(0),
             reads_of_second: AtomicU64::new(0),
             pushes_of_second: AtomicU64::new(0),
+            entries_of_first: AtomicU64::new(0),
+            entries_of_second: AtomicU64::new(0),
+        }
+    }
+
+    /// Counts the entry that a step of this pass was given.
+    fn count_entry(&self, pass: Option<u32>) {
+        match pass {
+            Some(0) => {
+                count(&self.entries_of_first);
+            }
+            Some(1) => {
+                count(&self.entries_of_second);
+            }
+            _ => {}
         }
     }
 }
@@ -45,6 +63,9 @@ fn count(counter: &AtomicU64) -> u64 {
 
 impl Gate for AfterAPush {
     fn between(&self, place: &Place) {
+        if place.number.is_some() {
+            self.count_entry(place.pass);
+        }
         match (place.pass, place.step) {
             (Some(0), StepKind::Push) => {
                 if count(&self.pushes) == 0 {
@@ -172,6 +193,8 @@ fn a_read_finishes_a_write_whose_master_is_lost(rt: HostRuntime) -> Result<(), F
     // Refused while the failover is not over, it pushed the write to each of the legs 1 and 2.
     assert_eq!(rt; gate.pushes_of_second.load(Ordering::SeqCst), 2);
     assert_eq!(rt; gate.reads_of_second.load(Ordering::SeqCst), 3);
+    assert_eq!(rt; gate.entries_of_first.load(Ordering::SeqCst), 1);
+    assert_eq!(rt; gate.entries_of_second.load(Ordering::SeqCst), 1);
     check_kept(
         &rt,
         alloc,
