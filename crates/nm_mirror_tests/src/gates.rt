@@ -119,8 +119,9 @@ fn reads_block_3<R: Threads + Wait + Sync + Abort>(
     found
 }
 
+// A read answers while a write of its block is under way.
 #[test]
-fn a_read_answers_while_a_write_is_under_way(rt: HostRuntime) -> Result<(), Fail> {
+fn gate_write_spans_read(rt: HostRuntime) -> Result<(), Fail> {
     let alloc = rt.alloc();
     let mirror = in_sync(&rt, alloc, shape(8, 4, 2, 1, 2)?, AfterAPush::new())?;
     let mut writer = pass_of(&rt, alloc, &mirror)?;
@@ -176,8 +177,9 @@ fn entry(seq: u64, kind: Kind) -> Entry {
     }
 }
 
+// A read finishes a write whose master is lost.
 #[test]
-fn a_read_finishes_a_write_whose_master_is_lost(rt: HostRuntime) -> Result<(), Fail> {
+fn gate_master_change(rt: HostRuntime) -> Result<(), Fail> {
     let alloc = rt.alloc();
     let mirror = in_sync(&rt, alloc, shape(8, 4, 2, 1, 3)?, AfterAPush::new())?;
     let mut writer = pass_of(&rt, alloc, &mirror)?;
@@ -247,8 +249,9 @@ impl Gate for Counting {
     }
 }
 
+// A write copies the chunk that stands in its way.
 #[test]
-fn a_write_copies_the_chunk_that_stands_in_its_way(rt: HostRuntime) -> Result<(), Fail> {
+fn gate_copy(rt: HostRuntime) -> Result<(), Fail> {
     let alloc = rt.alloc();
     let gate = Counting {
         begins: AtomicU64::new(0),
@@ -300,8 +303,9 @@ fn reads_other_stripe<R: Threads + Wait + Sync + Abort>(
     found
 }
 
+// A stripe answers while another's lock is held.
 #[test]
-fn a_stripe_answers_while_another_is_locked(rt: HostRuntime) -> Result<(), Fail> {
+fn gate_two_stripes(rt: HostRuntime) -> Result<(), Fail> {
     let alloc = rt.alloc();
     let meeting = Arc::new(alloc, Meeting::new())?;
     let mirror = held_in_stripe_0(alloc, &meeting)?;

@@ -217,8 +217,9 @@ fn check_histories<R: Wait + Abort>(rt: &R, alloc: Global, mirror: &Healing) -> 
     Ok(())
 }
 
+// Every call succeeds while each leg in turn fails and comes back.
 #[test]
-fn four_passes_while_each_leg_fails_and_comes_back(rt: HostRuntime) -> Result<(), Fail> {
+fn four_threads(rt: HostRuntime) -> Result<(), Fail> {
     let alloc = rt.alloc();
     let mirror = in_sync(
         &rt,
