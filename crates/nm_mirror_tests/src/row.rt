@@ -12,7 +12,7 @@ use std::sync::Wait;
 use std::test::Fail;
 use std::thread::Threads;
 
-/// An export of 2,050 blocks in regions of 128 and two stripes, with two legs.
+/// An export of 2,050 blocks in regions of 128, with two legs.
 type Row = Mirror<FuseLeg, NoGate>;
 
 /// Writes whole blocks from this one on.
@@ -72,22 +72,46 @@ fn check_blocks<R: Threads + Wait + Sync + Abort>(
     Ok(())
 }
 
-#[test]
-fn blocks_of_two_stripes_are_written_zeroed_and_read(rt: HostRuntime) -> Result<(), Fail> {
-    let alloc = rt.alloc();
-    let mirror = in_sync(&rt, alloc, shape(2050, 128, 8, 2, 2)?, NoGate)?;
-    let mut pass = pass_of(&rt, alloc, &mirror)?;
+/// How many entries the row makes in a stripe: two on block 127, three on 128 and two on 129.
+/// Block 127 is the last of the first region.
+fn entries_in(stripe: u32, stripes: u32) -> u64 {
+    match (stripe, stripes) {
+        (0, 1) => 7,
+        (0, _) => 2,
+        (1, _) => 5,
+        _ => 0,
+    }
+}
+
+/// Does the row to a mirror of so many stripes.
+fn check_row<R: Threads + Wait + Sync + Abort>(
+    rt: &R,
+    alloc: Global,
+    stripes: u32,
+) -> Result<(), Fail> {
+    let mirror = in_sync(rt, alloc, shape(2050, 128, 8, stripes, 2)?, NoGate)?;
+    let mut pass = pass_of(rt, alloc, &mirror)?;
     let payload = fill_bytes(alloc, 1536, 0xaa)?;
-    assert!(rt; write(&rt, alloc, &mirror, &mut pass, 127, payload).is_ok());
-    assert!(rt; zero(&rt, &mirror, &mut pass, 128, 1).is_ok());
-    check_blocks(&rt, &mirror, &mut pass, [0xaa, 0x00, 0xaa])?;
-    assert!(rt; flush(&rt, &mirror, &mut pass).is_ok());
+    assert!(rt; write(rt, alloc, &mirror, &mut pass, 127, payload).is_ok());
+    assert!(rt; zero(rt, &mirror, &mut pass, 128, 1).is_ok());
+    check_blocks(rt, &mirror, &mut pass, [0xaa, 0x00, 0xaa])?;
+    assert!(rt; flush(rt, &mirror, &mut pass).is_ok());
     let mut passes = Vec::new(alloc);
     passes.push(pass)?;
     let totals = closed(alloc, mirror, passes)?;
-    assert_eq!(rt; totals.ends().len(), 2);
-    for (end, (stripe, total)) in totals.ends().iter().zip([(0, 2), (1, 5)]) {
+    assert_eq!(rt; totals.ends().len(), stripes as usize);
+    for (end, stripe) in totals.ends().iter().zip(0..) {
+        let total = entries_in(stripe, stripes);
         assert_eq!(rt; (end.stripe(), end.total(), end.left()), (stripe, total, 0));
+    }
+    Ok(())
+}
+
+#[test]
+fn blocks_of_two_regions_are_written_zeroed_and_read(rt: HostRuntime) -> Result<(), Fail> {
+    let alloc = rt.alloc();
+    for stripes in [1, 2, 16] {
+        check_row(&rt, alloc, stripes)?;
     }
     Ok(())
 }
