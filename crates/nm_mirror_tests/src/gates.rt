@@ -212,6 +212,88 @@ fn gate_master_change(rt: HostRuntime) -> Result<(), Fail> {
     Ok(())
 }
 
+/// Takes a leg out: whether it went out of the only stripe.
+fn fails<R: Wait + Abort>(rt: &R, mirror: &Mirror<FuseLeg, AfterAPush>, leg: u8) -> bool {
+    assert!(rt; leg < mirror.shape().legs);
+    mirror.fail_leg(rt, leg).failed == 1
+}
+
+/// Lets a leg join again: whether so many blocks are left to copy to it.
+fn joins<R: Wait + Abort>(
+    rt: &R,
+    mirror: &Mirror<FuseLeg, AfterAPush>,
+    leg: u8,
+    left: u64,
+) -> bool {
+    assert!(rt; leg < mirror.shape().legs);
+    let told = mirror.attach_leg(rt, leg);
+    told.joining == 1 && told.left == left
+}
+
+/// Does a turn of the resynchroniser while a write is held, once the master went out if it is to:
+/// how many steps were not refused, and the write is let go.
+fn turns_beside_a_write<R: Wait + Abort>(
+    rt: &R,
+    mirror: &Mirror<FuseLeg, AfterAPush>,
+    loses_master: bool,
+) -> u32 {
+    mirror.gate().meeting.start();
+    assert!(rt; !loses_master || fails(rt, mirror, 0));
+    let done = mirror.resync_turn(rt);
+    mirror.gate().meeting.let_go();
+    done
+}
+
+/// Writes block 4: whether it was written.
+fn writes_block_4<R: Threads + Wait + Sync + Abort>(
+    rt: &R,
+    alloc: Global,
+    mirror: &Mirror<FuseLeg, AfterAPush>,
+    pass: &mut Pass<FuseLeg>,
+    payload: Bytes,
+) -> bool {
+    write_at(rt, alloc, mirror, pass, 4 * 512, payload).is_ok()
+}
+
+/// Legs 0 and 1 are in sync, and leg 2 joins with the second region behind. A write of that
+/// region's first block is held after its push to leg 0, while one turn is done: the copy is
+/// refused, and the push to leg 1 is not.
+fn check_turn<R: Threads + Wait + Sync + Abort>(
+    rt: &R,
+    alloc: Global,
+    loses_master: bool,
+) -> Result<(), Fail> {
+    let mirror = in_sync(rt, alloc, shape(8, 4, 2, 1, 3)?, AfterAPush::new())?;
+    let mut writer = pass_of(rt, alloc, &mirror)?;
+    let mut before = pass_of(rt, alloc, &mirror)?;
+    assert!(rt; fails(rt, &mirror, 2));
+    let early = fill_bytes(alloc, 512, 0xcc)?;
+    assert!(rt; write_at(rt, alloc, &mirror, &mut before, 7 * 512, early).is_ok());
+    assert!(rt; joins(rt, &mirror, 2, 4));
+    let payload = fill_bytes(alloc, 512, 0xaa)?;
+    let (written, done) = join(
+        rt,
+        || writes_block_4(rt, alloc, &mirror, &mut writer, payload),
+        || turns_beside_a_write(rt, &mirror, loses_master),
+    );
+    assert!(rt; written && mirror.gate().meeting.was_in_time());
+    assert_eq!(rt; done, 1);
+    assert!(rt; finds(rt, &mirror, &mut before, 4, 0xaa));
+    Ok(())
+}
+
+// The copy would open the chunk in which the write is under way.
+#[test]
+fn a_turn_helps_the_write_that_stands_in_its_way(rt: HostRuntime) -> Result<(), Fail> {
+    check_turn(&rt, rt.alloc(), false)
+}
+
+// The copy is refused as long as the write that the master had is not at each leg.
+#[test]
+fn a_turn_helps_the_write_that_a_failover_waits_for(rt: HostRuntime) -> Result<(), Fail> {
+    check_turn(&rt, rt.alloc(), true)
+}
+
 /// Holds the calls of one stripe's leg.
 #[derive(Drop)]
 struct StripeHold {

@@ -91,3 +91,19 @@ fn a_joining_leg_is_copied_to_and_called_in_sync(rt: HostRuntime) -> Result<(), 
     assert_eq!(rt; mirror.resync_turn(&rt), 0);
     check_states(&rt, alloc, &mirror, "master 0 settling no legs in in")
 }
+
+// The copy to leg 2 meets that to leg 1, and helps it. So a chunk of two blocks is read in the
+// first turn, and written in the second.
+#[test]
+fn a_turn_helps_the_copy_that_stands_in_its_way(rt: HostRuntime) -> Result<(), Fail> {
+    let alloc = rt.alloc();
+    let mirror = zeroes(alloc, shape(8, 4, 2, 2, 3)?, NoGate)?;
+    for text in [
+        "master 0 settling no legs in join(4) join(4)",
+        "master 0 settling no legs in join(2) join(4)",
+    ] {
+        assert_eq!(rt; mirror.resync_turn(&rt), 4);
+        check_states(&rt, alloc, &mirror, text)?;
+    }
+    Ok(())
+}
