@@ -1,5 +1,8 @@
 -- The numbers and texts of refusals.
 use Rattle.std.specs.Prelude.{ℕ, List, codes}
+use Rattle.nm_lanes.specs.declared.write_fault.WriteFault.{WriteFault}
+use Rattle.nm_lanes.specs.declared.write_fault.WriteFault.TheVariants.{Memory as NoMemory}
+use Rattle.nm_lanes.specs.declared.write_fault.WriteFault.TheVariants.{Io as EndedBy}
 use Rattle.nm_mirror.specs.declared.refused.Refused.{Refused}
 use Rattle.nm_mirror.specs.declared.refused.Refused.TheVariants.{Memory, Io, TooMany, PassesMissing}
 use Rattle.nm_mirror.specs.declared.refused.Refused.TheVariants.{Uneven}
@@ -19,3 +22,8 @@ refused_text (Io cause) = codes "a stripe cannot go on"
 refused_text TooMany = codes "the mirror has made all of its passes"
 refused_text PassesMissing = codes "a pass is missing"
 refused_text (Uneven end) = codes "a stripe's history has had other entries than its passes"
+
+-- the refusal that a write's fault is
+abbrev pub refused_for : {L : Type 0} → WriteFault → Refused L
+refused_for NoMemory = Memory
+refused_for (EndedBy cause) = Io cause

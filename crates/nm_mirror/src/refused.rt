@@ -1,7 +1,8 @@
 ghost use Rattle.std.specs.Prelude.{◌≡◌, Some};
-ghost use Rattle.nm_mirror.specs.Refused.{number_of, refused_text};
+ghost use Rattle.nm_mirror.specs.Refused.{number_of, refused_for, refused_text};
+ghost use Rattle.nm_mirror.specs.declared.refused.Refused.TheVariants.{Io};
 
-use nm_lanes::Cause;
+use nm_lanes::{Cause, WriteFault};
 use nm_stripe::End;
 use std::error::Error;
 use std::fmt;
@@ -64,3 +65,22 @@ impl<L> fmt::Debug for Refused<L> {
 }
 
 impl<L> Error for Refused<L> {}
+
+impl<L> From<Cause> for Refused<L> {
+    ghost from_gives = { λ cause refused. refused ≡ Io cause };
+
+    fn from(cause: Cause) -> Refused<L> {
+        Refused::Io(cause)
+    }
+}
+
+impl<L> From<WriteFault> for Refused<L> {
+    ghost from_gives = { λ fault refused. refused ≡ refused_for fault };
+
+    fn from(fault: WriteFault) -> Refused<L> {
+        match fault {
+            WriteFault::Memory => Refused::Memory,
+            WriteFault::Io(cause) => Refused::Io(cause),
+        }
+    }
+}

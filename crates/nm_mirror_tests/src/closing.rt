@@ -1,10 +1,10 @@
 //! The end of a mirror, how many passes it makes, and a pass of another mirror.
 
 use crate::mirrors::{closed, pass_of, read_at, shape, zeroes};
-use nm_lanes::{Cause, CauseKind, NoGate};
 use nm_leg::FuseLeg;
-use nm_mirror::{Mirror, Pass, Refused};
+use nm_mirror::{Cause, CauseKind, Mirror, NoGate, Pass, Refused, WriteFault};
 use std::alloc::Global;
+use std::process::Abort;
 use std::test::Fail;
 
 /// A mirror of two stripes, region 128, with two legs.
@@ -117,4 +117,31 @@ fn a_mirror_makes_1024_passes(rt: HostRuntime) -> Result<(), Fail> {
         Err(Refused::TooMany) => Ok(()),
         _ => Err(Fail::new("one more")),
     }
+}
+
+/// Looks at a refusal's number and text.
+fn check_refusal<R: Abort>(
+    rt: &R,
+    alloc: Global,
+    refused: Refused<FuseLeg>,
+    number: u8,
+    text: &str,
+) -> Result<(), Fail> {
+    assert_eq!(rt; refused.number(), number);
+    assert_eq!(rt; refused.to_string(alloc)?.as_str(), text);
+    Ok(())
+}
+
+// The calls with a pass answer causes and faults, which have no numbers of their own.
+#[test]
+fn what_ends_a_call_is_a_refusal(rt: HostRuntime) -> Result<(), Fail> {
+    let alloc = rt.alloc();
+    let cause = Cause {
+        stripe: 1,
+        kind: CauseKind::Astray,
+    };
+    let text = "a stripe cannot go on";
+    check_refusal(&rt, alloc, cause.into(), 2, text)?;
+    check_refusal(&rt, alloc, WriteFault::Io(cause).into(), 2, text)?;
+    check_refusal(&rt, alloc, WriteFault::Memory.into(), 1, "out of memory")
 }
