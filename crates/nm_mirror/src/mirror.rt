@@ -11,8 +11,8 @@ use nm_stripe::Stripe;
 use std::alloc::Global;
 use std::sync::Mutex;
 
-/// A mirror: its stripes, each behind a lock of its own, and the gate that its calls pass between
-/// their steps.
+/// A mirror: its stripes, each behind a lock of its own, the gate that its calls pass between their
+/// steps, and how many passes it made. The lock of that number is taken by `pass` alone.
 #[derive(Drop)]
 pub struct Mirror<L: LegPart, G: Gate + Drop> {
     pub(crate) shape: Shape,
