@@ -3,7 +3,9 @@ pub mod Numbers
 pub mod Joined
 pub mod FormLaws
 pub mod LineLaws
+pub mod BetweenLaws
 pub mod OpeningLaws
+pub mod OpeningRead
 pub mod RestLaws
 pub mod ScriptLaws
 pub mod Sent

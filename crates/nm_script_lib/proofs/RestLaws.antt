@@ -6,10 +6,12 @@ use Rattle.nm_script_lib.specs.declared.load.Load.{Load}
 use Rattle.nm_script_lib.specs.declared.mirror_line.MirrorLine.{MirrorLine}
 use Rattle.nm_script_lib.specs.declared.step.Step.{Step}
 use Rattle.nm_script_lib.specs.Grammar.{IsStepLine, IsOpening, has_content}
-use Rattle.nm_script_lib.specs.BadLine.{FollowsOpening, Opens, StepFollows, NothingFollows, IsNoLoad, IsNoStartOrStep, IsBadStep, IsFirst}
+use Rattle.nm_script_lib.specs.BadLine.{FollowsOpening, Opens, StepFollows, NothingFollows, IsNoLoad, IsStart, IsBetween, IsWrongOpening, HasContent, IsBadStep, IsFirst}
 use Rattle.nm_script_lib.specs.ScriptReading.{Opened, Said, opening_of, steps_of, with_opening, from_opening}
 use Rattle.nm_script_lib.proofs.LineLaws.{later_first, steps_sound, steps_bad, steps_read}
-use Rattle.nm_script_lib.proofs.OpeningLaws.{Found, found, WrongFrom, wrong, OpensNothing, opening_then, no_opening_read}
+use Rattle.nm_script_lib.proofs.BetweenLaws.{IsBetweenFrom}
+use Rattle.nm_script_lib.proofs.OpeningLaws.{Found, found, WrongFrom, wrong, OpensNothing}
+use Rattle.nm_script_lib.proofs.OpeningRead.{opening_then, no_opening_read}
 
 -- the opening and the steps, each way
 
@@ -109,7 +111,7 @@ pub rest_read : (m : MirrorLine) (n : ℕ) (rest opening others : List (List ℕ
     read_rest m n rest ≡ Ok (m, loads, master, ss)
 rest_read m n rest opening others loads None ss h o each =
     let all : filter has_content rest ≡ others = h ∙ ap (λ x. x ++ others) o.0 in
-    let none = no_opening_read m ([], None, n, rest) [] n rest others ss all each in
+    let none = no_opening_read m ([], None, n, rest) n rest others ss all each in
     rw (none, o.1, steps_read m n rest ss (rw all each)) refl
 rest_read m n rest opening others loads (Some master) ss h o each =
     let r = opening_then m n rest opening others loads master h o in
@@ -117,7 +119,7 @@ rest_read m n rest opening others loads (Some master) ss h o each =
 
 -- the line that is named is a wrong one of the opening, or the first after it that is no step
 
-nothing_follows : (m : MirrorLine) (n : ℕ) (rest : List (List ℕ)) → OpensNothing m n rest →
+nothing_follows : (m : MirrorLine) (n : ℕ) (rest : List (List ℕ)) → OpensNothing m [] n rest →
     FollowsOpening m rest 0 rest
 nothing_follows m n rest (inl none) = NothingFollows none
 nothing_follows m n rest (inr s) = StepFollows (length s.first.before + 1) (record {
@@ -128,30 +130,43 @@ nothing_follows m n rest (inr s) = StepFollows (length s.first.before + 1) (reco
   number = refl;
   none_before = s.first.none_before;
   holds = s.first.holds;
-}) s.step s.is
+}) s.step s.is (λ between. s.alone (inr between.0, between.1))
 
 -- where the wrong line of the opening is, counted from the mirror line
 pub record WrongAfter (m : MirrorLine) (n : ℕ) (rest : List (List ℕ)) (k : ℕ) : Type 0 where
   pub line : ℕ
   pub number : n + line ≡ k
-  pub next : IsFirst (IsNoLoad m) rest line
-  pub is : IsNoStartOrStep m next.line
+  pub is : IsWrongOpening m rest line
 
-wrong_after : (m : MirrorLine) (n : ℕ) (rest : List (List ℕ)) (k : ℕ) → WrongFrom m (n + 1) rest k →
+between_lines : (m : MirrorLine) (before after : List (List ℕ)) → IsBetweenFrom m [] before after →
+    IsBetween m before after
+between_lines m before after (inl none, starts) = absurd (omega (arith, none))
+between_lines m before after (inr some, starts) = (some, starts)
+
+is_wrong : (m : MirrorLine) (line : List ℕ) (before after : List (List ℕ)) →
+    ((s : Step) → IsStepLine m line s → ⊥) ⊎ IsBetweenFrom m [] before after →
+    ((s : Step) → IsStepLine m line s → ⊥) ⊎ IsBetween m before after
+is_wrong m line before after (inl no_step) = inl no_step
+is_wrong m line before after (inr between) = inr (between_lines m before after between)
+
+wrong_after : (m : MirrorLine) (n : ℕ) (rest : List (List ℕ)) (k : ℕ) → WrongFrom m [] (n + 1) rest k →
     WrongAfter m n rest k
 wrong_after m n rest k w = record {
   line = length w.first.before + 1;
   number = omega (arith, w.first.number);
-  next = record {
-    before = w.first.before;
-    line = w.first.line;
-    after = w.first.after;
-    split = w.first.split;
-    number = refl;
-    none_before = w.first.none_before;
-    holds = w.first.holds;
+  is = record {
+    next = record {
+      before = w.first.before;
+      line = w.first.line;
+      after = w.first.after;
+      split = w.first.split;
+      number = refl;
+      none_before = w.first.none_before;
+      holds = w.first.holds;
+    };
+    no_start = w.no_start;
+    wrong = is_wrong m w.first.line w.first.before w.first.after w.wrong;
   };
-  is = w.is;
 }
 
 -- where the line to name is, counted from the mirror line

@@ -223,7 +223,7 @@ after_bad lines rest n line (Some m) k e u f h =
     elim (rest_bad m n rest k h) [
       | inl bad ↦ named_at (n + bad.line) k lines (sym bad.number)
           (WrongOpening n bad.line m u (one_first n lines rest line f)
-          (line_sound mirror_form line m (sym e)) bad.next bad.is)
+          (line_sound mirror_form line m (sym e)) bad.is)
       | inr bad ↦ named_at (n + bad.skipped + bad.line) k lines (sym bad.number)
           (WrongStep n bad.skipped bad.line m u (one_first n lines rest line f)
           (line_sound mirror_form line m (sym e)) bad.after bad.follows bad.first)

@@ -2,6 +2,7 @@
 use Rattle.std.specs.Prelude.{◌≡◌, ℕ, ◌+◌, Bool, false, not, ◌++◌, List, [], ◌∷◌, Option, Some}
 use Rattle.std.specs.Prelude.{None, Result, Ok, Err, if◌then◌else◌, codes}
 use Rattle.std.specs.List.{list_any}
+use Rattle.std.specs.Option.{is_some}
 use Rattle.std.specs.Str.{is_utf8}
 use Rattle.nm_script_lib.specs.declared.load.Load.{Load}
 use Rattle.nm_script_lib.specs.declared.mirror_line.MirrorLine.{MirrorLine}
@@ -42,12 +43,22 @@ steps_of m n (line ∷ lines) =
 abbrev pub Opened : Type 0
 Opened = List Load × Option ℕ × ℕ × List (List ℕ)
 
--- the opening that a start ends; where a step stands in its place, none; else the line's number
-abbrev pub by_start : Option ℕ → Option Step → Opened → List Load → ℕ → List (List ℕ)
+-- the line is a start
+abbrev pub is_start : MirrorLine → List ℕ → Bool
+is_start m line = is_some (read_line (start_form m) line)
+
+-- a line stands between a load and a start: after these loads, and before these lines
+abbrev pub is_between : MirrorLine → List Load → List (List ℕ) → Bool
+is_between m [] lines = false
+is_between m (load ∷ loads) lines = list_any (is_start m) lines
+
+-- the opening that a start ends; where a step stands in its place, and not between a load and a
+-- start, none; else the line's number
+abbrev pub by_start : Option ℕ → Option Step → Bool → Opened → List Load → ℕ → List (List ℕ)
     → Result Opened ℕ
-by_start (Some master) step none loads n lines = Ok (loads, Some master, n + 1, lines)
-by_start None (Some step) none loads n lines = Ok none
-by_start None None none loads n lines = Err n
+by_start (Some master) step between none loads n lines = Ok (loads, Some master, n + 1, lines)
+by_start None (Some step) between none loads n lines = if between then Err n else Ok none
+by_start None None between none loads n lines = Err n
 
 -- the opening after one load more, or another
 abbrev pub by_load : Option Load → (Load → Result Opened ℕ) → Result Opened ℕ → Result Opened ℕ
@@ -55,14 +66,16 @@ by_load (Some load) on other = on load
 by_load None on other = other
 
 -- the opening of the lines, of which the first is line n, after these loads; where a step or the
--- end stands in the place of the start, none; else the number of the line that is no load
+-- end stands in the place of the start, and no start follows, none; else the number of the line
+-- that is no load
 abbrev pub opening_from : MirrorLine → Opened → List Load → ℕ → List (List ℕ) → Result Opened ℕ
 opening_from m none loads n [] = Ok none
 opening_from m none loads n (line ∷ lines) =
     if has_content line
     then by_load (read_line (load_form m) line)
     (λ load. opening_from m none (loads ++ (load ∷ [])) (n + 1) lines)
-    (by_start (read_line (start_form m) line) (read_line (step_form m) line) none loads n lines)
+    (by_start (read_line (start_form m) line) (read_line (step_form m) line)
+    (is_between m loads lines) none loads n lines)
     else opening_from m none loads (n + 1) lines
 
 -- the opening of the lines; where there is none, the steps begin with them

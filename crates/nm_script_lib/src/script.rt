@@ -5,7 +5,7 @@ ghost use Rattle.std.specs.List.{list_any, AllByRecursion};
 ghost use Rattle.std.specs.Str.{is_utf8};
 ghost use Rattle.nm_script_lib.specs.Grammar.{has_content, IsScript};
 ghost use Rattle.nm_script_lib.specs.Reading.{pieces, pieces_of_rest, rest_size};
-ghost use Rattle.nm_script_lib.specs.ScriptReading.{first_where, content_from, opening_of, steps_of, names_mirror, script_of, Reads, SaysAll};
+ghost use Rattle.nm_script_lib.specs.ScriptReading.{first_where, content_from, is_start, is_between, opening_of, steps_of, names_mirror, script_of, Reads, SaysAll};
 ghost use Rattle.nm_script_lib.specs.declared.parse_error.ParseError.TheVariants.{Memory, BadStep};
 ghost use Rattle.nm_script_lib.specs.declared.load.Load.{Load};
 ghost use Rattle.nm_script_lib.specs.declared.mirror_line.MirrorLine.{MirrorLine};
@@ -43,6 +43,31 @@ fn has_content(line: &[u8]) -> bool
     }
 }
 
+/// Whether some line is a start.
+fn any_starts(mirror: &MirrorLine, text: Option<&[u8]>) -> bool
+    ensures { result ≡ list_any (is_start mirror.now) (pieces_of_rest 10 (option_copied text.entry)) }
+{
+    let mut rest = text;
+    while let Some(text) = rest {
+        let (line, following) = cut(text, b'\n');
+        if start_of(mirror, line).is_some() {
+            return true;
+        }
+        rest = following;
+    }
+    false
+}
+
+/// Whether a line after these loads and before this text stands between a load and a start.
+fn is_between(mirror: &MirrorLine, loads: &[Load], text: Option<&[u8]>) -> bool
+    ensures { result ≡ is_between mirror.now loads.now (pieces_of_rest 10 (option_copied text.entry)) }
+{
+    match loads {
+        [] => false,
+        [_, ..] => any_starts(mirror, text),
+    }
+}
+
 /// Where a script's steps begin, and what stands between them and its mirror line.
 #[derive(Drop)]
 struct Opening<'a> {
@@ -53,8 +78,8 @@ struct Opening<'a> {
 }
 
 /// The loads and the start that the lines begin with. The first line is line `number`. Where a step
-/// or the end stands in the place of the start, there are none, and the steps begin with the first
-/// line.
+/// or the end stands in the place of the start, and no start follows, there are none, and the steps
+/// begin with the first line.
 fn opening_of<'a>(
     alloc: Global,
     mirror: &MirrorLine,
@@ -88,10 +113,10 @@ fn opening_of<'a>(
                     number: at + 1,
                     following,
                 });
-            } else if step_of(mirror, line).is_some() {
-                rest = None;
-            } else {
+            } else if step_of(mirror, line).is_none() || is_between(mirror, &loads, following) {
                 return Err(ParseError::BadStep { line: at });
+            } else {
+                rest = None;
             }
         }
         at += 1;
@@ -244,8 +269,8 @@ fn script_of(alloc: Global, text: &[u8]) -> Result<Script, ParseError>
 
 /// Reads a script: a mirror line, then how the stripe opens, then a step a line.
 ///
-/// Loads that no start follows are no steps: where a step or the end follows them, the first of
-/// them is named, and a line after them that is no load, no start and no step is named itself.
+/// Loads that no start follows are no steps: the first of them is named. A step between a load and a
+/// start is named itself, as is a line after the loads that is no load, no start and no step.
 ///
 /// Empty lines and those that begin with `#` are skipped. An error's line counts all lines, from 1.
 pub fn parse(alloc: Global, text: &[u8]) -> Result<Script, ParseError>

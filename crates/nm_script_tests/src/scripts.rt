@@ -219,7 +219,7 @@ const NO_STEP: [&[u8]; 60] = [
 ];
 
 /// Whole texts that are no script, each with the line to name.
-const NO_SCRIPT: [(&[u8], u64); 24] = [
+const NO_SCRIPT: [(&[u8], u64); 29] = [
     (b"", 1),
     (b"\n\n#\n", 1),
     (b"\n\nread 0\nread 1\n", 1),
@@ -235,12 +235,34 @@ const NO_SCRIPT: [(&[u8], u64); 24] = [
     (b"mirror 1 1 1 1 rr 0\n#\xc3", 2),
     // Loads are followed by a start, and neither comes after a step.
     (b"mirror 1 1 1 1 rr 0\nload 0 0 aa\n", 2),
-    (b"mirror 1 1 1 1 rr 0\nload 0 0 aa\nread 0\nstart 0\n", 2),
     (b"mirror 1 1 1 1 rr 0\nread 0\nload 0 0 aa\nstart 0\n", 3),
     (b"mirror 1 1 1 1 rr 0\nread 0\nstart 0\n", 3),
     (b"mirror 1 1 1 1 rr 0\nstart 0\nstart 0\n", 3),
     (
         b"mirror 1 1 1 1 rr 0\n\nload 0 0 aa\nload 0 0 bb\nread 0\nread 1\n",
+        3,
+    ),
+    // A step between a load and a later start is named itself, whatever else stands after it.
+    (b"mirror 1 1 1 1 rr 0\nload 0 0 aa\nread 0\nstart 0\n", 3),
+    (
+        b"mirror 1 1 1 1 rr 0\nload 0 0 aa\nread 0\nload 0 0 bb\nstart 0\n",
+        3,
+    ),
+    (
+        b"mirror 1 1 1 1 rr 0\nload 0 0 aa\nread 0\nload 0 1 aa\nstart 0\n",
+        3,
+    ),
+    (
+        b"mirror 1 1 1 1 rr 0\nload 0 0 aa\n#\n\nread 0\nread 0\n\nstart 0\nread 0\n",
+        5,
+    ),
+    // A line that is no start on this mirror is none after a step either.
+    (
+        b"mirror 1 1 1 1 rr 0\nload 0 0 aa\nread 0\nstart 1\n#start 0\n",
+        2,
+    ),
+    (
+        b"mirror 1 1 1 1 rr 0\n\nload 0 0 aa\nread 0\nload 0 0 bb\n",
         3,
     ),
     // A line among the loads, or after them, that is no load, no start and no step is named itself.
@@ -259,8 +281,8 @@ const NO_SCRIPT: [(&[u8], u64); 24] = [
     (b"mirror 1 1 1 1 rr 0\nload 0 0 aa\nload 0 0 AA\n", 3),
     (b"mirror 1 1 1 1 rr 0\nload 0 0 aa\nstart 1\nread 0\n", 3),
     (
-        b"mirror 1 1 1 1 rr 0\nload 0 0 aa\nread 0\nload 0 1 aa\nstart 0\n",
-        2,
+        b"mirror 1 1 1 1 rr 0\nload 0 0 aa\nlaod 0 0 bb\nread 0\nstart 0\n",
+        3,
     ),
 ];
 
