@@ -20,26 +20,29 @@ use std::test::Fail;
 
 /// A list of steps, and a stripe to do them on.
 #[derive(Drop)]
-struct Ready<'a> {
+struct Ready {
     stripe: Stripe<FuseLeg>,
     steps: Vec<Step<FuseLeg>>,
-    rows: &'a [(Ask, Summary)],
 }
 
 /// Takes all memory that a list of steps needs, which replaces no leg.
-fn ready<'a>(
+fn make_ready(
     rt: &impl Abort,
     alloc: Global,
     with: Mirror,
-    rows: &'a [(Ask, Summary)],
-) -> Result<Ready<'a>, Fail> {
+    rows: &[(Ask, Summary)],
+) -> Result<Ready, Fail> {
     let steps = steps_of(alloc, Vec::new(alloc), rows)?;
     let stripe = opened(rt, alloc, with)?;
-    Ok(Ready {
-        stripe,
-        steps,
-        rows,
-    })
+    Ok(Ready { stripe, steps })
+}
+
+/// Does the steps that were made ready last.
+fn do_last(rt: &impl Abort, ready: &mut Vec<Ready>, rows: &[(Ask, Summary)]) {
+    match ready.pop() {
+        Some(Ready { mut stripe, steps }) => compare_each(rt, &mut stripe, steps, rows),
+        None => assert!(rt; false, "nothing is ready"),
+    }
 }
 
 /// The lists in which no leg is replaced, but for the one with two fuses and the long ones.
@@ -65,6 +68,45 @@ const LISTS: [(Mirror, &[(Ask, Summary)]); 19] = [
     (FIRST_FAILS, &PART_LOSES_THE_MASTER),
 ];
 
+/// Takes all memory that the lists need: first these, then one that is longer than what is kept of
+/// the records, and one that is longer than what is kept of the history.
+fn make_all_ready(
+    rt: &impl Abort,
+    alloc: Global,
+    full: &[(Ask, Summary)],
+    reads: &[(Ask, Summary)],
+) -> Result<Vec<Ready>, Fail> {
+    let mut ready = Vec::new(alloc);
+    for (with, rows) in LISTS {
+        ready.push(make_ready(rt, alloc, with, rows)?)?;
+    }
+    ready.push(make_ready(rt, alloc, LONG, full)?)?;
+    ready.push(make_ready(rt, alloc, ONE_LEG, reads)?)?;
+    Ok(ready)
+}
+
+/// Does their steps, from the last list to the first.
+fn do_all(
+    rt: &impl Abort,
+    ready: &mut Vec<Ready>,
+    full: &[(Ask, Summary)],
+    reads: &[(Ask, Summary)],
+) {
+    do_last(rt, ready, reads);
+    do_last(rt, ready, full);
+    for (_, rows) in LISTS.into_iter().rev() {
+        do_last(rt, ready, rows);
+    }
+}
+
+/// Does the steps of the last leg in sync, which fails in a read, and then in a write.
+fn do_last_leg(rt: &impl Abort, last: Ready, halts: Vec<Step<FuseLeg>>) {
+    let Ready { mut stripe, steps } = last;
+    compare_each(rt, &mut stripe, steps, &LAST_LEG_READS);
+    fuse(rt, &stripe, 0, 1);
+    compare_each(rt, &mut stripe, halts, &LAST_LEG_HALTS);
+}
+
 // The allocations of this test are those before the first step, and one after the last. So with one
 // of them refused (`rt try --test --fail-alloc N`) it fails before the first step, with all of those
 // made, or after the last with the very next number: no step asks for memory.
@@ -73,21 +115,12 @@ fn steps_take_no_memory(rt: HostRuntime) -> Result<(), Fail> {
     let alloc = rt.alloc();
     let full = full_and_after(alloc)?;
     let reads = many_reads(alloc)?;
-    let mut all = Vec::new(alloc);
-    for (with, rows) in LISTS {
-        all.push(ready(&rt, alloc, with, rows)?)?;
-    }
-    all.push(ready(&rt, alloc, LONG, &full)?)?;
-    all.push(ready(&rt, alloc, ONE_LEG, &reads)?)?;
-    let mut last = ready(&rt, alloc, FIRST_FAILS, &LAST_LEG_READS)?;
+    let mut ready = make_all_ready(&rt, alloc, &full, &reads)?;
+    let last = make_ready(&rt, alloc, FIRST_FAILS, &LAST_LEG_READS)?;
     let halts = steps_of(alloc, Vec::new(alloc), &LAST_LEG_HALTS)?;
 
-    while let Some(mut each) = all.pop() {
-        compare_each(&rt, &mut each.stripe, each.steps, each.rows);
-    }
-    compare_each(&rt, &mut last.stripe, last.steps, last.rows);
-    fuse(&rt, &last.stripe, 0, 1);
-    compare_each(&rt, &mut last.stripe, halts, &LAST_LEG_HALTS);
+    do_all(&rt, &mut ready, &full, &reads);
+    do_last_leg(&rt, last, halts);
     let next = Vec::from_slice(alloc, b"next");
     assert_eq!(rt; next.ok().ok_or("refused after the last step")?.len(), 4);
     Ok(())
