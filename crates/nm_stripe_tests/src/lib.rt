@@ -11,8 +11,6 @@ mod comparing;
 #[cfg(test)]
 mod healing;
 #[cfg(test)]
-mod memory;
-#[cfg(test)]
 mod opening;
 #[cfg(test)]
 mod parts;

@@ -41,14 +41,6 @@ pub const TWO_LEGS: Mirror = Mirror {
     ..ONE_LEG
 };
 
-/// Two legs of two regions, each of 8 blocks.
-pub const LONGER: Mirror = Mirror {
-    blocks: 16,
-    region: 8,
-    chunk: 4,
-    ..TWO_LEGS
-};
-
 /// Three legs of two regions.
 pub const THREE_LEGS: Mirror = Mirror {
     legs: 3,

@@ -11,7 +11,7 @@ use std::alloc::Global;
 use std::process::Abort;
 use std::test::Fail;
 
-pub const OVER_A_WRITE: [(Ask, Summary); 9] = [
+const OVER_A_WRITE: [(Ask, Summary); 9] = [
     (Ask::Begin(0, 0xaa), Summary::Begun(0)),
     (
         Ask::Patch(0, 0, 4, 0xbb),
@@ -48,12 +48,12 @@ fn a_part_is_laid_over_what_the_block_holds(rt: HostRuntime) -> Result<(), Fail>
 }
 
 /// One leg, that fails its first call.
-pub const LAST_LEG_FAILS: Mirror = Mirror {
+const LAST_LEG_FAILS: Mirror = Mirror {
     fuse: Some((0, 1)),
     ..ONE_LEG
 };
 
-pub const NOT_READ: [(Ask, Summary); 2] = [
+const NOT_READ: [(Ask, Summary); 2] = [
     (Ask::Patch(0, 0, 1, 0xbb), Summary::Refused(Refusal::Fault)),
     (Ask::Patch(0, 0, 1, 0xbb), Summary::Begun(0)),
 ];
@@ -70,7 +70,7 @@ const MASTER_FAILS: Mirror = Mirror {
 };
 
 /// The leg that fails goes out, and no ticket is taken.
-pub const PART_LOSES_THE_MASTER: [(Ask, Summary); 3] = [
+const MASTER_LOST: [(Ask, Summary); 3] = [
     (Ask::Patch(0, 0, 1, 0xbb), Summary::LegLost(0)),
     (Ask::Patch(0, 0, 1, 0xbb), Summary::Begun(0)),
     (Ask::Push(0, 1), Summary::Complete(0)),
@@ -78,7 +78,7 @@ pub const PART_LOSES_THE_MASTER: [(Ask, Summary); 3] = [
 
 #[test]
 fn a_part_loses_the_master_that_is_not_read(rt: HostRuntime) -> Result<(), Fail> {
-    let stripe = after(&rt, rt.alloc(), MASTER_FAILS, &PART_LOSES_THE_MASTER)?;
+    let stripe = after(&rt, rt.alloc(), MASTER_FAILS, &MASTER_LOST)?;
     assert_eq!(rt; (stripe.master(), stripe.is_settling()), (1, false));
     Ok(())
 }

@@ -1,36 +1,36 @@
 //! Worked lists of steps, with a leg that fails or is copied, and what the stripe is after them.
-use crate::asking::{Ask, Summary};
-use crate::opening::{LONGER, Mirror, ONE_LEG, TWO_LEGS};
-use crate::worked::{after, after_fuse, has, holds, stand};
+use crate::asking::{Ask, Summary, compare};
+use crate::opening::{Mirror, TWO_LEGS, fuse, opened};
+use crate::worked::{after, has, holds, stand};
 use nm_replay::{Kind, check};
 use nm_stripe::{LegState, Policy, Refusal};
 use std::test::Fail;
 
 const SETTLING: Summary = Summary::Refused(Refusal::Settling);
 
-/// One block on one leg.
-pub const ONE_BLOCK: Mirror = Mirror {
-    blocks: 1,
-    region: 1,
-    chunk: 1,
-    ..ONE_LEG
+/// 16 blocks in regions of 8.
+const LONGER: Mirror = Mirror {
+    blocks: 16,
+    region: 8,
+    chunk: 4,
+    ..TWO_LEGS
 };
 
 /// As `LONGER`, where the first leg fails its first call.
-pub const FIRST_OF_LONGER_FAILS: Mirror = Mirror {
+const FIRST_OF_LONGER_FAILS: Mirror = Mirror {
     fuse: Some((0, 1)),
     ..LONGER
 };
 
 /// As `LONGER`, on three legs.
-pub const LONGER_OF_THREE: Mirror = Mirror {
+const LONGER_OF_THREE: Mirror = Mirror {
     legs: 3,
     in_sync: 7,
     ..LONGER
 };
 
 /// 10 blocks in regions of 4: the last region is short.
-pub const SHORTER: Mirror = Mirror {
+const SHORTER: Mirror = Mirror {
     blocks: 10,
     ..TWO_LEGS
 };
@@ -42,27 +42,18 @@ const FIRST_FAILS: Mirror = Mirror {
 };
 
 /// Two legs, of which the second fails its first call.
-pub const SECOND_FAILS: Mirror = Mirror {
+const SECOND_FAILS: Mirror = Mirror {
     fuse: Some((1, 1)),
     ..TWO_LEGS
 };
 
 /// Two legs, of which each region has its own, and the second fails its first call.
-pub const SECOND_OF_STRIPED_FAILS: Mirror = Mirror {
+const SECOND_OF_STRIPED_FAILS: Mirror = Mirror {
     policy: Policy::Striped,
     ..SECOND_FAILS
 };
 
-#[test]
-fn no_step_changes_nothing(rt: HostRuntime) -> Result<(), Fail> {
-    let stripe = after(&rt, rt.alloc(), ONE_BLOCK, &[])?;
-    let kept = stripe.entries(rt.alloc())?;
-    assert_eq!(rt; (stripe.total(), kept.len()), (0, 0));
-    stand(&rt, &stripe, 0, &[(LegState::InSync, 0)]);
-    Ok(())
-}
-
-pub const MASTER_HAD_IT: [(Ask, Summary); 8] = [
+const MASTER_HAD_IT: [(Ask, Summary); 8] = [
     (Ask::Begin(3, 0xaa), Summary::Begun(0)),
     (Ask::Push(0, 0), Summary::Pushed(1)),
     (Ask::Read(3), Summary::Value(1, 0xaa)),
@@ -80,7 +71,7 @@ fn the_master_fails_after_it_had_the_write(rt: HostRuntime) -> Result<(), Fail> 
     Ok(())
 }
 
-pub const OTHER_HAD_IT: [(Ask, Summary); 7] = [
+const OTHER_HAD_IT: [(Ask, Summary); 7] = [
     (Ask::Begin(3, 0xaa), Summary::Begun(0)),
     (Ask::Push(0, 1), Summary::Pushed(1)),
     (Ask::Read(3), Summary::Value(0, 0x00)),
@@ -95,7 +86,7 @@ fn the_other_leg_alone_had_the_write(rt: HostRuntime) -> Result<(), Fail> {
     has(&rt, rt.alloc(), LONGER, &OTHER_HAD_IT)
 }
 
-pub const THREE_UNDER_WAY: [(Ask, Summary); 15] = [
+const THREE_UNDER_WAY: [(Ask, Summary); 15] = [
     (Ask::Begin(1, 0xa1), Summary::Begun(0)),
     (Ask::Begin(2, 0xb2), Summary::Begun(1)),
     (Ask::Begin(9, 0xc3), Summary::Begun(2)),
@@ -179,7 +170,7 @@ fn a_new_leg_is_copied_while_writes_go_on(rt: HostRuntime) -> Result<(), Fail> {
     Ok(())
 }
 
-pub const SHORT_REGION: [(Ask, Summary); 10] = [
+const SHORT_REGION: [(Ask, Summary); 10] = [
     (Ask::Fail(1), Summary::Failed),
     (Ask::Begin(0, 0xaa), Summary::Begun(0)),
     (Ask::Push(0, 0), Summary::Complete(0)),
@@ -197,7 +188,7 @@ fn the_last_region_may_be_short(rt: HostRuntime) -> Result<(), Fail> {
     has(&rt, rt.alloc(), SHORTER, &SHORT_REGION)
 }
 
-pub const LAST_LEG_READS: [(Ask, Summary); 5] = [
+const LAST_LEG_READS: [(Ask, Summary); 5] = [
     (Ask::Fail(1), Summary::Failed),
     (Ask::Read(0), Summary::Refused(Refusal::Fault)),
     (Ask::Read(0), Summary::Value(0, 0x00)),
@@ -205,27 +196,22 @@ pub const LAST_LEG_READS: [(Ask, Summary); 5] = [
     (Ask::Begin(0, 0xaa), Summary::Begun(0)),
 ];
 
-pub const LAST_LEG_HALTS: [(Ask, Summary); 2] = [
+const LAST_LEG_HALTS: [(Ask, Summary); 2] = [
     (Ask::Push(0, 0), Summary::Halted),
     (Ask::Read(0), Summary::Refused(Refusal::Stopped)),
 ];
 
 #[test]
 fn the_last_leg_is_not_lost(rt: HostRuntime) -> Result<(), Fail> {
-    let next = (0, 1);
-    let stripe = after_fuse(
-        &rt,
-        rt.alloc(),
-        FIRST_FAILS,
-        &LAST_LEG_READS,
-        next,
-        &LAST_LEG_HALTS,
-    )?;
+    let mut stripe = opened(&rt, rt.alloc(), FIRST_FAILS)?;
+    compare(&rt, rt.alloc(), &mut stripe, &LAST_LEG_READS)?;
+    fuse(&rt, &stripe, 0, 1);
+    compare(&rt, rt.alloc(), &mut stripe, &LAST_LEG_HALTS)?;
     assert!(rt; stripe.is_stopped());
     Ok(())
 }
 
-pub const TORN: [(Ask, Summary); 10] = [
+const TORN: [(Ask, Summary); 10] = [
     (Ask::Begin(0, 0xaa), Summary::Begun(0)),
     (Ask::Begin(0, 0xbb), Summary::Refused(Refusal::Busy(0))),
     (Ask::Push(0, 1), Summary::LegLost(1)),
@@ -245,7 +231,7 @@ fn a_write_that_fails_is_torn(rt: HostRuntime) -> Result<(), Fail> {
     Ok(())
 }
 
-pub const SYNC_FAILS: [(Ask, Summary); 6] = [
+const SYNC_FAILS: [(Ask, Summary); 6] = [
     (Ask::Begin(0, 0xaa), Summary::Begun(0)),
     (Ask::Push(0, 0), Summary::Pushed(1)),
     (Ask::Sync(0), Summary::Synced),
@@ -259,7 +245,7 @@ fn a_sync_that_fails_leaves_all_to_copy(rt: HostRuntime) -> Result<(), Fail> {
     has(&rt, rt.alloc(), SECOND_FAILS, &SYNC_FAILS)
 }
 
-pub const STRIPED: [(Ask, Summary); 2] = [
+const STRIPED: [(Ask, Summary); 2] = [
     (Ask::Read(0), Summary::Value(0, 0x00)),
     (Ask::Read(4), Summary::LegLost(1)),
 ];
@@ -269,7 +255,7 @@ fn the_second_region_is_read_from_the_second_leg(rt: HostRuntime) -> Result<(), 
     has(&rt, rt.alloc(), SECOND_OF_STRIPED_FAILS, &STRIPED)
 }
 
-pub const MASTER_LOST: [(Ask, Summary); 2] = [
+const MASTER_LOST: [(Ask, Summary); 2] = [
     (Ask::Read(0), Summary::LegLost(0)),
     (Ask::Read(0), Summary::Value(0, 0x00)),
 ];
@@ -287,7 +273,7 @@ fn a_read_loses_the_master(rt: HostRuntime) -> Result<(), Fail> {
 }
 
 /// The fuse fails the read, which is the first call of the leg, and not the step that asks first.
-pub const NAMED_CALL: [(Ask, Summary); 7] = [
+const NAMED_CALL: [(Ask, Summary); 7] = [
     (Ask::Begin(3, 0xaa), Summary::Begun(0)),
     (Ask::Read(3), Summary::LegLost(0)),
     (Ask::Push(0, 0), Summary::Refused(Refusal::NotOwed)),

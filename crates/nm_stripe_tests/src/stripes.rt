@@ -2,7 +2,7 @@
 ghost use Rattle.std.specs.Prelude.{◌≡◌, ◌<◌, ◌≤◌, length};
 
 use crate::asking::{Ask, Summary, compare};
-use crate::opening::{LONGER, Mirror, ONE_LEG, TWO_LEGS, try_open};
+use crate::opening::{Mirror, ONE_LEG, TWO_LEGS, try_open};
 use crate::worked::{after, has};
 use nm_leg::{FailingLeg, LegPart, LyingLeg};
 use nm_replay::{Block, Entry, Kind, check};
@@ -22,7 +22,7 @@ pub const WRITE_AND_READS: [(Ask, Summary); 7] = [
     (Ask::Read(3), Summary::Value(3, 0xaa)),
 ];
 
-pub const LAST_NUMBER: [(Ask, Summary); 5] = [
+const LAST_NUMBER: [(Ask, Summary); 5] = [
     (Ask::Begin(0, 0xaa), Summary::Begun(0)),
     (Ask::Begin(1, 0xbb), Summary::Refused(Refusal::Exhausted)),
     (Ask::Read(0), Summary::Refused(Refusal::Exhausted)),
@@ -72,12 +72,12 @@ const AFTER_256: [(Ask, Summary); 5] = [
     (Ask::Begin(256, 0xaa), Summary::Begun(256)),
 ];
 
-pub const LAST_FIRST: Mirror = Mirror {
+const LAST_FIRST: Mirror = Mirror {
     first: 9_223_372_036_854_775_807,
     ..ONE_LEG
 };
 
-pub const LONG: Mirror = Mirror {
+const LONG: Mirror = Mirror {
     blocks: 300,
     region: 128,
     chunk: 8,
@@ -86,7 +86,7 @@ pub const LONG: Mirror = Mirror {
 
 #[test]
 fn a_write_takes_effect_at_the_master(rt: HostRuntime) -> Result<(), Fail> {
-    let stripe = after(&rt, rt.alloc(), LONGER, &WRITE_AND_READS)?;
+    let stripe = after(&rt, rt.alloc(), TWO_LEGS, &WRITE_AND_READS)?;
     let kept = stripe.entries(rt.alloc())?;
     assert_eq!(rt; stripe.total(), 4);
     assert_eq!(rt; kept.len(), 4);
@@ -118,7 +118,7 @@ fn the_last_number_is_given_to_one_entry(rt: HostRuntime) -> Result<(), Fail> {
 }
 
 /// 256 begins, and the steps after them.
-pub fn full_and_after(alloc: Global) -> Result<Vec<(Ask, Summary)>, AllocError> {
+fn full_and_after(alloc: Global) -> Result<Vec<(Ask, Summary)>, AllocError> {
     let mut rows = Vec::new(alloc);
     for ticket in 0..256 {
         rows.push((Ask::Begin(ticket, 0xaa), Summary::Begun(ticket)))?;

@@ -1,6 +1,6 @@
 //! A worked list of steps on stripes of its own, and what a stripe is after it.
 use crate::asking::{Ask, Summary, compare_each, compare_with, steps_of};
-use crate::opening::{Mirror, fuse, opened};
+use crate::opening::{Mirror, opened};
 use nm_leg::{FuseLeg, LegPart};
 use nm_stripe::{LegState, Stripe};
 use std::alloc::Global;
@@ -61,29 +61,6 @@ pub fn after(
 ) -> Result<Stripe<FuseLeg>, Fail> {
     same_by_step(rt, alloc, with, rows)?;
     same_by_run(rt, alloc, with, rows)
-}
-
-/// As `after`, where the leg's fuse is set between the first steps and the others.
-pub fn after_fuse(
-    rt: &impl Abort,
-    alloc: Global,
-    with: Mirror,
-    first: &[(Ask, Summary)],
-    (leg, call): (u8, u64),
-    others: &[(Ask, Summary)],
-) -> Result<Stripe<FuseLeg>, Fail> {
-    let first_steps = steps_of(alloc, spare(rt, alloc, with.blocks, first)?, first)?;
-    let other_steps = steps_of(alloc, spare(rt, alloc, with.blocks, others)?, others)?;
-    let mut stripe = opened(rt, alloc, with)?;
-    compare_each(rt, &mut stripe, first_steps, first);
-    fuse(rt, &stripe, leg, call);
-    compare_each(rt, &mut stripe, other_steps, others);
-
-    let mut stripe = same_by_run(rt, alloc, with, first)?;
-    fuse(rt, &stripe, leg, call);
-    let legs = spare(rt, alloc, with.blocks, others)?;
-    compare_with(rt, alloc, &mut stripe, legs, others)?;
-    Ok(stripe)
 }
 
 /// As `after`, where nothing else is compared.
