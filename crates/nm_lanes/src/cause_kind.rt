@@ -1,7 +1,8 @@
 /// An answer that ends a call.
 #[derive(Debug, Clone, Copy, PartialEq, Eq, Drop)]
 pub enum CauseKind {
-    /// The only leg in sync failed in a read or a sync.
+    /// The only leg in sync failed: in a read, in a sync, or as a begin of a part or a copy read a
+    /// block of it.
     Fault,
     /// The only leg in sync failed in a write, and the stripe has stopped.
     Halted,

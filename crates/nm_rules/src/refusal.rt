@@ -27,8 +27,8 @@ pub enum Refusal {
     NotOwed,
     /// The write is still under way, or the leg is still behind in a region.
     NotYet,
-    /// The only leg in sync failed in a read or a sync. Its count of faults changed, and nothing
-    /// else.
+    /// The only leg in sync failed: in a read, in a sync, or as a begin of a part or a copy read a
+    /// block of it. Nothing changed but what the failed call did to the leg.
     Fault,
     /// The leg is the only one in sync.
     LastLeg,

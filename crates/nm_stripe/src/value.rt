@@ -5,7 +5,8 @@ use std::marker::{Model, PhantomData};
 
 /// The answer of a read: the block's bytes, and the read's entry in the stripe's history.
 ///
-/// Only a `Stripe<L>` makes one, from what its master gave.
+/// Only a `Stripe<L>` makes one, as it does the step `Step::Read`: the bytes are those that this
+/// read got from a leg that is current there, the master or another.
 #[derive(Drop)]
 pub struct Value<L> {
     pub(crate) stripe: u32,
