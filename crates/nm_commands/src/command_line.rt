@@ -5,7 +5,8 @@ ghost use Rattle.clap.specs.declared.builder.value_parser.ValueParser.TheVariant
 ghost use Rattle.clap.specs.Words.{app_of, kind_of, rule_of, first_value, found_of, one_text};
 ghost use Rattle.clap.specs.Words.{matched_of, raw_values, rows_of};
 ghost use Rattle.clap.specs.declared.error.kind.ErrorKind.TheVariants.{OutOfMemory};
-ghost use Rattle.nm_commands.specs.CommandLine.{ArePolicies, AreStarts, base_command, mirror_command};
+ghost use Rattle.nm_commands.specs.CommandLine.{ArePolicies, AreStarts, base_command};
+ghost use Rattle.nm_commands.specs.CommandLine.{mirror_command};
 ghost use Rattle.nm_commands.specs.CommandLine.{flag_rule, nbdmirror, number_rule};
 ghost use Rattle.nm_commands.specs.CommandLine.{option_rule, parsed_rule, words_rule};
 ghost use Rattle.nm_commands.specs.Settings.{AsksFor, HasSettings, IsNumber, IsRefusal};

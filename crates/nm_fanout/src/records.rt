@@ -1,10 +1,14 @@
-ghost use Rattle.std.specs.Prelude.{◌≡◌, ℕ, ◌+◌, ◌-◌, ◌<◌, ◌≤◌, ◌↔◌, ◌&&◌, [], length, find, slice_get, IsTrue, IsSome, IfSome, IfNone, Some, None, IfOk};
+ghost use Rattle.std.specs.Prelude.{◌≡◌, ℕ, ◌+◌, ◌-◌, ◌<◌, ◌≤◌, ◌↔◌, ◌&&◌, [], length, find};
+ghost use Rattle.std.specs.Prelude.{slice_get, IsTrue, IsSome, IfSome, IfNone, Some, None, IfOk};
 ghost use Rattle.std.specs.Option.{option_map, option_copied};
 ghost use Rattle.nm_fanout.specs.declared.write_record.Record.{Record};
 ghost use Rattle.nm_fanout.specs.Data.{FitsBlock};
 ghost use Rattle.nm_fanout.specs.Laying.{data_over};
 ghost use Rattle.nm_fanout.specs.Record.{begun, is_under_way};
-ghost use Rattle.nm_fanout.specs.Records.{AreInOrder, AllBelow, IsAt, find_record, busy_on, is_among, busy_among, any_under_way, entry_at, unlanded, first_unlanded, next_owed, first_owed, reached, landed, left_by, without, with_new};
+ghost use Rattle.nm_fanout.specs.Records.{AreInOrder, AllBelow, IsAt, find_record, busy_on};
+ghost use Rattle.nm_fanout.specs.Records.{is_among, busy_among, any_under_way, entry_at, unlanded};
+ghost use Rattle.nm_fanout.specs.Records.{first_unlanded, next_owed, first_owed, reached, landed};
+ghost use Rattle.nm_fanout.specs.Records.{left_by, without, with_new};
 
 use crate::block_data::Data;
 use crate::record_list::{MOST_RECORDS, RecordList};

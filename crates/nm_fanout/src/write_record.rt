@@ -1,5 +1,6 @@
 ghost use Rattle.std.specs.Prelude.{◌≡◌, ◌<◌, ◌≤◌, length, position, IfSome};
-ghost use Rattle.nm_fanout.specs.Record.{owes, owed_count, is_under_way, lowest_owed, without_leg, with_entry};
+ghost use Rattle.nm_fanout.specs.Record.{owes, owed_count, is_under_way, lowest_owed, without_leg};
+ghost use Rattle.nm_fanout.specs.Record.{with_entry};
 
 use crate::record_data::RecordData;
 

@@ -94,7 +94,8 @@ fn a_page_is_read_by_one_call(rt: HostRuntime) -> Result<(), Fail> {
 #[test]
 #[tactic(auto, unfolding(nm_file_leg::specs::Places::place_of))]
 fn a_page_is_one_of_the_medium(rt: HostRuntime) -> Result<(), Fail> {
-    // The second of two stripes, with regions of 12 blocks: its first block is block 12 of the medium.
+    // The second of two stripes, with regions of 12 blocks: its first block is block 12 of the
+    // medium.
     let second = Places {
         region: 12,
         stripes: 2,

@@ -1,5 +1,6 @@
 //! Requests that are each sent once the one before was replied to, and a WRITE of which a part is
-//! missing, cut anywhere, over one target and over sixteen. The expected bytes were written by hand.
+//! missing, cut anywhere, over one target and over sixteen. The expected bytes were written by
+//! hand.
 
 use nm_session::{CutReader, CutWriter, End};
 use nm_wire::Memory;

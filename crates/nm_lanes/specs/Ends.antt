@@ -44,8 +44,9 @@ pub record LaneDid {L D : Type 0} (follows : D → List (Done L) → D → Type 
   pub does : LaneDoes follows old new own
 
 -- a call that was ended: on the lane of this stripe its own steps were some of its share, in order.
--- Nothing ended it there, and no write of theirs is left unclaimed; or one step more ended it, which
--- happens in no stripe below the cause's. In the cause's stripe one did, with the cause's answer.
+-- Nothing ended it there, and no write of theirs is left unclaimed; or one step more ended it,
+-- which happens in no stripe below the cause's. In the cause's stripe one did, with the cause's
+-- answer.
 pub record LaneTries {L D : Type 0} (follows : D → List (Done L) → D → Type 0)
     (Share : List (Done L) → Type 0) (cause : Cause) (stripe : ℕ) (old new : D) : Type 0 where
   pub own : List (Done L)

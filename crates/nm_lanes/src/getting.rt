@@ -3,7 +3,8 @@ ghost use Rattle.std.specs.Prelude.{◌≡◌, ◌+◌, ◌≤◌, ◌<◌, ◌+
 ghost use Rattle.std.specs.Thread.{IsSend, IsSync};
 ghost use Rattle.nm_geometry.specs.Pieces.{end_of};
 ghost use Rattle.nm_lanes.specs.Ends.{LaneDid, LaneTries};
-ghost use Rattle.nm_lanes.specs.Gets.{bytes_of, pieces_in_stretch, IsReadStretch, ReadsInto, ReadsLanes};
+ghost use Rattle.nm_lanes.specs.Gets.{bytes_of, pieces_in_stretch, IsReadStretch, ReadsInto};
+ghost use Rattle.nm_lanes.specs.Gets.{ReadsLanes};
 ghost use Rattle.nm_lanes.specs.Gets.{ReadsNext};
 ghost use Rattle.nm_lanes.specs.Lists.{steps_in};
 ghost use Rattle.nm_lanes.specs.Puts.{block_of, IsRun};
@@ -202,8 +203,8 @@ fn get_next<
     }
 }
 
-/// Reads all pieces of a stretch, in rounds. After a round in which a stripe could not go on comes no
-/// other.
+/// Reads all pieces of a stretch, in rounds. After a round in which a stripe could not go on comes
+/// no other.
 pub(crate) fn get_all<
     L: LegPart + Send,
     K: Sync,

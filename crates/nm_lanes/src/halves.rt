@@ -5,8 +5,8 @@ use crate::cause::Cause;
 use std::marker::Send;
 use std::thread::{Threads, join_mut};
 
-/// Does both halves of a round, side by side where that is asked for, else one after the other. Where
-/// both have a cause it is the lower half's.
+/// Does both halves of a round, side by side where that is asked for, else one after the other.
+/// Where both have a cause it is the lower half's.
 pub(crate) fn do_both<
     R: Threads,
     F: FnMut() -> Result<(), Cause> + Send,

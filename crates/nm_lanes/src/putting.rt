@@ -182,8 +182,8 @@ fn put_next<
     }
 }
 
-/// Writes all pieces of a stretch, in rounds. After a round in which a stripe could not go on comes no
-/// other.
+/// Writes all pieces of a stretch, in rounds. After a round in which a stripe could not go on comes
+/// no other.
 pub(crate) fn put_all<
     L: LegPart + Send,
     K: Sync,

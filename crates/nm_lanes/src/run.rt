@@ -70,8 +70,8 @@ pub(crate) fn halves(shape: &Shape, run: Run, lanes: usize, half: usize) -> (Run
     (low, high)
 }
 
-/// Whether these halves of a run are worth a thread: each has a region's blocks, or more, since a thread
-/// costs more than a few blocks.
+/// Whether these halves of a run are worth a thread: each has a region's blocks, or more, since a
+/// thread costs more than a few blocks.
 pub(crate) fn are_worth_it(shape: &Shape, low: Run, high: Run) -> bool {
     let least = shape.region;
     low.stretch.count >= least && high.stretch.count >= least

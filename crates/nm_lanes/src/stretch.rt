@@ -72,7 +72,8 @@ impl Stretch {
         if self.uncut { 0 } else { count as usize }
     }
 
-    /// What is to be put into the piece of this number, counted in the stretch. A cut is taken away.
+    /// What is to be put into the piece of this number, counted in the stretch. A cut is taken
+    /// away.
     pub(crate) fn take(self, at: u64, cuts: &mut [PieceWrite]) -> PieceWrite
         requires end { end_of self.range < 2 ^ 64 }
         requires inside { self.first + self.count ≤ touched self.range }

@@ -1,4 +1,5 @@
-ghost use Rattle.std.specs.Prelude.{◌≡◌, ◌+◌, ◌%◌, ◌^◌, ◌<◌, true, length, refl, is_ok, slice_get, slice_set, Some, IfSome, IfOk, IsErr, OnErr};
+ghost use Rattle.std.specs.Prelude.{◌≡◌, ◌+◌, ◌%◌, ◌^◌, ◌<◌, true, length, refl, is_ok, slice_get};
+ghost use Rattle.std.specs.Prelude.{slice_set, Some, IfSome, IfOk, IsErr, OnErr};
 ghost use Rattle.nm_replay.specs.declared.block.TheConstants.{BLOCK_BYTES};
 ghost use Rattle.nm_leg.specs.Leg.{WritesLeg, filled_leg, torn_block};
 

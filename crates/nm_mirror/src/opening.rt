@@ -1,5 +1,6 @@
 //! The stripes of a mirror, as they are opened.
-ghost use Rattle.std.specs.Prelude.{◌≡◌, ◌+◌, ◌<◌, ◌≤◌, ◌^◌, ℕ, List, [], length, map, IsTrue, IfSome, IfOk, IfErr, OnOk, OnErr, ◌↔◌, IsSome};
+ghost use Rattle.std.specs.Prelude.{◌≡◌, ◌+◌, ◌<◌, ◌≤◌, ◌^◌, ℕ, List, [], length, map, IsTrue};
+ghost use Rattle.std.specs.Prelude.{IfSome, IfOk, IfErr, OnOk, OnErr, ◌↔◌, IsSome};
 ghost use Rattle.nm_geometry.specs.Geometry.{stripe_blocks};
 ghost use Rattle.nm_leg.specs.Leg.{leg_type};
 ghost use Rattle.nm_leg.specs.LegCalls.{EachHas};
@@ -10,7 +11,8 @@ ghost use Rattle.nm_rules.specs.Opening.{HoldEqual};
 ghost use Rattle.nm_stripe.specs.Opening.{NamesALeg};
 ghost use Rattle.nm_mirror.specs.Opening.{AddsNext, AreAllOpened, RefusesFitting};
 ghost use Rattle.nm_mirror.specs.Opening.{RefusesOpening, start_of};
-ghost use Rattle.nm_mirror.specs.Stripes.{AreFirst, AreStripesOf, ComparesNext, FitNext, OpensNext, place_of};
+ghost use Rattle.nm_mirror.specs.Stripes.{AreFirst, AreStripesOf, ComparesNext, FitNext, OpensNext};
+ghost use Rattle.nm_mirror.specs.Stripes.{place_of};
 
 use crate::open_fault::OpenFault;
 use crate::start::Start;

@@ -78,5 +78,6 @@ impl<L: LegPart> Lane<L, Lock<L>> for PartLane<L> {
 
     ghost stays = { λ part. refl };
 
-    ghost joins = { λ first mid last before after p q. part-joined first mid last before after p q };
+    ghost joins = { λ first mid last before after p q.
+        part-joined first mid last before after p q };
 }

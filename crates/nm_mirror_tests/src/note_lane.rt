@@ -120,5 +120,6 @@ impl Lane<FuseLeg, Door> for NoteLane {
 
     ghost stays = { λ part. refl };
 
-    ghost joins = { λ first mid last before after p q. part-joined first mid last before after p q };
+    ghost joins = { λ first mid last before after p q.
+        part-joined first mid last before after p q };
 }

@@ -117,8 +117,8 @@ fn a_flush_of_stripes_without_writes_starts_no_thread(rt: HostRuntime) -> Result
     Ok(())
 }
 
-/// What the second stripe's steps tell the first stripe's leg: how many entries they were given, and
-/// how often the leg's calls looked.
+/// What the second stripe's steps tell the first stripe's leg: how many entries they were given,
+/// and how often the leg's calls looked.
 #[derive(Drop)]
 struct Told {
     entries: AtomicU64,

@@ -2,7 +2,8 @@ ghost use Rattle.std.specs.Prelude.{◌≡◌, ◌<◌, ◌-◌, ◌^◌, [], �
 ghost use Rattle.nm_leg.specs.Leg.{leg_type};
 ghost use Rattle.nm_rules.specs.Acts.{IsExplainedStep};
 ghost use Rattle.nm_stripe.specs.Run.{MayBeAsked, NoneHalted, StepOf, marks};
-ghost use Rattle.nm_part.specs.Parts.{ValueAbove, astray, handed_in, is_astray, part_after, part_of};
+ghost use Rattle.nm_part.specs.Parts.{ValueAbove, astray, handed_in, is_astray, part_after};
+ghost use Rattle.nm_part.specs.Parts.{part_of};
 
 use nm_leg::LegPart;
 use nm_stripe::{Answer, Handed, Refusal, Step, Stripe};

@@ -1,5 +1,7 @@
 //! Laws of the region table. Each function does nothing: its contract is the law, for every table.
-ghost use Rattle.nm_regions.specs.Laws.{AdvanceLowersLeft, AttachKeepsLeft, BeginKeepsLeft, FinishKeepsLeft, GoOutKeepsLeft, GoOutMarksDirty, OpenKeepsLeft, ReplaceKeepsLeft, ReplaceLeavesAll};
+ghost use Rattle.nm_regions.specs.Laws.{AdvanceLowersLeft, AttachKeepsLeft, BeginKeepsLeft};
+ghost use Rattle.nm_regions.specs.Laws.{FinishKeepsLeft, GoOutKeepsLeft, GoOutMarksDirty};
+ghost use Rattle.nm_regions.specs.Laws.{OpenKeepsLeft, ReplaceKeepsLeft, ReplaceLeavesAll};
 
 /// What is left of a leg falls by one for each block that its copy advances.
 pub fn advance_lowers_left()

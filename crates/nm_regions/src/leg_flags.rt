@@ -1,5 +1,8 @@
-ghost use Rattle.std.specs.Prelude.{◌≡◌, ◌<◌, ◌≤◌, ◌^◌, length, map, replicate, All, Some, IsTrue, IsFalse, IfOk};
-ghost use Rattle.nm_regions.specs.LegFlags.{opened_leg, is_behind, lowest_behind, has_behind, dirty_marked, gone_out, attached, marked, marked_if_out, all_marked, set_aside, cleared};
+ghost use Rattle.std.specs.Prelude.{◌≡◌, ◌<◌, ◌≤◌, ◌^◌, length, map, replicate, All, Some, IsTrue};
+ghost use Rattle.std.specs.Prelude.{IsFalse, IfOk};
+ghost use Rattle.nm_regions.specs.LegFlags.{opened_leg, is_behind, lowest_behind, has_behind};
+ghost use Rattle.nm_regions.specs.LegFlags.{dirty_marked, gone_out, attached, marked};
+ghost use Rattle.nm_regions.specs.LegFlags.{marked_if_out, all_marked, set_aside, cleared};
 ghost use Rattle.nm_regions.specs.Links.{behind_count, before_lowest, AreLinks};
 
 use std::alloc::{AllocError, Global};

@@ -1,7 +1,13 @@
-ghost use Rattle.std.specs.Prelude.{◌≡◌, ◌-◌, ◌*◌, ◌<◌, ◌≤◌, ◌^◌, if◌then◌else◌, length, map, replicate, Some, None, IsTrue, IsFalse, IsSome, IfOk};
+ghost use Rattle.std.specs.Prelude.{◌≡◌, ◌-◌, ◌*◌, ◌<◌, ◌≤◌, ◌^◌, if◌then◌else◌, length, map};
+ghost use Rattle.std.specs.Prelude.{replicate, Some, None, IsTrue, IsFalse, IsSome, IfOk};
 ghost use Rattle.nm_regions.specs.LegFlags.{opened_leg, is_behind};
-ghost use Rattle.nm_regions.specs.Table.{region_of, length_of, writes_in, is_quiet, state, is_out, leg_at, has_region, is_current_at, is_current, targets, blocks_behind, copied, left, lowest_behind, has_behind, copy_rest};
-ghost use Rattle.nm_regions.specs.Changes.{opened, begun, finished, gone_out, all_marked, marked, all_set_aside, attached, replaced, copy_opened, advanced, region_finished};
+ghost use Rattle.nm_regions.specs.Table.{region_of, length_of, writes_in, is_quiet, state, is_out};
+ghost use Rattle.nm_regions.specs.Table.{leg_at, has_region, is_current_at, is_current, targets};
+ghost use Rattle.nm_regions.specs.Table.{blocks_behind, copied, left, lowest_behind, has_behind};
+ghost use Rattle.nm_regions.specs.Table.{copy_rest};
+ghost use Rattle.nm_regions.specs.Changes.{opened, begun, finished, gone_out, all_marked, marked};
+ghost use Rattle.nm_regions.specs.Changes.{all_set_aside, attached, replaced, copy_opened};
+ghost use Rattle.nm_regions.specs.Changes.{advanced, region_finished};
 ghost use Rattle.nm_regions.specs.Sound.{AreSizes, IsRegionTable};
 
 use crate::copy_place::{CopyPlace, blocks_copied, copies, copy_but_of, has_copied, move_on};

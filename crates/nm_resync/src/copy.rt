@@ -1,7 +1,9 @@
 ghost use Rattle.std.specs.Prelude.{◌≡◌, ◌<◌, ◌≤◌, None, Some, slice_get, IfOk};
 ghost use Rattle.std.specs.Borrow.{sem};
-ghost use Rattle.nm_resync.specs.Chunk.{IsChunkSize, IsCopyBuffer, empty, length_of, blocks_of, written_of, buffered_of};
-ghost use Rattle.nm_resync.specs.Moves.{next_move, IsRead, IsWrite, Reads, opened, filled, block_written, closed_by_write, dropped};
+ghost use Rattle.nm_resync.specs.Chunk.{IsChunkSize, IsCopyBuffer, empty, length_of, blocks_of};
+ghost use Rattle.nm_resync.specs.Chunk.{written_of, buffered_of};
+ghost use Rattle.nm_resync.specs.Moves.{next_move, IsRead, IsWrite, Reads, opened, filled};
+ghost use Rattle.nm_resync.specs.Moves.{block_written, closed_by_write, dropped};
 ghost use Rattle.nm_resync.specs.Work.{chunk_length};
 
 use crate::copy_move::Move;

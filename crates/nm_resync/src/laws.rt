@@ -1,5 +1,7 @@
 //! Laws of a copy. Each function does nothing: its contract is the law, for every buffer.
-ghost use Rattle.nm_resync.specs.Laws.{CloseLowersLeft, CloseLowersWork, OpenKeepsWork, ReadKeepsLeft, ReadLowersWork, WriteLowersLeft, WriteLowersWork};
+ghost use Rattle.nm_resync.specs.Laws.{CloseLowersLeft, CloseLowersWork, OpenKeepsWork};
+ghost use Rattle.nm_resync.specs.Laws.{ReadKeepsLeft, ReadLowersWork, WriteLowersLeft};
+ghost use Rattle.nm_resync.specs.Laws.{WriteLowersWork};
 
 /// A chunk that is opened leaves the work of the copy.
 pub fn open_keeps_work()

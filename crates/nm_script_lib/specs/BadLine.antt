@@ -52,7 +52,8 @@ abbrev pub IsBetween : MirrorLine → List (List ℕ) → List (List ℕ) → Ty
 IsBetween m before after = Any HasContent before × Any (IsStart m) after
 
 -- The i-th of the lines after the mirror line is wrong in its place: it is the first with content
--- that is no load, and it is no start. It is no step either, or it is one between a load and a start.
+-- that is no load, and it is no start. It is no step either, or it is one between a load and a
+-- start.
 pub record IsWrongOpening (m : MirrorLine) (lines : List (List ℕ)) (i : ℕ) : Type 0 where
   pub next : IsFirst (IsNoLoad m) lines i
   pub no_start : IsStart m next.line → ⊥

@@ -1,12 +1,15 @@
 //! Runs the steps of a script, and writes their results.
-ghost use Rattle.std.specs.Prelude.{◌≡◌, ℕ, ◌+◌, ◌<◌, ◌≤◌, List, ◌++◌, length, IfOk, IfErr, OnOk, OnErr};
+ghost use Rattle.std.specs.Prelude.{◌≡◌, ℕ, ◌+◌, ◌<◌, ◌≤◌, List, ◌++◌, length, IfOk, IfErr, OnOk};
+ghost use Rattle.std.specs.Prelude.{OnErr};
 ghost use Rattle.std.specs.List.{flat_map, AllByRecursion};
 ghost use Rattle.nm_script_lib.specs.MemStripe.{InRange, IsInside, FitOpening, HasShape, HasCall};
 ghost use Rattle.std.specs.Io.KnownBytes.{Appends};
 ghost use Rattle.nm_script_lib.specs.Streams.{AppendsPrefix, FlushesPrefix};
 ghost use Rattle.nm_script_lib.specs.Printing.{entry_line};
 ghost use Rattle.nm_script_lib.specs.RunErrors.{EndsRun};
-ghost use Rattle.nm_script_lib.specs.Runs.{RunsSteps, RunsPrefix, WholeRun, PartOfRun, JudgesHistory, Writes, history, loaded_line, opening_text};
+ghost use Rattle.nm_script_lib.specs.Runs.{RunsSteps, RunsPrefix, WholeRun, PartOfRun};
+ghost use Rattle.nm_script_lib.specs.Runs.{JudgesHistory, Writes, history, loaded_line};
+ghost use Rattle.nm_script_lib.specs.Runs.{opening_text};
 
 use crate::do_step::do_step;
 use crate::fused_call::FusedCall;

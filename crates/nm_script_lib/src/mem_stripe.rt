@@ -1,12 +1,16 @@
 //! The stripe that a script runs: legs in memory, each with a fuse, of zero bytes and all in sync,
 //! or loaded and compared.
-ghost use Rattle.std.specs.Prelude.{◌≡◌, ℕ, ◌<◌, ◌≤◌, ◌-◌, ◌^◌, true, length, replicate, Some, IfOk, IfErr, OnOk};
+ghost use Rattle.std.specs.Prelude.{◌≡◌, ℕ, ◌<◌, ◌≤◌, ◌-◌, ◌^◌, true, length, replicate, Some};
+ghost use Rattle.std.specs.Prelude.{IfOk, IfErr, OnOk};
 ghost use Rattle.std.specs.List.{AllByRecursion};
 ghost use Rattle.nm_fanout.specs.declared.block_data.Data.TheVariants.{Part};
 ghost use Rattle.nm_leg.specs.LegCalls.{HasBlock, WritesLegAt};
 ghost use Rattle.nm_leg.specs.TestLegs.{of_fuse};
 ghost use Rattle.nm_script_lib.specs.declared.step.Step.TheVariants.{Ask};
-ghost use Rattle.nm_script_lib.specs.MemStripe.{InRange, AreNewLegs, AreLoadedLegs, IsNew, IsOpened, FitsLoad, FitOpening, place_of, HasCall, HasShape, IsInside, IsAsked, filled_block, fuse_legs};
+ghost use Rattle.nm_script_lib.specs.MemStripe.{InRange, AreNewLegs, AreLoadedLegs, IsNew};
+ghost use Rattle.nm_script_lib.specs.MemStripe.{IsOpened, FitsLoad, FitOpening, place_of, HasCall};
+ghost use Rattle.nm_script_lib.specs.MemStripe.{HasShape, IsInside, IsAsked, filled_block};
+ghost use Rattle.nm_script_lib.specs.MemStripe.{fuse_legs};
 ghost use Rattle.nm_script_lib.specs.declared.run_error.RunError.TheVariants.{Memory};
 ghost use Rattle.nm_script_lib.specs.Runs.{Answers};
 

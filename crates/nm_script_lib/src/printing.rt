@@ -1,9 +1,12 @@
 //! The lines that a run prints.
-ghost use Rattle.std.specs.Prelude.{◌≡◌, ℕ, ◌+◌, ◌<◌, List, [], ◌∷◌, ◌++◌, false, codes, decimal, OnOk};
+ghost use Rattle.std.specs.Prelude.{◌≡◌, ℕ, ◌+◌, ◌<◌, List, [], ◌∷◌, ◌++◌, false, codes, decimal};
+ghost use Rattle.std.specs.Prelude.{OnOk};
 ghost use Rattle.std.specs.Fmt.{digit_glyph};
 ghost use Rattle.nm_script_lib.specs.Forms.{hex_byte};
 ghost use Rattle.nm_rules.specs.Refusal.{text_of};
-ghost use Rattle.nm_script_lib.specs.Printing.{fill_text, ended_line, answer_text, holds_text, kind_text, span_text, place_text, entry_line, counts_line, legal_line};
+ghost use Rattle.nm_script_lib.specs.Printing.{fill_text, ended_line, answer_text, holds_text};
+ghost use Rattle.nm_script_lib.specs.Printing.{kind_text, span_text, place_text, entry_line};
+ghost use Rattle.nm_script_lib.specs.Printing.{counts_line, legal_line};
 
 use crate::fill::{Fill, fill_of};
 use nm_leg::FuseLeg;

@@ -1,5 +1,6 @@
 //! The whole program: a script in, its lines out.
-ghost use Rattle.std.specs.Prelude.{◌≡◌, ℕ, List, ◌++◌, length, None, Some, IfOk, IfErr, OnOk, OnErr, MatchResult, codes, decimal};
+ghost use Rattle.std.specs.Prelude.{◌≡◌, ℕ, List, ◌++◌, length, None, Some, IfOk, IfErr, OnOk};
+ghost use Rattle.std.specs.Prelude.{OnErr, MatchResult, codes, decimal};
 ghost use Rattle.std.specs.Io.KnownBytes.{Appends, Keeps};
 ghost use Rattle.std.specs.List.{AllByRecursion};
 ghost use Rattle.nm_script_lib.specs.Streams.{AppendsPrefix, ReadsAll, change};

@@ -1,11 +1,14 @@
 //! Reads a script: its mirror line, how its stripe opens, and the steps.
-ghost use Rattle.std.specs.Prelude.{◌≡◌, ℕ, ◌+◌, ◌<◌, ◌≤◌, ◌^◌, not, List, length, Option, Some, None, IfSome, Result, IfOk, MatchResult, IsErrOf};
+ghost use Rattle.std.specs.Prelude.{◌≡◌, ℕ, ◌+◌, ◌<◌, ◌≤◌, ◌^◌, not, List, length, Option, Some};
+ghost use Rattle.std.specs.Prelude.{None, IfSome, Result, IfOk, MatchResult, IsErrOf};
 ghost use Rattle.std.specs.Option.{option_copied, option_map};
 ghost use Rattle.std.specs.List.{list_any, AllByRecursion};
 ghost use Rattle.std.specs.Str.{is_utf8};
 ghost use Rattle.nm_script_lib.specs.Grammar.{has_content, IsScript};
 ghost use Rattle.nm_script_lib.specs.Reading.{pieces, pieces_of_rest, rest_size};
-ghost use Rattle.nm_script_lib.specs.ScriptReading.{first_where, content_from, is_start, is_between, opening_of, steps_of, names_mirror, script_of, Reads, SaysAll};
+ghost use Rattle.nm_script_lib.specs.ScriptReading.{first_where, content_from, is_start};
+ghost use Rattle.nm_script_lib.specs.ScriptReading.{is_between, opening_of, steps_of, names_mirror};
+ghost use Rattle.nm_script_lib.specs.ScriptReading.{script_of, Reads, SaysAll};
 ghost use Rattle.nm_script_lib.specs.declared.parse_error.ParseError.TheVariants.{Memory, BadStep};
 ghost use Rattle.nm_script_lib.specs.declared.load.Load.{Load};
 ghost use Rattle.nm_script_lib.specs.declared.mirror_line.MirrorLine.{MirrorLine};
@@ -45,7 +48,8 @@ fn has_content(line: &[u8]) -> bool
 
 /// Whether some line is a start.
 fn any_starts(mirror: &MirrorLine, text: Option<&[u8]>) -> bool
-    ensures { result ≡ list_any (is_start mirror.now) (pieces_of_rest 10 (option_copied text.entry)) }
+    ensures { result
+        ≡ list_any (is_start mirror.now) (pieces_of_rest 10 (option_copied text.entry)) }
 {
     let mut rest = text;
     while let Some(text) = rest {
@@ -60,7 +64,8 @@ fn any_starts(mirror: &MirrorLine, text: Option<&[u8]>) -> bool
 
 /// Whether a line after these loads and before this text stands between a load and a start.
 fn is_between(mirror: &MirrorLine, loads: &[Load], text: Option<&[u8]>) -> bool
-    ensures { result ≡ is_between mirror.now loads.now (pieces_of_rest 10 (option_copied text.entry)) }
+    ensures { result
+        ≡ is_between mirror.now loads.now (pieces_of_rest 10 (option_copied text.entry)) }
 {
     match loads {
         [] => false,
@@ -269,8 +274,8 @@ fn script_of(alloc: Global, text: &[u8]) -> Result<Script, ParseError>
 
 /// Reads a script: a mirror line, then how the stripe opens, then a step a line.
 ///
-/// Loads that no start follows are no steps: the first of them is named. A step between a load and a
-/// start is named itself, as is a line after the loads that is no load, no start and no step.
+/// Loads that no start follows are no steps: the first of them is named. A step between a load and
+/// a start is named itself, as is a line after the loads that is no load, no start and no step.
 ///
 /// Empty lines and those that begin with `#` are skipped. An error's line counts all lines, from 1.
 pub fn parse(alloc: Global, text: &[u8]) -> Result<Script, ParseError>

@@ -1,8 +1,12 @@
 //! Reads the words of a line, one after the other.
-ghost use Rattle.std.specs.Prelude.{◌≡◌, ℕ, ◌+◌, ◌*◌, ◌-◌, ◌<◌, ◌≤◌, ◌^◌, ◌&&◌, ◌==◌, nat_lt, nat_le, Bool, List, [], ◌∷◌, Option, length, position, MatchBool, ◌≢◌, IfSome};
+ghost use Rattle.std.specs.Prelude.{◌≡◌, ℕ, ◌+◌, ◌*◌, ◌-◌, ◌<◌, ◌≤◌, ◌^◌, ◌&&◌, ◌==◌, nat_lt};
+ghost use Rattle.std.specs.Prelude.{nat_le, Bool, List, [], ◌∷◌, Option, length, position};
+ghost use Rattle.std.specs.Prelude.{MatchBool, ◌≢◌, IfSome};
 ghost use Rattle.std.specs.Option.{option_copied};
 ghost use Rattle.nm_script_lib.specs.Forms.{Number, Below, Within, Byte};
-ghost use Rattle.nm_script_lib.specs.Reading.{pieces, pieces_of_rest, rest_size, number_of, byte_of, hex_digit_of, word_at, value_at, policy_at, is_word, Gives, rest_words};
+ghost use Rattle.nm_script_lib.specs.Reading.{pieces, pieces_of_rest, rest_size, number_of};
+ghost use Rattle.nm_script_lib.specs.Reading.{byte_of, hex_digit_of, word_at, value_at, policy_at};
+ghost use Rattle.nm_script_lib.specs.Reading.{is_word, Gives, rest_words};
 
 use nm_choice::Policy;
 use std::str::from_utf8;

@@ -162,8 +162,8 @@ const COMPARED: Row = (
       history 0 of 0\nlegal yes\n",
 );
 
-/// The last leg is the master of a comparison. A write before the copy owes it alone where the other
-/// is behind, and both where it is not.
+/// The last leg is the master of a comparison. A write before the copy owes it alone where the
+/// other is behind, and both where it is not.
 const COMPARED_WRITE: Row = (
     2,
     12,

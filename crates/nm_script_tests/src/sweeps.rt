@@ -154,8 +154,8 @@ fn is_well_kept(script: &Ended, printed: &str) -> bool {
     state.contains(" settling no legs ")
 }
 
-/// Runs the script with this call of the leg failing, and tells whether the leg had that many calls.
-/// Either way the run ends well; `unfused` is what the script prints where none fails.
+/// Runs the script with this call of the leg failing, and tells whether the leg had that many
+/// calls. Either way the run ends well; `unfused` is what the script prints where none fails.
 fn ends_well(
     rt: &impl Abort,
     alloc: Global,

@@ -63,8 +63,8 @@ fn is_even<L: LegPart, G: Gate + Drop>(mirror: &Mirror<L, G>, pass: &Pass<L>) ->
     pass.stripes() == mirror.shape().stripes as usize
 }
 
-/// Reads the bytes from `offset` on into all of `into`, through the pass, unless it is of another shape.
-/// A fault of the mirror is an I/O fault.
+/// Reads the bytes from `offset` on into all of `into`, through the pass, unless it is of another
+/// shape. A fault of the mirror is an I/O fault.
 pub fn read_through<R: Threads + Wait + Sync, L: LegPart + Send, G: Gate + Drop + Sync>(
     rt: &R,
     mirror: &Mirror<L, G>,
@@ -85,8 +85,8 @@ pub fn read_through<R: Threads + Wait + Sync, L: LegPart + Send, G: Gate + Drop 
     }
 }
 
-/// Writes the payload to the bytes from `offset` on, through the pass, unless it is of another shape.
-/// Refused memory is told as such, a fault of the mirror as an I/O fault.
+/// Writes the payload to the bytes from `offset` on, through the pass, unless it is of another
+/// shape. Refused memory is told as such, a fault of the mirror as an I/O fault.
 pub fn write_through<R: Threads + Wait + Sync, L: LegPart + Send, G: Gate + Drop + Sync>(
     rt: &R,
     alloc: Global,
@@ -109,8 +109,8 @@ pub fn write_through<R: Threads + Wait + Sync, L: LegPart + Send, G: Gate + Drop
     }
 }
 
-/// Writes zeroes to so many bytes from `offset` on, through the pass, unless it is of another shape. A
-/// fault of the mirror is an I/O fault.
+/// Writes zeroes to so many bytes from `offset` on, through the pass, unless it is of another
+/// shape. A fault of the mirror is an I/O fault.
 pub fn zero_through<R: Threads + Wait + Sync, L: LegPart + Send, G: Gate + Drop + Sync>(
     rt: &R,
     mirror: &Mirror<L, G>,
@@ -131,8 +131,8 @@ pub fn zero_through<R: Threads + Wait + Sync, L: LegPart + Send, G: Gate + Drop 
     }
 }
 
-/// Syncs every stripe, through the pass, unless it is of another shape. A fault of the mirror is an I/O
-/// fault.
+/// Syncs every stripe, through the pass, unless it is of another shape. A fault of the mirror is an
+/// I/O fault.
 pub fn flush_through<R: Threads + Wait + Sync, L: LegPart + Send, G: Gate + Drop + Sync>(
     rt: &R,
     mirror: &Mirror<L, G>,
@@ -150,8 +150,8 @@ pub fn flush_through<R: Threads + Wait + Sync, L: LegPart + Send, G: Gate + Drop
     }
 }
 
-/// Syncs the stripes of so many bytes from `offset` on, through the pass, unless it is of another shape.
-/// A fault of the mirror is an I/O fault.
+/// Syncs the stripes of so many bytes from `offset` on, through the pass, unless it is of another
+/// shape. A fault of the mirror is an I/O fault.
 pub fn sync_through<R: Threads + Wait + Sync, L: LegPart + Send, G: Gate + Drop + Sync>(
     rt: &R,
     mirror: &Mirror<L, G>,

@@ -1,7 +1,7 @@
 //! The server `nbdmirror`: its control port, its sessions, and the program itself.
 //!
-//! `start` reads the command line, opens the legs, listens, and serves until a `quit`: that it is safe
-//! is proved.
+//! `start` reads the command line, opens the legs, listens, and serves until a `quit`: that it is
+//! safe is proved.
 #![tactic(auto)]
 
 mod answering;

@@ -83,8 +83,8 @@ fn open_mirror<'a, R: Files<File = File>>(
     }
 }
 
-// Opens the mirror, while a thread tells how far the comparison of its legs is. Where no thread can be
-// had nothing is told.
+// Opens the mirror, while a thread tells how far the comparison of its legs is. Where no thread can
+// be had nothing is told.
 fn open_watched<'a, R>(
     rt: &R,
     alloc: Global,

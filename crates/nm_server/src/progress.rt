@@ -23,7 +23,8 @@ pub struct Comparison<'a> {
     pub read: &'a AtomicU64,
 }
 
-// Tells in a line how much was read in so many seconds, and how long the rest will take at that rate.
+// Tells in a line how much was read in so many seconds, and how long the rest will take at that
+// rate.
 fn tell<R: Log>(rt: &R, comparison: &Comparison<'_>, seconds: u64) {
     let read = comparison.read.load(Ordering::SeqCst);
     let rate = read / seconds.max(1);
@@ -31,7 +32,10 @@ fn tell<R: Log>(rt: &R, comparison: &Comparison<'_>, seconds: u64) {
     let legs = comparison.legs;
     let (done, all) = (read / BLOCK_BYTES, comparison.bytes / BLOCK_BYTES);
     let mebibytes = rate >> 20;
-    info!(rt; "comparing {legs} legs: {done} of {all} blocks read, {mebibytes} MiB/s, {left} s left");
+    info!(
+        rt;
+        "comparing {legs} legs: {done} of {all} blocks read, {mebibytes} MiB/s, {left} s left"
+    );
 }
 
 /// Tells each second how far the comparison is, until it has ended: then the sender is gone.

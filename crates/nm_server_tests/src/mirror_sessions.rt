@@ -1,5 +1,5 @@
-//! Sessions over a mirror in memory: the same bytes over 1, 2 and 16 stripes, and clients that leave
-//! while WRITEs are outstanding.
+//! Sessions over a mirror in memory: the same bytes over 1, 2 and 16 stripes, and clients that
+//! leave while WRITEs are outstanding.
 
 ghost use Rattle.std.specs.Prelude.{◌*◌, ◌≤◌, All, IsTrue};
 

@@ -1,4 +1,5 @@
-//! The whole server in one process: two sessions over two files, many requests at once, and its end.
+//! The whole server in one process: two sessions over two files, many requests at once, and its
+//! end.
 
 use nm_server::start;
 use std::alloc::Global;

@@ -6,8 +6,8 @@ use nm_session::{MemTarget, Target, TargetFault};
 use nm_wire::Memory;
 use std::alloc::Global;
 
-/// A target in memory that takes memory for a copy of each payload before it writes it. From the write of a chosen
-/// number on it is out of memory.
+/// A target in memory that takes memory for a copy of each payload before it writes it. From the
+/// write of a chosen number on it is out of memory.
 #[derive(Drop)]
 pub struct CopyingTarget {
     target: MemTarget,

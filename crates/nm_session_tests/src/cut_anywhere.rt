@@ -1,5 +1,5 @@
-//! Handshakes, and a WRITE of which a part is missing, cut anywhere: in two at each byte, and byte by
-//! byte. The expected bytes were written by hand.
+//! Handshakes, and a WRITE of which a part is missing, cut anywhere: in two at each byte, and byte
+//! by byte. The expected bytes were written by hand.
 
 use crate::serving::{
     Cuts, DESCRIBED, EXPORT_NAME_DISC, EXPORT_NAME_DISK, FLAGS, GO, GO_ASKING, GO_TOO_SHORT,

@@ -478,8 +478,9 @@ fn a_write_that_fails_breaks_the_session_off(rt: HostRuntime) -> Result<(), Fail
     Ok(())
 }
 
-// Sixteen READs of 128 KiB in one piece: eight replies gather to 1 MiB and go out in one write, before
-// the ninth is read. The next write takes nothing, so that what went out before it is all there is.
+// Sixteen READs of 128 KiB in one piece: eight replies gather to 1 MiB and go out in one write,
+// before the ninth is read. The next write takes nothing, so that what went out before it is all
+// there is.
 #[test]
 fn replies_go_out_once_1_mib_has_gathered(rt: HostRuntime) -> Result<(), Fail> {
     let alloc = rt.alloc();

@@ -1,5 +1,6 @@
 //! Why each step is refused: the first condition that holds.
-ghost use Rattle.std.specs.Prelude.{◌≡◌, ◌+◌, ◌<◌, ◌≤◌, ◌^◌, length, max, IfOk, OnOk, IfErr, Some, None};
+ghost use Rattle.std.specs.Prelude.{◌≡◌, ◌+◌, ◌<◌, ◌≤◌, ◌^◌, length, max, IfOk, OnOk, IfErr, Some};
+ghost use Rattle.std.specs.Prelude.{None};
 ghost use Rattle.std.specs.Option.{option_map};
 ghost use Rattle.nm_fanout.specs.Records.{IsAt, busy_on, unlanded};
 ghost use Rattle.nm_regions.specs.declared.copy_place.CopyPlace.{CopyPlace};

@@ -1,5 +1,6 @@
 //! Opens a store by comparing each leg with the master, block by block.
-ghost use Rattle.std.specs.Prelude.{◌≡◌, ◌<◌, if◌then◌else◌, length, slice_set, true, None, IsTrue, IfOk, IfErr, OnOk, OnErr};
+ghost use Rattle.std.specs.Prelude.{◌≡◌, ◌<◌, if◌then◌else◌, length, slice_set, true, None, IsTrue};
+ghost use Rattle.std.specs.Prelude.{IfOk, IfErr, OnOk, OnErr};
 ghost use Rattle.nm_choice.specs.declared.leg_state.LegState.TheVariants.{InSync};
 ghost use Rattle.nm_leg.specs.Leg.{leg_type};
 ghost use Rattle.nm_leg.specs.LegCalls.{EachHas};
@@ -7,7 +8,9 @@ ghost use Rattle.nm_regions.specs.Changes.{all_set_aside, attached};
 ghost use Rattle.nm_regions.specs.Sound.{AreSizes};
 ghost use Rattle.nm_regions.specs.Table.{is_out};
 ghost use Rattle.nm_resync.specs.Chunk.{IsChunkSize};
-ghost use Rattle.nm_rules.specs.Comparing.{comparing, marked_at, dropped, compared, ComparesLeg, ComparesBlock, ComparesBlocks, FailsOnMaster, OpensCompared, FailsToOpen};
+ghost use Rattle.nm_rules.specs.Comparing.{comparing, marked_at, dropped, compared, ComparesLeg};
+ghost use Rattle.nm_rules.specs.Comparing.{ComparesBlock, ComparesBlocks, FailsOnMaster};
+ghost use Rattle.nm_rules.specs.Comparing.{OpensCompared, FailsToOpen};
 ghost use Rattle.nm_rules.specs.State.{is_joining, leg_state, table};
 ghost use Rattle.nm_store.specs.Comparing.{IsComparing, FailsAt};
 

@@ -1,5 +1,6 @@
 //! The copy to a leg that joins.
-ghost use Rattle.std.specs.Prelude.{◌≡◌, ◌⊎◌, ◌<◌, ◌≤◌, [], length, nat_lt, is_ok, true, false, None, Some, IsFalse, OnOk, IfErr};
+ghost use Rattle.std.specs.Prelude.{◌≡◌, ◌⊎◌, ◌<◌, ◌≤◌, [], length, nat_lt, is_ok, true, false};
+ghost use Rattle.std.specs.Prelude.{None, Some, IsFalse, OnOk, IfErr};
 ghost use Rattle.std.specs.Option.{option_map};
 ghost use Rattle.nm_leg.specs.Leg.{leg_type};
 ghost use Rattle.nm_leg.specs.LegCalls.{HasBlock, ReadsLegAt};
@@ -8,7 +9,8 @@ ghost use Rattle.nm_resync.specs.Chunk.{Chunk};
 ghost use Rattle.nm_resync.specs.Moves.{Reads, next_move, after_read};
 ghost use Rattle.nm_rules.specs.declared.refusal.Refusal.TheVariants.{Busy};
 ghost use Rattle.nm_rules.specs.Copy.{CopiesRead, CopiesWrite, GoesOn};
-ghost use Rattle.nm_rules.specs.Copy.{copy_cause, copy_more_cause, copy_of, chunk_of, chunk_or, chunk_copied, new_chunk, busy_new_chunk};
+ghost use Rattle.nm_rules.specs.Copy.{copy_cause, copy_more_cause, copy_of, chunk_of, chunk_or};
+ghost use Rattle.nm_rules.specs.Copy.{chunk_copied, new_chunk, busy_new_chunk};
 ghost use Rattle.nm_rules.specs.Invariant.{Keeps};
 ghost use Rattle.nm_rules.specs.State.{table};
 ghost use Rattle.nm_store.specs.Copying.{FailsToCopy};

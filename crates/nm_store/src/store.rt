@@ -1,4 +1,5 @@
-ghost use Rattle.std.specs.Prelude.{◌≡◌, ◌+◌, ◌-◌, ◌<◌, ◌≤◌, ◌^◌, [], length, max, slice_get, IsOk, IfOk, Some};
+ghost use Rattle.std.specs.Prelude.{◌≡◌, ◌+◌, ◌-◌, ◌<◌, ◌≤◌, ◌^◌, [], length, max, slice_get, IsOk};
+ghost use Rattle.std.specs.Prelude.{IfOk, Some};
 ghost use Rattle.nm_fanout.specs.Records.{next_owed, first_owed, unlanded};
 ghost use Rattle.nm_rules.specs.State.{next_number, is_exhausted, leg_state, is_last, left};
 

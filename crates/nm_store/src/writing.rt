@@ -1,5 +1,6 @@
 //! The changes of a write: it begins, reaches a leg, takes effect and is claimed.
-ghost use Rattle.std.specs.Prelude.{◌≡◌, ℕ, ◌+◌, ◌<◌, ◌≤◌, ◌^◌, [], ◌∷◌, length, max, slice_get, is_ok, false, true, IsSome, Some};
+ghost use Rattle.std.specs.Prelude.{◌≡◌, ℕ, ◌+◌, ◌<◌, ◌≤◌, ◌^◌, [], ◌∷◌, length, max, slice_get};
+ghost use Rattle.std.specs.Prelude.{is_ok, false, true, IsSome, Some};
 ghost use Rattle.nm_fanout.specs.Data.{FitsBlock};
 ghost use Rattle.nm_fanout.specs.Laying.{data_over};
 ghost use Rattle.nm_fanout.specs.RecordData.{FillsBlock, bytes_of, span_of};

@@ -5,7 +5,8 @@ ghost use Rattle.nm_leg.specs.LegCalls.{EachHas};
 ghost use Rattle.nm_regions.specs.Sound.{AreSizes};
 ghost use Rattle.nm_resync.specs.Chunk.{IsChunkSize};
 ghost use Rattle.nm_rules.specs.Array.{contents_of, stripe_array};
-ghost use Rattle.nm_rules.specs.Comparing.{comparing, BehindWhereDiffers, OpensCompared, FailsToOpen};
+ghost use Rattle.nm_rules.specs.Comparing.{comparing, BehindWhereDiffers, OpensCompared};
+ghost use Rattle.nm_rules.specs.Comparing.{FailsToOpen};
 
 use crate::stripe::Stripe;
 use nm_choice::Policy;

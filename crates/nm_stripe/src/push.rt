@@ -1,6 +1,7 @@
 //! Pushes a write to a leg.
 ghost use Rattle.nm_leg.specs.Leg.{leg_type};
-ghost use Rattle.std.specs.Prelude.{◌≡◌, ℕ, ◌<◌, true, false, length, slice_get, is_some, IsTrue, IfOk, IfErr, OnErr, Some};
+ghost use Rattle.std.specs.Prelude.{◌≡◌, ℕ, ◌<◌, true, false, length, slice_get, is_some, IsTrue};
+ghost use Rattle.std.specs.Prelude.{IfOk, IfErr, OnErr, Some};
 ghost use Rattle.nm_fanout.specs.declared.write_record.Record.{Record};
 ghost use Rattle.nm_fanout.specs.Record.{is_under_way};
 ghost use Rattle.nm_fanout.specs.Records.{IsAt};

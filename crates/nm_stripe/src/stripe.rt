@@ -1,5 +1,6 @@
 ghost use Rattle.nm_leg.specs.Leg.{leg_type};
-ghost use Rattle.std.specs.Prelude.{◌≡◌, ℕ, ◌<◌, ◌≤◌, [], length, slice_get, IsTrue, IsOk, IfOk, IfErr, Some};
+ghost use Rattle.std.specs.Prelude.{◌≡◌, ℕ, ◌<◌, ◌≤◌, [], length, slice_get, IsTrue, IsOk, IfOk};
+ghost use Rattle.std.specs.Prelude.{IfErr, Some};
 ghost use Rattle.nm_choice.specs.declared.leg_state.LegState.TheVariants.{Joining};
 ghost use Rattle.nm_fanout.specs.Records.{next_owed, first_owed};
 ghost use Rattle.nm_leg.specs.LegCalls.{EachHas};

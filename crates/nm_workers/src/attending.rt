@@ -62,8 +62,8 @@ where
 
 // Hands out the requests that are there, sends the replies that wait in one write and, unless the
 // session is over, waits for what the threads tell. Where no request is left it gives the leave to
-// read, and does so before the last one is given to a worker: the thread that reads mostly looks for
-// it still then, and to give a job takes longer where a worker has to be woken for it.
+// read, and does so before the last one is given to a worker: the thread that reads mostly looks
+// for it still then, and to give a job takes longer where a worker has to be woken for it.
 fn attend_once<'s, S, E, R, O, T>(
     rt: &'s R,
     alloc: Global,

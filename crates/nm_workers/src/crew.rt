@@ -83,8 +83,8 @@ fn spare_workers<E: Extent, T: Target + Drop>(
     Ok(spare)
 }
 
-// The workers of a session, of whom some have a thread, and the job that was got last. They end once
-// it is gone and all jobs that they were handed are done.
+// The workers of a session, of whom some have a thread, and the job that was got last. They end
+// once it is gone and all jobs that they were handed are done.
 #[derive(Drop)]
 pub struct Crew<'a, 's, S, E: Extent, T: Target> {
     scope: &'a Scope<'s, S>,

@@ -9,8 +9,8 @@ use std::alloc::Global;
 use std::io::{Read, Write};
 use std::sync::Wait;
 
-/// Haggles over the export, from the greeting until transmission begins, where it answers `None`, or
-/// the session ends, and sends all that is to go out.
+/// Haggles over the export, from the greeting until transmission begins, where it answers `None`,
+/// or the session ends, and sends all that is to go out.
 pub fn greet<R: Wait, I: Read, O: Write>(
     rt: &R,
     alloc: Global,

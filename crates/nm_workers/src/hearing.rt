@@ -54,8 +54,8 @@ pub(crate) fn listen<R: Wait, C>(
     Ok(input)
 }
 
-// Feeds the piece to the core, and lets the room for the next one follow it, or answers a request with
-// what came of its task. Gives what is known then of the client's bytes.
+// Feeds the piece to the core, and lets the room for the next one follow it, or answers a request
+// with what came of its task. Gives what is known then of the client's bytes.
 fn hear(
     alloc: Global,
     core: &mut SessionCore,

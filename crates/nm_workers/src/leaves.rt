@@ -1,5 +1,5 @@
-//! The channel by which the owner of a session's core gives the reading thread leaves to read. It takes
-//! no lock, and wakes the reading thread only where that one sleeps.
+//! The channel by which the owner of a session's core gives the reading thread leaves to read. It
+//! takes no lock, and wakes the reading thread only where that one sleeps.
 ghost use Rattle.crossbeam_channel.specs.Claims.{IsSeatAt};
 ghost use Rattle.crossbeam_channel.specs.Ends.{sends_on, receives_on};
 

@@ -1,5 +1,5 @@
-//! One client's session over several targets at once: a thread for each target that is needed, one that
-//! reads, and the caller's, which owns the session's core and its writer.
+//! One client's session over several targets at once: a thread for each target that is needed, one
+//! that reads, and the caller's, which owns the session's core and its writer.
 //!
 //! What goes out is what happened in the session, whatever the threads do. Replies go out in the
 //! order in which the requests are done.

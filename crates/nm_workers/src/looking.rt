@@ -13,8 +13,8 @@ use std::sync::Wait;
 // do a small request and tell of it.
 const LOOKS: u32 = 1000;
 
-// How the owner waits: where at most one request is under way it looks for a while, since its client
-// waits for it, and sleeps then.
+// How the owner waits: where at most one request is under way it looks for a while, since its
+// client waits for it, and sleeps then.
 #[derive(Drop)]
 pub struct Looking<'a> {
     lookout: &'a Lookout,

@@ -1,7 +1,7 @@
 use std::sync::atomic::{AtomicBool, Ordering};
 
-/// The right to look for a message for a while before sleeping, which one session of a server has at
-/// a time.
+/// The right to look for a message for a while before sleeping, which one session of a server has
+/// at a time.
 ///
 /// A thread that sleeps takes long to wake, so a client that waits for each reply is served sooner
 /// where its session looks. Several sessions that look take the processors from those that work.

@@ -3,7 +3,8 @@ ghost use Rattle.std.specs.Prelude.{◌≡◌, ◌-◌, ◌↔◌, IsTrue};
 // After how many waits that looking did not shorten the pauses grow no more.
 const MOST: u8 = 4;
 
-// When a thread looks for what it waits for before it sleeps: more seldom where looking was in vain.
+// When a thread looks for what it waits for before it sleeps: more seldom where looking was in
+// vain.
 #[derive(Clone, Copy, Drop)]
 pub struct Patience {
     // How many times in a row looking was in vain, up to the most that count.

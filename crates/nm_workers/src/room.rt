@@ -10,8 +10,9 @@ const MOST: usize = 128 * 1024;
 // How many at least.
 const LEAST: usize = 4 * 1024;
 
-// The room for the next piece. It is filled up with zeroes, 128 KiB of which take longer than a small
-// request; so it follows what the client sends, and is that of the last piece while it has the size.
+// The room for the next piece. It is filled up with zeroes, 128 KiB of which take longer than a
+// small request; so it follows what the client sends, and is that of the last piece while it has
+// the size.
 #[derive(Drop)]
 pub struct Room {
     bytes: usize,
@@ -50,8 +51,8 @@ impl Room {
     }
 }
 
-// How large the room is after a piece of so many bytes: twice as large where they filled it, half as
-// large where they took less than a quarter.
+// How large the room is after a piece of so many bytes: twice as large where they filled it, half
+// as large where they took less than a quarter.
 fn size_after(now: usize, count: usize) -> usize
     requires { 0 < now }
     ensures { 0 < result }

@@ -27,8 +27,8 @@ const LIMIT: usize = 16;
 /// targets, 1 to 16 of them with at least the export's bytes, is called by a thread of its own.
 ///
 /// Requests are replied to in the order in which they are done. No thread is started before the
-/// haggling has ended, a target's once a request needs it, and none is left when it returns. It waits for its reader, its writer and
-/// the calls of its targets as long as they wait.
+/// haggling has ended, a target's once a request needs it, and none is left when it returns. It
+/// waits for its reader, its writer and the calls of its targets as long as they wait.
 pub fn serve_many<R, I, O, T>(
     rt: &R,
     alloc: Global,

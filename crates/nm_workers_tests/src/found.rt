@@ -160,7 +160,8 @@ pub(crate) fn writes(alloc: Global, count: u8, after: &[u8]) -> Result<Vec<u8>, 
     Ok(stream)
 }
 
-// Whether so many requests, cookies from 0 on, were each replied to once, and nothing else went out.
+// Whether so many requests, cookies from 0 on, were each replied to once, and nothing else went
+// out.
 pub(crate) fn are_replied(alloc: Global, out: &[u8], count: u8) -> Result<bool, AllocError> {
     let begins = out.starts_with(concat(alloc, &[&GREETING, &DESCRIBED])?.as_slice());
     let replies = out.get(104..).unwrap_or(&[]);

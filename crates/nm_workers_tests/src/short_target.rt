@@ -1,4 +1,5 @@
-//! A target without memory for a WRITE beside one that has it. The expected bytes were written by hand.
+//! A target without memory for a WRITE beside one that has it. The expected bytes were written by
+//! hand.
 
 use crate::found::{Found, front};
 use crate::paced_reader::Gate;
@@ -16,8 +17,8 @@ use std::test::Fail;
 use std::thread::Threads;
 use std::time::Clock;
 
-// Two WRITEs at once, of blocks 1 and 2, and once both were replied to a READ of the two blocks, and a
-// DISC.
+// Two WRITEs at once, of blocks 1 and 2, and once both were replied to a READ of the two blocks,
+// and a DISC.
 fn two_writes(alloc: Global) -> Result<Talk, AllocError> {
     let mut talk = Talk::new(alloc)?;
     put_request(&mut talk.stream, WRITE, 0x51, 512, 512)?;
@@ -45,8 +46,8 @@ fn replies(alloc: Global, writes: [(u8, u8); 2], found: &[u8]) -> Result<Vec<u8>
     Ok(out)
 }
 
-// Serves them over two targets, the first of which has no memory for a WRITE. Each WRITE is held until
-// both have begun, so that each target gets one.
+// Serves them over two targets, the first of which has no memory for a WRITE. Each WRITE is held
+// until both have begun, so that each target gets one.
 fn run_short<R: Threads + Wait + Clock + Sync>(rt: &R, alloc: Global) -> Result<Found, Memory> {
     let shared = SharedBytes::new(alloc, SIZE)?;
     let hold = Hold {
