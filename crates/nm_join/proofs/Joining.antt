@@ -14,14 +14,14 @@ use Rattle.nm_rules.specs.Array.{point_of}
 use Rattle.nm_rules.specs.State.{StripeState}
 use Rattle.nm_stripe.specs.Run.{ActOnOneArray, concat}
 use Rattle.nm_join.specs.Events.{MirrorEvent, MirrorEntry, events_of, EventsOfStripes, behind_entry_of, mirror_entries, entries_in, all_events}
-use Rattle.nm_join.specs.Joint.{in_export, IsStripeJoint}
+use Rattle.nm_join.specs.Interleavings.{in_export, IsExplainedInterleaving}
 use Rattle.nm_join.specs.Laws.{Joins, MirrorActOnOneArray}
 use Rattle.nm_join.specs.Moved.{moved_all, moved_entry, moved_write, moved_read}
 use Rattle.nm_join.specs.Steps.{MirrorStep, steps_of, answers_of, AreOf}
 use Rattle.nm_join.specs.Whole.{IsWhole}
 use Rattle.nm_join.proofs.Moving.{entries-moved, length-moved, write-lives, read-lives}
-use Rattle.nm_join.proofs.Weaving.{woven, Interleave, weaves, events-of-own, pieces-of-own, woven-of-stripes}
-use Rattle.nm_join.proofs.Wholes.{EntriesOfStripes, left_by, legal-whole, follow}
+use Rattle.nm_join.proofs.Weaving.{woven, Interleave, weaves, events-of-own, lists-of-own, woven-of-stripes}
+use Rattle.nm_join.proofs.Wholes.{EntriesOfStripes, after_entries, legal-whole, follow}
 
 -- the entries of a stripe are those of its events
 own-entry : (s t : ℕ) (e : Event) (later : List MirrorEntry) (es : List Event) → (t == s) ≡ true → entries_in s later ≡ entries_of es → entries_in s (behind_entry_of t e later) ≡ entries_of (e ∷ es)
@@ -58,12 +58,12 @@ entries-of-stripes : (n : ℕ) (events : List MirrorEvent) → EventsOfStripes n
 entries-of-stripes n [] h = tt
 entries-of-stripes n (e ∷ events) h = behind-of n e.stripe e.event (mirror_entries events) h.0 (entries-of-stripes n events h.1)
 
-pub joined : {L : Type 0} (shape : Geometry) (list : List (MirrorStep L)) (from to : ℕ → Point) (whole : Array) (own : ℕ → List (List Event)) → IsGeometry shape → AreOf shape.stripes list → IsWhole shape (λ stripe. (from stripe).array) whole → ((stripe : ℕ) → stripe < shape.stripes → IsStripeJoint (steps_of stripe list) (answers_of stripe list) (from stripe) (to stripe) (own stripe)) → Joins shape list from to whole own
+pub joined : {L : Type 0} (shape : Geometry) (list : List (MirrorStep L)) (from to : ℕ → Point) (whole : Array) (own : ℕ → List (List Event)) → IsGeometry shape → AreOf shape.stripes list → IsWhole shape (λ stripe. (from stripe).array) whole → ((stripe : ℕ) → stripe < shape.stripes → IsExplainedInterleaving (steps_of stripe list) (answers_of stripe list) (from stripe) (to stripe) (own stripe)) → Joins shape list from to whole own
 joined shape list from to whole own is are w each =
     let n = shape.stripes in
     let inter : Interleave n list own = λ s lt. (each s lt).interleaving in
-    let pieces = woven shape own list in
-    let events = all_events pieces in
+    let lists = woven shape own list in
+    let events = all_events lists in
     let es = mirror_entries events in
     let of-stripes = woven-of-stripes shape n list own are in
     let mine : (s : ℕ) → s < n → events_of s events ≡ moved_all (in_export shape s) (concat (own s)) = λ s lt. events-of-own shape n list own are inter s lt in
@@ -71,12 +71,12 @@ joined shape list from to whole own is are w each =
     λ s lt. entries-in s events ∙ ap entries_of (mine s lt) ∙ entries-moved (in_export shape s) (concat (own s)) in
     let follows = follow shape (λ s. (from s).next) (λ s. entries_of (concat (own s))) (λ s. (from s).array) (λ s. (to s).array) es entries (λ s lt. (each s lt).explained.legal) in
     let legally = legal-whole shape es (λ s. (from s).next) (λ s. entries_of (concat (own s))) (λ s. (from s).array) (λ s. (to s).array) whole is (entries-of-stripes n events of-stripes) w follows in
-    let left = left_by es whole in
+    let after = after_entries es whole in
     record {
-      left = left;
-      left_is = legally.left;
-      pieces = pieces;
-      joint = record {
+      after = after;
+      after_is = legally.after_is;
+      events_of_each = lists;
+      explained = record {
         interleaving = weaves shape n list own are inter;
         explained = record {
           of_stripes = of-stripes;
@@ -91,7 +91,7 @@ joined shape list from to whole own is are w each =
           each_read = λ s m lt. subst (λ (xs : List Event). ReadLives m (moved_read (in_export shape s) ((from s).reads m)) xs (moved_read (in_export shape s) ((to s).reads m))) (sym (mine s lt))
               (read-lives (in_export shape s) m ((from s).reads m) ((to s).reads m) (concat (own s)) ((each s lt).explained.each_read m));
         };
-        filtered = λ s lt. pieces-of-own shape n list own are inter s lt;
+        filtered = λ s lt. lists-of-own shape n list own are inter s lt;
       };
     }
 
@@ -100,17 +100,17 @@ chosen : {L : Type 0} (model : L → Leg) (list : List (MirrorStep L)) (old new 
 chosen model list old new s n (inl lt) acts = (acts lt).events_of_each
 chosen model list old new s n (inr past) acts = []
 
-chosen-joint : {L : Type 0} (model : L → Leg) (list : List (MirrorStep L)) (old new : StripeState L) (s n : ℕ) (which : (s < n) ⊎ (n ≤ s)) (acts : s < n → ActOnOneArray model (steps_of s list) (answers_of s list) old new) → s < n → IsStripeJoint (steps_of s list) (answers_of s list) (point_of model old) (point_of model new) (chosen model list old new s n which acts)
+chosen-interleaves : {L : Type 0} (model : L → Leg) (list : List (MirrorStep L)) (old new : StripeState L) (s n : ℕ) (which : (s < n) ⊎ (n ≤ s)) (acts : s < n → ActOnOneArray model (steps_of s list) (answers_of s list) old new) → s < n → IsExplainedInterleaving (steps_of s list) (answers_of s list) (point_of model old) (point_of model new) (chosen model list old new s n which acts)
 unfolding chosen
-chosen-joint model list old new s n (inl lt) acts below = record { interleaving = (acts lt).interleaving; explained = (acts lt).acts.explained }
-chosen-joint model list old new s n (inr past) acts below = absurd (omega (arith, past, below))
+chosen-interleaves model list old new s n (inl lt) acts below = record { interleaving = (acts lt).interleaving; explained = (acts lt).acts.explained }
+chosen-interleaves model list old new s n (inr past) acts below = absurd (omega (arith, past, below))
 
 pub mirror-acts : {L : Type 0} (model : L → Leg) (shape : Geometry) (list : List (MirrorStep L)) (old new : ℕ → StripeState L) (whole : Array) → IsGeometry shape → AreOf shape.stripes list → IsWhole shape (λ stripe. (point_of model (old stripe)).array) whole → ((stripe : ℕ) → stripe < shape.stripes → ActOnOneArray model (steps_of stripe list) (answers_of stripe list) (old stripe) (new stripe)) → MirrorActOnOneArray model shape list old new whole
 mirror-acts model shape list old new whole is are w acts =
     let n = shape.stripes in
     let own = λ (s : ℕ). chosen model list (old s) (new s) s n (cases_lt s n) (acts s) in
-    let each : (s : ℕ) → s < n → IsStripeJoint (steps_of s list) (answers_of s list) (point_of model (old s)) (point_of model (new s)) (own s) =
-    λ s lt. chosen-joint model list (old s) (new s) s n (cases_lt s n) (acts s) lt in
+    let each : (s : ℕ) → s < n → IsExplainedInterleaving (steps_of s list) (answers_of s list) (point_of model (old s)) (point_of model (new s)) (own s) =
+    λ s lt. chosen-interleaves model list (old s) (new s) s n (cases_lt s n) (acts s) lt in
     record {
       own = own;
       each = each;

@@ -7,7 +7,7 @@ use Rattle.nm_stripe.specs.declared.answer.Answer.{Answer}
 use Rattle.nm_stripe.specs.declared.step.Step.{Step}
 use Rattle.nm_stripe.specs.Run.{IsInterleaving, concat, marks}
 use Rattle.nm_join.specs.Events.{MirrorEvent, events_of, AllOfStripe, EventsOfStripes, all_events}
-use Rattle.nm_join.specs.Joint.{in_export, IsMirrorInterleaving, pieces_of}
+use Rattle.nm_join.specs.Interleavings.{in_export, IsMirrorInterleaving, lists_of}
 use Rattle.nm_join.specs.Moved.{moved_all}
 use Rattle.nm_join.specs.Steps.{MirrorStep, steps_of, answers_of, AreOf}
 use Rattle.nm_join.proofs.Moving.{marks-moved, moved-append}
@@ -54,19 +54,19 @@ all-tagged s [] = tt
 all-tagged s (e ∷ es) = (refl, all-tagged s es)
 
 -- an interleaving with a first step has a first list
-record Headed {L : Type 0} (step : Step L) (answer : Answer L) (steps : List (Step L)) (answers : List (Answer L)) (pieces : List (List Event)) : Type 0 where
-  marked : marks_of (first pieces) ≡ marks step answer
-  later : IsInterleaving steps answers (rest pieces)
-  split : pieces ≡ first pieces ∷ rest pieces
+record Headed {L : Type 0} (step : Step L) (answer : Answer L) (steps : List (Step L)) (answers : List (Answer L)) (lists : List (List Event)) : Type 0 where
+  marked : marks_of (first lists) ≡ marks step answer
+  later : IsInterleaving steps answers (rest lists)
+  split : lists ≡ first lists ∷ rest lists
 
-headed : {L : Type 0} (step : Step L) (answer : Answer L) (steps : List (Step L)) (answers : List (Answer L)) (pieces : List (List Event)) → IsInterleaving (step ∷ steps) (answer ∷ answers) pieces → Headed step answer steps answers pieces
+headed : {L : Type 0} (step : Step L) (answer : Answer L) (steps : List (Step L)) (answers : List (Answer L)) (lists : List (List Event)) → IsInterleaving (step ∷ steps) (answer ∷ answers) lists → Headed step answer steps answers lists
 headed step answer steps answers [] h = absurd h
 headed step answer steps answers (p ∷ ps) h = record { marked = h.0; later = h.1; split = refl }
 
 -- no steps have no lists
-none-left : (L : Type 0) (pieces : List (List Event)) → IsInterleaving {L = L} [] [] pieces → pieces ≡ []
-none-left L [] h = refl
-none-left L (p ∷ ps) h = absurd h
+no-lists : (L : Type 0) (lists : List (List Event)) → IsInterleaving {L = L} [] [] lists → lists ≡ []
+no-lists L [] h = refl
+no-lists L (p ∷ ps) h = absurd h
 
 -- what a first step of this stripe says
 own-step : {L : Type 0} (n : ℕ) (d : MirrorStep L) (list : List (MirrorStep L)) (own : ℕ → List (List Event)) (s : ℕ) → s < n → (d.stripe == s) ≡ true → Interleave n (d ∷ list) own → Headed d.step d.answer (steps_of s list) (answers_of s list) (own s)
@@ -95,13 +95,13 @@ weaves shape n (d ∷ list) own are h =
       weaves shape n list (taken d.stripe own) are.1 (go-on n d list own h),
     )
 
-concat-split : (pieces : List (List Event)) → pieces ≡ first pieces ∷ rest pieces → concat pieces ≡ first pieces ++ concat (rest pieces)
-concat-split pieces e = ap concat e
+concat-split : (lists : List (List Event)) → lists ≡ first lists ∷ rest lists → concat lists ≡ first lists ++ concat (rest lists)
+concat-split lists e = ap concat e
 
 -- the events of a stripe are those of its own lists
 pub events-of-own : {L : Type 0} (shape : Geometry) (n : ℕ) (list : List (MirrorStep L)) (own : ℕ → List (List Event)) → AreOf n list → Interleave n list own → (s : ℕ) → s < n → events_of s (all_events (woven shape own list)) ≡ moved_all (in_export shape s) (concat (own s))
 events-of-own {L} shape n [] own are h s lt =
-    let none : own s ≡ [] = none-left L (own s) (h s lt) in
+    let none : own s ≡ [] = no-lists L (own s) (h s lt) in
     sym (ap (λ (ps : List (List Event)). moved_all (in_export shape s) (concat ps)) none)
 events-of-own shape n (d ∷ list) own are h s lt =
     let now = moved_all (in_export shape d.stripe) (first (own d.stripe)) in
@@ -111,39 +111,39 @@ events-of-own shape n (d ∷ list) own are h s lt =
       | inl same ↦
           let head = own-step n d list own s lt same.0 h in
           let here : now ≡ moved_all (in_export shape s) (first (own s)) = ap (λ (t : ℕ). moved_all (in_export shape t) (first (own t))) same.1 in
-          let left : taken d.stripe own s ≡ rest (own s) = rw same.0 refl in
+          let stays : taken d.stripe own s ≡ rest (own s) = rw same.0 refl in
           events-own s d.stripe now later same.0
           ∙ ap (λ (xs : List Event). xs ++ events_of s later) here
-          ∙ ap (λ (xs : List Event). moved_all (in_export shape s) (first (own s)) ++ xs) (after ∙ ap (λ (ps : List (List Event)). moved_all (in_export shape s) (concat ps)) left)
+          ∙ ap (λ (xs : List Event). moved_all (in_export shape s) (first (own s)) ++ xs) (after ∙ ap (λ (ps : List (List Event)). moved_all (in_export shape s) (concat ps)) stays)
           ∙ sym (moved-append (in_export shape s) (first (own s)) (concat (rest (own s))))
           ∙ sym (ap (moved_all (in_export shape s)) (concat-split (own s) head.split))
       | inr other ↦
-          let left : taken d.stripe own s ≡ own s = rw other.0 refl in
-          events-other s d.stripe now later other.0 ∙ after ∙ ap (λ (ps : List (List Event)). moved_all (in_export shape s) (concat ps)) left
+          let stays : taken d.stripe own s ≡ own s = rw other.0 refl in
+          events-other s d.stripe now later other.0 ∙ after ∙ ap (λ (ps : List (List Event)). moved_all (in_export shape s) (concat ps)) stays
     ]
 
 -- the lists of a stripe's steps are its own lists
-pub pieces-of-own : {L : Type 0} (shape : Geometry) (n : ℕ) (list : List (MirrorStep L)) (own : ℕ → List (List Event)) → AreOf n list → Interleave n list own → (s : ℕ) → s < n → pieces_of s list (woven shape own list) ≡ map (λ (es : List Event). moved_all (in_export shape s) es) (own s)
-pieces-of-own {L} shape n [] own are h s lt =
-    let none : own s ≡ [] = none-left L (own s) (h s lt) in
+pub lists-of-own : {L : Type 0} (shape : Geometry) (n : ℕ) (list : List (MirrorStep L)) (own : ℕ → List (List Event)) → AreOf n list → Interleave n list own → (s : ℕ) → s < n → lists_of s list (woven shape own list) ≡ map (λ (es : List Event). moved_all (in_export shape s) es) (own s)
+lists-of-own {L} shape n [] own are h s lt =
+    let none : own s ≡ [] = no-lists L (own s) (h s lt) in
     sym (ap (λ (ps : List (List Event)). map (λ (es : List Event). moved_all (in_export shape s) es) ps) none)
-pieces-of-own shape n (d ∷ list) own are h s lt =
+lists-of-own shape n (d ∷ list) own are h s lt =
     let moving = λ (es : List Event). moved_all (in_export shape s) es in
-    let after = pieces-of-own shape n list (taken d.stripe own) are.1 (go-on n d list own h) s lt in
+    let after = lists-of-own shape n list (taken d.stripe own) are.1 (go-on n d list own h) s lt in
     let now = moved_all (in_export shape d.stripe) (first (own d.stripe)) in
     elim (eqb_tells d.stripe s) [
       | inl same ↦
           let head = own-step n d list own s lt same.0 h in
           let here : now ≡ moved_all (in_export shape s) (first (own s)) = ap (λ (t : ℕ). moved_all (in_export shape t) (first (own t))) same.1 in
           let alone : events_of s (tagged d.stripe now) ≡ now = ap (λ (t : ℕ). events_of t (tagged d.stripe now)) (sym same.1) ∙ tagged-alone d.stripe now in
-          let left : taken d.stripe own s ≡ rest (own s) = rw same.0 refl in
+          let stays : taken d.stripe own s ≡ rest (own s) = rw same.0 refl in
           rw same.0 (
-          ap (λ (xs : List Event). xs ∷ pieces_of s list (woven shape (taken d.stripe own) list)) (alone ∙ here)
-          ∙ ap (λ (ps : List (List Event)). moved_all (in_export shape s) (first (own s)) ∷ ps) (after ∙ ap (map moving) left)
+          ap (λ (xs : List Event). xs ∷ lists_of s list (woven shape (taken d.stripe own) list)) (alone ∙ here)
+          ∙ ap (λ (ps : List (List Event)). moved_all (in_export shape s) (first (own s)) ∷ ps) (after ∙ ap (map moving) stays)
           ∙ sym (ap (map moving) head.split))
       | inr other ↦
-          let left : taken d.stripe own s ≡ own s = rw other.0 refl in
-          rw other.0 (after ∙ ap (map moving) left)
+          let stays : taken d.stripe own s ≡ own s = rw other.0 refl in
+          rw other.0 (after ∙ ap (map moving) stays)
     ]
 
 -- the woven events are events of the mirror's stripes

@@ -15,7 +15,7 @@ use Rattle.nm_replay.proofs.Arrays.{slice_get-set_same, slice_get-set_other, sam
 use Rattle.nm_resync.specs.Chunk.{zero_block}
 use Rattle.nm_join.specs.Events.{MirrorEntry, entries_in}
 use Rattle.nm_join.specs.Explained.{MirrorLegal, counted}
-use Rattle.nm_join.specs.Joint.{in_export}
+use Rattle.nm_join.specs.Interleavings.{in_export}
 use Rattle.nm_join.specs.Moved.{moved_entry}
 use Rattle.nm_join.specs.Whole.{AreAsLong, IsWhole, HasWhole}
 
@@ -102,9 +102,9 @@ whole-after shape arrays next whole s (Patch t from len) b v is lt w fits set ot
     set-whole shape arrays next whole s b v is lt w (slice_get_within (arrays s) b fits.0 fits.1) set others
 
 -- what some entries leave of the mirror's array
-abbrev pub left_by : List MirrorEntry → Array → Array
-left_by [] array = array
-left_by (e ∷ es) array = left_by es (after_entry e.entry array)
+abbrev pub after_entries : List MirrorEntry → Array → Array
+after_entries [] array = array
+after_entries (e ∷ es) array = after_entries es (after_entry e.entry array)
 
 abbrev pub EntriesOfStripes : ℕ → List MirrorEntry → Type 0
 EntriesOfStripes n [] = Unit {0}
@@ -119,25 +119,25 @@ abbrev after_first : List Entry → Array → Array
 after_first [] array = array
 after_first (x ∷ xs) array = after_entry x array
 
-abbrev pub own_left : ℕ → (ℕ → List Entry) → ℕ → List Entry
-own_left s own t = if s == t then rest (own t) else own t
+abbrev pub own_rest : ℕ → (ℕ → List Entry) → ℕ → List Entry
+own_rest s own t = if s == t then rest (own t) else own t
 
-abbrev pub arrays_left : ℕ → (ℕ → List Entry) → (ℕ → Array) → ℕ → Array
-arrays_left s own arrays t = if s == t then after_first (own t) (arrays t) else arrays t
+abbrev pub arrays_after : ℕ → (ℕ → List Entry) → (ℕ → Array) → ℕ → Array
+arrays_after s own arrays t = if s == t then after_first (own t) (arrays t) else arrays t
 
 -- the first entry of a stripe, and what stays of its list
-record Opens (s : ℕ) (to : ℕ → ℕ) (e : Entry) (es : List Entry) (own : List Entry) (next : ℕ) (array left : Array) : Type 0 where
+record Opens (s : ℕ) (to : ℕ → ℕ) (e : Entry) (es : List Entry) (own : List Entry) (next : ℕ) (array last : Array) : Type 0 where
   number : e.seq ≡ next
   block : ℕ
   moved_to : e.block ≡ to block
   fits : Fits e.kind block e.bytes array
   after_is : after_first own array ≡ after (operation e.kind block e.bytes) array
   later : es ≡ map (moved_entry to) (rest own)
-  legal : Legal (next + 1) (rest own) (after_first own array) left
+  legal : Legal (next + 1) (rest own) (after_first own array) last
 
-opens : (s : ℕ) (to : ℕ → ℕ) (e : Entry) (es own : List Entry) (next : ℕ) (array left : Array) → (e ∷ es) ≡ map (moved_entry to) own → Legal next own array left → Opens s to e es own next array left
-opens s to e es [] next array left same legal = absurd (let h = same in cc)
-opens s to e es (x ∷ xs) next array left same legal =
+opens : (s : ℕ) (to : ℕ → ℕ) (e : Entry) (es own : List Entry) (next : ℕ) (array last : Array) → (e ∷ es) ≡ map (moved_entry to) own → Legal next own array last → Opens s to e es own next array last
+opens s to e es [] next array last same legal = absurd (let h = same in cc)
+opens s to e es (x ∷ xs) next array last same legal =
     let head : e ≡ moved_entry to x = same_Some e (moved_entry to x) (ap (λ (l : List Entry). slice_get l 0) same) in
     let tail : es ≡ map (moved_entry to) xs = ap rest same in
     record {
@@ -151,12 +151,12 @@ opens s to e es (x ∷ xs) next array left same legal =
     }
 
 -- entries that are none leave an array as it is
-unchanged : (next : ℕ) (own : List Entry) (to : ℕ → ℕ) (array left : Array) → [] ≡ map (moved_entry to) own → Legal next own array left → left ≡ array
-unchanged next [] to array left none legal = legal
-unchanged next (x ∷ xs) to array left none legal = absurd (let h = none in cc)
+unchanged : (next : ℕ) (own : List Entry) (to : ℕ → ℕ) (array last : Array) → [] ≡ map (moved_entry to) own → Legal next own array last → last ≡ array
+unchanged next [] to array last none legal = legal
+unchanged next (x ∷ xs) to array last none legal = absurd (let h = none in cc)
 
 -- another stripe's array is as it was
-apart : (s t : ℕ) (own : ℕ → List Entry) (arrays : ℕ → Array) → s ≢ t → arrays_left s own arrays t ≡ arrays t
+apart : (s t : ℕ) (own : ℕ → List Entry) (arrays : ℕ → Array) → s ≢ t → arrays_after s own arrays t ≡ arrays t
 apart s t own arrays other = elim (eqb_tells s t) [
   | inl same ↦ absurd (other same.1)
   | inr miss ↦ rw miss.0 refl
@@ -181,7 +181,7 @@ head-opens shape next own arrays lasts e es t lt same f =
     let mine : entries_in t (e ∷ es) ≡ map (moved_entry (in_export shape t)) (own t) = f.moved_are t lt in
     opens t (in_export shape t) e.entry (entries_in t es) (own t) (next t) (arrays t) (lasts t) (rw same at mine) (f.legal t lt)
 
-goes-on : (shape : Geometry) (next : ℕ → ℕ) (own : ℕ → List Entry) (arrays lasts : ℕ → Array) (e : MirrorEntry) (es : List MirrorEntry) → Follows shape next own arrays lasts (e ∷ es) → Follows shape (counted e.stripe next) (own_left e.stripe own) (arrays_left e.stripe own arrays) lasts es
+goes-on : (shape : Geometry) (next : ℕ → ℕ) (own : ℕ → List Entry) (arrays lasts : ℕ → Array) (e : MirrorEntry) (es : List MirrorEntry) → Follows shape next own arrays lasts (e ∷ es) → Follows shape (counted e.stripe next) (own_rest e.stripe own) (arrays_after e.stripe own arrays) lasts es
 goes-on shape next own arrays lasts e es f = record {
   moved_are = λ t lt. elim (eqb_tells e.stripe t) [
     | inl same ↦ rw same.0 ((head-opens shape next own arrays lasts e es t lt same.0 f).later)
@@ -196,19 +196,19 @@ goes-on shape next own arrays lasts e es f = record {
 }
 
 -- no entries leave each stripe's array as it is
-none-left : (shape : Geometry) (next : ℕ → ℕ) (own : ℕ → List Entry) (arrays lasts : ℕ → Array) → Follows shape next own arrays lasts [] → (t : ℕ) → t < shape.stripes → lasts t ≡ arrays t
-none-left shape next own arrays lasts f t lt = unchanged (next t) (own t) (in_export shape t) (arrays t) (lasts t) (f.moved_are t lt) (f.legal t lt)
+none-changed : (shape : Geometry) (next : ℕ → ℕ) (own : ℕ → List Entry) (arrays lasts : ℕ → Array) → Follows shape next own arrays lasts [] → (t : ℕ) → t < shape.stripes → lasts t ≡ arrays t
+none-changed shape next own arrays lasts f t lt = unchanged (next t) (own t) (in_export shape t) (arrays t) (lasts t) (f.moved_are t lt) (f.legal t lt)
 
 -- the mirror's entries are legal on its array, and what they leave is put together from what the
 -- stripes' entries leave
 pub record Legally (shape : Geometry) (next : ℕ → ℕ) (lasts : ℕ → Array) (es : List MirrorEntry) (whole : Array) : Type 0 where
-  pub legal : MirrorLegal next es whole (left_by es whole)
-  pub left : IsWhole shape lasts (left_by es whole)
+  pub legal : MirrorLegal next es whole (after_entries es whole)
+  pub after_is : IsWhole shape lasts (after_entries es whole)
 
 pub legal-whole : (shape : Geometry) (es : List MirrorEntry) (next : ℕ → ℕ) (own : ℕ → List Entry) (arrays lasts : ℕ → Array) (whole : Array) → IsGeometry shape → EntriesOfStripes shape.stripes es → IsWhole shape arrays whole → Follows shape next own arrays lasts es → Legally shape next lasts es whole
 legal-whole shape [] next own arrays lasts whole is of w f = record {
   legal = refl;
-  left = same-below shape arrays lasts whole is w (none-left shape next own arrays lasts f);
+  after_is = same-below shape arrays lasts whole is w (none-changed shape next own arrays lasts f);
 }
 legal-whole shape (e ∷ es) next own arrays lasts whole is of w f =
     let s = e.stripe in
@@ -216,12 +216,12 @@ legal-whole shape (e ∷ es) next own arrays lasts whole is of w f =
     let here = eq-eqb s s refl in
     let head = head-opens shape next own arrays lasts e es s of.0 here f in
     let fits : EntryFits e.entry whole = subst (λ (b : ℕ). Fits e.entry.kind b e.entry.bytes whole) (sym head.moved_to) (whole-fits shape arrays whole s e.entry.kind head.block e.entry.bytes is of.0 w head.fits) in
-    let set : arrays_left s own arrays s ≡ after (operation e.entry.kind head.block e.entry.bytes) (arrays s) = rw here head.after_is in
-    let others : (t : ℕ) → s ≢ t → arrays_left s own arrays t ≡ arrays t = λ t other. apart s t own arrays other in
-    let now = whole-after shape arrays (arrays_left s own arrays) whole s e.entry.kind head.block e.entry.bytes is of.0 w head.fits set others in
-    let after-is : IsWhole shape (arrays_left s own arrays) (after_entry e.entry whole) = subst (λ (b : ℕ). IsWhole shape (arrays_left s own arrays) (after (operation e.entry.kind b e.entry.bytes) whole)) (sym head.moved_to) now in
-    let later = legal-whole shape es (counted s next) (own_left s own) (arrays_left s own arrays) lasts (after_entry e.entry whole) is of.1 after-is (goes-on shape next own arrays lasts e es f) in
-    record { legal = (head.number, fits, later.legal); left = later.left }
+    let set : arrays_after s own arrays s ≡ after (operation e.entry.kind head.block e.entry.bytes) (arrays s) = rw here head.after_is in
+    let others : (t : ℕ) → s ≢ t → arrays_after s own arrays t ≡ arrays t = λ t other. apart s t own arrays other in
+    let now = whole-after shape arrays (arrays_after s own arrays) whole s e.entry.kind head.block e.entry.bytes is of.0 w head.fits set others in
+    let after-is : IsWhole shape (arrays_after s own arrays) (after_entry e.entry whole) = subst (λ (b : ℕ). IsWhole shape (arrays_after s own arrays) (after (operation e.entry.kind b e.entry.bytes) whole)) (sym head.moved_to) now in
+    let later = legal-whole shape es (counted s next) (own_rest s own) (arrays_after s own arrays) lasts (after_entry e.entry whole) is of.1 after-is (goes-on shape next own arrays lasts e es f) in
+    record { legal = (head.number, fits, later.legal); after_is = later.after_is }
 
 pub follow : (shape : Geometry) (next : ℕ → ℕ) (own : ℕ → List Entry) (arrays lasts : ℕ → Array) (es : List MirrorEntry) → ((t : ℕ) → t < shape.stripes → entries_in t es ≡ map (moved_entry (in_export shape t)) (own t)) → ((t : ℕ) → t < shape.stripes → Legal (next t) (own t) (arrays t) (lasts t)) → Follows shape next own arrays lasts es
 follow shape next own arrays lasts es a b = record { moved_are = a; legal = b }

@@ -11,7 +11,8 @@ use Rattle.nm_stripe.specs.declared.answer.Answer.{Answer}
 use Rattle.nm_stripe.specs.declared.step.Step.{Step}
 use Rattle.nm_stripe.specs.Run.{ActOnOneArray}
 use Rattle.nm_join.specs.Events.{MirrorEvent}
-use Rattle.nm_join.specs.Joint.{IsStripeJoint, IsMirrorJoint, mirror_point}
+use Rattle.nm_join.specs.Interleavings.{IsExplainedInterleaving, IsExplainedMirrorInterleaving}
+use Rattle.nm_join.specs.Interleavings.{mirror_point}
 use Rattle.nm_join.specs.Steps.{MirrorStep, steps_of, answers_of, AreOf}
 use Rattle.nm_join.specs.Whole.{AreAsLong, IsWhole, HasWhole}
 
@@ -31,20 +32,21 @@ OneArrayAlone =
 -- arrays then make
 pub record Joins {L : Type 0} (shape : Geometry) (list : List (MirrorStep L))
     (from to : ℕ → Point) (whole : Array) (own : ℕ → List (List Event)) : Type 0 where
-  pub left : Array
-  pub left_is : IsWhole shape (λ stripe. (to stripe).array) left
-  pub pieces : List (List MirrorEvent)
-  pub joint :
-      IsMirrorJoint shape list (mirror_point shape from whole) (mirror_point shape to left)
-      own pieces
+  pub after : Array
+  pub after_is : IsWhole shape (λ stripe. (to stripe).array) after
+  pub events_of_each : List (List MirrorEvent)
+  pub explained :
+      IsExplainedMirrorInterleaving shape list (mirror_point shape from whole)
+      (mirror_point shape to after) own events_of_each
 
 -- where a stripe's steps act on one array, as `Stripe::run` says, the events that it names for each
 -- step are an explained interleaving
-abbrev pub ActsAreJoint : {L : Type 0} → (L → Leg) → Type 0
-ActsAreJoint {L} model =
+abbrev pub ActsInterleave : {L : Type 0} → (L → Leg) → Type 0
+ActsInterleave {L} model =
     (steps : List (Step L)) (answers : List (Answer L)) (old new : StripeState L)
     → (acts : ActOnOneArray model steps answers old new)
-    → IsStripeJoint steps answers (point_of model old) (point_of model new) acts.events_of_each
+    → IsExplainedInterleaving steps answers (point_of model old) (point_of model new)
+    acts.events_of_each
 
 -- where each stripe's steps have an explained interleaving, so have the mirror's
 abbrev pub StripesJoin : Type 0 → Type 0
@@ -54,7 +56,7 @@ StripesJoin L =
     → IsGeometry shape → AreOf shape.stripes list
     → IsWhole shape (λ stripe. (from stripe).array) whole
     → ((stripe : ℕ) → stripe < shape.stripes
-    → IsStripeJoint (steps_of stripe list) (answers_of stripe list)
+    → IsExplainedInterleaving (steps_of stripe list) (answers_of stripe list)
     (from stripe) (to stripe) (own stripe))
     → Joins shape list from to whole own
 
@@ -68,7 +70,7 @@ pub record MirrorActOnOneArray {L : Type 0} (model : L → Leg) (shape : Geometr
     (list : List (MirrorStep L)) (old new : ℕ → StripeState L) (whole : Array) : Type 0 where
   pub own : ℕ → List (List Event)
   pub each : (stripe : ℕ) → stripe < shape.stripes
-      → IsStripeJoint (steps_of stripe list) (answers_of stripe list)
+      → IsExplainedInterleaving (steps_of stripe list) (answers_of stripe list)
       (point_of model (old stripe)) (point_of model (new stripe)) (own stripe)
   pub joins :
       Joins shape list (points_of model old) (points_of model new)

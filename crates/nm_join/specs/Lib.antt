@@ -3,5 +3,5 @@ pub mod Moved
 pub mod Events
 pub mod Explained
 pub mod Whole
-pub mod Joint
+pub mod Interleavings
 pub mod Laws

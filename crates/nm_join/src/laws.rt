@@ -1,5 +1,5 @@
 //! Laws of a mirror's stripes together. Each function does nothing: its contract is the law.
-ghost use Rattle.nm_join.specs.Laws.{ActsAreJoint, ArraysMakeOne, MirrorActs};
+ghost use Rattle.nm_join.specs.Laws.{ActsInterleave, ArraysMakeOne, MirrorActs};
 ghost use Rattle.nm_join.specs.Laws.{OneArrayAlone, StripesJoin};
 
 use nm_leg::LegPart;
@@ -11,8 +11,8 @@ pub fn one_array()
 {}
 
 /// What `Stripe::run` did in a stripe has the explained interleaving that `stripes_join` asks for.
-pub fn acts_are_joint<L: LegPart>()
-    ensures { ActsAreJoint L.model }
+pub fn acts_interleave<L: LegPart>()
+    ensures { ActsInterleave L.model }
 {}
 
 /// Where each stripe's steps have an explained interleaving, the mirror's steps have one, on the

@@ -17,10 +17,10 @@ abbrev pub in_export : Geometry → ℕ → ℕ → ℕ
 in_export shape stripe block = export_block stripe block shape
 
 -- lists of events for the steps of a stripe, explained from one point of it to another
-pub record IsStripeJoint {L : Type 0} (steps : List (Step L)) (answers : List (Answer L))
-    (from to : Point) (pieces : List (List Event)) : Type 0 where
-  pub interleaving : IsInterleaving steps answers pieces
-  pub explained : Explained from to (concat pieces)
+pub record IsExplainedInterleaving {L : Type 0} (steps : List (Step L)) (answers : List (Answer L))
+    (from to : Point) (lists : List (List Event)) : Type 0 where
+  pub interleaving : IsInterleaving steps answers lists
+  pub explained : Explained from to (concat lists)
 
 -- a list of events for each step of a mirror, in the order of the steps: the begins and replies of
 -- the step in order, at their blocks of the export, with entries of its stripe anywhere among them
@@ -31,16 +31,16 @@ IsMirrorInterleaving shape (s ∷ list) (events ∷ more) =
     (marks_of (events_of s.stripe events)
     ≡ moved_all (in_export shape s.stripe) (marks s.step s.answer))
     × AllOfStripe s.stripe events × IsMirrorInterleaving shape list more
-IsMirrorInterleaving shape list pieces = ⊥
+IsMirrorInterleaving shape list lists = ⊥
 
 -- the lists of events for the steps of one stripe
-abbrev pub pieces_of : {L : Type 0} → ℕ → List (MirrorStep L)
+abbrev pub lists_of : {L : Type 0} → ℕ → List (MirrorStep L)
     → List (List MirrorEvent) → List (List Event)
-pieces_of stripe [] pieces = []
-pieces_of stripe (s ∷ list) [] = []
-pieces_of stripe (s ∷ list) (events ∷ more) =
-    if s.stripe == stripe then events_of stripe events ∷ pieces_of stripe list more
-    else pieces_of stripe list more
+lists_of stripe [] lists = []
+lists_of stripe (s ∷ list) [] = []
+lists_of stripe (s ∷ list) (events ∷ more) =
+    if s.stripe == stripe then events_of stripe events ∷ lists_of stripe list more
+    else lists_of stripe list more
 
 -- the points of a mirror's stripes, as one point of the mirror with this array
 abbrev pub mirror_point : Geometry → (ℕ → Point) → Array → MirrorPoint
@@ -53,11 +53,11 @@ mirror_point shape points whole = record {
 
 -- lists of events for the steps of a mirror: explained from the mirror's array to the array that
 -- its stripes' arrays then make, and in each stripe what that stripe's own lists are
-pub record IsMirrorJoint {L : Type 0} (shape : Geometry) (list : List (MirrorStep L))
-    (from to : MirrorPoint) (own : ℕ → List (List Event))
-    (pieces : List (List MirrorEvent)) : Type 0 where
-  pub interleaving : IsMirrorInterleaving shape list pieces
-  pub explained : MirrorExplained shape.stripes from to (all_events pieces)
+pub record IsExplainedMirrorInterleaving {L : Type 0} (shape : Geometry)
+    (list : List (MirrorStep L)) (from to : MirrorPoint) (own : ℕ → List (List Event))
+    (lists : List (List MirrorEvent)) : Type 0 where
+  pub interleaving : IsMirrorInterleaving shape list lists
+  pub explained : MirrorExplained shape.stripes from to (all_events lists)
   pub filtered : (stripe : ℕ) → stripe < shape.stripes
-      → pieces_of stripe list pieces
+      → lists_of stripe list lists
       ≡ map (λ events. moved_all (in_export shape stripe) events) (own stripe)
