@@ -11,6 +11,7 @@ pub mod Rounds
 pub mod Halves
 pub mod Reads
 pub mod Cuts
+pub mod WriteFault
 pub mod Writes
 pub mod Puts
 pub mod Gets

@@ -132,7 +132,8 @@ fn check_refusal<R: Abort>(
     Ok(())
 }
 
-// The calls with a pass answer causes and faults, which have no numbers of their own.
+// The calls with a pass answer causes, which have no numbers of their own, and writes' faults,
+// which have the numbers and texts that they have as refusals.
 #[test]
 fn what_ends_a_call_is_a_refusal(rt: HostRuntime) -> Result<(), Fail> {
     let alloc = rt.alloc();
@@ -142,6 +143,14 @@ fn what_ends_a_call_is_a_refusal(rt: HostRuntime) -> Result<(), Fail> {
     };
     let text = "a stripe cannot go on";
     check_refusal(&rt, alloc, cause.into(), 2, text)?;
-    check_refusal(&rt, alloc, WriteFault::Io(cause).into(), 2, text)?;
-    check_refusal(&rt, alloc, WriteFault::Memory.into(), 1, "out of memory")
+    let faults = [
+        (WriteFault::Memory, 1, "out of memory"),
+        (WriteFault::Io(cause), 2, text),
+    ];
+    for (fault, number, text) in faults {
+        assert_eq!(rt; fault.number(), number);
+        assert_eq!(rt; fault.to_string(alloc)?.as_str(), text);
+        check_refusal(&rt, alloc, fault.into(), number, text)?;
+    }
+    Ok(())
 }
