@@ -1,6 +1,6 @@
 //! The end of a mirror, how many passes it makes, and a pass of another mirror.
 
-use crate::mirrors::{closed, pass_of, read_at, shape, zeroes};
+use crate::mirrors::{close_even, pass_of, read_at, shape, zeroes};
 use nm_leg::FuseLeg;
 use nm_mirror::{Cause, CauseKind, Mirror, NoGate, Pass, Refused, WriteFault};
 use std::alloc::Global;
@@ -101,7 +101,7 @@ fn a_missing_pass_is_told_before_an_uneven_stripe(rt: HostRuntime) -> Result<(),
     passes.push(pass_of(&rt, alloc, &other)?)?;
     let (mirror, mut passes) = not_closed(alloc, mirror, passes, 5)?;
     passes.push(reader)?;
-    let totals = closed(alloc, mirror, passes)?;
+    let totals = close_even(alloc, mirror, passes)?;
     assert_eq!(rt; totals.ends().len(), 2);
     Ok(())
 }

@@ -3,7 +3,7 @@
 
 use crate::meeting::{Meeting, TURNS};
 use crate::mirrors::{
-    closed, fill_bytes, in_sync, mirror_of, pass_of, read_at, shape, write_at, zeroes,
+    close_even, fill_bytes, in_sync, mirror_of, pass_of, read_at, shape, write_at, zeroes,
 };
 use bytes::Bytes;
 use nm_lanes::{CallKind, Gate, Place, StepKind};
@@ -206,7 +206,7 @@ fn gate_master_change(rt: HostRuntime) -> Result<(), Fail> {
     let mut passes = Vec::new(alloc);
     passes.push(writer)?;
     passes.push(reader)?;
-    for end in closed(alloc, mirror, passes)?.ends() {
+    for end in close_even(alloc, mirror, passes)?.ends() {
         assert_eq!(rt; (end.total(), end.left()), (2, 0));
     }
     Ok(())

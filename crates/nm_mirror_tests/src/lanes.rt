@@ -28,7 +28,7 @@ struct Lanes {
 }
 
 /// Such stripes of this shape.
-fn opened<R: Wait>(rt: &R, alloc: Global, shape: Shape) -> Result<Lanes, Fail> {
+fn open_lanes<R: Wait>(rt: &R, alloc: Global, shape: Shape) -> Result<Lanes, Fail> {
     let legs = legs_of_zeroes(alloc, &shape)?;
     let Ok(stripes) = open_stripes(alloc, &shape, legs, 0, Policy::RoundRobin, Start::Full) else {
         return Err(Fail::new("no stripes"));
@@ -99,7 +99,7 @@ fn check_notes<R: Abort>(rt: &R, on: &Lanes, stripe: usize, want: &[Note]) {
 }
 
 /// The three steps of a write of this block under this ticket.
-fn written(block: u64, ticket: u64) -> [Note; 3] {
+fn notes_of_write(block: u64, ticket: u64) -> [Note; 3] {
     [
         done(StepKind::Begin, block),
         done(StepKind::Push, ticket),
@@ -108,10 +108,10 @@ fn written(block: u64, ticket: u64) -> [Note; 3] {
 }
 
 /// The steps of so many writes, one after the other, from this block and from ticket 0 on.
-fn all_written(alloc: Global, from: u64, count: u64) -> Result<Vec<Note>, Fail> {
+fn notes_of_writes(alloc: Global, from: u64, count: u64) -> Result<Vec<Note>, Fail> {
     let mut notes = Vec::new(alloc);
     for ticket in 0..count {
-        notes.extend_from_slice(&written(from.wrapping_add(ticket), ticket))?;
+        notes.extend_from_slice(&notes_of_write(from.wrapping_add(ticket), ticket))?;
     }
     Ok(notes)
 }
@@ -121,11 +121,11 @@ fn all_written(alloc: Global, from: u64, count: u64) -> Result<Vec<Note>, Fail> 
 #[test]
 fn a_write_claims_each_block_before_the_next_begins(rt: HostRuntime) -> Result<(), Fail> {
     let alloc = rt.alloc();
-    let mut on = opened(&rt, alloc, shape(11, 4, 2, 2, 2)?)?;
+    let mut on = open_lanes(&rt, alloc, shape(11, 4, 2, 2, 2)?)?;
     let written = write(&rt, alloc, &mut on, &NoGate, 3 * 512 + 256, 5 * 512)?;
     assert!(rt; written.is_ok());
-    check_notes(&rt, &on, 0, &all_written(alloc, 3, 2)?);
-    check_notes(&rt, &on, 1, &all_written(alloc, 0, 4)?);
+    check_notes(&rt, &on, 0, &notes_of_writes(alloc, 3, 2)?);
+    check_notes(&rt, &on, 1, &notes_of_writes(alloc, 0, 4)?);
     Ok(())
 }
 
@@ -168,7 +168,7 @@ fn a_sync_reaches_each_leg_of_the_stripes_that_are_touched(rt: HostRuntime) -> R
         (0, 5632, 2, 2),
     ] {
         assert!(rt; first <= 2 && second <= 2);
-        let mut on = opened(&rt, alloc, shape(11, 4, 2, 2, 2)?)?;
+        let mut on = open_lanes(&rt, alloc, shape(11, 4, 2, 2, 2)?)?;
         assert!(rt; sync(&rt, &mut on, offset, len).is_ok());
         check_notes(&rt, &on, 0, &BOTH_SYNCED[..first]);
         check_notes(&rt, &on, 1, &BOTH_SYNCED[..second]);
@@ -188,7 +188,7 @@ fn flush<R: Threads + Wait + Sync + Abort>(rt: &R, on: &mut Lanes) -> Result<(),
 fn a_flush_reaches_each_leg_of_every_stripe(rt: HostRuntime) -> Result<(), Fail> {
     let alloc = rt.alloc();
     for stripes in [1, 2, 11] {
-        let mut on = opened(&rt, alloc, shape(44, 4, 2, stripes, 2)?)?;
+        let mut on = open_lanes(&rt, alloc, shape(44, 4, 2, stripes, 2)?)?;
         assert!(rt; flush(&rt, &mut on).is_ok());
         for stripe in 0..stripes as usize {
             check_notes(&rt, &on, stripe, &BOTH_SYNCED);
@@ -239,7 +239,7 @@ fn write_beside_a_claim<R: Threads + Wait + Sync + Abort>(
 #[test]
 fn a_write_that_somebody_else_claimed_has_no_record(rt: HostRuntime) -> Result<(), Fail> {
     let alloc = rt.alloc();
-    let mut on = opened(&rt, alloc, shape(8, 4, 2, 1, 1)?)?;
+    let mut on = open_lanes(&rt, alloc, shape(8, 4, 2, 1, 1)?)?;
     let gone = Cause {
         stripe: 0,
         kind: CauseKind::NoTicket,

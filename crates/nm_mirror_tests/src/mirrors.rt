@@ -107,7 +107,7 @@ fn put_numbers<R: Abort>(rt: &R, leg: &mut FuseLeg, at: u64, block: u64) -> Resu
 }
 
 /// A mirror of one leg a stripe in which each byte tells its offset.
-pub fn numbered<R: Abort, G: Gate + Drop>(
+pub fn numbered_mirror<R: Abort, G: Gate + Drop>(
     rt: &R,
     alloc: Global,
     shape: Shape,
@@ -217,7 +217,7 @@ pub fn flush<R: Threads + Wait + Sync + Abort, L: LegPart + Send, G: Gate + Drop
 }
 
 /// Closes the mirror where it is to be even.
-pub fn closed<L: LegPart, G: Gate + Drop>(
+pub fn close_even<L: LegPart, G: Gate + Drop>(
     alloc: Global,
     mirror: Mirror<L, G>,
     passes: Vec<Pass<L>>,

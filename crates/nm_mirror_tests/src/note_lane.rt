@@ -67,7 +67,7 @@ impl NoteLane {
 }
 
 /// The block, ticket or leg that a step names first.
-fn named(step: &Step<FuseLeg>) -> u64 {
+fn first_number(step: &Step<FuseLeg>) -> u64 {
     match step {
         Step::Begin(at, _) | Step::Push(at, _) | Step::Claim(at) | Step::Read(at) => *at,
         Step::Fail(leg)
@@ -98,7 +98,7 @@ impl Lane<FuseLeg, Door> for NoteLane {
         ensures fits { AnswerFits «step» result }
     {
         let kind = StepKind::of(&step);
-        let at = named(&step);
+        let at = first_number(&step);
         let mut stripe = lock.lock(rt);
         let answer = ask(&mut self.part, &mut stripe, step);
         let refusal = refusal_of(&answer);

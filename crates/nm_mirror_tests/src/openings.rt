@@ -30,7 +30,7 @@ fn legs(alloc: Global, shape: &Shape) -> Result<Vec<Vec<FuseLeg>>, Fail> {
 }
 
 /// A mirror of three stripes of two regions, with leg 1 in sync, which is read by region.
-fn opened(alloc: Global, start: Start) -> Result<Mirror<FuseLeg, NoGate>, Fail> {
+fn open_mirror(alloc: Global, start: Start) -> Result<Mirror<FuseLeg, NoGate>, Fail> {
     let shape = shape(24, 4, 2, 3, 2)?;
     let legs = legs(alloc, &shape)?;
     let Ok(stripes) = open_stripes(alloc, &shape, legs, 1, Policy::Striped, start) else {
@@ -60,7 +60,7 @@ fn check_told<R: Wait + Abort>(
 #[test]
 fn each_stripe_opens_under_the_leg_that_was_asked_for(rt: HostRuntime) -> Result<(), Fail> {
     let alloc = rt.alloc();
-    let mirror = opened(alloc, Start::Full)?;
+    let mirror = open_mirror(alloc, Start::Full)?;
     let text = "master 1 settling no legs join(8) in";
     check_told(&rt, alloc, &mirror, [text, text, text])
 }
@@ -69,7 +69,7 @@ fn each_stripe_opens_under_the_leg_that_was_asked_for(rt: HostRuntime) -> Result
 #[test]
 fn each_region_is_read_from_its_own_leg(rt: HostRuntime) -> Result<(), Fail> {
     let alloc = rt.alloc();
-    let mirror = opened(alloc, Start::Compare)?;
+    let mirror = open_mirror(alloc, Start::Compare)?;
     let mut pass = pass_of(&rt, alloc, &mirror)?;
     let joins = "master 1 settling no legs join(0) in";
     let out = "master 1 settling no legs out in";

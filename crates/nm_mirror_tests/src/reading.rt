@@ -1,6 +1,6 @@
 //! Reads of bytes, whole blocks or not.
 
-use crate::mirrors::{byte_at, numbered, pass_of, read_at, shape};
+use crate::mirrors::{byte_at, numbered_mirror, pass_of, read_at, shape};
 use nm_lanes::{Gate, NoGate};
 use nm_leg::FuseLeg;
 use nm_mirror::{Mirror, Pass};
@@ -33,7 +33,7 @@ fn check_read<R: Threads + Wait + Sync + Abort, G: Gate + Drop + Sync>(
 #[test]
 fn a_read_finds_the_bytes_of_its_place(rt: HostRuntime) -> Result<(), Fail> {
     let alloc = rt.alloc();
-    let mirror = numbered(&rt, alloc, shape(11, 4, 2, 2, 1)?, NoGate)?;
+    let mirror = numbered_mirror(&rt, alloc, shape(11, 4, 2, 2, 1)?, NoGate)?;
     let mut pass = pass_of(&rt, alloc, &mirror)?;
     for (offset, len) in [
         (0, 0),

@@ -1,6 +1,6 @@
 //! Writes, zeroes and reads of whole blocks, a flush, and what a close then tells.
 
-use crate::mirrors::{closed, fill_bytes, flush, in_sync, pass_of, shape};
+use crate::mirrors::{close_even, fill_bytes, flush, in_sync, pass_of, shape};
 use bytes::Bytes;
 use nm_lanes::{Cause, NoGate, WriteFault};
 use nm_leg::FuseLeg;
@@ -98,7 +98,7 @@ fn check_row<R: Threads + Wait + Sync + Abort>(
     assert!(rt; flush(rt, &mirror, &mut pass).is_ok());
     let mut passes = Vec::new(alloc);
     passes.push(pass)?;
-    let totals = closed(alloc, mirror, passes)?;
+    let totals = close_even(alloc, mirror, passes)?;
     assert_eq!(rt; totals.ends().len(), stripes as usize);
     for (end, stripe) in totals.ends().iter().zip(0..) {
         let total = entries_in(stripe, stripes);
@@ -136,7 +136,7 @@ fn calls_of_no_blocks_succeed_and_do_nothing(rt: HostRuntime) -> Result<(), Fail
     assert!(rt; read(&rt, &mirror, &mut pass, 127, &mut []).is_ok());
     let mut passes = Vec::new(alloc);
     passes.push(pass)?;
-    for end in closed(alloc, mirror, passes)?.ends() {
+    for end in close_even(alloc, mirror, passes)?.ends() {
         assert_eq!(rt; (end.total(), end.left()), (0, 0));
     }
     Ok(())

@@ -64,7 +64,7 @@ fn a_full_start_copies_equal_legs_too(rt: HostRuntime) -> Result<(), Fail> {
 }
 
 /// Opens the stripes of a mirror whose master fails each call in stripe 1.
-fn opened_on_a_failing_master(
+fn open_on_a_failing_master(
     alloc: Global,
     start: Start,
 ) -> Result<Result<Vec<Stripe<FuseLeg>>, OpenFault>, Fail> {
@@ -79,10 +79,10 @@ fn opened_on_a_failing_master(
 #[test]
 fn a_master_that_cannot_be_read_is_told(rt: HostRuntime) -> Result<(), Fail> {
     let alloc = rt.alloc();
-    let compared = opened_on_a_failing_master(alloc, Start::Compare)?;
+    let compared = open_on_a_failing_master(alloc, Start::Compare)?;
     assert!(rt; matches!(compared, Err(OpenFault::MasterFault)));
     // A full start calls no leg.
-    assert!(rt; opened_on_a_failing_master(alloc, Start::Full)?.is_ok());
+    assert!(rt; open_on_a_failing_master(alloc, Start::Full)?.is_ok());
     Ok(())
 }
 

@@ -1,7 +1,7 @@
 //! Four passes at once, while each leg in turn is taken out, joins again and is copied to.
 ghost use Rattle.std.specs.Thread.{IsSync};
 
-use crate::mirrors::{closed, in_sync, pass_of, read_at, shape, try_filled, write_at};
+use crate::mirrors::{close_even, in_sync, pass_of, read_at, shape, try_filled, write_at};
 use nm_lanes::{Gate, Place};
 use nm_leg::FuseLeg;
 use nm_mirror::{LegStatus, Mirror, Pass, StripeStatus};
@@ -238,7 +238,7 @@ fn four_threads(rt: HostRuntime) -> Result<(), Fail> {
     check_histories(&rt, alloc, &mirror)?;
     let passes = Vec::from_array(alloc, [a, b, c, d])?;
     let mut total = 0u64;
-    for end in closed(alloc, mirror, passes)?.ends() {
+    for end in close_even(alloc, mirror, passes)?.ends() {
         assert_eq!(rt; end.left(), 0);
         total = total.wrapping_add(end.total());
     }

@@ -161,7 +161,7 @@ fn visit_again<R: Clock + Net<Listener = TcpListener, Stream = TcpStream>>(
 }
 
 /// The byte that lies at this place in the end.
-fn wanted(at: usize) -> u8 {
+fn byte_in_the_end(at: usize) -> u8 {
     match at {
         1022 => b'a',
         1023 => b'b',
@@ -174,7 +174,7 @@ fn wanted(at: usize) -> u8 {
 fn holds_the_write(file: &[u8]) -> bool {
     let mut is_right = file.len() == 65_536;
     for (at, byte) in file.iter().enumerate() {
-        is_right = is_right && *byte == wanted(at);
+        is_right = is_right && *byte == byte_in_the_end(at);
     }
     is_right
 }

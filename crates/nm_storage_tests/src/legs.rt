@@ -243,7 +243,7 @@ impl Hold for Countdown {
 
 // How often a leg that may wait for so many turns asked its hold, which held it for so many, before
 // its next write was done.
-fn asked(rt: &impl Abort, leg: MemLeg, held: u32, turns: u32) -> u32 {
+fn count_asked(rt: &impl Abort, leg: MemLeg, held: u32, turns: u32) -> u32 {
     let hold = Countdown {
         left: Cell::new(held),
         asked: Cell::new(0),
@@ -257,13 +257,13 @@ fn asked(rt: &impl Abort, leg: MemLeg, held: u32, turns: u32) -> u32 {
 #[test]
 fn a_held_call_waits_until_it_is_let_go(rt: HostRuntime) -> Result<(), Fail> {
     let leg = MemLeg::new(rt.alloc(), 3)?;
-    assert_eq!(rt; asked(&rt, leg, 3, 10), 4);
+    assert_eq!(rt; count_asked(&rt, leg, 3, 10), 4);
     Ok(())
 }
 
 #[test]
 fn a_held_call_waits_for_its_turns_at_most(rt: HostRuntime) -> Result<(), Fail> {
     let leg = MemLeg::new(rt.alloc(), 3)?;
-    assert_eq!(rt; asked(&rt, leg, 10, 3), 3);
+    assert_eq!(rt; count_asked(&rt, leg, 10, 3), 3);
     Ok(())
 }

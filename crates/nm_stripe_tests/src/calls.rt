@@ -1,6 +1,6 @@
 //! Single calls of a stripe, and which legs a step calls.
 use crate::asking::{Ask, Summary, fill_block, may_ask, step_of, summary_of};
-use crate::opening::{Mirror, ONE_LEG, TWO_LEGS, opened};
+use crate::opening::{Mirror, ONE_LEG, TWO_LEGS, open_fused};
 use crate::stripes::WRITE_AND_READS;
 use nm_leg::{CountingLeg, FuseLeg, LegPart, MemLeg};
 use nm_replay::Block;
@@ -14,7 +14,7 @@ use std::test::Fail;
 
 #[test]
 fn a_new_stripe_has_no_write(rt: HostRuntime) -> Result<(), Fail> {
-    let stripe = opened(&rt, rt.alloc(), TWO_LEGS)?;
+    let stripe = open_fused(&rt, rt.alloc(), TWO_LEGS)?;
     assert!(rt; stripe.legs() == 2);
     assert_eq!(rt; stripe.state(1), LegState::InSync);
     assert_eq!(rt; stripe.left(1), 0);
@@ -77,7 +77,7 @@ fn is_not_promoted(rt: &impl Abort, stripe: &mut Stripe<FuseLeg>, why: Refusal) 
 
 #[test]
 fn a_write_by_its_own_calls(rt: HostRuntime) -> Result<(), Fail> {
-    let mut stripe = opened(&rt, rt.alloc(), ONE_LEG)?;
+    let mut stripe = open_fused(&rt, rt.alloc(), ONE_LEG)?;
     let ticket = begun(&rt, rt.alloc(), &mut stripe, 2)?;
     assert_eq!(rt; stripe.next_owed(ticket), Some(0));
     assert_eq!(rt; stripe.first_owed(), Some((0, 0)));
@@ -87,7 +87,7 @@ fn a_write_by_its_own_calls(rt: HostRuntime) -> Result<(), Fail> {
 
 #[test]
 fn a_read_by_its_own_call(rt: HostRuntime) -> Result<(), Fail> {
-    let mut stripe = opened(
+    let mut stripe = open_fused(
         &rt,
         rt.alloc(),
         Mirror {
@@ -110,7 +110,7 @@ fn a_read_by_its_own_call(rt: HostRuntime) -> Result<(), Fail> {
 
 #[test]
 fn a_leg_that_is_not_out_is_not_replaced(rt: HostRuntime) -> Result<(), Fail> {
-    let mut stripe = opened(&rt, rt.alloc(), TWO_LEGS)?;
+    let mut stripe = open_fused(&rt, rt.alloc(), TWO_LEGS)?;
     let step = Step::Replace(1, FuseLeg::with_byte(rt.alloc(), 8, 0xff)?);
     may_ask(&rt, &stripe, &step);
     match stripe.step(step) {
@@ -131,7 +131,7 @@ const JOINING: Mirror = Mirror {
 
 #[test]
 fn a_leg_goes_out_and_comes_back(rt: HostRuntime) -> Result<(), Fail> {
-    let mut stripe = opened(&rt, rt.alloc(), TWO_LEGS)?;
+    let mut stripe = open_fused(&rt, rt.alloc(), TWO_LEGS)?;
     fails(&rt, &mut stripe, Ok(Failing::Failed));
     fails(&rt, &mut stripe, Err(Refusal::AlreadyOut));
     attaches(&rt, &mut stripe, Ok(0));
@@ -142,7 +142,7 @@ fn a_leg_goes_out_and_comes_back(rt: HostRuntime) -> Result<(), Fail> {
 
 #[test]
 fn a_leg_that_joins_is_copied_first(rt: HostRuntime) -> Result<(), Fail> {
-    let mut stripe = opened(&rt, rt.alloc(), JOINING)?;
+    let mut stripe = open_fused(&rt, rt.alloc(), JOINING)?;
     is_not_promoted(&rt, &mut stripe, Refusal::NotYet);
     copies(&rt, &mut stripe, 1, Ok(Copying::Copied(8)));
     copies(&rt, &mut stripe, 0, Err(Refusal::NotJoining));
@@ -151,7 +151,7 @@ fn a_leg_that_joins_is_copied_first(rt: HostRuntime) -> Result<(), Fail> {
 
 #[test]
 fn a_synced_leg_stays_as_it_is(rt: HostRuntime) -> Result<(), Fail> {
-    let mut stripe = opened(&rt, rt.alloc(), TWO_LEGS)?;
+    let mut stripe = open_fused(&rt, rt.alloc(), TWO_LEGS)?;
     assert!(rt; stripe.legs() == 2);
     assert_eq!(rt; stripe.sync(1), Ok(Syncing::Synced));
     is_not_promoted(&rt, &mut stripe, Refusal::NotJoining);
@@ -160,7 +160,7 @@ fn a_synced_leg_stays_as_it_is(rt: HostRuntime) -> Result<(), Fail> {
 
 #[test]
 fn a_leg_is_replaced_by_a_new_one(rt: HostRuntime) -> Result<(), Fail> {
-    let mut stripe = opened(&rt, rt.alloc(), TWO_LEGS)?;
+    let mut stripe = open_fused(&rt, rt.alloc(), TWO_LEGS)?;
     fails(&rt, &mut stripe, Ok(Failing::Failed));
     let part = FuseLeg::with_byte(rt.alloc(), 8, 0xff)?;
     assert!(rt; stripe.legs() == 2 && stripe.blocks() == 8 && part.len() == 8);
@@ -173,7 +173,7 @@ fn a_leg_is_replaced_by_a_new_one(rt: HostRuntime) -> Result<(), Fail> {
 
 #[test]
 fn an_end_counts_the_writes_that_are_left(rt: HostRuntime) -> Result<(), Fail> {
-    let mut stripe = opened(&rt, rt.alloc(), TWO_LEGS)?;
+    let mut stripe = open_fused(&rt, rt.alloc(), TWO_LEGS)?;
     let ticket = begun(&rt, rt.alloc(), &mut stripe, 2)?;
     pushes(&rt, &mut stripe, ticket, Reach::Pushed(1));
     let end = stripe.end();

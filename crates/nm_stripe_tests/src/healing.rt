@@ -1,7 +1,7 @@
 //! More worked lists of steps: regions, masters that are lost, copies over a change of the master,
 //! and a history that is longer than what is kept of it.
 use crate::asking::{Ask, Summary, compare};
-use crate::opening::{Mirror, ONE_LEG, THREE_LEGS, TWO_LEGS, opened};
+use crate::opening::{Mirror, ONE_LEG, THREE_LEGS, TWO_LEGS, open_fused};
 use crate::worked::{after, has, holds, stand};
 use nm_replay::check;
 use nm_stripe::{LegState, Policy, Refusal};
@@ -167,7 +167,7 @@ fn many_reads(alloc: Global) -> Result<Vec<(Ask, Summary)>, AllocError> {
 
 #[test]
 fn the_last_1024_entries_are_kept(rt: HostRuntime) -> Result<(), Fail> {
-    let mut stripe = opened(&rt, rt.alloc(), ONE_LEG)?;
+    let mut stripe = open_fused(&rt, rt.alloc(), ONE_LEG)?;
     compare(&rt, rt.alloc(), &mut stripe, &many_reads(rt.alloc())?)?;
     let kept = stripe.entries(rt.alloc())?;
     assert_eq!(rt; (stripe.total(), kept.len()), (1025, 1024));

@@ -87,7 +87,7 @@ pub fn fuse(rt: &impl Abort, stripe: &Stripe<FuseLeg>, leg: u8, call: u64) {
 }
 
 /// As `try_open`, where memory is ample, and with the fuse set.
-pub fn opened(rt: &impl Abort, alloc: Global, mirror: Mirror) -> Result<Stripe<FuseLeg>, Fail> {
+pub fn open_fused(rt: &impl Abort, alloc: Global, mirror: Mirror) -> Result<Stripe<FuseLeg>, Fail> {
     let stripe = try_open(rt, alloc, mirror)?.ok().ok_or("no memory")?;
     if let Some((leg, call)) = mirror.fuse {
         fuse(rt, &stripe, leg, call);

@@ -1,6 +1,6 @@
 //! The part of a pass in one stripe: what it counts, and when it refuses a step.
 use crate::asking::{Ask, Summary, may_ask, step_of, summary_of};
-use crate::opening::{ONE_LEG, opened};
+use crate::opening::{ONE_LEG, open_fused};
 use nm_leg::FuseLeg;
 use nm_part::Part;
 use nm_stripe::{Refusal, Stripe};
@@ -36,7 +36,7 @@ const COUNTED: [(u64, u64); 4] = [(0, 0), (0, 0), (1, 1), (2, 2)];
 
 #[test]
 fn a_part_counts_values_and_finished_writes(rt: HostRuntime) -> Result<(), Fail> {
-    let mut stripe = opened(&rt, rt.alloc(), ONE_LEG)?;
+    let mut stripe = open_fused(&rt, rt.alloc(), ONE_LEG)?;
     let mut part = Part::of(&stripe);
     assert_eq!(rt; part.stripe(), 7);
     for (row, counted) in WRITE_AND_READ.iter().zip(COUNTED) {
@@ -49,8 +49,8 @@ fn a_part_counts_values_and_finished_writes(rt: HostRuntime) -> Result<(), Fail>
 #[test]
 fn a_part_is_astray_in_a_stripe_that_is_behind_it(rt: HostRuntime) -> Result<(), Fail> {
     let alloc = rt.alloc();
-    let mut own = opened(&rt, alloc, ONE_LEG)?;
-    let mut other = opened(&rt, alloc, ONE_LEG)?;
+    let mut own = open_fused(&rt, alloc, ONE_LEG)?;
+    let mut other = open_fused(&rt, alloc, ONE_LEG)?;
     let mut part = Part::of(&own);
     let value = (Ask::Read(0), Summary::Value(0, 0x00));
     compare_step(&rt, alloc, &mut part, &mut own, value)?;

@@ -1,7 +1,7 @@
 //! Writes of parts of a block: worked lists of steps, what comes back, and which legs are called.
 use crate::asking::{Ask, Summary, may_ask, part};
 use crate::calls::compare_calls;
-use crate::opening::{Mirror, ONE_LEG, TWO_LEGS, fuse, opened};
+use crate::opening::{Mirror, ONE_LEG, TWO_LEGS, fuse, open_fused};
 use crate::worked::{after, has};
 use nm_fanout::Data;
 use nm_leg::LegPart;
@@ -122,7 +122,7 @@ fn came_back(data: &Data) -> bool {
 
 #[test]
 fn a_part_comes_back_where_it_did_not_begin(rt: HostRuntime) -> Result<(), Fail> {
-    let mut stripe = opened(&rt, rt.alloc(), TWO_LEGS)?;
+    let mut stripe = open_fused(&rt, rt.alloc(), TWO_LEGS)?;
     fuse(&rt, &stripe, 0, 1);
     match patch(&rt, rt.alloc(), &mut stripe)? {
         Answer::LegLost(leg, Handed::Data(data)) => assert!(rt; leg == 0 && came_back(&data)),

@@ -1,6 +1,6 @@
 //! Worked lists of steps, with a leg that fails or is copied, and what the stripe is after them.
 use crate::asking::{Ask, Summary, compare};
-use crate::opening::{Mirror, TWO_LEGS, fuse, opened};
+use crate::opening::{Mirror, TWO_LEGS, fuse, open_fused};
 use crate::worked::{after, has, holds, stand};
 use nm_replay::{Kind, check};
 use nm_stripe::{LegState, Policy, Refusal};
@@ -203,7 +203,7 @@ const LAST_LEG_HALTS: [(Ask, Summary); 2] = [
 
 #[test]
 fn the_last_leg_is_not_lost(rt: HostRuntime) -> Result<(), Fail> {
-    let mut stripe = opened(&rt, rt.alloc(), FIRST_FAILS)?;
+    let mut stripe = open_fused(&rt, rt.alloc(), FIRST_FAILS)?;
     compare(&rt, rt.alloc(), &mut stripe, &LAST_LEG_READS)?;
     fuse(&rt, &stripe, 0, 1);
     compare(&rt, rt.alloc(), &mut stripe, &LAST_LEG_HALTS)?;

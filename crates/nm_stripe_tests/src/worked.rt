@@ -1,6 +1,6 @@
 //! A worked list of steps on stripes of its own, and what a stripe is after it.
 use crate::asking::{Ask, Summary, compare_each, compare_with, steps_of};
-use crate::opening::{Mirror, opened};
+use crate::opening::{Mirror, open_fused};
 use nm_leg::{FuseLeg, LegPart};
 use nm_stripe::{LegState, Stripe};
 use std::alloc::Global;
@@ -34,7 +34,7 @@ fn same_by_step(
     rows: &[(Ask, Summary)],
 ) -> Result<(), Fail> {
     let steps = steps_of(alloc, spare(rt, alloc, with.blocks, rows)?, rows)?;
-    let mut stripe = opened(rt, alloc, with)?;
+    let mut stripe = open_fused(rt, alloc, with)?;
     compare_each(rt, &mut stripe, steps, rows);
     Ok(())
 }
@@ -47,7 +47,7 @@ fn same_by_run(
     rows: &[(Ask, Summary)],
 ) -> Result<Stripe<FuseLeg>, Fail> {
     let legs = spare(rt, alloc, with.blocks, rows)?;
-    let mut stripe = opened(rt, alloc, with)?;
+    let mut stripe = open_fused(rt, alloc, with)?;
     compare_with(rt, alloc, &mut stripe, legs, rows)?;
     Ok(stripe)
 }

@@ -171,7 +171,7 @@ fn export(alloc: Global, blocks: u64, read_only: bool) -> Export
 }
 
 // What one of the four gets: the task, or the error where there is one.
-fn expected(kind: u16, offset: u64, length: u32, fua: bool, error: u32) -> Result<Task, u32> {
+fn expected_task(kind: u16, offset: u64, length: u32, fua: bool, error: u32) -> Result<Task, u32> {
     match (error, kind) {
         (0, 0) => Ok(Task::Read { offset, length }),
         (0, 1) => Ok(Task::Write {
@@ -196,7 +196,7 @@ fn judges_each_offset(rt: HostRuntime) {
             let got = judge(&request(*kind, 0, offset, 512), &disk);
             assert_eq!(rt;
                 got,
-                expected(*kind, offset, 512, false, *error),
+                expected_task(*kind, offset, 512, false, *error),
                 "{kind} at {offset}"
             );
         }
@@ -211,7 +211,7 @@ fn judges_each_length(rt: HostRuntime) {
             let got = judge(&request(*kind, 0, 0, length), &disk);
             assert_eq!(rt;
                 got,
-                expected(*kind, 0, length, false, *error),
+                expected_task(*kind, 0, length, false, *error),
                 "{kind} of {length}"
             );
         }
@@ -226,7 +226,7 @@ fn judges_each_long_length(rt: HostRuntime) {
             let got = judge(&request(*kind, 0, 0, length), &disk);
             assert_eq!(rt;
                 got,
-                expected(*kind, 0, length, false, *error),
+                expected_task(*kind, 0, length, false, *error),
                 "{kind} of {length}"
             );
         }
@@ -256,7 +256,7 @@ fn refuses_each_change_of_a_read_only_export(rt: HostRuntime) {
         let read = judge(&request(0, 0, offset, 512), &disk);
         assert_eq!(rt;
             read,
-            expected(0, offset, 512, false, errors[0]),
+            expected_task(0, offset, 512, false, errors[0]),
             "at {offset}"
         );
         for kind in [1, 4, 6] {
@@ -288,7 +288,7 @@ fn judges_each_flag(rt: HostRuntime) {
             let got = judge(&request(kind, flags, 512, 512), &disk);
             assert_eq!(rt;
                 got,
-                expected(kind, 512, 512, fua, 0),
+                expected_task(kind, 512, 512, fua, 0),
                 "{kind} with {flags}"
             );
         }

@@ -82,7 +82,7 @@ fn next(reader: &mut RequestReader, alloc: Global) -> Result<Option<Request>, Fa
     Err(Fault::Memory)
 }
 
-fn seen(request: &Request) -> Seen {
+fn fields_of(request: &Request) -> Seen {
     (
         request.index,
         request.cookie,
@@ -104,7 +104,7 @@ fn take_out(
     for expected in SESSION.iter().skip(from) {
         match next(reader, alloc)? {
             Some(request) => {
-                assert_eq!(rt; seen(&request), *expected);
+                assert_eq!(rt; fields_of(&request), *expected);
                 assert_eq!(rt; request.flags.0, 0);
                 assert!(rt; request.payload.as_slice().iter().all(|byte| *byte == 0xaa));
                 count = count.saturating_add(1);
