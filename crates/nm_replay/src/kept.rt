@@ -7,6 +7,7 @@ use crate::memory::Memory;
 use circular_buffer::HeapCircularBuffer;
 use std::alloc::Global;
 use std::marker::Model;
+use std::slice;
 
 /// How many entries are kept at most.
 const KEPT: usize = 1_024;
@@ -51,7 +52,8 @@ impl Kept {
         ensures entries { self.new.entries ≡ last_kept (self.old.entries ++ entry.now ∷ []) }
         ensures total { self.new.total ≡ self.old.total + 1 }
     {
-        let _oldest = self.ring.push_back(*entry);
+        // Copied once, into its place: a push by value would move the oldest out as well.
+        self.ring.extend_from_slice(slice::from_ref(entry));
         self.total += 1;
     }
 

@@ -9,8 +9,11 @@ ghost use Rattle.nm_stripe.specs.Begin.{BeginsOrLoses, IsExplainedBegin, Refuses
 use crate::stripe::Stripe;
 use nm_fanout::Data;
 use nm_leg::LegPart;
-use nm_replay::Block;
+use nm_replay::{BLOCK_BYTES, Block};
 use nm_rules::Refusal;
+
+/// What a whole block is laid over: nothing of it is read.
+static NO_BASE: Block = Block([0; BLOCK_BYTES]);
 
 /// What a begin answers.
 #[derive(Drop)]
@@ -75,7 +78,7 @@ impl<L: LegPart> Stripe<L> {
             return Err((refusal, data));
         }
         if !data.is_part() {
-            return Ok(Beginning::Begun(self.store.begin(block, data, &Block::ZERO)));
+            return Ok(Beginning::Begun(self.store.begin(block, data, &NO_BASE)));
         }
         self.begin_part(block, data)
     }
