@@ -37,7 +37,7 @@ const PLAIN: Asked = Asked {
     legs: 1,
 };
 
-const TAKEN: [Taken; 17] = [
+static TAKEN: [Taken; 17] = [
     (&["a"], PLAIN),
     (&["a", "b", "c"], Asked { legs: 3, ..PLAIN }),
     (
@@ -120,7 +120,7 @@ const TAKEN: [Taken; 17] = [
     ),
 ];
 
-const REFUSED: [Refused; 17] = [
+static REFUSED: [Refused; 17] = [
     (&[], ErrorKind::MissingRequiredArgument),
     (&["--read-only"], ErrorKind::MissingRequiredArgument),
     (&["--help"], ErrorKind::DisplayHelp),
@@ -181,7 +181,7 @@ fn is_refused(alloc: Global, words: &[&'static str], kind: ErrorKind) -> Result<
 
 #[test]
 fn words_ask_for_their_settings(rt: HostRuntime) -> Result<(), Fail> {
-    for (words, asked) in TAKEN {
+    for &(words, asked) in &TAKEN {
         assert!(rt; is_taken(rt.alloc(), words, asked)?, "at {words:?}");
     }
     Ok(())
@@ -189,7 +189,7 @@ fn words_ask_for_their_settings(rt: HostRuntime) -> Result<(), Fail> {
 
 #[test]
 fn words_that_are_no_command_line_are_refused(rt: HostRuntime) -> Result<(), Fail> {
-    for (words, kind) in REFUSED {
+    for &(words, kind) in &REFUSED {
         assert!(rt; is_refused(rt.alloc(), words, kind)?, "at {words:?}");
     }
     Ok(())

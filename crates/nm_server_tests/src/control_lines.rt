@@ -15,7 +15,7 @@ use std::test::Fail;
 type Talk = (&'static [u8], &'static [u8], bool);
 
 /// One connection after the other, all to the same mirror.
-const TALKS: [Talk; 14] = [
+static TALKS: [Talk; 14] = [
     (
         b"status\n",
         b"stripe 0: master 0 settling no legs in join(1024)\n\
@@ -120,7 +120,7 @@ fn goes<R: Wait + Abort>(
 fn lines_are_answered(rt: HostRuntime) -> Result<(), Fail> {
     let alloc = rt.alloc();
     let mirror = mirror(alloc, Start::Full)?;
-    for (place, (sent, answered, ends)) in TALKS.into_iter().enumerate() {
+    for (place, &(sent, answered, ends)) in TALKS.iter().enumerate() {
         assert!(rt;
             goes(&rt, alloc, &mirror, sent, answered, ends),
             "talk {place}"

@@ -21,7 +21,7 @@ fn entries(alloc: Global, rows: &[Row]) -> Result<Vec<Entry>, AllocError> {
 }
 
 // Lists judged by hand: what the block holds when an entry comes, and so what it must say.
-const CONSISTENT: [(&str, &[Row]); 14] = [
+static CONSISTENT: [(&str, &[Row]); 14] = [
     ("no entry", &[]),
     ("one read of anything", &[(0, Read, 3, 0x5a)]),
     (
@@ -108,7 +108,7 @@ const CONSISTENT: [(&str, &[Row]); 14] = [
     ),
 ];
 
-const INCONSISTENT: [(&str, &[Row]); 15] = [
+static INCONSISTENT: [(&str, &[Row]); 15] = [
     (
         "the first of two writes, read again",
         &[
@@ -192,22 +192,22 @@ const INCONSISTENT: [(&str, &[Row]); 15] = [
 ];
 
 // Places for no block, for some of the lists' blocks, and for all of them.
-const PLACES: [usize; 3] = [0, 4, 16];
+static PLACES: [usize; 3] = [0, 4, 16];
 
 #[test]
 fn judges_lists_as_by_hand(rt: HostRuntime) -> Result<(), Fail> {
-    for (name, rows) in CONSISTENT {
+    for &(name, rows) in &CONSISTENT {
         let list = entries(rt.alloc(), rows)?;
         assert!(rt; check(&list), "{name}");
-        for blocks in PLACES {
+        for &blocks in &PLACES {
             let consistent = check_indexed(rt.alloc(), &list, blocks)?;
             assert!(rt; consistent, "{name}, {blocks} places");
         }
     }
-    for (name, rows) in INCONSISTENT {
+    for &(name, rows) in &INCONSISTENT {
         let list = entries(rt.alloc(), rows)?;
         assert!(rt; !check(&list), "{name}");
-        for blocks in PLACES {
+        for &blocks in &PLACES {
             let consistent = check_indexed(rt.alloc(), &list, blocks)?;
             assert!(rt; !consistent, "{name}, {blocks} places");
         }

@@ -11,16 +11,16 @@ const SMALL: u64 = 2048;
 
 const LARGE: u64 = 131_072;
 
-const COMMANDS: [u16; 4] = [0, 1, 4, 6];
+static COMMANDS: [u16; 4] = [0, 1, 4, 6];
 
 // Each bit but those of FUA and NO_HOLE.
-const OTHER_FLAGS: [u16; 14] = [
+static OTHER_FLAGS: [u16; 14] = [
     4, 8, 16, 32, 64, 128, 256, 512, 1024, 2048, 4096, 8192, 16_384, 32_768,
 ];
 
 // At a length of 512 in 1 MiB: the offset, and what READ, WRITE, TRIM and WRITE_ZEROES get: 0 for a
 // task, or the error.
-const OFFSETS: [(u64, [u32; 4]); 19] = [
+static OFFSETS: [(u64, [u32; 4]); 19] = [
     (0, [0, 0, 0, 0]),
     (1, [0, 0, 0, 0]),
     (511, [0, 0, 0, 0]),
@@ -43,7 +43,7 @@ const OFFSETS: [(u64, [u32; 4]); 19] = [
 ];
 
 // At offset 0 in 1 MiB: the length, and what the four get.
-const LENGTHS: [(u32, [u32; 4]); 15] = [
+static LENGTHS: [(u32, [u32; 4]); 15] = [
     (1, [0, 0, 0, 0]),
     (2, [0, 0, 0, 0]),
     (511, [0, 0, 0, 0]),
@@ -62,7 +62,7 @@ const LENGTHS: [(u32, [u32; 4]); 15] = [
 ];
 
 // The same in 64 MiB, where a READ is too long before it is past the end.
-const LONG_LENGTHS: [(u32, [u32; 4]); 7] = [
+static LONG_LENGTHS: [(u32, [u32; 4]); 7] = [
     (33_554_431, [0, 0, 0, 0]),
     (33_554_432, [0, 0, 0, 0]),
     (33_554_433, [22, 0, 0, 0]),
@@ -73,7 +73,7 @@ const LONG_LENGTHS: [(u32, [u32; 4]); 7] = [
 ];
 
 // Offset and length in 1 MiB, and what the four get; 0 stands for Nothing.
-const EXTENTS: [(u64, u32, [u32; 4]); 16] = [
+static EXTENTS: [(u64, u32, [u32; 4]); 16] = [
     (0, 0, [0, 0, 0, 0]),
     (1, 0, [0, 0, 0, 0]),
     (512, 0, [0, 0, 0, 0]),
@@ -93,7 +93,7 @@ const EXTENTS: [(u64, u32, [u32; 4]); 16] = [
 ];
 
 // Type, flags, offset, length, and the result: of a writable and of a read-only export.
-const RESULTS: [(u16, u16, u64, u32, Result<Task, u32>, Result<Task, u32>); 22] = [
+static RESULTS: [(u16, u16, u64, u32, Result<Task, u32>, Result<Task, u32>); 22] = [
     (0, 0, 0, 512, Ok(READ), Ok(READ)),
     (1, 0, 0, 512, Ok(WRITE), Err(1)),
     (2, 0, 0, 512, Ok(Task::Disconnect), Ok(Task::Disconnect)),
@@ -191,7 +191,7 @@ fn expected_task(kind: u16, offset: u64, length: u32, fua: bool, error: u32) -> 
 #[test]
 fn judges_each_offset(rt: HostRuntime) {
     let disk = export(rt.alloc(), SMALL, false);
-    for (offset, errors) in OFFSETS {
+    for &(offset, errors) in &OFFSETS {
         for (kind, error) in COMMANDS.iter().zip(&errors) {
             let got = judge(&request(*kind, 0, offset, 512), &disk);
             assert_eq!(rt;
@@ -206,7 +206,7 @@ fn judges_each_offset(rt: HostRuntime) {
 #[test]
 fn judges_each_length(rt: HostRuntime) {
     let disk = export(rt.alloc(), SMALL, false);
-    for (length, errors) in LENGTHS {
+    for &(length, errors) in &LENGTHS {
         for (kind, error) in COMMANDS.iter().zip(&errors) {
             let got = judge(&request(*kind, 0, 0, length), &disk);
             assert_eq!(rt;
@@ -221,7 +221,7 @@ fn judges_each_length(rt: HostRuntime) {
 #[test]
 fn judges_each_long_length(rt: HostRuntime) {
     let disk = export(rt.alloc(), LARGE, false);
-    for (length, errors) in LONG_LENGTHS {
+    for &(length, errors) in &LONG_LENGTHS {
         for (kind, error) in COMMANDS.iter().zip(&errors) {
             let got = judge(&request(*kind, 0, 0, length), &disk);
             assert_eq!(rt;
@@ -236,7 +236,7 @@ fn judges_each_long_length(rt: HostRuntime) {
 #[test]
 fn judges_the_end_before_length_0(rt: HostRuntime) {
     let disk = export(rt.alloc(), SMALL, false);
-    for (offset, length, errors) in EXTENTS {
+    for &(offset, length, errors) in &EXTENTS {
         for (kind, error) in COMMANDS.iter().zip(&errors) {
             let result = if *error == 0 {
                 Ok(Task::Nothing)
@@ -252,7 +252,7 @@ fn judges_the_end_before_length_0(rt: HostRuntime) {
 #[test]
 fn refuses_each_change_of_a_read_only_export(rt: HostRuntime) {
     let disk = export(rt.alloc(), SMALL, true);
-    for (offset, errors) in OFFSETS {
+    for &(offset, errors) in &OFFSETS {
         let read = judge(&request(0, 0, offset, 512), &disk);
         assert_eq!(rt;
             read,
@@ -273,7 +273,7 @@ fn refuses_each_change_of_a_read_only_export(rt: HostRuntime) {
 fn judges_each_type(rt: HostRuntime) {
     let disk = export(rt.alloc(), SMALL, false);
     let fixed = export(rt.alloc(), SMALL, true);
-    for (kind, flags, offset, length, writable, read_only) in RESULTS {
+    for &(kind, flags, offset, length, writable, read_only) in &RESULTS {
         let request = request(kind, flags, offset, length);
         assert_eq!(rt; judge(&request, &disk), writable, "{kind} with {flags}");
         assert_eq!(rt; judge(&request, &fixed), read_only, "{kind} with {flags}");
@@ -283,7 +283,7 @@ fn judges_each_type(rt: HostRuntime) {
 #[test]
 fn judges_each_flag(rt: HostRuntime) {
     let disk = export(rt.alloc(), SMALL, false);
-    for kind in COMMANDS {
+    for &kind in &COMMANDS {
         for (flags, fua) in [(0, false), (1, true), (2, false), (3, true)] {
             let got = judge(&request(kind, flags, 512, 512), &disk);
             assert_eq!(rt;
@@ -292,7 +292,7 @@ fn judges_each_flag(rt: HostRuntime) {
                 "{kind} with {flags}"
             );
         }
-        for flags in OTHER_FLAGS {
+        for &flags in &OTHER_FLAGS {
             assert_eq!(rt;
                 judge(&request(kind, flags, 512, 512), &disk),
                 Err(22),

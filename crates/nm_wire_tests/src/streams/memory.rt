@@ -9,7 +9,7 @@ const KIB: usize = 1024;
 const MIB: usize = 1024 * 1024;
 
 // The lengths of the WRITEs of a stream; each payload repeats the number of its WRITE.
-const LENGTHS: [u32; 8] = [
+static LENGTHS: [u32; 8] = [
     512, 4_096, 65_536, 1_048_576, 512, 8_388_608, 33_554_432, 4_096,
 ];
 
@@ -66,7 +66,7 @@ fn read_all(rt: &impl Abort, alloc: Global, stream: &[u8], piece: usize) -> Resu
 fn reads_long_payloads_in_long_pieces(rt: HostRuntime) -> Result<(), Fail> {
     let mut stream = Vec::new(rt.alloc());
     let mut number = 0u8;
-    for length in LENGTHS {
+    for &length in &LENGTHS {
         put_write(&mut stream, number, length)?;
         number = number.saturating_add(1);
     }
