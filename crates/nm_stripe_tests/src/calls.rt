@@ -1,6 +1,6 @@
 //! Single calls of a stripe, and which legs a step calls.
 use crate::asking::{Ask, Summary, fill_block, may_ask, step_of, summary_of};
-use crate::opening::{Mirror, ONE_LEG, TWO_LEGS, open_fused};
+use crate::opening::{ONE_LEG, Setup, TWO_LEGS, open_fused};
 use crate::stripes::WRITE_AND_READS;
 use nm_leg::{CountingLeg, FuseLeg, LegPart, MemLeg};
 use nm_replay::Block;
@@ -90,7 +90,7 @@ fn a_read_by_its_own_call(rt: HostRuntime) -> Result<(), Fail> {
     let mut stripe = open_fused(
         &rt,
         rt.alloc(),
-        Mirror {
+        Setup {
             first: 5,
             ..TWO_LEGS
         },
@@ -124,7 +124,7 @@ fn a_leg_that_is_not_out_is_not_replaced(rt: HostRuntime) -> Result<(), Fail> {
 }
 
 /// Two legs of which the second joins.
-const JOINING: Mirror = Mirror {
+const JOINING: Setup = Setup {
     in_sync: 1,
     ..TWO_LEGS
 };
@@ -185,7 +185,8 @@ fn an_end_counts_the_writes_that_are_left(rt: HostRuntime) -> Result<(), Fail> {
     Ok(())
 }
 
-const HEALING: [(Ask, Summary); 19] = [
+/// A leg that missed a write is copied, and in sync again.
+pub const HEALING: [(Ask, Summary); 19] = [
     (Ask::Fail(1), Summary::Failed),
     (Ask::Begin(0, 0xaa), Summary::Begun(0)),
     (Ask::Push(0, 0), Summary::Complete(0)),

@@ -1,7 +1,7 @@
 //! More worked lists of steps: regions, masters that are lost, copies over a change of the master,
 //! and a history that is longer than what is kept of it.
-use crate::asking::{Ask, Summary, compare};
-use crate::opening::{Mirror, ONE_LEG, THREE_LEGS, TWO_LEGS, open_fused};
+use crate::asking::{Ask, Summary};
+use crate::opening::{ONE_LEG, Setup, THREE_LEGS, TWO_LEGS};
 use crate::worked::{after, has, holds, stand};
 use nm_replay::check;
 use nm_stripe::{LegState, Policy, Refusal};
@@ -9,36 +9,36 @@ use std::alloc::{AllocError, Global};
 use std::test::Fail;
 
 /// Two legs, of which each region has its own.
-const STRIPED_LEGS: Mirror = Mirror {
+pub const STRIPED_LEGS: Setup = Setup {
     policy: Policy::Striped,
     ..TWO_LEGS
 };
 
 /// Two legs, of which the first fails its first call.
-const FIRST_FAILS: Mirror = Mirror {
+pub const FIRST_FAILS: Setup = Setup {
     fuse: Some((0, 1)),
     ..TWO_LEGS
 };
 
 /// Three legs, of which the second fails its first call.
-const SECOND_FAILS: Mirror = Mirror {
+pub const SECOND_OF_THREE_FAILS: Setup = Setup {
     fuse: Some((1, 1)),
     ..THREE_LEGS
 };
 
 /// Four blocks in one region, on three legs.
-const ONE_REGION: Mirror = Mirror {
+const ONE_REGION: Setup = Setup {
     blocks: 4,
     ..THREE_LEGS
 };
 
 /// As `ONE_REGION`, where the first leg fails its first call.
-const FIRST_OF_THREE_FAILS: Mirror = Mirror {
+const FIRST_OF_THREE_FAILS: Setup = Setup {
     fuse: Some((0, 1)),
     ..ONE_REGION
 };
 
-const DIRTY_REGION: [(Ask, Summary); 5] = [
+pub const DIRTY_REGION: [(Ask, Summary); 5] = [
     (Ask::Begin(5, 0x00), Summary::Begun(0)),
     (Ask::Read(7), Summary::Value(0, 0x00)),
     (Ask::Push(0, 0), Summary::Pushed(1)),
@@ -51,7 +51,7 @@ fn a_region_that_is_written_is_read_from_the_master(rt: HostRuntime) -> Result<(
     has(&rt, rt.alloc(), STRIPED_LEGS, &DIRTY_REGION)
 }
 
-const PUSH_LOSES_THE_MASTER: [(Ask, Summary); 7] = [
+pub const PUSH_LOSES_THE_MASTER: [(Ask, Summary); 7] = [
     (Ask::Begin(0, 0xaa), Summary::Begun(0)),
     (Ask::Begin(1, 0xbb), Summary::Begun(1)),
     (Ask::Push(0, 0), Summary::LegLost(0)),
@@ -73,7 +73,7 @@ fn a_push_loses_the_master(rt: HostRuntime) -> Result<(), Fail> {
     Ok(())
 }
 
-const LAST_IS_MASTER: [(Ask, Summary); 7] = [
+pub const LAST_IS_MASTER: [(Ask, Summary); 7] = [
     (Ask::Begin(0, 0xaa), Summary::Begun(0)),
     (Ask::Push(0, 2), Summary::Pushed(2)),
     (Ask::Push(0, 1), Summary::LegLost(1)),
@@ -85,7 +85,7 @@ const LAST_IS_MASTER: [(Ask, Summary); 7] = [
 
 #[test]
 fn a_leg_whose_write_was_torn_does_not_become_master(rt: HostRuntime) -> Result<(), Fail> {
-    let stripe = after(&rt, rt.alloc(), SECOND_FAILS, &LAST_IS_MASTER)?;
+    let stripe = after(&rt, rt.alloc(), SECOND_OF_THREE_FAILS, &LAST_IS_MASTER)?;
     holds(&rt, &stripe, 1, 0, (0xaa, 0x00));
     Ok(())
 }
@@ -143,7 +143,7 @@ fn a_copy_loses_the_master(rt: HostRuntime) -> Result<(), Fail> {
     Ok(())
 }
 
-const TICKETS_ARE_NO_PLACES: [(Ask, Summary); 5] = [
+pub const TICKETS_ARE_NO_PLACES: [(Ask, Summary); 5] = [
     (Ask::Begin(0, 0xaa), Summary::Begun(0)),
     (Ask::Push(0, 0), Summary::Complete(0)),
     (Ask::Claim(0), Summary::Written(0)),
@@ -157,7 +157,7 @@ fn a_ticket_is_not_given_again(rt: HostRuntime) -> Result<(), Fail> {
 }
 
 /// One read more than entries are kept.
-fn many_reads(alloc: Global) -> Result<Vec<(Ask, Summary)>, AllocError> {
+pub fn many_reads(alloc: Global) -> Result<Vec<(Ask, Summary)>, AllocError> {
     let mut rows = Vec::new(alloc);
     for number in 0..1025 {
         rows.push((Ask::Read(0), Summary::Value(number, 0x00)))?;
@@ -167,8 +167,7 @@ fn many_reads(alloc: Global) -> Result<Vec<(Ask, Summary)>, AllocError> {
 
 #[test]
 fn the_last_1024_entries_are_kept(rt: HostRuntime) -> Result<(), Fail> {
-    let mut stripe = open_fused(&rt, rt.alloc(), ONE_LEG)?;
-    compare(&rt, rt.alloc(), &mut stripe, &many_reads(rt.alloc())?)?;
+    let stripe = after(&rt, rt.alloc(), ONE_LEG, &many_reads(rt.alloc())?)?;
     let kept = stripe.entries(rt.alloc())?;
     assert_eq!(rt; (stripe.total(), kept.len()), (1025, 1024));
     assert!(rt; check(&kept));

@@ -11,6 +11,8 @@ mod comparing;
 #[cfg(test)]
 mod healing;
 #[cfg(test)]
+mod memory;
+#[cfg(test)]
 mod opening;
 #[cfg(test)]
 mod parts;

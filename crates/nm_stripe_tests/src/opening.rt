@@ -8,7 +8,7 @@ use std::test::Fail;
 
 /// What a stripe is opened with.
 #[derive(Clone, Copy)]
-pub struct Mirror {
+pub struct Setup {
     pub legs: u8,
     pub in_sync: u8,
     pub fill: u8,
@@ -22,7 +22,7 @@ pub struct Mirror {
 }
 
 /// One leg that fails no call, that reads in turn, and whose first entry has number 0.
-pub const ONE_LEG: Mirror = Mirror {
+pub const ONE_LEG: Setup = Setup {
     legs: 1,
     in_sync: 1,
     fill: 0,
@@ -35,14 +35,22 @@ pub const ONE_LEG: Mirror = Mirror {
 };
 
 /// Two legs of two regions.
-pub const TWO_LEGS: Mirror = Mirror {
+pub const TWO_LEGS: Setup = Setup {
     legs: 2,
     in_sync: 3,
     ..ONE_LEG
 };
 
+/// Two legs of two regions, each of 8 blocks.
+pub const LONGER: Setup = Setup {
+    blocks: 16,
+    region: 8,
+    chunk: 4,
+    ..TWO_LEGS
+};
+
 /// Three legs of two regions.
-pub const THREE_LEGS: Mirror = Mirror {
+pub const THREE_LEGS: Setup = Setup {
     legs: 3,
     in_sync: 7,
     ..ONE_LEG
@@ -53,14 +61,14 @@ pub const THREE_LEGS: Mirror = Mirror {
 pub fn try_open(
     rt: &impl Abort,
     alloc: Global,
-    mirror: Mirror,
+    setup: Setup,
 ) -> Result<Result<Stripe<FuseLeg>, Vec<FuseLeg>>, Fail> {
-    let legs = mirror.legs;
-    let blocks = mirror.blocks;
-    let fill = mirror.fill;
-    let in_sync = mirror.in_sync;
-    let region = mirror.region;
-    let chunk = mirror.chunk;
+    let legs = setup.legs;
+    let blocks = setup.blocks;
+    let fill = setup.fill;
+    let in_sync = setup.in_sync;
+    let region = setup.region;
+    let chunk = setup.chunk;
     assert!(rt; 1 <= legs && legs <= 8 && in_sync % 2 == 1);
     assert!(rt; 1 <= blocks && blocks <= 65536);
     assert!(rt; 1 <= region && region <= 65536 && 1 <= chunk && chunk <= 65536);
@@ -74,7 +82,7 @@ pub fn try_open(
         region,
         chunk,
     };
-    match Stripe::open(alloc, place, all, in_sync, mirror.first, mirror.policy) {
+    match Stripe::open(alloc, place, all, in_sync, setup.first, setup.policy) {
         Ok(stripe) => Ok(Ok(stripe)),
         Err((_memory, legs)) => Ok(Err(legs)),
     }
@@ -86,11 +94,16 @@ pub fn fuse(rt: &impl Abort, stripe: &Stripe<FuseLeg>, leg: u8, call: u64) {
     stripe.part(leg).set(call);
 }
 
-/// As `try_open`, where memory is ample, and with the fuse set.
-pub fn open_fused(rt: &impl Abort, alloc: Global, mirror: Mirror) -> Result<Stripe<FuseLeg>, Fail> {
-    let stripe = try_open(rt, alloc, mirror)?.ok().ok_or("no memory")?;
-    if let Some((leg, call)) = mirror.fuse {
-        fuse(rt, &stripe, leg, call);
+/// Sets the fuse that the setup names, where it names one.
+pub fn fuse_of(rt: &impl Abort, stripe: &Stripe<FuseLeg>, setup: Setup) {
+    if let Some((leg, call)) = setup.fuse {
+        fuse(rt, stripe, leg, call);
     }
+}
+
+/// As `try_open`, where memory is ample, and with the fuse set.
+pub fn open_fused(rt: &impl Abort, alloc: Global, setup: Setup) -> Result<Stripe<FuseLeg>, Fail> {
+    let stripe = try_open(rt, alloc, setup)?.ok().ok_or("no memory")?;
+    fuse_of(rt, &stripe, setup);
     Ok(stripe)
 }

@@ -1,7 +1,7 @@
 //! Writes of parts of a block: worked lists of steps, what comes back, and which legs are called.
 use crate::asking::{Ask, Summary, may_ask, part};
 use crate::calls::compare_calls;
-use crate::opening::{Mirror, ONE_LEG, TWO_LEGS, fuse, open_fused};
+use crate::opening::{ONE_LEG, Setup, TWO_LEGS, fuse, open_fused};
 use crate::worked::{after, has};
 use nm_fanout::Data;
 use nm_leg::LegPart;
@@ -11,7 +11,7 @@ use std::alloc::Global;
 use std::process::Abort;
 use std::test::Fail;
 
-const OVER_A_WRITE: [(Ask, Summary); 9] = [
+pub const OVER_A_WRITE: [(Ask, Summary); 9] = [
     (Ask::Begin(0, 0xaa), Summary::Begun(0)),
     (
         Ask::Patch(0, 0, 4, 0xbb),
@@ -48,12 +48,12 @@ fn a_part_is_laid_over_what_the_block_holds(rt: HostRuntime) -> Result<(), Fail>
 }
 
 /// One leg, that fails its first call.
-const LAST_LEG_FAILS: Mirror = Mirror {
+pub const LAST_LEG_FAILS: Setup = Setup {
     fuse: Some((0, 1)),
     ..ONE_LEG
 };
 
-const NOT_READ: [(Ask, Summary); 2] = [
+pub const NOT_READ: [(Ask, Summary); 2] = [
     (Ask::Patch(0, 0, 1, 0xbb), Summary::Refused(Refusal::Fault)),
     (Ask::Patch(0, 0, 1, 0xbb), Summary::Begun(0)),
 ];
@@ -64,13 +64,13 @@ fn a_part_whose_block_is_not_read_does_not_begin(rt: HostRuntime) -> Result<(), 
 }
 
 /// Two legs, of which the first fails its first call.
-const MASTER_FAILS: Mirror = Mirror {
+const MASTER_FAILS: Setup = Setup {
     fuse: Some((0, 1)),
     ..TWO_LEGS
 };
 
 /// The leg that fails goes out, and no ticket is taken.
-const MASTER_LOST: [(Ask, Summary); 3] = [
+pub const PART_LOSES_THE_MASTER: [(Ask, Summary); 3] = [
     (Ask::Patch(0, 0, 1, 0xbb), Summary::LegLost(0)),
     (Ask::Patch(0, 0, 1, 0xbb), Summary::Begun(0)),
     (Ask::Push(0, 1), Summary::Complete(0)),
@@ -78,7 +78,7 @@ const MASTER_LOST: [(Ask, Summary); 3] = [
 
 #[test]
 fn a_part_loses_the_master_that_is_not_read(rt: HostRuntime) -> Result<(), Fail> {
-    let stripe = after(&rt, rt.alloc(), MASTER_FAILS, &MASTER_LOST)?;
+    let stripe = after(&rt, rt.alloc(), MASTER_FAILS, &PART_LOSES_THE_MASTER)?;
     assert_eq!(rt; (stripe.master(), stripe.is_settling()), (1, false));
     Ok(())
 }

@@ -1,9 +1,9 @@
-//! Each refusal of each step once, where its condition alone holds. What is refused changes
-//! nothing: the steps after it answer as if it had not been asked for.
+//! Each refusal of each step once, where its condition alone holds. What is refused changes nothing:
+//! the steps after it answer as if it had not been asked for.
 //!
 //! A stripe full of records stands in `stripes.rt`.
 use crate::asking::{Ask, Summary};
-use crate::opening::{Mirror, ONE_LEG, THREE_LEGS, TWO_LEGS};
+use crate::opening::{ONE_LEG, Setup, THREE_LEGS, TWO_LEGS};
 use crate::worked::has;
 use nm_stripe::Refusal;
 use std::test::Fail;
@@ -27,7 +27,7 @@ const NOT_YET: Summary = Summary::Refused(Refusal::NotYet);
 const FAULT: Summary = Summary::Refused(Refusal::Fault);
 
 /// Three legs, of which the first fails its second call.
-const MASTER_FAILS: Mirror = Mirror {
+const MASTER_FAILS: Setup = Setup {
     fuse: Some((0, 2)),
     ..THREE_LEGS
 };
@@ -104,7 +104,7 @@ fn what_two_legs_in_sync_refuse(rt: HostRuntime) -> Result<(), Fail> {
 }
 
 /// Two legs of which the second joins, behind everywhere.
-const JOINING: Mirror = Mirror {
+const JOINING: Setup = Setup {
     in_sync: 1,
     ..TWO_LEGS
 };
@@ -124,7 +124,7 @@ fn what_a_stripe_refuses_with_a_leg_that_joins(rt: HostRuntime) -> Result<(), Fa
 }
 
 /// As `JOINING`, where the first leg fails its first call.
-const JOINING_A_LEG_THAT_FAILS: Mirror = Mirror {
+const JOINING_A_LEG_THAT_FAILS: Setup = Setup {
     fuse: Some((0, 1)),
     ..JOINING
 };
@@ -141,7 +141,7 @@ fn a_copy_fails_and_no_write_begins_beside_it(rt: HostRuntime) -> Result<(), Fai
 }
 
 /// Three legs of which the first alone is in sync.
-const TWO_JOIN: Mirror = Mirror {
+const TWO_JOIN: Setup = Setup {
     in_sync: 1,
     ..THREE_LEGS
 };
@@ -157,7 +157,7 @@ fn one_leg_is_copied_at_a_time(rt: HostRuntime) -> Result<(), Fail> {
 }
 
 /// No number is left for an entry.
-const NUMBERED_OUT: Mirror = Mirror {
+const NUMBERED_OUT: Setup = Setup {
     first: 9_223_372_036_854_775_808,
     ..ONE_LEG
 };
@@ -173,7 +173,7 @@ fn no_number_reaches_two_to_the_63(rt: HostRuntime) -> Result<(), Fail> {
 }
 
 /// One leg, that fails its first call.
-const LAST_LEG_FAILS: Mirror = Mirror {
+const LAST_LEG_FAILS: Setup = Setup {
     fuse: Some((0, 1)),
     ..ONE_LEG
 };

@@ -1,59 +1,70 @@
 //! Worked lists of steps, with a leg that fails or is copied, and what the stripe is after them.
 use crate::asking::{Ask, Summary, compare};
-use crate::opening::{Mirror, TWO_LEGS, fuse, open_fused};
-use crate::worked::{after, has, holds, stand};
+use crate::opening::{LONGER, ONE_LEG, Setup, TWO_LEGS};
+use crate::worked::{after, after_again, has, holds, stand};
+use nm_leg::FuseLeg;
 use nm_replay::{Kind, check};
-use nm_stripe::{LegState, Policy, Refusal};
+use nm_stripe::{LegState, Policy, Refusal, Stripe};
+use std::process::Abort;
 use std::test::Fail;
 
 const SETTLING: Summary = Summary::Refused(Refusal::Settling);
 
-/// 16 blocks in regions of 8.
-const LONGER: Mirror = Mirror {
-    blocks: 16,
-    region: 8,
-    chunk: 4,
-    ..TWO_LEGS
+/// One block on one leg.
+pub const ONE_BLOCK: Setup = Setup {
+    blocks: 1,
+    region: 1,
+    chunk: 1,
+    ..ONE_LEG
 };
 
 /// As `LONGER`, where the first leg fails its first call.
-const FIRST_OF_LONGER_FAILS: Mirror = Mirror {
+pub const FIRST_OF_LONGER_FAILS: Setup = Setup {
     fuse: Some((0, 1)),
     ..LONGER
 };
 
 /// As `LONGER`, on three legs.
-const LONGER_OF_THREE: Mirror = Mirror {
+pub const LONGER_OF_THREE: Setup = Setup {
     legs: 3,
     in_sync: 7,
     ..LONGER
 };
 
 /// 10 blocks in regions of 4: the last region is short.
-const SHORTER: Mirror = Mirror {
+pub const SHORTER: Setup = Setup {
     blocks: 10,
     ..TWO_LEGS
 };
 
 /// Two legs, of which the first fails its first call.
-const FIRST_FAILS: Mirror = Mirror {
+const FIRST_FAILS: Setup = Setup {
     fuse: Some((0, 1)),
     ..TWO_LEGS
 };
 
 /// Two legs, of which the second fails its first call.
-const SECOND_FAILS: Mirror = Mirror {
+pub const SECOND_FAILS: Setup = Setup {
     fuse: Some((1, 1)),
     ..TWO_LEGS
 };
 
 /// Two legs, of which each region has its own, and the second fails its first call.
-const SECOND_OF_STRIPED_FAILS: Mirror = Mirror {
+pub const SECOND_OF_STRIPED_FAILS: Setup = Setup {
     policy: Policy::Striped,
     ..SECOND_FAILS
 };
 
-const MASTER_HAD_IT: [(Ask, Summary); 8] = [
+#[test]
+fn no_steps_on_a_new_stripe_leave_it_new(rt: HostRuntime) -> Result<(), Fail> {
+    let stripe = after(&rt, rt.alloc(), ONE_BLOCK, &[])?;
+    let kept = stripe.entries(rt.alloc())?;
+    assert_eq!(rt; (stripe.total(), kept.len()), (0, 0));
+    stand(&rt, &stripe, 0, &[(LegState::InSync, 0)]);
+    Ok(())
+}
+
+pub const MASTER_HAD_IT: [(Ask, Summary); 8] = [
     (Ask::Begin(3, 0xaa), Summary::Begun(0)),
     (Ask::Push(0, 0), Summary::Pushed(1)),
     (Ask::Read(3), Summary::Value(1, 0xaa)),
@@ -71,7 +82,7 @@ fn the_master_fails_after_it_had_the_write(rt: HostRuntime) -> Result<(), Fail> 
     Ok(())
 }
 
-const OTHER_HAD_IT: [(Ask, Summary); 7] = [
+pub const OTHER_HAD_IT: [(Ask, Summary); 7] = [
     (Ask::Begin(3, 0xaa), Summary::Begun(0)),
     (Ask::Push(0, 1), Summary::Pushed(1)),
     (Ask::Read(3), Summary::Value(0, 0x00)),
@@ -86,7 +97,7 @@ fn the_other_leg_alone_had_the_write(rt: HostRuntime) -> Result<(), Fail> {
     has(&rt, rt.alloc(), LONGER, &OTHER_HAD_IT)
 }
 
-const THREE_UNDER_WAY: [(Ask, Summary); 15] = [
+pub const THREE_UNDER_WAY: [(Ask, Summary); 15] = [
     (Ask::Begin(1, 0xa1), Summary::Begun(0)),
     (Ask::Begin(2, 0xb2), Summary::Begun(1)),
     (Ask::Begin(9, 0xc3), Summary::Begun(2)),
@@ -170,7 +181,7 @@ fn a_new_leg_is_copied_while_writes_go_on(rt: HostRuntime) -> Result<(), Fail> {
     Ok(())
 }
 
-const SHORT_REGION: [(Ask, Summary); 10] = [
+pub const SHORT_REGION: [(Ask, Summary); 10] = [
     (Ask::Fail(1), Summary::Failed),
     (Ask::Begin(0, 0xaa), Summary::Begun(0)),
     (Ask::Push(0, 0), Summary::Complete(0)),
@@ -188,7 +199,33 @@ fn the_last_region_may_be_short(rt: HostRuntime) -> Result<(), Fail> {
     has(&rt, rt.alloc(), SHORTER, &SHORT_REGION)
 }
 
-const LAST_LEG_READS: [(Ask, Summary); 5] = [
+/// The steps that may follow on `SHORT_REGION`: both writes were finished and not claimed.
+const GOES_ON: [(Ask, Summary); 4] = [
+    (Ask::Claim(1), Summary::Written(1)),
+    (Ask::Claim(0), Summary::Written(0)),
+    (Ask::Read(9), Summary::Value(5, 0xbb)),
+    (Ask::Begin(5, 0xcc), Summary::Begun(2)),
+];
+
+/// What a stripe is after `SHORT_REGION`.
+fn is_after_short_region(rt: &impl Abort, stripe: &Stripe<FuseLeg>) {
+    let legs = [(LegState::InSync, 0), (LegState::Joining, 6)];
+    stand(rt, stripe, 0, &legs);
+    assert_eq!(rt; (stripe.total(), stripe.next_number()), (5, 5));
+}
+
+#[test]
+fn no_steps_change_nothing(rt: HostRuntime) -> Result<(), Fail> {
+    let mut stripe = after(&rt, rt.alloc(), SHORTER, &SHORT_REGION)?;
+    is_after_short_region(&rt, &stripe);
+    let before = stripe.entries(rt.alloc())?;
+    compare(&rt, rt.alloc(), &mut stripe, &[])?;
+    is_after_short_region(&rt, &stripe);
+    assert_eq!(rt; stripe.entries(rt.alloc())?, before);
+    compare(&rt, rt.alloc(), &mut stripe, &GOES_ON)
+}
+
+pub const LAST_LEG_READS: [(Ask, Summary); 5] = [
     (Ask::Fail(1), Summary::Failed),
     (Ask::Read(0), Summary::Refused(Refusal::Fault)),
     (Ask::Read(0), Summary::Value(0, 0x00)),
@@ -196,22 +233,25 @@ const LAST_LEG_READS: [(Ask, Summary); 5] = [
     (Ask::Begin(0, 0xaa), Summary::Begun(0)),
 ];
 
-const LAST_LEG_HALTS: [(Ask, Summary); 2] = [
+pub const LAST_LEG_HALTS: [(Ask, Summary); 2] = [
     (Ask::Push(0, 0), Summary::Halted),
     (Ask::Read(0), Summary::Refused(Refusal::Stopped)),
 ];
 
 #[test]
 fn the_last_leg_is_not_lost(rt: HostRuntime) -> Result<(), Fail> {
-    let mut stripe = open_fused(&rt, rt.alloc(), FIRST_FAILS)?;
-    compare(&rt, rt.alloc(), &mut stripe, &LAST_LEG_READS)?;
-    fuse(&rt, &stripe, 0, 1);
-    compare(&rt, rt.alloc(), &mut stripe, &LAST_LEG_HALTS)?;
+    let stripe = after_again(
+        &rt,
+        rt.alloc(),
+        FIRST_FAILS,
+        &LAST_LEG_READS,
+        &LAST_LEG_HALTS,
+    )?;
     assert!(rt; stripe.is_stopped());
     Ok(())
 }
 
-const TORN: [(Ask, Summary); 10] = [
+pub const TORN: [(Ask, Summary); 10] = [
     (Ask::Begin(0, 0xaa), Summary::Begun(0)),
     (Ask::Begin(0, 0xbb), Summary::Refused(Refusal::Busy(0))),
     (Ask::Push(0, 1), Summary::LegLost(1)),
@@ -231,7 +271,7 @@ fn a_write_that_fails_is_torn(rt: HostRuntime) -> Result<(), Fail> {
     Ok(())
 }
 
-const SYNC_FAILS: [(Ask, Summary); 6] = [
+pub const SYNC_FAILS: [(Ask, Summary); 6] = [
     (Ask::Begin(0, 0xaa), Summary::Begun(0)),
     (Ask::Push(0, 0), Summary::Pushed(1)),
     (Ask::Sync(0), Summary::Synced),
@@ -245,7 +285,7 @@ fn a_sync_that_fails_leaves_all_to_copy(rt: HostRuntime) -> Result<(), Fail> {
     has(&rt, rt.alloc(), SECOND_FAILS, &SYNC_FAILS)
 }
 
-const STRIPED: [(Ask, Summary); 2] = [
+pub const STRIPED: [(Ask, Summary); 2] = [
     (Ask::Read(0), Summary::Value(0, 0x00)),
     (Ask::Read(4), Summary::LegLost(1)),
 ];
@@ -255,7 +295,7 @@ fn the_second_region_is_read_from_the_second_leg(rt: HostRuntime) -> Result<(), 
     has(&rt, rt.alloc(), SECOND_OF_STRIPED_FAILS, &STRIPED)
 }
 
-const MASTER_LOST: [(Ask, Summary); 2] = [
+pub const MASTER_LOST: [(Ask, Summary); 2] = [
     (Ask::Read(0), Summary::LegLost(0)),
     (Ask::Read(0), Summary::Value(0, 0x00)),
 ];
@@ -273,7 +313,7 @@ fn a_read_loses_the_master(rt: HostRuntime) -> Result<(), Fail> {
 }
 
 /// The fuse fails the read, which is the first call of the leg, and not the step that asks first.
-const NAMED_CALL: [(Ask, Summary); 7] = [
+pub const NAMED_CALL: [(Ask, Summary); 7] = [
     (Ask::Begin(3, 0xaa), Summary::Begun(0)),
     (Ask::Read(3), Summary::LegLost(0)),
     (Ask::Push(0, 0), Summary::Refused(Refusal::NotOwed)),

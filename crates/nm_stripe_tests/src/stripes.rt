@@ -2,7 +2,7 @@
 ghost use Rattle.std.specs.Prelude.{◌≡◌, ◌<◌, ◌≤◌, length};
 
 use crate::asking::{Ask, Summary, compare};
-use crate::opening::{Mirror, ONE_LEG, TWO_LEGS, try_open};
+use crate::opening::{LONGER, ONE_LEG, Setup, TWO_LEGS, try_open};
 use crate::worked::{after, has};
 use nm_leg::{FailingLeg, LegPart, LyingLeg};
 use nm_replay::{Block, Entry, Kind, check};
@@ -22,7 +22,7 @@ pub const WRITE_AND_READS: [(Ask, Summary); 7] = [
     (Ask::Read(3), Summary::Value(3, 0xaa)),
 ];
 
-const LAST_NUMBER: [(Ask, Summary); 5] = [
+pub const LAST_NUMBER: [(Ask, Summary); 5] = [
     (Ask::Begin(0, 0xaa), Summary::Begun(0)),
     (Ask::Begin(1, 0xbb), Summary::Refused(Refusal::Exhausted)),
     (Ask::Read(0), Summary::Refused(Refusal::Exhausted)),
@@ -72,22 +72,22 @@ const AFTER_256: [(Ask, Summary); 5] = [
     (Ask::Begin(256, 0xaa), Summary::Begun(256)),
 ];
 
-const LAST_FIRST: Mirror = Mirror {
+pub const LAST_FIRST: Setup = Setup {
     first: 9_223_372_036_854_775_807,
     ..ONE_LEG
 };
 
-const LONG: Mirror = Mirror {
+pub const LONG: Setup = Setup {
     blocks: 300,
     region: 128,
     chunk: 8,
     ..ONE_LEG
 };
 
-#[test]
-fn a_write_takes_effect_at_the_master(rt: HostRuntime) -> Result<(), Fail> {
-    let stripe = after(&rt, rt.alloc(), TWO_LEGS, &WRITE_AND_READS)?;
-    let kept = stripe.entries(rt.alloc())?;
+/// The row of a write and reads, on legs of this shape, and its history.
+fn writes_and_reads(rt: &impl Abort, alloc: Global, with: Setup) -> Result<(), Fail> {
+    let stripe = after(rt, alloc, with, &WRITE_AND_READS)?;
+    let kept = stripe.entries(alloc)?;
     assert_eq!(rt; stripe.total(), 4);
     assert_eq!(rt; kept.len(), 4);
     assert!(rt; check(&kept));
@@ -113,12 +113,22 @@ fn a_write_takes_effect_at_the_master(rt: HostRuntime) -> Result<(), Fail> {
 }
 
 #[test]
+fn a_write_takes_effect_at_the_master(rt: HostRuntime) -> Result<(), Fail> {
+    writes_and_reads(&rt, rt.alloc(), TWO_LEGS)
+}
+
+#[test]
+fn a_write_takes_effect_at_the_master_of_longer_legs(rt: HostRuntime) -> Result<(), Fail> {
+    writes_and_reads(&rt, rt.alloc(), LONGER)
+}
+
+#[test]
 fn the_last_number_is_given_to_one_entry(rt: HostRuntime) -> Result<(), Fail> {
     has(&rt, rt.alloc(), LAST_FIRST, &LAST_NUMBER)
 }
 
 /// 256 begins, and the steps after them.
-fn full_and_after(alloc: Global) -> Result<Vec<(Ask, Summary)>, AllocError> {
+pub fn full_and_after(alloc: Global) -> Result<Vec<(Ask, Summary)>, AllocError> {
     let mut rows = Vec::new(alloc);
     for ticket in 0..256 {
         rows.push((Ask::Begin(ticket, 0xaa), Summary::Begun(ticket)))?;
@@ -178,11 +188,11 @@ fn a_leg_that_lies_is_believed(rt: HostRuntime) -> Result<(), Fail> {
 // Refused memory (`rt try --test --fail-alloc N`), `open` gives back the legs as they were.
 #[test]
 fn a_refused_open_hands_the_legs_back(rt: HostRuntime) -> Result<(), Fail> {
-    let mirror = Mirror {
+    let setup = Setup {
         fill: 0xaa,
         ..TWO_LEGS
     };
-    match try_open(&rt, rt.alloc(), mirror)? {
+    match try_open(&rt, rt.alloc(), setup)? {
         Ok(stripe) => assert_eq!(rt; stripe.legs(), 2),
         Err(mut legs) => {
             assert_eq!(rt; legs.len(), 2);

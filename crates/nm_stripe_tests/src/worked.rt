@@ -1,6 +1,6 @@
 //! A worked list of steps on stripes of its own, and what a stripe is after it.
-use crate::asking::{Ask, Summary, compare_each, compare_with, steps_of};
-use crate::opening::{Mirror, open_fused};
+use crate::asking::{Ask, Summary, compare, compare_each, compare_with, steps_of};
+use crate::opening::{Setup, fuse_of, open_fused};
 use nm_leg::{FuseLeg, LegPart};
 use nm_stripe::{LegState, Stripe};
 use std::alloc::Global;
@@ -30,7 +30,7 @@ fn spare(
 fn same_by_step(
     rt: &impl Abort,
     alloc: Global,
-    with: Mirror,
+    with: Setup,
     rows: &[(Ask, Summary)],
 ) -> Result<(), Fail> {
     let steps = steps_of(alloc, spare(rt, alloc, with.blocks, rows)?, rows)?;
@@ -43,7 +43,7 @@ fn same_by_step(
 fn same_by_run(
     rt: &impl Abort,
     alloc: Global,
-    with: Mirror,
+    with: Setup,
     rows: &[(Ask, Summary)],
 ) -> Result<Stripe<FuseLeg>, Fail> {
     let legs = spare(rt, alloc, with.blocks, rows)?;
@@ -56,18 +56,50 @@ fn same_by_run(
 pub fn after(
     rt: &impl Abort,
     alloc: Global,
-    with: Mirror,
+    with: Setup,
     rows: &[(Ask, Summary)],
 ) -> Result<Stripe<FuseLeg>, Fail> {
     same_by_step(rt, alloc, with, rows)?;
     same_by_run(rt, alloc, with, rows)
 }
 
+/// As `same_by_step`, where the fuse is set again before the last steps. No leg is replaced.
+fn same_by_step_again(
+    rt: &impl Abort,
+    alloc: Global,
+    with: Setup,
+    rows: &[(Ask, Summary)],
+    last: &[(Ask, Summary)],
+) -> Result<(), Fail> {
+    let steps = steps_of(alloc, Vec::new(alloc), rows)?;
+    let last_steps = steps_of(alloc, Vec::new(alloc), last)?;
+    let mut stripe = open_fused(rt, alloc, with)?;
+    compare_each(rt, &mut stripe, steps, rows);
+    fuse_of(rt, &stripe, with);
+    compare_each(rt, &mut stripe, last_steps, last);
+    Ok(())
+}
+
+/// As `after`, where the fuse is set again before the last steps. No leg is replaced.
+pub fn after_again(
+    rt: &impl Abort,
+    alloc: Global,
+    with: Setup,
+    rows: &[(Ask, Summary)],
+    last: &[(Ask, Summary)],
+) -> Result<Stripe<FuseLeg>, Fail> {
+    same_by_step_again(rt, alloc, with, rows, last)?;
+    let mut stripe = same_by_run(rt, alloc, with, rows)?;
+    fuse_of(rt, &stripe, with);
+    compare(rt, alloc, &mut stripe, last)?;
+    Ok(stripe)
+}
+
 /// As `after`, where nothing else is compared.
 pub fn has(
     rt: &impl Abort,
     alloc: Global,
-    with: Mirror,
+    with: Setup,
     rows: &[(Ask, Summary)],
 ) -> Result<(), Fail> {
     after(rt, alloc, with, rows)?;

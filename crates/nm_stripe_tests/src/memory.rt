@@ -1,0 +1,130 @@
+//! The worked lists once more, where all memory is taken before the first step is done.
+use crate::asking::{Ask, Summary, compare_each, steps_of};
+use crate::calls::HEALING;
+use crate::healing::{
+    DIRTY_REGION, FIRST_FAILS, LAST_IS_MASTER, PUSH_LOSES_THE_MASTER, SECOND_OF_THREE_FAILS,
+    STRIPED_LEGS, TICKETS_ARE_NO_PLACES, many_reads,
+};
+use crate::opening::{LONGER, ONE_LEG, Setup, TWO_LEGS, fuse_of, open_fused};
+use crate::patches::{LAST_LEG_FAILS, NOT_READ, OVER_A_WRITE, PART_LOSES_THE_MASTER};
+use crate::rows::{
+    FIRST_OF_LONGER_FAILS, LAST_LEG_HALTS, LAST_LEG_READS, LONGER_OF_THREE, MASTER_HAD_IT,
+    MASTER_LOST, NAMED_CALL, ONE_BLOCK, OTHER_HAD_IT, SECOND_FAILS, SECOND_OF_STRIPED_FAILS,
+    SHORT_REGION, SHORTER, STRIPED, SYNC_FAILS, THREE_UNDER_WAY, TORN,
+};
+use crate::stripes::{LAST_FIRST, LAST_NUMBER, LONG, WRITE_AND_READS, full_and_after};
+use nm_leg::FuseLeg;
+use nm_stripe::{Step, Stripe};
+use std::alloc::Global;
+use std::process::Abort;
+use std::test::Fail;
+
+/// A stripe, and the steps that it is to do.
+#[derive(Drop)]
+struct Prepared {
+    stripe: Stripe<FuseLeg>,
+    steps: Vec<Step<FuseLeg>>,
+}
+
+/// Takes all memory that a list of steps needs, which replaces no leg.
+fn prepare(
+    rt: &impl Abort,
+    alloc: Global,
+    with: Setup,
+    rows: &[(Ask, Summary)],
+) -> Result<Prepared, Fail> {
+    let steps = steps_of(alloc, Vec::new(alloc), rows)?;
+    let stripe = open_fused(rt, alloc, with)?;
+    Ok(Prepared { stripe, steps })
+}
+
+/// Does the steps that were prepared last, and compares their answers.
+fn do_last(rt: &impl Abort, all: &mut Vec<Prepared>, rows: &[(Ask, Summary)]) {
+    match all.pop() {
+        Some(Prepared { mut stripe, steps }) => compare_each(rt, &mut stripe, steps, rows),
+        None => assert!(rt; false, "nothing is prepared"),
+    }
+}
+
+/// The worked lists in which no leg is replaced, but for the one with two fuses and the long ones;
+/// and one in which a leg is copied.
+const LISTS: [(Setup, &[(Ask, Summary)]); 20] = [
+    (LONGER, &WRITE_AND_READS),
+    (ONE_BLOCK, &[]),
+    (LONGER, &MASTER_HAD_IT),
+    (LONGER, &OTHER_HAD_IT),
+    (LONGER_OF_THREE, &THREE_UNDER_WAY),
+    (SHORTER, &SHORT_REGION),
+    (SECOND_FAILS, &TORN),
+    (SECOND_FAILS, &SYNC_FAILS),
+    (SECOND_OF_STRIPED_FAILS, &STRIPED),
+    (FIRST_FAILS, &MASTER_LOST),
+    (LAST_FIRST, &LAST_NUMBER),
+    (STRIPED_LEGS, &DIRTY_REGION),
+    (FIRST_FAILS, &PUSH_LOSES_THE_MASTER),
+    (SECOND_OF_THREE_FAILS, &LAST_IS_MASTER),
+    (ONE_LEG, &TICKETS_ARE_NO_PLACES),
+    (FIRST_OF_LONGER_FAILS, &NAMED_CALL),
+    (TWO_LEGS, &OVER_A_WRITE),
+    (LAST_LEG_FAILS, &NOT_READ),
+    (FIRST_FAILS, &PART_LOSES_THE_MASTER),
+    (TWO_LEGS, &HEALING),
+];
+
+/// Takes all memory that the lists need: first these, then one that is longer than what is kept of
+/// the records, and one that is longer than what is kept of the history.
+fn prepare_all(
+    rt: &impl Abort,
+    alloc: Global,
+    full: &[(Ask, Summary)],
+    reads: &[(Ask, Summary)],
+) -> Result<Vec<Prepared>, Fail> {
+    let mut all = Vec::new(alloc);
+    for (with, rows) in LISTS {
+        all.push(prepare(rt, alloc, with, rows)?)?;
+    }
+    all.push(prepare(rt, alloc, LONG, full)?)?;
+    all.push(prepare(rt, alloc, ONE_LEG, reads)?)?;
+    Ok(all)
+}
+
+/// Does their steps, from the last list to the first.
+fn do_all(
+    rt: &impl Abort,
+    all: &mut Vec<Prepared>,
+    full: &[(Ask, Summary)],
+    reads: &[(Ask, Summary)],
+) {
+    do_last(rt, all, reads);
+    do_last(rt, all, full);
+    for (_, rows) in LISTS.into_iter().rev() {
+        do_last(rt, all, rows);
+    }
+}
+
+/// Does the steps of the last leg in sync, which fails in a read, and then in a write.
+fn do_last_leg(rt: &impl Abort, last: Prepared, halts: Vec<Step<FuseLeg>>) {
+    let Prepared { mut stripe, steps } = last;
+    compare_each(rt, &mut stripe, steps, &LAST_LEG_READS);
+    fuse_of(rt, &stripe, FIRST_FAILS);
+    compare_each(rt, &mut stripe, halts, &LAST_LEG_HALTS);
+}
+
+// The allocations of this test are those before the first step, and one after the last. So with one
+// of them refused (`rt try --test --fail-alloc N`) it fails before the first step, with all of those
+// made, or after the last with the very next number: no step asks for memory.
+#[test]
+fn steps_take_no_memory(rt: HostRuntime) -> Result<(), Fail> {
+    let alloc = rt.alloc();
+    let full = full_and_after(alloc)?;
+    let reads = many_reads(alloc)?;
+    let mut all = prepare_all(&rt, alloc, &full, &reads)?;
+    let last = prepare(&rt, alloc, FIRST_FAILS, &LAST_LEG_READS)?;
+    let halts = steps_of(alloc, Vec::new(alloc), &LAST_LEG_HALTS)?;
+
+    do_all(&rt, &mut all, &full, &reads);
+    do_last_leg(&rt, last, halts);
+    let next = Vec::from_slice(alloc, b"next");
+    assert_eq!(rt; next.ok().ok_or("refused after the last step")?.len(), 4);
+    Ok(())
+}
