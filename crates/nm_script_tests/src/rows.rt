@@ -8,7 +8,7 @@ use std::test::Fail;
 pub type Row = (u8, u64, &'static [u8], &'static [u8]);
 
 /// Scripts in which no leg's call fails.
-pub const PLAIN: [Row; 15] = [
+pub static PLAIN: [Row; 15] = [
     // A write to two legs, with reads before, between and after.
     (
         2,
@@ -181,7 +181,7 @@ const COMPARED_WRITE: Row = (
 );
 
 /// Scripts in which a leg's call fails.
-const FUSED: [Row; 10] = [
+static FUSED: [Row; 10] = [
     // The last leg fails in a read, and then in a write.
     (
         2,
@@ -280,10 +280,10 @@ fn prints(alloc: Global, text: &[u8], printed: &[u8]) -> bool {
 
 #[test]
 fn worked_scripts_print_their_lines(rt: HostRuntime) {
-    for (_, _, text, printed) in PLAIN {
+    for &(_, _, text, printed) in &PLAIN {
         assert!(rt; prints(rt.alloc(), text, printed));
     }
-    for (_, _, text, printed) in FUSED {
+    for &(_, _, text, printed) in &FUSED {
         assert!(rt; prints(rt.alloc(), text, printed));
     }
 }

@@ -28,7 +28,7 @@ const WRITE: (&[u8], &[u8]) = (
 );
 
 /// Scripts, each with all that it prints.
-const SCRIPTS: [(&[u8], &[u8]); 8] = [
+static SCRIPTS: [(&[u8], &[u8]); 8] = [
     // All numbers are in use from the start.
     (
         b"mirror 8 65536 65536 65536 st 9223372036854775808\nbegin 65535 00\nread 0",
@@ -82,7 +82,7 @@ const SCRIPTS: [(&[u8], &[u8]); 8] = [
 
 #[test]
 fn prints_the_answers(rt: HostRuntime) {
-    for (text, printed) in SCRIPTS {
+    for &(text, printed) in &SCRIPTS {
         let ran = run_text(rt.alloc(), text);
         assert_eq!(rt; ran.out.as_slice(), printed);
         assert_eq!(rt; ran.err.as_slice(), b"".as_slice());
@@ -130,7 +130,7 @@ fn prints_more_lines_than_are_buffered(rt: HostRuntime) -> Result<(), Fail> {
 }
 
 /// Lines that are no mirror line, though most have `mirror` as their first word.
-const NO_MIRROR: [&[u8]; 21] = [
+static NO_MIRROR: [&[u8]; 21] = [
     b"mirror",
     b"mirror 0 16 8 4 rr 0",
     b"mirror 9 16 8 4 rr 0",
@@ -155,7 +155,7 @@ const NO_MIRROR: [&[u8]; 21] = [
 ];
 
 /// Lines that are no step on a mirror of 2 legs of 16 blocks.
-const NO_STEP: [&[u8]; 60] = [
+static NO_STEP: [&[u8]; 60] = [
     b"begin",
     b"begin 0",
     b"begin 16 aa",
@@ -219,7 +219,7 @@ const NO_STEP: [&[u8]; 60] = [
 ];
 
 /// Whole texts that are no script, each with the line to name.
-const NO_SCRIPT: [(&[u8], u64); 29] = [
+static NO_SCRIPT: [(&[u8], u64); 29] = [
     (b"", 1),
     (b"\n\n#\n", 1),
     (b"\n\nread 0\nread 1\n", 1),
@@ -296,7 +296,7 @@ fn names_line(alloc: Global, text: &[u8], line: u64) -> Result<bool, Fail> {
 
 #[test]
 fn names_a_line_that_is_no_mirror(rt: HostRuntime) -> Result<(), Fail> {
-    for line in NO_MIRROR {
+    for &line in &NO_MIRROR {
         let mut text = Vec::from_slice(rt.alloc(), b"\n# one\n")?;
         text.extend_from_slice(line)?;
         text.extend_from_slice(b"\nread 99\n")?;
@@ -307,7 +307,7 @@ fn names_a_line_that_is_no_mirror(rt: HostRuntime) -> Result<(), Fail> {
 
 #[test]
 fn names_a_line_that_is_no_step(rt: HostRuntime) -> Result<(), Fail> {
-    for line in NO_STEP {
+    for &line in &NO_STEP {
         let mut text = Vec::from_slice(rt.alloc(), b"\nmirror 2 16 8 4 rr 0\n\nread 15\n# x\n")?;
         text.extend_from_slice(line)?;
         text.extend_from_slice(b"\nread 99\n")?;
@@ -318,7 +318,7 @@ fn names_a_line_that_is_no_step(rt: HostRuntime) -> Result<(), Fail> {
 
 #[test]
 fn names_a_line_of_a_text_that_is_no_script(rt: HostRuntime) -> Result<(), Fail> {
-    for (text, line) in NO_SCRIPT {
+    for &(text, line) in &NO_SCRIPT {
         assert!(rt; names_line(rt.alloc(), text, line)?);
     }
     Ok(())

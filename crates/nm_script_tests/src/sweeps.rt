@@ -198,7 +198,7 @@ fn sweep(rt: &impl Abort, alloc: Global, script: &Ended) -> Result<(), Fail> {
 
 #[test]
 fn each_call_of_each_leg_may_fail(rt: HostRuntime) -> Result<(), Fail> {
-    for (legs, blocks, script, _) in PLAIN {
+    for &(legs, blocks, script, _) in &PLAIN {
         sweep(
             &rt,
             rt.alloc(),
