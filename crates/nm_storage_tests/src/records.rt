@@ -33,17 +33,18 @@ fn owed_to(low: usize, high: usize) -> [bool; LEGS] {
     owed
 }
 
+/// A write of block 3 under way, under ticket 7, that owes legs 0 and 1.
+fn begin_one(alloc: Global) -> Result<Records, Fail> {
+    let mut records = Records::new(alloc)?;
+    let data = Data::Cut(cut(alloc, 0xaa)?);
+    records.begin(7, 3, data, &Block::ZERO, owed_to(0, 1));
+    Ok(records)
+}
+
 #[test]
-fn a_write_reaches_its_legs(rt: HostRuntime) -> Result<(), Fail> {
-    let mut records = Records::new(rt.alloc())?;
-    assert!(rt; records.is_empty());
-    records.begin(
-        7,
-        3,
-        Data::Cut(cut(rt.alloc(), 0xaa)?),
-        &Block::ZERO,
-        owed_to(0, 1),
-    );
+fn a_write_owes_its_legs(rt: HostRuntime) -> Result<(), Fail> {
+    assert!(rt; Records::new(rt.alloc())?.is_empty());
+    let records = begin_one(rt.alloc())?;
     assert_eq!(rt; records.len(), 1);
     assert_eq!(rt; records.unlanded_count(), 1);
     assert_eq!(rt; records.busy_on(3), Some(7));
@@ -51,7 +52,12 @@ fn a_write_reaches_its_legs(rt: HostRuntime) -> Result<(), Fail> {
     assert_eq!(rt; records.next_owed(7), Some(0));
     assert_eq!(rt; records.first_owed(), Some((7, 0)));
     assert_eq!(rt; records.next_owed(3), None);
+    Ok(())
+}
 
+#[test]
+fn a_write_reaches_its_legs(rt: HostRuntime) -> Result<(), Fail> {
+    let mut records = begin_one(rt.alloc())?;
     let place = records.find(7).ok_or("the place of ticket 7")?;
     records.reach_at(place, 0);
     records.land_at(place, 1);
@@ -197,12 +203,32 @@ fn as_many_as_256_records_stand_and_each_is_found(rt: HostRuntime) -> Result<(),
     Ok(())
 }
 
-#[test]
-fn a_leg_leaves_and_the_writes_land_by_rising_ticket(rt: HostRuntime) -> Result<(), Fail> {
-    let mut records = Records::new(rt.alloc())?;
+/// Three writes under way, of which two owe leg 0.
+fn begin_three(alloc: Global) -> Result<Records, Fail> {
+    let mut records = Records::new(alloc)?;
     records.begin(4, 10, Data::Zero, &Block::ZERO, owed_to(0, 1));
     records.begin(6, 12, Data::Zero, &Block::ZERO, owed_to(0, 0));
     records.begin(9, 11, Data::Zero, &Block::ZERO, owed_to(1, 2));
+    Ok(records)
+}
+
+/// Three writes take effect, under the numbers from 20 on.
+fn land_three(records: &mut Records) -> Result<(), Fail> {
+    for number in 20..23 {
+        let place = records.first_unlanded().ok_or("a write to land")?;
+        records.land_at(place, number);
+    }
+    Ok(())
+}
+
+/// The number of the entry of this ticket's write.
+fn entry_of(records: &Records, ticket: u64) -> Result<Option<u64>, Fail> {
+    Ok(records.get(ticket).ok_or("the record of a ticket")?.entry)
+}
+
+#[test]
+fn a_leg_leaves(rt: HostRuntime) -> Result<(), Fail> {
+    let mut records = begin_three(rt.alloc())?;
     assert_eq!(rt; records.busy_among(11, 2), Some(6));
     assert_eq!(rt; records.busy_among(10, 1), Some(4));
     assert_eq!(rt; records.busy_among(13, u64::MAX), None);
@@ -211,23 +237,18 @@ fn a_leg_leaves_and_the_writes_land_by_rising_ticket(rt: HostRuntime) -> Result<
     assert_eq!(rt; records.next_owed(6), None);
     assert_eq!(rt; records.busy_among(11, 2), Some(9));
     assert!(rt; records.is_any_under_way());
-    for number in 20..23 {
-        let place = records.first_unlanded().ok_or("a write to land")?;
-        records.land_at(place, number);
-    }
+    Ok(())
+}
+
+#[test]
+fn a_leg_leaves_and_the_writes_land_by_rising_ticket(rt: HostRuntime) -> Result<(), Fail> {
+    let mut records = begin_three(rt.alloc())?;
+    records.leave(0);
+    land_three(&mut records)?;
     assert_eq!(rt; records.first_unlanded(), None);
     assert_eq!(rt; records.unlanded_count(), 0);
-    assert_eq!(rt;
-        records.get(4).ok_or("the record of ticket 4")?.entry,
-        Some(20)
-    );
-    assert_eq!(rt;
-        records.get(6).ok_or("the record of ticket 6")?.entry,
-        Some(21)
-    );
-    assert_eq!(rt;
-        records.get(9).ok_or("the record of ticket 9")?.entry,
-        Some(22)
-    );
+    assert_eq!(rt; entry_of(&records, 4)?, Some(20));
+    assert_eq!(rt; entry_of(&records, 6)?, Some(21));
+    assert_eq!(rt; entry_of(&records, 9)?, Some(22));
     Ok(())
 }
