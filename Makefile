@@ -15,7 +15,7 @@ help:
 	@echo 'make gate-cost     the gate, with what each crate costs written into docs/ARCHITECTURE.md'
 	@echo 'make must-fail     the must-fail edits alone'
 	@echo 'make wrong-bodies  the wrong bodies that stand outside the gate'
-	@echo 'make fail-alloc    each early allocation of the tests failing in turn (no part of the gate)'
+	@echo 'make fail-alloc    allocations of the tests failing in turn, and whether a step takes memory (no part of the gate)'
 	@echo 'make bench         the stripe and the requests, timed beside plain Rust'
 	@echo 'make bench-server  nbdmirror, timed beside nbdkit and qemu-nbd'
 	@echo 'make fmt           lay out every crate'
