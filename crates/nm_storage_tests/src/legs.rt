@@ -4,6 +4,7 @@ use nm_leg::{
     MemLeg, read_leg_at, sync_leg_at, write_leg_at,
 };
 use nm_replay::{Block, Memory};
+use std::alloc::Global;
 use std::cell::Cell;
 use std::process::Abort;
 use std::test::Fail;
@@ -11,29 +12,66 @@ use std::test::Fail;
 // At 512 bytes a block, more bytes than any process can address.
 const TOO_MANY: u64 = 1 << 60;
 
-// Writes block 1 of the second leg, syncs that leg and reads the block back: which calls succeeded.
-fn write_sync_read<L: LegPart>(
-    rt: &impl Abort,
-    legs: &mut [L],
-    found: &mut Block,
-) -> (bool, bool, bool) {
+// Writes block 1 of the second of two legs: whether that succeeded.
+fn write_second<L: LegPart>(rt: &impl Abort, legs: &mut [L]) -> bool {
     assert_eq!(rt; legs.len(), 2);
     assert!(rt; legs[1].len() > 1);
-    let written = write_leg_at(legs, 1, 1, &[0xaa; 512]).is_ok();
-    let synced = sync_leg_at(legs, 1).is_ok();
-    let read = read_leg_at(legs, 1, 1, found).is_ok();
-    (written, synced, read)
+    write_leg_at(legs, 1, 1, &[0xaa; 512]).is_ok()
+}
+
+// Syncs the second of two legs: whether that succeeded.
+fn sync_second<L: LegPart>(rt: &impl Abort, legs: &mut [L]) -> bool {
+    assert_eq!(rt; legs.len(), 2);
+    sync_leg_at(legs, 1).is_ok()
+}
+
+// Reads block 1 of the second of two legs: whether that succeeded.
+fn read_second<L: LegPart>(rt: &impl Abort, legs: &mut [L], found: &mut Block) -> bool {
+    assert_eq!(rt; legs.len(), 2);
+    assert!(rt; legs[1].len() > 1);
+    read_leg_at(legs, 1, 1, found).is_ok()
+}
+
+// Writes block 1 of the second leg, syncs that leg and reads the block back: all of these calls
+// succeed or none does, and then a block of this byte is read, or the block stays as it was.
+fn write_sync_read<L: LegPart>(rt: &impl Abort, legs: &mut [L], succeeds: bool, read: u8) {
+    let mut found = Block([9; 512]);
+    assert_eq!(rt; write_second(rt, legs), succeeds);
+    assert_eq!(rt; sync_second(rt, legs), succeeds);
+    assert_eq!(rt; read_second(rt, legs, &mut found), succeeds);
+    assert_eq!(rt; found, Block([read; 512]));
+}
+
+// Writes a byte to all of a block of this leg.
+fn write_to<L: LegPart>(rt: &impl Abort, leg: &mut L, at: u64, byte: u8) -> Result<(), LegFault> {
+    assert!(rt; at < leg.len());
+    leg.write(at, &[byte; 512])
+}
+
+// Reads a block of this leg, of which each byte must be this one.
+fn read_from<L: LegPart>(rt: &impl Abort, leg: &mut L, at: u64, byte: u8) -> Result<(), LegFault> {
+    assert!(rt; at < leg.len());
+    let mut found = Block([9; 512]);
+    leg.read(at, &mut found)?;
+    assert_eq!(rt; found, Block([byte; 512]));
+    Ok(())
+}
+
+// A read of this leg fails, and leaves the block that it reads into as it was.
+fn read_fails<L: LegPart>(rt: &impl Abort, leg: &mut L, at: u64) {
+    assert!(rt; at < leg.len());
+    let mut found = Block([9; 512]);
+    assert_eq!(rt; leg.read(at, &mut found), Err(LegFault));
+    assert_eq!(rt; found, Block([9; 512]));
 }
 
 #[test]
 fn a_memory_leg_keeps_what_is_written(rt: HostRuntime) -> Result<(), Fail> {
     let mut leg = MemLeg::new(rt.alloc(), 3)?;
-    assert_eq!(rt; leg.len(), 3);
-    let mut found = Block([9; 512]);
-    leg.write(1, &[0xaa; 512])?;
+    write_to(&rt, &mut leg, 1, 0xaa)?;
     leg.sync()?;
-    leg.read(1, &mut found)?;
-    assert_eq!(rt; found, Block([0xaa; 512]));
+    read_from(&rt, &mut leg, 1, 0xaa)?;
+    assert_eq!(rt; leg.len(), 3);
     assert_eq!(rt; *leg.block(0), Block([0; 512]));
     assert_eq!(rt; *leg.block(2), Block([0; 512]));
     assert_eq!(rt; leg.faults(), 0);
@@ -62,13 +100,8 @@ fn memory_that_is_not_there_is_refused(rt: HostRuntime) {
 #[test]
 fn generic_code_calls_an_honest_leg(rt: HostRuntime) -> Result<(), Fail> {
     let alloc = rt.alloc();
-    let mut found = Block([9; 512]);
     let mut legs = vec![in alloc; MemLeg::new(alloc, 3)?, MemLeg::new(alloc, 3)?]?;
-    assert_eq!(rt;
-        write_sync_read(&rt, &mut legs, &mut found),
-        (true, true, true)
-    );
-    assert_eq!(rt; found, Block([0xaa; 512]));
+    write_sync_read(&rt, &mut legs, true, 0xaa);
     assert_eq!(rt; legs.len(), 2);
     assert_eq!(rt; legs[0].len(), 3);
     assert_eq!(rt; *legs[0].block(1), Block([0; 512]));
@@ -78,32 +111,28 @@ fn generic_code_calls_an_honest_leg(rt: HostRuntime) -> Result<(), Fail> {
 #[test]
 fn a_cached_leg_is_durable_after_a_sync(rt: HostRuntime) -> Result<(), Fail> {
     let mut leg = CachedLeg::new(rt.alloc(), 3)?;
+    write_to(&rt, &mut leg, 1, 0xaa)?;
     assert_eq!(rt; leg.len(), 3);
-    leg.write(1, &[0xaa; 512])?;
     assert_eq!(rt; *leg.durable_block(1), Block([0; 512]));
     leg.sync()?;
     assert_eq!(rt; *leg.durable_block(1), Block([0xaa; 512]));
-    let mut found = Block([9; 512]);
-    leg.read(1, &mut found)?;
-    assert_eq!(rt; found, Block([0xaa; 512]));
+    read_from(&rt, &mut leg, 1, 0xaa)?;
     assert_eq!(rt; leg.faults(), 0);
-    let mut legs = [leg, CachedLeg::new(rt.alloc(), 3)?];
-    assert_eq!(rt;
-        write_sync_read(&rt, &mut legs, &mut found),
-        (true, true, true)
-    );
+    Ok(())
+}
+
+#[test]
+fn generic_code_calls_a_cached_leg(rt: HostRuntime) -> Result<(), Fail> {
+    let alloc = rt.alloc();
+    let mut legs = [CachedLeg::new(alloc, 3)?, CachedLeg::new(alloc, 3)?];
+    write_sync_read(&rt, &mut legs, true, 0xaa);
     Ok(())
 }
 
 #[test]
 fn generic_code_calls_a_failing_leg(rt: HostRuntime) {
     let mut legs = [FailingLeg::new(3), FailingLeg::new(3)];
-    let mut found = Block([9; 512]);
-    assert_eq!(rt;
-        write_sync_read(&rt, &mut legs, &mut found),
-        (false, false, false)
-    );
-    assert_eq!(rt; found, Block([9; 512]));
+    write_sync_read(&rt, &mut legs, false, 9);
     assert_eq!(rt; legs[0].faults(), 0);
     assert_eq!(rt; legs[1].faults(), 3);
 }
@@ -111,12 +140,7 @@ fn generic_code_calls_a_failing_leg(rt: HostRuntime) {
 #[test]
 fn generic_code_calls_a_lying_leg(rt: HostRuntime) {
     let mut legs = [LyingLeg::new(3), LyingLeg::new(3)];
-    let mut found = Block([9; 512]);
-    assert_eq!(rt;
-        write_sync_read(&rt, &mut legs, &mut found),
-        (true, true, true)
-    );
-    assert_eq!(rt; found, Block([255; 512]));
+    write_sync_read(&rt, &mut legs, true, 255);
     assert_eq!(rt; legs[1].faults(), 0);
 }
 
@@ -134,12 +158,7 @@ fn a_counting_leg_counts_what_generic_code_calls(rt: HostRuntime) -> Result<(), 
         CountingLeg::new(MemLeg::new(alloc, 3)?),
         CountingLeg::new(MemLeg::new(alloc, 3)?),
     ];
-    let mut found = Block([9; 512]);
-    assert_eq!(rt;
-        write_sync_read(&rt, &mut legs, &mut found),
-        (true, true, true)
-    );
-    assert_eq!(rt; found, Block([0xaa; 512]));
+    write_sync_read(&rt, &mut legs, true, 0xaa);
     let inner = legs[1].inner();
     assert!(rt; inner.len() > 1);
     assert_eq!(rt; *inner.block(1), Block([0xaa; 512]));
@@ -154,11 +173,7 @@ fn a_counting_leg_counts_failed_calls(rt: HostRuntime) {
         CountingLeg::new(FailingLeg::new(3)),
         CountingLeg::new(FailingLeg::new(3)),
     ];
-    let mut found = Block([9; 512]);
-    assert_eq!(rt;
-        write_sync_read(&rt, &mut legs, &mut found),
-        (false, false, false)
-    );
+    write_sync_read(&rt, &mut legs, false, 9);
     assert_eq!(rt; legs[1].faults(), 3);
     assert_eq!(rt; legs[1].calls(), 3);
 }
@@ -167,11 +182,9 @@ fn a_counting_leg_counts_failed_calls(rt: HostRuntime) {
 fn a_fuse_fails_the_call_that_it_names_and_no_other(rt: HostRuntime) -> Result<(), Fail> {
     let mut leg = FuseLeg::new(rt.alloc(), 3)?;
     assert_eq!(rt; leg.len(), 3);
-    let mut found = Block([9; 512]);
     leg.set(3);
-    leg.write(1, &[0xaa; 512])?;
-    leg.read(1, &mut found)?;
-    assert_eq!(rt; found, Block([0xaa; 512]));
+    write_to(&rt, &mut leg, 1, 0xaa)?;
+    read_from(&rt, &mut leg, 1, 0xaa)?;
     assert_eq!(rt; leg.sync(), Err(LegFault));
     leg.sync()?;
     assert_eq!(rt; leg.faults(), 1);
@@ -181,30 +194,34 @@ fn a_fuse_fails_the_call_that_it_names_and_no_other(rt: HostRuntime) -> Result<(
 #[test]
 fn a_failed_write_is_torn(rt: HostRuntime) -> Result<(), Fail> {
     let mut leg = FuseLeg::with_byte(rt.alloc(), 3, 0xbb)?;
-    assert_eq!(rt; leg.len(), 3);
-    let mut torn = Block([0xbb; 512]);
-    torn.0[..256].fill(0xaa);
     leg.set(2);
     leg.set(1);
-    assert_eq!(rt; leg.write(1, &[0xaa; 512]), Err(LegFault));
+    assert_eq!(rt; write_to(&rt, &mut leg, 1, 0xaa), Err(LegFault));
+    write_to(&rt, &mut leg, 2, 0xaa)?;
+    let mut torn = Block([0xbb; 512]);
+    torn.0[..256].fill(0xaa);
+    assert_eq!(rt; leg.len(), 3);
     assert_eq!(rt; *leg.block(1), torn);
-    leg.write(2, &[0xaa; 512])?;
     assert_eq!(rt; *leg.block(2), Block([0xaa; 512]));
     assert_eq!(rt; leg.faults(), 1);
     Ok(())
 }
 
-#[test]
-fn every_call_fails_from_the_one_that_is_named(rt: HostRuntime) -> Result<(), Fail> {
-    let mut leg = FuseLeg::new(rt.alloc(), 3)?;
+// A leg whose calls failed, all but the first: a read, a sync and a write.
+fn fail_from_the_second(rt: &impl Abort, alloc: Global) -> Result<FuseLeg, Fail> {
+    let mut leg = FuseLeg::new(alloc, 3)?;
     assert_eq!(rt; leg.len(), 3);
-    let mut found = Block([9; 512]);
     leg.fail_from(2);
     leg.sync()?;
-    assert_eq!(rt; leg.read(0, &mut found), Err(LegFault));
-    assert_eq!(rt; found, Block([9; 512]));
+    read_fails(rt, &mut leg, 0);
     assert_eq!(rt; leg.sync(), Err(LegFault));
-    assert_eq!(rt; leg.write(0, &[0xaa; 512]), Err(LegFault));
+    assert_eq!(rt; write_to(rt, &mut leg, 0, 0xaa), Err(LegFault));
+    Ok(leg)
+}
+
+#[test]
+fn every_call_fails_from_the_one_that_is_named(rt: HostRuntime) -> Result<(), Fail> {
+    let mut leg = fail_from_the_second(&rt, rt.alloc())?;
     assert_eq!(rt; leg.faults(), 3);
     leg.set(2);
     leg.sync()?;
@@ -241,16 +258,19 @@ impl Hold for Countdown {
     }
 }
 
+// A hold that holds a call for so many questions.
+fn hold_for(questions: u32) -> Countdown {
+    Countdown {
+        left: Cell::new(questions),
+        asked: Cell::new(0),
+    }
+}
+
 // How often a leg that may wait for so many turns asked its hold, which held it for so many, before
 // its next write was done.
 fn count_asked(rt: &impl Abort, leg: MemLeg, held: u32, turns: u32) -> u32 {
-    let hold = Countdown {
-        left: Cell::new(held),
-        asked: Cell::new(0),
-    };
-    let mut leg = HoldLeg::new(leg, hold, turns);
-    assert!(rt; leg.len() > 1);
-    assert!(rt; leg.write(1, &[0xaa; 512]).is_ok());
+    let mut leg = HoldLeg::new(leg, hold_for(held), turns);
+    assert!(rt; write_to(rt, &mut leg, 1, 0xaa).is_ok());
     leg.hold().asked.get()
 }
 

@@ -2,9 +2,10 @@
 ghost use Rattle.std.specs.Prelude.{◌≡◌, ◌≤◌, length, IfOk};
 
 use bytes::{Bytes, BytesMut};
-use nm_fanout::{Data, LEGS, MOST_RECORDS, RecordData, Records};
+use nm_fanout::{Data, LEGS, MOST_RECORDS, Record, RecordData, Records};
 use nm_replay::Block;
 use std::alloc::{AllocError, Global};
+use std::process::Abort;
 use std::test::Fail;
 
 /// A cut of a receive buffer: 512 bytes of one value.
@@ -24,20 +25,31 @@ fn cut_of(alloc: Global, byte: u8, len: usize) -> Result<Bytes, AllocError>
     buffer.freeze_to(len)
 }
 
-/// The places of the eight legs, with these two owed.
-fn owed_to(low: usize, high: usize) -> [bool; LEGS] {
-    let mut owed = [false; LEGS];
-    for (leg, place) in owed.iter_mut().enumerate() {
-        *place = leg == low || leg == high;
-    }
-    owed
+/// Of the eight legs the first alone is owed.
+fn leg_0() -> [bool; LEGS] {
+    [true, false, false, false, false, false, false, false]
+}
+
+/// Of the eight legs these two are owed.
+fn legs_0_and_1() -> [bool; LEGS] {
+    [true, true, false, false, false, false, false, false]
+}
+
+/// Of the eight legs these two are owed.
+fn legs_1_and_2() -> [bool; LEGS] {
+    [false, true, true, false, false, false, false, false]
+}
+
+/// Of the eight legs these two are owed.
+fn legs_2_and_7() -> [bool; LEGS] {
+    [false, false, true, false, false, false, false, true]
 }
 
 /// A write of block 3 under way, under ticket 7, that owes legs 0 and 1.
 fn begin_one(alloc: Global) -> Result<Records, Fail> {
     let mut records = Records::new(alloc)?;
     let data = Data::Cut(cut(alloc, 0xaa)?);
-    records.begin(7, 3, data, &Block::ZERO, owed_to(0, 1));
+    records.begin(7, 3, data, &Block::ZERO, legs_0_and_1());
     Ok(records)
 }
 
@@ -55,43 +67,60 @@ fn a_write_owes_its_legs(rt: HostRuntime) -> Result<(), Fail> {
     Ok(())
 }
 
+/// The write at this place reaches a leg.
+fn reach(rt: &impl Abort, records: &mut Records, place: usize, leg: u8) {
+    assert!(rt; place < records.len());
+    records.reach_at(place, leg);
+}
+
+/// The write at this place takes effect, under this number.
+fn land(rt: &impl Abort, records: &mut Records, place: usize, number: u64) {
+    assert!(rt; place < records.len());
+    records.land_at(place, number);
+}
+
+/// Claims the write at this place, which must have this entry.
+fn claim(rt: &impl Abort, records: &mut Records, place: usize, number: u64) -> u64 {
+    assert!(rt; place < records.len());
+    assert_eq!(rt; records.at(place).entry, Some(number));
+    records.claim_at(place)
+}
+
 #[test]
 fn a_write_reaches_its_legs(rt: HostRuntime) -> Result<(), Fail> {
     let mut records = begin_one(rt.alloc())?;
     let place = records.find(7).ok_or("the place of ticket 7")?;
-    records.reach_at(place, 0);
-    records.land_at(place, 1);
+    reach(&rt, &mut records, place, 0);
+    land(&rt, &mut records, place, 1);
     assert_eq!(rt; records.unlanded_count(), 0);
     assert_eq!(rt; records.next_owed(7), Some(1));
-    records.reach_at(place, 1);
+    reach(&rt, &mut records, place, 1);
     assert_eq!(rt; records.busy_on(3), None);
     assert_eq!(rt; records.next_owed(7), None);
     assert_eq!(rt; records.first_owed(), None);
-    assert!(rt; place < records.len());
-    assert_eq!(rt; records.at(place).entry, Some(1));
-    assert_eq!(rt; records.claim_at(place), 1);
+    assert_eq!(rt; claim(&rt, &mut records, place, 1), 1);
     assert!(rt; records.is_empty());
     Ok(())
 }
 
-#[test]
-fn a_record_lends_what_it_holds(rt: HostRuntime) -> Result<(), Fail> {
-    let mut records = Records::new(rt.alloc())?;
-    records.begin(
-        7,
-        3,
-        Data::Cut(cut(rt.alloc(), 0xaa)?),
-        &Block::ZERO,
-        owed_to(2, 7),
-    );
-    let record = records.get(7).ok_or("the record of ticket 7")?;
-    assert_eq!(rt; record.block, 3);
-    assert_eq!(rt; record.data.bytes(), [0xaa; 512].as_slice());
+/// Compares whom a record owes, which are legs 2 and 7.
+fn compare_owed(rt: &impl Abort, record: &Record) {
     assert!(rt; record.owes(2) && record.owes(7));
     assert!(rt; !record.owes(3) && !record.owes(8) && !record.owes(255));
     assert_eq!(rt; record.owed_count(), 2);
     assert!(rt; record.is_under_way());
     assert_eq!(rt; record.lowest_owed(), Some(2));
+}
+
+#[test]
+fn a_record_lends_what_it_holds(rt: HostRuntime) -> Result<(), Fail> {
+    let mut records = Records::new(rt.alloc())?;
+    let data = Data::Cut(cut(rt.alloc(), 0xaa)?);
+    records.begin(7, 3, data, &Block::ZERO, legs_2_and_7());
+    let record = records.get(7).ok_or("the record of ticket 7")?;
+    assert_eq!(rt; record.block, 3);
+    assert_eq!(rt; record.data.bytes(), [0xaa; 512].as_slice());
+    compare_owed(&rt, record);
     assert_eq!(rt; record.entry, None);
     assert!(rt; records.get(3).is_none());
     Ok(())
@@ -139,28 +168,34 @@ fn a_part_fits_where_it_ends_inside_the_block(rt: HostRuntime) -> Result<(), Fai
     Ok(())
 }
 
+/// A write of the last two bytes of a block under way, and one of zeroes to all but the first and
+/// the last byte of another.
+fn begin_parts(rt: &impl Abort, alloc: Global) -> Result<Records, Fail> {
+    let mut records = Records::new(alloc)?;
+    let base = Block([0xaa; 512]);
+    let bytes = cut_of(alloc, 0xbb, 2)?;
+    let part = Data::Part { from: 510, bytes };
+    assert!(rt; part.is_part() && part.fits_block());
+    records.begin(7, 3, part, &base, legs_0_and_1());
+    let zeroes = Data::ZeroPart { from: 1, len: 510 };
+    records.begin(8, 4, zeroes, &base, legs_0_and_1());
+    Ok(records)
+}
+
 #[test]
 fn a_part_is_laid_over_what_the_block_holds(rt: HostRuntime) -> Result<(), Fail> {
-    let mut records = Records::new(rt.alloc())?;
-    let base = Block([0xaa; 512]);
-    let part = Data::Part {
-        from: 510,
-        bytes: cut_of(rt.alloc(), 0xbb, 2)?,
-    };
-    assert!(rt; part.is_part() && part.fits_block());
-    records.begin(7, 3, part, &base, owed_to(0, 1));
-    records.begin(
-        8,
-        4,
-        Data::ZeroPart { from: 1, len: 510 },
-        &base,
-        owed_to(0, 1),
-    );
+    let records = begin_parts(&rt, rt.alloc())?;
     let mut laid = [0xaa; 512];
     laid[510] = 0xbb;
     laid[511] = 0xbb;
     let first = records.get(7).ok_or("the record of ticket 7")?;
     assert_eq!(rt; first.data.bytes(), laid.as_slice());
+    Ok(())
+}
+
+#[test]
+fn zeroes_are_laid_over_what_the_block_holds(rt: HostRuntime) -> Result<(), Fail> {
+    let records = begin_parts(&rt, rt.alloc())?;
     let mut cleared = [0; 512];
     cleared[0] = 0xaa;
     cleared[511] = 0xaa;
@@ -175,7 +210,7 @@ fn a_claim_gives_the_block_of_a_part_back(rt: HostRuntime) -> Result<(), Fail> {
     for count in 0..300 {
         assert!(rt; records.is_empty());
         let part = Data::ZeroPart { from: 0, len: 1 };
-        records.begin(count, 3, part, &Block::ZERO, owed_to(0, 0));
+        records.begin(count, 3, part, &Block::ZERO, leg_0());
         let place = records.first_unlanded().ok_or("a write to land")?;
         records.land_at(place, count);
         assert!(rt; place < records.len());
@@ -185,38 +220,49 @@ fn a_claim_gives_the_block_of_a_part_back(rt: HostRuntime) -> Result<(), Fail> {
     Ok(())
 }
 
-#[test]
-fn as_many_as_256_records_stand_and_each_is_found(rt: HostRuntime) -> Result<(), Fail> {
-    let mut records = Records::new(rt.alloc())?;
+/// As many writes under way as a list has records of: their tickets are even.
+fn begin_256(rt: &impl Abort, alloc: Global) -> Result<Records, Fail> {
+    let mut records = Records::new(alloc)?;
     assert_eq!(rt; records.find(0), None);
     for count in 0..256 {
         assert!(rt; !records.is_full());
-        records.begin(2 * count, count, Data::Zero, &Block::ZERO, owed_to(0, 0));
+        records.begin(2 * count, count, Data::Zero, &Block::ZERO, leg_0());
     }
-    assert_eq!(rt; records.len(), MOST_RECORDS);
-    assert_eq!(rt; records.unlanded_count(), 256);
-    assert!(rt; records.is_full());
+    Ok(records)
+}
+
+/// Finds each of those writes, and none beside it.
+fn find_256(rt: &impl Abort, records: &Records) {
     for count in 0..256 {
         assert_eq!(rt; records.find(2 * count), Some(count as usize));
         assert_eq!(rt; records.find(2 * count + 1), None);
     }
+}
+
+#[test]
+fn as_many_as_256_records_stand_and_each_is_found(rt: HostRuntime) -> Result<(), Fail> {
+    let records = begin_256(&rt, rt.alloc())?;
+    assert_eq!(rt; records.len(), MOST_RECORDS);
+    assert_eq!(rt; records.unlanded_count(), 256);
+    assert!(rt; records.is_full());
+    find_256(&rt, &records);
     Ok(())
 }
 
 /// Three writes under way, of which two owe leg 0.
 fn begin_three(alloc: Global) -> Result<Records, Fail> {
     let mut records = Records::new(alloc)?;
-    records.begin(4, 10, Data::Zero, &Block::ZERO, owed_to(0, 1));
-    records.begin(6, 12, Data::Zero, &Block::ZERO, owed_to(0, 0));
-    records.begin(9, 11, Data::Zero, &Block::ZERO, owed_to(1, 2));
+    records.begin(4, 10, Data::Zero, &Block::ZERO, legs_0_and_1());
+    records.begin(6, 12, Data::Zero, &Block::ZERO, leg_0());
+    records.begin(9, 11, Data::Zero, &Block::ZERO, legs_1_and_2());
     Ok(records)
 }
 
 /// Three writes take effect, under the numbers from 20 on.
-fn land_three(records: &mut Records) -> Result<(), Fail> {
+fn land_three(rt: &impl Abort, records: &mut Records) -> Result<(), Fail> {
     for number in 20..23 {
         let place = records.first_unlanded().ok_or("a write to land")?;
-        records.land_at(place, number);
+        land(rt, records, place, number);
     }
     Ok(())
 }
@@ -244,7 +290,7 @@ fn a_leg_leaves(rt: HostRuntime) -> Result<(), Fail> {
 fn a_leg_leaves_and_the_writes_land_by_rising_ticket(rt: HostRuntime) -> Result<(), Fail> {
     let mut records = begin_three(rt.alloc())?;
     records.leave(0);
-    land_three(&mut records)?;
+    land_three(&rt, &mut records)?;
     assert_eq!(rt; records.first_unlanded(), None);
     assert_eq!(rt; records.unlanded_count(), 0);
     assert_eq!(rt; entry_of(&records, 4)?, Some(20));

@@ -1,9 +1,11 @@
 //! The region table: a leg that goes out, comes back and is copied, with a short last region.
 use nm_regions::{CopyPlace, RegionState, Regions};
+use std::alloc::{AllocError, Global};
+use std::process::Abort;
 use std::test::Fail;
 
 #[test]
-fn a_leg_that_comes_back_is_behind_where_writes_began(rt: HostRuntime) -> Result<(), Fail> {
+fn a_region_is_dirty_while_a_write_is_under_way(rt: HostRuntime) -> Result<(), Fail> {
     let mut table = Regions::new(rt.alloc(), 10, 4, &[true, true])?;
     assert_eq!(rt; table.left(1), 0);
     assert!(rt; table.is_current(1, 9));
@@ -14,14 +16,37 @@ fn a_leg_that_comes_back_is_behind_where_writes_began(rt: HostRuntime) -> Result
     assert!(rt; !table.is_quiet(0));
     table.finish(0);
     assert_eq!(rt; table.state(0), RegionState::Clean);
+    Ok(())
+}
+
+// Of two legs the second comes back, after writes to blocks 0 and 9 that it was out for.
+fn come_back(rt: &impl Abort, alloc: Global) -> Result<Regions, AllocError> {
+    let mut table = Regions::new(alloc, 10, 4, &[true, true])?;
+    table.go_out(1);
+    table.begin(0);
+    table.finish(0);
     table.begin(9);
     table.finish(9);
     assert!(rt; table.is_out(1));
     table.attach(1);
+    Ok(table)
+}
+
+#[test]
+fn a_leg_that_comes_back_is_behind_where_writes_began(rt: HostRuntime) -> Result<(), Fail> {
+    let table = come_back(&rt, rt.alloc())?;
+    assert!(rt; table.legs() == 2 && !table.is_out(1));
     assert_eq!(rt; table.left(1), 6);
     assert_eq!(rt; table.lowest_behind(1), Some(0));
     assert_eq!(rt; table.left(0), 0);
     assert!(rt; !table.has_behind(0));
+    Ok(())
+}
+
+#[test]
+fn a_write_goes_to_the_legs_that_are_current(rt: HostRuntime) -> Result<(), Fail> {
+    let table = come_back(&rt, rt.alloc())?;
+    assert_eq!(rt; table.blocks(), 10);
     assert_eq!(rt;
         table.targets(5),
         [true, true, false, false, false, false, false, false]
@@ -34,7 +59,7 @@ fn a_leg_that_comes_back_is_behind_where_writes_began(rt: HostRuntime) -> Result
 }
 
 #[test]
-fn a_joining_leg_is_copied_region_by_region(rt: HostRuntime) -> Result<(), Fail> {
+fn a_copy_has_its_place_in_a_region(rt: HostRuntime) -> Result<(), Fail> {
     let mut table = Regions::new(rt.alloc(), 8, 4, &[true, false])?;
     assert_eq!(rt; table.left(1), 8);
     table.open_copy(1, 0);
@@ -52,11 +77,27 @@ fn a_joining_leg_is_copied_region_by_region(rt: HostRuntime) -> Result<(), Fail>
             cursor: 2
         })
     );
+    Ok(())
+}
+
+// Of two legs the second joins, and the first of its two regions is copied.
+fn copy_first(alloc: Global) -> Result<Regions, AllocError> {
+    let mut table = Regions::new(alloc, 8, 4, &[true, false])?;
+    table.open_copy(1, 0);
+    table.advance(2);
     table.advance(2);
     table.finish_region();
+    Ok(table)
+}
+
+#[test]
+fn a_joining_leg_is_copied_region_by_region(rt: HostRuntime) -> Result<(), Fail> {
+    let mut table = copy_first(rt.alloc())?;
+    assert!(rt; table.legs() == 2 && !table.is_out(1));
     assert_eq!(rt; table.copy(), None);
     assert_eq!(rt; table.left(1), 4);
     assert_eq!(rt; table.lowest_behind(1), Some(1));
+    assert!(rt; table.regions() == 2 && table.length_of(1) == 4);
     table.open_copy(1, 1);
     table.advance(4);
     table.finish_region();

@@ -2,6 +2,7 @@
 use nm_leg::{LegPart, MemLeg};
 use nm_replay::Block;
 use nm_resync::{Copy, MOST_CHUNK, Move};
+use std::process::Abort;
 use std::test::Fail;
 
 // A block with one byte in every place.
@@ -9,30 +10,35 @@ fn block_of(byte: u8) -> Block {
     Block([byte; 512])
 }
 
+// Reads the chunk's block of this number, with one byte in every place.
+fn read_block(rt: &impl Abort, copy: &mut Copy, number: u64, byte: u8) {
+    assert_eq!(rt; copy.next_move(), Move::Read(number));
+    *copy.slot() = block_of(byte);
+    copy.fill();
+}
+
+// Writes the chunk's block of this number, which must have this byte in every place: the length of
+// the chunk, where it closes.
+fn write_block(rt: &impl Abort, copy: &mut Copy, number: u64, byte: u8) -> Option<u64> {
+    assert_eq!(rt; copy.next_move(), Move::Write(number));
+    assert_eq!(rt; *copy.block(number), block_of(byte));
+    copy.wrote()
+}
+
 #[test]
 fn a_chunk_of_three_blocks_is_read_and_then_written(rt: HostRuntime) -> Result<(), Fail> {
     let mut copy = Copy::new(rt.alloc(), 8)?;
     assert_eq!(rt; copy.next_move(), Move::Open);
     copy.open(3);
-    assert_eq!(rt; copy.next_move(), Move::Read(0));
-    *copy.slot() = block_of(1);
-    copy.fill();
-    *copy.slot() = block_of(2);
-    copy.fill();
-    assert_eq!(rt; copy.next_move(), Move::Read(2));
-    *copy.slot() = block_of(3);
-    copy.fill();
+    read_block(&rt, &mut copy, 0, 1);
+    read_block(&rt, &mut copy, 1, 2);
+    read_block(&rt, &mut copy, 2, 3);
     assert_eq!(rt; copy.blocks_buffered(), 3);
-    assert_eq!(rt; copy.next_move(), Move::Write(0));
-    assert_eq!(rt; *copy.block(0), block_of(1));
-    assert_eq!(rt; copy.wrote(), None);
-    assert_eq!(rt; *copy.block(1), block_of(2));
-    assert_eq!(rt; copy.wrote(), None);
+    assert_eq!(rt; write_block(&rt, &mut copy, 0, 1), None);
+    assert_eq!(rt; write_block(&rt, &mut copy, 1, 2), None);
     assert_eq!(rt; copy.blocks_written(), 2);
     assert_eq!(rt; copy.blocks_buffered(), 1);
-    assert_eq!(rt; copy.next_move(), Move::Write(2));
-    assert_eq!(rt; *copy.block(2), block_of(3));
-    assert_eq!(rt; copy.wrote(), Some(3));
+    assert_eq!(rt; write_block(&rt, &mut copy, 2, 3), Some(3));
     assert_eq!(rt; copy.next_move(), Move::Open);
     assert_eq!(rt; copy.blocks_buffered(), 0);
     Ok(())
