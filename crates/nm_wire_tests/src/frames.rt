@@ -4,6 +4,7 @@ use nm_wire::{SimpleReply, errors, sizes};
 use std::alloc::Global;
 use std::io;
 use std::io::{ErrorKind, Write};
+use std::process::Abort;
 use std::test::Fail;
 
 // Takes at most `a_call` bytes a call. Once it has taken `left` in all it refuses one call, by this
@@ -127,45 +128,56 @@ fn frame_of_32_mebibytes(rt: HostRuntime) -> Result<(), Fail> {
     Ok(())
 }
 
-// (bytes a call, bytes before the refusal, the refusal, what is answered). No write is retried,
-// also where the device would have taken more.
+// (bytes a call, bytes before the refusal, the refusal, what is answered).
+static REFUSALS: [(usize, usize, Option<ErrorKind>, usize); 10] = [
+    (16, 7, Some(ErrorKind::BrokenPipe), 7),
+    (16, 7, Some(ErrorKind::Interrupted), 7),
+    (16, 7, Some(ErrorKind::WouldBlock), 7),
+    (16, 7, None, 7),
+    (16, 0, Some(ErrorKind::BrokenPipe), 0),
+    (16, 0, Some(ErrorKind::Interrupted), 0),
+    (16, 0, Some(ErrorKind::WouldBlock), 0),
+    (16, 0, None, 0),
+    (1, 15, Some(ErrorKind::Interrupted), 15),
+    (3, 15, None, 15),
+];
+
+// A reply that the device takes so much of ends the writer.
+fn expect_failed(rt: &impl Abort, device: Narrow, sent: usize) {
+    let mut writer = ReplyWriter::new(device);
+    assert!(rt; !writer.has_failed());
+    assert_eq!(rt; writer.send(&REFUSED), Err(SendFault::Device(sent)));
+    assert!(rt; writer.has_failed());
+    assert_eq!(rt; writer.send(&REFUSED), Err(SendFault::Failed));
+    assert_eq!(rt; writer.send(&[]), Err(SendFault::Failed));
+    assert_eq!(rt; REFUSED.get(..sent), Some(writer.device().held.as_slice()));
+}
+
+// No write is retried, also where the device would have taken more.
 #[test]
 fn refused_writes_end_the_writer(rt: HostRuntime) -> Result<(), Fail> {
-    let cases = [
-        (16, 7, Some(ErrorKind::BrokenPipe), 7),
-        (16, 7, Some(ErrorKind::Interrupted), 7),
-        (16, 7, Some(ErrorKind::WouldBlock), 7),
-        (16, 7, None, 7),
-        (16, 0, Some(ErrorKind::BrokenPipe), 0),
-        (16, 0, Some(ErrorKind::Interrupted), 0),
-        (16, 0, Some(ErrorKind::WouldBlock), 0),
-        (16, 0, None, 0),
-        (1, 15, Some(ErrorKind::Interrupted), 15),
-        (3, 15, None, 15),
-    ];
-    for (a_call, left, refusal, sent) in cases {
-        let mut writer = ReplyWriter::new(narrow_device(rt.alloc(), a_call, left, refusal));
-        assert!(rt; !writer.has_failed());
-        assert_eq!(rt; writer.send(&REFUSED), Err(SendFault::Device(sent)));
-        assert!(rt; writer.has_failed());
-        assert_eq!(rt; writer.send(&REFUSED), Err(SendFault::Failed));
-        assert_eq!(rt; writer.send(&[]), Err(SendFault::Failed));
-        assert!(rt; sent <= 16);
-        assert_eq!(rt; writer.device().held.as_slice(), &REFUSED[..sent]);
+    for &(a_call, left, refusal, sent) in &REFUSALS {
+        let device = narrow_device(rt.alloc(), a_call, left, refusal);
+        expect_failed(&rt, device, sent);
     }
     Ok(())
+}
+
+// A device of 32 bytes takes two replies, and no third.
+fn expect_two_replies(rt: &impl Abort, device: Narrow) {
+    let mut writer = ReplyWriter::new(device);
+    assert_eq!(rt; writer.send(&REFUSED), Ok(()));
+    assert_eq!(rt; writer.send(&[]), Ok(()));
+    assert_eq!(rt; writer.device().held.as_slice(), REFUSED.as_slice());
+    assert_eq!(rt; writer.send(&DONE), Ok(()));
+    assert_eq!(rt; writer.send(&DONE), Err(SendFault::Device(0)));
+    assert_eq!(rt; writer.device().held.len(), 32);
 }
 
 #[test]
 fn writes_of_less_than_all_are_continued(rt: HostRuntime) -> Result<(), Fail> {
     for a_call in [1, 7, 16, 100] {
-        let mut writer = ReplyWriter::new(narrow_device(rt.alloc(), a_call, 32, None));
-        assert_eq!(rt; writer.send(&REFUSED), Ok(()));
-        assert_eq!(rt; writer.send(&[]), Ok(()));
-        assert_eq!(rt; writer.device().held.as_slice(), REFUSED.as_slice());
-        assert_eq!(rt; writer.send(&DONE), Ok(()));
-        assert_eq!(rt; writer.send(&DONE), Err(SendFault::Device(0)));
-        assert_eq!(rt; writer.device().held.len(), 32);
+        expect_two_replies(&rt, narrow_device(rt.alloc(), a_call, 32, None));
     }
     Ok(())
 }

@@ -134,12 +134,22 @@ struct Client {
 
 impl Client {
     fn new(alloc: Global) -> Result<Client, AllocError> {
-        Ok(Client {
-            haggle: Haggle::new(export(alloc, b"disk")?),
+        Ok(Client::of(alloc, export(alloc, b"disk")?))
+    }
+
+    /// A client of this export.
+    fn of(alloc: Global, export: Export) -> Client {
+        Client {
+            haggle: Haggle::new(export),
             out: Vec::new(alloc),
             used: 0,
             next: Next::More,
-        })
+        }
+    }
+
+    /// Feeds a piece, and says nothing of its turn in proofs, so that the tests' goals stay small.
+    fn feed(&mut self, alloc: Global, piece: &[u8]) -> Result<Turn, Refused> {
+        self.haggle.feed(alloc, piece)
     }
 
     /// Feeds a piece, unless the haggling is over.
@@ -147,7 +157,7 @@ impl Client {
         if self.next != Next::More {
             return Ok(());
         }
-        let turn = self.haggle.feed(alloc, piece)?;
+        let turn = self.feed(alloc, piece)?;
         self.out.extend_from_slice(turn.out.as_slice())?;
         self.used = self.used.wrapping_add(turn.used);
         self.next = turn.next;
@@ -162,6 +172,24 @@ impl Client {
     }
 }
 
+/// A client that sent a text cut in two at this byte.
+fn send_cut(alloc: Global, text: &[u8], at: usize) -> Result<Client, Fail> {
+    let (front, back) = text.split_at(at.min(text.len()));
+    let mut client = Client::new(alloc)?;
+    client.send(alloc, front)?;
+    client.send(alloc, back)?;
+    Ok(client)
+}
+
+/// A client that sent a text in pieces of this size.
+fn send_pieces(alloc: Global, text: &[u8], size: usize) -> Result<Client, Fail> {
+    let mut client = Client::new(alloc)?;
+    for piece in text.chunks(size.max(1)) {
+        client.send(alloc, piece)?;
+    }
+    Ok(client)
+}
+
 /// A text is answered with these bytes, so many of it are used and that comes next: whole, cut in
 /// two at every byte, and byte by byte.
 fn expect_cut(
@@ -173,17 +201,9 @@ fn expect_cut(
     next: Next,
 ) -> Result<(), Fail> {
     for at in 0..=text.len() {
-        let (front, back) = text.split_at(at);
-        let mut client = Client::new(alloc)?;
-        client.send(alloc, front)?;
-        client.send(alloc, back)?;
-        client.expect(rt, out, used, next, at);
+        send_cut(alloc, text, at)?.expect(rt, out, used, next, at);
     }
-    let mut client = Client::new(alloc)?;
-    for byte in text.chunks(1) {
-        client.send(alloc, byte)?;
-    }
-    client.expect(rt, out, used, next, text.len());
+    send_pieces(alloc, text, 1)?.expect(rt, out, used, next, text.len());
     Ok(())
 }
 
@@ -245,37 +265,48 @@ fn answers_list_and_abort(rt: HostRuntime) -> Result<(), Fail> {
     expect_cut(&rt, alloc, &abort, &acknowledged, 20, ABORTED)
 }
 
+/// The flags of this bit alone close the haggling.
+fn expect_bad_flag(rt: &impl Abort, alloc: Global, bit: u32) -> Result<(), Fail> {
+    let flags = 1u32.wrapping_shl(bit).to_be_bytes();
+    let text = concat(alloc, &[&flags, &GO])?;
+    expect_cut(rt, alloc, &text, &[], 4, CLOSED)
+}
+
+/// An option's header closes the haggling, as soon as it is whole.
+fn expect_bad_header(rt: &impl Abort, alloc: Global, head: &[u8; 16]) -> Result<(), Fail> {
+    let text = concat(alloc, &[&FIXED, head, &REQUEST])?;
+    expect_cut(rt, alloc, &text, &[], 20, CLOSED)?;
+    let part = concat(alloc, &[&FIXED, &head[..15]])?;
+    expect_cut(rt, alloc, &part, &[], 19, Next::More)
+}
+
 #[test]
 fn closes_on_bad_flags_and_headers(rt: HostRuntime) -> Result<(), Fail> {
-    let alloc = rt.alloc();
     for bit in 2..32u32 {
-        let flags = 1u32.wrapping_shl(bit).to_be_bytes();
-        let text = concat(alloc, &[&flags, &GO])?;
-        expect_cut(&rt, alloc, &text, &[], 4, CLOSED)?;
+        expect_bad_flag(&rt, rt.alloc(), bit)?;
     }
-    for head in [&TOO_LONG, &WRONG_MAGIC] {
-        let text = concat(alloc, &[&FIXED, head, &REQUEST])?;
-        expect_cut(&rt, alloc, &text, &[], 20, CLOSED)?;
-        let part = concat(alloc, &[&FIXED, &head[..15]])?;
-        expect_cut(&rt, alloc, &part, &[], 19, Next::More)?;
-    }
+    expect_bad_header(&rt, rt.alloc(), &TOO_LONG)?;
+    expect_bad_header(&rt, rt.alloc(), &WRONG_MAGIC)
+}
+
+/// A client that sent flags and then this takes no more.
+fn expect_end(rt: &impl Abort, alloc: Global, last: &[u8]) -> Result<(), Fail> {
+    let mut client = Client::new(alloc)?;
+    client.send(alloc, &FIXED)?;
+    client.send(alloc, last)?;
+    let again = client.feed(alloc, &REQUEST);
+    assert!(rt; matches!(again, Err(Refused::Closed)));
+    let empty = client.feed(alloc, &[]);
+    assert!(rt; matches!(empty, Err(Refused::Closed)));
+    assert_eq!(rt; client.haggle.export().blocks, 2048);
     Ok(())
 }
 
 #[test]
 fn takes_nothing_after_the_end(rt: HostRuntime) -> Result<(), Fail> {
-    let alloc = rt.alloc();
-    for last in [&GO[..], &ABORT, &TOO_LONG] {
-        let mut client = Client::new(alloc)?;
-        client.send(alloc, &FIXED)?;
-        client.send(alloc, last)?;
-        let again = client.haggle.feed(alloc, &REQUEST);
-        assert!(rt; matches!(again, Err(Refused::Closed)));
-        let empty = client.haggle.feed(alloc, &[]);
-        assert!(rt; matches!(empty, Err(Refused::Closed)));
-        assert_eq!(rt; client.haggle.export().blocks, 2048);
-    }
-    Ok(())
+    expect_end(&rt, rt.alloc(), &GO)?;
+    expect_end(&rt, rt.alloc(), &ABORT)?;
+    expect_end(&rt, rt.alloc(), &TOO_LONG)
 }
 
 /// The bytes of an option after the client's flags.
@@ -310,11 +341,7 @@ fn expect_answer(
         text.len()
     };
     for cut in [0, 4, 19, 20, 21, text.len().saturating_sub(1)] {
-        let (front, back) = text.split_at(cut.min(text.len()));
-        let mut client = Client::new(alloc)?;
-        client.send(alloc, front)?;
-        client.send(alloc, back)?;
-        client.expect(rt, out, used, next, cut);
+        send_cut(alloc, &text, cut)?.expect(rt, out, used, next, cut);
     }
     Ok(())
 }
@@ -328,40 +355,53 @@ fn described_by_info() -> [u8; 86] {
     described
 }
 
+/// An option with zeroes of these lengths as its data is answered so, each time.
+fn expect_lengths(
+    rt: &impl Abort,
+    alloc: Global,
+    number: u8,
+    lengths: &[usize],
+    out: &[u8],
+    next: Next,
+) -> Result<(), Fail> {
+    for &length in lengths {
+        let payload = vec![in alloc; 0u8; length]?;
+        expect_answer(rt, alloc, number, &payload, out, next)?;
+    }
+    Ok(())
+}
+
 #[test]
 fn takes_data_of_each_length(rt: HostRuntime) -> Result<(), Fail> {
     let alloc = rt.alloc();
-    let zeroes = vec![in alloc; 0u8; 65_537]?;
-    for (number, length, out, next) in [
-        (1, 0, &SIZE_AND_FLAGS[..], Next::Transmit),
-        (1, 1, &[], CLOSED),
-        (1, 5, &[], CLOSED),
-        (1, 65_536, &[], CLOSED),
-        (2, 0, &empty_reply(2, ACK), ABORTED),
-        (2, 1, &empty_reply(2, ACK), ABORTED),
-        (2, 65_536, &empty_reply(2, ACK), ABORTED),
-        (3, 0, &LISTED, Next::More),
-        (3, 1, &empty_reply(3, INVALID), Next::More),
-        (3, 65_536, &empty_reply(3, INVALID), Next::More),
-        (6, 0, &empty_reply(6, INVALID), Next::More),
-        (6, 1, &empty_reply(6, INVALID), Next::More),
-        (6, 6, &described_by_info(), Next::More),
-        (6, 7, &empty_reply(6, INVALID), Next::More),
-        (6, 65_536, &empty_reply(6, INVALID), Next::More),
-        (7, 0, &empty_reply(7, INVALID), Next::More),
-        (7, 1, &empty_reply(7, INVALID), Next::More),
-        (7, 6, &DESCRIBED, Next::Transmit),
-        (7, 7, &empty_reply(7, INVALID), Next::More),
-        (7, 65_536, &empty_reply(7, INVALID), Next::More),
-        (8, 0, &empty_reply(8, UNSUP), Next::More),
-        (8, 1, &empty_reply(8, UNSUP), Next::More),
-        (8, 65_536, &empty_reply(8, UNSUP), Next::More),
-    ] {
-        let payload = zeroes.get(..length).ok_or("too long")?;
-        expect_answer(&rt, alloc, number, payload, out, next)?;
+    expect_lengths(&rt, alloc, 1, &[0], &SIZE_AND_FLAGS, Next::Transmit)?;
+    expect_lengths(&rt, alloc, 1, &[1, 5, 65_536], &[], CLOSED)?;
+    let aborted = empty_reply(2, ACK);
+    expect_lengths(&rt, alloc, 2, &[0, 1, 65_536], &aborted, ABORTED)?;
+    expect_lengths(&rt, alloc, 3, &[0], &LISTED, Next::More)?;
+    let invalid = empty_reply(3, INVALID);
+    expect_lengths(&rt, alloc, 3, &[1, 65_536], &invalid, Next::More)?;
+    let unsupported = empty_reply(8, UNSUP);
+    expect_lengths(&rt, alloc, 8, &[0, 1, 65_536], &unsupported, Next::More)
+}
+
+#[test]
+fn takes_data_of_info_and_go_of_each_length(rt: HostRuntime) -> Result<(), Fail> {
+    let alloc = rt.alloc();
+    let described = described_by_info();
+    expect_lengths(&rt, alloc, 6, &[6], &described, Next::More)?;
+    expect_lengths(&rt, alloc, 7, &[6], &DESCRIBED, Next::Transmit)?;
+    for number in [6, 7] {
+        let invalid = empty_reply(number, INVALID);
+        expect_lengths(&rt, alloc, number, &[0, 1, 7, 65_536], &invalid, Next::More)?;
     }
+    Ok(())
+}
+
+#[test]
+fn closes_on_data_of_more_than_64_kib(rt: HostRuntime) -> Result<(), Fail> {
     for number in 1..9 {
-        expect_answer(&rt, alloc, number, &zeroes, &[], CLOSED)?;
+        expect_lengths(&rt, rt.alloc(), number, &[65_537], &[], CLOSED)?;
     }
     Ok(())
 }
@@ -430,9 +470,9 @@ fn knows_names_byte_for_byte(rt: HostRuntime) -> Result<(), Fail> {
 #[test]
 fn serves_a_name_that_is_no_text(rt: HostRuntime) -> Result<(), Fail> {
     let alloc = rt.alloc();
-    let mut haggle = Haggle::new(export(alloc, &[0xff, 0xfe])?);
+    let mut client = Client::of(alloc, export(alloc, &[0xff, 0xfe])?);
     let text = option_text(alloc, 1, &[0xff, 0xfe])?;
-    let turn = haggle.feed(alloc, &text)?;
+    let turn = client.feed(alloc, &text)?;
     assert_eq!(rt; turn.out.as_slice(), &SIZE_AND_FLAGS[..]);
     assert_eq!(rt; turn.next, Next::Transmit);
     Ok(())
@@ -443,9 +483,9 @@ fn describes_a_read_only_export(rt: HostRuntime) -> Result<(), Fail> {
     let alloc = rt.alloc();
     let mut disk = export(alloc, b"disk")?;
     disk.read_only = true;
-    let mut haggle = Haggle::new(disk);
+    let mut client = Client::of(alloc, disk);
     let text = concat(alloc, &[&FIXED_NO_ZEROES, &EXPORT_NAME_DISK])?;
-    let turn = haggle.feed(alloc, &text)?;
+    let turn = client.feed(alloc, &text)?;
     assert_eq!(rt;
         turn.out.as_slice(),
         &[0, 0, 0, 0, 0, 0x10, 0, 0, 0x01, 0x07][..]
@@ -465,34 +505,56 @@ fn takes_the_longest_option_in_pieces(rt: HostRuntime) -> Result<(), Fail> {
     let alloc = rt.alloc();
     let text = longest_option(alloc)?;
     for size in [1, 16, 1000, 4096, 65_535, 65_536] {
-        let mut client = Client::new(alloc)?;
-        for piece in text.chunks(size) {
-            client.send(alloc, piece)?;
-        }
+        let client = send_pieces(alloc, &text, size)?;
         client.expect(&rt, &empty_reply(8, UNSUP), 65_556, Next::More, size);
     }
+    Ok(())
+}
+
+// The longest name, and the header of its entry in a list.
+static LONGEST_NAME: [u8; 255] = [0x6e; 255];
+
+static LONGEST_NAME_HEAD: [u8; 24] = [
+    0x00, 0x03, 0xe8, 0x89, 0x04, 0x55, 0x65, 0xa9, 0, 0, 0, 3, 0, 0, 0, 2, 0, 0, 0x01, 0x03, 0, 0,
+    0, 0xff,
+];
+
+/// A piece is answered with this.
+fn expect_turn(
+    rt: &impl Abort,
+    alloc: Global,
+    client: &mut Client,
+    piece: &[u8],
+    out: &[u8],
+    next: Next,
+) -> Result<(), Refused> {
+    let turn = client.feed(alloc, piece)?;
+    assert_eq!(rt; turn.out.as_slice(), out);
+    assert_eq!(rt; turn.next, next);
     Ok(())
 }
 
 #[test]
 fn lists_the_longest_name(rt: HostRuntime) -> Result<(), Fail> {
     let alloc = rt.alloc();
-    let name = [0x6e; 255];
-    let mut haggle = Haggle::new(export(alloc, &name)?);
+    let mut client = Client::of(alloc, export(alloc, &LONGEST_NAME)?);
     let text = concat(alloc, &[&FIXED_NO_ZEROES, &LIST])?;
-    let turn = haggle.feed(alloc, &text)?;
-    let head = [
-        0x00, 0x03, 0xe8, 0x89, 0x04, 0x55, 0x65, 0xa9, 0, 0, 0, 3, 0, 0, 0, 2, 0, 0, 0x01, 0x03,
-        0, 0, 0, 0xff,
-    ];
-    let expected = concat(alloc, &[&head, &name, &empty_reply(3, ACK)])?;
-    assert_eq!(rt; turn.out.as_slice(), expected.as_slice());
-    assert_eq!(rt; turn.next, Next::More);
-    let go = option_text(alloc, 7, &name_data(alloc, &name)?)?;
-    let turn = haggle.feed(alloc, go.get(4..).ok_or("too short")?)?;
-    assert_eq!(rt; turn.out.as_slice(), &DESCRIBED[..]);
-    assert_eq!(rt; turn.next, Next::Transmit);
+    let end = empty_reply(3, ACK);
+    let listed = concat(alloc, &[&LONGEST_NAME_HEAD, &LONGEST_NAME, &end])?;
+    expect_turn(&rt, alloc, &mut client, &text, &listed, Next::More)?;
+    let go = option_text(alloc, 7, &name_data(alloc, &LONGEST_NAME)?)?;
+    let go = go.get(4..).ok_or("too short")?;
+    expect_turn(&rt, alloc, &mut client, go, &DESCRIBED, Next::Transmit)?;
     Ok(())
+}
+
+/// These bytes so many times in a row.
+fn repeat(alloc: Global, bytes: &[u8], count: usize) -> Result<Vec<u8>, AllocError> {
+    let mut whole = Vec::new(alloc);
+    for _ in 0..count {
+        whole.extend_from_slice(bytes)?;
+    }
+    Ok(whole)
 }
 
 /// The same option so many times in one piece is answered so, each time.
@@ -503,21 +565,14 @@ fn expect_repeated(
     count: usize,
     reply: &[u8],
 ) -> Result<(), Fail> {
-    let mut haggle = Haggle::new(export(alloc, b"disk")?);
-    let flags = haggle.feed(alloc, &FIXED_NO_ZEROES)?;
+    let mut client = Client::new(alloc)?;
+    let flags = client.feed(alloc, &FIXED_NO_ZEROES)?;
     assert_eq!(rt; flags.used, 4);
-    let mut piece = Vec::new(alloc);
-    for _ in 0..count {
-        piece.extend_from_slice(option)?;
-    }
-    let turn = haggle.feed(alloc, piece.as_slice())?;
+    let piece = repeat(alloc, option, count)?;
+    let turn = client.feed(alloc, &piece)?;
     assert_eq!(rt; turn.used, piece.len());
     assert_eq!(rt; turn.next, Next::More);
-    let mut expected = Vec::new(alloc);
-    for _ in 0..count {
-        expected.extend_from_slice(reply)?;
-    }
-    assert!(rt; turn.out.as_slice() == expected.as_slice());
+    assert!(rt; turn.out.as_slice() == repeat(alloc, reply, count)?.as_slice());
     Ok(())
 }
 
@@ -552,6 +607,52 @@ fn holds_its_bytes_over_an_empty_piece(rt: HostRuntime) -> Result<(), Fail> {
     Ok(())
 }
 
+/// Feeds a piece whose answers are appended to what the client was answered with, unless the
+/// haggling is over, and once more where memory was refused, which leaves the output as it was.
+fn append(
+    rt: &impl Abort,
+    alloc: Global,
+    client: &mut Client,
+    piece: &[u8],
+) -> Result<(), Refused> {
+    if client.next != Next::More {
+        return Ok(());
+    }
+    let before = client.out.len();
+    let step = match client.haggle.feed_into(alloc, &mut client.out, piece) {
+        Err(Refused::Memory) => {
+            assert_eq!(rt; client.out.len(), before);
+            client.haggle.feed_into(alloc, &mut client.out, piece)?
+        }
+        answer => answer?,
+    };
+    client.used = client.used.wrapping_add(step.used);
+    client.next = step.next;
+    Ok(())
+}
+
+/// A client that was greeted, and then sent this text in pieces of this size.
+fn greet_and_append(
+    rt: &impl Abort,
+    alloc: Global,
+    text: &[u8],
+    size: usize,
+) -> Result<Client, Fail> {
+    let mut client = Client::new(alloc)?;
+    client.out = concat(alloc, &[&Haggle::greeting()])?;
+    for piece in text.chunks(size.max(1)) {
+        append(rt, alloc, &mut client, piece)?;
+    }
+    Ok(client)
+}
+
+/// After the end a piece is refused, and the output stays.
+fn expect_closed(rt: &impl Abort, alloc: Global, client: &mut Client, out: &[u8]) {
+    let refused = client.haggle.feed_into(alloc, &mut client.out, &REQUEST);
+    assert_eq!(rt; refused, Err(Refused::Closed));
+    assert_eq!(rt; client.out.as_slice(), out);
+}
+
 // Run with each allocation refused in turn: a refused piece leaves the output as it was.
 #[test]
 fn appends_to_what_the_output_holds(rt: HostRuntime) -> Result<(), Fail> {
@@ -559,31 +660,9 @@ fn appends_to_what_the_output_holds(rt: HostRuntime) -> Result<(), Fail> {
     let text = concat(alloc, &[&FIXED_NO_ZEROES, &LIST, &GO, &REQUEST])?;
     let expected = concat(alloc, &[&Haggle::greeting(), &LISTED, &DESCRIBED])?;
     for size in [1, 7, 25, 51] {
-        let mut haggle = Haggle::new(export(alloc, b"disk")?);
-        let mut out = concat(alloc, &[&Haggle::greeting()])?;
-        let mut used = 0usize;
-        let mut next = Next::More;
-        for piece in text.chunks(size) {
-            if next != Next::More {
-                continue;
-            }
-            let before = out.len();
-            let step = match haggle.feed_into(alloc, &mut out, piece) {
-                Err(Refused::Memory) => {
-                    assert_eq!(rt; out.len(), before);
-                    haggle.feed_into(alloc, &mut out, piece)?
-                }
-                answer => answer?,
-            };
-            used = used.wrapping_add(step.used);
-            next = step.next;
-        }
-        assert_eq!(rt; out.as_slice(), expected.as_slice());
-        assert_eq!(rt; used, 46);
-        assert_eq!(rt; next, Next::Transmit);
-        let refused = haggle.feed_into(alloc, &mut out, &REQUEST);
-        assert_eq!(rt; refused, Err(Refused::Closed));
-        assert_eq!(rt; out.as_slice(), expected.as_slice());
+        let mut client = greet_and_append(&rt, alloc, &text, size)?;
+        client.expect(&rt, &expected, 46, Next::Transmit, size);
+        expect_closed(&rt, alloc, &mut client, &expected);
     }
     Ok(())
 }
@@ -606,33 +685,54 @@ fn name_again(alloc: Global) -> Result<Vec<u8>, AllocError>
     }
 }
 
+/// The haggling over "disk", its name asked for once more where it ran out of memory.
+fn haggle_again(alloc: Global) -> Result<Haggle, AllocError> {
+    Ok(Haggle::new(Export {
+        name: Name::new(name_again(alloc)?),
+        blocks: 2048,
+        read_only: false,
+    }))
+}
+
+// The client's flags, and GO for "disk".
+static FLAGS_AND_GO: [u8; 30] = [
+    0, 0, 0, 3, 0x49, 0x48, 0x41, 0x56, 0x45, 0x4f, 0x50, 0x54, 0, 0, 0, 7, 0, 0, 0, 0x0a, 0, 0, 0,
+    4, 0x64, 0x69, 0x73, 0x6b, 0, 0,
+];
+
+/// A piece is used up, and answered with what follows the bytes that were sent; gives how many were
+/// sent after it, and what comes next.
+fn expect_more_sent(
+    rt: &impl Abort,
+    alloc: Global,
+    haggle: &mut Haggle,
+    piece: &[u8],
+    sent: usize,
+) -> Result<(usize, Next), Refused> {
+    let turn = feed_again(haggle, alloc, piece)?;
+    let end = sent.wrapping_add(turn.out.len());
+    assert_eq!(rt; DESCRIBED.get(sent..end), Some(turn.out.as_slice()));
+    assert_eq!(rt; turn.used, piece.len());
+    Ok((end, turn.next))
+}
+
+/// Flags and GO in pieces of this size are answered as if no memory had been refused.
+fn expect_forgotten(rt: &impl Abort, alloc: Global, size: usize) -> Result<(), Fail> {
+    let mut haggle = haggle_again(alloc)?;
+    let mut answered = (0, Next::More);
+    for piece in FLAGS_AND_GO.chunks(size.max(1)) {
+        answered = expect_more_sent(rt, alloc, &mut haggle, piece, answered.0)?;
+    }
+    assert_eq!(rt; answered.0, DESCRIBED.len());
+    assert_eq!(rt; answered.1, Next::Transmit);
+    Ok(())
+}
+
 // Run with each allocation refused in turn: what is fed again is answered as if nothing had been.
 #[test]
 fn forgets_a_piece_that_memory_refused(rt: HostRuntime) -> Result<(), Fail> {
-    let alloc = rt.alloc();
-    let text = [
-        0, 0, 0, 3, 0x49, 0x48, 0x41, 0x56, 0x45, 0x4f, 0x50, 0x54, 0, 0, 0, 7, 0, 0, 0, 0x0a, 0,
-        0, 0, 4, 0x64, 0x69, 0x73, 0x6b, 0, 0,
-    ];
     for size in [30, 17, 1] {
-        let name = Name::new(name_again(alloc)?);
-        let mut haggle = Haggle::new(Export {
-            name,
-            blocks: 2048,
-            read_only: false,
-        });
-        let mut sent = 0usize;
-        let mut next = Next::More;
-        for piece in text.chunks(size) {
-            let turn = feed_again(&mut haggle, alloc, piece)?;
-            let end = sent.wrapping_add(turn.out.len());
-            assert_eq!(rt; DESCRIBED.get(sent..end), Some(turn.out.as_slice()));
-            assert_eq!(rt; turn.used, piece.len());
-            sent = end;
-            next = turn.next;
-        }
-        assert_eq!(rt; sent, DESCRIBED.len());
-        assert_eq!(rt; next, Next::Transmit);
+        expect_forgotten(&rt, rt.alloc(), size)?;
     }
     Ok(())
 }

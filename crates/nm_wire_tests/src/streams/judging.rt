@@ -5,6 +5,7 @@ use bytes::Bytes;
 use nm_requests::{Request, Task, judge};
 use nm_wire::{CommandFlags, Export, Name};
 use std::alloc::Global;
+use std::process::Abort;
 
 // 1 MiB, and 64 MiB.
 const SMALL: u64 = 2048;
@@ -188,84 +189,85 @@ fn expected_task(kind: u16, offset: u64, length: u32, fua: bool, error: u32) -> 
     }
 }
 
+// What a request gets, of which nothing is said in proofs, so that the tests' goals stay small.
+fn result_of(disk: &Export, kind: u16, flags: u16, offset: u64, length: u32) -> Result<Task, u32> {
+    judge(&request(kind, flags, offset, length), disk)
+}
+
+// Each of the four gets a task over this extent, or the error where there is one.
+fn expect_tasks(rt: &impl Abort, disk: &Export, offset: u64, length: u32, errors: &[u32; 4]) {
+    for (kind, error) in COMMANDS.iter().zip(errors) {
+        assert_eq!(rt;
+            result_of(disk, *kind, 0, offset, length),
+            expected_task(*kind, offset, length, false, *error),
+            "{kind} at {offset} of {length}"
+        );
+    }
+}
+
 #[test]
 fn judges_each_offset(rt: HostRuntime) {
     let disk = export(rt.alloc(), SMALL, false);
-    for &(offset, errors) in &OFFSETS {
-        for (kind, error) in COMMANDS.iter().zip(&errors) {
-            let got = judge(&request(*kind, 0, offset, 512), &disk);
-            assert_eq!(rt;
-                got,
-                expected_task(*kind, offset, 512, false, *error),
-                "{kind} at {offset}"
-            );
-        }
+    for (offset, errors) in &OFFSETS {
+        expect_tasks(&rt, &disk, *offset, 512, errors);
     }
 }
 
 #[test]
 fn judges_each_length(rt: HostRuntime) {
     let disk = export(rt.alloc(), SMALL, false);
-    for &(length, errors) in &LENGTHS {
-        for (kind, error) in COMMANDS.iter().zip(&errors) {
-            let got = judge(&request(*kind, 0, 0, length), &disk);
-            assert_eq!(rt;
-                got,
-                expected_task(*kind, 0, length, false, *error),
-                "{kind} of {length}"
-            );
-        }
+    for (length, errors) in &LENGTHS {
+        expect_tasks(&rt, &disk, 0, *length, errors);
     }
 }
 
 #[test]
 fn judges_each_long_length(rt: HostRuntime) {
     let disk = export(rt.alloc(), LARGE, false);
-    for &(length, errors) in &LONG_LENGTHS {
-        for (kind, error) in COMMANDS.iter().zip(&errors) {
-            let got = judge(&request(*kind, 0, 0, length), &disk);
-            assert_eq!(rt;
-                got,
-                expected_task(*kind, 0, length, false, *error),
-                "{kind} of {length}"
-            );
-        }
+    for (length, errors) in &LONG_LENGTHS {
+        expect_tasks(&rt, &disk, 0, *length, errors);
+    }
+}
+
+// Each of the four gets Nothing, or the error where there is one.
+fn expect_nothing(rt: &impl Abort, disk: &Export, offset: u64, length: u32, errors: &[u32; 4]) {
+    for (kind, error) in COMMANDS.iter().zip(errors) {
+        let result = if *error == 0 {
+            Ok(Task::Nothing)
+        } else {
+            Err(*error)
+        };
+        let got = result_of(disk, *kind, 0, offset, length);
+        assert_eq!(rt; got, result, "{kind} at {offset} of {length}");
     }
 }
 
 #[test]
 fn judges_the_end_before_length_0(rt: HostRuntime) {
     let disk = export(rt.alloc(), SMALL, false);
-    for &(offset, length, errors) in &EXTENTS {
-        for (kind, error) in COMMANDS.iter().zip(&errors) {
-            let result = if *error == 0 {
-                Ok(Task::Nothing)
-            } else {
-                Err(*error)
-            };
-            let got = judge(&request(*kind, 0, offset, length), &disk);
-            assert_eq!(rt; got, result, "{kind} at {offset} of {length}");
-        }
+    for (offset, length, errors) in &EXTENTS {
+        expect_nothing(&rt, &disk, *offset, *length, errors);
+    }
+}
+
+// A READ of a block gets a task, or the error where there is one; each change gets error 1.
+fn expect_no_change(rt: &impl Abort, disk: &Export, offset: u64, error: u32) {
+    assert_eq!(rt;
+        result_of(disk, 0, 0, offset, 512),
+        expected_task(0, offset, 512, false, error),
+        "at {offset}"
+    );
+    for kind in [1, 4, 6] {
+        let got = result_of(disk, kind, 0, offset, 512);
+        assert_eq!(rt; got, Err(1), "at {offset}");
     }
 }
 
 #[test]
 fn refuses_each_change_of_a_read_only_export(rt: HostRuntime) {
     let disk = export(rt.alloc(), SMALL, true);
-    for &(offset, errors) in &OFFSETS {
-        let read = judge(&request(0, 0, offset, 512), &disk);
-        assert_eq!(rt;
-            read,
-            expected_task(0, offset, 512, false, errors[0]),
-            "at {offset}"
-        );
-        for kind in [1, 4, 6] {
-            assert_eq!(rt;
-                judge(&request(kind, 0, offset, 512), &disk),
-                Err(1),
-                "at {offset}"
-            );
-        }
+    for (offset, errors) in &OFFSETS {
+        expect_no_change(&rt, &disk, *offset, errors[0]);
     }
 }
 
@@ -274,9 +276,30 @@ fn judges_each_type(rt: HostRuntime) {
     let disk = export(rt.alloc(), SMALL, false);
     let fixed = export(rt.alloc(), SMALL, true);
     for &(kind, flags, offset, length, writable, read_only) in &RESULTS {
-        let request = request(kind, flags, offset, length);
-        assert_eq!(rt; judge(&request, &disk), writable, "{kind} with {flags}");
-        assert_eq!(rt; judge(&request, &fixed), read_only, "{kind} with {flags}");
+        let got = result_of(&disk, kind, flags, offset, length);
+        assert_eq!(rt; got, writable, "{kind} with {flags}");
+        let got = result_of(&fixed, kind, flags, offset, length);
+        assert_eq!(rt; got, read_only, "{kind} with {flags}");
+    }
+}
+
+// The flags of a request, and whether its task has FUA.
+static FLAGS: [(u16, bool); 4] = [(0, false), (1, true), (2, false), (3, true)];
+
+fn expect_flags(rt: &impl Abort, disk: &Export, kind: u16) {
+    for &(flags, fua) in &FLAGS {
+        assert_eq!(rt;
+            result_of(disk, kind, flags, 512, 512),
+            expected_task(kind, 512, 512, fua, 0),
+            "{kind} with {flags}"
+        );
+    }
+}
+
+fn expect_no_other_flags(rt: &impl Abort, disk: &Export, kind: u16) {
+    for &flags in &OTHER_FLAGS {
+        let got = result_of(disk, kind, flags, 512, 512);
+        assert_eq!(rt; got, Err(22), "with {flags}");
     }
 }
 
@@ -284,20 +307,7 @@ fn judges_each_type(rt: HostRuntime) {
 fn judges_each_flag(rt: HostRuntime) {
     let disk = export(rt.alloc(), SMALL, false);
     for &kind in &COMMANDS {
-        for (flags, fua) in [(0, false), (1, true), (2, false), (3, true)] {
-            let got = judge(&request(kind, flags, 512, 512), &disk);
-            assert_eq!(rt;
-                got,
-                expected_task(kind, 512, 512, fua, 0),
-                "{kind} with {flags}"
-            );
-        }
-        for &flags in &OTHER_FLAGS {
-            assert_eq!(rt;
-                judge(&request(kind, flags, 512, 512), &disk),
-                Err(22),
-                "with {flags}"
-            );
-        }
+        expect_flags(&rt, &disk, kind);
+        expect_no_other_flags(&rt, &disk, kind);
     }
 }

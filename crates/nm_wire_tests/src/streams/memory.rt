@@ -1,4 +1,5 @@
 //! How much memory a reader takes, for payloads of 512 bytes to 32 MiB in pieces of many lengths.
+use super::reading::{feed as feed_again, next as next_again};
 use nm_requests::{Fault, Request, RequestReader};
 use std::alloc::{AllocError, Global};
 use std::process::Abort;
@@ -41,38 +42,96 @@ fn is_write(request: &Request, number: u8, length: u32) -> bool {
             .all(|byte| *byte == number)
 }
 
+// Takes out the WRITEs that have come, of which the first has this number; gives the next number.
+fn take_writes(
+    rt: &impl Abort,
+    alloc: Global,
+    reader: &mut RequestReader,
+    first: u8,
+) -> Result<u8, Fail> {
+    let mut number = first;
+    for _ in 0..9 {
+        let Some(request) = reader.next(alloc)? else {
+            break;
+        };
+        let length = LENGTHS
+            .get(usize::from(number))
+            .ok_or("more than were sent")?;
+        assert!(rt; is_write(&request, number, *length), "WRITE {number}");
+        number = number.saturating_add(1);
+    }
+    Ok(number)
+}
+
 // Reads the WRITEs of these lengths, in pieces of this length, and none of them twice.
 fn read_all(rt: &impl Abort, alloc: Global, stream: &[u8], piece: usize) -> Result<(), Fail> {
     let mut reader = RequestReader::new();
-    let mut lengths = LENGTHS.iter();
     let mut number = 0u8;
     for bytes in stream.chunks(piece.max(1)) {
         reader.feed(alloc, bytes)?;
-        for _ in 0..9 {
-            let Some(request) = reader.next(alloc)? else {
-                break;
-            };
-            let length = *lengths.next().ok_or("more than were sent")?;
-            assert!(rt; is_write(&request, number, length), "WRITE {number}");
-            number = number.saturating_add(1);
-        }
+        number = take_writes(rt, alloc, &mut reader, number)?;
     }
     assert_eq!(rt; number, 8);
     assert_eq!(rt; reader.count(), 8);
     Ok(())
 }
 
-#[test]
-fn reads_long_payloads_in_long_pieces(rt: HostRuntime) -> Result<(), Fail> {
-    let mut stream = Vec::new(rt.alloc());
+// The WRITEs of these lengths, one after the other.
+fn stream_of_writes(alloc: Global) -> Result<Vec<u8>, AllocError> {
+    let mut stream = Vec::new(alloc);
     let mut number = 0u8;
     for &length in &LENGTHS {
         put_write(&mut stream, number, length)?;
         number = number.saturating_add(1);
     }
+    Ok(stream)
+}
+
+#[test]
+fn reads_long_payloads_in_long_pieces(rt: HostRuntime) -> Result<(), Fail> {
+    let stream = stream_of_writes(rt.alloc())?;
     for piece in [65_536, 200 * KIB, 2 * MIB, 64 * MIB] {
         read_all(&rt, rt.alloc(), stream.as_slice(), piece)?;
     }
+    Ok(())
+}
+
+// Feeds a piece, after which the reader's room is less than 1 MiB.
+fn feed_little(
+    rt: &impl Abort,
+    alloc: Global,
+    reader: &mut RequestReader,
+    piece: &[u8],
+) -> Result<(), Fault> {
+    reader.feed(alloc, piece)?;
+    assert!(rt; reader.room() < MIB);
+    Ok(())
+}
+
+// Feeds the rest of a payload in pieces of 64 KiB, before each of which no request has come.
+fn feed_payload(
+    rt: &impl Abort,
+    alloc: Global,
+    reader: &mut RequestReader,
+    payload: &[u8],
+) -> Result<(), Fault> {
+    for piece in payload.chunks(64 * KIB) {
+        assert!(rt; reader.next(alloc)?.is_none());
+        feed_little(rt, alloc, reader, piece)?;
+    }
+    Ok(())
+}
+
+// The next request is the WRITE with that number and length.
+fn expect_write(
+    rt: &impl Abort,
+    alloc: Global,
+    reader: &mut RequestReader,
+    number: u8,
+    length: u32,
+) -> Result<(), Fail> {
+    let request = reader.next(alloc)?.ok_or("no request")?;
+    assert!(rt; is_write(&request, number, length));
     Ok(())
 }
 
@@ -81,50 +140,68 @@ fn takes_memory_as_bytes_come(rt: HostRuntime) -> Result<(), Fail> {
     let mut stream = Vec::new(rt.alloc());
     put_write(&mut stream, 0, 33_554_432)?;
     let (header, payload) = stream.as_slice().split_at_checked(28).ok_or("no header")?;
+    let (first, others) = payload.split_at_checked(1).ok_or("no payload")?;
     let mut reader = RequestReader::new();
     assert_eq!(rt; reader.room(), 0);
-    reader.feed(rt.alloc(), header)?;
-    assert!(rt; reader.room() < MIB);
-    let (first, others) = payload.split_at_checked(1).ok_or("no payload")?;
-    reader.feed(rt.alloc(), first)?;
-    assert!(rt; reader.room() < MIB);
-    for piece in others.chunks(64 * KIB) {
-        assert!(rt; reader.next(rt.alloc())?.is_none());
-        reader.feed(rt.alloc(), piece)?;
-        assert!(rt; reader.room() < MIB);
-    }
-    let request = reader.next(rt.alloc())?.ok_or("no request")?;
-    assert!(rt; is_write(&request, 0, 33_554_432));
-    Ok(())
+    feed_little(&rt, rt.alloc(), &mut reader, header)?;
+    feed_little(&rt, rt.alloc(), &mut reader, first)?;
+    feed_payload(&rt, rt.alloc(), &mut reader, others)?;
+    expect_write(&rt, rt.alloc(), &mut reader, 0, 33_554_432)
 }
 
-// Short WRITEs, each followed by one of 32 MiB, in pieces of this length; the short ones are kept.
-fn keep_short_ones(rt: &impl Abort, alloc: Global, piece: usize) -> Result<(), Fail> {
+// Three short WRITEs, each followed by one of 32 MiB.
+fn short_and_long_writes(alloc: Global) -> Result<Vec<u8>, AllocError> {
     let mut stream = Vec::new(alloc);
     for _ in 0..3 {
         put_write(&mut stream, 7, 512)?;
         put_write(&mut stream, 9, 33_554_432)?;
     }
-    let mut reader = RequestReader::new();
-    let mut kept = Vec::new(alloc);
-    for bytes in stream.as_slice().chunks(piece.max(1)) {
-        reader.feed(alloc, bytes)?;
-        for _ in 0..7 {
-            let Some(request) = reader.next(alloc)? else {
-                break;
-            };
-            if request.payload.len() == 512 {
-                kept.push(request)?;
-            }
+    Ok(stream)
+}
+
+// Takes out the WRITEs that have come, and keeps the short ones.
+fn keep_short(
+    alloc: Global,
+    reader: &mut RequestReader,
+    kept: &mut Vec<Request>,
+) -> Result<(), Fail> {
+    for _ in 0..7 {
+        let Some(request) = reader.next(alloc)? else {
+            break;
+        };
+        if request.payload.len() == 512 {
+            kept.push(request)?;
         }
     }
-    drop(reader);
+    Ok(())
+}
+
+// The short WRITEs of this stream, which is read in pieces of this length.
+fn read_short(alloc: Global, stream: &[u8], piece: usize) -> Result<Vec<Request>, Fail> {
+    let mut reader = RequestReader::new();
+    let mut kept = Vec::new(alloc);
+    for bytes in stream.chunks(piece.max(1)) {
+        reader.feed(alloc, bytes)?;
+        keep_short(alloc, &mut reader, &mut kept)?;
+    }
+    Ok(kept)
+}
+
+// The last owner of a short payload takes its block back, and sees how much of it follows.
+fn expect_small_block(rt: &impl Abort, request: Request) -> Result<(), Fail> {
+    assert!(rt; request.payload.as_slice().iter().all(|byte| *byte == 7));
+    let block = request.payload.reclaim().ok_or("another owner")?;
+    assert!(rt; block.capacity() <= MIB, "{} bytes", block.capacity());
+    Ok(())
+}
+
+// Short WRITEs, each followed by one of 32 MiB, in pieces of this length; the short ones are kept.
+fn keep_short_ones(rt: &impl Abort, alloc: Global, piece: usize) -> Result<(), Fail> {
+    let stream = short_and_long_writes(alloc)?;
+    let kept = read_short(alloc, &stream, piece)?;
     assert_eq!(rt; kept.len(), 3);
     for request in kept {
-        assert!(rt; request.payload.as_slice().iter().all(|byte| *byte == 7));
-        // The last owner takes the block back, and sees how much of it follows the payload.
-        let block = request.payload.reclaim().ok_or("another owner")?;
-        assert!(rt; block.capacity() <= MIB, "{} bytes", block.capacity());
+        expect_small_block(rt, request)?;
     }
     Ok(())
 }
@@ -137,6 +214,14 @@ fn a_short_payload_keeps_no_large_block(rt: HostRuntime) -> Result<(), Fail> {
     Ok(())
 }
 
+// Feeds a stream in pieces of 200 KiB.
+fn feed_all(alloc: Global, reader: &mut RequestReader, stream: &[u8]) -> Result<(), Fault> {
+    for piece in stream.chunks(200 * KIB) {
+        reader.feed(alloc, piece)?;
+    }
+    Ok(())
+}
+
 #[test]
 fn feeds_what_was_reserved(rt: HostRuntime) -> Result<(), Fail> {
     let mut stream = Vec::new(rt.alloc());
@@ -144,11 +229,22 @@ fn feeds_what_was_reserved(rt: HostRuntime) -> Result<(), Fail> {
     let mut reader = RequestReader::new();
     reader.reserve(rt.alloc(), 1_048_604)?;
     assert!(rt; reader.room() >= 1_048_604);
-    for piece in stream.as_slice().chunks(200 * KIB) {
-        reader.feed(rt.alloc(), piece)?;
-    }
-    let request = reader.next(rt.alloc())?.ok_or("no request")?;
-    assert!(rt; is_write(&request, 0, 1_048_576));
+    feed_all(rt.alloc(), &mut reader, &stream)?;
+    expect_write(&rt, rt.alloc(), &mut reader, 0, 1_048_576)
+}
+
+// Feeds a piece, after which more memory than there is is refused.
+fn refuse_reserve(
+    rt: &impl Abort,
+    alloc: Global,
+    reader: &mut RequestReader,
+    piece: &[u8],
+) -> Result<(), Fault> {
+    reader.feed(alloc, piece)?;
+    let room = reader.room();
+    assert_eq!(rt; reader.reserve(alloc, usize::MAX), Err(AllocError));
+    assert!(rt; reader.room() >= room);
+    assert_eq!(rt; reader.count(), 0);
     Ok(())
 }
 
@@ -159,44 +255,25 @@ fn reads_on_after_a_refused_reserve(rt: HostRuntime) -> Result<(), Fail> {
     put_write(&mut stream, 0, 8_388_608)?;
     let mut reader = RequestReader::new();
     for piece in stream.as_slice().chunks(200 * KIB) {
-        reader.feed(rt.alloc(), piece)?;
-        let room = reader.room();
-        assert_eq!(rt; reader.reserve(rt.alloc(), usize::MAX), Err(AllocError));
-        assert!(rt; reader.room() >= room);
-        assert_eq!(rt; reader.count(), 0);
+        refuse_reserve(&rt, rt.alloc(), &mut reader, piece)?;
     }
-    let request = reader.next(rt.alloc())?.ok_or("no request")?;
-    assert!(rt; is_write(&request, 0, 8_388_608));
-    Ok(())
+    expect_write(&rt, rt.alloc(), &mut reader, 0, 8_388_608)
 }
+
+// A WRITE of 200 KiB.
+static HEADER_200_KIB: [u8; 28] =
+    *b"\x25\x60\x95\x13\0\0\0\x01\0\0\0\0\0\0\0\x05\0\0\0\0\0\0\0\0\0\x03\x20\0";
+
+static PAYLOAD_200_KIB: [u8; 204_800] = [5; 204_800];
 
 // Each allocation of a reader may be refused once; the call is made again.
 #[test]
 fn reads_on_after_memory_for_a_long_piece_was_refused(rt: HostRuntime) -> Result<(), Fault> {
-    let header =
-        b"\x25\x60\x95\x13\0\0\0\x01\0\0\0\0\0\0\0\x05\0\0\0\0\0\0\0\0\0\x03\x20\0".as_slice();
-    let payload = [5; 204_800];
     let mut reader = RequestReader::new();
-    for piece in [header, payload.as_slice()] {
-        for _ in 0..3 {
-            match reader.feed(rt.alloc(), piece) {
-                Err(Fault::Memory) => {}
-                other => {
-                    other?;
-                    break;
-                }
-            }
-        }
-    }
-    for _ in 0..3 {
-        match reader.next(rt.alloc()) {
-            Err(Fault::Memory) => {}
-            other => {
-                let length = other?.map_or(0, |request| request.payload.len());
-                assert_eq!(rt; length, 204_800);
-                return Ok(());
-            }
-        }
-    }
-    Err(Fault::Memory)
+    feed_again(&mut reader, rt.alloc(), &HEADER_200_KIB)?;
+    feed_again(&mut reader, rt.alloc(), &PAYLOAD_200_KIB)?;
+    let request = next_again(&mut reader, rt.alloc())?;
+    let length = request.map_or(0, |request| request.payload.len());
+    assert_eq!(rt; length, 204_800);
+    Ok(())
 }

@@ -62,7 +62,7 @@ fn session(alloc: Global) -> Result<Vec<u8>, Fail> {
 }
 
 // Feeds, again where memory is refused, as often as a test may refuse it.
-fn feed(reader: &mut RequestReader, alloc: Global, piece: &[u8]) -> Result<(), Fault> {
+pub(crate) fn feed(reader: &mut RequestReader, alloc: Global, piece: &[u8]) -> Result<(), Fault> {
     for _ in 0..4 {
         match reader.feed(alloc, piece) {
             Err(Fault::Memory) => {}
@@ -72,7 +72,7 @@ fn feed(reader: &mut RequestReader, alloc: Global, piece: &[u8]) -> Result<(), F
     Err(Fault::Memory)
 }
 
-fn next(reader: &mut RequestReader, alloc: Global) -> Result<Option<Request>, Fault> {
+pub(crate) fn next(reader: &mut RequestReader, alloc: Global) -> Result<Option<Request>, Fault> {
     for _ in 0..4 {
         match reader.next(alloc) {
             Err(Fault::Memory) => {}
@@ -116,20 +116,24 @@ fn take_out(
     Ok(count)
 }
 
+// The session cut in two at this byte.
+fn expect_cut(rt: &impl Abort, alloc: Global, bytes: &[u8], cut: usize) -> Result<(), Fail> {
+    let (front, back) = bytes.split_at_checked(cut).ok_or("cut past the end")?;
+    let mut reader = RequestReader::new();
+    feed(&mut reader, alloc, front)?;
+    let count = take_out(rt, alloc, &mut reader, 0)?;
+    feed(&mut reader, alloc, back)?;
+    let count = take_out(rt, alloc, &mut reader, count)?;
+    assert_eq!(rt; count, 6, "cut at {cut}");
+    Ok(())
+}
+
 #[test]
 fn reads_the_session_cut_at_every_byte(rt: HostRuntime) -> Result<(), Fail> {
     let stream = session(rt.alloc())?;
-    let bytes = stream.as_slice();
-    assert_eq!(rt; bytes.len(), 1192);
+    assert_eq!(rt; stream.len(), 1192);
     for cut in 0..=1192 {
-        assert!(rt; cut <= bytes.len());
-        let (front, back) = bytes.split_at(cut);
-        let mut reader = RequestReader::new();
-        feed(&mut reader, rt.alloc(), front)?;
-        let count = take_out(&rt, rt.alloc(), &mut reader, 0)?;
-        feed(&mut reader, rt.alloc(), back)?;
-        let count = take_out(&rt, rt.alloc(), &mut reader, count)?;
-        assert_eq!(rt; count, 6, "cut at {cut}");
+        expect_cut(&rt, rt.alloc(), &stream, cut)?;
     }
     Ok(())
 }
@@ -158,6 +162,15 @@ fn issues_no_request_before_its_payload_is_whole(rt: HostRuntime) -> Result<(), 
     Ok(())
 }
 
+// Sends the WRITE of cookie 14 with bytes a5, and reads it.
+fn read_another(rt: &impl Abort, alloc: Global, reader: &mut RequestReader) -> Result<(), Fail> {
+    reader.feed(alloc, &WRITE_14)?;
+    reader.feed(alloc, &[0xa5; 512])?;
+    let other = reader.next(alloc)?.ok_or("no request")?;
+    assert_eq!(rt; other.payload.as_slice(), [0xa5; 512].as_slice());
+    Ok(())
+}
+
 #[test]
 fn a_payload_stays_while_others_are_read(rt: HostRuntime) -> Result<(), Fail> {
     let mut reader = RequestReader::new();
@@ -165,32 +178,64 @@ fn a_payload_stays_while_others_are_read(rt: HostRuntime) -> Result<(), Fail> {
     reader.feed(rt.alloc(), &[0x5a; 512])?;
     let kept = reader.next(rt.alloc())?.ok_or("no request")?;
     for _ in 0..100 {
-        reader.feed(rt.alloc(), &WRITE_14)?;
-        reader.feed(rt.alloc(), &[0xa5; 512])?;
-        let other = reader.next(rt.alloc())?.ok_or("no request")?;
-        assert_eq!(rt; other.payload.as_slice(), [0xa5; 512].as_slice());
+        read_another(&rt, rt.alloc(), &mut reader)?;
     }
     assert_eq!(rt; kept.payload.as_slice(), [0x5a; 512].as_slice());
     Ok(())
 }
 
+// The reader stopped by this fault for good.
+fn expect_stopped(rt: &impl Abort, alloc: Global, reader: &mut RequestReader, fault: Fault) {
+    for _ in 0..3 {
+        assert_eq!(rt; reader.next(alloc).err(), Some(fault));
+        assert_eq!(rt; reader.feed(alloc, &READ_13).err(), Some(fault));
+    }
+}
+
+// A READ is read, and this header after it stops the reader at its last byte.
+fn expect_stop(rt: &impl Abort, alloc: Global, head: &[u8; 28], fault: Fault) -> Result<(), Fail> {
+    let mut reader = RequestReader::new();
+    feed(&mut reader, alloc, &READ_12)?;
+    let (front, last) = head.split_at(27);
+    feed(&mut reader, alloc, front)?;
+    assert!(rt; next(&mut reader, alloc)?.is_some());
+    assert!(rt; next(&mut reader, alloc)?.is_none());
+    feed(&mut reader, alloc, last)?;
+    feed(&mut reader, alloc, &READ_13)?;
+    expect_stopped(rt, alloc, &mut reader, fault);
+    Ok(())
+}
+
 #[test]
 fn stops_at_the_28th_byte_for_good(rt: HostRuntime) -> Result<(), Fail> {
-    for (head, fault) in [(OTHER_MAGIC, Fault::Magic), (LONG_WRITE, Fault::TooLong)] {
-        let mut reader = RequestReader::new();
-        reader.feed(rt.alloc(), &READ_12)?;
-        let (front, last) = head.split_at(27);
-        reader.feed(rt.alloc(), front)?;
-        assert!(rt; reader.next(rt.alloc())?.is_some());
-        assert!(rt; reader.next(rt.alloc())?.is_none());
-        reader.feed(rt.alloc(), last)?;
-        reader.feed(rt.alloc(), &READ_13)?;
-        for _ in 0..3 {
-            assert_eq!(rt; reader.next(rt.alloc()).err(), Some(fault));
-            assert_eq!(rt; reader.feed(rt.alloc(), &READ_13).err(), Some(fault));
+    expect_stop(&rt, rt.alloc(), &OTHER_MAGIC, Fault::Magic)?;
+    expect_stop(&rt, rt.alloc(), &LONG_WRITE, Fault::TooLong)
+}
+
+const PAYLOAD: [u8; 512] = [0xaa; 512];
+
+// The session's parts.
+static PARTS: [&[u8]; 8] = [
+    &WRITE_11, &PAYLOAD, &READ_12, &READ_13, &WRITE_14, &PAYLOAD, &READ_15, &READ_16,
+];
+
+// Reads a part in pieces of 100 bytes; gives how many requests have come.
+fn read_part(
+    rt: &impl Abort,
+    alloc: Global,
+    reader: &mut RequestReader,
+    part: &[u8],
+    from: usize,
+) -> usize {
+    let mut count = from;
+    for piece in part.chunks(100) {
+        assert!(rt; feed(reader, alloc, piece).is_ok());
+        match take_out(rt, alloc, reader, count) {
+            Ok(taken) => count = taken,
+            Err(_) => assert!(rt; false),
         }
     }
-    Ok(())
+    count
 }
 
 // The same requests, in pieces of 100 bytes, where memory is refused: the call is made again.
@@ -198,25 +243,9 @@ fn stops_at_the_28th_byte_for_good(rt: HostRuntime) -> Result<(), Fail> {
 #[test]
 fn reads_on_after_memory_was_refused(rt: HostRuntime) {
     let mut reader = RequestReader::new();
-    let payload = [0xaa; 512];
     let mut count = 0;
-    for part in [
-        WRITE_11.as_slice(),
-        payload.as_slice(),
-        READ_12.as_slice(),
-        READ_13.as_slice(),
-        WRITE_14.as_slice(),
-        payload.as_slice(),
-        READ_15.as_slice(),
-        READ_16.as_slice(),
-    ] {
-        for piece in part.chunks(100) {
-            assert!(rt; feed(&mut reader, rt.alloc(), piece).is_ok());
-            match take_out(&rt, rt.alloc(), &mut reader, count) {
-                Ok(taken) => count = taken,
-                Err(_) => assert!(rt; false),
-            }
-        }
+    for part in &PARTS {
+        count = read_part(&rt, rt.alloc(), &mut reader, part, count);
     }
     assert_eq!(rt; count, 6);
 }
