@@ -1,6 +1,6 @@
 //! Frames byte for byte, as proto.md lays them out, and devices that take less than they are given.
 use nm_replies::{Reply, ReplyWriter, SendFault, frame, put_frame};
-use nm_wire::{SimpleReply, errors, sizes};
+use nm_wire::{Memory, SimpleReply, errors, sizes};
 use std::alloc::Global;
 use std::io;
 use std::io::{ErrorKind, Write};
@@ -56,19 +56,30 @@ const REFUSED: [u8; 16] = [
     0x67, 0x44, 0x66, 0x98, 0, 0, 0, 0x16, 0, 0, 0, 0, 0, 0, 0, 0x13,
 ];
 
+// A reply's frame, of which nothing is said in proofs, so that the tests' goals stay small.
+fn frame_of(alloc: Global, reply: &Reply) -> Result<Vec<u8>, Memory> {
+    frame(alloc, reply)
+}
+
 #[test]
 fn frames_of_done_requests(rt: HostRuntime) -> Result<(), Fail> {
-    let written = frame(rt.alloc(), &Reply::done(0x11))?;
+    let written = frame_of(rt.alloc(), &Reply::done(0x11))?;
     assert_eq!(rt; written.as_slice(), DONE.as_slice());
     assert_eq!(rt; written.capacity(), 16);
     let empty = Reply::with_data(0x11, Vec::new(rt.alloc()));
-    assert_eq!(rt; frame(rt.alloc(), &empty)?.as_slice(), DONE.as_slice());
+    let empty = frame_of(rt.alloc(), &empty)?;
+    assert_eq!(rt; empty.as_slice(), DONE.as_slice());
+    Ok(())
+}
+
+#[test]
+fn frame_of_a_read(rt: HostRuntime) -> Result<(), Fail> {
     let read = Reply::with_data(0x11, [0xaa; 512].to_vec(rt.alloc())?);
-    let read = frame(rt.alloc(), &read)?;
+    let read = frame_of(rt.alloc(), &read)?;
     assert_eq!(rt; read.len(), 528);
     assert_eq!(rt; read.capacity(), 528);
-    assert_eq!(rt; &read.as_slice()[..16], DONE.as_slice());
-    assert_eq!(rt; &read.as_slice()[16..], [0xaa; 512].as_slice());
+    assert_eq!(rt; read.get(..16), Some(DONE.as_slice()));
+    assert_eq!(rt; read.get(16..), Some([0xaa; 512].as_slice()));
     Ok(())
 }
 

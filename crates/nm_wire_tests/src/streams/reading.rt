@@ -164,9 +164,9 @@ fn issues_no_request_before_its_payload_is_whole(rt: HostRuntime) -> Result<(), 
 
 // Sends the WRITE of cookie 14 with bytes a5, and reads it.
 fn read_another(rt: &impl Abort, alloc: Global, reader: &mut RequestReader) -> Result<(), Fail> {
-    reader.feed(alloc, &WRITE_14)?;
-    reader.feed(alloc, &[0xa5; 512])?;
-    let other = reader.next(alloc)?.ok_or("no request")?;
+    feed(reader, alloc, &WRITE_14)?;
+    feed(reader, alloc, &[0xa5; 512])?;
+    let other = next(reader, alloc)?.ok_or("no request")?;
     assert_eq!(rt; other.payload.as_slice(), [0xa5; 512].as_slice());
     Ok(())
 }
@@ -187,8 +187,8 @@ fn a_payload_stays_while_others_are_read(rt: HostRuntime) -> Result<(), Fail> {
 // The reader stopped by this fault for good.
 fn expect_stopped(rt: &impl Abort, alloc: Global, reader: &mut RequestReader, fault: Fault) {
     for _ in 0..3 {
-        assert_eq!(rt; reader.next(alloc).err(), Some(fault));
-        assert_eq!(rt; reader.feed(alloc, &READ_13).err(), Some(fault));
+        assert_eq!(rt; next(reader, alloc).err(), Some(fault));
+        assert_eq!(rt; feed(reader, alloc, &READ_13).err(), Some(fault));
     }
 }
 
