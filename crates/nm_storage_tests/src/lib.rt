@@ -2,11 +2,21 @@
 #![tactic(auto)]
 
 #[cfg(test)]
+mod ahead;
+#[cfg(test)]
 mod choices;
+#[cfg(test)]
+mod counting_medium;
+#[cfg(test)]
+mod files;
+#[cfg(test)]
+mod geometry;
 #[cfg(test)]
 mod histories;
 #[cfg(test)]
 mod legs;
+#[cfg(test)]
+mod media;
 #[cfg(test)]
 mod records;
 #[cfg(test)]

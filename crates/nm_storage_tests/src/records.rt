@@ -53,17 +53,32 @@ fn begin_one(alloc: Global) -> Result<Records, Fail> {
     Ok(records)
 }
 
-#[test]
-fn a_write_owes_its_legs(rt: HostRuntime) -> Result<(), Fail> {
-    assert!(rt; Records::new(rt.alloc())?.is_empty());
-    let records = begin_one(rt.alloc())?;
+/// The write of block 3 under ticket 7 alone is under way.
+fn compare_busy(rt: &impl Abort, records: &Records) {
     assert_eq!(rt; records.len(), 1);
     assert_eq!(rt; records.unlanded_count(), 1);
     assert_eq!(rt; records.busy_on(3), Some(7));
     assert_eq!(rt; records.busy_on(7), None);
+}
+
+/// The write under ticket 7 alone owes a leg, and leg 0 first.
+fn compare_first(rt: &impl Abort, records: &Records) {
     assert_eq!(rt; records.next_owed(7), Some(0));
     assert_eq!(rt; records.first_owed(), Some((7, 0)));
     assert_eq!(rt; records.next_owed(3), None);
+}
+
+#[test]
+fn new_records_are_empty(rt: HostRuntime) -> Result<(), Fail> {
+    assert!(rt; Records::new(rt.alloc())?.is_empty());
+    Ok(())
+}
+
+#[test]
+fn a_write_owes_its_legs(rt: HostRuntime) -> Result<(), Fail> {
+    let records = begin_one(rt.alloc())?;
+    compare_busy(&rt, &records);
+    compare_first(&rt, &records);
     Ok(())
 }
 
@@ -86,6 +101,13 @@ fn claim(rt: &impl Abort, records: &mut Records, place: usize, number: u64) -> u
     records.claim_at(place)
 }
 
+/// The write of block 3 under ticket 7 has reached each of its legs.
+fn owes_none(rt: &impl Abort, records: &Records) {
+    assert_eq!(rt; records.busy_on(3), None);
+    assert_eq!(rt; records.next_owed(7), None);
+    assert_eq!(rt; records.first_owed(), None);
+}
+
 #[test]
 fn a_write_reaches_its_legs(rt: HostRuntime) -> Result<(), Fail> {
     let mut records = begin_one(rt.alloc())?;
@@ -95,9 +117,7 @@ fn a_write_reaches_its_legs(rt: HostRuntime) -> Result<(), Fail> {
     assert_eq!(rt; records.unlanded_count(), 0);
     assert_eq!(rt; records.next_owed(7), Some(1));
     reach(&rt, &mut records, place, 1);
-    assert_eq!(rt; records.busy_on(3), None);
-    assert_eq!(rt; records.next_owed(7), None);
-    assert_eq!(rt; records.first_owed(), None);
+    owes_none(&rt, &records);
     assert_eq!(rt; claim(&rt, &mut records, place, 1), 1);
     assert!(rt; records.is_empty());
     Ok(())
@@ -112,17 +132,21 @@ fn compare_owed(rt: &impl Abort, record: &Record) {
     assert_eq!(rt; record.lowest_owed(), Some(2));
 }
 
+/// Compares the record of a write of block 3.
+fn compare_record(rt: &impl Abort, record: &Record) {
+    assert_eq!(rt; record.block, 3);
+    assert_eq!(rt; record.data.bytes(), [0xaa; 512].as_slice());
+    compare_owed(rt, record);
+    assert_eq!(rt; record.entry, None);
+}
+
 #[test]
 fn a_record_lends_what_it_holds(rt: HostRuntime) -> Result<(), Fail> {
     let mut records = Records::new(rt.alloc())?;
     let data = Data::Cut(cut(rt.alloc(), 0xaa)?);
     records.begin(7, 3, data, &Block::ZERO, legs_2_and_7());
-    let record = records.get(7).ok_or("the record of ticket 7")?;
-    assert_eq!(rt; record.block, 3);
-    assert_eq!(rt; record.data.bytes(), [0xaa; 512].as_slice());
-    compare_owed(&rt, record);
-    assert_eq!(rt; record.entry, None);
     assert!(rt; records.get(3).is_none());
+    compare_record(&rt, records.get(7).ok_or("the record of ticket 7")?);
     Ok(())
 }
 
@@ -267,9 +291,15 @@ fn land_three(rt: &impl Abort, records: &mut Records) -> Result<(), Fail> {
     Ok(())
 }
 
-/// The number of the entry of this ticket's write.
-fn entry_of(records: &Records, ticket: u64) -> Result<Option<u64>, Fail> {
-    Ok(records.get(ticket).ok_or("the record of a ticket")?.entry)
+/// Compares the numbers of the entries of these tickets' writes, all of which took effect.
+fn compare_entries(rt: &impl Abort, records: &Records, want: &[(u64, u64)]) -> Result<(), Fail> {
+    assert_eq!(rt; records.first_unlanded(), None);
+    assert_eq!(rt; records.unlanded_count(), 0);
+    for (ticket, number) in want {
+        let record = records.get(*ticket).ok_or("the record of a ticket")?;
+        assert_eq!(rt; record.entry, Some(*number), "ticket {ticket}");
+    }
+    Ok(())
 }
 
 #[test]
@@ -291,10 +321,5 @@ fn a_leg_leaves_and_the_writes_land_by_rising_ticket(rt: HostRuntime) -> Result<
     let mut records = begin_three(rt.alloc())?;
     records.leave(0);
     land_three(&rt, &mut records)?;
-    assert_eq!(rt; records.first_unlanded(), None);
-    assert_eq!(rt; records.unlanded_count(), 0);
-    assert_eq!(rt; entry_of(&records, 4)?, Some(20));
-    assert_eq!(rt; entry_of(&records, 6)?, Some(21));
-    assert_eq!(rt; entry_of(&records, 9)?, Some(22));
-    Ok(())
+    compare_entries(&rt, &records, &[(4, 20), (6, 21), (9, 22)])
 }

@@ -2,6 +2,7 @@
 use crate::asking::{Ask, Summary, fill_block, may_ask, step_of, summary_of};
 use crate::opening::{ONE_LEG, Setup, TWO_LEGS, open_fused};
 use crate::stripes::WRITE_AND_READS;
+use crate::worked::stand;
 use nm_leg::{CountingLeg, FuseLeg, LegPart, MemLeg};
 use nm_replay::Block;
 use nm_stripe::{
@@ -12,17 +13,24 @@ use std::alloc::Global;
 use std::process::Abort;
 use std::test::Fail;
 
-#[test]
-fn a_new_stripe_has_no_write(rt: HostRuntime) -> Result<(), Fail> {
-    let stripe = open_fused(&rt, rt.alloc(), TWO_LEGS)?;
-    assert!(rt; stripe.legs() == 2);
-    assert_eq!(rt; stripe.state(1), LegState::InSync);
-    assert_eq!(rt; stripe.left(1), 0);
-    assert_eq!(rt; stripe.master(), 0);
-    assert!(rt; !stripe.is_stopped() && !stripe.is_settling());
+/// Nothing was written or read, and nothing stops the stripe.
+fn is_new(rt: &impl Abort, stripe: &Stripe<FuseLeg>) {
+    assert!(rt; !stripe.is_stopped());
     assert_eq!(rt; stripe.next_owed(0), None);
     assert_eq!(rt; stripe.first_owed(), None);
     assert_eq!(rt; (stripe.total(), stripe.next_number()), (0, 0));
+}
+
+#[test]
+fn a_new_stripe_has_no_write(rt: HostRuntime) -> Result<(), Fail> {
+    let stripe = open_fused(&rt, rt.alloc(), TWO_LEGS)?;
+    stand(
+        &rt,
+        &stripe,
+        0,
+        &[(LegState::InSync, 0), (LegState::InSync, 0)],
+    );
+    is_new(&rt, &stripe);
     Ok(())
 }
 
@@ -39,6 +47,11 @@ fn begun(
         Ok(Beginning::Begun(ticket)) => Ok(ticket),
         _other => Err(Fail::new("begin")),
     }
+}
+
+fn owes_leg_0(rt: &impl Abort, stripe: &Stripe<FuseLeg>, ticket: u64) {
+    assert_eq!(rt; stripe.next_owed(ticket), Some(0));
+    assert_eq!(rt; stripe.first_owed(), Some((0, 0)));
 }
 
 fn pushes(rt: &impl Abort, stripe: &mut Stripe<FuseLeg>, ticket: u64, want: Reach) {
@@ -65,6 +78,11 @@ fn attaches(rt: &impl Abort, stripe: &mut Stripe<FuseLeg>, want: Result<u64, Ref
     assert_eq!(rt; stripe.attach(1), want);
 }
 
+fn joins(rt: &impl Abort, stripe: &Stripe<FuseLeg>) {
+    assert!(rt; stripe.legs() == 2);
+    assert_eq!(rt; stripe.state(1), LegState::Joining);
+}
+
 fn copies(rt: &impl Abort, stripe: &mut Stripe<FuseLeg>, leg: u8, want: Result<Copying, Refusal>) {
     assert!(rt; (leg as usize) < stripe.legs());
     assert_eq!(rt; stripe.copy(leg), want);
@@ -79,22 +97,12 @@ fn is_not_promoted(rt: &impl Abort, stripe: &mut Stripe<FuseLeg>, why: Refusal) 
 fn a_write_by_its_own_calls(rt: HostRuntime) -> Result<(), Fail> {
     let mut stripe = open_fused(&rt, rt.alloc(), ONE_LEG)?;
     let ticket = begun(&rt, rt.alloc(), &mut stripe, 2)?;
-    assert_eq!(rt; stripe.next_owed(ticket), Some(0));
-    assert_eq!(rt; stripe.first_owed(), Some((0, 0)));
+    owes_leg_0(&rt, &stripe, ticket);
     pushes(&rt, &mut stripe, ticket, Reach::Complete(0));
     claims(&rt, &mut stripe, ticket)
 }
 
-#[test]
-fn a_read_by_its_own_call(rt: HostRuntime) -> Result<(), Fail> {
-    let mut stripe = open_fused(
-        &rt,
-        rt.alloc(),
-        Setup {
-            first: 5,
-            ..TWO_LEGS
-        },
-    )?;
+fn reads(rt: &impl Abort, stripe: &mut Stripe<FuseLeg>) -> Result<(), Fail> {
     let mut into = Block([9; 512]);
     assert!(rt; stripe.place().blocks == 8);
     let Ok(Reading::Value(receipt)) = stripe.read(2, &mut into) else {
@@ -109,17 +117,35 @@ fn a_read_by_its_own_call(rt: HostRuntime) -> Result<(), Fail> {
 }
 
 #[test]
-fn a_leg_that_is_not_out_is_not_replaced(rt: HostRuntime) -> Result<(), Fail> {
-    let mut stripe = open_fused(&rt, rt.alloc(), TWO_LEGS)?;
-    let step = Step::Replace(1, FuseLeg::with_byte(rt.alloc(), 8, 0xff)?);
-    may_ask(&rt, &stripe, &step);
-    match stripe.step(step) {
+fn a_read_by_its_own_call(rt: HostRuntime) -> Result<(), Fail> {
+    let mut stripe = open_fused(
+        &rt,
+        rt.alloc(),
+        Setup {
+            first: 5,
+            ..TWO_LEGS
+        },
+    )?;
+    reads(&rt, &mut stripe)
+}
+
+/// Compares the answer to a leg that was not taken.
+fn is_not_out(rt: &impl Abort, answer: &Answer<FuseLeg>) {
+    match answer {
         Answer::Refused(refusal, Handed::Replacement(leg)) => {
-            assert_eq!(rt; refusal, Refusal::NotOut);
+            assert_eq!(rt; *refusal, Refusal::NotOut);
             assert_eq!(rt; leg.len(), 8);
         }
         _other => assert!(rt; false, "a leg was replaced"),
     }
+}
+
+#[test]
+fn a_leg_that_is_not_out_is_not_replaced(rt: HostRuntime) -> Result<(), Fail> {
+    let mut stripe = open_fused(&rt, rt.alloc(), TWO_LEGS)?;
+    let step = Step::Replace(1, FuseLeg::with_byte(rt.alloc(), 8, 0xff)?);
+    may_ask(&rt, &stripe, &step);
+    is_not_out(&rt, &stripe.step(step));
     Ok(())
 }
 
@@ -135,8 +161,7 @@ fn a_leg_goes_out_and_comes_back(rt: HostRuntime) -> Result<(), Fail> {
     fails(&rt, &mut stripe, Ok(Failing::Failed));
     fails(&rt, &mut stripe, Err(Refusal::AlreadyOut));
     attaches(&rt, &mut stripe, Ok(0));
-    assert!(rt; stripe.legs() == 2);
-    assert_eq!(rt; stripe.state(1), LegState::Joining);
+    joins(&rt, &stripe);
     Ok(())
 }
 
@@ -158,17 +183,27 @@ fn a_synced_leg_stays_as_it_is(rt: HostRuntime) -> Result<(), Fail> {
     Ok(())
 }
 
+fn replaces(rt: &impl Abort, alloc: Global, stripe: &mut Stripe<FuseLeg>) -> Result<(), Fail> {
+    let part = FuseLeg::with_byte(alloc, 8, 0xff)?;
+    assert!(rt; stripe.legs() == 2 && stripe.blocks() == 8 && part.len() == 8);
+    assert_eq!(rt; stripe.replace(1, part).ok(), Some(8));
+    Ok(())
+}
+
 #[test]
 fn a_leg_is_replaced_by_a_new_one(rt: HostRuntime) -> Result<(), Fail> {
     let mut stripe = open_fused(&rt, rt.alloc(), TWO_LEGS)?;
     fails(&rt, &mut stripe, Ok(Failing::Failed));
-    let part = FuseLeg::with_byte(rt.alloc(), 8, 0xff)?;
-    assert!(rt; stripe.legs() == 2 && stripe.blocks() == 8 && part.len() == 8);
-    match stripe.replace(1, part) {
-        Ok(left) => assert_eq!(rt; left, 8),
-        Err((_refusal, _part)) => assert!(rt; false, "not replaced"),
-    }
-    Ok(())
+    replaces(&rt, rt.alloc(), &mut stripe)
+}
+
+fn ends(rt: &impl Abort, stripe: &Stripe<FuseLeg>) {
+    let end = stripe.end();
+    assert_eq!(rt;
+        (end.stripe(), end.total(), end.left(), end.landed()),
+        (7, 1, 1, 1)
+    );
+    assert_eq!(rt; stripe.number(), 7);
 }
 
 #[test]
@@ -176,12 +211,7 @@ fn an_end_counts_the_writes_that_are_left(rt: HostRuntime) -> Result<(), Fail> {
     let mut stripe = open_fused(&rt, rt.alloc(), TWO_LEGS)?;
     let ticket = begun(&rt, rt.alloc(), &mut stripe, 2)?;
     pushes(&rt, &mut stripe, ticket, Reach::Pushed(1));
-    let end = stripe.end();
-    assert_eq!(rt;
-        (end.stripe(), end.total(), end.left(), end.landed()),
-        (7, 1, 1, 1)
-    );
-    assert_eq!(rt; stripe.number(), 7);
+    ends(&rt, &stripe);
     Ok(())
 }
 
@@ -249,6 +279,28 @@ fn counting(alloc: Global) -> Result<Stripe<CountingLeg<MemLeg>>, Fail> {
     )
 }
 
+/// How many calls each of the two legs has had.
+fn calls_of(rt: &impl Abort, stripe: &Stripe<CountingLeg<MemLeg>>) -> (u64, u64) {
+    assert!(rt; stripe.legs() == 2);
+    (stripe.part(0).calls(), stripe.part(1).calls())
+}
+
+/// Does one step, and compares its answer and the calls of each leg.
+fn compare_call(
+    rt: &impl Abort,
+    alloc: Global,
+    stripe: &mut Stripe<CountingLeg<MemLeg>>,
+    (ask, want): (Ask, Summary),
+    calls: (u64, u64),
+) -> Result<(), Fail> {
+    let step = step_of(alloc, &mut Vec::new(alloc), ask)?;
+    may_ask(rt, stripe, &step);
+    let answer = stripe.step(step);
+    assert_eq!(rt; summary_of(&answer), want, "at {ask:?}");
+    assert_eq!(rt; calls_of(rt, stripe), calls, "at {ask:?}");
+    Ok(())
+}
+
 /// Does the steps one by one on two legs, and compares their answers and the calls of each leg.
 pub fn compare_calls(
     rt: &impl Abort,
@@ -257,14 +309,8 @@ pub fn compare_calls(
     calls: &[(u64, u64)],
 ) -> Result<(), Fail> {
     let mut stripe = counting(alloc)?;
-    for ((ask, want), calls) in rows.iter().zip(calls) {
-        let step = step_of(alloc, &mut Vec::new(alloc), *ask)?;
-        may_ask(rt, &stripe, &step);
-        let answer = stripe.step(step);
-        assert_eq!(rt; summary_of(&answer), *want, "at {ask:?}");
-        assert!(rt; stripe.legs() == 2);
-        let made = (stripe.part(0).calls(), stripe.part(1).calls());
-        assert_eq!(rt; made, *calls, "at {ask:?}");
+    for (row, calls) in rows.iter().zip(calls) {
+        compare_call(rt, alloc, &mut stripe, *row, *calls)?;
     }
     Ok(())
 }

@@ -2,6 +2,7 @@
 ghost use Rattle.nm_leg.specs.LegCalls.{EachHas};
 ghost use Rattle.nm_leg.specs.TestLegs.{of_fuse};
 
+use crate::worked::stand;
 use nm_leg::{FuseLeg, LegPart};
 use nm_stripe::{At, Copying, LegState, OpenFault, Policy, Promotion, Refusal, Stripe};
 use std::alloc::Global;
@@ -68,6 +69,14 @@ fn copies(rt: &impl Abort, stripe: &mut Stripe<FuseLeg>, leg: u8, want: Copying)
     assert_eq!(rt; stripe.copy(leg), Ok(want));
 }
 
+/// Copies to a leg until nothing is left, and compares how much each copy leaves.
+fn is_copied(rt: &impl Abort, stripe: &mut Stripe<FuseLeg>, leg: u8, left: &[u64]) {
+    for left in left {
+        copies(rt, stripe, leg, Copying::Copied(*left));
+    }
+    copies(rt, stripe, leg, Copying::Nothing);
+}
+
 fn promotes(
     rt: &impl Abort,
     stripe: &mut Stripe<FuseLeg>,
@@ -82,15 +91,14 @@ fn promotes(
 fn only_regions_that_differ_are_copied(rt: HostRuntime) -> Result<(), Fail> {
     let legs = three_legs(&rt, rt.alloc())?;
     let mut stripe = compare(&rt, rt.alloc(), legs, 0).ok().ok_or("open")?;
-    assert_eq!(rt; stripe.master(), 0);
-    assert_eq!(rt; stands(&rt, &stripe, 0), (LegState::InSync, 0));
-    assert_eq!(rt; stands(&rt, &stripe, 1), (LegState::Joining, 2));
-    assert_eq!(rt; stands(&rt, &stripe, 2), (LegState::Joining, 8));
+    let stood = [
+        (LegState::InSync, 0),
+        (LegState::Joining, 2),
+        (LegState::Joining, 8),
+    ];
+    stand(&rt, &stripe, 0, &stood);
     promotes(&rt, &mut stripe, 1, Err(Refusal::NotYet));
-    for left in [2, 2, 1, 0] {
-        copies(&rt, &mut stripe, 1, Copying::Copied(left));
-    }
-    copies(&rt, &mut stripe, 1, Copying::Nothing);
+    is_copied(&rt, &mut stripe, 1, &[2, 2, 1, 0]);
     promotes(&rt, &mut stripe, 1, Ok(Promotion::InSync));
     assert_eq!(rt; stands(&rt, &stripe, 1), (LegState::InSync, 0));
     Ok(())
@@ -100,10 +108,12 @@ fn only_regions_that_differ_are_copied(rt: HostRuntime) -> Result<(), Fail> {
 fn legs_are_compared_with_the_named_master(rt: HostRuntime) -> Result<(), Fail> {
     let legs = three_legs(&rt, rt.alloc())?;
     let stripe = compare(&rt, rt.alloc(), legs, 2).ok().ok_or("open")?;
-    assert_eq!(rt; stripe.master(), 2);
-    assert_eq!(rt; stands(&rt, &stripe, 0), (LegState::Joining, 8));
-    assert_eq!(rt; stands(&rt, &stripe, 1), (LegState::Joining, 10));
-    assert_eq!(rt; stands(&rt, &stripe, 2), (LegState::InSync, 0));
+    let stood = [
+        (LegState::Joining, 8),
+        (LegState::Joining, 10),
+        (LegState::InSync, 0),
+    ];
+    stand(&rt, &stripe, 2, &stood);
     Ok(())
 }
 
@@ -154,16 +164,32 @@ fn the_legs_come_back_where_the_master_fails(rt: HostRuntime) -> Result<(), Fail
         return Err(Fail::new("opened"));
     };
     assert_eq!(rt; fault, OpenFault::MasterFault);
-    assert_eq!(rt; (OpenFault::Memory.number(), fault.number()), (1, 2));
-    assert_eq!(rt;
-        OpenFault::Memory.to_string(rt.alloc())?.as_str(),
-        "out of memory"
-    );
-    assert_eq!(rt;
-        fault.to_string(rt.alloc())?.as_str(),
-        "the master cannot be read"
-    );
     assert!(rt; legs.len() == 3);
     assert_eq!(rt; legs[0].faults(), 1);
     Ok(())
+}
+
+/// Compares a fault's number and text.
+fn tells(
+    rt: &impl Abort,
+    alloc: Global,
+    fault: OpenFault,
+    number: u8,
+    text: &str,
+) -> Result<(), Fail> {
+    assert_eq!(rt; fault.number(), number);
+    assert_eq!(rt; fault.to_string(alloc)?.as_str(), text);
+    Ok(())
+}
+
+#[test]
+fn an_open_fault_has_a_number_and_a_text(rt: HostRuntime) -> Result<(), Fail> {
+    tells(&rt, rt.alloc(), OpenFault::Memory, 1, "out of memory")?;
+    tells(
+        &rt,
+        rt.alloc(),
+        OpenFault::MasterFault,
+        2,
+        "the master cannot be read",
+    )
 }

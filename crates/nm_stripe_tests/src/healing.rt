@@ -2,10 +2,11 @@
 //! and a history that is longer than what is kept of it.
 use crate::asking::{Ask, Summary};
 use crate::opening::{ONE_LEG, Setup, THREE_LEGS, TWO_LEGS};
-use crate::worked::{after, has, holds, stand};
-use nm_replay::check;
+use crate::worked::{after, has, holds, kept, stand};
+use nm_replay::Entry;
 use nm_stripe::{LegState, Policy, Refusal};
 use std::alloc::{AllocError, Global};
+use std::process::Abort;
 use std::test::Fail;
 
 /// Two legs, of which each region has its own.
@@ -165,14 +166,17 @@ pub fn many_reads(alloc: Global) -> Result<Vec<(Ask, Summary)>, AllocError> {
     Ok(rows)
 }
 
+fn are_numbers_1_to_1024(rt: &impl Abort, entries: &[Entry]) {
+    assert_eq!(rt; entries.len(), 1024);
+    for (entry, number) in entries.iter().zip(1..) {
+        assert_eq!(rt; entry.seq, number);
+    }
+}
+
 #[test]
 fn the_last_1024_entries_are_kept(rt: HostRuntime) -> Result<(), Fail> {
     let stripe = after(&rt, rt.alloc(), ONE_LEG, &many_reads(rt.alloc())?)?;
-    let kept = stripe.entries(rt.alloc())?;
-    assert_eq!(rt; (stripe.total(), kept.len()), (1025, 1024));
-    assert!(rt; check(&kept));
-    for (entry, number) in kept.iter().zip(1..) {
-        assert_eq!(rt; entry.seq, number);
-    }
+    assert_eq!(rt; stripe.total(), 1025);
+    are_numbers_1_to_1024(&rt, &kept(&rt, rt.alloc(), &stripe)?);
     Ok(())
 }

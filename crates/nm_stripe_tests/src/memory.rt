@@ -38,17 +38,23 @@ fn prepare(
     Ok(Prepared { stripe, steps })
 }
 
+/// Does the steps, and compares their answers.
+fn do_steps(rt: &impl Abort, prepared: Prepared, rows: &[(Ask, Summary)]) {
+    let Prepared { mut stripe, steps } = prepared;
+    compare_each(rt, &mut stripe, steps, rows);
+}
+
 /// Does the steps that were prepared last, and compares their answers.
 fn do_last(rt: &impl Abort, all: &mut Vec<Prepared>, rows: &[(Ask, Summary)]) {
     match all.pop() {
-        Some(Prepared { mut stripe, steps }) => compare_each(rt, &mut stripe, steps, rows),
+        Some(prepared) => do_steps(rt, prepared, rows),
         None => assert!(rt; false, "nothing is prepared"),
     }
 }
 
 /// The worked lists in which no leg is replaced, but for the one with two fuses and the long ones;
 /// and one in which a leg is copied.
-const LISTS: [(Setup, &[(Ask, Summary)]); 20] = [
+static LISTS: [(Setup, &[(Ask, Summary)]); 20] = [
     (LONGER, &WRITE_AND_READS),
     (ONE_BLOCK, &[]),
     (LONGER, &MASTER_HAD_IT),
@@ -71,35 +77,62 @@ const LISTS: [(Setup, &[(Ask, Summary)]); 20] = [
     (TWO_LEGS, &HEALING),
 ];
 
-/// Takes all memory that the lists need: first these, then one that is longer than what is kept of
-/// the records, and one that is longer than what is kept of the history.
+/// Takes all memory that these lists need.
+fn prepare_lists(rt: &impl Abort, alloc: Global) -> Result<Vec<Prepared>, Fail> {
+    let mut all = Vec::new(alloc);
+    for (with, rows) in &LISTS {
+        all.push(prepare(rt, alloc, *with, rows)?)?;
+    }
+    Ok(all)
+}
+
+/// Does their steps, from the last list to the first.
+fn do_lists(rt: &impl Abort, all: &mut Vec<Prepared>) {
+    for (_, rows) in LISTS.iter().rev() {
+        do_last(rt, all, rows);
+    }
+}
+
+/// What is done once all memory is taken: the lists, one that is longer than what is kept of the
+/// records, one that is longer than what is kept of the history, and those of the last leg.
+#[derive(Drop)]
+struct Ready {
+    lists: Vec<Prepared>,
+    full: Prepared,
+    reads: Prepared,
+    last: Prepared,
+    halts: Vec<Step<FuseLeg>>,
+}
+
+/// Takes all of that memory.
 fn prepare_all(
     rt: &impl Abort,
     alloc: Global,
     full: &[(Ask, Summary)],
     reads: &[(Ask, Summary)],
-) -> Result<Vec<Prepared>, Fail> {
-    let mut all = Vec::new(alloc);
-    for (with, rows) in LISTS {
-        all.push(prepare(rt, alloc, with, rows)?)?;
-    }
-    all.push(prepare(rt, alloc, LONG, full)?)?;
-    all.push(prepare(rt, alloc, ONE_LEG, reads)?)?;
-    Ok(all)
+) -> Result<Ready, Fail> {
+    Ok(Ready {
+        lists: prepare_lists(rt, alloc)?,
+        full: prepare(rt, alloc, LONG, full)?,
+        reads: prepare(rt, alloc, ONE_LEG, reads)?,
+        last: prepare(rt, alloc, FIRST_FAILS, &LAST_LEG_READS)?,
+        halts: steps_of(alloc, Vec::new(alloc), &LAST_LEG_HALTS)?,
+    })
 }
 
-/// Does their steps, from the last list to the first.
-fn do_all(
-    rt: &impl Abort,
-    all: &mut Vec<Prepared>,
-    full: &[(Ask, Summary)],
-    reads: &[(Ask, Summary)],
-) {
-    do_last(rt, all, reads);
-    do_last(rt, all, full);
-    for (_, rows) in LISTS.into_iter().rev() {
-        do_last(rt, all, rows);
-    }
+/// Does all the steps, and takes no memory.
+fn do_all(rt: &impl Abort, ready: Ready, full: &[(Ask, Summary)], reads: &[(Ask, Summary)]) {
+    let Ready {
+        mut lists,
+        full: full_stripe,
+        reads: read_stripe,
+        last,
+        halts,
+    } = ready;
+    do_lists(rt, &mut lists);
+    do_steps(rt, full_stripe, full);
+    do_steps(rt, read_stripe, reads);
+    do_last_leg(rt, last, halts);
 }
 
 /// Does the steps of the last leg in sync, which fails in a read, and then in a write.
@@ -110,6 +143,13 @@ fn do_last_leg(rt: &impl Abort, last: Prepared, halts: Vec<Step<FuseLeg>>) {
     compare_each(rt, &mut stripe, halts, &LAST_LEG_HALTS);
 }
 
+/// Allocates once.
+fn take_some(rt: &impl Abort, alloc: Global) -> Result<(), Fail> {
+    let next = Vec::from_slice(alloc, b"next");
+    assert_eq!(rt; next.ok().ok_or("refused after the last step")?.len(), 4);
+    Ok(())
+}
+
 // The allocations of this test are those before the first step, and one after the last. So with one
 // of them refused (`rt try --test --fail-alloc N`) it fails before the first step, with all of those
 // made, or after the last with the very next number: no step asks for memory.
@@ -118,13 +158,7 @@ fn steps_take_no_memory(rt: HostRuntime) -> Result<(), Fail> {
     let alloc = rt.alloc();
     let full = full_and_after(alloc)?;
     let reads = many_reads(alloc)?;
-    let mut all = prepare_all(&rt, alloc, &full, &reads)?;
-    let last = prepare(&rt, alloc, FIRST_FAILS, &LAST_LEG_READS)?;
-    let halts = steps_of(alloc, Vec::new(alloc), &LAST_LEG_HALTS)?;
-
-    do_all(&rt, &mut all, &full, &reads);
-    do_last_leg(&rt, last, halts);
-    let next = Vec::from_slice(alloc, b"next");
-    assert_eq!(rt; next.ok().ok_or("refused after the last step")?.len(), 4);
-    Ok(())
+    let ready = prepare_all(&rt, alloc, &full, &reads)?;
+    do_all(&rt, ready, &full, &reads);
+    take_some(&rt, alloc)
 }

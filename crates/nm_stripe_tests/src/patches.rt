@@ -2,10 +2,10 @@
 use crate::asking::{Ask, Summary, may_ask, part};
 use crate::calls::compare_calls;
 use crate::opening::{ONE_LEG, Setup, TWO_LEGS, fuse, open_fused};
-use crate::worked::{after, has};
+use crate::worked::{after, has, kept};
 use nm_fanout::Data;
-use nm_leg::LegPart;
-use nm_replay::{Kind, check};
+use nm_leg::{FuseLeg, LegPart};
+use nm_replay::{Entry, Kind};
 use nm_stripe::{Answer, Handed, Refusal, Step, Stripe};
 use std::alloc::Global;
 use std::process::Abort;
@@ -33,17 +33,19 @@ const KEPT: [(Kind, (u8, u8, u8)); 3] = [
     (Kind::Read, (0xaa, 0xaa, 0xbb)),
 ];
 
+fn are_over_a_write(rt: &impl Abort, entries: &[Entry]) {
+    assert_eq!(rt; entries.len(), 3);
+    for ((entry, (kind, bytes)), seq) in entries.iter().zip(&KEPT).zip(0..) {
+        assert_eq!(rt; (entry.seq, entry.kind, entry.block), (seq, *kind, 0));
+        let found = (entry.bytes.0[0], entry.bytes.0[509], entry.bytes.0[511]);
+        assert_eq!(rt; found, *bytes);
+    }
+}
+
 #[test]
 fn a_part_is_laid_over_what_the_block_holds(rt: HostRuntime) -> Result<(), Fail> {
     let stripe = after(&rt, rt.alloc(), TWO_LEGS, &OVER_A_WRITE)?;
-    let kept = stripe.entries(rt.alloc())?;
-    assert!(rt; check(&kept));
-    assert_eq!(rt; kept.len(), 3);
-    for ((entry, (kind, bytes)), seq) in kept.iter().zip(KEPT).zip(0..) {
-        assert_eq!(rt; (entry.seq, entry.kind, entry.block), (seq, kind, 0));
-        let found = (entry.bytes.0[0], entry.bytes.0[509], entry.bytes.0[511]);
-        assert_eq!(rt; found, bytes);
-    }
+    are_over_a_write(&rt, &kept(&rt, rt.alloc(), &stripe)?);
     Ok(())
 }
 
@@ -120,22 +122,30 @@ fn came_back(data: &Data) -> bool {
     }
 }
 
+fn loses_leg_0(rt: &impl Abort, answer: &Answer<FuseLeg>) {
+    match answer {
+        Answer::LegLost(leg, Handed::Data(data)) => assert!(rt; *leg == 0 && came_back(data)),
+        _other => assert!(rt; false, "the master was not lost"),
+    }
+}
+
+fn is_refused(rt: &impl Abort, answer: &Answer<FuseLeg>) {
+    match answer {
+        Answer::Refused(refusal, Handed::Data(data)) => {
+            assert_eq!(rt; *refusal, Refusal::Fault);
+            assert!(rt; came_back(data));
+        }
+        _other => assert!(rt; false, "the part was not refused"),
+    }
+}
+
 #[test]
 fn a_part_comes_back_where_it_did_not_begin(rt: HostRuntime) -> Result<(), Fail> {
     let mut stripe = open_fused(&rt, rt.alloc(), TWO_LEGS)?;
     fuse(&rt, &stripe, 0, 1);
-    match patch(&rt, rt.alloc(), &mut stripe)? {
-        Answer::LegLost(leg, Handed::Data(data)) => assert!(rt; leg == 0 && came_back(&data)),
-        _other => assert!(rt; false, "the master was not lost"),
-    }
+    loses_leg_0(&rt, &patch(&rt, rt.alloc(), &mut stripe)?);
     fuse(&rt, &stripe, 1, 1);
-    match patch(&rt, rt.alloc(), &mut stripe)? {
-        Answer::Refused(refusal, Handed::Data(data)) => {
-            assert_eq!(rt; refusal, Refusal::Fault);
-            assert!(rt; came_back(&data));
-        }
-        _other => assert!(rt; false, "the part was not refused"),
-    }
+    is_refused(&rt, &patch(&rt, rt.alloc(), &mut stripe)?);
     Ok(())
 }
 

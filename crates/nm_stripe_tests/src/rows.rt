@@ -1,10 +1,11 @@
 //! Worked lists of steps, with a leg that fails or is copied, and what the stripe is after them.
 use crate::asking::{Ask, Summary, compare};
 use crate::opening::{LONGER, ONE_LEG, Setup, TWO_LEGS};
-use crate::worked::{after, after_again, has, holds, stand};
+use crate::worked::{after, after_again, has, holds, keeps, kept, stand};
 use nm_leg::FuseLeg;
-use nm_replay::{Kind, check};
+use nm_replay::Kind;
 use nm_stripe::{LegState, Policy, Refusal, Stripe};
+use std::alloc::Global;
 use std::process::Abort;
 use std::test::Fail;
 
@@ -58,10 +59,8 @@ pub const SECOND_OF_STRIPED_FAILS: Setup = Setup {
 #[test]
 fn no_steps_on_a_new_stripe_leave_it_new(rt: HostRuntime) -> Result<(), Fail> {
     let stripe = after(&rt, rt.alloc(), ONE_BLOCK, &[])?;
-    let kept = stripe.entries(rt.alloc())?;
-    assert_eq!(rt; (stripe.total(), kept.len()), (0, 0));
     stand(&rt, &stripe, 0, &[(LegState::InSync, 0)]);
-    Ok(())
+    keeps(&rt, rt.alloc(), &stripe, &[])
 }
 
 pub const MASTER_HAD_IT: [(Ask, Summary); 8] = [
@@ -125,13 +124,7 @@ const THREE_KEPT: [(Kind, u64, u8); 4] = [
 #[test]
 fn three_writes_under_way_take_effect_by_ticket(rt: HostRuntime) -> Result<(), Fail> {
     let stripe = after(&rt, rt.alloc(), LONGER_OF_THREE, &THREE_UNDER_WAY)?;
-    let kept = stripe.entries(rt.alloc())?;
-    assert!(rt; check(&kept));
-    assert_eq!(rt; kept.len(), 4);
-    for (entry, want) in kept.iter().zip(THREE_KEPT) {
-        assert_eq!(rt; (entry.kind, entry.block, entry.bytes.0[511]), want);
-    }
-    Ok(())
+    keeps(&rt, rt.alloc(), &stripe, &THREE_KEPT)
 }
 
 const TO_REPLACED: [(Ask, Summary); 30] = [
@@ -214,14 +207,24 @@ fn is_after_short_region(rt: &impl Abort, stripe: &Stripe<FuseLeg>) {
     assert_eq!(rt; (stripe.total(), stripe.next_number()), (5, 5));
 }
 
+/// Gives an empty list to `run`, and compares the entries that are kept with those before.
+fn keeps_by_no_steps(
+    rt: &impl Abort,
+    alloc: Global,
+    stripe: &mut Stripe<FuseLeg>,
+) -> Result<(), Fail> {
+    let before = kept(rt, alloc, stripe)?;
+    compare(rt, alloc, stripe, &[])?;
+    assert!(rt; kept(rt, alloc, stripe)? == before);
+    Ok(())
+}
+
 #[test]
 fn no_steps_change_nothing(rt: HostRuntime) -> Result<(), Fail> {
     let mut stripe = after(&rt, rt.alloc(), SHORTER, &SHORT_REGION)?;
     is_after_short_region(&rt, &stripe);
-    let before = stripe.entries(rt.alloc())?;
-    compare(&rt, rt.alloc(), &mut stripe, &[])?;
+    keeps_by_no_steps(&rt, rt.alloc(), &mut stripe)?;
     is_after_short_region(&rt, &stripe);
-    assert_eq!(rt; stripe.entries(rt.alloc())?, before);
     compare(&rt, rt.alloc(), &mut stripe, &GOES_ON)
 }
 

@@ -3,9 +3,9 @@ ghost use Rattle.std.specs.Prelude.{◌≡◌, ◌<◌, ◌≤◌, length};
 
 use crate::asking::{Ask, Summary, compare};
 use crate::opening::{LONGER, ONE_LEG, Setup, TWO_LEGS, try_open};
-use crate::worked::{after, has};
+use crate::worked::{after, has, keeps};
 use nm_leg::{FailingLeg, LegPart, LyingLeg};
-use nm_replay::{Block, Entry, Kind, check};
+use nm_replay::{Block, Kind};
 use nm_stripe::{At, Policy, Refusal, Stripe};
 use std::alloc::{AllocError, Global};
 use std::process::Abort;
@@ -84,32 +84,17 @@ pub const LONG: Setup = Setup {
     ..ONE_LEG
 };
 
+const WRITE_AND_READS_KEPT: [(Kind, u64, u8); 4] = [
+    (Kind::Read, 3, 0x00),
+    (Kind::Write(0), 3, 0xaa),
+    (Kind::Read, 3, 0xaa),
+    (Kind::Read, 3, 0xaa),
+];
+
 /// The row of a write and reads, on legs of this shape, and its history.
 fn writes_and_reads(rt: &impl Abort, alloc: Global, with: Setup) -> Result<(), Fail> {
     let stripe = after(rt, alloc, with, &WRITE_AND_READS)?;
-    let kept = stripe.entries(alloc)?;
-    assert_eq!(rt; stripe.total(), 4);
-    assert_eq!(rt; kept.len(), 4);
-    assert!(rt; check(&kept));
-    let want = [
-        (Kind::Read, 0x00),
-        (Kind::Write(0), 0xaa),
-        (Kind::Read, 0xaa),
-        (Kind::Read, 0xaa),
-    ];
-    for ((entry, (kind, byte)), seq) in kept.iter().zip(want).zip(0..) {
-        let bytes = Block([byte; 512]);
-        assert_eq!(rt;
-            *entry,
-            Entry {
-                seq,
-                kind,
-                block: 3,
-                bytes
-            }
-        );
-    }
-    Ok(())
+    keeps(rt, alloc, &stripe, &WRITE_AND_READS_KEPT)
 }
 
 #[test]

@@ -2,6 +2,7 @@
 use crate::asking::{Ask, Summary, compare, compare_each, compare_with, steps_of};
 use crate::opening::{Setup, fuse_of, open_fused};
 use nm_leg::{FuseLeg, LegPart};
+use nm_replay::{Block, Entry, Kind, check};
 use nm_stripe::{LegState, Stripe};
 use std::alloc::Global;
 use std::process::Abort;
@@ -129,4 +130,37 @@ pub fn holds(rt: &impl Abort, stripe: &Stripe<FuseLeg>, leg: u8, block: u64, wan
     assert!(rt; block < part.len());
     let bytes = part.block(block);
     assert_eq!(rt; (bytes.0[0], bytes.0[511]), want);
+}
+
+/// The kept entries of a stripe, which some array explains.
+pub fn kept(rt: &impl Abort, alloc: Global, stripe: &Stripe<FuseLeg>) -> Result<Vec<Entry>, Fail> {
+    let entries = stripe.entries(alloc)?;
+    assert!(rt; check(&entries));
+    Ok(entries)
+}
+
+/// Compares entries, numbered from 0, whose blocks have the same byte everywhere.
+fn compare_entries(rt: &impl Abort, entries: &[Entry], want: &[(Kind, u64, u8)]) {
+    assert_eq!(rt; entries.len(), want.len());
+    for ((entry, (kind, block, byte)), seq) in entries.iter().zip(want).zip(0..) {
+        let want = Entry {
+            seq,
+            kind: *kind,
+            block: *block,
+            bytes: Block([*byte; 512]),
+        };
+        assert_eq!(rt; *entry, want);
+    }
+}
+
+/// Compares all entries that a stripe ever had, whose blocks have the same byte everywhere.
+pub fn keeps(
+    rt: &impl Abort,
+    alloc: Global,
+    stripe: &Stripe<FuseLeg>,
+    want: &[(Kind, u64, u8)],
+) -> Result<(), Fail> {
+    assert_eq!(rt; stripe.total(), want.len() as u64);
+    compare_entries(rt, &kept(rt, alloc, stripe)?, want);
+    Ok(())
 }

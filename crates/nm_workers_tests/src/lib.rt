@@ -1,8 +1,13 @@
-//! Tests of sessions over several targets through their public surface: what no clause says. What
-//! they are built from is public, for the tests of hostile streams.
+//! Tests of mailboxes, and of sessions over several targets, through their public surface: what no
+//! clause says. In `changed` and `cuts` a client sends whatever it likes. What the sessions are
+//! built from is public, for the tests of the server.
 #![tactic(auto)]
 
+#[cfg(test)]
+mod changed;
 pub mod counting_writer;
+#[cfg(test)]
+mod cuts;
 #[cfg(test)]
 mod faults;
 #[cfg(test)]
@@ -12,6 +17,10 @@ mod gates;
 #[cfg(test)]
 mod leaving;
 pub mod leaving_reader;
+#[cfg(test)]
+mod mailboxes;
+#[cfg(test)]
+mod model;
 pub mod paced_reader;
 pub mod running;
 #[cfg(test)]

@@ -2,12 +2,12 @@
 //! changed, through `serve` and `serve_many`: both return, and what went out is the model's.
 
 use crate::model::{Expected, SIZE};
+use crate::running::{serve_shared, targets};
+use crate::shared_target::SharedBytes;
+use crate::texts::{FLAGS, GO, READ, WRITE, concat, put_request};
 use nm_replies::ReplyWriter;
 use nm_session::{CutReader, CutWriter, ServeFault, Served, serve};
 use nm_wire::{Export, Memory, Name};
-use nm_workers_tests::running::{serve_shared, targets};
-use nm_workers_tests::shared_target::SharedBytes;
-use nm_workers_tests::texts::{FLAGS, GO, READ, WRITE, concat, put_request};
 use std::alloc::{AllocError, Global};
 use std::process::Abort;
 use std::sync::Wait;

@@ -2,11 +2,11 @@
 //! missing, cut anywhere, over one target and over sixteen. The expected bytes were written by
 //! hand.
 
+use crate::running::{serve_paced, serve_shared, targets};
+use crate::shared_target::SharedBytes;
+use crate::texts::{SIZE, Talk, export, one_after_the_other};
 use nm_session::{CutReader, CutWriter, End};
 use nm_wire::Memory;
-use nm_workers_tests::running::{serve_paced, serve_shared, targets};
-use nm_workers_tests::shared_target::SharedBytes;
-use nm_workers_tests::texts::{SIZE, Talk, export, one_after_the_other};
 use std::alloc::Global;
 use std::process::Abort;
 use std::sync::Wait;
