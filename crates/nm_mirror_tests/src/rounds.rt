@@ -178,7 +178,11 @@ impl<R: Clock + Sync> Hold for UntilDone<'_, R> {
 type Holding<'a> = Mirror<HoldLeg<MemLeg, UntilDone<'a, HostRuntime>>, CountEntries<'a>>;
 
 /// The mirror, which holds once nothing is told.
-fn holding<'a>(rt: &'a HostRuntime, alloc: Global, told: &'a Told) -> Result<Holding<'a>, Fail> {
+fn mirror_that_counts<'a>(
+    rt: &'a HostRuntime,
+    alloc: Global,
+    told: &'a Told,
+) -> Result<Holding<'a>, Fail> {
     let mut legs = Vec::new(alloc);
     for is_first in [true, false] {
         let hold = UntilDone { rt, told, is_first };
@@ -199,7 +203,7 @@ fn holding<'a>(rt: &'a HostRuntime, alloc: Global, told: &'a Told) -> Result<Hol
 fn gate_two_pieces(rt: HostRuntime) -> Result<(), Fail> {
     let alloc = rt.alloc();
     let told = Told::new();
-    let mirror = holding(&rt, alloc, &told)?;
+    let mirror = mirror_that_counts(&rt, alloc, &told)?;
     let mut pass = pass_of(&rt, alloc, &mirror)?;
     told.entries.store(0, Ordering::SeqCst);
     let payload = fill_bytes(alloc, 8 * 512, 7)?;
@@ -214,7 +218,7 @@ fn gate_two_pieces(rt: HostRuntime) -> Result<(), Fail> {
 fn a_read_is_at_work_in_two_stripes_at_once(rt: HostRuntime) -> Result<(), Fail> {
     let alloc = rt.alloc();
     let told = Told::new();
-    let mirror = holding(&rt, alloc, &told)?;
+    let mirror = mirror_that_counts(&rt, alloc, &told)?;
     let mut pass = pass_of(&rt, alloc, &mirror)?;
     told.entries.store(0, Ordering::SeqCst);
     let mut into = Vec::new(alloc);

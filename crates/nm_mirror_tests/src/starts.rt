@@ -24,8 +24,8 @@ fn legs(alloc: Global, shape: &Shape) -> Result<Vec<Vec<FuseLeg>>, Fail> {
     Ok(legs)
 }
 
-/// The status of a mirror of two stripes of eight blocks that starts so.
-fn told_after<R: Wait + Abort>(
+/// A mirror of two stripes of eight blocks that starts so shows these lines as its status.
+fn shows_status<R: Wait + Abort>(
     rt: &R,
     alloc: Global,
     start: Start,
@@ -54,13 +54,13 @@ fn legs_are_behind_where_they_differ(rt: HostRuntime) -> Result<(), Fail> {
         "master 0 settling no legs in join(0)",
         "master 0 settling no legs in join(8)",
     ];
-    told_after(&rt, rt.alloc(), Start::Compare, texts)
+    shows_status(&rt, rt.alloc(), Start::Compare, texts)
 }
 
 #[test]
 fn a_full_start_copies_equal_legs_too(rt: HostRuntime) -> Result<(), Fail> {
     let text = "master 0 settling no legs in join(8)";
-    told_after(&rt, rt.alloc(), Start::Full, [text, text])
+    shows_status(&rt, rt.alloc(), Start::Full, [text, text])
 }
 
 /// Opens the stripes of a mirror whose master fails each call in stripe 1.

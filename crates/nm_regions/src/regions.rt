@@ -214,11 +214,11 @@ impl Regions {
         ensures copied { copied leg self.now.copy ≤ result }
     {
         let flags = &self.legs[leg as usize];
-        flags.behind_count() * self.region - self.lacking(flags)
+        flags.behind_count() * self.region - self.blocks_short(flags)
     }
 
     /// How many blocks the last region lacks to be a whole one, where it is behind for this leg.
-    fn lacking(&self, flags: &LegFlags) -> u64
+    fn blocks_short(&self, flags: &LegFlags) -> u64
         requires all { length flags.now.behind ≡ length self.now.writes }
         ensures { let last = length self.now.writes - 1 in
             let whole = length self.now.writes * self.now.region in

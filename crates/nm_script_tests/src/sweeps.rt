@@ -214,8 +214,8 @@ fn each_call_may_fail_where_all_records_are_in_use(rt: HostRuntime) -> Result<()
     sweep(&rt, rt.alloc(), &with_ending(rt.alloc(), 1, 1, &script)?)
 }
 
-// A script with 1,025 reads, the last of which drop the oldest entries. As built it takes a second or
-// two; `rt try` needs a quarter of an hour.
+// A script with 1,025 reads, the last of which drop the oldest entries. As built it takes a second
+// or two; `rt try` needs a quarter of an hour.
 #[test]
 fn reads_may_fail_where_entries_are_dropped(rt: HostRuntime) -> Result<(), Fail> {
     let (script, _) = long_history(rt.alloc())?;

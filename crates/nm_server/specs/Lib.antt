@@ -1,2 +1,4 @@
 pub mod Calls
+pub mod Files
 pub mod Handshake
+pub mod StartFault

@@ -1,7 +1,9 @@
 //! The files of the legs.
-ghost use Rattle.std.specs.Prelude.{◌<◌};
+ghost use Rattle.std.specs.Prelude.{◌≡◌, ◌<◌, ◌≤◌, ◌↔◌, ◌*◌, ◌-◌, ◌^◌, min, length};
+ghost use Rattle.std.specs.Prelude.{IsSome, IfSome, IfOk};
 ghost use Rattle.nm_file_leg.specs.Places.{HasPlaces};
-ghost use Rattle.nm_geometry.specs.Geometry.{stripe_blocks};
+ghost use Rattle.nm_geometry.specs.Geometry.{IsGeometry, stripe_blocks};
+ghost use Rattle.nm_server.specs.Files.{laid_over};
 
 use crate::start_fault::StartFault;
 use crate::watched_file::{ReadCount, WatchedFile};
@@ -13,6 +15,7 @@ use nm_mirror::Mirror;
 use std::alloc::Global;
 use std::fs::{File, OpenOptions};
 use std::io::{Seek, SeekFrom};
+use std::marker::Model;
 use std::rt::Files;
 
 /// How many bytes a block has.
@@ -38,10 +41,22 @@ pub type Leg = FileLeg<ReadAhead<WatchedFile>>;
 pub type FileMirror = Mirror<Leg, NoGate>;
 
 /// The legs' files, each opened once and locked, so that no other server and no other leg uses it.
+/// Contracts see how many there are, and how many blocks each has.
 #[derive(Drop)]
 pub struct LegFiles {
     files: Vec<File>,
     blocks: u64,
+}
+
+impl Model for LegFiles {
+    ghost use Rattle.std.specs.Prelude.{length};
+    ghost use Rattle.nm_server.specs.Files.{Files, AreFiles};
+
+    ghost Value = { Files };
+
+    ghost view = { λ f. record { legs = length f.files.items; blocks = f.blocks } };
+
+    ghost invariant = { λ f. AreFiles (record { legs = length f.files.items; blocks = f.blocks }) };
 }
 
 // Opens a leg's file for reading and writing, and locks it.
@@ -56,7 +71,9 @@ fn open_locked<R: Files<File = File>>(rt: &R, name: &str) -> Option<File> {
 }
 
 // How many blocks a leg's file has, where it has whole blocks and no more than an export may have.
-fn blocks_of(file: &File) -> Option<u64> {
+fn blocks_of(file: &File) -> Option<u64>
+    ensures { IfSome result (λ blocks. blocks ≤ 2 ^ 31) }
+{
     let mut file = file;
     let bytes = file.seek(SeekFrom::End(0)).ok()?;
     let blocks = bytes / BLOCK_BYTES;
@@ -74,7 +91,9 @@ impl LegFiles {
         rt: &R,
         alloc: Global,
         names: &[&str],
-    ) -> Result<LegFiles, StartFault<'a>> {
+    ) -> Result<LegFiles, StartFault<'a>>
+        ensures ok { IfOk result (λ files. files.legs ≡ length names.now) }
+    {
         let mut files = Vec::new(alloc);
         let mut blocks = 0u64;
         for number in 0..names.len() {
@@ -97,13 +116,18 @@ impl LegFiles {
     }
 
     /// How many bytes all the files have.
-    pub fn bytes(&self) -> u64 {
+    pub fn bytes(&self) -> u64
+        ensures { result ≡ min (512 * self.now.blocks * self.now.legs) (2 ^ 64 - 1) }
+    {
         let own = self.blocks.saturating_mul(BLOCK_BYTES);
         own.saturating_mul(self.files.len() as u64)
     }
 
     /// The shape of a mirror over these files, with so many stripes or one a region.
-    pub fn shape(&self, stripes: u8) -> Option<Shape> {
+    pub fn shape(&self, stripes: u8) -> Option<Shape>
+        ensures some { IsSome result ↔ IsGeometry (laid_over stripes self.now) }
+        ensures shape { IfSome result (λ shape. shape ≡ laid_over stripes self.now) }
+    {
         let regions = self.blocks.div_ceil(REGION);
         let stripes = u64::from(stripes).min(regions) as u32;
         Shape::new(
@@ -142,6 +166,7 @@ pub fn stripe_legs<'a, R: Files<File = File>>(
     read: &ReadCount,
 ) -> Result<Vec<Leg>, StartFault<'a>>
     requires { stripe < shape.now.stripes }
+    ensures ok { IfOk result (λ legs. length legs.items ≡ length names.now) }
 {
     let places = places_of(shape, stripe);
     let blocks = shape.stripe_blocks(stripe);

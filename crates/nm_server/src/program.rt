@@ -1,4 +1,6 @@
 //! The whole program: from its command line to its exit status.
+ghost use Rattle.std.specs.Prelude.{◌≡◌};
+ghost use Rattle.nm_server.specs.StartFault.{status_of};
 
 use crate::control_port::serve_control;
 use crate::leg_files::{FileMirror, Leg, LegFiles, stripe_legs};
@@ -286,7 +288,9 @@ fn is_loopback(listener: &TcpListener) -> bool {
 }
 
 // Tells why the server does not start or does not end well. What cannot be written is lost.
-fn tell_fault<E: Write>(fault: &StartFault<'_>, err: &mut E) -> u8 {
+fn tell_fault<E: Write>(fault: &StartFault<'_>, err: &mut E) -> u8
+    ensures { result ≡ status_of fault.now }
+{
     let _ = writeln!(err, "{fault}");
     let _ = err.flush();
     fault.status()

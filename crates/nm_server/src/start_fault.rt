@@ -1,3 +1,6 @@
+ghost use Rattle.std.specs.Prelude.{◌≡◌};
+ghost use Rattle.nm_server.specs.StartFault.{status_of};
+
 use thiserror::Error;
 
 /// Why the server does not start, or does not end well.
@@ -37,7 +40,9 @@ pub enum StartFault<'a> {
 
 impl StartFault<'_> {
     /// The exit status.
-    pub fn status(&self) -> u8 {
+    pub fn status(&self) -> u8
+        ensures { result ≡ status_of self.now }
+    {
         match self {
             StartFault::TooManyLegs
             | StartFault::NoMaster(_)

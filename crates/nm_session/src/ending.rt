@@ -9,8 +9,8 @@ use crate::served::Served;
 use crate::session_core::SessionCore;
 
 impl SessionCore {
-    /// The session came to this end.
-    pub fn served(&self, end: End) -> Served
+    /// What is told of the session, which came to this end.
+    pub fn report(&self, end: End) -> Served
         ensures { result ≡ record { requests = self.now.count; end = end } }
     {
         Served {

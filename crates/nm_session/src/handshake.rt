@@ -41,11 +41,11 @@ pub(crate) fn shake_hands<R: Wait, I: Read, O: Write>(
         match core.phase() {
             Phase::Haggling => match feed_piece(alloc, core, room, reader) {
                 Ok(true) => (),
-                Ok(false) => return Ok(Some(core.served(End::EndOfInput))),
+                Ok(false) => return Ok(Some(core.report(End::EndOfInput))),
                 Err(fault) => return Err(fault),
             },
             Phase::Serving => return Ok(None),
-            _ => return Ok(Some(core.served(core.end()))),
+            _ => return Ok(Some(core.report(core.end()))),
         }
     }
     unreachable!()

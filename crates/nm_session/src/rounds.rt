@@ -81,10 +81,10 @@ fn serve_round<I: Read, O: Write, T: Target>(
     }
     match turn {
         Turn::Answered => Ok(None),
-        Turn::Ended => Ok(Some(core.served(core.end()))),
+        Turn::Ended => Ok(Some(core.report(core.end()))),
         Turn::Starved => match feed_piece(alloc, core, room, reader) {
             Ok(true) => Ok(None),
-            Ok(false) => Ok(Some(core.served(End::EndOfInput))),
+            Ok(false) => Ok(Some(core.report(End::EndOfInput))),
             Err(fault) => Err(fault),
         },
     }

@@ -110,7 +110,7 @@ impl Client {
         self.core.take_out()
     }
 
-    fn waiting(&self) -> usize {
+    fn bytes_waiting(&self) -> usize {
         self.core.waiting()
     }
 
@@ -131,9 +131,9 @@ impl Client {
         assert_eq!(rt; self.phase(), Phase::Haggling);
         self.feed(alloc, &HELLO)?;
         assert_eq!(rt; self.phase(), Phase::Serving);
-        assert_eq!(rt; self.waiting(), 104);
+        assert_eq!(rt; self.bytes_waiting(), 104);
         assert_eq!(rt; self.take_out().len(), 104);
-        assert_eq!(rt; self.waiting(), 0);
+        assert_eq!(rt; self.bytes_waiting(), 0);
         Ok(())
     }
 
@@ -336,7 +336,7 @@ fn ask_much(rt: &impl Abort, alloc: Global, core: &mut Client) -> Result<bool, R
             false
         }
     };
-    assert_eq!(rt; core.waiting(), 0);
+    assert_eq!(rt; core.bytes_waiting(), 0);
     Ok(is_issued)
 }
 

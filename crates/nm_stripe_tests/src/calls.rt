@@ -35,7 +35,7 @@ fn a_new_stripe_has_no_write(rt: HostRuntime) -> Result<(), Fail> {
 }
 
 /// Begins a write of this block, and answers with its ticket.
-fn begun(
+fn begin_write(
     rt: &impl Abort,
     alloc: Global,
     stripe: &mut Stripe<FuseLeg>,
@@ -96,7 +96,7 @@ fn is_not_promoted(rt: &impl Abort, stripe: &mut Stripe<FuseLeg>, why: Refusal) 
 #[test]
 fn a_write_by_its_own_calls(rt: HostRuntime) -> Result<(), Fail> {
     let mut stripe = open_fused(&rt, rt.alloc(), ONE_LEG)?;
-    let ticket = begun(&rt, rt.alloc(), &mut stripe, 2)?;
+    let ticket = begin_write(&rt, rt.alloc(), &mut stripe, 2)?;
     owes_leg_0(&rt, &stripe, ticket);
     pushes(&rt, &mut stripe, ticket, Reach::Complete(0));
     claims(&rt, &mut stripe, ticket)
@@ -209,7 +209,7 @@ fn ends(rt: &impl Abort, stripe: &Stripe<FuseLeg>) {
 #[test]
 fn an_end_counts_the_writes_that_are_left(rt: HostRuntime) -> Result<(), Fail> {
     let mut stripe = open_fused(&rt, rt.alloc(), TWO_LEGS)?;
-    let ticket = begun(&rt, rt.alloc(), &mut stripe, 2)?;
+    let ticket = begin_write(&rt, rt.alloc(), &mut stripe, 2)?;
     pushes(&rt, &mut stripe, ticket, Reach::Pushed(1));
     ends(&rt, &stripe);
     Ok(())
@@ -261,8 +261,8 @@ const CALLS: [(u64, u64); 19] = [
     (8, 6),
 ];
 
-/// Two legs that count their calls.
-fn counting(alloc: Global) -> Result<Stripe<CountingLeg<MemLeg>>, Fail> {
+/// A stripe on two legs that count their calls.
+fn counting_stripe(alloc: Global) -> Result<Stripe<CountingLeg<MemLeg>>, Fail> {
     let mut legs = Vec::new(alloc);
     legs.push(CountingLeg::new(MemLeg::new(alloc, 8)?))?;
     legs.push(CountingLeg::new(MemLeg::new(alloc, 8)?))?;
@@ -308,7 +308,7 @@ pub fn compare_calls(
     rows: &[(Ask, Summary)],
     calls: &[(u64, u64)],
 ) -> Result<(), Fail> {
-    let mut stripe = counting(alloc)?;
+    let mut stripe = counting_stripe(alloc)?;
     for (row, calls) in rows.iter().zip(calls) {
         compare_call(rt, alloc, &mut stripe, *row, *calls)?;
     }

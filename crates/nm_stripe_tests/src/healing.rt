@@ -2,7 +2,7 @@
 //! and a history that is longer than what is kept of it.
 use crate::asking::{Ask, Summary};
 use crate::opening::{ONE_LEG, Setup, THREE_LEGS, TWO_LEGS};
-use crate::worked::{after, has, holds, kept, stand};
+use crate::worked::{after, has, holds, kept_entries, stand};
 use nm_replay::Entry;
 use nm_stripe::{LegState, Policy, Refusal};
 use std::alloc::{AllocError, Global};
@@ -177,6 +177,6 @@ fn are_numbers_1_to_1024(rt: &impl Abort, entries: &[Entry]) {
 fn the_last_1024_entries_are_kept(rt: HostRuntime) -> Result<(), Fail> {
     let stripe = after(&rt, rt.alloc(), ONE_LEG, &many_reads(rt.alloc())?)?;
     assert_eq!(rt; stripe.total(), 1025);
-    are_numbers_1_to_1024(&rt, &kept(&rt, rt.alloc(), &stripe)?);
+    are_numbers_1_to_1024(&rt, &kept_entries(&rt, rt.alloc(), &stripe)?);
     Ok(())
 }

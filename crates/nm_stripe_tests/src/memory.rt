@@ -151,8 +151,8 @@ fn take_some(rt: &impl Abort, alloc: Global) -> Result<(), Fail> {
 }
 
 // The allocations of this test are those before the first step, and one after the last. So with one
-// of them refused (`rt try --test --fail-alloc N`) it fails before the first step, with all of those
-// made, or after the last with the very next number: no step asks for memory.
+// of them refused (`rt try --test --fail-alloc N`) it fails before the first step, with all of
+// those made, or after the last with the very next number: no step asks for memory.
 #[test]
 fn steps_take_no_memory(rt: HostRuntime) -> Result<(), Fail> {
     let alloc = rt.alloc();

@@ -2,7 +2,7 @@
 use crate::asking::{Ask, Summary, may_ask, part};
 use crate::calls::compare_calls;
 use crate::opening::{ONE_LEG, Setup, TWO_LEGS, fuse, open_fused};
-use crate::worked::{after, has, kept};
+use crate::worked::{after, has, kept_entries};
 use nm_fanout::Data;
 use nm_leg::{FuseLeg, LegPart};
 use nm_replay::{Entry, Kind};
@@ -45,7 +45,7 @@ fn are_over_a_write(rt: &impl Abort, entries: &[Entry]) {
 #[test]
 fn a_part_is_laid_over_what_the_block_holds(rt: HostRuntime) -> Result<(), Fail> {
     let stripe = after(&rt, rt.alloc(), TWO_LEGS, &OVER_A_WRITE)?;
-    are_over_a_write(&rt, &kept(&rt, rt.alloc(), &stripe)?);
+    are_over_a_write(&rt, &kept_entries(&rt, rt.alloc(), &stripe)?);
     Ok(())
 }
 

@@ -1,5 +1,5 @@
-//! Each refusal of each step once, where its condition alone holds. What is refused changes nothing:
-//! the steps after it answer as if it had not been asked for.
+//! Each refusal of each step once, where its condition alone holds. What is refused changes
+//! nothing: the steps after it answer as if it had not been asked for.
 //!
 //! A stripe full of records stands in `stripes.rt`.
 use crate::asking::{Ask, Summary};

@@ -1,7 +1,7 @@
 //! Worked lists of steps, with a leg that fails or is copied, and what the stripe is after them.
 use crate::asking::{Ask, Summary, compare};
 use crate::opening::{LONGER, ONE_LEG, Setup, TWO_LEGS};
-use crate::worked::{after, after_again, has, holds, keeps, kept, stand};
+use crate::worked::{after, after_again, has, holds, keeps, kept_entries, stand};
 use nm_leg::FuseLeg;
 use nm_replay::Kind;
 use nm_stripe::{LegState, Policy, Refusal, Stripe};
@@ -213,9 +213,9 @@ fn keeps_by_no_steps(
     alloc: Global,
     stripe: &mut Stripe<FuseLeg>,
 ) -> Result<(), Fail> {
-    let before = kept(rt, alloc, stripe)?;
+    let before = kept_entries(rt, alloc, stripe)?;
     compare(rt, alloc, stripe, &[])?;
-    assert!(rt; kept(rt, alloc, stripe)? == before);
+    assert!(rt; kept_entries(rt, alloc, stripe)? == before);
     Ok(())
 }
 

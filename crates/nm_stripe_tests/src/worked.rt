@@ -133,7 +133,11 @@ pub fn holds(rt: &impl Abort, stripe: &Stripe<FuseLeg>, leg: u8, block: u64, wan
 }
 
 /// The kept entries of a stripe, which some array explains.
-pub fn kept(rt: &impl Abort, alloc: Global, stripe: &Stripe<FuseLeg>) -> Result<Vec<Entry>, Fail> {
+pub fn kept_entries(
+    rt: &impl Abort,
+    alloc: Global,
+    stripe: &Stripe<FuseLeg>,
+) -> Result<Vec<Entry>, Fail> {
     let entries = stripe.entries(alloc)?;
     assert!(rt; check(&entries));
     Ok(entries)
@@ -161,6 +165,6 @@ pub fn keeps(
     want: &[(Kind, u64, u8)],
 ) -> Result<(), Fail> {
     assert_eq!(rt; stripe.total(), want.len() as u64);
-    compare_entries(rt, &kept(rt, alloc, stripe)?, want);
+    compare_entries(rt, &kept_entries(rt, alloc, stripe)?, want);
     Ok(())
 }

@@ -148,8 +148,8 @@ fn over(core: &SessionCore, pause: Pause, input: Input) -> Option<Served>
         return None;
     }
     match (pause, input) {
-        (Pause::Ended, _) => Some(core.served(core.end())),
-        (Pause::Starved, Input::Ended) => Some(core.served(End::EndOfInput)),
+        (Pause::Ended, _) => Some(core.report(core.end())),
+        (Pause::Starved, Input::Ended) => Some(core.report(End::EndOfInput)),
         _ => None,
     }
 }

@@ -32,13 +32,13 @@ returns-in-Ok-false-clause-ok g c =
     c.pieces.core c.send_out.new.core tt (g.I.Read.remaining c.pieces.reader)
     (g.O.Write.contents (device_of c.pieces.sender)) (g.O.Write.contents (device_of c.send_out.new.sender))
     c.pieces.invariant.moves c.pieces.invariant.idle c.in_default.ensures.ok in
-    hands_of c.served.result _ _ (input_over no_target no_target_path
+    hands_of c.report.result _ _ (input_over no_target no_target_path
     (moment c.args.core.now tt (g.I.Read.remaining c.args.reader.now) (g.O.Write.contents (device_of c.args.sender.now)))
     c.send_out.new.core c.feed_piece.new.core tt (g.I.Read.remaining c.pieces.reader)
     (g.I.Read.remaining c.feed_piece.new.reader) (g.O.Write.contents (device_of c.send_out.new.sender))
-    c.served.result sent
+    c.report.result sent
     (inl (haggling_stage c.send_out.new.core.stage c.send_out.new.core.outstanding c.in-Haggling.ensures))
-    (rw c.in-Ok-false.field-0-test at c.in-Ok-false.ensures.ok) c.served.ensures)
+    (rw c.in-Ok-false.field-0-test at c.in-Ok-false.ensures.ok) c.report.ensures)
 
 pub returns-in-Err-feed_piece-clause-err : goal.returns-in-Err-feed_piece-clause-err
 returns-in-Err-feed_piece-clause-err g c =
@@ -74,7 +74,7 @@ returns-in_default-phase-clause-ok g c =
     c.pieces.core c.send_out.new.core tt (g.I.Read.remaining c.pieces.reader)
     (g.O.Write.contents (device_of c.pieces.sender)) (g.O.Write.contents (device_of c.send_out.new.sender))
     c.pieces.invariant.moves c.pieces.invariant.idle c.in_default.ensures.ok in
-    hands_of c.served-in_default-phase.result _ _ (core_over no_target no_target_path
+    hands_of c.report-in_default-phase.result _ _ (core_over no_target no_target_path
     (moment c.args.core.now tt (g.I.Read.remaining c.args.reader.now) (g.O.Write.contents (device_of c.args.sender.now)))
     (moment c.send_out.new.core tt (g.I.Read.remaining c.pieces.reader) (g.O.Write.contents (device_of c.send_out.new.sender)))
-    c.end.result c.served-in_default-phase.result sent c.end.ensures c.served-in_default-phase.ensures)
+    c.end.result c.report-in_default-phase.result sent c.end.ensures c.report-in_default-phase.ensures)

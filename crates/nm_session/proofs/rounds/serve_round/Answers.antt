@@ -57,7 +57,7 @@ returns-in-Ended-clause-ok g c =
     core_over g.T.Target.follows (path g) start
     (moment c.send_out.new.core c.gather.new.target (g.I.Read.remaining c.args.reader.now)
     (g.O.Write.contents (device_of c.send_out.new.sender)))
-    c.end.result c.served.result sent c.end.ensures c.served.ensures
+    c.end.result c.report.result sent c.end.ensures c.report.ensures
 
 pub returns-in-Ok-true-clause-ok : goal.returns-in-Ok-true-clause-ok
 returns-in-Ok-true-clause-ok g c =
@@ -92,10 +92,10 @@ returns-in-Ok-false-clause-ok g c =
     c.send_out.new.core c.feed_piece.new.core c.gather.new.target
     (g.I.Read.remaining c.args.reader.now) (g.I.Read.remaining c.feed_piece.new.reader)
     (g.O.Write.contents (device_of c.send_out.new.sender))
-    c.served-in-Ok-false.result sent
+    c.report-in-Ok-false.result sent
     (starved_after_send c.gather.new.core c.send_out.new.core c.gather.new.core.out starved
     c.in_default-send_out.ensures.ok.takes)
-    (rw c.in-Ok-false.field-0-test at c.in-Ok-false.ensures.ok) c.served-in-Ok-false.ensures
+    (rw c.in-Ok-false.field-0-test at c.in-Ok-false.ensures.ok) c.report-in-Ok-false.ensures
 
 pub returns-in-Err-feed_piece-clause-err : goal.returns-in-Err-feed_piece-clause-err
 returns-in-Err-feed_piece-clause-err g c =

@@ -30,9 +30,9 @@ returns-in-Ok-false-clause-ok g c =
     (wires (g.I.Read.remaining c.args.reader.now) (g.O.Write.contents (device_of c.args.sender.now)))
     (g.I.Read.remaining c.pieces.reader) (g.O.Write.contents (device_of c.pieces.sender))
     (g.O.Write.contents (device_of c.send_out.new.sender)) c.pieces.invariant.goes c.pieces.invariant.idle
-    c.in_default.ensures.ok c.served.result c.feed_piece.new.core (g.I.Read.remaining c.feed_piece.new.reader)
+    c.in_default.ensures.ok c.report.result c.feed_piece.new.core (g.I.Read.remaining c.feed_piece.new.reader)
     (haggling_stage c.send_out.new.core.stage c.send_out.new.core.outstanding c.in-Haggling.ensures)
-    (rw c.in-Ok-false.field-0-test at c.in-Ok-false.ensures.ok) c.served.ensures
+    (rw c.in-Ok-false.field-0-test at c.in-Ok-false.ensures.ok) c.report.ensures
 
 pub returns-in-Err-feed_piece-clause-err : goal.returns-in-Err-feed_piece-clause-err
 returns-in-Err-feed_piece-clause-err g c =
@@ -68,8 +68,8 @@ returns-in_default-phase-clause-ok g c =
     (wires (g.I.Read.remaining c.args.reader.now) (g.O.Write.contents (device_of c.args.sender.now)))
     (g.I.Read.remaining c.pieces.reader) (g.O.Write.contents (device_of c.pieces.sender))
     (g.O.Write.contents (device_of c.send_out.new.sender)) c.pieces.invariant.goes c.pieces.invariant.idle
-    c.in_default.ensures.ok c.end.result c.served-in_default-phase.result c.end.ensures
-    c.served-in_default-phase.ensures
+    c.in_default.ensures.ok c.end.result c.report-in_default-phase.result c.end.ensures
+    c.report-in_default-phase.ensures
 
 pub returns-in-Serving-clause-export : goal.returns-in-Serving-clause-export
 returns-in-Serving-clause-export g c =

@@ -9,17 +9,17 @@ pub overflow_sub-result : goal.overflow_sub-result
 overflow_sub-result c =
     let within : c.args.leg < length c.self.inside.legs.items = rw
     (ap (λ (t : RegionTable). t.legs) c.self.view_is) c.requires.leg in
-    (parts-are c.args.leg c.behind_count.result c.lacking.result c.index-flags.result.now
+    (parts-are c.args.leg c.behind_count.result c.blocks_short.result c.index-flags.result.now
     (table_of c.self.inside) c.self.invariant within c.index-flags.ensures
-    c.behind_count.ensures.count (rw (← c.self.view_is) at c.lacking.ensures)).lacks
+    c.behind_count.ensures.count (rw (← c.self.view_is) at c.blocks_short.ensures)).lacks
 
 pub returns-clause-blocks : goal.returns-clause-blocks
 returns-clause-blocks c =
     let within : c.args.leg < length c.self.inside.legs.items = rw
     (ap (λ (t : RegionTable). t.legs) c.self.view_is) c.requires.leg in
-    rw (← c.self.view_is) (parts-are c.args.leg c.behind_count.result c.lacking.result
+    rw (← c.self.view_is) (parts-are c.args.leg c.behind_count.result c.blocks_short.result
     c.index-flags.result.now (table_of c.self.inside) c.self.invariant within
-    c.index-flags.ensures c.behind_count.ensures.count (rw (← c.self.view_is) at c.lacking.ensures)).rest
+    c.index-flags.ensures c.behind_count.ensures.count (rw (← c.self.view_is) at c.blocks_short.ensures)).rest
 
 pub returns-clause-copied : goal.returns-clause-copied
 returns-clause-copied c =
@@ -27,8 +27,8 @@ returns-clause-copied c =
     (ap (λ (t : RegionTable). t.legs) c.self.view_is) c.requires.leg in
     rw (
       ← c.self.view_is,
-      (parts-are c.args.leg c.behind_count.result c.lacking.result
+      (parts-are c.args.leg c.behind_count.result c.blocks_short.result
           c.index-flags.result.now (table_of c.self.inside) c.self.invariant within
-          c.index-flags.ensures c.behind_count.ensures.count (rw (← c.self.view_is) at c.lacking.ensures)).rest,
+          c.index-flags.ensures c.behind_count.ensures.count (rw (← c.self.view_is) at c.blocks_short.ensures)).rest,
     )
     (copied-le c.args.leg c.self.inside.copy (table_of c.self.inside) c.self.invariant.copy)
