@@ -565,16 +565,21 @@ fn round(row: Row) -> (u64, u64) {
     (nanos, told ^ there ^ had)
 }
 
+// All rows, or the one that the first word names.
 fn main() {
+    let only = std::env::args().nth(1);
     for (size, called) in [(4096, "4K"), (1 << 20, "1M")] {
         for (work, verb) in [(Work::Write, "write"), (Work::Read, "read")] {
             for threads in [1, 4] {
                 for stripes in [1, 4, 16] {
                     let row = Row { work, size, threads, stripes };
+                    let name = format!("{verb} {called}, {threads} on {stripes}");
+                    if only.as_ref().is_some_and(|only| *only != name) {
+                        continue;
+                    }
                     for _ in 0..ROUNDS {
                         let (nanos, sum) = round(row);
                         let (blocks, bytes) = (TURNS * BLOCKS, TURNS * BYTES);
-                        let name = format!("{verb} {called}, {threads} on {stripes}");
                         println!("{name}: {blocks} {bytes} {sum} {nanos}");
                     }
                 }

@@ -41,6 +41,7 @@ impl<M: Medium> FileLeg<M> {
         ensures leg { IfOk result (λ leg.
             leg_on (M.held leg.medium) leg.places leg.blocks leg.faults
             ≡ leg_on (M.held medium) places blocks 0) }
+        ensures laid { IfOk result (λ leg. (leg.places ≡ places) × (leg.blocks ≡ blocks)) }
         ensures synced { IfOk result (λ leg. IsTrue leg.touched × (leg.rewritten ≡ blocks)) }
         ensures size { IsTrue M.honest
             → IfOk result (λ leg. leg.size ≡ length (M.held medium).contents) }

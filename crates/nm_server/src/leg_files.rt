@@ -1,9 +1,9 @@
 //! The files of the legs.
 ghost use Rattle.std.specs.Prelude.{◌≡◌, ◌<◌, ◌≤◌, ◌↔◌, ◌*◌, ◌-◌, ◌^◌, min, length};
-ghost use Rattle.std.specs.Prelude.{IsSome, IfSome, IfOk};
+ghost use Rattle.std.specs.Prelude.{IsSome, IfSome, IfOk, All};
 ghost use Rattle.nm_file_leg.specs.Places.{HasPlaces};
 ghost use Rattle.nm_geometry.specs.Geometry.{IsGeometry, stripe_blocks};
-ghost use Rattle.nm_server.specs.Files.{laid_over};
+ghost use Rattle.nm_server.specs.Files.{laid_over, AreStripePlaces, IsStripeLeg};
 
 use crate::start_fault::StartFault;
 use crate::watched_file::{ReadCount, WatchedFile};
@@ -144,7 +144,8 @@ impl LegFiles {
 #[tactic(auto, unfolding(nm_file_leg::specs::Places::place_of))]
 fn places_of(shape: &Shape, stripe: u32) -> Places
     requires { stripe < shape.now.stripes }
-    ensures { HasPlaces result (stripe_blocks stripe shape.now) }
+    ensures places { AreStripePlaces stripe shape.now result }
+    ensures inside { HasPlaces result (stripe_blocks stripe shape.now) }
 {
     stripes_lie_inside();
     // It tells that the shape's numbers are within their bounds.
@@ -166,7 +167,9 @@ pub fn stripe_legs<'a, R: Files<File = File>>(
     read: &ReadCount,
 ) -> Result<Vec<Leg>, StartFault<'a>>
     requires { stripe < shape.now.stripes }
-    ensures ok { IfOk result (λ legs. length legs.items ≡ length names.now) }
+    ensures count { IfOk result (λ legs. length legs.items ≡ length names.now) }
+    ensures places { IfOk result (λ legs. All (λ leg.
+        IsStripeLeg stripe shape.now leg.places leg.blocks) legs.items) }
 {
     let places = places_of(shape, stripe);
     let blocks = shape.stripe_blocks(stripe);
