@@ -509,7 +509,7 @@ impl Client {
         let places = share / row.size;
         let mut sum = 0u64;
         for turn in 0..TURNS * places {
-            let place = turn * 7919 % places;
+            let place = (turn + 37 * self.number) * 7919 % places;
             let offset = self.number * share + place * row.size;
             sum = sum.wrapping_add(self.call(mirror, row, offset));
         }
