@@ -1,2 +1,3 @@
 pub mod PartState
 pub mod Parts
+pub mod Reads

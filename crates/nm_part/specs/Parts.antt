@@ -1,5 +1,5 @@
 -- What a part takes from each answer, and which steps it refuses.
-use Rattle.std.specs.Prelude.{◌≡◌, ℕ, ◌+◌, ◌-◌, ◌^◌, ◌≤◌, ◌==◌, ◌||◌, Bool, not, nat_lt, max}
+use Rattle.std.specs.Prelude.{ℕ, ◌+◌, ◌-◌, ◌^◌, ◌≤◌, ◌==◌, ◌||◌, Bool, not, nat_lt, max}
 use Rattle.nm_rules.specs.declared.refusal.Refusal.TheVariants.{Astray}
 use Rattle.nm_rules.specs.State.{StripeState, next_number}
 use Rattle.nm_stripe.specs.declared.answer.Answer.{Answer}

@@ -1,12 +1,16 @@
 ghost use Rattle.std.specs.Prelude.{◌≡◌, ◌<◌, ◌-◌, ◌^◌, [], ◌∷◌, IsTrue, IsFalse};
 ghost use Rattle.nm_leg.specs.Leg.{leg_type};
 ghost use Rattle.nm_rules.specs.Acts.{IsExplainedStep};
+ghost use Rattle.nm_stripe.specs.declared.step.Step.TheVariants as step;
+ghost use Rattle.nm_stripe.specs.Read.{LeavesTarget};
 ghost use Rattle.nm_stripe.specs.Run.{MayBeAsked, NoneHalted, StepOf, marks};
-ghost use Rattle.nm_part.specs.Parts.{ValueAbove, astray, handed_in, is_astray, part_after};
+ghost use Rattle.nm_part.specs.Parts.{ValueAbove, astray, given, handed_in, is_astray, part_after};
 ghost use Rattle.nm_part.specs.Parts.{part_of};
+ghost use Rattle.nm_part.specs.Reads.{answer_of};
 
 use nm_leg::LegPart;
-use nm_stripe::{Answer, Handed, Refusal, Step, Stripe};
+use nm_replay::Block;
+use nm_stripe::{Answer, Handed, Reading, Refusal, Step, Stripe};
 use std::marker::{Model, PhantomData};
 
 /// The part of a pass in one stripe.
@@ -62,6 +66,17 @@ impl<L> Part<L> {
         self.count
     }
 
+    /// Takes note of the entry of this number.
+    #[inline(always)]
+    fn take(&mut self, number: u64)
+        requires room { self.old.count < 2 ^ 64 - 1 }
+        requires below { number < 2 ^ 63 }
+        ensures { self.new ≡ given number self.old }
+    {
+        self.count += 1;
+        self.front = self.front.max(number + 1);
+    }
+
     /// Takes note of an answer.
     #[inline(always)]
     fn note(&mut self, answer: &Answer<L>)
@@ -73,8 +88,7 @@ impl<L> Part<L> {
             Answer::Written(written) => written.number(),
             _ => return,
         };
-        self.count += 1;
-        self.front = self.front.max(number + 1);
+        self.take(number);
     }
 }
 
@@ -127,5 +141,42 @@ impl<L: LegPart> Part<L> {
         let answer = stripe.step(step);
         self.note(&answer);
         answer
+    }
+    /// Reads a block of the stripe into `into`, and counts the value: the step `Step::Read`, whose
+    /// answer need not carry the block.
+    ///
+    /// Refused as `Astray` before anything else where the stripe is not the part's or the part can
+    /// count no more; then nothing changes. But for a value `into` is as it was.
+    #[inline(always)]
+    pub fn read(
+        &mut self,
+        stripe: &mut Stripe<L>,
+        block: u64,
+        into: &mut Block,
+    ) -> Result<Reading<L>, Refusal>
+        requires { MayBeAsked L.model stripe.old (step.Read block) }
+        ensures astray { IsTrue (is_astray self.old stripe.old)
+            → (answer_of result into.new ≡ astray (step.Read block))
+            × (stripe.new ≡ stripe.old) × (self.new ≡ self.old) }
+        ensures step { IsFalse (is_astray self.old stripe.old)
+            → StepOf (leg_type L.model L.honest) (step.Read block) (answer_of result into.new)
+            stripe.old stripe.new }
+        ensures acts { IsFalse (is_astray self.old stripe.old) → IsTrue L.honest
+            → IsExplainedStep L.model (marks (step.Read block) (answer_of result into.new))
+            stripe.old stripe.new }
+        ensures above { IsFalse (is_astray self.old stripe.old)
+            → ValueAbove self.old.front (answer_of result into.new) }
+        ensures counted { IsFalse (is_astray self.old stripe.old)
+            → self.new ≡ part_after (answer_of result into.new) self.old }
+        ensures target { LeavesTarget result into.old into.new }
+    {
+        if self.is_astray(stripe) {
+            return Err(Refusal::Astray);
+        }
+        let read = stripe.read(block, into);
+        if let Ok(Reading::Value(receipt)) = &read {
+            self.take(receipt.number());
+        }
+        read
     }
 }
