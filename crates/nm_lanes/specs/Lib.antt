@@ -1,5 +1,6 @@
 pub mod Done
 pub mod Fits
+pub mod Found
 pub mod Told
 pub mod Hinders
 pub mod Own

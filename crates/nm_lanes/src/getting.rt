@@ -20,7 +20,7 @@ use crate::run::{Run, are_worth_it, halves, next_run};
 use crate::stretch::Stretch;
 use nm_geometry::Shape;
 use nm_leg::LegPart;
-use nm_replay::BLOCK_BYTES;
+use nm_replay::{BLOCK_BYTES, Block};
 use std::marker::{Send, Sync};
 use std::sync::Wait;
 use std::thread::Threads;
@@ -57,13 +57,14 @@ fn get_lane<L: LegPart, K, D: Lane<L, K>, R: Wait, G: Gate>(
 {
     let shape = call.shape;
     within_bounds(shape);
+    let mut spare = Block::ZERO;
     for at in 0..run.stretch.count {
         let piece = run.stretch.range.piece(run.stretch.first + at);
         let block = shape.block_in_stripe(piece.block);
         let site = call.site(run.stripe, Some(block));
         let from = bytes_of(shape, run.stretch, at);
         let to = from + piece.len as usize;
-        site.read_one(lane, block, piece.from, &mut into[from..to])?;
+        site.read_one(lane, block, piece.from, &mut into[from..to], &mut spare)?;
     }
     Ok(())
 }

@@ -1,8 +1,11 @@
 ghost use Rattle.std.specs.Prelude.{List, [], ◌∷◌, ◌++◌};
 ghost use Rattle.nm_lanes.specs.Done.{Done, done_as};
 ghost use Rattle.nm_lanes.specs.Fits.{AnswerFits};
+ghost use Rattle.nm_lanes.specs.Found.{FindsBlock};
 
+use crate::found::Found;
 use nm_leg::LegPart;
+use nm_replay::Block;
 use nm_stripe::{Answer, Step};
 use std::sync::Wait;
 
@@ -22,6 +25,11 @@ pub trait Lane<L: LegPart, K> {
     fn step<R: Wait>(&mut self, rt: &R, lock: &K, step: Step<L>) -> Answer<L>
         ensures follows { follows self.old (done_as «step» result ∷ []) self.new }
         ensures fits { AnswerFits «step» result };
+
+    /// Does the step `Step::Read` of this block, in one hold of the lock, and puts the bytes of a
+    /// value into `into`. But for a value `into` is as it was.
+    fn read<R: Wait>(&mut self, rt: &R, lock: &K, block: u64, into: &mut Block) -> Found
+        ensures { FindsBlock follows (self.old, self.new) block (into.old, into.new) result };
 
     /// The lowest leg that a write still has to reach, with the write's ticket: of this ticket, or
     /// of the lowest ticket under way where none is given. One hold of the lock.

@@ -4,6 +4,7 @@ ghost use Rattle.nm_stripe.specs.declared.step.Step.TheVariants as step;
 ghost use Rattle.nm_stripe.specs.declared.answer.Answer.TheVariants as answer;
 ghost use Rattle.nm_lanes.specs.Done.{Done, done_as};
 ghost use Rattle.nm_lanes.specs.Fits.{AnswerFits};
+ghost use Rattle.nm_lanes.specs.Found.{FindsBlock};
 ghost use Rattle.nm_lanes.specs.Lane.{LaneDoes, LaneStops};
 ghost use Rattle.nm_lanes.specs.Own.{EndsSo};
 ghost use Rattle.nm_lanes.specs.Reads.{IsValue, value_bytes};
@@ -13,6 +14,7 @@ ghost use Rattle.nm_lanes.specs.Told.{number_of};
 use crate::beginning::Beginning;
 use crate::call_kind::CallKind;
 use crate::cause_kind::CauseKind;
+use crate::found::Found;
 use crate::gate::Gate;
 use crate::hindrance::end_of;
 use crate::lane::Lane;
@@ -21,6 +23,7 @@ use crate::place::Place;
 use crate::step_kind::StepKind;
 use nm_fanout::Data;
 use nm_leg::LegPart;
+use nm_replay::Block;
 use nm_stripe::{Answer, Handed, Step};
 use std::sync::Wait;
 
@@ -68,28 +71,45 @@ impl<R: Wait, G: Gate, K> Site<'_, R, G, K> {
         answer
     }
 
-    /// Reads a block, and puts what it holds from one place on into the target.
+    /// One read of a block, and then the gate.
+    #[inline(always)]
+    fn read<L: LegPart, D: Lane<L, K>>(&self, lane: &mut D, block: u64, into: &mut Block) -> Found
+        ensures { FindsBlock D.follows (lane.old, lane.new) block (into.old, into.new) result }
+    {
+        let found = lane.read(self.rt, self.lock, block, into);
+        self.gate.between(&Place {
+            pass: self.pass,
+            call: self.call,
+            stripe: self.stripe,
+            block: self.block,
+            step: StepKind::Read,
+            number: found.number(),
+        });
+        found
+    }
+
+    /// Reads a block into the spare one, and puts what it holds from one place on into the target.
     pub(crate) fn try_read<L: LegPart, D: Lane<L, K>>(
         &self,
         lane: &mut D,
         block: u64,
         from: u16,
         into: &mut [u8],
+        spare: &mut Block,
     ) -> Met
         requires { from + length into.old ≤ 512 }
         ensures { Meets D.follows (lane.old, lane.new) (step.Read block) (λ told.
             IsValue told
             × (into.new ≡ take (length into.old) (drop from (value_bytes told)))) result }
     {
-        match self.step(lane, Step::Read(block)) {
-            Answer::Value(value) => {
+        match self.read(lane, block, spare) {
+            Found::Value(_) => {
                 let from = from as usize;
-                into.copy_from_slice(&value.bytes().0[from..from + into.len()]);
+                into.copy_from_slice(&spare.0[from..from + into.len()]);
                 Met::Done
             }
-            Answer::LegLost(_, _) => Met::Lost,
-            Answer::Refused(refusal, _) => Met::Refused(refusal),
-            _ => unreachable!(),
+            Found::LegLost(_) => Met::Lost,
+            Found::Refused(refusal) => Met::Refused(refusal),
         }
     }
 

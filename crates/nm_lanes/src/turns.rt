@@ -14,6 +14,7 @@ use crate::lane::Lane;
 use crate::met::Met;
 use crate::site::Site;
 use nm_leg::LegPart;
+use nm_replay::Block;
 use std::sync::Wait;
 
 impl<R: Wait, G: Gate, K> Site<'_, R, G, K> {
@@ -24,6 +25,7 @@ impl<R: Wait, G: Gate, K> Site<'_, R, G, K> {
         block: u64,
         from: u16,
         into: &mut [u8],
+        spare: &mut Block,
     ) -> Result<bool, CauseKind>
         requires { from + length into.old ≤ 512 }
         ensures ok { IfOk result (Turns D.follows (lane.old, lane.new) (step.Read block) (λ told.
@@ -32,7 +34,7 @@ impl<R: Wait, G: Gate, K> Site<'_, R, G, K> {
         ensures err { IfErr result (λ kind.
             LaneStops D.follows lane.old lane.new [] (EndsSo Nobodys kind)) }
     {
-        match self.try_read(lane, block, from, into) {
+        match self.try_read(lane, block, from, into, spare) {
             Met::Done => Ok(true),
             Met::Lost => Ok(false),
             Met::Refused(refusal) => {
@@ -42,13 +44,14 @@ impl<R: Wait, G: Gate, K> Site<'_, R, G, K> {
         }
     }
 
-    /// Reads a block, and puts what it holds from one place on into the target.
+    /// Reads a block into the spare one, and puts what it holds from one place on into the target.
     pub(crate) fn read_one<L: LegPart, D: Lane<L, K>>(
         &self,
         lane: &mut D,
         block: u64,
         from: u16,
         into: &mut [u8],
+        spare: &mut Block,
     ) -> Result<(), CauseKind>
         requires { from + length into.old ≤ 512 }
         ensures ok { OnOk result (Completes D.follows lane.old lane.new (step.Read block) (λ told.
@@ -58,7 +61,7 @@ impl<R: Wait, G: Gate, K> Site<'_, R, G, K> {
             LaneStops D.follows lane.old lane.new [] (EndsSo Nobodys kind)) }
     {
         for _ in self.rt.forever() {
-            if self.read_turn(lane, block, from, into)? {
+            if self.read_turn(lane, block, from, into, spare)? {
                 return Ok(());
             }
         }
