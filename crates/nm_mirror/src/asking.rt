@@ -1,14 +1,18 @@
-//! A step asked of a stripe behind its lock.
+//! A step asked of a stripe behind its lock, and a read into the caller's own block.
 ghost use Rattle.std.specs.Prelude.{◌≡◌, [], ◌∷◌, ◌↔◌, IsTrue};
 ghost use Rattle.nm_leg.specs.Leg.{leg_type};
 ghost use Rattle.nm_lanes.specs.Fits.{AnswerFits};
 ghost use Rattle.nm_part.specs.Parts.{part_after};
+ghost use Rattle.nm_part.specs.Reads.{answer_of};
+ghost use Rattle.nm_stripe.specs.declared.step.Step.TheVariants as step;
+ghost use Rattle.nm_stripe.specs.Read.{LeavesTarget};
 ghost use Rattle.nm_stripe.specs.Run.{MayBeAsked, NoneHalted};
 ghost use Rattle.nm_mirror.specs.Asking.{AsksStripe, ActsOnce};
 
 use nm_leg::LegPart;
 use nm_part::{Part, handed_in};
-use nm_stripe::{Answer, Refusal, Step, Stripe};
+use nm_replay::Block;
+use nm_stripe::{Answer, Reading, Refusal, Step, Stripe};
 
 /// Whether the step may be asked of the stripe: its block and its leg are there, and what is
 /// handed in fits.
@@ -49,4 +53,29 @@ pub fn ask<L: LegPart>(part: &mut Part<L>, stripe: &mut Stripe<L>, step: Step<L>
         return Answer::Refused(Refusal::Astray, handed_in(step));
     }
     part.step(stripe, step)
+}
+
+/// Reads a block of the stripe through a part into `into`: the step `Step::Read`, whose answer need
+/// not carry the block.
+///
+/// A block that is not there is refused as `ask` refuses it. But for a value `into` is as it was.
+#[inline(always)]
+pub fn ask_read<L: LegPart>(
+    part: &mut Part<L>,
+    stripe: &mut Stripe<L>,
+    block: u64,
+    into: &mut Block,
+) -> Result<Reading<L>, Refusal>
+    ensures step { AsksStripe (leg_type L.model L.honest) (step.Read block)
+        (answer_of result into.new) part.old stripe.old stripe.new }
+    ensures acts { IsTrue L.honest
+        → ActsOnce L.model (step.Read block) (answer_of result into.new) stripe.old stripe.new }
+    ensures counted { part.new ≡ part_after (answer_of result into.new) part.old }
+    ensures fits { AnswerFits (step.Read block) (answer_of result into.new) }
+    ensures target { LeavesTarget result into.old into.new }
+{
+    if block >= stripe.blocks() {
+        return Err(Refusal::Astray);
+    }
+    part.read(stripe, block, into)
 }

@@ -2,15 +2,17 @@
 ghost use Rattle.std.specs.Prelude.{◌≡◌, [], ◌∷◌};
 ghost use Rattle.nm_lanes.specs.Done.{done_as};
 ghost use Rattle.nm_lanes.specs.Fits.{AnswerFits};
+ghost use Rattle.nm_lanes.specs.Found.{FindsBlock};
 ghost use Rattle.nm_part.specs.Parts.{part_of};
-ghost use Rattle.nm_mirror.specs.Counting.{part_after_all};
+ghost use Rattle.nm_mirror.specs.Counting.{Follows, part_after_all};
 
-use crate::asking::ask;
+use crate::asking::{ask, ask_read};
 use crate::lock::Lock;
-use nm_lanes::Lane;
+use nm_lanes::{Found, Lane};
 use nm_leg::LegPart;
 use nm_part::Part;
-use nm_stripe::{Answer, Step, Stripe};
+use nm_replay::Block;
+use nm_stripe::{Answer, Reading, Step, Stripe};
 use std::marker::Model;
 use std::sync::Wait;
 
@@ -62,6 +64,19 @@ impl<L: LegPart> Lane<L, Lock<L>> for PartLane<L> {
         let mut stripe = lock.stripe.lock(rt);
         lock.note(&step);
         ask(&mut self.part, &mut stripe, step)
+    }
+
+    #[inline(always)]
+    fn read<R: Wait>(&mut self, rt: &R, lock: &Lock<L>, block: u64, into: &mut Block) -> Found
+        ensures { FindsBlock {L = L} Follows (self.old, self.new) block (into.old, into.new)
+            result }
+    {
+        let mut stripe = lock.stripe.lock(rt);
+        match ask_read(&mut self.part, &mut stripe, block, into) {
+            Ok(Reading::Value(receipt)) => Found::Value(receipt.number()),
+            Ok(Reading::LegLost(leg)) => Found::LegLost(leg),
+            Err(refusal) => Found::Refused(refusal),
+        }
     }
 
     fn owed<R: Wait>(&self, rt: &R, lock: &Lock<L>, ticket: Option<u64>) -> Option<(u64, u8)> {
