@@ -2,12 +2,14 @@
 ghost use Rattle.std.specs.Prelude.{◌≡◌, [], ◌∷◌, length};
 ghost use Rattle.nm_lanes.specs.Done.{done_as};
 ghost use Rattle.nm_lanes.specs.Fits.{AnswerFits};
-ghost use Rattle.nm_mirror.specs.Counting.{part_after_all};
+ghost use Rattle.nm_lanes.specs.Found.{FindsBlock};
+ghost use Rattle.nm_mirror.specs.Counting.{Follows, part_after_all};
 
-use nm_lanes::{Lane, StepKind};
+use nm_lanes::{Found, Lane, StepKind};
 use nm_leg::FuseLeg;
 use nm_mirror::ask;
 use nm_part::Part;
+use nm_replay::Block;
 use nm_stripe::{Answer, Refusal, Step, Stripe};
 use std::alloc::Global;
 use std::marker::Model;
@@ -104,6 +106,21 @@ impl Lane<FuseLeg, Door> for NoteLane {
         let refusal = refusal_of(&answer);
         let _ = self.notes.push(Note { kind, at, refusal });
         answer
+    }
+
+    fn read<R: Wait>(&mut self, rt: &R, lock: &Door, block: u64, into: &mut Block) -> Found
+        ensures { FindsBlock {L = FuseLeg} Follows (self.old, self.new) block (into.old, into.new)
+            result }
+    {
+        match self.step(rt, lock, Step::Read(block)) {
+            Answer::Value(value) => {
+                *into = *value.bytes();
+                Found::Value(value.number())
+            }
+            Answer::LegLost(leg, _) => Found::LegLost(leg),
+            Answer::Refused(refusal, _) => Found::Refused(refusal),
+            _ => unreachable!(),
+        }
     }
 
     fn owed<R: Wait>(&self, rt: &R, lock: &Door, ticket: Option<u64>) -> Option<(u64, u8)> {
