@@ -3,7 +3,8 @@ use crate::asking::{Ask, Summary, may_ask, step_of, summary_of};
 use crate::opening::{ONE_LEG, open_fused};
 use nm_leg::FuseLeg;
 use nm_part::Part;
-use nm_stripe::{Refusal, Stripe};
+use nm_replay::Block;
+use nm_stripe::{Reading, Refusal, Step, Stripe};
 use std::alloc::Global;
 use std::process::Abort;
 use std::test::Fail;
@@ -54,6 +55,49 @@ fn a_part_counts_values_and_finished_writes(rt: HostRuntime) -> Result<(), Fail>
     let mut part = Part::of(&stripe);
     assert_eq!(rt; part.stripe(), 7);
     counts(&rt, rt.alloc(), &mut part, &mut stripe)
+}
+
+/// Reads the first block through the part, and tells what came of it, with the target's last byte.
+fn read_into(
+    rt: &impl Abort,
+    part: &mut Part<FuseLeg>,
+    stripe: &mut Stripe<FuseLeg>,
+    into: &mut Block,
+) -> Summary {
+    may_ask(rt, stripe, &Step::Read(0));
+    match part.read(stripe, 0, into) {
+        Ok(Reading::Value(receipt)) => Summary::Value(receipt.number(), into.0[511]),
+        Ok(Reading::LegLost(leg)) => Summary::LegLost(leg),
+        Err(refusal) => Summary::Refused(refusal),
+    }
+}
+
+#[test]
+fn a_part_reads_into_a_block_what_the_step_answers(rt: HostRuntime) -> Result<(), Fail> {
+    let mut stripe = open_fused(&rt, rt.alloc(), ONE_LEG)?;
+    let mut part = Part::of(&stripe);
+    counts(&rt, rt.alloc(), &mut part, &mut stripe)?;
+    let mut into = Block([0x11; 512]);
+    let told = read_into(&rt, &mut part, &mut stripe, &mut into);
+    assert_eq!(rt; told, Summary::Value(2, 0xaa));
+    assert!(rt; into == Block([0xaa; 512]));
+    assert_eq!(rt; (part.front(), part.count()), (3, 3));
+    Ok(())
+}
+
+#[test]
+fn an_astray_read_leaves_its_block_as_it_was(rt: HostRuntime) -> Result<(), Fail> {
+    let mut own = open_fused(&rt, rt.alloc(), ONE_LEG)?;
+    let mut part = Part::of(&own);
+    let mut into = Block([0x11; 512]);
+    let told = read_into(&rt, &mut part, &mut own, &mut into);
+    assert_eq!(rt; told, Summary::Value(0, 0x00));
+    let mut other = open_fused(&rt, rt.alloc(), ONE_LEG)?;
+    let astray = read_into(&rt, &mut part, &mut other, &mut into);
+    assert_eq!(rt; astray, Summary::Refused(Refusal::Astray));
+    assert!(rt; into == Block::ZERO);
+    assert_eq!(rt; (other.total(), part.front(), part.count()), (0, 1, 1));
+    Ok(())
 }
 
 /// The part's step in a new stripe is refused, and does nothing there.
