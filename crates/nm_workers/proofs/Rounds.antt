@@ -9,10 +9,12 @@ use Rattle.nm_session.specs.CalledValue.{CalledValue}
 use Rattle.nm_session.specs.Laws.{IsRead}
 use Rattle.nm_session.specs.MovingBytes.{SendsOut, SendsPart}
 use Rattle.nm_session.specs.Session.{Session}
+use Rattle.nm_workers.specs.declared.attended.Attended.{Attended}
+use Rattle.nm_workers.specs.declared.attended.Attended.TheVariants as attended
 use Rattle.nm_workers.specs.declared.input.Input.{Input}
 use Rattle.nm_workers.specs.declared.input.Input.TheVariants as input
 use Rattle.nm_workers.specs.declared.pause.Pause.TheVariants as pause
-use Rattle.nm_workers.specs.Moving.{Stand, stand, Moves, BreaksOff, IsKnown, IsOverAt, Attends}
+use Rattle.nm_workers.specs.Moving.{Stand, stand, Moves, BreaksOff, IsKnown, IsOverAt, Attends, IsAttended}
 use Rattle.nm_workers.proofs.Steps.{moves_on, breaks_on, stops, reads, sends, sends_part}
 
 -- a move, and then the rest of the session
@@ -24,6 +26,12 @@ attends_on served a b c first second = record {
   is_known = second.is_known;
   is_over = second.is_over;
 }
+
+-- a move, and then a round
+pub attended_on : (attended : Attended) (a b c : Stand) → Moves a b → IsAttended attended b c
+    → IsAttended attended a c
+attended_on (attended.On next) a b c first (second, known) = (moves_on a b c first second, known)
+attended_on (attended.Over served) a b c first second = attends_on served a b c first second
 
 -- there is no memory, after a move
 pub stops_there : (found : ServeFault) → found ≡ fault.Memory → (a b : Stand) → Moves a b → BreaksOff found a b

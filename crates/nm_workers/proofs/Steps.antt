@@ -18,7 +18,7 @@ use Rattle.nm_session.specs.MovingBytes.{SendsOut, SendsPart}
 use Rattle.nm_session.specs.Session.{Session}
 use Rattle.nm_workers.specs.declared.input.Input.{Input}
 use Rattle.nm_workers.specs.declared.input.Input.TheVariants as input
-use Rattle.nm_workers.specs.Hearing.{Hears, IsCausedBy}
+use Rattle.nm_workers.specs.Hearing.{Hears, IsCausedBy, SettlesAny}
 use Rattle.nm_workers.specs.Moving.{Stand, stand, Moves, BreaksOff, IsCause, IsKnown, IsLearned}
 use Rattle.nm_workers.specs.Pieces.{bytes_of, HasEnded}
 
@@ -106,6 +106,13 @@ moves_nowhere a = record {
   fed_are = refl;
   appends = Appends-nil a.output;
 }
+
+-- nor where no message came
+pub moves_unheard : (core : Session) (heard all : List (Message CalledValue)) (output : Option (List ℕ))
+    → all ≡ heard → Moves (stand core heard output) (stand core all output)
+moves_unheard core heard all output same =
+    subst (λ (h : List (Message CalledValue)). Moves (stand core heard output) (stand core h output))
+    (sym same) (moves_nowhere (stand core heard output))
 
 -- a fault that leaves nothing unwritten
 abbrev pub IsQuiet : ServeFault → Type 0
@@ -230,6 +237,24 @@ hears old new (message.Outcome called) heard output (inr passes) = record {
   fed_are = refl;
   appends = Appends-nil output;
 }
+
+-- what came of a task that the owner did itself is a move
+pub settles : (old new : Session) (heard : List (Message CalledValue)) (output : Option (List ℕ))
+    → SettlesAny old new → Moves (stand old heard output) (stand new heard output)
+settles old new heard output (inl same) =
+    subst (λ (core : Session). Moves (stand old heard output) (stand core heard output))
+    (sym same) (moves_nowhere (stand old heard output))
+settles old new heard output (inr (called, inl answers)) = record {
+  events = Answered called.index answers.outcome ∷ [];
+  messages = [];
+  runs = (new, answers.answers, refl);
+  heard = sym (append-nil heard);
+  fed_are = refl;
+  appends = Appends-nil output;
+}
+settles old new heard output (inr (called, inr passes)) =
+    subst (λ (core : Session). Moves (stand old heard output) (stand core heard output))
+    (sym passes.unchanged) (moves_nowhere (stand old heard output))
 
 message_cause : (found : ServeFault) (one : Message CalledValue) → IsCausedBy found one → IsCause found [] []
 message_cause fault.Memory one is = refl

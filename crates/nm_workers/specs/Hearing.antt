@@ -34,6 +34,10 @@ pub record PassesOver (old : Session) (called : CalledValue) (new : Session) : T
 abbrev pub Settles : Session → CalledValue → Session → Type 0
 Settles old called new = AnswersCall old called new ⊎ PassesOver old called new
 
+-- nothing changed, or what came of some task is told
+abbrev pub SettlesAny : Session → Session → Type 0
+SettlesAny old new = (new ≡ old) ⊎ ((called : CalledValue) × Settles old called new)
+
 -- the session takes what a message tells; the end of the bytes changes nothing
 abbrev pub Hears : Session → Message CalledValue → Session → Type 0
 Hears old (message.Piece (Bytes bytes)) new = Feeds old bytes.items new

@@ -11,6 +11,7 @@ ghost use Rattle.nm_workers.specs.Moving.{IsAttended, IsOverAt};
 use crate::attended::Attended;
 use crate::crew::{Crew, give_held};
 use crate::desk::Desk;
+use crate::doing_here::{do_here, is_done_here};
 use crate::extent::Extent;
 use crate::handing::hand_out;
 use crate::hearing::listen;
@@ -96,6 +97,12 @@ where
         Ok(input) => input,
         Err(fault) => return Err(fault),
     };
+    if is_done_here(core, pause, desk) {
+        return match do_here(rt, alloc, core, sender, inbox, desk, input) {
+            Ok(attended) => Ok(attended),
+            Err(fault) => Err(fault),
+        };
+    }
     if give_held(rt, alloc, &mut desk.crew, core.under_way()).is_err() {
         return Err(ServeFault::Memory);
     }

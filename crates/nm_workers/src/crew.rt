@@ -3,7 +3,7 @@ ghost use Rattle.std.specs.Prelude.{◌≡◌, ◌≤◌, All};
 
 use crate::extent::Extent;
 use crate::job::Job;
-use crate::working::work;
+use crate::working::{do_job, work};
 use crossbeam_channel::{Receiver, Sender, bounded};
 use nm_mailbox::OutcomeEnd;
 use nm_session::{Called, Target};
@@ -35,6 +35,17 @@ impl<E: Extent, T: Target> Spare<E, T> {
             outcomes,
             of: PhantomData,
         }
+    }
+
+    // Calls the target for a job on this thread.
+    fn do_job(self, alloc: Global, job: Job<E>) -> (Called, Spare<E, T>) {
+        let Spare {
+            mut target,
+            outcomes,
+            of: _,
+        } = self;
+        let called = do_job(alloc, &mut target, job);
+        (called, Spare::new(target, outcomes))
     }
 }
 
@@ -101,6 +112,38 @@ impl<'a, 's, S, E: Extent, T: Target> Crew<'a, 's, S, E, T> {
             roster,
             started: 0,
             held: None,
+        }
+    }
+
+    // Whether a job is held back.
+    pub(crate) fn holds_job(&self) -> bool {
+        self.held.is_some()
+    }
+
+    // Whether the job that is held back is small, and a target is left to do it here.
+    pub(crate) fn could_do_it_here(&self) -> bool {
+        match &self.held {
+            Some(job) => job.is_small() && !self.roster.spare.is_empty(),
+            None => false,
+        }
+    }
+}
+
+impl<S, E: Extent, T: Target + Drop> Crew<'_, '_, S, E, T> {
+    // Does the job that is held back on this thread, over the target of a worker without a thread.
+    // `None` where there is no such job or worker.
+    pub(crate) fn do_held(&mut self, alloc: Global) -> Result<Option<Called>, Memory> {
+        let Some(job) = self.held.take() else {
+            return Ok(None);
+        };
+        let Some(spare) = self.roster.spare.pop() else {
+            self.held = Some(job);
+            return Ok(None);
+        };
+        let (called, spare) = spare.do_job(alloc, job);
+        match self.roster.spare.push(spare) {
+            Ok(()) => Ok(Some(called)),
+            Err(_) => Err(Memory),
         }
     }
 }

@@ -8,6 +8,9 @@ use nm_session::{Next, ServeFault, SessionCore};
 use std::alloc::Global;
 use std::marker::{Model, PhantomData};
 
+// How many bytes a small job reads or writes at most.
+const SMALL: u32 = 16 * 1024;
+
 // A task on its way to a worker, with its payload and the index of its request. Each target of the
 // session has its bytes. `next` alone makes one, so that a worker only calls for what was read.
 #[derive(Drop)]
@@ -72,6 +75,19 @@ impl<E: Extent> Job<E> {
             task,
             payload,
             of: PhantomData,
+        }
+    }
+
+    // Whether it takes little time: some blocks are read or written, and nothing is synced.
+    pub(crate) fn is_small(&self) -> bool {
+        match self.task {
+            Task::Read { offset: _, length } => length <= SMALL,
+            Task::Write {
+                offset: _,
+                length,
+                fua,
+            } => length <= SMALL && !fua,
+            _ => false,
         }
     }
 

@@ -16,6 +16,7 @@ use crate::lookout::Lookout;
 use crate::read_side::ReadSide;
 use crate::reading::{AllRead, read_pieces};
 use crate::room::Room;
+use crate::streak::Streak;
 use nm_mailbox::{Inbox, mailbox};
 use nm_replies::ReplyWriter;
 use nm_session::{Called, ServeFault, SessionCore, Target};
@@ -81,6 +82,7 @@ where
                 leaves,
                 room: Room::new(alloc),
                 looking: Looking::new(lookout),
+                streak: Streak::new(),
             };
             own(rt, alloc, core, sender, inbox, desk, reading)
         },

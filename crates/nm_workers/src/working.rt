@@ -33,7 +33,7 @@ pub(crate) fn work<R: Wait, E: Extent, T: Target + Drop>(
 }
 
 // Calls the target for a job.
-fn do_job<E: Extent, T: Target>(alloc: Global, target: &mut T, job: Job<E>) -> Called
+pub(crate) fn do_job<E: Extent, T: Target>(alloc: Global, target: &mut T, job: Job<E>) -> Called
     requires size { E.bytes ≤ T.size target.old }
     ensures index { result.index ≡ job.index }
     ensures task { result.task ≡ job.task }

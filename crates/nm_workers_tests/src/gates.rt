@@ -2,10 +2,11 @@
 
 use crate::counting_writer::CountingWriter;
 use crate::found::{Found, front};
-use crate::running::{serve_shared, targets};
+use crate::running::{serve_paced, serve_shared, targets};
 use crate::shared_target::{Hold, SharedBytes};
 use crate::texts::{
-    DESCRIBED, DISC, FLAGS, GO, GREETING, READ, SIZE, WRITE, concat, export, put_reply, put_request,
+    DESCRIBED, DISC, FLAGS, GO, GREETING, READ, SIZE, Talk, WRITE, concat, export, put_reply,
+    put_request,
 };
 use nm_session::{CutReader, End};
 use nm_wire::Memory;
@@ -64,6 +65,49 @@ fn gate_two_requests(rt: HostRuntime) -> Result<(), Fail> {
     let found = run_held(&rt, alloc, stream, 512, least)?;
     assert!(rt; found.is(3, End::Disc));
     assert!(rt; found.out.as_slice() == out.as_slice());
+    Ok(())
+}
+
+// Forty requests, each sent once the one before was replied to, and then two READs at once; and how
+// many bytes have gone out with the reply to the first of the two.
+fn forty_and_two(alloc: Global) -> Result<(Talk, usize), AllocError> {
+    let mut talk = Talk::new(alloc)?;
+    for turn in 0..20u8 {
+        talk.write(turn, 2_048, 512, turn, 0)?;
+        talk.read(turn, 2_048, 512, 0, &[turn; 512])?;
+    }
+    put_request(&mut talk.stream, READ, 0x71, 512, 512)?;
+    put_request(&mut talk.stream, READ, 0x72, 1_024, 512)?;
+    talk.stream.extend_from_slice(&DISC)?;
+    put_reply(&mut talk.out, 0, 0x71)?;
+    talk.out.extend_from_slice(&[0; 512])?;
+    let least = talk.out.len();
+    put_reply(&mut talk.out, 0, 0x72)?;
+    talk.out.extend_from_slice(&[0; 512])?;
+    Ok((talk, least))
+}
+
+// Of a client that has waited for each of forty replies two requests at once are under way at once
+// too: the second is held until the reply to the first has been written.
+#[test]
+fn gate_two_requests_after_forty(rt: HostRuntime) -> Result<(), Fail> {
+    let alloc = rt.alloc();
+    let (talk, least) = forty_and_two(alloc)?;
+    let shared = SharedBytes::new(alloc, SIZE)?;
+    let sent = AtomicUsize::new(0);
+    let hold = Hold {
+        at: Some(1_024),
+        count: &sent,
+        least,
+        pause: 0,
+    };
+    let targets = targets(&rt, alloc, 3, &shared, Some(hold))?;
+    let finished = serve_paced(&rt, alloc, &talk, (0, usize::MAX), targets, &sent)?;
+    match finished.result {
+        Ok(served) => assert!(rt; served.requests == 43 && served.end == End::Disc),
+        Err(_) => assert!(rt; false),
+    }
+    assert!(rt; finished.sender.device().held.as_slice() == talk.out.as_slice());
     Ok(())
 }
 

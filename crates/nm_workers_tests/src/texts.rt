@@ -82,8 +82,8 @@ impl Talk {
         })
     }
 
-    // A READ that finds these bytes, or an error.
-    fn read(
+    /// A READ that finds these bytes, or an error.
+    pub fn read(
         &mut self,
         cookie: u8,
         offset: u64,
@@ -97,8 +97,8 @@ impl Talk {
         self.wait()
     }
 
-    // A WRITE of so many bytes of one kind.
-    fn write(
+    /// A WRITE of so many bytes of one kind.
+    pub fn write(
         &mut self,
         cookie: u8,
         offset: u64,
