@@ -9,8 +9,8 @@ use Rattle.nm_lanes.specs.declared.found.Found.TheVariants.{Value, LegLost, Refu
 use Rattle.nm_lanes.specs.Done.{Done, done_as}
 use Rattle.nm_lanes.specs.Fits.{AnswerFits}
 
--- the answer says what was found: a value's bytes are in the target, which before had others; but
--- for a value it is as it was
+-- the answer says what was found, and the target, before and after, has a value's bytes; but for a
+-- value it is as it was
 abbrev pub Tells : {L : Type 0} → Answer L → Block × Block → Found → Type 0
 Tells (answer.Value value) target (Value number) =
     (value.entry.number ≡ number) × (value.bytes ≡ target.1)

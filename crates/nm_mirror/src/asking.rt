@@ -1,12 +1,12 @@
 //! A step asked of a stripe behind its lock, and a read into the caller's own block.
-ghost use Rattle.std.specs.Prelude.{◌≡◌, [], ◌∷◌, ◌↔◌, IsTrue};
+ghost use Rattle.std.specs.Prelude.{◌≡◌, [], ◌∷◌, ◌↔◌, IsTrue, IsFalse};
 ghost use Rattle.nm_leg.specs.Leg.{leg_type};
 ghost use Rattle.nm_lanes.specs.Fits.{AnswerFits};
-ghost use Rattle.nm_part.specs.Parts.{part_after};
+ghost use Rattle.nm_part.specs.Parts.{is_astray, part_after};
 ghost use Rattle.nm_part.specs.Reads.{answer_of};
 ghost use Rattle.nm_stripe.specs.declared.step.Step.TheVariants as step;
 ghost use Rattle.nm_stripe.specs.Read.{LeavesTarget};
-ghost use Rattle.nm_stripe.specs.Run.{MayBeAsked, NoneHalted};
+ghost use Rattle.nm_stripe.specs.Run.{MayBeAsked, NoneHalted, StepOf};
 ghost use Rattle.nm_mirror.specs.Asking.{AsksStripe, ActsOnce};
 
 use nm_leg::LegPart;
@@ -46,6 +46,9 @@ pub fn ask<L: LegPart>(part: &mut Part<L>, stripe: &mut Stripe<L>, step: Step<L>
         stripe.old stripe.new }
     ensures acts { IsTrue L.honest → NoneHalted (result ∷ [])
         → ActsOnce L.model «step» result stripe.old stripe.new }
+    ensures asked { MayBeAsked L.model stripe.old «step»
+        → IsFalse (is_astray part.old stripe.old)
+        → StepOf (leg_type L.model L.honest) «step» result stripe.old stripe.new }
     ensures counted { part.new ≡ part_after result part.old }
     ensures fits { AnswerFits «step» result }
 {
@@ -70,6 +73,10 @@ pub fn ask_read<L: LegPart>(
         (answer_of result into.new) part.old stripe.old stripe.new }
     ensures acts { IsTrue L.honest
         → ActsOnce L.model (step.Read block) (answer_of result into.new) stripe.old stripe.new }
+    ensures asked { MayBeAsked L.model stripe.old (step.Read block)
+        → IsFalse (is_astray part.old stripe.old)
+        → StepOf (leg_type L.model L.honest) (step.Read block) (answer_of result into.new)
+        stripe.old stripe.new }
     ensures counted { part.new ≡ part_after (answer_of result into.new) part.old }
     ensures fits { AnswerFits (step.Read block) (answer_of result into.new) }
     ensures target { LeavesTarget result into.old into.new }

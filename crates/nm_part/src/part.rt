@@ -142,6 +142,7 @@ impl<L: LegPart> Part<L> {
         self.note(&answer);
         answer
     }
+
     /// Reads a block of the stripe into `into`, and counts the value: the step `Step::Read`, whose
     /// answer need not carry the block.
     ///
