@@ -1,25 +1,69 @@
 use nm_leg::LegPart;
 use nm_stripe::{Step, Stripe};
-use std::sync::Mutex;
+use std::hint::spin_loop;
 use std::sync::atomic::{AtomicBool, Ordering};
+use std::sync::{Mutex, MutexGuard, Wait};
+
+// How often a thread tries again to take a lock before it sleeps.
+const TRIES: u32 = 4;
+
+// How many pauses of the processor it makes before each try, which is about as long as a small call
+// has to do with one stripe.
+const PAUSES: u32 = 128;
+
+// As many bytes as a cache line has.
+type Line = [u64; 8];
 
 /// The lock of one stripe, with the stripe behind it.
 ///
 /// It lends the stripe to nobody outside: each step takes it once. Beside it stands whether
-/// something was written since the last sync began.
+/// something was written since the last sync began. No cache line has parts of two locks, since
+/// threads at work on two stripes would else take it from one another.
 #[derive(Drop)]
+#[repr(C)]
 pub struct Lock<L: LegPart> {
+    before: Line,
     pub(crate) stripe: Mutex<Stripe<L>>,
     unsynced: AtomicBool,
+    after: Line,
 }
 
 impl<L: LegPart> Lock<L> {
     /// This stripe behind a lock. Nothing was written yet.
     pub(crate) fn new(stripe: Stripe<L>) -> Self {
         Lock {
+            before: [0; 8],
             stripe: Mutex::new(stripe),
             unsynced: AtomicBool::new(false),
+            after: [0; 8],
         }
+    }
+
+    /// Waits for the stripe, and takes it until the guard is dropped.
+    ///
+    /// Who has it mostly gives it back after one step, and takes it again for the next one at once.
+    /// To be put to sleep and woken takes longer than many steps, so a thread tries for a while
+    /// before it sleeps.
+    #[inline(always)]
+    pub(crate) fn hold<R: Wait>(&self, rt: &R) -> MutexGuard<'_, Stripe<L>> {
+        match self.stripe.try_lock() {
+            Some(guard) => guard,
+            None => self.hold_taken(rt),
+        }
+    }
+
+    // Waits for the stripe, which another thread has. A try takes the lock's cache line from whoever
+    // works on the stripe, so there are few.
+    fn hold_taken<R: Wait>(&self, rt: &R) -> MutexGuard<'_, Stripe<L>> {
+        for _ in 0..TRIES {
+            for _ in 0..PAUSES {
+                spin_loop();
+            }
+            if let Some(guard) = self.stripe.try_lock() {
+                return guard;
+            }
+        }
+        self.stripe.lock(rt)
     }
 
     /// Whether something was written in the stripe since its last sync began.

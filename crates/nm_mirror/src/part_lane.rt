@@ -61,7 +61,7 @@ impl<L: LegPart> Lane<L, Lock<L>> for PartLane<L> {
         ensures follows { self.new ≡ part_after_all (done_as «step» result ∷ []) self.old }
         ensures fits { AnswerFits «step» result }
     {
-        let mut stripe = lock.stripe.lock(rt);
+        let mut stripe = lock.hold(rt);
         lock.note(&step);
         ask(&mut self.part, &mut stripe, step)
     }
@@ -71,7 +71,7 @@ impl<L: LegPart> Lane<L, Lock<L>> for PartLane<L> {
         ensures { FindsBlock {L = L} Follows (self.old, self.new) block (into.old, into.new)
             result }
     {
-        let mut stripe = lock.stripe.lock(rt);
+        let mut stripe = lock.hold(rt);
         match ask_read(&mut self.part, &mut stripe, block, into) {
             Ok(Reading::Value(receipt)) => Found::Value(receipt.number()),
             Ok(Reading::LegLost(leg)) => Found::LegLost(leg),
@@ -80,7 +80,7 @@ impl<L: LegPart> Lane<L, Lock<L>> for PartLane<L> {
     }
 
     fn owed<R: Wait>(&self, rt: &R, lock: &Lock<L>, ticket: Option<u64>) -> Option<(u64, u8)> {
-        let stripe = lock.stripe.lock(rt);
+        let stripe = lock.hold(rt);
         match ticket {
             Some(ticket) => Some((ticket, stripe.next_owed(ticket)?)),
             None => stripe.first_owed(),

@@ -80,7 +80,7 @@ impl<L: LegPart, G: Gate + Drop> Mirror<L, G> {
         requires { stripe < self.now.shape.stripes }
     {
         let lock = &self.locks[stripe as usize];
-        let mut held = lock.stripe.lock(rt);
+        let mut held = lock.hold(rt);
         if (leg as usize) >= held.legs() {
             return 0;
         }
@@ -94,7 +94,7 @@ impl<L: LegPart, G: Gate + Drop> Mirror<L, G> {
         let Some(refusal) = first.refusal else {
             return 1;
         };
-        let helped = help(&mut lock.stripe.lock(rt), refusal);
+        let helped = help(&mut lock.hold(rt), refusal);
         let Some(second) = helped else {
             return 0;
         };

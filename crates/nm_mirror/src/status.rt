@@ -102,7 +102,7 @@ impl<L: LegPart, G: Gate + Drop> Mirror<L, G> {
         let mut all = Vec::new(alloc);
         all.reserve(self.locks.len())?;
         for lock in &self.locks {
-            all.push_reserved(status_of(&lock.stripe.lock(rt), alloc)?);
+            all.push_reserved(status_of(&lock.hold(rt), alloc)?);
         }
         Ok(all)
     }
@@ -111,6 +111,6 @@ impl<L: LegPart, G: Gate + Drop> Mirror<L, G> {
     pub fn kept<R: Wait>(&self, rt: &R, alloc: Global, stripe: u32) -> Result<Vec<Entry>, Memory>
         requires { stripe < self.now.shape.stripes }
     {
-        self.locks[stripe as usize].stripe.lock(rt).entries(alloc)
+        self.locks[stripe as usize].hold(rt).entries(alloc)
     }
 }
