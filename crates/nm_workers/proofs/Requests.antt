@@ -1,7 +1,6 @@
 -- What reading requests does to a core, and that each task can be called for.
 use Rattle.std.proofs.Common.{◌≡◌, ℕ, ◌≤◌, List, [], ◌∷◌, ◌++◌, sym, ap, ◌∙◌, subst, ◌⊎◌, inl, inr}
 use Rattle.nm_requests.specs.declared.task.Task.{Task}
-use Rattle.nm_requests.specs.declared.task.Task.TheVariants as task
 use Rattle.nm_session.proofs.Motion.{runs-append}
 use Rattle.nm_session.proofs.OneTurn.{callable}
 use Rattle.nm_session.proofs.ReadEvents.{next_reads_on}

@@ -1,5 +1,5 @@
 -- What the parts of a round do together.
-use Rattle.std.proofs.Common.{◌≡◌, ℕ, List, [], ◌∷◌, ◌++◌, Option, refl, sym, ◌∙◌, subst}
+use Rattle.std.proofs.Common.{◌≡◌, ℕ, List, Option, refl, sym, subst}
 use Rattle.nm_mailbox.specs.declared.message.Message.{Message}
 use Rattle.nm_session.proofs.Pieces.{none_after_send}
 use Rattle.nm_session.specs.declared.serve_fault.ServeFault.{ServeFault}
@@ -13,7 +13,6 @@ use Rattle.nm_workers.specs.declared.attended.Attended.{Attended}
 use Rattle.nm_workers.specs.declared.attended.Attended.TheVariants as attended
 use Rattle.nm_workers.specs.declared.input.Input.{Input}
 use Rattle.nm_workers.specs.declared.input.Input.TheVariants as input
-use Rattle.nm_workers.specs.declared.pause.Pause.TheVariants as pause
 use Rattle.nm_workers.specs.Moving.{Stand, stand, Moves, BreaksOff, IsKnown, IsOverAt, Attends, IsAttended}
 use Rattle.nm_workers.proofs.Steps.{moves_on, breaks_on, stops, reads, sends, sends_part}
 

@@ -24,7 +24,6 @@ use Rattle.nm_session.specs.Session.{Session, session_of}
 use Rattle.nm_session.specs.Text.{GoesOut}
 use Rattle.nm_wire.specs.declared.export.Export.{Export}
 use Rattle.nm_workers.specs.declared.input.Input.{Input}
-use Rattle.nm_workers.specs.declared.input.Input.TheVariants as input
 use Rattle.nm_workers.specs.Moving.{stand, Attends, BreaksOff, ComesTo, IsCause, IsKnown}
 use Rattle.nm_workers.specs.Pieces.{bytes_of, HasEnded}
 use Rattle.nm_workers.specs.Reading.{HasRead}

@@ -1,5 +1,5 @@
 -- How a session moves on while its threads read and call its targets.
-use Rattle.std.specs.Prelude.{◌≡◌, ℕ, ◌<◌, ◌⊎◌, List, [], ◌∷◌, ◌++◌, length, take, Option}
+use Rattle.std.specs.Prelude.{◌≡◌, ℕ, ◌<◌, ◌⊎◌, List, [], ◌++◌, length, take, Option}
 use Rattle.std.specs.Io.KnownBytes.{Appends}
 use Rattle.nm_mailbox.specs.declared.message.Message.{Message}
 use Rattle.nm_mailbox.specs.declared.message.Message.TheVariants as message
