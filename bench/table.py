@@ -25,7 +25,8 @@ def read(path):
 def rows(memory, times):
     for name, runs in times.items():
         # What plain Rust does in two ways is measured against the one proved way.
-        runs[FIRST] = runs[FIRST] or times[name.removesuffix(", lent")][FIRST]
+        same = name.removesuffix(", lent").removesuffix(", no threads")
+        runs[FIRST] = runs[FIRST] or times[same][FIRST]
         work = {did for did, _ in runs[FIRST] + runs[SECOND]}
         assert len(work) == 1, f"{name}: not the same work: {work}"
         count, size, _ = work.pop()

@@ -1,5 +1,6 @@
 // The same work in plain Rust, with the standard library alone: stripes behind locks, one hold of a
-// lock for each step, and in each stripe the same rules, records, regions and history.
+// lock for each step, in each stripe the same rules, records, regions and history, and calls in the
+// same rounds, whose halves have a thread each where both have a region's blocks.
 use std::collections::VecDeque;
 use std::hint::black_box;
 use std::ops::Range;
@@ -17,6 +18,7 @@ const MOST_RECORDS: usize = 256;
 const MOST_ENTRIES: usize = 1_024;
 const NUMBERS: u64 = 1 << 63;
 const LEGS: usize = 8;
+const MOST_AT_ONCE: usize = 8;
 
 #[derive(Clone, Copy)]
 struct Block([u8; 512]);
@@ -116,7 +118,9 @@ impl Records {
     }
 
     fn find(&self, ticket: u64) -> Result<usize, Refusal> {
-        self.tickets.binary_search(&ticket).map_err(|_| Refusal::NoTicket)
+        self.tickets
+            .binary_search(&ticket)
+            .map_err(|_| Refusal::NoTicket)
     }
 
     fn busy_among(&self, blocks: Range<u64>) -> Option<u64> {
@@ -258,7 +262,9 @@ impl Stripe {
     fn copying_on(&self, block: u64) -> Option<u8> {
         let copy = self.regions.copy?;
         let start = copy.region * self.regions.region + copy.cursor;
-        (start..start + self.chunk).contains(&block).then_some(copy.leg)
+        (start..start + self.chunk)
+            .contains(&block)
+            .then_some(copy.leg)
     }
 
     fn begin_cause(&self, block: u64) -> Option<Refusal> {
@@ -395,14 +401,16 @@ impl Part {
 struct Mirror {
     stripes: Vec<Mutex<Stripe>>,
     region: u64,
+    side_by_side: bool,
 }
 
 impl Mirror {
-    fn new(stripes: u64) -> Mirror {
+    fn new(stripes: u64, side_by_side: bool) -> Mirror {
         let open = |_| Mutex::new(Stripe::open(BLOCKS / stripes));
         Mirror {
             stripes: (0..stripes).map(open).collect(),
             region: black_box(REGION),
+            side_by_side,
         }
     }
 
@@ -413,6 +421,42 @@ impl Mirror {
         ((region % stripes) as usize, in_stripe)
     }
 
+    // The next round of so many blocks from this one on: its stripes, and how many blocks it has.
+    fn round(&self, block: u64, blocks: usize) -> (Range<usize>, usize) {
+        let (stripe, _) = self.place(block);
+        let last = (block + blocks as u64 - 1) / self.region;
+        let region = block / self.region;
+        let stripes = ((last - region + 1) as usize)
+            .min(self.stripes.len() - stripe)
+            .min(MOST_AT_ONCE);
+        let end = (region + stripes as u64) * self.region;
+        (stripe..stripe + stripes, blocks.min((end - block) as usize))
+    }
+
+    // How many of a round's blocks are those of its first so many stripes.
+    fn lower_half(&self, block: u64, half: usize) -> usize {
+        ((block / self.region + half as u64) * self.region - block) as usize
+    }
+
+    // Both halves of a round, side by side where each has a region's blocks.
+    fn do_both(
+        &self,
+        low: usize,
+        high: usize,
+        lower: impl FnOnce() + Send,
+        upper: impl FnOnce() + Send,
+    ) {
+        if self.side_by_side && low as u64 >= self.region && high as u64 >= self.region {
+            thread::scope(|scope| {
+                scope.spawn(upper);
+                lower();
+            });
+        } else {
+            lower();
+            upper();
+        }
+    }
+
     // One hold of one lock.
     fn step<T>(&self, stripe: usize, part: &Part, step: impl FnOnce(&mut Stripe) -> T) -> T {
         let mut held = self.stripes[stripe].lock().unwrap();
@@ -420,15 +464,17 @@ impl Mirror {
         step(&mut held)
     }
 
-    fn write_block(&self, parts: &mut [Part], block: u64, data: Data) {
+    fn write_block(&self, part: &mut Part, block: u64, data: Data) {
         let (stripe, block) = self.place(block);
-        let part = &mut parts[stripe];
         let ticket = match self.step(stripe, part, |held| held.begin(block, data)) {
             Ok(ticket) => ticket,
             Err((refusal, _)) => panic!("{refusal:?}"),
         };
         for leg in 0..2 {
-            match self.step(stripe, part, |held| held.push(ticket, leg)).unwrap() {
+            match self
+                .step(stripe, part, |held| held.push(ticket, leg))
+                .unwrap()
+            {
                 Reach::Pushed(owed) => assert!(owed < LEGS),
                 Reach::Complete(number) => assert!(number < NUMBERS),
             }
@@ -437,23 +483,66 @@ impl Mirror {
         part.note(number);
     }
 
+    fn write_round(&self, parts: &mut [Part], block: u64, cuts: &mut [Option<Data>]) {
+        if let [part] = parts {
+            for (block, data) in (block..).zip(cuts) {
+                self.write_block(part, block, data.take().unwrap());
+            }
+            return;
+        }
+        let half = parts.len() / 2;
+        let low = self.lower_half(block, half);
+        let (front, back) = parts.split_at_mut(half);
+        let (own, rest) = cuts.split_at_mut(low);
+        let (count, high) = (own.len(), rest.len());
+        let lower = || self.write_round(front, block, own);
+        let upper = || self.write_round(back, block + low as u64, rest);
+        self.do_both(count, high, lower, upper);
+    }
+
     // The payload is cut before the first block is written.
     fn write(&self, parts: &mut [Part], offset: u64, received: &Arc<[u8]>, len: usize) {
-        let cut = |start| Data(received.clone(), start..start + 512);
-        let cuts: Vec<Data> = (0..len).step_by(512).map(cut).collect();
-        for (block, data) in (offset / 512..).zip(cuts) {
-            self.write_block(parts, block, data);
+        let cut = |start| Some(Data(received.clone(), start..start + 512));
+        let mut cuts: Vec<Option<Data>> = (0..len).step_by(512).map(cut).collect();
+        let (mut block, mut left) = (offset / 512, &mut cuts[..]);
+        while !left.is_empty() {
+            let (stripes, blocks) = self.round(block, left.len());
+            let (own, rest) = left.split_at_mut(blocks);
+            self.write_round(&mut parts[stripes], block, own);
+            (block, left) = (block + blocks as u64, rest);
         }
     }
 
+    fn read_round(&self, parts: &mut [Part], block: u64, into: &mut [u8]) {
+        if let [part] = parts {
+            for (block, into) in (block..).zip(into.chunks_mut(512)) {
+                let (stripe, block) = self.place(block);
+                let mut found = Block([0; 512]);
+                let number = self
+                    .step(stripe, part, |held| held.read(block, &mut found))
+                    .unwrap();
+                into.copy_from_slice(&found.0);
+                part.note(number);
+            }
+            return;
+        }
+        let half = parts.len() / 2;
+        let low = self.lower_half(block, half);
+        let (front, back) = parts.split_at_mut(half);
+        let (own, rest) = into.split_at_mut(low * 512);
+        let high = rest.len() / 512;
+        let lower = || self.read_round(front, block, own);
+        let upper = || self.read_round(back, block + low as u64, rest);
+        self.do_both(low, high, lower, upper);
+    }
+
     fn read(&self, parts: &mut [Part], offset: u64, into: &mut [u8]) {
-        for (block, into) in (offset / 512..).zip(into.chunks_mut(512)) {
-            let (stripe, block) = self.place(block);
-            let mut found = Block([0; 512]);
-            let part = &mut parts[stripe];
-            let number = self.step(stripe, part, |held| held.read(block, &mut found)).unwrap();
-            into.copy_from_slice(&found.0);
-            part.note(number);
+        let (mut block, mut left) = (offset / 512, into);
+        while !left.is_empty() {
+            let (stripes, blocks) = self.round(block, left.len() / 512);
+            let (own, rest) = left.split_at_mut(blocks * 512);
+            self.read_round(&mut parts[stripes], block, own);
+            (block, left) = (block + blocks as u64, rest);
         }
     }
 }
@@ -538,9 +627,11 @@ fn export_sum(mirror: &Mirror, parts: &mut [Part]) -> u64 {
     bytes.iter().fold(0, add)
 }
 
-fn round(row: Row) -> (u64, u64) {
-    let mirror = Mirror::new(row.stripes);
-    let mut clients: Vec<_> = (0..row.threads).map(|number| Client::new(row, number)).collect();
+fn round(row: Row, side_by_side: bool) -> (u64, u64) {
+    let mirror = Mirror::new(row.stripes, side_by_side);
+    let mut clients: Vec<_> = (0..row.threads)
+        .map(|number| Client::new(row, number))
+        .collect();
     let first = &mut clients[0];
     for at in 0..8 {
         mirror.write(&mut first.parts, at * MOST as u64, &first.received, MOST);
@@ -549,8 +640,16 @@ fn round(row: Row) -> (u64, u64) {
     let told = all_calls(&mirror, &mut clients, row);
     let nanos = start.elapsed().as_nanos() as u64;
     let there = export_sum(&mirror, &mut clients[0].parts);
-    let had: u64 = mirror.stripes.iter().map(|stripe| stripe.lock().unwrap().kept.total).sum();
-    let counted: u64 = clients.iter().flat_map(|client| &client.parts).map(|part| part.count).sum();
+    let had: u64 = mirror
+        .stripes
+        .iter()
+        .map(|stripe| stripe.lock().unwrap().kept.total)
+        .sum();
+    let counted: u64 = clients
+        .iter()
+        .flat_map(|client| &client.parts)
+        .map(|part| part.count)
+        .sum();
     assert_eq!(had, counted);
     // The history is kept, though nobody reads it here.
     for stripe in &mirror.stripes {
@@ -565,22 +664,35 @@ fn round(row: Row) -> (u64, u64) {
     (nanos, told ^ there ^ had)
 }
 
-// All rows, or the one that the first word names.
+fn print_rounds(row: Row, name: &str, side_by_side: bool) {
+    for _ in 0..ROUNDS {
+        let (nanos, sum) = round(row, side_by_side);
+        let (blocks, bytes) = (TURNS * BLOCKS, TURNS * BYTES);
+        println!("{name}: {blocks} {bytes} {sum} {nanos}");
+    }
+}
+
+// All rows, or the one that the first word names. A call that goes in rounds is timed a second time
+// without threads for the halves.
 fn main() {
     let only = std::env::args().nth(1);
     for (size, called) in [(4096, "4K"), (1 << 20, "1M")] {
         for (work, verb) in [(Work::Write, "write"), (Work::Read, "read")] {
             for threads in [1, 4] {
                 for stripes in [1, 4, 16] {
-                    let row = Row { work, size, threads, stripes };
+                    let row = Row {
+                        work,
+                        size,
+                        threads,
+                        stripes,
+                    };
                     let name = format!("{verb} {called}, {threads} on {stripes}");
                     if only.as_ref().is_some_and(|only| *only != name) {
                         continue;
                     }
-                    for _ in 0..ROUNDS {
-                        let (nanos, sum) = round(row);
-                        let (blocks, bytes) = (TURNS * BLOCKS, TURNS * BYTES);
-                        println!("{name}: {blocks} {bytes} {sum} {nanos}");
+                    print_rounds(row, &name, true);
+                    if size > 512 * REGION && stripes > 1 {
+                        print_rounds(row, &format!("{name}, no threads"), false);
                     }
                 }
             }
