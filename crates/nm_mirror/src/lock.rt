@@ -52,8 +52,8 @@ impl<L: LegPart> Lock<L> {
         }
     }
 
-    // Waits for the stripe, which another thread has. A try takes the lock's cache line from whoever
-    // works on the stripe, so there are few.
+    // Waits for the stripe, which another thread has. A try takes the lock's cache line from the one
+    // that works on the stripe, so there are few.
     fn hold_taken<R: Wait>(&self, rt: &R) -> MutexGuard<'_, Stripe<L>> {
         for _ in 0..TRIES {
             for _ in 0..PAUSES {

@@ -1,7 +1,7 @@
 -- What the reading thread sends is what it read, up to the end that it tells last.
-use Rattle.std.proofs.Common.{◌≡◌, ℕ, Bool, false, List, [], ◌∷◌, ◌++◌, Option, refl, sym, ap, ◌∙◌, subst, append-nil}
+use Rattle.std.proofs.Common.{◌≡◌, ℕ, Bool, true, false, List, [], ◌∷◌, ◌++◌, Option, refl, sym, ap, ◌∙◌, subst, append-nil}
 use Rattle.std.specs.Io.KnownBytes.{Consumes}
-use Rattle.std.proofs.KnownBytes.{Consumes-trans}
+use Rattle.std.proofs.KnownBytes.{Consumes-trans, Consumes-nil}
 use Rattle.nm_mailbox.specs.declared.message.Piece.{Piece}
 use Rattle.nm_mailbox.specs.declared.message.Piece.TheVariants.{Bytes, Ended, Failed}
 use Rattle.nm_workers.specs.Pieces.{bytes_of}
@@ -97,6 +97,17 @@ stops_reading input unread pieces reads = record {
   consumes = subst (Consumes input unread) (sym (append-nil (bytes_of pieces))) reads.consumes;
   at_end = λ front after same. absurd (no_end pieces front after reads.are_bytes same);
 }
+
+-- nothing was read yet
+pub reads_first : (input : Option (List ℕ)) (pieces : List Piece) (goes : Bool) → pieces ≡ [] → goes ≡ true
+    → Goes goes input input pieces
+reads_first input pieces goes none is = rw (none, is) record { are_bytes = tt; consumes = Consumes-nil input }
+
+-- whether it would go on or not, that is what was read
+pub has_read : (goes : Bool) (input unread : Option (List ℕ)) (pieces : List Piece) → Goes goes input unread pieces
+    → HasRead input unread pieces
+has_read true input unread pieces reads = stops_reading input unread pieces reads
+has_read false input unread pieces read = read
 
 module _ (bytes old new : Option (List ℕ)) (before after : List Piece) (result : Bool)
     (reads : ReadsOn bytes old before) where

@@ -1,5 +1,5 @@
 -- What the parts of a round do together.
-use Rattle.std.proofs.Common.{◌≡◌, ℕ, List, Option, refl, sym, subst}
+use Rattle.std.proofs.Common.{◌≡◌, ℕ, List, Option, Result, Ok, Err, IfOk, IfErr, refl, sym, subst}
 use Rattle.nm_mailbox.specs.declared.message.Message.{Message}
 use Rattle.nm_session.proofs.Pieces.{none_after_send}
 use Rattle.nm_session.specs.declared.serve_fault.ServeFault.{ServeFault}
@@ -13,7 +13,7 @@ use Rattle.nm_workers.specs.declared.attended.Attended.{Attended}
 use Rattle.nm_workers.specs.declared.attended.Attended.TheVariants as attended
 use Rattle.nm_workers.specs.declared.input.Input.{Input}
 use Rattle.nm_workers.specs.declared.input.Input.TheVariants as input
-use Rattle.nm_workers.specs.Moving.{Stand, stand, Moves, BreaksOff, IsKnown, IsOverAt, Attends, IsAttended}
+use Rattle.nm_workers.specs.Moving.{Stand, stand, Moves, BreaksOff, IsKnown, IsOverAt, Attends, IsAttended, EndsAs}
 use Rattle.nm_workers.proofs.Steps.{moves_on, breaks_on, stops, reads, sends, sends_part}
 
 -- a move, and then the rest of the session
@@ -30,7 +30,23 @@ attends_on served a b c first second = record {
 pub attended_on : (attended : Attended) (a b c : Stand) → Moves a b → IsAttended attended b c
     → IsAttended attended a c
 attended_on (attended.On next) a b c first (second, known) = (moves_on a b c first second, known)
+attended_on (attended.Turns next) a b c first (second, known) = (moves_on a b c first second, known)
 attended_on (attended.Over served) a b c first second = attends_on served a b c first second
+
+-- a move, and then the session's end
+pub ends_on : (result : Result Served ServeFault) (a b c : Stand) → Moves a b → EndsAs result b c → EndsAs result a c
+ends_on (Ok served) a b c first second = attends_on served a b c first second
+ends_on (Err found) a b c first second = breaks_on found a b c first second
+
+pub ends_ok : (result : Result Served ServeFault) (a b : Stand) → EndsAs result a b
+    → IfOk result (λ served. Attends served a b)
+ends_ok (Ok served) a b ends = ends
+ends_ok (Err found) a b ends = tt
+
+pub ends_err : (result : Result Served ServeFault) (a b : Stand) → EndsAs result a b
+    → IfErr result (λ found. BreaksOff found a b)
+ends_err (Ok served) a b ends = tt
+ends_err (Err found) a b ends = ends
 
 -- there is no memory, after a move
 pub stops_there : (found : ServeFault) → found ≡ fault.Memory → (a b : Stand) → Moves a b → BreaksOff found a b

@@ -1,5 +1,5 @@
 -- How a session moves on while its threads read and call its targets.
-use Rattle.std.specs.Prelude.{◌≡◌, ℕ, ◌<◌, ◌⊎◌, List, [], ◌++◌, length, take, Option}
+use Rattle.std.specs.Prelude.{◌≡◌, ℕ, ◌<◌, ◌⊎◌, List, [], ◌++◌, length, take, Option, Result, Ok, Err}
 use Rattle.std.specs.Io.KnownBytes.{Appends}
 use Rattle.nm_mailbox.specs.declared.message.Message.{Message}
 use Rattle.nm_mailbox.specs.declared.message.Message.TheVariants as message
@@ -22,6 +22,8 @@ use Rattle.nm_workers.specs.declared.input.Input.{Input}
 use Rattle.nm_workers.specs.declared.input.Input.TheVariants as input
 use Rattle.nm_workers.specs.declared.pause.Pause.{Pause}
 use Rattle.nm_workers.specs.declared.pause.Pause.TheVariants as pause
+use Rattle.nm_workers.specs.declared.stretch.Stretch.{Stretch}
+use Rattle.nm_workers.specs.declared.stretch.Stretch.TheVariants as stretch
 use Rattle.nm_workers.specs.Pieces.{bytes_of, HasEnded}
 
 -- a session at one moment: its core, the messages that its threads sent and that were received, and
@@ -110,4 +112,15 @@ pub record Attends (served : Served) (from to : Stand) : Type 0 where
 -- a round leads to the next one, or to the session's end
 abbrev pub IsAttended : Attended → Stand → Stand → Type 0
 IsAttended (attended.On next) from to = Moves from to × IsKnown next to.heard
+IsAttended (attended.Turns next) from to = Moves from to × IsKnown next to.heard
 IsAttended (attended.Over served) from to = Attends served from to
+
+-- requests are answered up to the session's end, or a fault breaks it off
+abbrev pub EndsAs : Result Served ServeFault → Stand → Stand → Type 0
+EndsAs (Ok served) from to = Attends served from to
+EndsAs (Err fault) from to = BreaksOff fault from to
+
+-- some rounds lead to where another thread is to read, or to the session's end
+abbrev pub IsStretch : Stretch → Stand → Stand → Type 0
+IsStretch (stretch.Turns next) from to = Moves from to × IsKnown next to.heard
+IsStretch (stretch.Ended result) from to = EndsAs result from to

@@ -1,8 +1,10 @@
--- What the reading thread did.
+-- What was read, on whichever thread.
 use Rattle.std.specs.Prelude.{◌≡◌, ℕ, Bool, true, false, List, [], ◌∷◌, ◌++◌, Option}
 use Rattle.std.specs.Io.KnownBytes.{Consumes, IsAtEnd}
 use Rattle.nm_mailbox.specs.declared.message.Piece.{Piece}
 use Rattle.nm_mailbox.specs.declared.message.Piece.TheVariants.{Bytes, Ended, Failed}
+use Rattle.nm_mailbox.specs.Ends.{pieces_by}
+use Rattle.nm_workers.specs.declared.read_side.ReadSide.{ReadSide}
 use Rattle.nm_workers.specs.Pieces.{bytes_of}
 
 -- one read: it gave these bytes, or found the end, or failed
@@ -41,3 +43,9 @@ pub record HasRead (input unread : Option (List ℕ)) (pieces : List Piece) : Ty
 abbrev pub Goes : Bool → (input unread : Option (List ℕ)) → List Piece → Type 0
 Goes true input unread pieces = ReadsOn input unread pieces
 Goes false input unread pieces = HasRead input unread pieces
+
+-- what was read by then and sent, and more
+abbrev pub ReadsFurther : {I : Type 0} → (I → Option (List ℕ)) → (old new : ReadSide I) → Type 0
+ReadsFurther remaining old new = (input : Option (List ℕ))
+    → Goes old.goes_on input (remaining old.reader) (pieces_by old.pieces)
+    → Goes new.goes_on input (remaining new.reader) (pieces_by new.pieces)

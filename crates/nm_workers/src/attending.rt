@@ -6,18 +6,20 @@ ghost use Rattle.nm_session.specs.declared.serve_fault.ServeFault.TheVariants.{M
 ghost use Rattle.nm_wire.specs.Export.{size_of};
 ghost use Rattle.nm_workers.specs.declared.input.Input.TheVariants.{Ended};
 ghost use Rattle.nm_workers.specs.Moving.{stand, BreaksOff, PausesAt, IsKnown, Attends};
-ghost use Rattle.nm_workers.specs.Moving.{IsAttended, IsOverAt};
+ghost use Rattle.nm_workers.specs.Moving.{IsAttended, IsOverAt, IsStretch};
 
+use crate::alone::note_held;
 use crate::attended::Attended;
 use crate::crew::{Crew, give_held};
 use crate::desk::Desk;
-use crate::doing_here::{do_here, is_done_here};
 use crate::extent::Extent;
 use crate::handing::hand_out;
 use crate::hearing::listen;
 use crate::input::Input;
 use crate::leave::Leave;
+use crate::leaves::LeaveSender;
 use crate::pause::Pause;
+use crate::stretch::Stretch;
 use nm_mailbox::Inbox;
 use nm_replies::ReplyWriter;
 use nm_session::{Called, End, ServeFault, Served, SessionCore, Target, send_out};
@@ -26,36 +28,36 @@ use std::io::Write;
 use std::sync::Wait;
 use std::thread::Threads;
 
-// Hands out requests, hears what the threads tell and sends replies until the session ends. The
-// threads end after it, since the desk is gone then.
+// Hands out requests, hears what the threads tell and sends replies until the session ends, or no
+// thread needs to read any more. The thread that reads gets no leave after it.
 pub(crate) fn attend<'s, S, E, R, O, T>(
     rt: &'s R,
     alloc: Global,
     core: &mut SessionCore,
     sender: &mut ReplyWriter<O>,
     inbox: &mut Inbox<Called>,
-    mut desk: Desk<'_, Crew<'_, 's, S, E, T>>,
-) -> Result<Served, ServeFault>
+    desk: &mut Desk<'_, Crew<'_, 's, S, E, T>>,
+    mut leaves: LeaveSender,
+    mut input: Input,
+) -> Stretch
 where
     E: Extent + Send + 's,
     R: Threads + Wait + Sync + 's,
     O: Write,
     T: Target + Send + Drop + 's,
     requires size { size_of core.old.haggling.export ≤ E.bytes }
-    ensures ok { IfOk result (λ served. Attends served
+    requires known { IsKnown input (received_by inbox.old) }
+    ensures stretch { IsStretch result
         (stand core.old (received_by inbox.old) (O.contents (device_of sender.old)))
-        (stand core.new (received_by inbox.new) (O.contents (device_of sender.new)))) }
-    ensures err { IfErr result (λ fault. BreaksOff fault
-        (stand core.old (received_by inbox.old) (O.contents (device_of sender.old)))
-        (stand core.new (received_by inbox.new) (O.contents (device_of sender.new)))) }
+        (stand core.new (received_by inbox.new) (O.contents (device_of sender.new))) }
     ensures channel { IsSameInbox inbox.new inbox.old }
 {
-    let mut input = Input::Idle;
     'rounds: for _ in rt.forever() {
-        match attend_once(rt, alloc, core, sender, inbox, &mut desk, input) {
+        match attend_once(rt, alloc, core, sender, inbox, desk, &mut leaves, input) {
             Ok(Attended::On(next)) => input = next,
-            Ok(Attended::Over(served)) => return Ok(served),
-            Err(fault) => return Err(fault),
+            Ok(Attended::Turns(next)) => return Stretch::Turns(next),
+            Ok(Attended::Over(served)) => return Stretch::Ended(Ok(served)),
+            Err(fault) => return Stretch::Ended(Err(fault)),
         }
     }
     unreachable!()
@@ -64,7 +66,8 @@ where
 // Hands out the requests that are there, sends the replies that wait in one write and, unless the
 // session is over, waits for what the threads tell. Where no request is left it gives the leave to
 // read, and does so before the last one is given to a worker: the thread that reads mostly looks
-// for it still then, and to give a job takes longer where a worker has to be woken for it.
+// for it still then, and to give a job takes longer where a worker has to be woken for it. It does
+// neither where the owner is to do the last one itself.
 fn attend_once<'s, S, E, R, O, T>(
     rt: &'s R,
     alloc: Global,
@@ -72,6 +75,7 @@ fn attend_once<'s, S, E, R, O, T>(
     sender: &mut ReplyWriter<O>,
     inbox: &mut Inbox<Called>,
     desk: &mut Desk<'_, Crew<'_, 's, S, E, T>>,
+    leaves: &mut LeaveSender,
     input: Input,
 ) -> Result<Attended, ServeFault>
 where
@@ -93,16 +97,14 @@ where
         Ok(pause) => pause,
         Err(fault) => return Err(fault),
     };
-    let input = match ask_for_piece(rt, alloc, core, pause, input, desk) {
+    note_held(core, desk);
+    if desk.crew.holds_job() && desk.streak.is_long() && input != Input::Coming {
+        return Ok(Attended::Turns(input));
+    }
+    let input = match ask_for_piece(rt, alloc, core, pause, input, desk, leaves) {
         Ok(input) => input,
         Err(fault) => return Err(fault),
     };
-    if is_done_here(core, pause, desk) {
-        return match do_here(rt, alloc, core, sender, inbox, desk, input) {
-            Ok(attended) => Ok(attended),
-            Err(fault) => Err(fault),
-        };
-    }
     if give_held(rt, alloc, &mut desk.crew, core.under_way()).is_err() {
         return Err(ServeFault::Memory);
     }
@@ -127,27 +129,27 @@ fn ask_for_piece<R: Wait, C>(
     pause: Pause,
     input: Input,
     desk: &mut Desk<'_, C>,
+    leaves: &mut LeaveSender,
 ) -> Result<Input, ServeFault>
     requires pause { PausesAt pause core.now }
     ensures ok { IfOk result (λ next. next ≡ Ended → input ≡ Ended) }
     ensures memory { IfErr result (λ fault. fault ≡ Memory) }
 {
-    match (pause, input) {
-        (Pause::Starved, Input::Idle) => {
-            let Ok(leave) = Leave::new(alloc, core, input, &mut desk.room) else {
-                return Err(ServeFault::Memory);
-            };
-            if !desk.leaves.send(rt, leave) {
-                return Err(ServeFault::Memory);
+    match Leave::next(alloc, core, pause, input, &mut desk.room) {
+        Ok(Some(leave)) => {
+            if leaves.send(rt, leave) {
+                Ok(Input::Coming)
+            } else {
+                Err(ServeFault::Memory)
             }
-            Ok(Input::Coming)
         }
-        _ => Ok(input),
+        Ok(None) => Ok(input),
+        Err(_) => Err(ServeFault::Memory),
     }
 }
 
 // The session's end, if it has come: nothing more is read and no request is outstanding.
-fn over(core: &SessionCore, pause: Pause, input: Input) -> Option<Served>
+pub(crate) fn over(core: &SessionCore, pause: Pause, input: Input) -> Option<Served>
     requires pause { PausesAt pause core.now }
     ensures { IfSome result (λ served. IsOverAt served core.now input) }
 {

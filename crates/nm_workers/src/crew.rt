@@ -115,6 +115,11 @@ impl<'a, 's, S, E: Extent, T: Target> Crew<'a, 's, S, E, T> {
         }
     }
 
+    // The scope of the workers' threads.
+    pub(crate) fn scope(&self) -> &'a Scope<'s, S> {
+        self.scope
+    }
+
     // Whether a job is held back.
     pub(crate) fn holds_job(&self) -> bool {
         self.held.is_some()

@@ -54,35 +54,6 @@ pub(crate) fn listen<R: Wait, C>(
     Ok(input)
 }
 
-// Takes a message that waits, if there is one. Its client did not wait for the replies to come then.
-pub(crate) fn hear_waiting<R: Wait, C>(
-    rt: &R,
-    alloc: Global,
-    core: &mut SessionCore,
-    inbox: &mut Inbox<Called>,
-    input: Input,
-    desk: &mut Desk<'_, C>,
-) -> Result<Input, ServeFault>
-    requires known { IsKnown input (received_by inbox.old) }
-    ensures ok { IfOk result (λ next. (output : Option (List ℕ))
-        → Moves (stand core.old (received_by inbox.old) output)
-        (stand core.new (received_by inbox.new) output)) }
-    ensures known { IfOk result (λ next. IsKnown next (received_by inbox.new)) }
-    ensures err { IfErr result (λ fault. (output : Option (List ℕ))
-        → BreaksOff fault (stand core.old (received_by inbox.old) output)
-        (stand core.new (received_by inbox.new) output)) }
-    ensures channel { IsSameInbox inbox.new inbox.old }
-{
-    let Some(message) = inbox.try_recv(rt) else {
-        return Ok(input);
-    };
-    desk.streak.note(false);
-    match hear(alloc, core, message, input, &mut desk.room) {
-        Ok(next) => Ok(next),
-        Err(fault) => Err(fault),
-    }
-}
-
 // Feeds the piece to the core, and lets the room for the next one follow it, or answers a request
 // with what came of its task. Gives what is known then of the client's bytes.
 fn hear(

@@ -1,8 +1,10 @@
 ghost use Rattle.std.specs.Prelude.{◌≡◌, ◌<◌, vec_len};
 ghost use Rattle.nm_session.specs.Turning.{IsStarved};
 ghost use Rattle.nm_workers.specs.declared.input.Input.TheVariants.{Idle};
+ghost use Rattle.nm_workers.specs.Moving.{PausesAt};
 
 use crate::input::Input;
+use crate::pause::Pause;
 use crate::room::Room;
 use nm_session::SessionCore;
 use nm_wire::Memory;
@@ -16,8 +18,25 @@ pub struct Leave {
 }
 
 impl Leave {
+    // The leave to read the next piece, where no whole request is there, no piece is still to come,
+    // and the client's bytes have not ended.
+    pub(crate) fn next(
+        alloc: Global,
+        core: &SessionCore,
+        pause: Pause,
+        input: Input,
+        room: &mut Room,
+    ) -> Result<Option<Leave>, Memory>
+        requires pause { PausesAt pause core.now }
+    {
+        match (pause, input) {
+            (Pause::Starved, Input::Idle) => Ok(Some(Leave::new(alloc, core, input, room)?)),
+            _ => Ok(None),
+        }
+    }
+
     // A leave with this room, where no whole request is there and no read is under way.
-    pub(crate) fn new(
+    fn new(
         alloc: Global,
         _core: &SessionCore,
         _input: Input,

@@ -1,42 +1,76 @@
-//! The thread that reads what the client sends.
-ghost use Rattle.std.specs.Prelude.{◌≡◌, [], ℕ, List, Option};
+//! Reading what the client sends: on a thread of its own, or on that of the session's owner.
+ghost use Rattle.std.specs.Prelude.{◌≡◌, ℕ, List, Option, IfOk, IfErr};
 ghost use Rattle.nm_mailbox.specs.Ends.{pieces_by, IsSameEnd};
-ghost use Rattle.nm_workers.specs.Reading.{Gives, ReadsOn, HasRead, Goes};
+ghost use Rattle.nm_workers.specs.Reading.{Gives, ReadsOn, Goes, ReadsFurther};
 ghost use Rattle.nm_workers.specs.Reading as reading;
 
 use crate::leave::Leave;
-use crate::leaves::LeaveReceiver;
+use crate::leaves::{LeaveReceiver, LeaveSender, leave_channel};
 use crate::read_side::ReadSide;
 use nm_mailbox::{Piece, PieceEnd};
 use nm_session::Called;
+use std::alloc::Global;
 use std::io::Read;
 use std::snapshot::Snapshot;
 use std::sync::Wait;
-use std::thread::Promise;
+use std::thread::{Promise, PromisedHandle, Scope};
+
+// Starts a thread that reads a piece for each leave. Where there is no memory or no thread for it,
+// the reader comes back.
+pub(crate) fn start_reading<'s, S, R, I>(
+    rt: &'s R,
+    alloc: Global,
+    scope: &Scope<'s, S>,
+    side: ReadSide<I>,
+) -> Result<(LeaveSender, PromisedHandle<ReadSide<I>, AllRead<I>>), ReadSide<I>>
+where
+    R: Wait + Sync + 's,
+    I: Read + Send + Drop + 's,
+    ensures ok { IfOk result (λ started. started.1.promise.0.value ≡ side) }
+    ensures reads { IfErr result (λ back. ReadsFurther I.remaining side back) }
+    ensures channel { IfErr result (λ back. IsSameEnd back.pieces side.pieces) }
+{
+    let Ok((leaves, given)) = leave_channel(alloc) else {
+        return Err(side);
+    };
+    let promise = AllRead(Snapshot::of(&side));
+    match scope.spawn_with(promise, move || read_pieces(rt, side, given)) {
+        Ok(thread) => Ok((leaves, thread)),
+        Err(refused) => {
+            drop(leaves);
+            let read = refused.value;
+            Err(read())
+        }
+    }
+}
 
 // Reads one piece for each leave and sends it, until the client's bytes end, a read fails, or no
 // further leave comes.
-pub(crate) fn read_pieces<R: Wait, I: Read + Drop>(
-    rt: &R,
-    reader: I,
-    pieces: PieceEnd<Called>,
-    leaves: LeaveReceiver,
-) -> ReadSide<I>
-    requires none { pieces_by pieces ≡ [] }
-    ensures read { HasRead (I.remaining reader) (I.remaining result.reader)
-        (pieces_by result.pieces) }
-    ensures channel { IsSameEnd result.pieces pieces }
+fn read_pieces<R: Wait, I: Read>(rt: &R, side: ReadSide<I>, leaves: LeaveReceiver) -> ReadSide<I>
+    ensures reads { ReadsFurther I.remaining side result }
+    ensures channel { IsSameEnd result.pieces side.pieces }
 {
-    let (mut side, mut leaves) = (ReadSide { reader, pieces }, leaves);
+    let (mut side, mut leaves) = (side, leaves);
     'leaves: for _ in rt.forever() {
         let Some(leave) = leaves.recv(rt) else {
             return side;
         };
-        if !read_piece(rt, &mut side.reader, &mut side.pieces, leave) {
+        read_on(rt, &mut side, leave);
+        if !side.goes_on {
             return side;
         }
     }
     unreachable!()
+}
+
+// Reads a piece and sends it, unless no more is to be read.
+pub(crate) fn read_on<R: Wait, I: Read>(rt: &R, side: &mut ReadSide<I>, leave: Leave)
+    ensures reads { ReadsFurther I.remaining side.old side.new }
+    ensures channel { IsSameEnd side.new.pieces side.old.pieces }
+{
+    if side.goes_on {
+        side.goes_on = read_piece(rt, &mut side.reader, &mut side.pieces, leave);
+    }
 }
 
 // Reads a piece and sends it. False where no more is to be read.
@@ -85,19 +119,14 @@ fn take_piece<I: Read>(reader: &mut I, leave: Leave) -> Piece
     Piece::Bytes(room)
 }
 
-// What the reading thread promises, by the reader and the end that it starts with.
+// What the reading thread promises, by the side that it starts with.
 #[derive(Drop)]
-pub(crate) struct AllRead<I>(
-    pub(crate) Snapshot<I>,
-    pub(crate) Snapshot<PieceEnd<Called>>,
-);
+pub(crate) struct AllRead<I>(pub(crate) Snapshot<ReadSide<I>>);
 
 impl<I: Read> Promise<ReadSide<I>> for AllRead<I> {
-    ghost use Rattle.std.specs.Prelude.{◌≡◌};
-    ghost use Rattle.nm_mailbox.specs.Ends.{pieces_by, IsSameEnd};
-    ghost use Rattle.nm_workers.specs.Reading.{HasRead};
+    ghost use Rattle.nm_mailbox.specs.Ends.{IsSameEnd};
+    ghost use Rattle.nm_workers.specs.Reading.{ReadsFurther};
 
-    ghost kept_by = { λ promise side. HasRead (I.remaining promise.0.value)
-        (I.remaining side.reader) (pieces_by side.pieces)
-        × IsSameEnd side.pieces promise.1.value };
+    ghost kept_by = { λ promise side. ReadsFurther I.remaining promise.0.value side
+        × IsSameEnd side.pieces promise.0.value.pieces };
 }

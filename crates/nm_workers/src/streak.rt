@@ -1,12 +1,15 @@
 // How many requests in a row make a streak.
-const ENOUGH: u8 = 16;
+const ENOUGH: u16 = 16;
 
-// How many requests in a row came alone, up to a streak: no other one was outstanding, and nothing
-// more had come by the time they were done. A client that waits for each reply before it sends the
-// next request has a streak.
+// After how many requests a streak begins anew, so that a client which no longer waits for replies is
+// noticed.
+const MOST: u16 = 1024;
+
+// How many requests in a row were small and came alone: no other one was outstanding then. A client
+// that waits for each reply before it sends the next request has a streak.
 #[derive(Clone, Copy, Drop)]
 pub struct Streak {
-    alone: u8,
+    alone: u16,
 }
 
 impl Streak {
@@ -15,15 +18,15 @@ impl Streak {
         Streak { alone: 0 }
     }
 
-    // Whether enough requests in a row came alone.
+    // Whether enough requests in a row were so.
     pub(crate) fn is_long(&self) -> bool {
-        self.alone == ENOUGH
+        self.alone >= ENOUGH
     }
 
-    // Notes a request, which came alone or not.
+    // Notes a request, which was small and alone or not.
     pub(crate) fn note(&mut self, alone: bool) {
-        self.alone = if alone {
-            self.alone.saturating_add(1).min(ENOUGH)
+        self.alone = if alone && self.alone < MOST {
+            self.alone + 1
         } else {
             0
         };

@@ -1,30 +1,27 @@
 //! The threads of a session: one that reads, and those of its workers.
-ghost use Rattle.std.specs.Prelude.{◌≡◌, ◌≤◌, [], All, IfOk, IfErr, vec_len};
+ghost use Rattle.std.specs.Prelude.{◌≡◌, ◌≤◌, [], true, All, IfOk, IfErr, vec_len};
 ghost use Rattle.nm_mailbox.specs.Ends.{pieces_by, received_by, SendsTo};
 ghost use Rattle.nm_replies.specs.Sending.{device_of};
 ghost use Rattle.nm_wire.specs.Export.{size_of};
 ghost use Rattle.nm_workers.specs.Serving.{Ends, Breaks};
 
-use crate::attending::attend;
 use crate::crew::{Crew, Roster};
 use crate::desk::Desk;
 use crate::extent::Extent;
 use crate::finished::Finished;
-use crate::leaves::leave_channel;
 use crate::looking::Looking;
 use crate::lookout::Lookout;
 use crate::read_side::ReadSide;
-use crate::reading::{AllRead, read_pieces};
 use crate::room::Room;
 use crate::streak::Streak;
+use crate::turns::{AllAttended, take_turns};
 use nm_mailbox::{Inbox, mailbox};
 use nm_replies::ReplyWriter;
 use nm_session::{Called, ServeFault, SessionCore, Target};
 use std::alloc::Global;
 use std::io::{Read, Write};
-use std::snapshot::Snapshot;
 use std::sync::Wait;
-use std::thread::{self, PromisedHandle, Threads};
+use std::thread::{self, Threads};
 
 // Serves the requests of a session whose haggling has ended.
 pub(crate) fn serve_requests<E, R, I, O, T>(
@@ -52,9 +49,6 @@ where
     let Ok((pieces, ends, inbox)) = mailbox::<Called>(alloc, targets.len()) else {
         return broken_off(sender);
     };
-    let Ok((leaves, given)) = leave_channel(alloc) else {
-        return broken_off(sender);
-    };
     let Ok(roster) = Roster::<E, T>::new(alloc, targets, ends) else {
         return broken_off(sender);
     };
@@ -70,21 +64,14 @@ where
             ensures err { IfErr result.result (λ fault. Breaks fault core (I.remaining reader)
                 (O.contents (device_of sender)) (O.contents (device_of result.sender))) }
         {
-            let promise = AllRead(Snapshot::of(&reader), Snapshot::of(&pieces));
-            let Ok(reading) = scope.spawn_with(
-                promise,
-                move || read_pieces(rt, reader, pieces, given),
-            ) else {
-                return broken_off(sender);
-            };
             let desk = Desk {
                 crew: Crew::new(scope, roster),
-                leaves,
                 room: Room::new(alloc),
                 looking: Looking::new(lookout),
                 streak: Streak::new(),
             };
-            own(rt, alloc, core, sender, inbox, desk, reading)
+            let side = ReadSide::new(reader, pieces);
+            own(rt, alloc, core, sender, inbox, desk, side)
         },
     )
 }
@@ -100,7 +87,7 @@ fn broken_off<O>(sender: ReplyWriter<O>) -> Finished<O>
     }
 }
 
-// Owns the session's core until its end, and then waits for the read under way.
+// Owns the session's core until its end.
 fn own<'s, S, E, R, I, O, T>(
     rt: &'s R,
     alloc: Global,
@@ -108,27 +95,26 @@ fn own<'s, S, E, R, I, O, T>(
     sender: ReplyWriter<O>,
     inbox: Inbox<Called>,
     desk: Desk<'_, Crew<'_, 's, S, E, T>>,
-    reading: PromisedHandle<ReadSide<I>, AllRead<I>>,
+    side: ReadSide<I>,
 ) -> Finished<O>
 where
     E: Extent + Send + 's,
     R: Threads + Wait + Sync + 's,
-    I: Read + Send + Drop,
+    I: Read + Send + Drop + 's,
     O: Write + Drop,
     T: Target + Send + Drop + 's,
     requires size { size_of core.haggling.export ≤ E.bytes }
-    requires fresh { received_by inbox ≡ [] }
-    requires channel { SendsTo reading.promise.1.value inbox }
-    ensures ok { IfOk result.result (λ served. Ends served core
-        (I.remaining reading.promise.0.value)
+    requires fresh { (pieces_by side.pieces ≡ []) × (received_by inbox ≡ []) }
+    requires goes_on { side.goes_on ≡ true }
+    requires channel { SendsTo side.pieces inbox }
+    ensures ok { IfOk result.result (λ served. Ends served core (I.remaining side.reader)
         (O.contents (device_of sender)) (O.contents (device_of result.sender))) }
-    ensures err { IfErr result.result (λ fault. Breaks fault core
-        (I.remaining reading.promise.0.value)
+    ensures err { IfErr result.result (λ fault. Breaks fault core (I.remaining side.reader)
         (O.contents (device_of sender)) (O.contents (device_of result.sender))) }
 {
     let (mut core, mut sender, mut inbox) = (core, sender, inbox);
-    let result = attend(rt, alloc, &mut core, &mut sender, &mut inbox, desk);
-    let ReadSide { reader: _, pieces } = reading.join(rt);
-    pieces.settle(&mut inbox);
+    let attended = take_turns(rt, alloc, &mut core, &mut sender, &mut inbox, desk, side);
+    let AllAttended { result, side } = attended;
+    side.pieces.settle(&mut inbox);
     Finished { result, sender }
 }

@@ -4,6 +4,8 @@
 #![tactic(auto)]
 
 #[cfg(test)]
+mod alone;
+#[cfg(test)]
 mod changed;
 pub mod counting_writer;
 #[cfg(test)]

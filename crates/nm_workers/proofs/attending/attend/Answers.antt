@@ -5,14 +5,14 @@ use Rattle.nm_replies.specs.Sending.{device_of}
 use Rattle.nm_workers.specs.declared.attended.Attended.TheVariants as attended
 use Rattle.nm_workers.specs.Moving.{stand, IsAttended}
 use Rattle.nm_workers.proofs.Requests.{size_stays}
-use Rattle.nm_workers.proofs.Rounds.{attends_on}
+use Rattle.nm_workers.proofs.Rounds.{attended_on}
 use Rattle.nm_workers.proofs.Steps.{moves_on, moves_nowhere, breaks_on}
 use Rattle.nm_workers.proofs.attending.attend.Goals as goal
 
 pub rounds-init : goal.rounds-init
 rounds-init g c = record {
   moves = moves_nowhere (stand c.args.core.now (received_by c.args.inbox.now) (g.O.Write.contents (device_of c.args.sender.now)));
-  known = tt;
+  known = c.requires.known;
   channel = refl;
 }
 
@@ -35,17 +35,26 @@ rounds-preserved g c =
       channel = c.in-Ok-On.ensures.channel ∙ c.rounds.invariant.channel;
     }
 
-pub returns-in-Ok-Over-clause-ok : goal.returns-in-Ok-Over-clause-ok
-returns-in-Ok-Over-clause-ok g c =
+pub returns-in-Ok-Turns-clause-stretch : goal.returns-in-Ok-Turns-clause-stretch
+returns-in-Ok-Turns-clause-stretch g c =
     let start = stand c.args.core.now (received_by c.args.inbox.now) (g.O.Write.contents (device_of c.args.sender.now)) in
     let here = stand c.rounds.core (received_by c.rounds.inbox) (g.O.Write.contents (device_of c.rounds.sender)) in
     let there = stand c.attend_once.new.core (received_by c.attend_once.new.inbox)
     (g.O.Write.contents (device_of c.attend_once.new.sender)) in
-    attends_on c.in-Ok-Over.served start here there c.rounds.invariant.moves
+    attended_on (attended.Turns c.in-Ok-Turns.next) start here there c.rounds.invariant.moves
+    (rw c.in-Ok-Turns.field-0-is at c.in-Ok-Turns.ensures.ok)
+
+pub returns-in-Ok-Over-clause-stretch : goal.returns-in-Ok-Over-clause-stretch
+returns-in-Ok-Over-clause-stretch g c =
+    let start = stand c.args.core.now (received_by c.args.inbox.now) (g.O.Write.contents (device_of c.args.sender.now)) in
+    let here = stand c.rounds.core (received_by c.rounds.inbox) (g.O.Write.contents (device_of c.rounds.sender)) in
+    let there = stand c.attend_once.new.core (received_by c.attend_once.new.inbox)
+    (g.O.Write.contents (device_of c.attend_once.new.sender)) in
+    attended_on (attended.Over c.in-Ok-Over.served) start here there c.rounds.invariant.moves
     (rw c.in-Ok-Over.field-0-is at c.in-Ok-Over.ensures.ok)
 
-pub returns-in-Err-clause-err : goal.returns-in-Err-clause-err
-returns-in-Err-clause-err g c =
+pub returns-in-Err-clause-stretch : goal.returns-in-Err-clause-stretch
+returns-in-Err-clause-stretch g c =
     let start = stand c.args.core.now (received_by c.args.inbox.now) (g.O.Write.contents (device_of c.args.sender.now)) in
     let here = stand c.rounds.core (received_by c.rounds.inbox) (g.O.Write.contents (device_of c.rounds.sender)) in
     let there = stand c.attend_once.new.core (received_by c.attend_once.new.inbox)

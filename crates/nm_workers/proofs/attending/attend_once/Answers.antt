@@ -4,7 +4,7 @@ use Rattle.nm_mailbox.specs.Ends.{received_by}
 use Rattle.nm_replies.specs.Sending.{device_of}
 use Rattle.nm_session.specs.declared.serve_fault.ServeFault.TheVariants as fault
 use Rattle.nm_workers.specs.Moving.{stand}
-use Rattle.nm_workers.proofs.Rounds.{attended_on, stops_there, known_as, reads_sends, reads_sends_part, over_there}
+use Rattle.nm_workers.proofs.Rounds.{stops_there, known_as, reads_sends, reads_sends_part, over_there}
 use Rattle.nm_workers.proofs.Steps.{moves_on, breaks_on, reads}
 use Rattle.nm_workers.proofs.attending.attend_once.Goals as goal
 
@@ -20,25 +20,12 @@ returns-in-Err-ask_for_piece-clause-err g c =
     (reads c.args.core.now c.hand_out.new.core (received_by c.args.inbox.now)
     (g.O.Write.contents (device_of c.args.sender.now)) c.in-Ok.ensures.ok)
 
-pub returns-in-Ok-do_here-clause-ok : goal.returns-in-Ok-do_here-clause-ok
-returns-in-Ok-do_here-clause-ok g c =
-    attended_on c.in-Ok-do_here.attended
-    (stand c.args.core.now (received_by c.args.inbox.now) (g.O.Write.contents (device_of c.args.sender.now)))
-    (stand c.hand_out.new.core (received_by c.args.inbox.now) (g.O.Write.contents (device_of c.args.sender.now)))
-    (stand c.do_here.new.core (received_by c.do_here.new.inbox) (g.O.Write.contents (device_of c.do_here.new.sender)))
-    (reads c.args.core.now c.hand_out.new.core (received_by c.args.inbox.now)
-    (g.O.Write.contents (device_of c.args.sender.now)) c.in-Ok.ensures.ok)
-    c.in-Ok-do_here.ensures.ok
-
-pub returns-in-Err-do_here-clause-err : goal.returns-in-Err-do_here-clause-err
-returns-in-Err-do_here-clause-err g c =
-    breaks_on c.in-Err-do_here.fault
-    (stand c.args.core.now (received_by c.args.inbox.now) (g.O.Write.contents (device_of c.args.sender.now)))
-    (stand c.hand_out.new.core (received_by c.args.inbox.now) (g.O.Write.contents (device_of c.args.sender.now)))
-    (stand c.do_here.new.core (received_by c.do_here.new.inbox) (g.O.Write.contents (device_of c.do_here.new.sender)))
-    (reads c.args.core.now c.hand_out.new.core (received_by c.args.inbox.now)
-    (g.O.Write.contents (device_of c.args.sender.now)) c.in-Ok.ensures.ok)
-    c.in-Err-do_here.ensures.err
+pub returns-then-ne-clause-ok : goal.returns-then-ne-clause-ok
+returns-then-ne-clause-ok g c = (
+  reads c.args.core.now c.hand_out.new.core (received_by c.args.inbox.now)
+      (g.O.Write.contents (device_of c.args.sender.now)) c.in-Ok.ensures.ok,
+  c.requires.known,
+)
 
 pub returns-then-is_err-clause-err : goal.returns-then-is_err-clause-err
 returns-then-is_err-clause-err g c =

@@ -7,11 +7,6 @@ pub returns-in_default-clause-err : goal.returns-in_default-clause-err
 returns-in_default-clause-err g c =
     failed_err g.O.Write.contents _ _ _ _ _ c.broken_off.ensures.result c.broken_off.ensures.sender
 
-pub returns-in_default-leave_channel-clause-err : goal.returns-in_default-leave_channel-clause-err
-returns-in_default-leave_channel-clause-err g c =
-    failed_err g.O.Write.contents _ _ _ _ _ c.broken_off-in_default-leave_channel.ensures.result
-    c.broken_off-in_default-leave_channel.ensures.sender
-
 pub returns-in_default-new-clause-err : goal.returns-in_default-new-clause-err
 returns-in_default-new-clause-err g c =
     failed_err g.O.Write.contents _ _ _ _ _ c.broken_off-in_default-new.ensures.result
