@@ -5,6 +5,7 @@
 #![tactic(auto)]
 
 mod answering;
+mod client_reader;
 mod control_port;
 mod file_calls;
 mod handshake_reader;

@@ -4,6 +4,7 @@ ghost use Rattle.std.specs.Prelude.{IsSome, IfSome, IfOk};
 ghost use Rattle.nm_server.specs.Handshake.{HasGreeted};
 ghost use Rattle.nm_wire.specs.Export.{size_of};
 
+use crate::client_reader::ClientReader;
 use crate::file_calls::FileCalls;
 use crate::handshake_reader::HandshakeReader;
 use crate::hang_up::HangUp;
@@ -152,7 +153,8 @@ where
     requires size { size_of core.haggling.export ≤ 512 * mirror.now.blocks }
 {
     let targets = targets_of(alloc, mirror, passes, stream)?;
-    transmit(rt, alloc, core, stream, sender, targets, lookout).result?;
+    let reader = ClientReader::new(stream);
+    transmit(rt, alloc, core, reader, sender, targets, lookout).result?;
     Ok(())
 }
 

@@ -17,6 +17,7 @@ ghost use Rattle.nm_workers.specs.Reading.{ReadsFurther};
 use crate::answering::answer;
 use crate::attended::Attended;
 use crate::attending::over;
+use crate::busy_poll::BusyPoll;
 use crate::crew::Crew;
 use crate::desk::Desk;
 use crate::extent::Extent;
@@ -26,14 +27,13 @@ use crate::input::Input;
 use crate::leave::Leave;
 use crate::pause::Pause;
 use crate::read_side::ReadSide;
-use crate::reading::read_on;
-use crate::room::Room;
+use crate::reading::poll_and_read;
 use crate::stretch::Stretch;
 use nm_mailbox::Inbox;
 use nm_replies::ReplyWriter;
 use nm_session::{Called, ServeFault, SessionCore, Target, send_out};
 use std::alloc::Global;
-use std::io::{Read, Write};
+use std::io::Write;
 use std::sync::Wait;
 use std::thread::Threads;
 
@@ -63,7 +63,7 @@ pub(crate) fn attend_alone<'s, S, E, R, I, O, T>(
 where
     E: Extent + Send + 's,
     R: Threads + Wait + Sync + 's,
-    I: Read,
+    I: BusyPoll,
     O: Write,
     T: Target + Send + Drop + 's,
     requires size { size_of core.old.haggling.export ≤ E.bytes }
@@ -100,7 +100,7 @@ fn attend_once_alone<'s, S, E, R, I, O, T>(
 where
     E: Extent + Send + 's,
     R: Threads + Wait + Sync + 's,
-    I: Read,
+    I: BusyPoll,
     O: Write,
     T: Target + Send + Drop + 's,
     requires size { size_of core.old.haggling.export ≤ E.bytes }
@@ -138,7 +138,7 @@ where
     if let Some(served) = over(core, pause, input) {
         return Ok(Attended::Over(served));
     }
-    let input = match read_here(rt, alloc, core, pause, input, side, &mut desk.room) {
+    let input = match read_here(rt, alloc, core, pause, input, side, desk) {
         Ok(input) => input,
         Err(fault) => return Err(fault),
     };
@@ -190,14 +190,14 @@ fn answer_held<S, E: Extent, T: Target + Drop>(
 // Reads a piece where no whole request is there and the client's bytes have not ended, and sends it
 // to the mailbox, where it is heard next. No reply waits for what the client sends: no request is
 // outstanding.
-fn read_here<R: Wait, I: Read>(
+fn read_here<R: Wait, I: BusyPoll, C>(
     rt: &R,
     alloc: Global,
     core: &SessionCore,
     pause: Pause,
     input: Input,
     side: &mut ReadSide<I>,
-    room: &mut Room,
+    desk: &mut Desk<'_, C>,
 ) -> Result<Input, ServeFault>
     requires pause { PausesAt pause core.now }
     requires idle { core.now.outstanding ≡ [] }
@@ -206,9 +206,9 @@ fn read_here<R: Wait, I: Read>(
     ensures reads { ReadsFurther I.remaining side.old side.new }
     ensures end { IsSameEnd side.new.pieces side.old.pieces }
 {
-    match Leave::next(alloc, core, pause, input, room) {
+    match Leave::next(alloc, core, pause, input, &mut desk.room) {
         Ok(Some(leave)) => {
-            read_on(rt, side, leave);
+            poll_and_read(rt, &mut desk.looking, side, leave);
             Ok(Input::Coming)
         }
         Ok(None) => Ok(input),

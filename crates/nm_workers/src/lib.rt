@@ -5,6 +5,7 @@
 //! order in which the requests are done.
 #![tactic(auto)]
 
+pub use busy_poll::BusyPoll;
 pub use finished::Finished;
 pub use greeting::greet;
 pub use lookout::Lookout;
@@ -14,6 +15,7 @@ mod alone;
 mod answering;
 mod attended;
 mod attending;
+mod busy_poll;
 mod crew;
 mod desk;
 mod extent;

@@ -2,6 +2,7 @@
 ghost use Rattle.std.specs.Prelude.{◌≡◌, [], ◌∷◌, ◌++◌, IfSome, IfNone};
 ghost use Rattle.nm_mailbox.specs.Ends.{received_by, IsSameInbox};
 
+use crate::busy_poll::BusyPoll;
 use crate::lookout::Lookout;
 use crate::patience::Patience;
 use nm_mailbox::{Inbox, Message};
@@ -20,6 +21,7 @@ pub struct Looking<'a> {
     lookout: &'a Lookout,
     for_pieces: Patience,
     for_outcomes: Patience,
+    for_bytes: Patience,
 }
 
 impl<'a> Looking<'a> {
@@ -29,6 +31,7 @@ impl<'a> Looking<'a> {
             lookout,
             for_pieces: Patience::new(),
             for_outcomes: Patience::new(),
+            for_bytes: Patience::new(),
         }
     }
 
@@ -60,6 +63,18 @@ impl<'a> Looking<'a> {
             Some(message) => Some(message),
             None => inbox.recv(rt),
         }
+    }
+
+    // Polls a reader before it sleeps.
+    pub(crate) fn poll<I: BusyPoll>(&mut self, reader: &mut I)
+        ensures { I.remaining reader.new ≡ I.remaining reader.old }
+    {
+        if !self.for_bytes.looks() || !self.lookout.take() {
+            return;
+        }
+        let found = reader.busy_poll();
+        self.lookout.give_back();
+        self.for_bytes.note(found);
     }
 }
 

@@ -4,8 +4,10 @@ ghost use Rattle.nm_mailbox.specs.Ends.{pieces_by, IsSameEnd};
 ghost use Rattle.nm_workers.specs.Reading.{Gives, ReadsOn, Goes, ReadsFurther};
 ghost use Rattle.nm_workers.specs.Reading as reading;
 
+use crate::busy_poll::BusyPoll;
 use crate::leave::Leave;
 use crate::leaves::{LeaveReceiver, LeaveSender, leave_channel};
+use crate::looking::Looking;
 use crate::read_side::ReadSide;
 use nm_mailbox::{Piece, PieceEnd};
 use nm_session::Called;
@@ -63,8 +65,22 @@ fn read_pieces<R: Wait, I: Read>(rt: &R, side: ReadSide<I>, leaves: LeaveReceive
     unreachable!()
 }
 
+// Polls for bytes for a while, and then reads a piece and sends it, unless no more is to be read.
+pub(crate) fn poll_and_read<R: Wait, I: BusyPoll>(
+    rt: &R,
+    looking: &mut Looking<'_>,
+    side: &mut ReadSide<I>,
+    leave: Leave,
+)
+    ensures reads { ReadsFurther I.remaining side.old side.new }
+    ensures channel { IsSameEnd side.new.pieces side.old.pieces }
+{
+    looking.poll(&mut side.reader);
+    read_on(rt, side, leave);
+}
+
 // Reads a piece and sends it, unless no more is to be read.
-pub(crate) fn read_on<R: Wait, I: Read>(rt: &R, side: &mut ReadSide<I>, leave: Leave)
+fn read_on<R: Wait, I: Read>(rt: &R, side: &mut ReadSide<I>, leave: Leave)
     ensures reads { ReadsFurther I.remaining side.old side.new }
     ensures channel { IsSameEnd side.new.pieces side.old.pieces }
 {

@@ -4,6 +4,7 @@ ghost use Rattle.nm_replies.specs.Sending.{device_of};
 ghost use Rattle.nm_wire.specs.Export.{size_of};
 ghost use Rattle.nm_workers.specs.Serving.{Ends, Breaks, IsServed, IsBrokenOff};
 
+use crate::busy_poll::{BusyPoll, Unpolled};
 use crate::finished::Finished;
 use crate::greeting::greet;
 use crate::lookout::Lookout;
@@ -92,7 +93,10 @@ where
         };
     };
     match greet(rt, alloc, &mut core, &mut room, &mut reader, &mut sender) {
-        Ok(None) => transmit(rt, alloc, core, reader, sender, targets, &Lookout::new()),
+        Ok(None) => {
+            let reader = Unpolled(reader);
+            transmit(rt, alloc, core, reader, sender, targets, &Lookout::new())
+        }
         Ok(Some(served)) => Finished {
             result: Ok(served),
             sender,
@@ -120,7 +124,7 @@ pub fn transmit<R, I, O, T>(
 ) -> Finished<O>
 where
     R: Threads + Wait + Sync,
-    I: Read + Send + Drop,
+    I: BusyPoll + Send + Drop,
     O: Write + Drop,
     T: Target + Send + Drop,
     requires size { All (λ target. size_of core.haggling.export ≤ T.size target) targets.items }

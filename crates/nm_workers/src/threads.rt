@@ -5,6 +5,7 @@ ghost use Rattle.nm_replies.specs.Sending.{device_of};
 ghost use Rattle.nm_wire.specs.Export.{size_of};
 ghost use Rattle.nm_workers.specs.Serving.{Ends, Breaks};
 
+use crate::busy_poll::BusyPoll;
 use crate::crew::{Crew, Roster};
 use crate::desk::Desk;
 use crate::extent::Extent;
@@ -19,7 +20,7 @@ use nm_mailbox::{Inbox, mailbox};
 use nm_replies::ReplyWriter;
 use nm_session::{Called, ServeFault, SessionCore, Target};
 use std::alloc::Global;
-use std::io::{Read, Write};
+use std::io::Write;
 use std::sync::Wait;
 use std::thread::{self, Threads};
 
@@ -36,7 +37,7 @@ pub(crate) fn serve_requests<E, R, I, O, T>(
 where
     E: Extent + Send,
     R: Threads + Wait + Sync,
-    I: Read + Send + Drop,
+    I: BusyPoll + Send + Drop,
     O: Write + Drop,
     T: Target + Send + Drop,
     requires size { size_of core.haggling.export ≤ E.bytes }
@@ -100,7 +101,7 @@ fn own<'s, S, E, R, I, O, T>(
 where
     E: Extent + Send + 's,
     R: Threads + Wait + Sync + 's,
-    I: Read + Send + Drop + 's,
+    I: BusyPoll + Send + Drop + 's,
     O: Write + Drop,
     T: Target + Send + Drop + 's,
     requires size { size_of core.haggling.export ≤ E.bytes }

@@ -8,6 +8,7 @@ ghost use Rattle.nm_workers.specs.Reading.{ReadsFurther};
 
 use crate::alone::attend_alone;
 use crate::attending::attend;
+use crate::busy_poll::BusyPoll;
 use crate::crew::Crew;
 use crate::desk::Desk;
 use crate::extent::Extent;
@@ -19,7 +20,7 @@ use nm_mailbox::Inbox;
 use nm_replies::ReplyWriter;
 use nm_session::{Called, ServeFault, Served, SessionCore, Target};
 use std::alloc::Global;
-use std::io::{Read, Write};
+use std::io::Write;
 use std::sync::Wait;
 use std::thread::Threads;
 
@@ -44,7 +45,7 @@ pub(crate) fn take_turns<'s, S, E, R, I, O, T>(
 where
     E: Extent + Send + 's,
     R: Threads + Wait + Sync + 's,
-    I: Read + Send + Drop + 's,
+    I: BusyPoll + Send + Drop + 's,
     O: Write,
     T: Target + Send + Drop + 's,
     requires size { size_of core.old.haggling.export ≤ E.bytes }

@@ -24,6 +24,8 @@ mod mailboxes;
 #[cfg(test)]
 mod model;
 pub mod paced_reader;
+#[cfg(test)]
+mod polling;
 pub mod running;
 #[cfg(test)]
 mod sessions;
