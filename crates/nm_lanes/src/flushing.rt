@@ -103,6 +103,7 @@ pub fn flush_by<
         locks,
         pass,
         kind: CallKind::Flush,
+        starts_threads: true,
     };
     let spans = Spans {
         low: 0,
@@ -189,6 +190,7 @@ pub fn sync_by<
         locks,
         pass,
         kind: CallKind::SyncTouched,
+        starts_threads: true,
     };
     within_bounds(shape);
     let range = range_inside(shape, offset, len);

@@ -16,7 +16,7 @@ use crate::cause_kind::CauseKind;
 use crate::gate::Gate;
 use crate::halves::do_both;
 use crate::lane::Lane;
-use crate::run::{Run, are_worth_it, halves, next_run};
+use crate::run::{Run, halves, next_run};
 use crate::stretch::Stretch;
 use nm_geometry::Shape;
 use nm_leg::LegPart;
@@ -120,7 +120,7 @@ fn get_round<
     get_halves(call, low, front, own, high, back, rest)
 }
 
-/// Does both halves of a round, side by side where they are worth a thread.
+/// Does both halves of a round, in the order that the call gives them.
 #[cycle(get)]
 fn get_halves<
     L: LegPart + Send,
@@ -149,7 +149,7 @@ fn get_halves<
         (front.old ++ back.old, front.new ++ back.new) (own.new ++ rest.new) result }
 {
     within_bounds(call.shape);
-    let side_by_side = are_worth_it(call.shape, low, high);
+    let order = call.order_of(low, high, front);
     let mut lower = || -> Result<(), Cause>
         requires { IsSync R.row × IsSync G.row × IsSync K.row × IsSend D.row
             × (0 < length front.now)
@@ -168,7 +168,7 @@ fn get_halves<
         ensures { ReadsLanes D.follows call.entry.now.shape.now (pieces_in_stretch high.stretch)
             high.stripe (back.entry.now, back.exit.now) rest.exit.now result }
     { get_round(call, high, back, rest) };
-    do_both(call.rt, side_by_side, &mut lower, &mut upper)
+    do_both(call.rt, order, &mut lower, &mut upper)
 }
 
 /// Reads the pieces of the next round into the front of the target, and tells how many they are.

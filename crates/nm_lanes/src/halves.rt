@@ -5,21 +5,31 @@ use crate::cause::Cause;
 use std::marker::Send;
 use std::thread::{Threads, join_mut};
 
-/// Does both halves of a round, side by side where that is asked for, else one after the other.
-/// Where both have a cause it is the lower half's.
+/// When the two halves of a round are done.
+#[derive(Clone, Copy)]
+pub(crate) enum Order {
+    SideBySide,
+    LowerFirst,
+    UpperFirst,
+}
+
+/// Does both halves of a round in this order. Where both have a cause it is the lower half's.
 pub(crate) fn do_both<
     R: Threads,
     F: FnMut() -> Result<(), Cause> + Send,
     G: FnMut() -> Result<(), Cause>,
->(rt: &R, side_by_side: bool, lower: &mut F, upper: &mut G) -> Result<(), Cause>
+>(rt: &R, order: Order, lower: &mut F, upper: &mut G) -> Result<(), Cause>
     requires { F.pre lower.old × G.pre upper.old }
     ensures { BothRan (λ told. F.step lower.old told lower.new)
         (λ told. G.step upper.old told upper.new) result }
 {
-    let (low, high) = if side_by_side {
-        join_mut(rt, lower, upper)
-    } else {
-        (lower(), upper())
+    let (low, high) = match order {
+        Order::SideBySide => join_mut(rt, lower, upper),
+        Order::LowerFirst => (lower(), upper()),
+        Order::UpperFirst => {
+            let high = upper();
+            (lower(), high)
+        }
     };
     match low {
         Ok(()) => high,

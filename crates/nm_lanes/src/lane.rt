@@ -39,6 +39,17 @@ pub trait Lane<L: LegPart, K> {
     /// without the lock. Nothing is promised of it: it tells where a sync is worth a thread.
     fn is_unsynced(&self, lock: &K) -> bool;
 
+    /// Whether somebody has the lock right now. Nothing is promised of it: it tells where a call
+    /// would wait, or take a processor from another.
+    fn is_taken(&self, lock: &K) -> bool;
+
+    /// Counts, at the lock of a mirror's first stripe, a call of several stripes that begins:
+    /// whether no other is at work. Nothing is promised of it: it tells where threads are worth it.
+    fn enter(&self, lock: &K) -> bool;
+
+    /// Counts that such a call has ended.
+    fn leave(&self, lock: &K);
+
     /// No step leads from a state to itself.
     ghost stays: { (lane : Self) → follows lane [] lane };
 

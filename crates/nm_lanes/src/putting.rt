@@ -13,7 +13,7 @@ use crate::gate::Gate;
 use crate::halves::do_both;
 use crate::lane::Lane;
 use crate::piece_write::PieceWrite;
-use crate::run::{Run, are_worth_it, halves, next_run};
+use crate::run::{Run, halves, next_run};
 use crate::stretch::Stretch;
 use nm_leg::LegPart;
 use std::marker::{Send, Sync};
@@ -98,7 +98,7 @@ fn put_round<
     put_halves(call, low, front, own, high, back, rest)
 }
 
-/// Does both halves of a round, side by side where they are worth a thread.
+/// Does both halves of a round, in the order that the call gives them.
 #[cycle(put)]
 fn put_halves<
     L: LegPart + Send,
@@ -127,7 +127,7 @@ fn put_halves<
         low.stripe (front.old ++ back.old, front.new ++ back.new) result }
 {
     within_bounds(call.shape);
-    let side_by_side = are_worth_it(call.shape, low, high);
+    let order = call.order_of(low, high, front);
     let mut lower = || -> Result<(), Cause>
         requires { IsSync R.row × IsSync G.row × IsSync K.row × IsSend D.row
             × (0 < length front.now)
@@ -146,7 +146,7 @@ fn put_halves<
         ensures { PutsLanes D.follows call.entry.now.shape.now (filling high.stretch rest.entry.now)
             high.stripe (back.entry.now, back.exit.now) result }
     { put_round(call, high, back, rest) };
-    do_both(call.rt, side_by_side, &mut lower, &mut upper)
+    do_both(call.rt, order, &mut lower, &mut upper)
 }
 
 /// Writes the pieces of the next round, and tells how many they are.

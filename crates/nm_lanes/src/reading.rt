@@ -3,7 +3,7 @@ ghost use Rattle.std.specs.Prelude.{◌≡◌, length, IfErr, OnOk};
 ghost use Rattle.nm_geometry.specs.Pieces.{LiesInside, pieces_of};
 ghost use Rattle.nm_lanes.specs.Reads.{HasRead, HasReadSome};
 
-use crate::call::{Call, range_inside};
+use crate::call::{Call, begin, end, range_inside};
 use crate::call_kind::CallKind;
 use crate::cause::Cause;
 use crate::gate::Gate;
@@ -54,6 +54,7 @@ pub fn read_by<
         locks,
         pass,
         kind: CallKind::Read,
+        starts_threads: begin(shape, locks, lanes, into.len() as u64),
     };
     let range = range_inside(shape, offset, into.len() as u64);
     let stretch = Stretch {
@@ -62,7 +63,9 @@ pub fn read_by<
         count: range.pieces(),
         uncut: true,
     };
-    match get_all(&call, stretch, lanes, into) {
+    let read = get_all(&call, stretch, lanes, into);
+    end(shape, locks, lanes, into.len() as u64);
+    match read {
         Ok(()) => Ok(()),
         Err(cause) => Err(cause),
     }

@@ -7,7 +7,7 @@ ghost use Rattle.nm_lanes.specs.Syncs.{SyncsLanes};
 use crate::call::Call;
 use crate::cause::Cause;
 use crate::gate::Gate;
-use crate::halves::do_both;
+use crate::halves::{Order, do_both};
 use crate::lane::Lane;
 use nm_leg::LegPart;
 use std::marker::{Send, Sync};
@@ -75,7 +75,11 @@ fn flush_round<
     let half = lanes.len() / 2;
     let next = first + half as u32;
     let (front, back) = lanes.split_at_mut(half);
-    let side_by_side = any_unsynced(call, first, front) && any_unsynced(call, next, back);
+    let order = if any_unsynced(call, first, front) && any_unsynced(call, next, back) {
+        Order::SideBySide
+    } else {
+        Order::LowerFirst
+    };
     let mut lower = || -> Result<(), Cause>
         requires { IsSync R.row × IsSync G.row × IsSync K.row × IsSend D.row
             × IsRound (length call.now.locks.now) first (length front.now) }
@@ -88,7 +92,7 @@ fn flush_round<
         ensures { SyncsLanes D.follows call.entry.now.shape.now.legs next
             (back.entry.now, back.exit.now) result }
     { flush_round(call, next, back) };
-    do_both(call.rt, side_by_side, &mut lower, &mut upper)
+    do_both(call.rt, order, &mut lower, &mut upper)
 }
 
 /// Syncs every leg of the stripes of these lanes, of which the first is this stripe's, in rounds of

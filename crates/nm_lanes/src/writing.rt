@@ -4,7 +4,7 @@ ghost use Rattle.nm_geometry.specs.Pieces.{LiesInside, pieces_of};
 ghost use Rattle.nm_lanes.specs.Cuts.{cuts_for};
 ghost use Rattle.nm_lanes.specs.Writes.{FailsWriting, HasWritten};
 
-use crate::call::{Call, range_inside};
+use crate::call::{Call, begin, end, range_inside};
 use crate::call_kind::CallKind;
 use crate::cutting::cut_up;
 use crate::gate::Gate;
@@ -60,6 +60,14 @@ pub fn write_by<
         (cuts_for (pieces_of (record { offset = offset; length = length payload })) payload)
         (lanes.old, lanes.new)) }
 {
+    if payload.is_empty() {
+        return Ok(());
+    }
+    let len = payload.len() as u64;
+    let range = range_inside(shape, offset, len);
+    let Ok(mut writes) = cut_up(alloc, range, payload) else {
+        return Err(WriteFault::Memory);
+    };
     let call = Call {
         rt,
         shape,
@@ -67,13 +75,7 @@ pub fn write_by<
         locks,
         pass,
         kind: CallKind::Write,
-    };
-    if payload.is_empty() {
-        return Ok(());
-    }
-    let range = range_inside(shape, offset, payload.len() as u64);
-    let Ok(mut writes) = cut_up(alloc, range, payload) else {
-        return Err(WriteFault::Memory);
+        starts_threads: begin(shape, locks, lanes, len),
     };
     let stretch = Stretch {
         range,
@@ -81,7 +83,9 @@ pub fn write_by<
         count: range.pieces(),
         uncut: false,
     };
-    match put_all(&call, stretch, lanes, writes.as_mut_slice()) {
+    let written = put_all(&call, stretch, lanes, writes.as_mut_slice());
+    end(shape, locks, lanes, len);
+    match written {
         Ok(()) => Ok(()),
         Err(cause) => Err(WriteFault::Io(cause)),
     }

@@ -4,7 +4,7 @@ ghost use Rattle.nm_geometry.specs.Pieces.{LiesInside, pieces_of};
 ghost use Rattle.nm_lanes.specs.Cuts.{zeroes_for};
 ghost use Rattle.nm_lanes.specs.Writes.{HasWritten, HasWrittenSome};
 
-use crate::call::{Call, range_inside};
+use crate::call::{Call, begin, end, range_inside};
 use crate::call_kind::CallKind;
 use crate::cause::Cause;
 use crate::gate::Gate;
@@ -55,6 +55,7 @@ pub fn zero_by<
         locks,
         pass,
         kind: CallKind::Zero,
+        starts_threads: begin(shape, locks, lanes, len),
     };
     let range = range_inside(shape, offset, len);
     let stretch = Stretch {
@@ -63,7 +64,9 @@ pub fn zero_by<
         count: range.pieces(),
         uncut: true,
     };
-    match put_all(&call, stretch, lanes, &mut []) {
+    let zeroed = put_all(&call, stretch, lanes, &mut []);
+    end(shape, locks, lanes, len);
+    match zeroed {
         Ok(()) => Ok(()),
         Err(cause) => Err(cause),
     }

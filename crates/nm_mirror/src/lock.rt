@@ -1,7 +1,7 @@
 use nm_leg::LegPart;
 use nm_stripe::{Step, Stripe};
 use std::hint::spin_loop;
-use std::sync::atomic::{AtomicBool, Ordering};
+use std::sync::atomic::{AtomicBool, AtomicU64, Ordering};
 use std::sync::{Mutex, MutexGuard, Wait};
 
 // How often a thread tries again to take a lock before it sleeps.
@@ -9,22 +9,24 @@ const TRIES: u32 = 4;
 
 // How many pauses of the processor it makes before each try, which is about as long as a small call
 // has to do with one stripe.
-const PAUSES: u32 = 128;
+const PAUSES: u32 = 256;
 
 // As many bytes as a cache line has.
 type Line = [u64; 8];
 
 /// The lock of one stripe, with the stripe behind it.
 ///
-/// It lends the stripe to nobody outside: each step takes it once. Beside it stands whether
-/// something was written since the last sync began. No cache line has parts of two locks, since
-/// threads at work on two stripes would else take it from one another.
+/// It lends the stripe to nobody outside: each step takes it once. Beside it stand whether
+/// something was written since the last sync began, and how many long calls are at work in the
+/// mirror where the stripe is its first. No cache line has parts of two locks, since threads at
+/// work on two stripes would else take it from one another.
 #[derive(Drop)]
 #[repr(C)]
 pub struct Lock<L: LegPart> {
     before: Line,
     pub(crate) stripe: Mutex<Stripe<L>>,
     unsynced: AtomicBool,
+    calls: AtomicU64,
     after: Line,
 }
 
@@ -35,6 +37,7 @@ impl<L: LegPart> Lock<L> {
             before: [0; 8],
             stripe: Mutex::new(stripe),
             unsynced: AtomicBool::new(false),
+            calls: AtomicU64::new(0),
             after: [0; 8],
         }
     }
@@ -64,6 +67,21 @@ impl<L: LegPart> Lock<L> {
             }
         }
         self.stripe.lock(rt)
+    }
+
+    /// Whether somebody has the stripe right now.
+    pub(crate) fn is_taken(&self) -> bool {
+        self.stripe.try_lock().is_none()
+    }
+
+    /// Counts a long call that begins: whether no other is at work.
+    pub(crate) fn enter(&self) -> bool {
+        self.calls.fetch_add(1, Ordering::SeqCst) == 0
+    }
+
+    /// Counts that a long call has ended.
+    pub(crate) fn leave(&self) {
+        self.calls.fetch_sub(1, Ordering::SeqCst);
     }
 
     /// Whether something was written in the stripe since its last sync began.

@@ -91,6 +91,18 @@ impl<L: LegPart> Lane<L, Lock<L>> for PartLane<L> {
         lock.is_unsynced()
     }
 
+    fn is_taken(&self, lock: &Lock<L>) -> bool {
+        lock.is_taken()
+    }
+
+    fn enter(&self, lock: &Lock<L>) -> bool {
+        lock.enter()
+    }
+
+    fn leave(&self, lock: &Lock<L>) {
+        lock.leave();
+    }
+
     ghost stays = { λ part. refl };
 
     ghost joins = { λ first mid last before after p q.

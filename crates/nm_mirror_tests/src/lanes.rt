@@ -6,7 +6,8 @@ use crate::mirrors::{fill_bytes, legs_of_zeroes, shape};
 use crate::note_lane::{Door, Note, NoteLane, done};
 use nm_geometry::{ByteRange, Shape};
 use nm_lanes::{
-    Cause, CauseKind, Gate, NoGate, Place, StepKind, WriteFault, flush_by, sync_by, write_by,
+    CallKind, Cause, CauseKind, Gate, Lane, NoGate, Place, StepKind, WriteFault, flush_by, read_by,
+    sync_by, write_by, zero_by,
 };
 use nm_leg::FuseLeg;
 use nm_mirror::{Start, open_stripes};
@@ -17,7 +18,8 @@ use std::marker::Sync;
 use std::process::Abort;
 use std::sync::{Mutex, Wait};
 use std::test::Fail;
-use std::thread::Threads;
+use std::thread::{Threads, sleep};
+use std::time::{Clock, Duration};
 
 /// Stripes of zeroes behind locks, with their lanes. Leg 0 of each is in sync, the others join.
 #[derive(Drop)]
@@ -246,5 +248,94 @@ fn a_write_that_somebody_else_claimed_has_no_record(rt: HostRuntime) -> Result<(
     };
     let written = write_beside_a_claim(&rt, alloc, &mut on)?;
     assert_eq!(rt; written, Err(WriteFault::Io(gone)));
+    Ok(())
+}
+
+/// Notes in which stripes a call does steps, one after the other, and sleeps after each step, so
+/// that calls at work in two stripes at once would alternate between them.
+#[derive(Drop)]
+struct StripesSeen<'a, R: Wait + Clock> {
+    rt: &'a R,
+    seen: Mutex<Vec<u32>>,
+}
+
+impl<R: Wait + Clock> Gate for StripesSeen<'_, R> {
+    fn between(&self, place: &Place) {
+        self.note(place.stripe);
+        sleep(self.rt, Duration::from_millis(1));
+    }
+}
+
+impl<R: Wait + Clock> StripesSeen<'_, R> {
+    /// Notes a step in this stripe.
+    fn note(&self, stripe: u32) {
+        let mut seen = self.seen.lock(self.rt);
+        if seen.last() != Some(&stripe) {
+            let _ = seen.push(stripe);
+        }
+    }
+}
+
+/// Reads, writes or zeroes all 16 blocks, and tells the stripes in the order of the steps.
+fn stripes_of_a_call<R: Threads + Wait + Clock + Sync + Abort>(
+    rt: &R,
+    alloc: Global,
+    on: &mut Lanes,
+    kind: CallKind,
+) -> Result<Vec<u32>, Fail> {
+    let payload = fill_bytes(alloc, 16 * 512, 0xaa)?;
+    let mut into = Vec::new(alloc);
+    into.resize(16 * 512, 255)?;
+    want_lanes(rt, on, 0, 16 * 512);
+    assert!(rt; payload.len() == 16 * 512 && into.len() == 16 * 512);
+    let gate = StripesSeen {
+        rt,
+        seen: Mutex::new(Vec::new(alloc)),
+    };
+    let (shape, locks, lanes) = (&on.shape, &on.locks, on.lanes.as_mut_slice());
+    let went = match kind {
+        CallKind::Read => read_by(rt, shape, &gate, None, locks, lanes, 0, &mut into).is_ok(),
+        CallKind::Zero => zero_by(rt, shape, &gate, None, locks, lanes, 0, 16 * 512).is_ok(),
+        _ => write_by(rt, alloc, shape, &gate, None, locks, lanes, 0, payload).is_ok(),
+    };
+    assert!(rt; went);
+    Ok(gate.seen.into_inner())
+}
+
+// Four stripes of one region each, of which one is told as taken: no thread is started, and the
+// half whose first stripe that is comes last.
+#[test]
+fn a_call_begins_where_nobody_is(rt: HostRuntime) -> Result<(), Fail> {
+    let alloc = rt.alloc();
+    for kind in [CallKind::Read, CallKind::Write, CallKind::Zero] {
+        for (taken, want) in [
+            (0, [2, 3, 1, 0]),
+            (1, [0, 1, 2, 3]),
+            (2, [0, 1, 3, 2]),
+            (3, [0, 1, 2, 3]),
+        ] {
+            let mut on = open_lanes(&rt, alloc, shape(16, 4, 2, 4, 1)?)?;
+            assert!(rt; taken < on.lanes.len());
+            on.lanes[taken].tell_taken();
+            let seen = stripes_of_a_call(&rt, alloc, &mut on, kind)?;
+            assert_eq!(rt; seen.as_slice(), &want[..], "stripe {taken} is taken");
+        }
+    }
+    Ok(())
+}
+
+// The same four stripes, none of them taken, beside another long call.
+#[test]
+fn a_call_beside_another_goes_one_stripe_after_the_other(rt: HostRuntime) -> Result<(), Fail> {
+    let alloc = rt.alloc();
+    for kind in [CallKind::Read, CallKind::Write, CallKind::Zero] {
+        let mut on = open_lanes(&rt, alloc, shape(16, 4, 2, 4, 1)?)?;
+        assert!(rt; !on.lanes.is_empty() && !on.locks.is_empty());
+        assert!(rt; on.lanes[0].enter(&on.locks[0]));
+        let seen = stripes_of_a_call(&rt, alloc, &mut on, kind)?;
+        assert_eq!(rt; seen.as_slice(), &[0, 1, 2, 3][..]);
+        assert!(rt; !on.lanes.is_empty());
+        assert_eq!(rt; on.lanes[0].calls(), 1);
+    }
     Ok(())
 }

@@ -13,6 +13,7 @@ use nm_replay::Block;
 use nm_stripe::{Answer, Refusal, Step, Stripe};
 use std::alloc::Global;
 use std::marker::Model;
+use std::sync::atomic::{AtomicU64, Ordering};
 use std::sync::{Mutex, Wait};
 
 /// What a step was, and what came of it.
@@ -43,6 +44,8 @@ pub type Door = Mutex<Stripe<FuseLeg>>;
 pub struct NoteLane {
     part: Part<FuseLeg>,
     notes: Vec<Note>,
+    is_taken: bool,
+    calls: AtomicU64,
 }
 
 impl Model for NoteLane {
@@ -59,7 +62,19 @@ impl NoteLane {
         NoteLane {
             part: Part::of(&lock.lock(rt)),
             notes: Vec::new(alloc),
+            is_taken: false,
+            calls: AtomicU64::new(0),
         }
+    }
+
+    /// How many calls were counted at this lane that have not ended.
+    pub fn calls(&self) -> u64 {
+        self.calls.load(Ordering::SeqCst)
+    }
+
+    /// From now on the lane tells its lock as taken, though nobody has it.
+    pub fn tell_taken(&mut self) {
+        self.is_taken = true;
     }
 
     /// The steps so far.
@@ -133,6 +148,18 @@ impl Lane<FuseLeg, Door> for NoteLane {
 
     fn is_unsynced(&self, _lock: &Door) -> bool {
         true
+    }
+
+    fn is_taken(&self, _lock: &Door) -> bool {
+        self.is_taken
+    }
+
+    fn enter(&self, _lock: &Door) -> bool {
+        self.calls.fetch_add(1, Ordering::SeqCst) == 0
+    }
+
+    fn leave(&self, _lock: &Door) {
+        self.calls.fetch_sub(1, Ordering::SeqCst);
     }
 
     ghost stays = { λ part. refl };

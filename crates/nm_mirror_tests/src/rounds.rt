@@ -3,12 +3,14 @@
 use crate::mirrors::{fill_bytes, flush, mirror_of, pass_of, read_at, shape, write_at};
 use nm_lanes::{Gate, NoGate, Place};
 use nm_leg::{Hold, HoldLeg, MemLeg};
-use nm_mirror::Mirror;
+use nm_mirror::{Mirror, Pass};
 use std::alloc::Global;
 use std::marker::Sync;
+use std::process::Abort;
+use std::sync::Wait;
 use std::sync::atomic::{AtomicU64, Ordering};
 use std::test::Fail;
-use std::thread::sleep;
+use std::thread::{Threads, join, sleep};
 use std::time::{Clock, Duration};
 
 /// How often a held call looks at most whether it may go on. It sleeps a millisecond after each
@@ -213,21 +215,69 @@ fn gate_two_pieces(rt: HostRuntime) -> Result<(), Fail> {
     Ok(())
 }
 
-// The same for a read.
+// The same for a read, after another one.
 #[test]
 fn a_read_is_at_work_in_two_stripes_at_once(rt: HostRuntime) -> Result<(), Fail> {
     let alloc = rt.alloc();
     let told = Told::new();
     let mirror = mirror_that_counts(&rt, alloc, &told)?;
     let mut pass = pass_of(&rt, alloc, &mirror)?;
-    told.entries.store(0, Ordering::SeqCst);
     let mut into = Vec::new(alloc);
     into.resize(8 * 512, 255)?;
+    assert!(rt; read_at(&rt, &mirror, &mut pass, 0, &mut into).is_ok());
+    told.entries.store(0, Ordering::SeqCst);
     assert!(rt; read_at(&rt, &mirror, &mut pass, 0, &mut into).is_ok());
     for byte in into.iter() {
         assert_eq!(rt; *byte, 0);
     }
     assert_eq!(rt; told.entries.load(Ordering::SeqCst), REGION);
+    assert!(rt; told.looks.load(Ordering::SeqCst) < LOOKS as u64);
+    Ok(())
+}
+
+/// Reads so many bytes from `offset` on: whether they are zeroes.
+fn reads_zeroes<'a, R: Threads + Wait + Sync + Abort>(
+    rt: &R,
+    mirror: &Holding<'a>,
+    pass: &mut Pass<HoldLeg<MemLeg, UntilDone<'a, HostRuntime>>>,
+    offset: u64,
+    into: &mut [u8],
+) -> bool {
+    read_at(rt, mirror, pass, offset, into).is_ok() && into.iter().all(|byte| *byte == 0)
+}
+
+/// Waits until a call of the first stripe is held in its leg.
+fn wait_until_held<R: Clock>(rt: &R, told: &Told) {
+    for _ in 0..LOOKS {
+        if told.looks.load(Ordering::SeqCst) > 0 {
+            return;
+        }
+        sleep(rt, Duration::from_millis(1));
+    }
+}
+
+// Too few blocks for two threads. A read that began with the first stripe would wait there until
+// the held call's last look.
+#[test]
+fn a_read_begins_in_the_stripe_that_nobody_has(rt: HostRuntime) -> Result<(), Fail> {
+    let alloc = rt.alloc();
+    let told = Told::new();
+    let mirror = mirror_that_counts(&rt, alloc, &told)?;
+    let mut holder = pass_of(&rt, alloc, &mirror)?;
+    let mut reader = pass_of(&rt, alloc, &mirror)?;
+    told.entries.store(0, Ordering::SeqCst);
+    let (mut first, mut others) = ([255; 512], [255; 7 * 512]);
+    let (held, read) = join(
+        &rt,
+        || reads_zeroes(&rt, &mirror, &mut holder, 0, &mut first),
+        || {
+            wait_until_held(&rt, &told);
+            reads_zeroes(&rt, &mirror, &mut reader, 512, &mut others)
+        },
+    );
+    assert!(rt; held && read);
+    assert_eq!(rt; told.entries.load(Ordering::SeqCst), REGION);
+    assert!(rt; told.looks.load(Ordering::SeqCst) > 0);
     assert!(rt; told.looks.load(Ordering::SeqCst) < LOOKS as u64);
     Ok(())
 }

@@ -4,8 +4,8 @@ use Rattle.nm_geometry.specs.Pieces.{LiesInside, end_of}
 use Rattle.nm_lanes.proofs.GetStretchLemmas.{read-stretch}
 use Rattle.nm_lanes.proofs.reading.read_by.Goals as goal
 
-pub get_all-requires-clause-stretch : goal.get_all-requires-clause-stretch
-get_all-requires-clause-stretch g c =
+pub get_all-read-requires-clause-stretch : goal.get_all-read-requires-clause-stretch
+get_all-read-requires-clause-stretch g c =
     let range = c.range_inside-range.result in
     let end : end_of range < 2 ^ 64 = search rules in
     let inside : LiesInside range c.args.shape.now = search rules in

@@ -4,8 +4,8 @@ use Rattle.nm_geometry.specs.Pieces.{LiesInside, end_of}
 use Rattle.nm_lanes.proofs.StretchLemmas.{cuts-stretch}
 use Rattle.nm_lanes.proofs.writing.write_by.Goals as goal
 
-pub put_all-requires-clause-stretch : goal.put_all-requires-clause-stretch
-put_all-requires-clause-stretch g c =
+pub put_all-written-requires-clause-stretch : goal.put_all-written-requires-clause-stretch
+put_all-written-requires-clause-stretch g c =
     let range = c.range_inside-range.result in
     let end : end_of range < 2 ^ 64 = search rules in
     let inside : LiesInside range c.args.shape.now = search rules in

@@ -4,8 +4,8 @@ use Rattle.nm_geometry.specs.Pieces.{LiesInside, end_of}
 use Rattle.nm_lanes.proofs.StretchLemmas.{zeroes-stretch}
 use Rattle.nm_lanes.proofs.zeroing.zero_by.Goals as goal
 
-pub put_all-requires-clause-stretch : goal.put_all-requires-clause-stretch
-put_all-requires-clause-stretch g c =
+pub put_all-zeroed-requires-clause-stretch : goal.put_all-zeroed-requires-clause-stretch
+put_all-zeroed-requires-clause-stretch g c =
     let range = c.range_inside-range.result in
     let end : end_of range < 2 ^ 64 = search rules in
     let inside : LiesInside range c.args.shape.now = search rules in

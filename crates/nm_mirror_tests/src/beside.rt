@@ -1,0 +1,148 @@
+//! A call of several stripes while another is at work.
+
+use crate::mirrors::{mirror_of, pass_of, read_at, shape};
+use nm_lanes::NoGate;
+use nm_leg::{Hold, HoldLeg, MemLeg};
+use nm_mirror::{Mirror, Pass};
+use std::alloc::Global;
+use std::marker::Sync;
+use std::process::Abort;
+use std::sync::Wait;
+use std::sync::atomic::{AtomicU64, Ordering};
+use std::test::Fail;
+use std::thread::{Threads, join, sleep};
+use std::time::{Clock, Duration};
+
+/// How often the first call looks at most whether the second one has ended, a millisecond apart.
+const LOOKS: u32 = 10_000;
+
+/// How often a leg's call in one of the second call's stripes looks whether the other one's leg was
+/// called too.
+const FEW_LOOKS: u32 = 20;
+
+/// What two calls tell one another.
+#[derive(Drop)]
+struct Told {
+    /// Whether a leg was called, by its stripe.
+    called: [AtomicU64; 3],
+    /// How often the second call's legs looked for one another.
+    looks: AtomicU64,
+    /// Whether the second call has ended.
+    ended: AtomicU64,
+}
+
+impl Told {
+    /// Nothing was called yet.
+    fn new() -> Self {
+        Told {
+            called: [AtomicU64::new(0), AtomicU64::new(0), AtomicU64::new(0)],
+            looks: AtomicU64::new(0),
+            ended: AtomicU64::new(0),
+        }
+    }
+}
+
+/// Whether something is so by now.
+fn is_so(flag: &AtomicU64) -> bool {
+    flag.load(Ordering::SeqCst) == 1
+}
+
+/// Holds the calls of stripe 2's leg until the second call has ended, and those of the other two
+/// until both have been called.
+#[derive(Drop)]
+struct Beside<'a, R: Clock + Sync> {
+    rt: &'a R,
+    told: &'a Told,
+    stripe: usize,
+}
+
+impl<R: Clock + Sync> Hold for Beside<'_, R> {
+    fn is_held(&self) -> bool {
+        let told = self.told;
+        let [first, second, third] = &told.called;
+        let is_free = match self.stripe {
+            0 => {
+                first.store(1, Ordering::SeqCst);
+                is_so(second)
+            }
+            1 => {
+                second.store(1, Ordering::SeqCst);
+                is_so(first)
+            }
+            _ => {
+                third.store(1, Ordering::SeqCst);
+                is_so(&told.ended)
+            }
+        };
+        if is_free {
+            return false;
+        }
+        if self.stripe < 2 {
+            told.looks.fetch_add(1, Ordering::SeqCst);
+        }
+        sleep(self.rt, Duration::from_millis(1));
+        true
+    }
+}
+
+/// A mirror whose legs hold.
+type Held<'a> = Mirror<HoldLeg<MemLeg, Beside<'a, HostRuntime>>, NoGate>;
+
+/// Three stripes of two regions of four blocks, the last without its second, of one leg each.
+fn held_mirror<'a>(rt: &'a HostRuntime, alloc: Global, told: &'a Told) -> Result<Held<'a>, Fail> {
+    let shape = shape(20, 4, 2, 3, 1)?;
+    let mut legs = Vec::new(alloc);
+    for (stripe, blocks, looks) in [(0, 8, FEW_LOOKS), (1, 8, FEW_LOOKS), (2, 4, LOOKS)] {
+        let hold = Beside { rt, told, stripe };
+        let mut own = Vec::new(alloc);
+        own.push(HoldLeg::new(MemLeg::new(alloc, blocks)?, hold, looks))?;
+        legs.push(own)?;
+    }
+    mirror_of(alloc, shape, legs, NoGate)
+}
+
+/// Reads two regions from this one on: whether they are zeroes.
+fn reads_two_regions<'a, R: Threads + Wait + Sync + Abort>(
+    rt: &R,
+    mirror: &Held<'a>,
+    pass: &mut Pass<HoldLeg<MemLeg, Beside<'a, HostRuntime>>>,
+    region: u64,
+) -> bool {
+    let mut into = [255; 8 * 512];
+    assert!(rt; region < 4);
+    read_at(rt, mirror, pass, 4 * 512 * region, &mut into).is_ok() && into == [0; 8 * 512]
+}
+
+/// Waits until the first call is held.
+fn wait_until_held<R: Clock>(rt: &R, told: &Told) {
+    for _ in 0..LOOKS {
+        if is_so(&told.called[2]) {
+            return;
+        }
+        sleep(rt, Duration::from_millis(1));
+    }
+}
+
+// The first call is held in stripe 2. The second goes through stripes 0 and 1, and each of its four
+// blocks in stripe 0 looks in vain for a call of stripe 1's leg.
+#[test]
+fn a_call_beside_another_starts_no_thread(rt: HostRuntime) -> Result<(), Fail> {
+    let alloc = rt.alloc();
+    let told = Told::new();
+    let mirror = held_mirror(&rt, alloc, &told)?;
+    let mut first = pass_of(&rt, alloc, &mirror)?;
+    let mut second = pass_of(&rt, alloc, &mirror)?;
+    let (held, read) = join(
+        &rt,
+        || reads_two_regions(&rt, &mirror, &mut first, 2),
+        || {
+            wait_until_held(&rt, &told);
+            let read = reads_two_regions(&rt, &mirror, &mut second, 0);
+            told.ended.store(1, Ordering::SeqCst);
+            read
+        },
+    );
+    assert!(rt; held && read);
+    assert_eq!(rt; told.looks.load(Ordering::SeqCst), 4 * FEW_LOOKS as u64);
+    Ok(())
+}
