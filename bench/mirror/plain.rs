@@ -1,6 +1,7 @@
 // The same work in plain Rust, with the standard library alone: stripes behind locks, one hold of a
 // lock for each step, in each stripe the same rules, records, regions and history, and calls in the
-// same rounds, whose halves have a thread each where both have a region's blocks.
+// same rounds, whose halves have a thread each where both have a region's blocks. A call of the
+// mirror beside another starts none; one here does, but for the rows without threads.
 use std::collections::VecDeque;
 use std::hint::black_box;
 use std::ops::Range;
@@ -10,7 +11,7 @@ use std::time::Instant;
 
 const BLOCKS: u64 = 16_384;
 const BYTES: u64 = 512 * BLOCKS;
-const TURNS: u64 = 4;
+const TURNS: u64 = 16;
 const ROUNDS: u32 = 5;
 const MOST: usize = 1 << 20;
 const REGION: u64 = 128;
