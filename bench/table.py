@@ -7,6 +7,7 @@ import statistics
 import sys
 
 ROW = "{:30} {:6} {:>10} {:>10} {:>7} {:>7} {:>7}   {:>12} {:>8}"
+GAIN = "{:30} {:6} {:>10} {:>10} {:>10} {:>10}"
 
 
 FIRST, SECOND = sys.argv[3:] or ("proved", "plain")
@@ -45,9 +46,33 @@ def rows(memory, times):
         )
 
 
+def gains(memory, times):
+    """How many times the work of one thread four do in the same time, for the rows that both have."""
+    for name, four in times.items():
+        one = times.get(name.replace(", 4 on ", ", 1 on "))
+        if ", 4 on " not in name or one is None:
+            continue
+        each = [[nanos for _, nanos in runs[who]] for who in (FIRST, SECOND) for runs in (one, four)]
+        yield GAIN.format(
+            name,
+            memory,
+            *(
+                f"{of(alone) / of(beside):.2f}"
+                for alone, beside in (each[:2], each[2:])
+                for of in (min, statistics.median)
+            ),
+        )
+
+
+taken = [(memory, read(path)) for memory, path in (("fresh", sys.argv[1]), ("kept", sys.argv[2]))]
 print(ROW.format("", "", FIRST, SECOND, "ratio", "ratio", "rounds", FIRST, FIRST))
 print(ROW.format("work", "memory", "ns, best", "ns, best", "bests", "medians", "each", "a second", "MB/s"))
-for memory, path in (("fresh", sys.argv[1]), ("kept", sys.argv[2])):
-    for row in rows(memory, read(path)):
+for memory, times in taken:
+    for row in rows(memory, times):
         print(row)
 print()
+gained = [line for memory, times in taken for line in gains(memory, times)]
+if gained:
+    print(GAIN.format("", "", FIRST, FIRST, SECOND, SECOND))
+    print(GAIN.format("four threads, over one", "memory", "bests", "medians", "bests", "medians"))
+    print(*gained, "", sep="\n")
