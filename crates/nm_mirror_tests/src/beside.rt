@@ -1,7 +1,7 @@
 //! A call of several stripes while another is at work.
 
 use crate::mirrors::{mirror_of, pass_of, read_at, shape};
-use nm_lanes::NoGate;
+use nm_lanes::{Gate, NoGate, Place};
 use nm_leg::{Hold, HoldLeg, MemLeg};
 use nm_mirror::{Mirror, Pass};
 use std::alloc::Global;
@@ -23,7 +23,7 @@ const FEW_LOOKS: u32 = 20;
 /// What two calls tell one another.
 #[derive(Drop)]
 struct Told {
-    /// Whether a leg was called, by its stripe.
+    /// Whether a leg was called, by its stripe. The last is set too where the gate holds a call.
     called: [AtomicU64; 3],
     /// How often the second call's legs looked for one another.
     looks: AtomicU64,
@@ -85,26 +85,57 @@ impl<R: Clock + Sync> Hold for Beside<'_, R> {
     }
 }
 
-/// A mirror whose legs hold.
-type Held<'a> = Mirror<HoldLeg<MemLeg, Beside<'a, HostRuntime>>, NoGate>;
+/// Holds the first pass between its steps, when it has no lock, until the second call has ended.
+#[derive(Drop)]
+struct BesideAtTheGate<'a, R: Clock + Sync> {
+    rt: &'a R,
+    told: &'a Told,
+}
 
-/// Three stripes of two regions of four blocks, the last without its second, of one leg each.
-fn held_mirror<'a>(rt: &'a HostRuntime, alloc: Global, told: &'a Told) -> Result<Held<'a>, Fail> {
+impl<R: Clock + Sync> Gate for BesideAtTheGate<'_, R> {
+    fn between(&self, place: &Place) {
+        if place.pass != Some(0) {
+            return;
+        }
+        let told = self.told;
+        let [_, _, last] = &told.called;
+        last.store(1, Ordering::SeqCst);
+        for _ in 0..LOOKS {
+            if is_so(&told.ended) {
+                return;
+            }
+            sleep(self.rt, Duration::from_millis(1));
+        }
+    }
+}
+
+/// A mirror whose legs hold.
+type Held<'a, G> = Mirror<HoldLeg<MemLeg, Beside<'a, HostRuntime>>, G>;
+
+/// Three stripes of two regions of four blocks, the last without its second, of one leg each. The
+/// last one's leg looks so often whether the second call has ended.
+fn held_mirror<'a, G: Gate + Drop>(
+    rt: &'a HostRuntime,
+    alloc: Global,
+    told: &'a Told,
+    looks_of_last: u32,
+    gate: G,
+) -> Result<Held<'a, G>, Fail> {
     let shape = shape(20, 4, 2, 3, 1)?;
     let mut legs = Vec::new(alloc);
-    for (stripe, blocks, looks) in [(0, 8, FEW_LOOKS), (1, 8, FEW_LOOKS), (2, 4, LOOKS)] {
+    for (stripe, blocks, looks) in [(0, 8, FEW_LOOKS), (1, 8, FEW_LOOKS), (2, 4, looks_of_last)] {
         let hold = Beside { rt, told, stripe };
         let mut own = Vec::new(alloc);
         own.push(HoldLeg::new(MemLeg::new(alloc, blocks)?, hold, looks))?;
         legs.push(own)?;
     }
-    mirror_of(alloc, shape, legs, NoGate)
+    mirror_of(alloc, shape, legs, gate)
 }
 
 /// Reads two regions from this one on: whether they are zeroes.
-fn reads_two_regions<'a, R: Threads + Wait + Sync + Abort>(
+fn reads_two_regions<'a, R: Threads + Wait + Sync + Abort, G: Gate + Drop + Sync>(
     rt: &R,
-    mirror: &Held<'a>,
+    mirror: &Held<'a, G>,
     pass: &mut Pass<HoldLeg<MemLeg, Beside<'a, HostRuntime>>>,
     region: u64,
 ) -> bool {
@@ -123,21 +154,22 @@ fn wait_until_held<R: Clock>(rt: &R, told: &Told) {
     }
 }
 
-// The first call is held in stripe 2. The second goes through stripes 0 and 1, and each of its four
-// blocks in stripe 0 looks in vain for a call of stripe 1's leg.
-#[test]
-fn a_call_beside_another_starts_no_thread(rt: HostRuntime) -> Result<(), Fail> {
-    let alloc = rt.alloc();
-    let told = Told::new();
-    let mirror = held_mirror(&rt, alloc, &told)?;
-    let mut first = pass_of(&rt, alloc, &mirror)?;
-    let mut second = pass_of(&rt, alloc, &mirror)?;
+/// Reads by two calls, of which the first is held in stripe 2. The second goes through stripes 0
+/// and 1, and each of its four blocks in stripe 0 looks in vain for a call of stripe 1's leg.
+fn reads_beside<'a, R: Threads + Wait + Clock + Sync + Abort, G: Gate + Drop + Sync>(
+    rt: &R,
+    alloc: Global,
+    mirror: &Held<'a, G>,
+    told: &Told,
+) -> Result<(), Fail> {
+    let mut first = pass_of(rt, alloc, mirror)?;
+    let mut second = pass_of(rt, alloc, mirror)?;
     let (held, read) = join(
-        &rt,
-        || reads_two_regions(&rt, &mirror, &mut first, 2),
+        rt,
+        || reads_two_regions(rt, mirror, &mut first, 2),
         || {
-            wait_until_held(&rt, &told);
-            let read = reads_two_regions(&rt, &mirror, &mut second, 0);
+            wait_until_held(rt, told);
+            let read = reads_two_regions(rt, mirror, &mut second, 0);
             told.ended.store(1, Ordering::SeqCst);
             read
         },
@@ -145,4 +177,25 @@ fn a_call_beside_another_starts_no_thread(rt: HostRuntime) -> Result<(), Fail> {
     assert!(rt; held && read);
     assert_eq!(rt; told.looks.load(Ordering::SeqCst), 4 * FEW_LOOKS as u64);
     Ok(())
+}
+
+#[test]
+fn a_call_beside_another_starts_no_thread(rt: HostRuntime) -> Result<(), Fail> {
+    let alloc = rt.alloc();
+    let told = Told::new();
+    let mirror = held_mirror(&rt, alloc, &told, LOOKS, NoGate)?;
+    reads_beside(&rt, alloc, &mirror, &told)
+}
+
+// The first call has no lock while it is held, so that only the count of calls tells of it.
+#[test]
+fn a_call_beside_one_between_its_steps_starts_no_thread(rt: HostRuntime) -> Result<(), Fail> {
+    let alloc = rt.alloc();
+    let told = Told::new();
+    let gate = BesideAtTheGate {
+        rt: &rt,
+        told: &told,
+    };
+    let mirror = held_mirror(&rt, alloc, &told, 0, gate)?;
+    reads_beside(&rt, alloc, &mirror, &told)
 }
