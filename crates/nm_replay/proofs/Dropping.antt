@@ -1,5 +1,5 @@
 -- Where the oldest entries are dropped, the others are numbered, consistent, and end in the same array.
-use Rattle.std.proofs.Common.{◌≡◌, ℕ, ◌+◌, ◌-◌, ◌≤◌, List, [], ◌∷◌, ◌++◌, min, length, take, drop, drop-drop, append-nil, sym, ap, ◌∙◌, subst, arith, slice_get, length-append, length-drop}
+use Rattle.std.proofs.Common.{◌≡◌, ℕ, ◌+◌, ◌-◌, ◌≤◌, List, [], ◌++◌, min, length, take, drop, drop-drop, append-nil, sym, ap, ◌∙◌, subst, arith, slice_get, length-append, length-drop}
 use Rattle.std.specs.Prelude.{Option, Some, IfSome}
 use Rattle.std.proofs.lemmas.List.{take-append-drop, drop-append-le}
 use Rattle.nm_replay.specs.declared.block.Block.{Block}

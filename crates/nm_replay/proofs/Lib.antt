@@ -15,4 +15,5 @@ pub mod Parts
 pub mod Places
 pub mod Pushing
 pub mod ReadStages
+pub mod Rings
 pub mod WriteStages

@@ -4,10 +4,8 @@ ghost use Rattle.nm_replay.specs.Kept.{last_kept};
 
 use crate::entry::Entry;
 use crate::memory::Memory;
-use circular_buffer::HeapCircularBuffer;
 use std::alloc::Global;
 use std::marker::Model;
-use std::slice;
 
 /// How many entries are kept at most.
 const KEPT: usize = 1_024;
@@ -17,20 +15,29 @@ const KEPT: usize = 1_024;
 /// `new` takes all its memory, so a `push` takes none.
 #[derive(Debug, Drop)]
 pub struct Kept {
-    ring: HeapCircularBuffer<Entry>,
+    ring: Vec<Entry>,
+    /// Where the oldest entry stands. The others follow, past the end from the start on.
+    oldest: usize,
     total: u64,
 }
 
 impl Model for Kept {
-    ghost use Rattle.std.specs.Prelude.{◌≡◌, length, min};
+    ghost use Rattle.std.specs.Prelude.{◌≡◌, ◌<◌, ◌≤◌, ◌++◌, length, min, take, drop};
+    ghost use Rattle.std.specs.Prelude.{vec_capacity};
     ghost use Rattle.nm_replay.specs.Kept.{KeptHistory};
 
     ghost Value = { KeptHistory };
 
-    ghost view = { λ k. record { entries = k.ring.items; total = k.total } };
+    ghost view = { λ k. record {
+      entries = drop k.oldest k.ring.items
+          ++ take k.oldest k.ring.items;
+      total = k.total;
+    } };
 
-    ghost invariant = { λ k. (k.ring.capacity ≡ 1024)
-        × (length k.ring.items ≡ min 1024 k.total) };
+    ghost invariant = { λ k. (1024 ≤ vec_capacity k.ring)
+        × (length k.ring.items ≡ min 1024 k.total)
+        × (k.oldest < 1024)
+        × (k.total < 1024 → k.oldest ≡ 0) };
 }
 
 impl Kept {
@@ -40,7 +47,8 @@ impl Kept {
         ensures total { IfOk result (λ kept. kept.total ≡ 0) }
     {
         Ok(Kept {
-            ring: HeapCircularBuffer::with_capacity(alloc, KEPT)?,
+            ring: Vec::with_capacity(alloc, KEPT)?,
+            oldest: 0,
             total: 0,
         })
     }
@@ -52,8 +60,17 @@ impl Kept {
         ensures entries { self.new.entries ≡ last_kept (self.old.entries ++ entry.now ∷ []) }
         ensures total { self.new.total ≡ self.old.total + 1 }
     {
-        // Copied once, into its place: a push by value would move the oldest out as well.
-        self.ring.extend_from_slice(slice::from_ref(entry));
+        if self.ring.len() < KEPT {
+            self.ring.push_reserved(*entry);
+        } else {
+            // Field by field: an assignment of the whole copies the entry twice.
+            let place = &mut self.ring[self.oldest];
+            place.bytes = entry.bytes;
+            place.seq = entry.seq;
+            place.kind = entry.kind;
+            place.block = entry.block;
+            self.oldest = (self.oldest + 1) % KEPT;
+        }
         self.total += 1;
     }
 
@@ -70,7 +87,7 @@ impl Kept {
         ensures ok { IfOk result (λ copy. copy.items ≡ self.now.entries) }
         ensures memory_only_at_growth { self.now.entries ≡ [] → IsOk result }
     {
-        let (older, newer) = self.ring.as_slices();
+        let (newer, older) = self.ring.split_at(self.oldest);
         let mut copy = Vec::with_capacity(alloc, self.ring.len())?;
         copy.extend_from_slice(older)?;
         copy.extend_from_slice(newer)?;
