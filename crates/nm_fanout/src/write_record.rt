@@ -38,7 +38,7 @@ impl Record {
         ensures count { result ≡ owed_count self.now }
         ensures most { result ≤ 8 }
     {
-        self.owed.iter().filter(|owed| **owed).count() as u64
+        self.owed.iter().map(|owed| u64::from(*owed)).sum()
     }
 
     /// Whether some leg is owed. Where none is, the write is finished.
