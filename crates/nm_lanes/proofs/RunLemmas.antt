@@ -1,8 +1,8 @@
 -- Runs of regions: the stripes that their blocks lie in, and their halves.
 use Rattle.std.proofs.Common.{◌≡◌, ℕ, ◌+◌, ◌-◌, ◌*◌, ◌/◌, ◌%◌, ◌<◌, ◌≤◌, List, [], ◌++◌, length, min, refl, sym, ap, ◌∙◌, subst, arith, mul-le-mul_right, div-add-mod'}
-use Rattle.std.proofs.Math.Nat.{mod-eq_of_lt, add-mul-mod_self_right}
+use Rattle.std.proofs.Math.Nat.{mod-eq_of_lt, add-mul-mod_self_right, div-le_self}
 use Rattle.std.proofs.lemmas.Nat.{div_below, le-div, mod_below}
-use Rattle.nm_geometry.specs.Geometry.{Geometry, IsGeometry, stripe_of}
+use Rattle.nm_geometry.specs.Geometry.{Geometry, IsGeometry, stripe_of, block_in_stripe}
 use Rattle.nm_lanes.specs.declared.stretch.Stretch.{Stretch}
 use Rattle.nm_lanes.specs.declared.piece_write.PieceWrite.{PieceWrite}
 use Rattle.nm_lanes.specs.declared.run.Run.{Run}
@@ -56,6 +56,29 @@ run-one shape run cuts is stretch a =
 
 pub one-stripe : (shape : Geometry) (run : Run) (block : ℕ) → IsGeometry shape → IsRun shape 1 run → block_of run.stretch ≤ block → block < block_of run.stretch + run.stretch.count → run.stripe ≡ stripe_of block shape
 one-stripe shape run block is a from upto = let lies = run-stripe shape 1 run block is a from upto in omega (arith, lies.from, lies.upto)
+
+-- the blocks of a run in one stripe are its region's
+run-region : (shape : Geometry) (run : Run) (block : ℕ) → IsGeometry shape → IsRun shape 1 run → block_of run.stretch ≤ block → block < block_of run.stretch + run.stretch.count → block / shape.region ≡ run.region
+run-region shape run block is a from upto =
+    let least : run.region ≤ block / shape.region = le-div run.region block shape.region is.some_region (omega (arith, a.begins, from)) in
+    let below : block / shape.region < run.region + 1 = div_below block shape.region (run.region + 1) is.some_region (omega (arith, a.upto, upto)) in
+    omega (arith, least, below)
+
+-- and follow one another in the stripe too
+pub run-follows : (shape : Geometry) (run : Run) (at : ℕ) → IsGeometry shape → IsRun shape 1 run → at < run.stretch.count → block_in_stripe (block_of run.stretch) shape + at ≡ block_in_stripe (block_of run.stretch + at) shape
+run-follows shape run at is a below =
+    let first = block_of run.stretch in
+    let here = run-region shape run first is a (omega arith) (omega (arith, a.some)) in
+    let there = run-region shape run (first + at) is a (omega arith) (omega (arith, below)) in
+    let same = here ∙ sym there in
+    let rows = ap (λ n. n / shape.stripes * shape.region) same in
+    let regions = ap (λ n. n * shape.region) same in
+    omega (arith, rows, regions, div-add-mod' first shape.region, div-add-mod' (first + at) shape.region)
+
+pub in_stripe-le : (shape : Geometry) (block : ℕ) → block_in_stripe block shape ≤ block
+in_stripe-le shape block =
+    let rows = mul-le-mul_right shape.region (div-le_self (block / shape.region) shape.stripes) in
+    omega (arith, rows, div-add-mod' block shape.region)
 
 -- the halves of a run
 pub record HalvesFit (shape : Geometry) (half : ℕ) (run : Run) : Type 0 where

@@ -16,7 +16,7 @@ use crate::cause_kind::CauseKind;
 use crate::gate::Gate;
 use crate::halves::do_both;
 use crate::lane::Lane;
-use crate::run::{Run, halves, next_run};
+use crate::run::{Run, first_in_stripe, halves, next_run};
 use crate::stretch::Stretch;
 use nm_geometry::Shape;
 use nm_leg::LegPart;
@@ -57,10 +57,11 @@ fn get_lane<L: LegPart, K, D: Lane<L, K>, R: Wait, G: Gate>(
 {
     let shape = call.shape;
     within_bounds(shape);
+    let first = first_in_stripe(shape, run);
     let mut spare = Block::ZERO;
     for at in 0..run.stretch.count {
         let piece = run.stretch.range.piece(run.stretch.first + at);
-        let block = shape.block_in_stripe(piece.block);
+        let block = first + at;
         let site = call.site(run.stripe, Some(block));
         let from = bytes_of(shape, run.stretch, at);
         let to = from + piece.len as usize;

@@ -13,7 +13,7 @@ use crate::gate::Gate;
 use crate::halves::do_both;
 use crate::lane::Lane;
 use crate::piece_write::PieceWrite;
-use crate::run::{Run, halves, next_run};
+use crate::run::{Run, first_in_stripe, halves, next_run};
 use crate::stretch::Stretch;
 use nm_leg::LegPart;
 use std::marker::{Send, Sync};
@@ -38,9 +38,10 @@ fn put_lane<L: LegPart, K, D: Lane<L, K>, R: Wait, G: Gate>(
 {
     let shape = call.shape;
     within_bounds(shape);
+    let first = first_in_stripe(shape, run);
     for at in 0..run.stretch.count {
         let write = run.stretch.take(at, cuts);
-        let block = shape.block_in_stripe(write.piece.block);
+        let block = first + at;
         let site = call.site(run.stripe, Some(block));
         site.write_one(lane, block, write.bytes, shape.legs)?;
     }

@@ -1,6 +1,6 @@
 //! Runs of regions in stripes that follow one another, each in a stripe of its own.
-ghost use Rattle.std.specs.Prelude.{◌≡◌, ◌+◌, ◌≤◌, ◌<◌};
-ghost use Rattle.nm_geometry.specs.Geometry.{IsGeometry};
+ghost use Rattle.std.specs.Prelude.{◌≡◌, ℕ, ◌+◌, ◌≤◌, ◌<◌};
+ghost use Rattle.nm_geometry.specs.Geometry.{IsGeometry, block_in_stripe};
 ghost use Rattle.nm_lanes.specs.Puts.{block_of, first_of, lower, upper, IsRun};
 
 use crate::call::within_bounds;
@@ -44,6 +44,19 @@ pub(crate) fn next_run(shape: &Shape, stretch: Stretch) -> (Run, u32)
         stripe,
     };
     (run, lanes as u32)
+}
+
+/// The number, in its stripe, of the first block of a run in one stripe. The others follow it there
+/// as they do in the export, so they need no division.
+pub(crate) fn first_in_stripe(shape: &Shape, run: Run) -> u64
+    requires run { IsRun shape.now 1 run }
+    requires blocks { block_of run.stretch + run.stretch.count ≤ shape.now.blocks }
+    ensures follow { (at : ℕ) → at < run.stretch.count
+        → result + at ≡ block_in_stripe (block_of run.stretch + at) shape.now }
+    ensures most { result ≤ block_of run.stretch }
+{
+    within_bounds(shape);
+    shape.block_in_stripe(run.stretch.block())
 }
 
 /// The pieces of the first so many regions of a run, and the others.

@@ -1,5 +1,6 @@
 -- One piece more, or the end at a piece.
-use Rattle.std.proofs.Common.{rules, arith, ◌≡◌, ◌+◌, ◌-◌, ◌/◌, ◌<◌, ◌≤◌, ◌++◌, length, take, drop, ap, ◌∙◌}
+use Rattle.std.proofs.Common.{rules, arith, ◌≡◌, ◌+◌, ◌-◌, ◌/◌, ◌<◌, ◌≤◌, ◌++◌, length, take, drop, ap, sym, ◌∙◌}
+use Rattle.nm_geometry.specs.Geometry.{block_in_stripe}
 use Rattle.std.proofs.lemmas.Slice.{take-put_mid}
 use Rattle.nm_geometry.specs.declared.piece.Piece.{Piece}
 use Rattle.nm_geometry.specs.Pieces.{piece_in}
@@ -38,6 +39,7 @@ loop-at-preserved g c =
     let next : stretch.range.offset / 512 + (stretch.first + at) ≡ block_of stretch + at = omega arith in
     let is : piece ≡ piece_in (block_of stretch + at) stretch.range = c.piece-piece.ensures.piece ∙ ap (λ b. piece_in b stretch.range) next in
     let block : piece.block ≡ block_of stretch + at = ap (λ (p : Piece). p.block) is in
+    let in_its_stripe = c.first_in_stripe-first.ensures.follow at below ∙ ap (λ b. block_in_stripe b shape) (sym block) in
     let len : piece.len ≡ bytes_in (block_of stretch + at) 1 stretch.range = ap (λ (p : Piece). p.len) is ∙ bytes-one (block_of stretch + at) stretch.range in
     let in_stripe = one-stripe shape c.args.run piece.block c.within_bounds.ensures c.requires.run (omega (arith, block)) (omega (arith, block, below)) in
     let long : length last ≡ piece.len = search rules in
@@ -48,6 +50,6 @@ loop-at-preserved g c =
     let fits : from ≤ length into = search rules in
     let both = take-put_mid from (from + piece.len - from) into last (bytes_of stretch (at + 1)) upto fits ∙ ap (λ n. take n into ++ last) c.bytes_of-from.ensures in
     record {
-      far = get-more g.D.Lane.follows g.met.D.Lane.joins shape stretch c.args.run.stripe at piece c.block_in_stripe-block.result count into last _ c.args.lane.now c.loop-at.lane c.read_one.new.lane is in_stripe c.block_in_stripe-block.ensures.block as_long both c.loop-at.invariant.far c.in_ok-read_one.ensures.ok;
+      far = get-more g.D.Lane.follows g.met.D.Lane.joins shape stretch c.args.run.stripe at piece (c.first_in_stripe-first.result + at) count into last _ c.args.lane.now c.loop-at.lane c.read_one.new.lane is in_stripe in_its_stripe as_long both c.loop-at.invariant.far c.in_ok-read_one.ensures.ok;
       long = search rules;
     }

@@ -1,5 +1,6 @@
 -- One piece more, or the end at a piece.
-use Rattle.std.proofs.Common.{rules, ◌+◌, ◌<◌, List, arith, subst}
+use Rattle.std.proofs.Common.{rules, ◌+◌, ◌<◌, List, ap, sym, ◌∙◌, arith, subst}
+use Rattle.nm_geometry.specs.Geometry.{block_in_stripe}
 use Rattle.nm_lanes.specs.declared.piece_write.PieceWrite.{PieceWrite}
 use Rattle.nm_lanes.specs.Puts.{block_of, BlocksFollow}
 use Rattle.nm_lanes.proofs.PutLaneLemmas.{put-begins, put-more, put-stops}
@@ -21,8 +22,9 @@ returns-in_err-write_one-clause-err g c =
     let below : at < stretch.count = c.loop-at-test.true in
     let follow = subst (λ (ws : List PieceWrite). BlocksFollow (block_of stretch + at) ws) c.take-write.ensures.taken c.loop-at.invariant.far.follow in
     let in_stripe = one-stripe shape c.args.run write.piece.block c.within_bounds.ensures c.requires.run (omega (arith, follow.0)) (omega (arith, follow.0, below)) in
-    let all = put-stops g.D.Lane.follows g.met.D.Lane.joins shape stretch c.args.run.stripe at c.args.cuts.now c.loop-at.cuts c.take-write.new.cuts write c.block_in_stripe-block.result c.in_err-write_one.field-0.0 c.args.lane.now c.loop-at.lane c.write_one.new.lane
-    c.take-write.ensures.taken in_stripe c.block_in_stripe-block.ensures.block c.loop-at.invariant.far c.in_err-write_one.ensures.err in
+    let block = c.first_in_stripe-first.ensures.follow at below ∙ ap (λ b. block_in_stripe b shape) (sym follow.0) in
+    let all = put-stops g.D.Lane.follows g.met.D.Lane.joins shape stretch c.args.run.stripe at c.args.cuts.now c.loop-at.cuts c.take-write.new.cuts write (c.first_in_stripe-first.result + at) c.in_err-write_one.field-0.0 c.args.lane.now c.loop-at.lane c.write_one.new.lane
+    c.take-write.ensures.taken in_stripe block c.loop-at.invariant.far c.in_err-write_one.ensures.err in
     search (rules, all)
 
 pub loop-at-preserved : goal.loop-at-preserved
@@ -34,8 +36,9 @@ loop-at-preserved g c =
     let below : at < stretch.count = c.loop-at-test.true in
     let follow = subst (λ (ws : List PieceWrite). BlocksFollow (block_of stretch + at) ws) c.take-write.ensures.taken c.loop-at.invariant.far.follow in
     let in_stripe = one-stripe shape c.args.run write.piece.block c.within_bounds.ensures c.requires.run (omega (arith, follow.0)) (omega (arith, follow.0, below)) in
+    let block = c.first_in_stripe-first.ensures.follow at below ∙ ap (λ b. block_in_stripe b shape) (sym follow.0) in
     record {
-      far = put-more g.D.Lane.follows g.met.D.Lane.joins shape stretch c.args.run.stripe at c.args.cuts.now c.loop-at.cuts c.take-write.new.cuts write c.block_in_stripe-block.result c.args.lane.now c.loop-at.lane c.write_one.new.lane
-          c.take-write.ensures.taken in_stripe c.block_in_stripe-block.ensures.block c.loop-at.invariant.far c.in_ok-write_one.ensures.ok;
+      far = put-more g.D.Lane.follows g.met.D.Lane.joins shape stretch c.args.run.stripe at c.args.cuts.now c.loop-at.cuts c.take-write.new.cuts write (c.first_in_stripe-first.result + at) c.args.lane.now c.loop-at.lane c.write_one.new.lane
+          c.take-write.ensures.taken in_stripe block c.loop-at.invariant.far c.in_ok-write_one.ensures.ok;
       long = c.take-write.ensures.long;
     }
