@@ -23,14 +23,17 @@ use std::time::{Clock, Duration};
 
 /// Stripes of zeroes behind locks, with their lanes. Leg 0 of each is in sync, the others join.
 #[derive(Drop)]
-struct Lanes {
-    shape: Shape,
-    locks: Vec<Door>,
-    lanes: Vec<NoteLane>,
+pub struct Lanes {
+    /// The mirror's shape.
+    pub shape: Shape,
+    /// The lock of each stripe.
+    pub locks: Vec<Door>,
+    /// The lane to each stripe.
+    pub lanes: Vec<NoteLane>,
 }
 
 /// Such stripes of this shape.
-fn open_lanes<R: Wait>(rt: &R, alloc: Global, shape: Shape) -> Result<Lanes, Fail> {
+pub fn open_lanes<R: Wait>(rt: &R, alloc: Global, shape: Shape) -> Result<Lanes, Fail> {
     let legs = legs_of_zeroes(alloc, &shape)?;
     let Ok(stripes) = open_stripes(alloc, &shape, legs, 0, Policy::RoundRobin, Start::Full) else {
         return Err(Fail::new("no stripes"));
@@ -51,7 +54,7 @@ fn open_lanes<R: Wait>(rt: &R, alloc: Global, shape: Shape) -> Result<Lanes, Fai
 
 /// Stops the test where there is not one lock and one lane a stripe, or the bytes do not lie in
 /// the export.
-fn want_lanes<R: Abort>(rt: &R, on: &Lanes, offset: u64, len: u64)
+pub fn want_lanes<R: Abort>(rt: &R, on: &Lanes, offset: u64, len: u64)
     ensures locks { length on.now.locks.items ≡ on.now.shape.stripes }
     ensures lanes { length on.now.lanes.items ≡ on.now.shape.stripes }
     ensures inside { LiesInside (record { offset = offset; length = len }) on.now.shape }

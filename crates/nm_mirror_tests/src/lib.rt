@@ -31,3 +31,5 @@ mod row;
 mod starts;
 #[cfg(test)]
 mod threads;
+#[cfg(test)]
+mod told;
