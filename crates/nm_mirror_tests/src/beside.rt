@@ -13,7 +13,8 @@ use std::test::Fail;
 use std::thread::{Threads, join, sleep};
 use std::time::{Clock, Duration};
 
-/// How often the first call looks at most whether the second one has ended, a millisecond apart.
+/// How often the first call looks at most, in all its steps, whether the second one has ended, a
+/// millisecond apart.
 const LOOKS: u32 = 10_000;
 
 /// How often a leg's call in one of the second call's stripes looks whether the other one's leg was
@@ -29,6 +30,8 @@ struct Told {
     looks: AtomicU64,
     /// Whether the second call has ended.
     ended: AtomicU64,
+    /// How often the first call looked whether the second one has ended, and it had not.
+    waits: AtomicU64,
 }
 
 impl Told {
@@ -38,7 +41,14 @@ impl Told {
             called: [AtomicU64::new(0), AtomicU64::new(0), AtomicU64::new(0)],
             looks: AtomicU64::new(0),
             ended: AtomicU64::new(0),
+            waits: AtomicU64::new(0),
         }
+    }
+
+    /// Whether the first call waits no longer: the second one has ended, or it has looked for that
+    /// too often.
+    fn lets_go(&self) -> bool {
+        is_so(&self.ended) || self.waits.fetch_add(1, Ordering::SeqCst) >= LOOKS as u64
     }
 }
 
@@ -71,7 +81,7 @@ impl<R: Clock + Sync> Hold for Beside<'_, R> {
             }
             _ => {
                 third.store(1, Ordering::SeqCst);
-                is_so(&told.ended)
+                told.lets_go()
             }
         };
         if is_free {
@@ -101,7 +111,7 @@ impl<R: Clock + Sync> Gate for BesideAtTheGate<'_, R> {
         let [_, _, last] = &told.called;
         last.store(1, Ordering::SeqCst);
         for _ in 0..LOOKS {
-            if is_so(&told.ended) {
+            if told.lets_go() {
                 return;
             }
             sleep(self.rt, Duration::from_millis(1));
@@ -175,6 +185,7 @@ fn reads_beside<'a, R: Threads + Wait + Clock + Sync + Abort, G: Gate + Drop + S
         },
     );
     assert!(rt; held && read);
+    assert!(rt; told.waits.load(Ordering::SeqCst) < LOOKS as u64);
     assert_eq!(rt; told.looks.load(Ordering::SeqCst), 4 * FEW_LOOKS as u64);
     Ok(())
 }
