@@ -12,7 +12,7 @@ help:
 	@echo 'make hostile       clients, legs and crashes that do harm, for about three quarters of an hour; FORM=short for a minute or two'
 	@echo 'make script        build nm_script and run it on the example script'
 	@echo 'make check         the whole gate: every proof from nothing, every must-fail edit, every test'
-	@echo 'make gate-cost     the gate, with what each crate costs written into docs/ARCHITECTURE.md'
+	@echo 'make gate-cost     the gate from nothing, with what each crate costs written into docs/gate.txt'
 	@echo 'make must-fail     the must-fail edits alone'
 	@echo 'make wrong-bodies  the wrong bodies that stand outside the gate'
 	@echo 'make fail-alloc    allocations of the tests failing in turn, and whether a step takes memory (no part of the gate)'
@@ -35,7 +35,7 @@ hostile:
 script:
 	@echo 'The first time this proves nm_script and what it stands on, which takes about 5 minutes on 4 cores.' >&2
 	@tools/build-program nm_script
-	@cd crates/nm_script && $(RT) run < stdin 2>> ../../out/build.log || { tail -n 20 ../../out/build.log >&2; exit 1; }
+	@cd crates/nm_script && $(RT) run < stdin 2> ../../out/build/nm_script.log || { tail -n 20 ../../out/build/nm_script.log >&2; exit 1; }
 
 check:
 	@echo 'Proving every crate and its tests from nothing, then the must-fail edits, the tests and the programs.'
