@@ -4,6 +4,7 @@ pub mod Blocks
 pub mod Consistency
 pub mod Dropping
 pub mod Endings
+pub mod Heads
 pub mod LastOn
 pub mod Layings
 pub mod Legality
@@ -15,5 +16,4 @@ pub mod Parts
 pub mod Places
 pub mod Pushing
 pub mod ReadStages
-pub mod Rings
 pub mod WriteStages

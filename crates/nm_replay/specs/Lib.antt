@@ -2,6 +2,7 @@ pub mod Array
 pub mod Events
 pub mod Explained
 pub mod Following
+pub mod Heads
 pub mod History
 pub mod Kept
 pub mod Laws

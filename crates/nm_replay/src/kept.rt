@@ -1,10 +1,14 @@
-ghost use Rattle.std.specs.Prelude.{◌≡◌, ◌+◌, ◌^◌, ◌<◌, [], ◌∷◌, ◌++◌, length, min};
+ghost use Rattle.std.specs.Prelude.{◌≡◌, ◌+◌, ◌*◌, ◌^◌, ◌<◌, [], ◌∷◌, ◌++◌, length, min};
 ghost use Rattle.std.specs.Prelude.{IsOk, IfOk};
+ghost use Rattle.nm_replay.specs.Heads.{joined};
 ghost use Rattle.nm_replay.specs.Kept.{last_kept};
 
+use crate::block::BLOCK_BYTES;
 use crate::entry::Entry;
+use crate::head::Head;
 use crate::memory::Memory;
-use std::alloc::Global;
+use circular_buffer::HeapCircularBuffer;
+use std::alloc::{AllocError, Global};
 use std::marker::Model;
 
 /// How many entries are kept at most.
@@ -15,29 +19,41 @@ const KEPT: usize = 1_024;
 /// `new` takes all its memory, so a `push` takes none.
 #[derive(Debug, Drop)]
 pub struct Kept {
-    ring: Vec<Entry>,
-    /// Where the oldest entry stands. The others follow, past the end from the start on.
-    oldest: usize,
+    heads: HeapCircularBuffer<Head>,
+    /// The bytes of the entries, 512 for each: so those of a new one are copied once, in one run.
+    bytes: HeapCircularBuffer<u8>,
     total: u64,
 }
 
 impl Model for Kept {
-    ghost use Rattle.std.specs.Prelude.{◌≡◌, ◌<◌, ◌≤◌, ◌++◌, length, min, take, drop};
-    ghost use Rattle.std.specs.Prelude.{vec_capacity};
+    ghost use Rattle.std.specs.Prelude.{◌≡◌, ◌*◌, length, min};
+    ghost use Rattle.nm_replay.specs.Heads.{joined};
     ghost use Rattle.nm_replay.specs.Kept.{KeptHistory};
 
     ghost Value = { KeptHistory };
 
     ghost view = { λ k. record {
-      entries = drop k.oldest k.ring.items
-          ++ take k.oldest k.ring.items;
+      entries = joined k.heads.items k.bytes.items;
       total = k.total;
     } };
 
-    ghost invariant = { λ k. (1024 ≤ vec_capacity k.ring)
-        × (length k.ring.items ≡ min 1024 k.total)
-        × (k.oldest < 1024)
-        × (k.total < 1024 → k.oldest ≡ 0) };
+    ghost invariant = { λ k. (k.heads.capacity ≡ 1024)
+        × (k.bytes.capacity ≡ 524288)
+        × (length k.heads.items ≡ min 1024 k.total)
+        × (length k.bytes.items ≡ 512 * length k.heads.items) };
+}
+
+/// The entries of these heads, the bytes of each in front of those of the next.
+fn joined(alloc: Global, heads: &[Head], bytes: &[u8]) -> Result<Vec<Entry>, AllocError>
+    requires { length bytes.now ≡ 512 * length heads.now }
+    ensures { IfOk result (λ entries. entries.items ≡ joined heads.now bytes.now) }
+{
+    let mut entries = Vec::with_capacity(alloc, heads.len())?;
+    for (place, head) in heads.iter().enumerate() {
+        let first = place * BLOCK_BYTES;
+        entries.push(head.entry(&bytes[first..first + BLOCK_BYTES]))?;
+    }
+    Ok(entries)
 }
 
 impl Kept {
@@ -47,8 +63,8 @@ impl Kept {
         ensures total { IfOk result (λ kept. kept.total ≡ 0) }
     {
         Ok(Kept {
-            ring: Vec::with_capacity(alloc, KEPT)?,
-            oldest: 0,
+            heads: HeapCircularBuffer::with_capacity(alloc, KEPT)?,
+            bytes: HeapCircularBuffer::with_capacity(alloc, KEPT * BLOCK_BYTES)?,
             total: 0,
         })
     }
@@ -60,17 +76,8 @@ impl Kept {
         ensures entries { self.new.entries ≡ last_kept (self.old.entries ++ entry.now ∷ []) }
         ensures total { self.new.total ≡ self.old.total + 1 }
     {
-        if self.ring.len() < KEPT {
-            self.ring.push_reserved(*entry);
-        } else {
-            // Field by field: an assignment of the whole copies the entry twice.
-            let place = &mut self.ring[self.oldest];
-            place.bytes = entry.bytes;
-            place.seq = entry.seq;
-            place.kind = entry.kind;
-            place.block = entry.block;
-            self.oldest = (self.oldest + 1) % KEPT;
-        }
+        self.heads.push_back(Head::of(entry));
+        self.bytes.extend_from_slice(&entry.bytes.0);
         self.total += 1;
     }
 
@@ -83,14 +90,16 @@ impl Kept {
     }
 
     /// A copy of the kept entries, in the order of their pushes.
+    #[tactic(auto, using(crate::proofs::Heads::no_heads))]
     pub fn entries(&self, alloc: Global) -> Result<Vec<Entry>, Memory>
         ensures ok { IfOk result (λ copy. copy.items ≡ self.now.entries) }
         ensures memory_only_at_growth { self.now.entries ≡ [] → IsOk result }
     {
-        let (newer, older) = self.ring.split_at(self.oldest);
-        let mut copy = Vec::with_capacity(alloc, self.ring.len())?;
-        copy.extend_from_slice(older)?;
-        copy.extend_from_slice(newer)?;
-        Ok(copy)
+        if self.heads.is_empty() {
+            return Ok(Vec::new(alloc));
+        }
+        let heads = self.heads.to_vec(alloc)?;
+        let bytes = self.bytes.to_vec(alloc)?;
+        Ok(joined(alloc, &heads, &bytes)?)
     }
 }

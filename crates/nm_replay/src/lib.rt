@@ -8,6 +8,8 @@
 
 pub use block::{BLOCK_BYTES, Block};
 pub use entry::{Entry, Kind};
+#[doc(hidden)]
+pub use head::Head;
 pub use history::{check, check_indexed};
 pub use kept::Kept;
 pub use memory::Memory;
@@ -15,6 +17,7 @@ pub use plain_array::PlainArray;
 
 mod block;
 mod entry;
+mod head;
 mod history;
 mod kept;
 pub mod laws;
