@@ -1,0 +1,155 @@
+"""The control port of nbdmirror: lines in, lines out. nbdmirrorctl and the scripts of interop/ speak to it by this.
+
+It needs nothing but an interpreter's standard library.
+"""
+import re
+import socket
+import time
+
+DEFAULT = "127.0.0.1:10810"
+# The server may be at work on another control connection, and lets one that says nothing stay for 60 seconds.
+TIMEOUT_SECONDS = 70
+# After so long without an answer a person is told what that may mean.
+QUIET_SECONDS = 2
+# What no server sends more of: bytes in a line, and stripes.
+MOST_BYTES, MOST_STRIPES = 4096, 1024
+STRIPE = re.compile(r"stripe (\d{1,20}): (.*)")
+RUNNING = re.compile(r"master (\d{1,20}) settling (yes|no) legs((?: (?:in|out|join\(\d{1,20}\)))+)")
+FAILED = re.compile(r"fail (\d+): failed (\d+) last (\d+) out (\d+) stopped (\d+)")
+ATTACHED = re.compile(r"attach (\d+): joining (\d+) left (\d+) notout (\d+) stopped (\d+)")
+
+
+class Trouble(Exception):
+    """Why there is no answer that can be used."""
+
+
+class Control:
+    """One connection to the control port, which is an address and a port."""
+
+    def __init__(self, address, timeout=TIMEOUT_SECONDS, tell=None):
+        """`tell` is called with a text where an answer takes long, once."""
+        self.timeout, self.tell, self.data = timeout, tell, b""
+        self.end = time.monotonic() + timeout
+        try:
+            self.socket = socket.create_connection(address, timeout=timeout)
+        except ConnectionRefusedError as error:
+            raise Trouble(f"cannot reach {address[0]}:{address[1]}: the server does not run, or still compares its "
+                          "legs") from error
+        except (OSError, UnicodeError) as error:
+            raise Trouble(f"cannot reach {address[0]}:{address[1]}: {error}") from error
+
+    def __enter__(self):
+        return self
+
+    def __exit__(self, *_):
+        self.socket.close()
+
+    def send(self, *lines):
+        """Sends these lines in one piece, so that no other command comes between them."""
+        self.end = time.monotonic() + self.timeout
+        try:
+            self.socket.settimeout(self.timeout)
+            self.socket.sendall("".join(f"{line}\n" for line in lines).encode("ascii"))
+        except OSError as error:
+            raise Trouble(f"the connection broke: {error}") from error
+
+    def receive(self):
+        """The next bytes that the server sends."""
+        while True:
+            left = self.end - time.monotonic()
+            try:
+                self.socket.settimeout(max(0.001, min(left, QUIET_SECONDS) if self.tell else left))
+                data = self.socket.recv(1 << 16)
+            except TimeoutError as error:
+                if not self.tell or self.end <= time.monotonic():
+                    raise Trouble(f"no answer within {self.timeout:g} seconds: other control connections are open, a "
+                                  "leg hangs, or the server has had a quit and serves its last clients") from error
+                tell, self.tell = self.tell, None
+                tell("no answer yet: other control connections are open, a leg hangs, or the server has had a quit and "
+                     f"serves its last clients; waiting for {self.timeout:g} seconds in all")
+                continue
+            except OSError as error:
+                raise Trouble(f"the connection broke: {error}") from error
+            if not data:
+                raise Trouble("the server closed the connection")
+            return data
+
+    def next_line(self):
+        """The next line of an answer."""
+        while b"\n" not in self.data:
+            if len(self.data) > MOST_BYTES:
+                raise Trouble(f"the server answered {self.data[:40]} and no end of the line")
+            self.data += self.receive()
+        line, _, self.data = self.data.partition(b"\n")
+        if len(line) > MOST_BYTES or not (line.isascii() and line.decode("ascii").isprintable()):
+            raise Trouble(f"the server answered {line[:80]}")
+        return line.decode("ascii")
+
+    def ask(self, line):
+        """The first line of the answer to a line."""
+        self.send(line)
+        return self.next_line()
+
+    def status_lines(self):
+        """The lines of a status that was asked for, without the last one, which says `end`."""
+        lines = []
+        while (line := self.next_line()) != "end":
+            lines.append(line)
+            if len(lines) > MOST_STRIPES:
+                raise Trouble("the server answered with no end of stripes")
+        return lines
+
+    def status(self):
+        """The stripes, each as a dictionary."""
+        self.send("status")
+        return [stripe_of(line) for line in self.status_lines()]
+
+
+def leg_of(word):
+    """A leg's state in a stripe, and how many blocks it lacks there: None where that is not told."""
+    if word.startswith("join("):
+        return {"state": "join", "left": int(word[5:-1])}
+    return {"state": word, "left": 0 if word == "in" else None}
+
+
+def stripe_of(line):
+    """A line of the status. What a stripe that stopped, or whose lock stayed held, does not tell is not there."""
+    found = STRIPE.fullmatch(line)
+    if not found:
+        raise Trouble(f"the server answered '{line}'")
+    number, text = int(found[1]), found[2]
+    if text == "stopped":
+        return {"stripe": number, "stopped": True, "busy": False}
+    if text == "busy":
+        return {"stripe": number, "stopped": None, "busy": True}
+    found = RUNNING.fullmatch(text)
+    if not found:
+        raise Trouble(f"the server answered '{line}'")
+    return {
+        "stripe": number,
+        "stopped": False,
+        "busy": False,
+        "master": int(found[1]),
+        "settling": found[2] == "yes",
+        "legs": [leg_of(word) for word in found[3].split()],
+    }
+
+
+def legs_in(stripes, state):
+    """The legs that are in this state in some stripe: what each still lacks, stripe by stripe."""
+    found = {}
+    for stripe in stripes:
+        for number, leg in enumerate(stripe.get("legs", [])):
+            if leg["state"] == state:
+                found.setdefault(number, []).append(leg["left"])
+    return found
+
+
+def masters(stripes):
+    """The legs that are in sync in every stripe. A stripe that stopped has none, and of a busy one none is known."""
+    common = None
+    for stripe in stripes:
+        legs = stripe.get("legs", [])
+        here = {number for number, leg in enumerate(legs) if leg["state"] == "in"}
+        common = here if common is None else common & here
+    return sorted(common or [])
