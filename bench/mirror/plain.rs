@@ -2,387 +2,27 @@
 // lock for each step, in each stripe the same rules, records, regions and history, and calls in the
 // same rounds, whose halves have a thread each where both have a region's blocks. A call of the
 // mirror beside another starts none; one here does, but for the rows without threads.
-use std::collections::VecDeque;
 use std::hint::black_box;
 use std::ops::Range;
 use std::sync::{Arc, Mutex};
 use std::thread;
 use std::time::Instant;
 
+#[path = "../common/stripe.rs"]
+mod stripe;
+use stripe::{Block, Data, Kind, LEGS, NUMBERS, REGION, Reach, Stripe};
+
 const BLOCKS: u64 = 16_384;
 const BYTES: u64 = 512 * BLOCKS;
 const TURNS: u64 = 16;
 const ROUNDS: u32 = 5;
 const MOST: usize = 1 << 20;
-const REGION: u64 = 128;
-const MOST_RECORDS: usize = 256;
-const MOST_ENTRIES: usize = 1_024;
-const NUMBERS: u64 = 1 << 63;
-const LEGS: usize = 8;
 const MOST_AT_ONCE: usize = 8;
 
-#[derive(Clone, Copy)]
-struct Block([u8; 512]);
-
-enum Kind {
-    Read,
-    Write(u64),
-}
-
-struct Entry {
-    seq: u64,
-    kind: Kind,
-    block: u64,
-    bytes: Block,
-}
-
-// Bytes of a receive buffer.
-struct Data(Arc<[u8]>, Range<usize>);
-
-impl Data {
-    fn bytes(&self) -> &[u8] {
-        &self.0[self.1.clone()]
-    }
-}
-
-struct Record {
-    ticket: u64,
-    block: u64,
-    data: Data,
-    owed: [bool; LEGS],
-    entry: Option<u64>,
-}
-
-#[allow(dead_code)]
-#[derive(Debug)]
-enum Refusal {
-    Busy(u64),
-    Copying(u8),
-    Full,
-    Settling,
-    Stopped,
-    Exhausted,
-    NoTicket,
-    NotOwed,
-    NotYet,
-}
-
-enum Reach {
-    Pushed(usize),
-    Complete(u64),
-}
-
-// The last entries, and the count of all.
-struct Kept {
-    ring: VecDeque<Entry>,
-    total: u64,
-}
-
-impl Kept {
-    fn push(&mut self, entry: Entry) {
-        if self.ring.len() == MOST_ENTRIES {
-            self.ring.pop_front();
-        }
-        self.ring.push_back(entry);
-        self.total += 1;
-    }
-}
-
-// The records by rising ticket. Each stays in its slot; a search reads tickets and blocks alone.
-struct Records {
-    tickets: Vec<u64>,
-    blocks: Vec<u64>,
-    slots: Vec<u8>,
-    stored: Vec<Option<Record>>,
-    free: Vec<u8>,
-    unlanded: u64,
-}
-
-impl Records {
-    fn new() -> Records {
-        Records {
-            tickets: Vec::with_capacity(MOST_RECORDS),
-            blocks: Vec::with_capacity(MOST_RECORDS),
-            slots: Vec::with_capacity(MOST_RECORDS),
-            stored: (0..MOST_RECORDS).map(|_| None).collect(),
-            free: (0..=255).rev().collect(),
-            unlanded: 0,
-        }
-    }
-
-    fn at(&self, place: usize) -> &Record {
-        self.stored[self.slots[place] as usize].as_ref().unwrap()
-    }
-
-    fn at_mut(&mut self, place: usize) -> &mut Record {
-        self.stored[self.slots[place] as usize].as_mut().unwrap()
-    }
-
-    fn find(&self, ticket: u64) -> Result<usize, Refusal> {
-        self.tickets
-            .binary_search(&ticket)
-            .map_err(|_| Refusal::NoTicket)
-    }
-
-    fn busy_among(&self, blocks: Range<u64>) -> Option<u64> {
-        let under_way = |place: &usize| {
-            blocks.contains(&self.blocks[*place]) && self.at(*place).owed.contains(&true)
-        };
-        let place = (0..self.blocks.len()).find(under_way)?;
-        Some(self.tickets[place])
-    }
-
-    fn is_full(&self) -> bool {
-        self.tickets.len() >= MOST_RECORDS
-    }
-
-    fn push(&mut self, record: Record) {
-        let slot = self.free.pop().unwrap();
-        self.tickets.push(record.ticket);
-        self.blocks.push(record.block);
-        self.slots.push(slot);
-        self.stored[slot as usize] = Some(record);
-        self.unlanded += 1;
-    }
-
-    fn remove(&mut self, place: usize) -> Record {
-        self.tickets.remove(place);
-        self.blocks.remove(place);
-        let slot = self.slots.remove(place);
-        self.free.push(slot);
-        self.stored[slot as usize].take().unwrap()
-    }
-}
-
-#[derive(Clone, Copy)]
-struct CopyPlace {
-    leg: u8,
-    region: u64,
-    cursor: u64,
-}
-
-struct LegFlags {
-    out: bool,
-    behind: Vec<bool>,
-    count: u64,
-}
-
-// For each region the writes under way, and for each leg the regions that it is behind in. The
-// region's size is known at run time only, as it is to the proved stripe.
-struct Regions {
-    region: u64,
-    legs: Vec<LegFlags>,
-    writes: Vec<u16>,
-    copy: Option<CopyPlace>,
-}
-
-impl Regions {
-    fn new(blocks: u64) -> Regions {
-        let regions = blocks.div_ceil(REGION) as usize;
-        let flags = || LegFlags {
-            out: false,
-            behind: vec![false; regions],
-            count: 0,
-        };
-        Regions {
-            region: black_box(REGION),
-            legs: vec![flags(), flags()],
-            writes: vec![0; regions],
-            copy: None,
-        }
-    }
-
-    fn is_current(&self, leg: usize, block: u64) -> bool {
-        let region = block / self.region;
-        let Some(flags) = self.legs.get(leg) else {
-            return false;
-        };
-        let is_copied = |copy: CopyPlace| {
-            copy.leg as usize == leg && copy.region == region && block % self.region < copy.cursor
-        };
-        (!flags.out && !flags.behind[region as usize]) || self.copy.is_some_and(is_copied)
-    }
-
-    fn targets(&self, block: u64) -> [bool; LEGS] {
-        std::array::from_fn(|leg| self.is_current(leg, block))
-    }
-
-    fn is_quiet(&self, block: u64) -> bool {
-        self.writes[(block / self.region) as usize] == 0
-    }
-
-    fn begin(&mut self, block: u64) {
-        let region = (block / self.region) as usize;
-        self.writes[region] += 1;
-        for leg in self.legs.iter_mut().filter(|leg| leg.out) {
-            leg.count += u64::from(!leg.behind[region]);
-            leg.behind[region] = true;
-        }
-    }
-
-    fn finish(&mut self, block: u64) {
-        self.writes[(block / self.region) as usize] -= 1;
-    }
-}
-
-struct Stripe {
-    legs: Vec<Vec<Block>>,
-    regions: Regions,
-    chunk: u64,
-    records: Records,
-    tickets: u64,
-    kept: Kept,
-    turn: u64,
-    settling: bool,
-    stopped: bool,
-}
-
-impl Stripe {
-    fn open(blocks: u64) -> Stripe {
-        let leg = || vec![Block([0; 512]); blocks as usize];
-        Stripe {
-            legs: vec![leg(), leg()],
-            regions: Regions::new(blocks),
-            chunk: 0,
-            records: Records::new(),
-            tickets: 0,
-            kept: Kept {
-                ring: VecDeque::with_capacity(MOST_ENTRIES),
-                total: 0,
-            },
-            turn: 0,
-            settling: false,
-            stopped: false,
-        }
-    }
-
-    fn is_exhausted(&self) -> bool {
-        self.kept.total + self.records.unlanded >= NUMBERS
-    }
-
-    fn copying_on(&self, block: u64) -> Option<u8> {
-        let copy = self.regions.copy?;
-        let start = copy.region * self.regions.region + copy.cursor;
-        (start..start + self.chunk)
-            .contains(&block)
-            .then_some(copy.leg)
-    }
-
-    fn begin_cause(&self, block: u64) -> Option<Refusal> {
-        if self.stopped {
-            return Some(Refusal::Stopped);
-        }
-        if self.settling {
-            return Some(Refusal::Settling);
-        }
-        if let Some(ticket) = self.records.busy_among(block..block + 1) {
-            return Some(Refusal::Busy(ticket));
-        }
-        if let Some(leg) = self.copying_on(block) {
-            return Some(Refusal::Copying(leg));
-        }
-        if self.records.is_full() {
-            return Some(Refusal::Full);
-        }
-        self.is_exhausted().then_some(Refusal::Exhausted)
-    }
-
-    fn begin(&mut self, block: u64, data: Data) -> Result<u64, (Refusal, Data)> {
-        if let Some(refusal) = self.begin_cause(block) {
-            return Err((refusal, data));
-        }
-        let ticket = self.tickets;
-        let owed = self.regions.targets(block);
-        self.regions.begin(block);
-        self.records.push(Record {
-            ticket,
-            block,
-            data,
-            owed,
-            entry: None,
-        });
-        self.tickets += 1;
-        Ok(ticket)
-    }
-
-    fn push(&mut self, ticket: u64, leg: usize) -> Result<Reach, Refusal> {
-        if self.stopped {
-            return Err(Refusal::Stopped);
-        }
-        let place = self.records.find(ticket)?;
-        let record = self.records.at_mut(place);
-        if record.owed.get(leg) != Some(&true) {
-            return Err(Refusal::NotOwed);
-        }
-        let bytes: &[u8; 512] = record.data.bytes().try_into().unwrap();
-        self.legs[leg][record.block as usize].0 = *bytes;
-        let lands = leg == 0 && record.entry.is_none();
-        if lands {
-            let number = self.kept.total;
-            self.kept.push(Entry {
-                seq: number,
-                kind: Kind::Write(ticket),
-                block: record.block,
-                bytes: Block(*bytes),
-            });
-            record.entry = Some(number);
-        }
-        record.owed[leg] = false;
-        let (block, entry) = (record.block, record.entry);
-        let owed = record.owed.iter().filter(|owed| **owed).count();
-        self.records.unlanded -= u64::from(lands);
-        if owed > 0 {
-            return Ok(Reach::Pushed(owed));
-        }
-        self.regions.finish(block);
-        Ok(Reach::Complete(entry.unwrap()))
-    }
-
-    fn claim(&mut self, ticket: u64) -> Result<u64, Refusal> {
-        if self.stopped {
-            return Err(Refusal::Stopped);
-        }
-        let place = self.records.find(ticket)?;
-        if self.records.at(place).owed.contains(&true) {
-            return Err(Refusal::NotYet);
-        }
-        Ok(self.records.remove(place).entry.unwrap())
-    }
-
-    // The leg that a read takes: one leg after the other in a quiet region, else the master.
-    fn leg_to_read(&self, block: u64) -> usize {
-        if !self.regions.is_quiet(block) {
-            return 0;
-        }
-        let current = self.regions.targets(block);
-        let count = current.iter().filter(|is_current| **is_current).count();
-        let mut legs = (0..LEGS).filter(|leg| current[*leg]);
-        legs.nth(self.turn as usize % count).unwrap()
-    }
-
-    fn read(&mut self, block: u64, into: &mut Block) -> Result<u64, Refusal> {
-        if self.stopped {
-            return Err(Refusal::Stopped);
-        }
-        if self.settling {
-            return Err(Refusal::Settling);
-        }
-        if self.is_exhausted() {
-            return Err(Refusal::Exhausted);
-        }
-        let number = self.kept.total;
-        *into = self.legs[self.leg_to_read(block)][block as usize];
-        self.kept.push(Entry {
-            seq: number,
-            kind: Kind::Read,
-            block,
-            bytes: *into,
-        });
-        if self.regions.is_quiet(block) {
-            self.turn = (self.turn + 1) % 840;
-        }
-        Ok(number)
-    }
+// A stripe of so many blocks, which two legs have.
+fn open_stripe(blocks: u64) -> Stripe {
+    let leg = || vec![Block([0; 512]); blocks as usize];
+    Stripe::open(vec![leg(), leg()], [true, true])
 }
 
 // What a client was given in one stripe.
@@ -407,7 +47,7 @@ struct Mirror {
 
 impl Mirror {
     fn new(stripes: u64, side_by_side: bool) -> Mirror {
-        let open = |_| Mutex::new(Stripe::open(BLOCKS / stripes));
+        let open = |_| Mutex::new(open_stripe(BLOCKS / stripes));
         Mirror {
             stripes: (0..stripes).map(open).collect(),
             region: black_box(REGION),
@@ -480,8 +120,8 @@ impl Mirror {
                 Reach::Complete(number) => assert!(number < NUMBERS),
             }
         }
-        let number = self.step(stripe, part, |held| held.claim(ticket)).unwrap();
-        part.note(number);
+        let receipt = self.step(stripe, part, |held| held.claim(ticket)).unwrap();
+        part.note(receipt.number);
     }
 
     fn write_round(&self, parts: &mut [Part], block: u64, cuts: &mut [Option<Data>]) {
@@ -503,7 +143,7 @@ impl Mirror {
 
     // The payload is cut before the first block is written.
     fn write(&self, parts: &mut [Part], offset: u64, received: &Arc<[u8]>, len: usize) {
-        let cut = |start| Some(Data(received.clone(), start..start + 512));
+        let cut = |start| Some(Data::Cut(received.clone(), start..start + 512));
         let mut cuts: Vec<Option<Data>> = (0..len).step_by(512).map(cut).collect();
         let (mut block, mut left) = (offset / 512, &mut cuts[..]);
         while !left.is_empty() {
@@ -519,11 +159,11 @@ impl Mirror {
             for (block, into) in (block..).zip(into.chunks_mut(512)) {
                 let (stripe, block) = self.place(block);
                 let mut found = Block([0; 512]);
-                let number = self
+                let receipt = self
                     .step(stripe, part, |held| held.read(block, &mut found))
                     .unwrap();
                 into.copy_from_slice(&found.0);
-                part.note(number);
+                part.note(receipt.number);
             }
             return;
         }
