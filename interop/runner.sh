@@ -5,7 +5,25 @@
 # script that could not be tried, or whose end the budget did not leave time for, is told and counted as
 # neither passed nor failed; else it has failed. Where TRIES=2, a script that failed is run once more, and
 # that it was is told.
+#
+# Lines of a script's own say how it is run:
+#   # legs: 2             with so many legs, where not with one and with two
+#   # tries: 1            never once more: what it shows once is so
+#   # run: by name alone  only where it is named
 passed=0 failed=0 not_tried=
+
+# header SCRIPT NAME: what the script's line of this name says, or nothing.
+header() { sed -n "s/^# $2: //p" "$1"; }
+
+# scripts [NAME..]: the scripts that are named, or all of this folder that are run without being named.
+scripts() {
+    local script
+    [ $# -eq 0 ] || { printf '%s\n' "$@"; return; }
+    for script in *; do
+        case $script in run | *.py) continue ;; esac
+        [ -f "$script" ] && [ -x "$script" ] && [ "$(header "$script" run)" != 'by name alone' ] && echo "$script"
+    done
+}
 
 # run_one SECONDS COMMAND..: runs a command for so long, or as long as the budget lasts. `status` is its
 # status, or `late` where the budget ended first.
@@ -32,15 +50,16 @@ was_not_tried() {
     fi
 }
 
-# try NAME SECONDS COMMAND..
+# try NAME SECONDS SCRIPT WORD..
 try() {
-    local name=$1 limit=$2 started=$SECONDS status
+    local name=$1 limit=$2 started=$SECONDS status tries
     shift 2
+    tries=$(header "$1" tries)
     run_one "$limit" "$@"
     case $status in
         0 | 77 | late) ;;
         *)
-            if [ "${TRIES:-1}" -gt 1 ]; then
+            if [ "${tries:-${TRIES:-1}}" -gt 1 ]; then
                 echo "$name: failed with status $status after $((SECONDS - started)) s; tried once more"
                 run_one "$limit" "$@"
                 # It has failed once, and a second try that had no time does not change that.
