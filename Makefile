@@ -6,7 +6,7 @@ export RT
 .PHONY: help run script demo interop hostile check gate-cost must-fail wrong-bodies fail-alloc bench bench-server fmt
 
 help:
-	@echo 'make run           build nbdmirror and serve two legs of 64 MiB, until a quit'
+	@echo 'make run           build nbdmirror and serve two legs of 64 MiB, until a quit; PORT=20809 for other ports than 10809 and 10810'
 	@echo 'make demo          build nbdmirror and show it: a leg fails, comes back, and is copied'
 	@echo 'make interop       other programs against nbdmirror; installs what is missing'
 	@echo 'make hostile       clients, legs and crashes that do harm, for about three quarters of an hour; FORM=short for a minute or two'
@@ -21,7 +21,7 @@ help:
 	@echo 'make fmt           lay out every crate'
 
 run:
-	@tools/build-server && tools/run-server
+	@tools/preflight ports && tools/build-server && tools/run-server
 
 demo:
 	@tools/build-server && tools/demo
