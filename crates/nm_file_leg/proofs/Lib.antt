@@ -1,7 +1,6 @@
 pub mod BlockLemmas
 pub mod LegLemmas
 pub mod MediaLemmas
-pub mod PlaceLemmas
 pub mod RuleLemmas
-pub mod RunLemmas
+pub mod ReadAheadLemmas
 pub mod WindowLemmas

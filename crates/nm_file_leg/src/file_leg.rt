@@ -2,63 +2,69 @@ ghost use Rattle.std.specs.Prelude.{◌≡◌, ◌+◌, ◌%◌, ◌^◌, ◌<�
 ghost use Rattle.std.specs.Prelude.{IsErr, OnOk, OnErr, IfOk};
 ghost use Rattle.nm_replay.specs.declared.block.TheConstants.{BLOCK_BYTES};
 ghost use Rattle.nm_leg.specs.Leg.{ReadsLeg, WritesLeg, SyncsLeg};
-ghost use Rattle.nm_file_leg.specs.Places.{HasPlaces};
-ghost use Rattle.nm_file_leg.specs.Blocks.{leg_on, same_length};
+ghost use Rattle.nm_geometry.specs.Geometry.{IsGeometry, stripe_blocks};
+ghost use Rattle.nm_file_leg.specs.Blocks.{first_byte, leg_on, same_length};
 ghost use Rattle.nm_file_leg.specs.FileLeg.{KeepsBlocks, FileRules, Reaches, cursor_after};
 
-use crate::{Medium, Places};
+use crate::Medium;
+use nm_geometry::Shape;
 use nm_leg::{LegFault, LegPart};
 use nm_replay::{BLOCK_BYTES, Block};
 use std::io;
 
-/// The leg of one stripe on a medium.
+/// The leg of one stripe on a medium, which has the blocks of the whole export in their order.
 ///
 /// Over an honest medium it is an honest leg.
 #[derive(Drop)]
 pub struct FileLeg<M: Medium> {
     medium: M,
-    places: Places,
-    blocks: u64,
-    /// How many bytes the medium had as the leg was made.
+    shape: Shape,
+    stripe: u32,
+    /// How many bytes the medium had when the leg was made.
     size: u64,
     faults: u64,
     /// Each block below this one was written since the last sync that failed.
-    rewritten: u64,
+    rewritten_below: u64,
     /// No sync has succeeded since the leg was made or last written.
-    touched: bool,
-    ghost has_places: { HasPlaces places blocks },
-    ghost rules: { FileRules M.honest (M.held medium) places blocks rewritten touched },
+    dirty: bool,
+    ghost bounds: { IsGeometry shape },
+    ghost own: { stripe < shape.stripes },
+    ghost rules: { FileRules M.honest (M.held medium) stripe shape rewritten_below dirty },
 }
 
 impl<M: Medium> FileLeg<M> {
-    /// A leg of so many blocks, which lie in the medium at these places. It is not known to be
-    /// durable, so its first sync calls the medium.
+    /// The leg of this stripe of a mirror of this shape. It is not known to be durable, so its
+    /// first sync calls the medium.
     ///
-    /// Fails where the medium does not tell its length, or ends before the last block.
-    pub fn new(medium: M, places: Places, blocks: u64) -> io::Result<Self>
-        requires places { HasPlaces places blocks }
-        requires kept { IsTrue M.honest → KeepsBlocks (M.held medium) places blocks }
+    /// Fails where the medium does not tell its length, or ends before the stripe's last block.
+    pub fn new(medium: M, shape: &Shape, stripe: u32) -> io::Result<Self>
+        requires stripe { stripe < shape.now.stripes }
+        requires kept { IsTrue M.honest → KeepsBlocks (M.held medium) stripe shape.now
+            (stripe_blocks stripe shape.now) }
         ensures leg { IfOk result (λ leg.
-            leg_on (M.held leg.medium) leg.places leg.blocks leg.faults
-            ≡ leg_on (M.held medium) places blocks 0) }
-        ensures laid { IfOk result (λ leg. (leg.places ≡ places) × (leg.blocks ≡ blocks)) }
-        ensures synced { IfOk result (λ leg. IsTrue leg.touched × (leg.rewritten ≡ blocks)) }
+            leg_on (M.held leg.medium) leg.stripe leg.shape leg.faults
+            ≡ leg_on (M.held medium) stripe shape.now 0) }
+        ensures laid { IfOk result (λ leg. (leg.shape ≡ shape.now) × (leg.stripe ≡ stripe)) }
+        ensures synced { IfOk result (λ leg. IsTrue leg.dirty
+            × (leg.rewritten_below ≡ stripe_blocks stripe shape.now)) }
         ensures size { IsTrue M.honest
             → IfOk result (λ leg. leg.size ≡ length (M.held medium).contents) }
-        ensures reaches { IfOk result (λ leg. Reaches places blocks leg.size) }
+        ensures reaches { IfOk result (λ leg. Reaches stripe shape.now leg.size) }
     {
+        let blocks = shape.stripe_blocks(stripe);
+        let last = shape.export_block(stripe, blocks - 1);
         let size = medium.len()?;
-        if blocks > 0 && size < BLOCK_BYTES as u64 * (places.place(blocks - 1) + 1) {
+        if size < BLOCK_BYTES as u64 * last + BLOCK_BYTES as u64 {
             return Err(io::Error::from(io::ErrorKind::UnexpectedEof));
         }
         Ok(FileLeg {
             medium,
-            places,
-            blocks,
+            shape: *shape,
+            stripe,
             size,
             faults: 0,
-            rewritten: blocks,
-            touched: true,
+            rewritten_below: blocks,
+            dirty: true,
         })
     }
 
@@ -67,6 +73,14 @@ impl<M: Medium> FileLeg<M> {
         ensures { result.now ≡ self.now.medium }
     {
         &self.medium
+    }
+
+    /// Where a block of the stripe begins in the medium.
+    fn first_byte(&self, block: u64) -> u64
+        requires { block < stripe_blocks self.now.stripe self.now.shape }
+        ensures { result ≡ first_byte self.now.stripe self.now.shape block }
+    {
+        BLOCK_BYTES as u64 * self.shape.export_block(self.stripe, block)
     }
 
     /// Asks the medium for its length: it has one, and is not shorter than it was.
@@ -89,18 +103,19 @@ fn count_fault(faults: &mut u64) -> LegFault
 impl<M: Medium> LegPart for FileLeg<M> {
     ghost honest = { M.honest };
 
-    ghost model = { λ leg. leg_on (M.held leg.medium) leg.places leg.blocks leg.faults };
+    ghost model = { λ leg. leg_on (M.held leg.medium) leg.stripe leg.shape leg.faults };
 
-    ghost same_length = { λ leg. same_length leg.places leg.blocks
+    ghost same_length = { λ leg. same_length leg.stripe leg.shape
+        (stripe_blocks leg.stripe leg.shape)
         (M.held leg.medium).durable (M.held leg.medium).contents };
 
     fn len(&self) -> u64 {
-        self.blocks
+        self.shape.stripe_blocks(self.stripe)
     }
 
     fn read(&mut self, at: u64, into: &mut Block) -> Result<(), LegFault> {
         let mut found = [0; BLOCK_BYTES];
-        let first = BLOCK_BYTES as u64 * self.places.place(at);
+        let first = self.first_byte(at);
         match self.medium.read_at(first, &mut found) {
             Ok(512) => {
                 into.0 = found;
@@ -111,28 +126,28 @@ impl<M: Medium> LegPart for FileLeg<M> {
     }
 
     fn write(&mut self, at: u64, bytes: &[u8]) -> Result<(), LegFault>
-        requires block { at < length (leg_on (M.held self.old.medium) self.old.places
-            self.old.blocks self.old.faults).contents }
+        requires block { at < length (leg_on (M.held self.old.medium) self.old.stripe
+            self.old.shape self.old.faults).contents }
         requires bytes { length bytes.now ≡ BLOCK_BYTES }
         ensures writes { WritesLeg M.honest (is_ok result) at bytes.now
-            (leg_on (M.held self.old.medium) self.old.places self.old.blocks self.old.faults)
-            (leg_on (M.held self.new.medium) self.new.places self.new.blocks self.new.faults) }
+            (leg_on (M.held self.old.medium) self.old.stripe self.old.shape self.old.faults)
+            (leg_on (M.held self.new.medium) self.new.stripe self.new.shape self.new.faults) }
         ensures shorter { IsTrue M.honest
             → length (M.held self.old.medium).contents < self.old.size
             → IsErr result × (self.new.medium ≡ self.old.medium) }
-        ensures touched { OnOk result (IsTrue self.new.touched) }
-        ensures rewritten { self.new.rewritten
-            ≡ cursor_after (is_ok result) at self.old.rewritten }
+        ensures dirty { OnOk result (IsTrue self.new.dirty) }
+        ensures rewritten { self.new.rewritten_below
+            ≡ cursor_after (is_ok result) at self.old.rewritten_below }
     {
-        let first = BLOCK_BYTES as u64 * self.places.place(at);
+        let first = self.first_byte(at);
         if !self.is_whole() {
             return Err(count_fault(&mut self.faults));
         }
-        self.touched = true;
+        self.dirty = true;
         match self.medium.write_at(first, bytes) {
             Ok(512) => {
-                if at == self.rewritten {
-                    self.rewritten += 1;
+                if at == self.rewritten_below {
+                    self.rewritten_below += 1;
                 }
                 Ok(())
             }
@@ -142,30 +157,31 @@ impl<M: Medium> LegPart for FileLeg<M> {
 
     fn sync(&mut self) -> Result<(), LegFault>
         ensures syncs { SyncsLeg M.honest (is_ok result)
-            (leg_on (M.held self.old.medium) self.old.places self.old.blocks self.old.faults)
-            (leg_on (M.held self.new.medium) self.new.places self.new.blocks self.new.faults) }
-        ensures quiet { IsFalse self.old.touched
+            (leg_on (M.held self.old.medium) self.old.stripe self.old.shape self.old.faults)
+            (leg_on (M.held self.new.medium) self.new.stripe self.new.shape self.new.faults) }
+        ensures quiet { IsFalse self.old.dirty
             → IsTrue (is_ok result) × (self.new ≡ self.old) }
-        ensures lost { IsTrue self.old.touched → self.old.rewritten < self.old.blocks
+        ensures lost { IsTrue self.old.dirty
+            → self.old.rewritten_below < stripe_blocks self.old.stripe self.old.shape
             → IsErr result × (self.new.medium ≡ self.old.medium)
-            × (self.new.rewritten ≡ self.old.rewritten) × IsTrue self.new.touched }
-        ensures synced { OnOk result (IsFalse self.new.touched) }
-        ensures restarts { self.old.blocks ≤ self.old.rewritten
-            → OnErr result (IsTrue self.new.touched × (self.new.rewritten ≡ 0)) }
+            × (self.new.rewritten_below ≡ self.old.rewritten_below) × IsTrue self.new.dirty }
+        ensures synced { OnOk result (IsFalse self.new.dirty) }
+        ensures restarts { stripe_blocks self.old.stripe self.old.shape ≤ self.old.rewritten_below
+            → OnErr result (IsTrue self.new.dirty × (self.new.rewritten_below ≡ 0)) }
     {
-        if !self.touched {
+        if !self.dirty {
             return Ok(());
         }
-        if self.rewritten < self.blocks {
+        if self.rewritten_below < self.shape.stripe_blocks(self.stripe) {
             return Err(count_fault(&mut self.faults));
         }
         match self.medium.sync() {
             Ok(()) => {
-                self.touched = false;
+                self.dirty = false;
                 Ok(())
             }
             Err(_) => {
-                self.rewritten = 0;
+                self.rewritten_below = 0;
                 Err(count_fault(&mut self.faults))
             }
         }

@@ -1,9 +1,9 @@
 ghost use Rattle.std.specs.Prelude.{◌≡◌, ◌≢◌, ◌+◌, ◌%◌, ◌<◌, ◌≤◌, length, IsTrue, Ok, OnErr, IfOk};
-ghost use Rattle.nm_file_leg.specs.Run.{IsRunOf, follows, bytes_at_once};
+ghost use Rattle.nm_file_leg.specs.ReadAheadBuffer.{IsReadFrom, follows, bytes_at_once};
 ghost use Rattle.nm_file_leg.specs.Medium.{ReadsMedium, WritesMedium, SyncsMedium};
 
 use crate::Medium;
-use crate::run::Run;
+use crate::read_ahead_buffer::ReadAheadBuffer;
 use nm_replay::Memory;
 use std::alloc::Global;
 use std::cell::Cell;
@@ -23,7 +23,7 @@ const PAGE: u64 = 8 * 512;
 #[derive(Drop)]
 pub struct ReadAhead<M: Medium> {
     medium: M,
-    run: Run,
+    buffer: ReadAheadBuffer,
     /// How many bytes a region has.
     region: u64,
     /// Where the last read ended, if it succeeded.
@@ -32,9 +32,9 @@ pub struct ReadAhead<M: Medium> {
     /// the next one.
     length_failed: Cell<bool>,
     ghost some: { 0 < region },
-    ghost room: { region ≡ length run.bytes.items },
-    ghost inside: { run.first % region + run.kept ≤ region },
-    ghost rules: { IsTrue M.honest → IsRunOf run (M.held medium).contents },
+    ghost room: { region ≡ length buffer.bytes.items },
+    ghost inside: { buffer.first % region + buffer.kept ≤ region },
+    ghost rules: { IsTrue M.honest → IsReadFrom buffer (M.held medium).contents },
 }
 
 impl<M: Medium> ReadAhead<M> {
@@ -48,7 +48,7 @@ impl<M: Medium> ReadAhead<M> {
         bytes.resize(region as usize, 0)?;
         Ok(ReadAhead {
             medium,
-            run: Run {
+            buffer: ReadAheadBuffer {
                 bytes,
                 first: 0,
                 kept: 0,
@@ -95,14 +95,14 @@ impl<M: Medium> ReadAhead<M> {
         ensures { IsTrue M.honest → M.held self.new.medium ≡ M.held self.old.medium }
     {
         if self.length_failed.take() {
-            self.run.clear();
+            self.buffer.clear();
         }
-        if self.run.keeps(at, asked) {
+        if self.buffer.keeps(at, asked) {
             return;
         }
         let most = self.bytes_at_once(at);
         if most > asked as u64 {
-            self.run.fill(&mut self.medium, at, most as usize);
+            self.buffer.fill(&mut self.medium, at, most as usize);
         }
     }
 }
@@ -113,44 +113,44 @@ impl<M: Medium> Medium for ReadAhead<M> {
     ghost held = { λ ahead. M.held ahead.medium };
 
     fn read_at(&mut self, at: u64, into: &mut [u8]) -> io::Result<usize>
-        ensures drops { result ≢ Ok (length into.new) → self.new.run.kept ≡ 0 }
+        ensures drops { result ≢ Ok (length into.new) → self.new.buffer.kept ≡ 0 }
         ensures reads { ReadsMedium M.honest result at (M.held self.old.medium)
             (M.held self.new.medium) into.new }
     {
         self.read_ahead(at, into.len());
-        if self.run.find(at, into) {
+        if self.buffer.find(at, into) {
             self.next = at.checked_add(into.len() as u64);
             return Ok(into.len());
         }
         let many = self.medium.read_at(at, into);
         match many {
             Ok(many) if many == into.len() => self.next = at.checked_add(many as u64),
-            _ => self.run.clear(),
+            _ => self.buffer.clear(),
         }
         many
     }
 
     fn write_at(&mut self, at: u64, bytes: &[u8]) -> io::Result<usize>
-        ensures drops { result ≢ Ok (length bytes.now) → self.new.run.kept ≡ 0 }
+        ensures drops { result ≢ Ok (length bytes.now) → self.new.buffer.kept ≡ 0 }
         ensures writes { WritesMedium M.honest result at bytes.now (M.held self.old.medium)
             (M.held self.new.medium) }
     {
         let many = self.medium.write_at(at, bytes);
         match many {
-            Ok(many) if many == bytes.len() => self.run.patch(at, bytes),
-            _ => self.run.clear(),
+            Ok(many) if many == bytes.len() => self.buffer.patch(at, bytes),
+            _ => self.buffer.clear(),
         }
         many
     }
 
     fn sync(&mut self) -> io::Result<()>
-        ensures drops { OnErr result (self.new.run.kept ≡ 0) }
+        ensures drops { OnErr result (self.new.buffer.kept ≡ 0) }
         ensures syncs { SyncsMedium M.honest result (M.held self.old.medium)
             (M.held self.new.medium) }
     {
         let done = self.medium.sync();
         if done.is_err() {
-            self.run.clear();
+            self.buffer.clear();
         }
         done
     }

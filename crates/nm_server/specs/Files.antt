@@ -1,7 +1,6 @@
 -- The legs' files, and the mirror that is laid over them.
-use Rattle.std.specs.Prelude.{ℕ, ◌≡◌, ◌≤◌, ◌^◌, min}
-use Rattle.nm_file_leg.specs.declared.places.Places.{Places}
-use Rattle.nm_geometry.specs.Geometry.{Geometry, geometry, regions_for, stripe_blocks}
+use Rattle.std.specs.Prelude.{ℕ, ◌≤◌, ◌^◌, min}
+use Rattle.nm_geometry.specs.Geometry.{Geometry, geometry, regions_for}
 
 -- how many legs there are, and how many blocks each one's file has
 pub record Files : Type 0 where
@@ -17,14 +16,3 @@ pub record AreFiles (files : Files) : Type 0 where
 abbrev pub laid_over : (stripes : ℕ) → Files → Geometry
 laid_over stripes files =
     geometry files.blocks 128 8 (min stripes (regions_for 128 files.blocks)) files.legs
-
--- the places of a stripe's blocks in each leg's file
-pub record AreStripePlaces (stripe : ℕ) (shape : Geometry) (places : Places) : Type 0 where
-  pub region : places.region ≡ shape.region
-  pub stripes : places.stripes ≡ shape.stripes
-  pub own : places.stripe ≡ stripe
-
--- a leg of the stripe: where its blocks lie, and how many they are
-abbrev pub IsStripeLeg : (stripe : ℕ) → Geometry → Places → (blocks : ℕ) → Type 0
-IsStripeLeg stripe shape places blocks =
-    AreStripePlaces stripe shape places × (blocks ≡ stripe_blocks stripe shape)

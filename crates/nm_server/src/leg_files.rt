@@ -1,22 +1,21 @@
 //! The files of the legs.
 ghost use Rattle.std.specs.Prelude.{◌≡◌, ◌<◌, ◌≤◌, ◌↔◌, ◌*◌, ◌-◌, ◌^◌, min, length};
 ghost use Rattle.std.specs.Prelude.{IsSome, IfSome, IfOk, All};
-ghost use Rattle.nm_file_leg.specs.Places.{HasPlaces};
-ghost use Rattle.nm_geometry.specs.Geometry.{IsGeometry, stripe_blocks};
-ghost use Rattle.nm_server.specs.Files.{laid_over, AreStripePlaces, IsStripeLeg};
+ghost use Rattle.nm_geometry.specs.Geometry.{IsGeometry};
+ghost use Rattle.nm_server.specs.Files.{laid_over};
 
+use crate::counting_file::{BytesRead, CountingFile};
 use crate::start_fault::StartFault;
-use crate::watched_file::{ReadCount, WatchedFile};
-use nm_file_leg::{FileLeg, Places, ReadAhead};
-use nm_geometry::Shape;
-use nm_geometry::laws::stripes_lie_inside;
+use nm_file_leg::{FileLeg, FileUser, ReadAhead, SharedFile};
+use nm_geometry::{MOST_STRIPES, Shape};
 use nm_lanes::NoGate;
 use nm_mirror::Mirror;
-use std::alloc::Global;
+use std::alloc::{AllocError, Global};
 use std::fs::{File, OpenOptions};
 use std::io::{Seek, SeekFrom};
 use std::marker::Model;
 use std::rt::Files;
+use std::sync::Arc;
 
 /// How many bytes a block has.
 const BLOCK_BYTES: u64 = nm_replay::BLOCK_BYTES as u64;
@@ -35,16 +34,16 @@ const CHUNK: u64 = 8;
 const AHEAD: u64 = 32 * BLOCK_BYTES;
 
 /// A leg on a file.
-pub type Leg = FileLeg<ReadAhead<WatchedFile>>;
+pub type Leg = FileLeg<ReadAhead<CountingFile>>;
 
 /// The mirror that the program serves.
 pub type FileMirror = Mirror<Leg, NoGate>;
 
-/// The legs' files, each opened once and locked, so that no other server and no other leg uses it.
-/// Contracts see how many there are, and how many blocks each has.
+/// The legs' files, each opened once for all stripes and locked, so that no other server and no
+/// other leg uses it. Contracts see how many there are, and how many blocks each has.
 #[derive(Drop)]
 pub struct LegFiles {
-    files: Vec<File>,
+    files: Vec<Arc<SharedFile<File>>>,
     blocks: u64,
 }
 
@@ -85,6 +84,12 @@ fn blocks_of(file: &File) -> Option<u64>
     }
 }
 
+// A leg's file for the stripes, of which there are at most so many.
+fn share(alloc: Global, file: File) -> Result<Arc<SharedFile<File>>, AllocError> {
+    let shared = SharedFile::new(alloc, file, MOST_STRIPES as usize)?;
+    Ok(Arc::new(alloc, shared)?)
+}
+
 impl LegFiles {
     /// Opens, locks and measures the legs' files, one after the other.
     pub fn open<'a, R: Files<File = File>>(
@@ -108,7 +113,10 @@ impl LegFiles {
             } else if own != blocks {
                 return Err(StartFault::OtherLength(number));
             }
-            if files.push(file).is_err() {
+            let Ok(shared) = share(alloc, file) else {
+                return Err(StartFault::Memory);
+            };
+            if files.push(shared).is_err() {
                 return Err(StartFault::Memory);
             }
         }
@@ -140,49 +148,51 @@ impl LegFiles {
     }
 }
 
-// Where the blocks of a stripe lie in the legs' files.
-#[tactic(auto, unfolding(nm_file_leg::specs::Places::place_of))]
-fn places_of(shape: &Shape, stripe: u32) -> Places
+// The leg of a stripe on this file.
+fn stripe_leg<'a>(
+    alloc: Global,
+    file: &Arc<SharedFile<File>>,
+    number: usize,
+    shape: &Shape,
+    stripe: u32,
+    read: &BytesRead,
+) -> Result<Leg, StartFault<'a>>
     requires { stripe < shape.now.stripes }
-    ensures places { AreStripePlaces stripe shape.now result }
-    ensures inside { HasPlaces result (stripe_blocks stripe shape.now) }
+    ensures own { IfOk result (λ leg. (leg.shape ≡ shape.now) × (leg.stripe ≡ stripe)) }
 {
-    stripes_lie_inside();
-    // It tells that the shape's numbers are within their bounds.
-    let _regions = shape.regions();
-    Places {
-        region: shape.region,
-        stripes: u64::from(shape.stripes),
-        stripe: u64::from(stripe),
+    let Ok(user) = FileUser::new(file, stripe as usize) else {
+        return Err(StartFault::Memory);
+    };
+    let Ok(counting) = CountingFile::new(user, read) else {
+        return Err(StartFault::Memory);
+    };
+    let Ok(medium) = ReadAhead::new(alloc, counting, AHEAD) else {
+        return Err(StartFault::Memory);
+    };
+    match FileLeg::new(medium, shape, stripe) {
+        Ok(leg) => Ok(leg),
+        Err(_) => Err(StartFault::CannotOpen(number)),
     }
 }
 
-/// The legs of one stripe: each leg's file, opened once more, and what is read of it counted.
-pub fn stripe_legs<'a, R: Files<File = File>>(
-    rt: &R,
+/// The legs of one stripe, one on each leg's file, and what is read of them counted.
+pub fn stripe_legs<'a>(
     alloc: Global,
-    names: &[&str],
+    files: &LegFiles,
     shape: &Shape,
     stripe: u32,
-    read: &ReadCount,
+    read: &BytesRead,
 ) -> Result<Vec<Leg>, StartFault<'a>>
     requires { stripe < shape.now.stripes }
-    ensures count { IfOk result (λ legs. length legs.items ≡ length names.now) }
-    ensures places { IfOk result (λ legs. All (λ leg.
-        IsStripeLeg stripe shape.now leg.places leg.blocks) legs.items) }
+    ensures count { IfOk result (λ legs. length legs.items ≡ files.now.legs) }
+    ensures own { IfOk result (λ legs. All (λ leg.
+        (leg.shape ≡ shape.now) × (leg.stripe ≡ stripe)) legs.items) }
 {
-    let places = places_of(shape, stripe);
-    let blocks = shape.stripe_blocks(stripe);
     let mut legs = Vec::new(alloc);
-    for number in 0..names.len() {
-        let Ok(file) = WatchedFile::open(rt, names[number], read) else {
-            return Err(StartFault::CannotOpen(number));
-        };
-        let Ok(medium) = ReadAhead::new(alloc, file, AHEAD) else {
-            return Err(StartFault::Memory);
-        };
-        let Ok(leg) = FileLeg::new(medium, places, blocks) else {
-            return Err(StartFault::CannotOpen(number));
+    for number in 0..files.files.len() {
+        let leg = match stripe_leg(alloc, &files.files[number], number, shape, stripe, read) {
+            Ok(leg) => leg,
+            Err(fault) => return Err(fault),
         };
         if legs.push(leg).is_err() {
             return Err(StartFault::Memory);

@@ -7,6 +7,7 @@
 mod answering;
 mod client_reader;
 mod control_port;
+mod counting_file;
 mod file_calls;
 mod handshake_reader;
 mod hang_up;
@@ -19,7 +20,6 @@ mod resync;
 mod session_places;
 mod sessions;
 mod start_fault;
-mod watched_file;
 
 pub use crate::answering::control;
 pub use crate::file_calls::{

@@ -3,13 +3,13 @@ ghost use Rattle.std.specs.Prelude.{◌≡◌};
 ghost use Rattle.nm_server.specs.StartFault.{status_of};
 
 use crate::control_port::serve_control;
+use crate::counting_file::BytesRead;
 use crate::leg_files::{FileMirror, Leg, LegFiles, stripe_legs};
 use crate::progress::{Comparison, tell_progress};
 use crate::resync::resynchronise;
 use crate::session_places::SessionPlaces;
 use crate::sessions::{AT_ONCE, ExportName, serve_place, take_clients};
 use crate::start_fault::StartFault;
-use crate::watched_file::ReadCount;
 use clap::Error;
 use clap::error::ErrorKind;
 use crossbeam_channel::bounded;
@@ -54,20 +54,19 @@ fn start_of(settings: &Settings<'_>) -> Start {
     }
 }
 
-// The mirror over the legs' files, which are opened once more for each stripe.
-fn open_mirror<'a, R: Files<File = File>>(
-    rt: &R,
+// The mirror over the legs' files, which its stripes share.
+fn open_mirror<'a>(
     alloc: Global,
     settings: &Settings<'a>,
     files: &LegFiles,
-    read: &ReadCount,
+    read: &BytesRead,
 ) -> Result<FileMirror, StartFault<'a>> {
     let Some(shape) = files.shape(settings.stripes) else {
         return Err(StartFault::Memory);
     };
     let mut legs = Vec::new(alloc);
     for stripe in 0..shape.stripes {
-        let own = stripe_legs(rt, alloc, &settings.legs, &shape, stripe, read)?;
+        let own = stripe_legs(alloc, files, &shape, stripe, read)?;
         if legs.push(own).is_err() {
             return Err(StartFault::Memory);
         }
@@ -100,7 +99,7 @@ where
         return Err(StartFault::Memory);
     };
     if start_of(settings) == Start::Full || settings.legs.len() < 2 {
-        return open_mirror(rt, alloc, settings, files, &read);
+        return open_mirror(alloc, settings, files, &read);
     }
     let Ok((comparing, ended)) = bounded(alloc, 1) else {
         return Err(StartFault::Memory);
@@ -112,7 +111,7 @@ where
     };
     thread::scope(thread::scope_env(), rt, |scope| {
         let _ = scope.spawn(move || tell_progress(rt, &ended, &comparison));
-        let mirror = open_mirror(rt, alloc, settings, files, &read);
+        let mirror = open_mirror(alloc, settings, files, &read);
         drop(comparing);
         mirror
     })

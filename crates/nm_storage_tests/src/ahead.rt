@@ -1,19 +1,21 @@
 //! Legs that read ahead: how many calls of the medium their reads make, and where one fails.
 ghost use Rattle.std.specs.Prelude.{◌<◌};
-ghost use Rattle.nm_file_leg.specs.Places.{HasPlaces};
 
 use crate::counting_medium::CountingMedium;
-use nm_file_leg::{FileLeg, FuseMedium, MemMedium, Places, ReadAhead};
+use nm_file_leg::{FileLeg, FuseMedium, MemMedium, ReadAhead};
+use nm_geometry::Shape;
 use nm_leg::{LegFault, LegPart};
 use nm_replay::Block;
 use std::process::Abort;
 use std::test::Fail;
 
 // One stripe that has the whole file.
-const WHOLE: Places = Places {
+const WHOLE: Shape = Shape {
+    blocks: 60,
     region: 128,
+    chunk: 8,
     stripes: 1,
-    stripe: 0,
+    legs: 1,
 };
 
 type CountedLeg = FileLeg<ReadAhead<CountingMedium>>;
@@ -22,11 +24,11 @@ type CountedLeg = FileLeg<ReadAhead<CountingMedium>>;
 // many bytes.
 fn counted_leg(
     rt: &(impl AllocGlobal + Abort),
-    places: Places,
-    blocks: u64,
+    shape: &Shape,
+    stripe: u32,
     region: u64,
 ) -> Result<CountedLeg, Fail>
-    requires places { HasPlaces places blocks }
+    requires stripe { stripe < shape.now.stripes }
     requires region { 0 < region }
 {
     let mut bytes = Vec::new(rt.alloc());
@@ -35,7 +37,7 @@ fn counted_leg(
     }
     let medium = CountingMedium::new(MemMedium::new(bytes));
     let ahead = ReadAhead::new(rt.alloc(), medium, region)?;
-    Ok(FileLeg::new(ahead, places, blocks)?)
+    Ok(FileLeg::new(ahead, shape, stripe)?)
 }
 
 // Reads these blocks in order and compares what they hold.
@@ -60,9 +62,8 @@ fn calls(leg: &CountedLeg) -> (u64, u64, usize) {
 }
 
 #[test]
-#[tactic(auto, unfolding(nm_file_leg::specs::Places::place_of))]
 fn a_page_is_read_by_one_call(rt: HostRuntime) -> Result<(), Fail> {
-    let mut leg = counted_leg(&rt, WHOLE, 60, 32 * 512)?;
+    let mut leg = counted_leg(&rt, &WHOLE, 0, 32 * 512)?;
     // Blocks that are read in order, and what was asked of the medium then.
     for (from, to, asked) in [
         // A page, wherever the last read was.
@@ -92,16 +93,17 @@ fn a_page_is_read_by_one_call(rt: HostRuntime) -> Result<(), Fail> {
 }
 
 #[test]
-#[tactic(auto, unfolding(nm_file_leg::specs::Places::place_of))]
 fn a_page_is_one_of_the_medium(rt: HostRuntime) -> Result<(), Fail> {
     // The second of two stripes, with regions of 12 blocks: its first block is block 12 of the
     // medium.
-    let second = Places {
+    let two = Shape {
+        blocks: 24,
         region: 12,
+        chunk: 4,
         stripes: 2,
-        stripe: 1,
+        legs: 1,
     };
-    let mut leg = counted_leg(&rt, second, 12, 12 * 512)?;
+    let mut leg = counted_leg(&rt, &two, 1, 12 * 512)?;
     assert!(rt; 0 < leg.len());
     let mut found = Block([255; 512]);
     leg.read(0, &mut found)?;
@@ -111,9 +113,8 @@ fn a_page_is_one_of_the_medium(rt: HostRuntime) -> Result<(), Fail> {
 }
 
 #[test]
-#[tactic(auto, unfolding(nm_file_leg::specs::Places::place_of))]
 fn a_page_ends_with_its_region(rt: HostRuntime) -> Result<(), Fail> {
-    let mut leg = counted_leg(&rt, WHOLE, 60, 6 * 512)?;
+    let mut leg = counted_leg(&rt, &WHOLE, 0, 6 * 512)?;
     for (from, to, asked) in [
         (0, 6, (1, 0, 6)),
         (6, 12, (2, 6, 6)),
@@ -129,9 +130,8 @@ fn a_page_ends_with_its_region(rt: HostRuntime) -> Result<(), Fail> {
 }
 
 #[test]
-#[tactic(auto, unfolding(nm_file_leg::specs::Places::place_of))]
 fn a_failed_length_drops_what_was_read_ahead(rt: HostRuntime) -> Result<(), Fail> {
-    let mut leg = counted_leg(&rt, WHOLE, 60, 32 * 512)?;
+    let mut leg = counted_leg(&rt, &WHOLE, 0, 32 * 512)?;
     read_blocks(&rt, &mut leg, 0, 2);
     assert_eq!(rt; calls(&leg), (1, 0, 8));
     leg.medium().inner().set_tells_length(false);
@@ -144,22 +144,23 @@ fn a_failed_length_drops_what_was_read_ahead(rt: HostRuntime) -> Result<(), Fail
 }
 
 // Regions of four blocks.
-const SMALL: Places = Places {
+const SMALL: Shape = Shape {
+    blocks: 6,
     region: 4,
+    chunk: 1,
     stripes: 1,
-    stripe: 0,
+    legs: 1,
 };
 
 type FusedLeg = FileLeg<ReadAhead<FuseMedium<MemMedium>>>;
 
 // A leg of six blocks that reads ahead.
-#[tactic(auto, unfolding(nm_file_leg::specs::Places::place_of))]
 fn fused_leg(rt: &(impl AllocGlobal + Abort)) -> Result<FusedLeg, Fail> {
     let mut bytes = Vec::new(rt.alloc());
     bytes.resize(6 * 512, 7)?;
     let medium = FuseMedium::new(MemMedium::new(bytes));
     let ahead = ReadAhead::new(rt.alloc(), medium, 4 * 512)?;
-    Ok(FileLeg::new(ahead, SMALL, 6)?)
+    Ok(FileLeg::new(ahead, &SMALL, 0)?)
 }
 
 #[test]

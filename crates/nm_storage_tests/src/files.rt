@@ -1,26 +1,34 @@
 //! Legs on files, each in a file of its own.
-use nm_file_leg::{FileLeg, FileMedium, Places};
+use nm_file_leg::{FileLeg, FileUser, SharedFile};
+use nm_geometry::Shape;
 use nm_leg::{LegFault, LegPart};
 use nm_replay::Block;
 use std::fs::File;
 use std::process::Abort;
+use std::sync::Arc;
 use std::test::Fail;
 use std::{env, fs, process};
 
 // One stripe that has the whole file.
-const WHOLE: Places = Places {
+const WHOLE: Shape = Shape {
+    blocks: 2,
     region: 128,
+    chunk: 8,
     stripes: 1,
-    stripe: 0,
+    legs: 1,
 };
 
 #[test]
-#[tactic(auto, unfolding(nm_file_leg::specs::Places::place_of))]
 fn a_leg_on_a_file_ends_with_its_file(rt: HostRuntime) -> Result<(), Fail> {
     let name = format!(in rt.alloc(); "nm-file-leg-{}", process::id(rt.process()))?;
     let path = env::temp_dir(&rt)?.join(rt.alloc(), name.as_str())?;
     fs::write(&rt, path.as_path(), [7u8; 1024])?;
-    let mut leg = FileLeg::new(FileMedium::open(&rt, path.as_path())?, WHOLE, 2)?;
+    let file = File::options()
+        .read(true)
+        .write(true)
+        .open(&rt, path.as_path())?;
+    let file = Arc::new(rt.alloc(), SharedFile::new(rt.alloc(), file, 1)?)?;
+    let mut leg = FileLeg::new(FileUser::new(&file, 0)?, &WHOLE, 0)?;
     assert!(rt; leg.len() == 2);
     let other = File::options().write(true).open(&rt, path.as_path())?;
     let mut found = Block([9; 512]);
@@ -41,7 +49,5 @@ fn a_leg_on_a_file_ends_with_its_file(rt: HostRuntime) -> Result<(), Fail> {
     assert_eq!(rt; leg.faults(), 2);
 
     fs::remove_file(&rt, path.as_path())?;
-    assert!(rt; FileMedium::open(&rt, path.as_path()).is_err());
-    assert!(rt; FileMedium::open(&rt, env::temp_dir(&rt)?).is_err());
     Ok(())
 }

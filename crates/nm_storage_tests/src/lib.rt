@@ -23,3 +23,5 @@ mod records;
 mod regions;
 #[cfg(test)]
 mod resync;
+#[cfg(test)]
+mod shared_files;

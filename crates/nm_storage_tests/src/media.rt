@@ -1,47 +1,25 @@
 //! Legs on media in memory: where their blocks lie, and what a failed sync does to later ones.
-use nm_file_leg::{FileLeg, FuseMedium, MemMedium, Places};
+use nm_file_leg::{FileLeg, FuseMedium, MemMedium};
+use nm_geometry::Shape;
 use nm_leg::{LegFault, LegPart};
 use nm_replay::Block;
 use std::process::Abort;
 use std::test::Fail;
 
-// The second of two stripes, with regions of 2 blocks: its first four blocks are 2, 3, 6 and 7.
-const SECOND: Places = Places {
+// Two stripes, with regions of 2 blocks: those of the second are blocks 2, 3, 6 and 7.
+const TWO: Shape = Shape {
+    blocks: 8,
     region: 2,
+    chunk: 1,
     stripes: 2,
-    stripe: 1,
+    legs: 1,
 };
 
-#[test]
-#[tactic(auto, unfolding(nm_file_leg::specs::Places::place_of))]
-fn a_block_lies_where_the_table_says(rt: HostRuntime) {
-    let first_of_two = Places {
-        region: 128,
-        stripes: 2,
-        stripe: 0,
-    };
-    let second_of_two = Places {
-        region: 128,
-        stripes: 2,
-        stripe: 1,
-    };
-    let last_of_sixteen = Places {
-        region: 128,
-        stripes: 16,
-        stripe: 15,
-    };
-    assert_eq!(rt; first_of_two.place(0), 0);
-    assert_eq!(rt; second_of_two.place(2), 130);
-    assert_eq!(rt; first_of_two.place(172), 300);
-    assert_eq!(rt; last_of_sixteen.place(127), 2047);
-}
-
 // A leg of four blocks on a medium whose fuse can be set.
-#[tactic(auto, unfolding(nm_file_leg::specs::Places::place_of))]
 fn leg_of_four(rt: &(impl AllocGlobal + Abort)) -> Result<FileLeg<FuseMedium<MemMedium>>, Fail> {
     let mut bytes = Vec::new(rt.alloc());
     bytes.resize(8 * 512, 0)?;
-    Ok(FileLeg::new(FuseMedium::new(MemMedium::new(bytes)), SECOND, 4)?)
+    Ok(FileLeg::new(FuseMedium::new(MemMedium::new(bytes)), &TWO, 1)?)
 }
 
 #[test]
@@ -94,12 +72,9 @@ fn a_leg_that_was_not_written_is_synced_without_a_call(rt: HostRuntime) -> Resul
 }
 
 #[test]
-#[tactic(auto, unfolding(nm_file_leg::specs::Places::place_of))]
 fn a_medium_that_is_too_short_makes_no_leg(rt: HostRuntime) -> Result<(), Fail> {
     let mut bytes = Vec::new(rt.alloc());
     bytes.resize(8 * 512 - 1, 0)?;
-    assert!(rt; FileLeg::new(MemMedium::new(bytes), SECOND, 4).is_err());
-    let empty = MemMedium::new(Vec::new(rt.alloc()));
-    assert!(rt; FileLeg::new(empty, SECOND, 0).is_ok());
+    assert!(rt; FileLeg::new(MemMedium::new(bytes), &TWO, 1).is_err());
     Ok(())
 }

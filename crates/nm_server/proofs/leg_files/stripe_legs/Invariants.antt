@@ -1,10 +1,9 @@
--- So far there is a leg for each name, and each is the stripe's.
+-- So far there is a leg for each file, and each is the stripe's.
 use Rattle.std.proofs.Common.{◌≡◌, length, All}
-use Rattle.nm_server.specs.Files.{IsStripeLeg}
 use Rattle.nm_server.proofs.leg_files.stripe_legs.Given as goal
 
 abbrev pub invariant-loop-number : goal.invariant-loop-number
 invariant-loop-number g l = record {
   count : length l.legs.items ≡ l.number;
-  each : All (λ leg. IsStripeLeg l.fn.stripe l.fn.shape leg.places leg.blocks) l.legs.items;
+  each : All (λ leg. (leg.shape ≡ l.fn.shape) × (leg.stripe ≡ l.fn.stripe)) l.legs.items;
 }

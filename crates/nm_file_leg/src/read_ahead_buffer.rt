@@ -6,15 +6,15 @@ use crate::splice::splice;
 
 /// Bytes of a medium that were read ahead: the first `kept` of them are those from `first` on.
 #[derive(Drop)]
-pub(crate) struct Run {
+pub(crate) struct ReadAheadBuffer {
     pub(crate) bytes: Vec<u8>,
     pub(crate) first: u64,
     pub(crate) kept: usize,
     ghost fits: { kept ≤ length bytes.items },
 }
 
-impl Run {
-    ghost use Rattle.nm_file_leg.specs.Run.{IsRunOf, Changes};
+impl ReadAheadBuffer {
+    ghost use Rattle.nm_file_leg.specs.ReadAheadBuffer.{IsReadFrom, Changes};
 
     /// Where these bytes stand, if all of them are kept.
     fn place(&self, at: u64, many: usize) -> Option<usize>
@@ -45,7 +45,7 @@ impl Run {
 
     /// Finds bytes that are kept, and leaves `into` as it was where one of them is not.
     pub(crate) fn find(&self, at: u64, into: &mut [u8]) -> bool
-        ensures found { IsTrue result → (contents : List ℕ) → IsRunOf self.now contents
+        ensures found { IsTrue result → (contents : List ℕ) → IsReadFrom self.now contents
             → into.new ≡ window at (length into.old) contents }
     {
         match self.place(at, into.len()) {
@@ -62,7 +62,7 @@ impl Run {
         ensures none { self.new.kept ≡ 0 }
         ensures first { self.new.first ≡ self.old.first }
         ensures room { length self.new.bytes.items ≡ length self.old.bytes.items }
-        ensures run { (contents : List ℕ) → IsRunOf self.new contents }
+        ensures run { (contents : List ℕ) → IsReadFrom self.new contents }
     {
         self.kept = 0;
     }
@@ -70,7 +70,7 @@ impl Run {
     /// Follows a change of the medium: these bytes were written.
     pub(crate) fn patch(&mut self, at: u64, part: &[u8])
         ensures run { (old new : List ℕ) → Changes at part.now old new
-            → IsRunOf self.old old → IsRunOf self.new new }
+            → IsReadFrom self.old old → IsReadFrom self.new new }
         ensures first { self.new.first ≡ self.old.first }
         ensures kept { self.new.kept ≤ self.old.kept }
         ensures room { length self.new.bytes.items ≡ length self.old.bytes.items }
@@ -89,7 +89,7 @@ impl Run {
     pub(crate) fn fill<M: Medium>(&mut self, medium: &mut M, at: u64, most: usize)
         requires { most ≤ length self.old.bytes.items }
         ensures same { IsTrue M.honest → M.held medium.new ≡ M.held medium.old }
-        ensures run { IsTrue M.honest → IsRunOf self.new (M.held medium.old).contents }
+        ensures run { IsTrue M.honest → IsReadFrom self.new (M.held medium.old).contents }
         ensures first { self.new.first ≡ at }
         ensures kept { self.new.kept ≤ most }
         ensures room { length self.new.bytes.items ≡ length self.old.bytes.items }

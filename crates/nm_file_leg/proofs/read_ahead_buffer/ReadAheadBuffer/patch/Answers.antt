@@ -1,10 +1,10 @@
 use Rattle.std.proofs.Common.{◌≡◌, ℕ, List, ◌∙◌, ap, sym, subst, length, take}
 use Rattle.std.proofs.lemmas.List.{with_items_is}
 use Rattle.nm_file_leg.specs.Medium.{spliced}
-use Rattle.nm_file_leg.specs.Run.{Changes}
+use Rattle.nm_file_leg.specs.ReadAheadBuffer.{Changes}
 use Rattle.nm_file_leg.proofs.WindowLemmas.{window-none}
-use Rattle.nm_file_leg.proofs.RunLemmas.{read-spliced}
-use Rattle.nm_file_leg.proofs.run.Run.patch.Goals as goal
+use Rattle.nm_file_leg.proofs.ReadAheadLemmas.{read-spliced}
+use Rattle.nm_file_leg.proofs.read_ahead_buffer.ReadAheadBuffer.patch.Goals as goal
 
 pub returns-in-Some-clause-run : goal.returns-in-Some-clause-run
 returns-in-Some-clause-run c = λ old new changes read.

@@ -1,7 +1,7 @@
 use Rattle.std.proofs.Common.{◌≡◌, ℕ, ◌+◌, ◌-◌, List, ◌∙◌, ap, arith, length, take, drop}
 use Rattle.nm_file_leg.specs.Medium.{window}
-use Rattle.nm_file_leg.proofs.RunLemmas.{window-read}
-use Rattle.nm_file_leg.proofs.run.Run.find.Goals as goal
+use Rattle.nm_file_leg.proofs.ReadAheadLemmas.{window-read}
+use Rattle.nm_file_leg.proofs.read_ahead_buffer.ReadAheadBuffer.find.Goals as goal
 
 pub returns-in-Some : goal.returns-in-Some
 unfolding window

@@ -2,12 +2,13 @@
 use Rattle.std.specs.Prelude.{◌≡◌, ℕ, ◌-◌, ◌%◌, ◌&&◌, if◌then◌else◌, Bool, false, nat_le, min}
 use Rattle.std.specs.Prelude.{Option, None, Some}
 use Rattle.std.specs.Prelude.{List, length, take}
-use Rattle.nm_file_leg.specs.declared.run.Run.{Run}
+use Rattle.nm_file_leg.specs.declared.read_ahead_buffer.ReadAheadBuffer.{ReadAheadBuffer}
 use Rattle.nm_file_leg.specs.Medium.{window, Apart}
 
 -- the bytes that are kept are those that the medium has there
-abbrev pub IsRunOf : Run → List ℕ → Type 0
-IsRunOf run contents = take run.kept run.bytes.items ≡ window run.first run.kept contents
+abbrev pub IsReadFrom : ReadAheadBuffer → List ℕ → Type 0
+IsReadFrom buffer contents =
+    take buffer.kept buffer.bytes.items ≡ window buffer.first buffer.kept contents
 
 -- a part of the contents, from `at` on, has become these bytes, and the rest is as it was
 pub record Changes (at : ℕ) (part old new : List ℕ) : Type 0 where

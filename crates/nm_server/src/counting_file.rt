@@ -1,38 +1,35 @@
-//! A leg's file of which the reads are counted, so that a long comparison can tell how far it is.
+//! A leg's file of which the reads are counted, so that a long comparison can report its progress.
 ghost use Rattle.std.specs.Prelude.{false};
 ghost use Rattle.nm_file_leg.specs.Media.{unknown};
 
-use nm_file_leg::{FileMedium, Medium};
+use nm_file_leg::{FileUser, Medium};
+use std::alloc::AllocError;
 use std::fs::File;
 use std::io;
-use std::rt::Files;
 use std::sync::Arc;
 use std::sync::atomic::{AtomicU64, Ordering};
 
 /// How many bytes were read of all legs.
-pub type ReadCount = Arc<AtomicU64>;
+pub type BytesRead = Arc<AtomicU64>;
 
-/// An opened file, and the count of what is read of it and of others.
+/// A stripe's user of a leg's file, and the count of what is read of all legs.
 ///
 /// Nothing is promised of its contents: that it is honest is a premise of whoever rests on it.
 #[derive(Drop)]
-pub struct WatchedFile {
-    file: FileMedium,
-    read: ReadCount,
+pub struct CountingFile {
+    file: FileUser<File>,
+    read: BytesRead,
 }
 
-impl WatchedFile {
-    /// Opens an existing file for reading and writing.
-    ///
-    /// Fails where the system does.
-    pub fn open<R: Files<File = File>>(rt: &R, name: &str, read: &ReadCount) -> io::Result<Self> {
-        let file = FileMedium::open(rt, name)?;
+impl CountingFile {
+    /// This user, whose reads are counted here.
+    pub fn new(file: FileUser<File>, read: &BytesRead) -> Result<Self, AllocError> {
         let read = Arc::try_clone(read)?;
-        Ok(WatchedFile { file, read })
+        Ok(CountingFile { file, read })
     }
 }
 
-impl Medium for WatchedFile {
+impl Medium for CountingFile {
     ghost honest = { false };
 
     ghost held = { λ _. unknown };

@@ -2,7 +2,7 @@
 use Rattle.std.proofs.Common.{◌≡◌, ℕ, ◌+◌, ◌-◌, ◌≤◌, List, ◌++◌, length, take, drop, refl, ap, sym, ◌∙◌, arith, inl, inr}
 use Rattle.std.proofs.lemmas.List.{take-take, drop-take, drop-drop, take-append-drop}
 use Rattle.nm_file_leg.specs.Medium.{window, spliced}
-use Rattle.nm_file_leg.specs.Run.{Changes}
+use Rattle.nm_file_leg.specs.ReadAheadBuffer.{Changes}
 use Rattle.nm_file_leg.proofs.WindowLemmas.{window-front, window-spliced, window-before, window-behind}
 
 -- a window is its front and its back

@@ -1,0 +1,49 @@
+ghost use Rattle.std.specs.Prelude.{false};
+ghost use Rattle.nm_file_leg.specs.Media.{unknown};
+
+use crate::Medium;
+use crate::backing_file::BackingFile;
+use crate::shared_file::SharedFile;
+use std::alloc::AllocError;
+use std::io;
+use std::sync::Arc;
+
+/// A shared file as one of its users has it.
+///
+/// Nothing is promised of its contents: that it is honest is a premise of whoever rests on it.
+#[derive(Drop)]
+pub struct FileUser<F: BackingFile> {
+    file: Arc<SharedFile<F>>,
+    number: usize,
+}
+
+impl<F: BackingFile> FileUser<F> {
+    /// The user of this number, which is to have bytes of its own and no other leg's. A number that
+    /// the file does not have fails each write and sync.
+    pub fn new(file: &Arc<SharedFile<F>>, number: usize) -> Result<Self, AllocError> {
+        let file = Arc::try_clone(file)?;
+        Ok(FileUser { file, number })
+    }
+}
+
+impl<F: BackingFile> Medium for FileUser<F> {
+    ghost honest = { false };
+
+    ghost held = { λ _. unknown };
+
+    fn read_at(&mut self, at: u64, into: &mut [u8]) -> io::Result<usize> {
+        self.file.file().read_bytes(at, into)
+    }
+
+    fn write_at(&mut self, at: u64, bytes: &[u8]) -> io::Result<usize> {
+        self.file.write(self.number, at, bytes)
+    }
+
+    fn sync(&mut self) -> io::Result<()> {
+        self.file.sync(self.number)
+    }
+
+    fn len(&self) -> io::Result<u64> {
+        self.file.file().count_bytes()
+    }
+}

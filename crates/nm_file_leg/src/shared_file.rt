@@ -1,0 +1,157 @@
+use crate::backing_file::BackingFile;
+use crate::sync_counts::{is_covered, may_have_lost};
+use std::alloc::{AllocError, Global};
+use std::io;
+use std::io::ErrorKind;
+use std::sync::atomic::{AtomicBool, AtomicU64, Ordering};
+use std::thread::yield_now;
+
+/// How often a sync looks whether another one has ended, yielding its thread in between.
+const LOOKS: u64 = u64::MAX;
+
+/// The writes of one user of a file.
+#[derive(Drop)]
+struct User {
+    /// Whether a write of this user is running.
+    is_writing: AtomicBool,
+    /// The number of its last write that has ended, by the count of all writes of the file.
+    last: AtomicU64,
+    /// Whether a sync that failed may have lost bytes of it, which it was not told yet.
+    has_lost: AtomicBool,
+}
+
+/// A file that is opened once and used by several legs, which write to different bytes of it.
+///
+/// A user's sync makes no call where a sync of another user covers its last write; and where a sync
+/// fails, each user that has written since the last good one fails its next sync, since the system
+/// tells the failure once for each opening.
+///
+/// Why a sync that succeeds is right to: say that it is user U's, and W is U's last write. One sync
+/// runs at a time (`is_syncing`). U succeeds only where the call of a good sync S covers W: S read
+/// the count of ended writes before its call, and W's number, given when W had ended, is no larger.
+/// So S's call began after W had ended. Take the first such S. A sync F that failed can have lost
+/// bytes of W only if its call ended after W began; it ended before S, and does so by marking the
+/// users, before it lets S run. Then F finds U writing, or, as U takes its number before it is no
+/// longer writing, finds W's number, which no sync before S covers. So F marks U. U looks at the
+/// mark after it has read how much is covered, so where it reads what S stored it also finds the
+/// mark, and fails. A mark goes only where U's sync fails, and then U's leg believes no sync until
+/// its blocks were written again, by writes that are later than F.
+///
+/// Each order is that of one sequence of all these steps (`SeqCst`). A user's own calls come one
+/// after the other. A write that failed counts as one, since it may have left bytes.
+#[derive(Drop)]
+pub struct SharedFile<F: BackingFile> {
+    file: F,
+    /// How many writes have ended. The first is the opening: what came before it is not durable.
+    ended: AtomicU64,
+    /// How many of them the last sync that succeeded covers.
+    covered: AtomicU64,
+    /// Whether a sync is running.
+    is_syncing: AtomicBool,
+    users: Vec<User>,
+}
+
+/// A fault of a user that the file does not have.
+fn no_user() -> io::Error {
+    io::Error::from(ErrorKind::InvalidInput)
+}
+
+/// A fault of a sync whose bytes an earlier one may have lost.
+fn lost_earlier() -> io::Error {
+    io::Error::from(ErrorKind::Other)
+}
+
+impl<F: BackingFile> SharedFile<F> {
+    /// This file, for so many users.
+    pub fn new(alloc: Global, file: F, users: usize) -> Result<Self, AllocError> {
+        let mut all = Vec::with_capacity(alloc, users)?;
+        for _ in 0..users {
+            all.push(User {
+                is_writing: AtomicBool::new(false),
+                last: AtomicU64::new(1),
+                has_lost: AtomicBool::new(false),
+            })?;
+        }
+        Ok(SharedFile {
+            file,
+            ended: AtomicU64::new(1),
+            covered: AtomicU64::new(0),
+            is_syncing: AtomicBool::new(false),
+            users: all,
+        })
+    }
+
+    /// The file itself.
+    pub fn file(&self) -> &F {
+        &self.file
+    }
+
+    /// Writes for this user.
+    pub fn write(&self, user: usize, at: u64, bytes: &[u8]) -> io::Result<usize> {
+        let own = self.users.get(user).ok_or(no_user())?;
+        own.is_writing.store(true, Ordering::SeqCst);
+        let many = self.file.write_bytes(at, bytes);
+        let before = self.ended.fetch_add(1, Ordering::SeqCst);
+        own.last.store(before.wrapping_add(1), Ordering::SeqCst);
+        own.is_writing.store(false, Ordering::SeqCst);
+        many
+    }
+
+    /// Makes durable what this user has written.
+    pub fn sync(&self, user: usize) -> io::Result<()> {
+        let own = self.users.get(user).ok_or(no_user())?;
+        for _ in 0..LOOKS {
+            if let Some(known) = self.known(own) {
+                return known;
+            }
+            if !self.is_syncing.swap(true, Ordering::SeqCst) {
+                let done = self.sync_alone(own);
+                self.is_syncing.store(false, Ordering::SeqCst);
+                return done;
+            }
+            yield_now();
+        }
+        Err(io::Error::from(ErrorKind::TimedOut))
+    }
+
+    /// What a user's sync answers without a call, if it needs none. How much is covered is read
+    /// before the mark.
+    fn known(&self, own: &User) -> Option<io::Result<()>> {
+        let covered = self.covered.load(Ordering::SeqCst);
+        if own.has_lost.swap(false, Ordering::SeqCst) {
+            return Some(Err(lost_earlier()));
+        }
+        if is_covered(own.last.load(Ordering::SeqCst), covered) {
+            return Some(Ok(()));
+        }
+        None
+    }
+
+    /// Syncs for a user while no other sync runs.
+    fn sync_alone(&self, own: &User) -> io::Result<()> {
+        if let Some(known) = self.known(own) {
+            return known;
+        }
+        let ended = self.ended.load(Ordering::SeqCst);
+        let done = self.file.sync_bytes();
+        match &done {
+            Ok(()) => self.covered.store(ended, Ordering::SeqCst),
+            Err(_) => {
+                self.mark_users();
+                own.has_lost.store(false, Ordering::SeqCst);
+            }
+        }
+        done
+    }
+
+    /// Marks each user of which a sync that failed may have lost bytes.
+    fn mark_users(&self) {
+        let covered = self.covered.load(Ordering::SeqCst);
+        for user in &self.users {
+            let is_writing = user.is_writing.load(Ordering::SeqCst);
+            if may_have_lost(is_writing, user.last.load(Ordering::SeqCst), covered) {
+                user.has_lost.store(true, Ordering::SeqCst);
+            }
+        }
+    }
+}
