@@ -8,9 +8,9 @@ use Rattle.std.proofs.lemmas.List.{take_all}
 use Rattle.nm_replay.specs.declared.block.Block.{Block}
 use Rattle.nm_leg.specs.Leg.{block_of, CallsLeg, ReadsLeg, WritesLeg, SyncsLeg}
 use Rattle.nm_geometry.specs.Geometry.{Geometry, IsGeometry, row, export_block, block_in_stripe, stripe_blocks}
-use Rattle.nm_file_leg.specs.Medium.{Held, window, Apart, ReadsMedium, WritesMedium, SyncsMedium, Kept}
+use Rattle.nm_file_leg.specs.Medium.{Held, Owns, window, Apart, ReadsMedium, WritesMedium, SyncsMedium, Kept}
 use Rattle.nm_file_leg.specs.Blocks.{first_byte, bytes_at, blocks_from, leg_on, same_length}
-use Rattle.nm_file_leg.specs.FileLeg.{FileRules}
+use Rattle.nm_file_leg.specs.FileLeg.{OwnsBlocks, FileRules}
 use Rattle.nm_file_leg.proofs.BlockLemmas.{get-blocks_from, same-get, same-blocks, bytes-same, set-blocks}
 use Rattle.nm_geometry.proofs.Places.{back-and-there}
 
@@ -58,12 +58,13 @@ blocks-apart s p at k bounds own other =
 
 -- a whole block was read
 pub reads-block : {E : Type 0} (honest : Bool) (s : ℕ) (p : Geometry) (f at : ℕ) (result : Result ℕ E) (old new : Held) (target : Block) (filled : List ℕ)
-    → at < stripe_blocks s p → length filled ≡ 512 → result ≡ Ok 512 → ReadsMedium honest result (first_byte s p at) old new filled
+    → at < stripe_blocks s p → length filled ≡ 512 → result ≡ Ok 512 → (IsTrue honest → OwnsBlocks old s p) → ReadsMedium honest result (first_byte s p at) old new filled
     → ReadsLeg honest true at (leg_on old s p f) (leg_on new s p f) target (block_of filled)
-reads-block honest s p f at result old new target filled below full whole reads = record {
+reads-block honest s p f at result old new target filled below full whole owns reads = record {
   calls = calls-succeeded s p f old new;
   found = λ is_honest _.
-      let found : take 512 filled ≡ bytes_at s p at old.contents = rw whole at (reads.found is_honest) in
+      let read : Owns old (first_byte s p at) 512 → take 512 filled ≡ bytes_at s p at old.contents = rw whole at (reads.found is_honest) in
+      let found : take 512 filled ≡ bytes_at s p at old.contents = read (owns is_honest at below) in
       let all : take 512 filled ≡ filled = take_all 512 filled (omega (arith, full)) in
       let e : 0 + at ≡ at = omega arith in
       get-blocks_from s p 0 (stripe_blocks s p) at old.contents below ∙ ap (λ (i : ℕ). Some (block_of (bytes_at s p i old.contents))) e
@@ -100,12 +101,13 @@ others-durable honest s p at k result bytes old new bounds own full writes is_ho
 
 -- a whole block was written
 pub writes-block : {E : Type 0} (honest : Bool) (s : ℕ) (p : Geometry) (f at : ℕ) (result : Result ℕ E) (bytes : List ℕ) (old new : Held)
-    → IsGeometry p → s < p.stripes → at < stripe_blocks s p → length bytes ≡ 512 → result ≡ Ok 512 → WritesMedium honest result (first_byte s p at) bytes old new
+    → IsGeometry p → s < p.stripes → at < stripe_blocks s p → length bytes ≡ 512 → result ≡ Ok 512 → (IsTrue honest → OwnsBlocks old s p) → WritesMedium honest result (first_byte s p at) bytes old new
     → WritesLeg honest true at bytes (leg_on old s p f) (leg_on new s p f)
-writes-block honest s p f at result bytes old new bounds own below full whole writes = record {
+writes-block honest s p f at result bytes old new bounds own below full whole owns writes = record {
   calls = calls-succeeded s p f old new;
   written = λ is_honest _.
-      let written : bytes_at s p at new.contents ≡ take 512 bytes = rw whole at (writes.written is_honest) in
+      let own_bytes : Owns old (first_byte s p at) (length bytes) = subst (λ (n : ℕ). Owns old (first_byte s p at) n) (sym full) (owns is_honest at below) in
+      let written : bytes_at s p at new.contents ≡ take 512 bytes = rw whole at (writes.written is_honest own_bytes) in
       let all : take 512 bytes ≡ bytes = take_all 512 bytes (omega (arith, full)) in
       set-blocks s p (stripe_blocks s p) at old.contents new.contents bytes below (written ∙ all)
       (λ k low other. others-contents honest s p at k result bytes old new bounds own full writes is_honest other);

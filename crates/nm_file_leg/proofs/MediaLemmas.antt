@@ -9,14 +9,15 @@ use Rattle.nm_file_leg.proofs.WindowLemmas.{window-none, window-spliced, window-
 pub reads-none : {E : Type 0} (at : ℕ) (bytes filled : List ℕ) → ReadsMedium {E = E} true (Ok 0) at (steady bytes) (steady bytes) filled
 reads-none at bytes filled = record {
   bound = omega arith;
-  found = λ _. sym (window-none at bytes);
+  found = λ _ _. sym (window-none at bytes);
   same = λ _. refl;
 }
 
 -- a write past the end writes nothing
 pub writes-none : {E : Type 0} (at : ℕ) (bytes held : List ℕ) → WritesMedium {E = E} true (Ok 0) at bytes (steady held) (steady held)
 writes-none at bytes held = record {
-  written = λ _. window-none at held;
+  own = λ _. refl;
+  written = λ _ _. window-none at held;
   kept = λ _ i _ _. refl;
   others = λ _ from many _. refl;
   durable_others = λ _ from many _. refl;
@@ -30,7 +31,8 @@ writes-steady at n bytes held inside short =
     let e : length (take n bytes) ≡ n = length-take-le n bytes short in
     let fits : length (take n bytes) ≤ length bytes = omega (arith, e, short) in
     record {
-      written = λ _. ap (λ (m : ℕ). window at m (spliced at (take n bytes) held)) (sym e) ∙ window-spliced at (take n bytes) held inside;
+      own = λ _. refl;
+      written = λ _ _. ap (λ (m : ℕ). window at m (spliced at (take n bytes) held)) (sym e) ∙ window-spliced at (take n bytes) held inside;
       kept = λ _ i _ _. refl;
       others = λ _ from many apart. window-apart at (length bytes) from many (take n bytes) held inside fits apart;
       durable_others = λ _ from many apart. window-apart at (length bytes) from many (take n bytes) held inside fits apart;

@@ -1,10 +1,10 @@
 -- What a leg knows of its medium, through writes and syncs.
-use Rattle.std.proofs.Common.{◌≡◌, ℕ, ◌+◌, ◌*◌, ◌<◌, ◌≤◌, Bool, true, false, List, ap, sym, ◌∙◌, subst, arith, inl, inr, Result, Ok}
+use Rattle.std.proofs.Common.{◌≡◌, ℕ, ◌+◌, ◌*◌, ◌<◌, ◌≤◌, Bool, true, false, IsTrue, List, ap, sym, ◌∙◌, subst, arith, inl, inr, Result, Ok}
 use Rattle.std.proofs.lemmas.Bool.{cases_eq}
 use Rattle.nm_geometry.specs.Geometry.{Geometry, stripe_blocks}
 use Rattle.nm_file_leg.specs.Medium.{Held, window, Kept, WritesMedium, SyncsMedium}
 use Rattle.nm_file_leg.specs.Blocks.{first_byte, bytes_at}
-use Rattle.nm_file_leg.specs.FileLeg.{FileRules}
+use Rattle.nm_file_leg.specs.FileLeg.{OwnsBlocks, FileRules}
 
 -- any write leaves what was kept, and the leg is no longer known to be durable
 pub rules-write : {E : Type 0} (honest : Bool) (s : ℕ) (p : Geometry) (r at : ℕ) (dirty : Bool) (result : Result ℕ E) (bytes : List ℕ) (old new : Held)
@@ -41,3 +41,9 @@ rules-synced honest s p r dirty result old new full done rules syncs = record {
       let all : (from many : ℕ) → Kept old from many → window from many new.durable ≡ window from many old.contents = rw done at (syncs.durable is_honest) in
       all _ _ (rules.kept is_honest k (omega (arith, below, full))) ∙ ap (λ (b : List ℕ). bytes_at s p k b) (sym (syncs.contents is_honest));
 }
+
+-- what the user owns stays its own
+pub owns-kept : (honest : Bool) (s : ℕ) (p : Geometry) (old new : Held) → (IsTrue honest → new.own ≡ old.own)
+    → (IsTrue honest → OwnsBlocks old s p) → IsTrue honest → OwnsBlocks new s p
+owns-kept honest s p old new same owns is_honest block below i above short =
+    subst (λ (o : ℕ → Bool). IsTrue (o i)) (sym (same is_honest)) (owns is_honest block below i above short)

@@ -2,8 +2,14 @@
 use Rattle.std.specs.Prelude.{◌≡◌, ℕ, ◌+◌, ◌-◌, ◌<◌, ◌≤◌, ◌==◌, ◌&&◌, if◌then◌else◌}
 use Rattle.std.specs.Prelude.{Bool, IsTrue, IsFalse}
 use Rattle.nm_geometry.specs.Geometry.{Geometry, stripe_blocks}
-use Rattle.nm_file_leg.specs.Medium.{Held, Kept}
+use Rattle.nm_file_leg.specs.Medium.{Held, Owns, Kept}
 use Rattle.nm_file_leg.specs.Blocks.{first_byte, bytes_at}
+
+-- every block of the stripe is the user's own
+abbrev pub OwnsBlocks : Held → (stripe : ℕ) → Geometry → Type 0
+OwnsBlocks held stripe shape =
+    (block : ℕ) → block < stripe_blocks stripe shape
+    → Owns held (first_byte stripe shape block) 512
 
 -- the next sync that succeeds makes the first blocks of the stripe durable, so many of them
 abbrev pub KeepsBlocks : Held → (stripe : ℕ) → Geometry → (many : ℕ) → Type 0

@@ -4,7 +4,7 @@ ghost use Rattle.nm_replay.specs.declared.block.TheConstants.{BLOCK_BYTES};
 ghost use Rattle.nm_leg.specs.Leg.{ReadsLeg, WritesLeg, SyncsLeg};
 ghost use Rattle.nm_geometry.specs.Geometry.{IsGeometry, stripe_blocks};
 ghost use Rattle.nm_file_leg.specs.Blocks.{first_byte, leg_on, same_length};
-ghost use Rattle.nm_file_leg.specs.FileLeg.{KeepsBlocks, FileRules, Reaches, cursor_after};
+ghost use Rattle.nm_file_leg.specs.FileLeg.{OwnsBlocks, KeepsBlocks, FileRules, Reaches, cursor_after};
 
 use crate::Medium;
 use nm_geometry::Shape;
@@ -28,7 +28,8 @@ pub struct FileLeg<M: Medium> {
     /// No sync has succeeded since the leg was made or last written.
     dirty: bool,
     ghost bounds: { IsGeometry shape },
-    ghost own: { stripe < shape.stripes },
+    ghost inside: { stripe < shape.stripes },
+    ghost owns: { IsTrue M.honest → OwnsBlocks (M.held medium) stripe shape },
     ghost rules: { FileRules M.honest (M.held medium) stripe shape rewritten_below dirty },
 }
 
@@ -39,6 +40,7 @@ impl<M: Medium> FileLeg<M> {
     /// Fails where the medium does not tell its length, or ends before the stripe's last block.
     pub fn new(medium: M, shape: &Shape, stripe: u32) -> io::Result<Self>
         requires stripe { stripe < shape.now.stripes }
+        requires owns { IsTrue M.honest → OwnsBlocks (M.held medium) stripe shape.now }
         requires kept { IsTrue M.honest → KeepsBlocks (M.held medium) stripe shape.now
             (stripe_blocks stripe shape.now) }
         ensures leg { IfOk result (λ leg.

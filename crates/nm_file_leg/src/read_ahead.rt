@@ -1,6 +1,6 @@
 ghost use Rattle.std.specs.Prelude.{◌≡◌, ◌≢◌, ◌+◌, ◌%◌, ◌<◌, ◌≤◌, length, IsTrue, Ok, OnErr, IfOk};
 ghost use Rattle.nm_file_leg.specs.ReadAheadBuffer.{IsReadFrom, follows, bytes_at_once};
-ghost use Rattle.nm_file_leg.specs.Medium.{ReadsMedium, WritesMedium, SyncsMedium};
+ghost use Rattle.nm_file_leg.specs.Medium.{OwnsWholeRows, ReadsMedium, WritesMedium, SyncsMedium};
 
 use crate::Medium;
 use crate::read_ahead_buffer::ReadAheadBuffer;
@@ -34,14 +34,16 @@ pub struct ReadAhead<M: Medium> {
     ghost some: { 0 < region },
     ghost room: { region ≡ length buffer.bytes.items },
     ghost inside: { buffer.first % region + buffer.kept ≤ region },
-    ghost rules: { IsTrue M.honest → IsReadFrom buffer (M.held medium).contents },
+    ghost whole: { IsTrue M.honest → OwnsWholeRows (M.held medium) region },
+    ghost rules: { IsTrue M.honest → IsReadFrom buffer (M.held medium) },
 }
 
 impl<M: Medium> ReadAhead<M> {
-    /// A medium over this one, which reads ahead inside regions of so many bytes. All of its memory
-    /// is allocated here.
+    /// A medium over this one, which reads ahead inside regions of so many bytes, of which none has
+    /// bytes of its user and of another. All of its memory is allocated here.
     pub fn new(alloc: Global, medium: M, region: u64) -> Result<Self, Memory>
-        requires { 0 < region }
+        requires some { 0 < region }
+        requires whole { IsTrue M.honest → OwnsWholeRows (M.held medium) region }
         ensures { IfOk result (λ ahead. ahead.medium ≡ medium) }
     {
         let mut bytes = Vec::with_capacity(alloc, region as usize)?;

@@ -1,5 +1,5 @@
-ghost use Rattle.std.specs.Prelude.{◌≡◌, ◌+◌, ◌≤◌, ℕ, List, length, take, IsTrue, IsFalse, IfSome};
-ghost use Rattle.nm_file_leg.specs.Medium.{window, Apart};
+ghost use Rattle.std.specs.Prelude.{◌≡◌, ◌+◌, ◌≤◌, length, take, IsTrue, IsFalse, IfSome};
+ghost use Rattle.nm_file_leg.specs.Medium.{Held, Owns, window, Apart};
 
 use crate::Medium;
 use crate::splice::splice;
@@ -45,8 +45,11 @@ impl ReadAheadBuffer {
 
     /// Finds bytes that are kept, and leaves `into` as it was where one of them is not.
     pub(crate) fn find(&self, at: u64, into: &mut [u8]) -> bool
-        ensures found { IsTrue result → (contents : List ℕ) → IsReadFrom self.now contents
-            → into.new ≡ window at (length into.old) contents }
+        ensures inside { IsTrue result → (self.now.first ≤ at)
+            × (at + length into.old ≤ self.now.first + self.now.kept) }
+        ensures found { IsTrue result → (held : Held) → IsReadFrom self.now held
+            → Owns held self.now.first self.now.kept
+            → into.new ≡ window at (length into.old) held.contents }
     {
         match self.place(at, into.len()) {
             Some(place) => {
@@ -62,14 +65,14 @@ impl ReadAheadBuffer {
         ensures none { self.new.kept ≡ 0 }
         ensures first { self.new.first ≡ self.old.first }
         ensures room { length self.new.bytes.items ≡ length self.old.bytes.items }
-        ensures run { (contents : List ℕ) → IsReadFrom self.new contents }
+        ensures run { (held : Held) → IsReadFrom self.new held }
     {
         self.kept = 0;
     }
 
     /// Follows a change of the medium: these bytes were written.
     pub(crate) fn patch(&mut self, at: u64, part: &[u8])
-        ensures run { (old new : List ℕ) → Changes at part.now old new
+        ensures run { (old new : Held) → Changes at part.now old new
             → IsReadFrom self.old old → IsReadFrom self.new new }
         ensures first { self.new.first ≡ self.old.first }
         ensures kept { self.new.kept ≤ self.old.kept }
@@ -89,7 +92,7 @@ impl ReadAheadBuffer {
     pub(crate) fn fill<M: Medium>(&mut self, medium: &mut M, at: u64, most: usize)
         requires { most ≤ length self.old.bytes.items }
         ensures same { IsTrue M.honest → M.held medium.new ≡ M.held medium.old }
-        ensures run { IsTrue M.honest → IsReadFrom self.new (M.held medium.old).contents }
+        ensures run { IsTrue M.honest → IsReadFrom self.new (M.held medium.old) }
         ensures first { self.new.first ≡ at }
         ensures kept { self.new.kept ≤ most }
         ensures room { length self.new.bytes.items ≡ length self.old.bytes.items }
@@ -106,7 +109,7 @@ fn read_front<M: Medium>(medium: &mut M, at: u64, bytes: &mut [u8], most: usize)
     requires { most ≤ length bytes.old }
     ensures most { result ≤ most }
     ensures room { length bytes.new ≡ length bytes.old }
-    ensures found { IsTrue M.honest
+    ensures found { IsTrue M.honest → Owns (M.held medium.old) at result
         → take result bytes.new ≡ window at result (M.held medium.old).contents }
     ensures same { IsTrue M.honest → M.held medium.new ≡ M.held medium.old }
 {

@@ -3,4 +3,4 @@ use Rattle.nm_file_leg.proofs.WindowLemmas.{window-none}
 use Rattle.nm_file_leg.proofs.read_ahead_buffer.read_front.Goals as goal
 
 pub returns-in-Err-clause-found : goal.returns-in-Err-clause-found
-returns-in-Err-clause-found g c = λ _. sym (window-none _ _)
+returns-in-Err-clause-found g c = λ _ _. sym (window-none _ _)

@@ -16,7 +16,7 @@ returns-clause-reads c =
     let span : c.args.at + n - c.args.at ≡ n = omega arith in
     record {
       bound = omega (arith, got, length-append c.copy_from_slice.new.self (drop n c.args.into.now));
-      found = λ _. take_at c.copy_from_slice.new.self (drop n c.args.into.now) n got ∙ c.copy_from_slice.ensures.after
+      found = λ _ _. take_at c.copy_from_slice.new.self (drop n c.args.into.now) n got ∙ c.copy_from_slice.ensures.after
           ∙ ap (λ (m : ℕ). take m (drop c.args.at c.deref.result.now)) span ∙ ap (λ (xs : List ℕ). take n (drop c.args.at xs)) c.deref.ensures.value;
       same = λ _. refl;
     }

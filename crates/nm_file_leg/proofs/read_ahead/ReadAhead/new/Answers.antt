@@ -3,4 +3,4 @@ use Rattle.nm_file_leg.proofs.WindowLemmas.{window-none}
 use Rattle.nm_file_leg.proofs.read_ahead.ReadAhead.new.Goals as goal
 
 pub invariant_of-result-2-clause-rules : goal.invariant_of-result-2-clause-rules
-invariant_of-result-2-clause-rules g c = λ _. sym (window-none _ _)
+invariant_of-result-2-clause-rules g c = λ _ _. sym (window-none _ _)
