@@ -23,3 +23,7 @@ pub mod GetStretchLemmas
 pub mod GetLaneLemmas
 pub mod GetRoundLemmas
 pub mod GetAllLemmas
+pub mod Moving
+pub mod Weaving
+pub mod Wholes
+pub mod Joining

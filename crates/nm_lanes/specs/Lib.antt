@@ -18,3 +18,9 @@ pub mod Puts
 pub mod Gets
 pub mod Flushes
 pub mod Syncs
+pub mod Moved
+pub mod Events
+pub mod Explained
+pub mod Whole
+pub mod Interleavings
+pub mod Laws

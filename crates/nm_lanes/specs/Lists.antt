@@ -1,6 +1,8 @@
 -- The list of the steps that a call does on all stripes, and each stripe's part of it.
-use Rattle.std.specs.Prelude.{◌≡◌, ℕ, ◌==◌, if◌then◌else◌, List, [], ◌∷◌, length, map}
+use Rattle.std.specs.Prelude.{◌≡◌, ℕ, ◌<◌, ◌==◌, if◌then◌else◌, List, [], ◌∷◌, length, map}
 use Rattle.std.specs.Prelude.{slice_get, Some}
+use Rattle.nm_stripe.specs.declared.answer.Answer.{Answer}
+use Rattle.nm_stripe.specs.declared.step.Step.{Step}
 use Rattle.nm_lanes.specs.Done.{Done}
 use Rattle.nm_lanes.specs.Own.{helps}
 
@@ -18,6 +20,19 @@ abbrev pub stripe_list : {L : Type 0} → ℕ → List (MirrorStep L) → List (
 stripe_list stripe [] = []
 stripe_list stripe (d ∷ list) =
     if d.stripe == stripe then d.done ∷ stripe_list stripe list else stripe_list stripe list
+
+-- what was asked in the steps of one stripe, in order
+abbrev pub steps_of : {L : Type 0} → ℕ → List (MirrorStep L) → List (Step L)
+steps_of stripe list = map (λ d. d.step) (stripe_list stripe list)
+
+-- what they were answered, in order
+abbrev pub answers_of : {L : Type 0} → ℕ → List (MirrorStep L) → List (Answer L)
+answers_of stripe list = map (λ d. d.answer) (stripe_list stripe list)
+
+-- each step is one of so many stripes
+abbrev pub AreOf : {L : Type 0} → ℕ → List (MirrorStep L) → Type 0
+AreOf stripes [] = Unit {0}
+AreOf stripes (d ∷ list) = (d.stripe < stripes) × AreOf stripes list
 
 -- the call's own steps: those that do not only help
 abbrev pub own_steps : {L : Type 0} → List (MirrorStep L) → List (MirrorStep L)

@@ -1,7 +1,8 @@
 //! A mirror's calls, as lists of steps on its stripes.
 //!
 //! A lane is one stripe's access path: it does one step at a time on the stripe behind a lock, and
-//! holds the lock for no longer.
+//! holds the lock for no longer. `laws` say when stripes that each act on an array of their own act
+//! together on the mirror's one array.
 #![tactic(auto)]
 
 pub use call_kind::CallKind;
@@ -32,6 +33,7 @@ mod halves;
 mod helping;
 mod hindrance;
 mod lane;
+pub mod laws;
 mod met;
 mod piece_write;
 mod place;

@@ -11,10 +11,9 @@ pub use counts::{AttachCounts, FailCounts};
 pub use lock::Lock;
 pub use mirror::Mirror;
 pub use nm_geometry::Shape;
-pub use nm_join::laws;
 pub use nm_lanes::{
     CallKind, Cause, CauseKind, Found, Gate, Lane, NoGate, Place, StepKind, WriteFault, flush_by,
-    read_by, sync_by, write_by, zero_by,
+    laws, read_by, sync_by, write_by, zero_by,
 };
 pub use open_fault::OpenFault;
 pub use opening::{Opening, open_stripes};

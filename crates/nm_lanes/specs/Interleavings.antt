@@ -7,10 +7,10 @@ use Rattle.nm_replay.specs.Explained.{Point, Explained}
 use Rattle.nm_stripe.specs.declared.answer.Answer.{Answer}
 use Rattle.nm_stripe.specs.declared.step.Step.{Step}
 use Rattle.nm_stripe.specs.Run.{IsInterleaving, concat, marks}
-use Rattle.nm_join.specs.Events.{MirrorEvent, events_of, AllOfStripe, all_events}
-use Rattle.nm_join.specs.Explained.{MirrorPoint, MirrorExplained}
-use Rattle.nm_join.specs.Moved.{moved_all, moved_write, moved_read}
-use Rattle.nm_join.specs.Steps.{MirrorStep}
+use Rattle.nm_lanes.specs.Events.{MirrorEvent, events_of, AllOfStripe, all_events}
+use Rattle.nm_lanes.specs.Explained.{MirrorPoint, MirrorExplained}
+use Rattle.nm_lanes.specs.Moved.{moved_all, moved_write, moved_read}
+use Rattle.nm_lanes.specs.Lists.{MirrorStep}
 
 -- where the blocks of a stripe lie in the export
 abbrev pub in_export : Geometry → ℕ → ℕ → ℕ
@@ -29,7 +29,7 @@ abbrev pub IsMirrorInterleaving : {L : Type 0} → Geometry → List (MirrorStep
 IsMirrorInterleaving shape [] [] = Unit {0}
 IsMirrorInterleaving shape (s ∷ list) (events ∷ more) =
     (marks_of (events_of s.stripe events)
-    ≡ moved_all (in_export shape s.stripe) (marks s.step s.answer))
+    ≡ moved_all (in_export shape s.stripe) (marks s.done.step s.done.answer))
     × AllOfStripe s.stripe events × IsMirrorInterleaving shape list more
 IsMirrorInterleaving shape list lists = ⊥
 

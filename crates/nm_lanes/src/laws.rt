@@ -1,6 +1,6 @@
 //! Laws of a mirror's stripes together. Each function does nothing: its contract is the law.
-ghost use Rattle.nm_join.specs.Laws.{ActsInterleave, ArraysMakeOne, MirrorActs};
-ghost use Rattle.nm_join.specs.Laws.{OneArrayAlone, StripesJoin};
+ghost use Rattle.nm_lanes.specs.Laws.{ActsInterleave, ArraysMakeOne, MirrorActs};
+ghost use Rattle.nm_lanes.specs.Laws.{OneArrayAlone, StripesJoin};
 
 use nm_leg::LegPart;
 

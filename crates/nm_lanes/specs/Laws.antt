@@ -10,11 +10,11 @@ use Rattle.nm_rules.specs.State.{StripeState}
 use Rattle.nm_stripe.specs.declared.answer.Answer.{Answer}
 use Rattle.nm_stripe.specs.declared.step.Step.{Step}
 use Rattle.nm_stripe.specs.Run.{ActOnOneArray}
-use Rattle.nm_join.specs.Events.{MirrorEvent}
-use Rattle.nm_join.specs.Interleavings.{IsExplainedInterleaving, IsExplainedMirrorInterleaving}
-use Rattle.nm_join.specs.Interleavings.{mirror_point}
-use Rattle.nm_join.specs.Steps.{MirrorStep, steps_of, answers_of, AreOf}
-use Rattle.nm_join.specs.Whole.{AreAsLong, IsWhole, HasWhole}
+use Rattle.nm_lanes.specs.Events.{MirrorEvent}
+use Rattle.nm_lanes.specs.Interleavings.{IsExplainedInterleaving, IsExplainedMirrorInterleaving}
+use Rattle.nm_lanes.specs.Interleavings.{mirror_point}
+use Rattle.nm_lanes.specs.Lists.{MirrorStep, steps_of, answers_of, AreOf}
+use Rattle.nm_lanes.specs.Whole.{AreAsLong, IsWhole, HasWhole}
 
 -- arrays that are as long as the shape says make an array of the mirror
 abbrev pub ArraysMakeOne : Type 0

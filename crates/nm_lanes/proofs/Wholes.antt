@@ -13,11 +13,11 @@ use Rattle.nm_replay.specs.Array.{Array, after}
 use Rattle.nm_replay.specs.History.{Fits, EntryFits, after_entry, operation, Legal}
 use Rattle.nm_replay.proofs.Arrays.{slice_get-set_same, slice_get-set_other, same_by_slice_get}
 use Rattle.nm_resync.specs.Chunk.{zero_block}
-use Rattle.nm_join.specs.Events.{MirrorEntry, entries_in}
-use Rattle.nm_join.specs.Explained.{MirrorLegal, counted}
-use Rattle.nm_join.specs.Interleavings.{in_export}
-use Rattle.nm_join.specs.Moved.{moved_entry}
-use Rattle.nm_join.specs.Whole.{AreAsLong, IsWhole, HasWhole}
+use Rattle.nm_lanes.specs.Events.{MirrorEntry, entries_in}
+use Rattle.nm_lanes.specs.Explained.{MirrorLegal, counted}
+use Rattle.nm_lanes.specs.Interleavings.{in_export}
+use Rattle.nm_lanes.specs.Moved.{moved_entry}
+use Rattle.nm_lanes.specs.Whole.{AreAsLong, IsWhole, HasWhole}
 
 -- a block of a stripe's array lies in the mirror's, and is the block there
 pub found-there : (shape : Geometry) (arrays : ℕ → Array) (whole : Array) (s b : ℕ) → IsGeometry shape → s < shape.stripes → IsWhole shape arrays whole → b < length (arrays s) → (in_export shape s b < shape.blocks) × (slice_get whole (in_export shape s b) ≡ slice_get (arrays s) b)

@@ -6,7 +6,7 @@ use Rattle.nm_replay.specs.declared.entry.Kind.TheVariants.{Read, Write, Patch}
 use Rattle.nm_replay.specs.Events.{Event, BeginsRead, BeginsWrite, Lands, RepliesRead, RepliesWrite, entries_of, marks_of}
 use Rattle.nm_replay.specs.ReadLives.{ReadLife, ReadLives, ReadStep, ReadLands}
 use Rattle.nm_replay.specs.WriteLives.{WriteLife, WriteLives, WriteStep, WriteLands}
-use Rattle.nm_join.specs.Moved.{moved, moved_all, moved_entry, moved_write, moved_read}
+use Rattle.nm_lanes.specs.Moved.{moved, moved_all, moved_entry, moved_write, moved_read}
 
 pub entries-moved : (to : ℕ → ℕ) (es : List Event) → entries_of (moved_all to es) ≡ map (moved_entry to) (entries_of es)
 entries-moved to [] = refl

@@ -6,11 +6,11 @@ use Rattle.nm_replay.specs.Events.{Event, marks_of}
 use Rattle.nm_stripe.specs.declared.answer.Answer.{Answer}
 use Rattle.nm_stripe.specs.declared.step.Step.{Step}
 use Rattle.nm_stripe.specs.Run.{IsInterleaving, concat, marks}
-use Rattle.nm_join.specs.Events.{MirrorEvent, events_of, AllOfStripe, EventsOfStripes, all_events}
-use Rattle.nm_join.specs.Interleavings.{in_export, IsMirrorInterleaving, lists_of}
-use Rattle.nm_join.specs.Moved.{moved_all}
-use Rattle.nm_join.specs.Steps.{MirrorStep, steps_of, answers_of, AreOf}
-use Rattle.nm_join.proofs.Moving.{marks-moved, moved-append}
+use Rattle.nm_lanes.specs.Events.{MirrorEvent, events_of, AllOfStripe, EventsOfStripes, all_events}
+use Rattle.nm_lanes.specs.Interleavings.{in_export, IsMirrorInterleaving, lists_of}
+use Rattle.nm_lanes.specs.Moved.{moved_all}
+use Rattle.nm_lanes.specs.Lists.{MirrorStep, steps_of, answers_of, AreOf}
+use Rattle.nm_lanes.proofs.Moving.{marks-moved, moved-append}
 
 -- events as events of a stripe
 abbrev pub tagged : ℕ → List Event → List MirrorEvent
@@ -69,10 +69,10 @@ no-lists L [] h = refl
 no-lists L (p ∷ ps) h = absurd h
 
 -- what a first step of this stripe says
-own-step : {L : Type 0} (n : ℕ) (d : MirrorStep L) (list : List (MirrorStep L)) (own : ℕ → List (List Event)) (s : ℕ) → s < n → (d.stripe == s) ≡ true → Interleave n (d ∷ list) own → Headed d.step d.answer (steps_of s list) (answers_of s list) (own s)
+own-step : {L : Type 0} (n : ℕ) (d : MirrorStep L) (list : List (MirrorStep L)) (own : ℕ → List (List Event)) (s : ℕ) → s < n → (d.stripe == s) ≡ true → Interleave n (d ∷ list) own → Headed d.done.step d.done.answer (steps_of s list) (answers_of s list) (own s)
 own-step n d list own s lt same h =
     let mine : IsInterleaving (steps_of s (d ∷ list)) (answers_of s (d ∷ list)) (own s) = h s lt in
-    headed d.step d.answer (steps_of s list) (answers_of s list) (own s) (rw same at mine)
+    headed d.done.step d.done.answer (steps_of s list) (answers_of s list) (own s) (rw same at mine)
 
 other-step : {L : Type 0} (n : ℕ) (d : MirrorStep L) (list : List (MirrorStep L)) (own : ℕ → List (List Event)) (s : ℕ) → s < n → (d.stripe == s) ≡ false → Interleave n (d ∷ list) own → IsInterleaving (steps_of s list) (answers_of s list) (own s)
 other-step n d list own s lt other h =

@@ -5,8 +5,8 @@ use Rattle.nm_replay.specs.Events.{entries_of}
 use Rattle.nm_replay.specs.History.{EntryFits, after_entry}
 use Rattle.nm_replay.specs.ReadLives.{ReadLife, ReadLives}
 use Rattle.nm_replay.specs.WriteLives.{WriteLife, WriteLives}
-use Rattle.nm_join.specs.Events.{MirrorEvent, MirrorEntry, events_of, EventsOfStripes}
-use Rattle.nm_join.specs.Events.{mirror_entries}
+use Rattle.nm_lanes.specs.Events.{MirrorEvent, MirrorEntry, events_of, EventsOfStripes}
+use Rattle.nm_lanes.specs.Events.{mirror_entries}
 
 -- the numbers of the stripes' next entries, once this stripe has one more
 abbrev pub counted : ℕ → (ℕ → ℕ) → ℕ → ℕ

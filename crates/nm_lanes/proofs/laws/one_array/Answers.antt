@@ -1,5 +1,5 @@
-use Rattle.nm_join.proofs.Wholes.{makes-one, one-alone}
-use Rattle.nm_join.proofs.laws.one_array.Goals as goal
+use Rattle.nm_lanes.proofs.Wholes.{makes-one, one-alone}
+use Rattle.nm_lanes.proofs.laws.one_array.Goals as goal
 
 pub returns-clause-made : goal.returns-clause-made
 returns-clause-made c = λ shape arrays is long. makes-one shape arrays is long

@@ -13,15 +13,15 @@ use Rattle.nm_replay.specs.WriteLives.{WriteLives}
 use Rattle.nm_rules.specs.Array.{point_of}
 use Rattle.nm_rules.specs.State.{StripeState}
 use Rattle.nm_stripe.specs.Run.{ActOnOneArray, concat}
-use Rattle.nm_join.specs.Events.{MirrorEvent, MirrorEntry, events_of, EventsOfStripes, behind_entry_of, mirror_entries, entries_in, all_events}
-use Rattle.nm_join.specs.Interleavings.{in_export, IsExplainedInterleaving}
-use Rattle.nm_join.specs.Laws.{Joins, MirrorActOnOneArray}
-use Rattle.nm_join.specs.Moved.{moved_all, moved_entry, moved_write, moved_read}
-use Rattle.nm_join.specs.Steps.{MirrorStep, steps_of, answers_of, AreOf}
-use Rattle.nm_join.specs.Whole.{IsWhole}
-use Rattle.nm_join.proofs.Moving.{entries-moved, length-moved, write-lives, read-lives}
-use Rattle.nm_join.proofs.Weaving.{woven, Interleave, weaves, events-of-own, lists-of-own, woven-of-stripes}
-use Rattle.nm_join.proofs.Wholes.{EntriesOfStripes, after_entries, legal-whole, follow}
+use Rattle.nm_lanes.specs.Events.{MirrorEvent, MirrorEntry, events_of, EventsOfStripes, behind_entry_of, mirror_entries, entries_in, all_events}
+use Rattle.nm_lanes.specs.Interleavings.{in_export, IsExplainedInterleaving}
+use Rattle.nm_lanes.specs.Laws.{Joins, MirrorActOnOneArray}
+use Rattle.nm_lanes.specs.Moved.{moved_all, moved_entry, moved_write, moved_read}
+use Rattle.nm_lanes.specs.Lists.{MirrorStep, steps_of, answers_of, AreOf}
+use Rattle.nm_lanes.specs.Whole.{IsWhole}
+use Rattle.nm_lanes.proofs.Moving.{entries-moved, length-moved, write-lives, read-lives}
+use Rattle.nm_lanes.proofs.Weaving.{woven, Interleave, weaves, events-of-own, lists-of-own, woven-of-stripes}
+use Rattle.nm_lanes.proofs.Wholes.{EntriesOfStripes, after_entries, legal-whole, follow}
 
 -- the entries of a stripe are those of its events
 own-entry : (s t : ℕ) (e : Event) (later : List MirrorEntry) (es : List Event) → (t == s) ≡ true → entries_in s later ≡ entries_of es → entries_in s (behind_entry_of t e later) ≡ entries_of (e ∷ es)

@@ -1,4 +1,0 @@
-pub mod Moving
-pub mod Weaving
-pub mod Wholes
-pub mod Joining
