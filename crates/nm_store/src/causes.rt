@@ -39,7 +39,7 @@ impl<L: LegPart> Store<L> {
         ensures inside { result < self.now.place.blocks }
         ensures few { self.now.place.blocks ≤ 2 ^ 31 }
     {
-        let _blocks = self.regions.blocks();
+        self.regions.is_sound();
         copy.region * self.place.region + copy.cursor
     }
 
@@ -62,7 +62,7 @@ impl<L: LegPart> Store<L> {
     fn is_full(&self) -> bool
         ensures { result ≡ is_full self.now }
     {
-        self.records.len() >= 256
+        self.records.is_full()
     }
 
     /// Why a write of this block may not begin.

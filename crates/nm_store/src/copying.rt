@@ -54,7 +54,7 @@ impl<L: LegPart> Store<L> {
         ensures length { result ≡ (new_chunk copy self.now).length }
         ensures some { 0 < result }
     {
-        let _blocks = self.regions.blocks();
+        self.regions.is_sound();
         let region = self.regions.length_of(copy.region);
         self.buffer.chunk_length(copy.cursor, region)
     }
@@ -196,7 +196,7 @@ fn end_chunk(regions: &mut Regions, copy: CopyPlace, blocks: u64)
     requires rest { blocks ≤ copy_rest regions.old }
     ensures { regions.new ≡ chunk_copied blocks regions.old }
 {
-    let _blocks = regions.blocks();
+    regions.is_sound();
     let rest = regions.length_of(copy.region) - copy.cursor;
     regions.advance(blocks);
     if blocks == rest {

@@ -37,7 +37,7 @@ impl<L: LegPart> Store<L> {
             ≤ max (2 ^ 63) self.old.first }
         ensures { self.new ≡ failed_over self.old }
     {
-        let _legs = self.regions.legs();
+        self.regions.is_sound();
         self.master = elect(&self.states).unwrap_or(self.master);
         land_all(&mut self.records, &mut self.kept, self.first);
         self.settling = true;

@@ -118,7 +118,7 @@ impl<L: LegPart> Store<L> {
         ensures { (r : Record) → slice_get self.old.records place ≡ Some r
             → self.new ≡ after_reach self.old self.old.legs r leg }
     {
-        let _blocks = self.regions.blocks();
+        self.regions.is_sound();
         let block = self.records.at(place).block;
         self.records.reach_at(place, leg);
         if self.records.at(place).is_under_way() {
@@ -174,7 +174,7 @@ impl<L: LegPart> Store<L> {
         ensures claimed { (r : Record) → slice_get self.old.records place ≡ Some r
             → self.new ≡ after_claim self.old r.ticket }
     {
-        let _records = self.records.len();
+        self.records.is_sound();
         self.records.claim_at(place)
     }
 

@@ -10,4 +10,4 @@ length_of-region-requires g c =
     let copy = c.args.copy in
     let here : copy.cursor < length_of copy.region c.self.inside.regions = subst (λ (t : RegionTable). copy.cursor < length_of copy.region t) (sym c.self.invariant.regions)
     (subst (λ (s : StripeState _). copy.cursor < length_of copy.region (table s)) (sym c.self.view_is) c.requires.within) in
-    record { region = region-inside c.self.inside.regions copy.region copy.cursor c.blocks-blocks.ensures.table here }
+    record { region = region-inside c.self.inside.regions copy.region copy.cursor c.is_sound.ensures.table here }

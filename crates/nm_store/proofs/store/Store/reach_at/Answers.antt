@@ -54,7 +54,7 @@ finish-requires-clause-some g c =
     let p = place-of c.args.place old.records r c.at.ensures.in_order within c.at.ensures.found in
     let there : slice_get c.args.self.now.records c.args.place ≡ Some r = ap (λ (s : StripeState _). slice_get s.records c.args.place) (sym c.self.view_is) ∙ c.at.ensures.found in
     let block : r.block < old.place.blocks = subst (λ (s : StripeState _). r.block < s.place.blocks) (sym c.self.view_is) (c.requires.block r there) in
-    let size : 0 < old.place.region = subst (λ (t : RegionTable). 0 < t.region) c.self.invariant.regions c.blocks-blocks.ensures.table.sizes.some_region in
+    let size : 0 < old.place.region = subst (λ (t : RegionTable). 0 < t.region) c.self.invariant.regions c.is_sound.ensures.table.sizes.some_region in
     rw c.self.invariant.regions (some-write old r p.ascends p.found (owes-under_way c.args.leg r (c.requires.owed r there)) block size)
 
 pub invariant_of-self-2 : goal.invariant_of-self-2
@@ -66,7 +66,7 @@ invariant_of-self-2 g c =
     let list : c.reach_at.new.self ≡ reached r.ticket c.args.leg old.records = c.reach_at.ensures r.ticket p.at in
     let there : slice_get c.args.self.now.records c.args.place ≡ Some r = ap (λ (s : StripeState _). slice_get s.records c.args.place) (sym c.self.view_is) ∙ c.at.ensures.found in
     let block : r.block < old.place.blocks = subst (λ (s : StripeState _). r.block < s.place.blocks) (sym c.self.view_is) (c.requires.block r there) in
-    let size : 0 < old.place.region = subst (λ (t : RegionTable). 0 < t.region) c.self.invariant.regions c.blocks-blocks.ensures.table.sizes.some_region in
+    let size : 0 < old.place.region = subst (λ (t : RegionTable). 0 < t.region) c.self.invariant.regions c.is_sound.ensures.table.sizes.some_region in
     let now : without_leg c.args.leg r ≡ c.at-2.result.now = same_Some (without_leg c.args.leg r) c.at-2.result.now (sym (reached-here c.args.place c.args.leg old.records r p) ∙ ap (λ (rs : List Record). slice_get rs c.args.place) (sym list) ∙ c.at-2.ensures.found) in
     let over : is_under_way (without_leg c.args.leg r) ≡ false = ap (λ (x : Record). is_under_way x) now ∙ sym c.is_under_way.ensures ∙ c.if-is_under_way.false in
     let counted = c.finish.ensures ∙ ap (λ (t : RegionTable). finished r.block t) c.self.invariant.regions ∙ reached-idle old old.legs r c.args.leg p.ascends p.found (owes-under_way c.args.leg r (c.requires.owed r there)) over block size in
