@@ -1,7 +1,7 @@
 //! Single calls of a stripe, and which legs a step calls.
 use crate::asking::{Ask, Summary, fill_block, may_ask, step_of, summary_of};
+use crate::lists::WRITE_AND_READS;
 use crate::opening::{ONE_LEG, Setup, TWO_LEGS, open_fused};
-use crate::stripes::WRITE_AND_READS;
 use crate::worked::stand;
 use nm_leg::{CountingLeg, FuseLeg, LegPart, MemLeg};
 use nm_replay::Block;

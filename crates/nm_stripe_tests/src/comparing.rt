@@ -2,9 +2,8 @@
 ghost use Rattle.nm_leg.specs.LegCalls.{EachHas};
 ghost use Rattle.nm_leg.specs.TestLegs.{of_fuse};
 
-use crate::worked::stand;
 use nm_leg::{FuseLeg, LegPart};
-use nm_stripe::{At, Copying, LegState, OpenFault, Policy, Promotion, Refusal, Stripe};
+use nm_stripe::{At, LegState, OpenFault, Policy, Stripe};
 use std::alloc::Global;
 use std::process::Abort;
 use std::test::Fail;
@@ -62,71 +61,6 @@ fn compare(
 fn stands(rt: &impl Abort, stripe: &Stripe<FuseLeg>, leg: u8) -> (LegState, u64) {
     assert!(rt; (leg as usize) < stripe.legs());
     (stripe.state(leg), stripe.left(leg))
-}
-
-fn copies(rt: &impl Abort, stripe: &mut Stripe<FuseLeg>, leg: u8, want: Copying) {
-    assert!(rt; (leg as usize) < stripe.legs());
-    assert_eq!(rt; stripe.copy(leg), Ok(want));
-}
-
-/// Copies to a leg until nothing is left, and compares how much each copy leaves.
-fn is_copied(rt: &impl Abort, stripe: &mut Stripe<FuseLeg>, leg: u8, left: &[u64]) {
-    for left in left {
-        copies(rt, stripe, leg, Copying::Copied(*left));
-    }
-    copies(rt, stripe, leg, Copying::Nothing);
-}
-
-fn promotes(
-    rt: &impl Abort,
-    stripe: &mut Stripe<FuseLeg>,
-    leg: u8,
-    want: Result<Promotion, Refusal>,
-) {
-    assert!(rt; (leg as usize) < stripe.legs());
-    assert_eq!(rt; stripe.promote(leg), want);
-}
-
-#[test]
-fn only_regions_that_differ_are_copied(rt: HostRuntime) -> Result<(), Fail> {
-    let legs = three_legs(&rt, rt.alloc())?;
-    let mut stripe = compare(&rt, rt.alloc(), legs, 0).ok().ok_or("open")?;
-    let stood = [
-        (LegState::InSync, 0),
-        (LegState::Joining, 2),
-        (LegState::Joining, 8),
-    ];
-    stand(&rt, &stripe, 0, &stood);
-    promotes(&rt, &mut stripe, 1, Err(Refusal::NotYet));
-    is_copied(&rt, &mut stripe, 1, &[2, 2, 1, 0]);
-    promotes(&rt, &mut stripe, 1, Ok(Promotion::InSync));
-    assert_eq!(rt; stands(&rt, &stripe, 1), (LegState::InSync, 0));
-    Ok(())
-}
-
-#[test]
-fn legs_are_compared_with_the_named_master(rt: HostRuntime) -> Result<(), Fail> {
-    let legs = three_legs(&rt, rt.alloc())?;
-    let stripe = compare(&rt, rt.alloc(), legs, 2).ok().ok_or("open")?;
-    let stood = [
-        (LegState::Joining, 8),
-        (LegState::Joining, 10),
-        (LegState::InSync, 0),
-    ];
-    stand(&rt, &stripe, 2, &stood);
-    Ok(())
-}
-
-#[test]
-fn an_equal_leg_is_in_sync_only_once_it_is_promoted(rt: HostRuntime) -> Result<(), Fail> {
-    let mut legs = Vec::new(rt.alloc());
-    legs.push(leg_with(&rt, rt.alloc(), &[(3, 0xaa)])?)?;
-    legs.push(leg_with(&rt, rt.alloc(), &[(3, 0xaa)])?)?;
-    let mut stripe = compare(&rt, rt.alloc(), legs, 0).ok().ok_or("open")?;
-    assert_eq!(rt; stands(&rt, &stripe, 1), (LegState::Joining, 0));
-    copies(&rt, &mut stripe, 1, Copying::Nothing);
-    promotes(&rt, &mut stripe, 1, Ok(Promotion::InSync));
-    Ok(())
 }
 
 #[test]

@@ -9,7 +9,7 @@ mod calls;
 #[cfg(test)]
 mod comparing;
 #[cfg(test)]
-mod healing;
+mod lists;
 #[cfg(test)]
 mod memory;
 #[cfg(test)]
@@ -19,9 +19,7 @@ mod parts;
 #[cfg(test)]
 mod patches;
 #[cfg(test)]
-mod refusals;
-#[cfg(test)]
-mod rows;
+mod scripts;
 #[cfg(test)]
 mod stripes;
 #[cfg(test)]

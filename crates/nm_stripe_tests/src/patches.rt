@@ -1,107 +1,13 @@
-//! Writes of parts of a block: worked lists of steps, what comes back, and which legs are called.
+//! Writes of parts of a block: what comes back, and which legs are called.
 use crate::asking::{Ask, Summary, may_ask, part};
 use crate::calls::compare_calls;
-use crate::opening::{ONE_LEG, Setup, TWO_LEGS, fuse, open_fused};
-use crate::worked::{after, has, kept_entries};
+use crate::opening::{TWO_LEGS, fuse, open_fused};
 use nm_fanout::Data;
 use nm_leg::{FuseLeg, LegPart};
-use nm_replay::{Entry, Kind};
 use nm_stripe::{Answer, Handed, Refusal, Step, Stripe};
 use std::alloc::Global;
 use std::process::Abort;
 use std::test::Fail;
-
-pub const OVER_A_WRITE: [(Ask, Summary); 9] = [
-    (Ask::Begin(0, 0xaa), Summary::Begun(0)),
-    (
-        Ask::Patch(0, 0, 4, 0xbb),
-        Summary::Refused(Refusal::Busy(0)),
-    ),
-    (Ask::Push(0, 0), Summary::Pushed(1)),
-    (Ask::Push(0, 1), Summary::Complete(0)),
-    (Ask::Patch(0, 510, 2, 0xbb), Summary::Begun(1)),
-    (Ask::Fail(0), Summary::MasterChanged(1)),
-    (Ask::Push(1, 1), Summary::Complete(1)),
-    (Ask::Read(0), Summary::Value(2, 0xbb)),
-    (Ask::Claim(1), Summary::Written(1)),
-];
-
-/// The kinds of the entries, and the bytes of the block at 0, 509 and 511.
-const KEPT: [(Kind, (u8, u8, u8)); 3] = [
-    (Kind::Write(0), (0xaa, 0xaa, 0xaa)),
-    (Kind::Patch(1, 510, 2), (0xaa, 0xaa, 0xbb)),
-    (Kind::Read, (0xaa, 0xaa, 0xbb)),
-];
-
-fn are_over_a_write(rt: &impl Abort, entries: &[Entry]) {
-    assert_eq!(rt; entries.len(), 3);
-    for ((entry, (kind, bytes)), seq) in entries.iter().zip(&KEPT).zip(0..) {
-        assert_eq!(rt; (entry.seq, entry.kind, entry.block), (seq, *kind, 0));
-        let found = (entry.bytes.0[0], entry.bytes.0[509], entry.bytes.0[511]);
-        assert_eq!(rt; found, *bytes);
-    }
-}
-
-#[test]
-fn a_part_is_laid_over_what_the_block_holds(rt: HostRuntime) -> Result<(), Fail> {
-    let stripe = after(&rt, rt.alloc(), TWO_LEGS, &OVER_A_WRITE)?;
-    are_over_a_write(&rt, &kept_entries(&rt, rt.alloc(), &stripe)?);
-    Ok(())
-}
-
-/// One leg, that fails its first call.
-pub const LAST_LEG_FAILS: Setup = Setup {
-    fuse: Some((0, 1)),
-    ..ONE_LEG
-};
-
-pub const NOT_READ: [(Ask, Summary); 2] = [
-    (Ask::Patch(0, 0, 1, 0xbb), Summary::Refused(Refusal::Fault)),
-    (Ask::Patch(0, 0, 1, 0xbb), Summary::Begun(0)),
-];
-
-#[test]
-fn a_part_whose_block_is_not_read_does_not_begin(rt: HostRuntime) -> Result<(), Fail> {
-    has(&rt, rt.alloc(), LAST_LEG_FAILS, &NOT_READ)
-}
-
-/// Two legs, of which the first fails its first call.
-const MASTER_FAILS: Setup = Setup {
-    fuse: Some((0, 1)),
-    ..TWO_LEGS
-};
-
-/// The leg that fails goes out, and no ticket is taken.
-pub const PART_LOSES_THE_MASTER: [(Ask, Summary); 3] = [
-    (Ask::Patch(0, 0, 1, 0xbb), Summary::LegLost(0)),
-    (Ask::Patch(0, 0, 1, 0xbb), Summary::Begun(0)),
-    (Ask::Push(0, 1), Summary::Complete(0)),
-];
-
-#[test]
-fn a_part_loses_the_master_that_is_not_read(rt: HostRuntime) -> Result<(), Fail> {
-    let stripe = after(&rt, rt.alloc(), MASTER_FAILS, &PART_LOSES_THE_MASTER)?;
-    assert_eq!(rt; (stripe.master(), stripe.is_settling()), (1, false));
-    Ok(())
-}
-
-/// What is under way settles before a part begins; what is refused takes no ticket.
-const SETTLING: [(Ask, Summary); 6] = [
-    (Ask::Begin(0, 0xaa), Summary::Begun(0)),
-    (Ask::Push(0, 0), Summary::Pushed(1)),
-    (Ask::Fail(0), Summary::MasterChanged(1)),
-    (
-        Ask::Patch(1, 0, 4, 0xbb),
-        Summary::Refused(Refusal::Settling),
-    ),
-    (Ask::Push(0, 1), Summary::Complete(0)),
-    (Ask::Patch(0, 0, 4, 0x00), Summary::Begun(1)),
-];
-
-#[test]
-fn a_part_waits_for_the_stripe_to_settle(rt: HostRuntime) -> Result<(), Fail> {
-    has(&rt, rt.alloc(), TWO_LEGS, &SETTLING)
-}
 
 /// A part of two bytes of block 0.
 fn patch<L: LegPart>(

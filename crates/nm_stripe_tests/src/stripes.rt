@@ -1,52 +1,16 @@
-//! The stripe: worked lists of steps with their answers, and what each call of a leg is for.
+//! Stripes of legs that fail or lie, a stripe that is not opened, and steps that are none.
 ghost use Rattle.std.specs.Prelude.{◌≡◌, ◌<◌, ◌≤◌, length};
 
 use crate::asking::{Ask, Summary, compare};
-use crate::opening::{LONGER, ONE_LEG, Setup, TWO_LEGS, try_open};
-use crate::worked::{after, has, keeps};
-use nm_leg::{FailingLeg, LegPart, LyingLeg};
-use nm_replay::{Block, Kind};
-use nm_stripe::{At, Policy, Refusal, Stripe};
-use std::alloc::{AllocError, Global};
+use crate::lists::{SHORT_REGION, SHORTER};
+use crate::opening::{Setup, TWO_LEGS, open_fused, try_open};
+use crate::worked::{kept_entries, stand};
+use nm_leg::{FailingLeg, FuseLeg, LegPart, LyingLeg};
+use nm_replay::Block;
+use nm_stripe::{At, LegState, Policy, Refusal, Stripe};
+use std::alloc::Global;
 use std::process::Abort;
 use std::test::Fail;
-
-/// A write to two legs, with reads before, between and after.
-pub const WRITE_AND_READS: [(Ask, Summary); 7] = [
-    (Ask::Begin(3, 0xaa), Summary::Begun(0)),
-    (Ask::Read(3), Summary::Value(0, 0x00)),
-    (Ask::Push(0, 0), Summary::Pushed(1)),
-    (Ask::Read(3), Summary::Value(2, 0xaa)),
-    (Ask::Push(0, 1), Summary::Complete(1)),
-    (Ask::Claim(0), Summary::Written(1)),
-    (Ask::Read(3), Summary::Value(3, 0xaa)),
-];
-
-pub const LAST_NUMBER: [(Ask, Summary); 5] = [
-    (Ask::Begin(0, 0xaa), Summary::Begun(0)),
-    (Ask::Begin(1, 0xbb), Summary::Refused(Refusal::Exhausted)),
-    (Ask::Read(0), Summary::Refused(Refusal::Exhausted)),
-    (
-        Ask::Push(0, 0),
-        Summary::Complete(9_223_372_036_854_775_807),
-    ),
-    (Ask::Claim(0), Summary::Written(9_223_372_036_854_775_807)),
-];
-
-const FIRST_CONDITIONS: [(Ask, Summary); 12] = [
-    (Ask::Push(0, 0), Summary::Refused(Refusal::NoTicket)),
-    (Ask::Begin(0, 0xaa), Summary::Begun(0)),
-    (Ask::Begin(0, 0xbb), Summary::Refused(Refusal::Busy(0))),
-    (Ask::Claim(0), Summary::Refused(Refusal::NotYet)),
-    (Ask::Push(0, 1), Summary::Pushed(1)),
-    (Ask::Push(0, 1), Summary::Refused(Refusal::NotOwed)),
-    (Ask::Read(0), Summary::Value(0, 0x00)),
-    (Ask::Push(0, 0), Summary::Complete(1)),
-    (Ask::Begin(0, 0x00), Summary::Begun(1)),
-    (Ask::Claim(1), Summary::Refused(Refusal::NotYet)),
-    (Ask::Claim(0), Summary::Written(1)),
-    (Ask::Claim(0), Summary::Refused(Refusal::NoTicket)),
-];
 
 const FAILING: [(Ask, Summary); 7] = [
     (Ask::Read(0), Summary::Refused(Refusal::Fault)),
@@ -64,72 +28,41 @@ const LYING: [(Ask, Summary); 3] = [
     (Ask::Claim(0), Summary::Written(0)),
 ];
 
-const AFTER_256: [(Ask, Summary); 5] = [
-    (Ask::Begin(256, 0xaa), Summary::Refused(Refusal::Full)),
-    (Ask::Push(0, 0), Summary::Complete(0)),
-    (Ask::Begin(256, 0xaa), Summary::Refused(Refusal::Full)),
+/// The steps that may follow on `SHORT_REGION`: both writes were finished and not claimed.
+const GOES_ON: [(Ask, Summary); 4] = [
+    (Ask::Claim(1), Summary::Written(1)),
     (Ask::Claim(0), Summary::Written(0)),
-    (Ask::Begin(256, 0xaa), Summary::Begun(256)),
+    (Ask::Read(9), Summary::Value(5, 0xbb)),
+    (Ask::Begin(5, 0xcc), Summary::Begun(2)),
 ];
 
-pub const LAST_FIRST: Setup = Setup {
-    first: 9_223_372_036_854_775_807,
-    ..ONE_LEG
-};
+/// What a stripe is after `SHORT_REGION`.
+fn is_after_short_region(rt: &impl Abort, stripe: &Stripe<FuseLeg>) {
+    let legs = [(LegState::InSync, 0), (LegState::Joining, 6)];
+    stand(rt, stripe, 0, &legs);
+    assert_eq!(rt; (stripe.total(), stripe.next_number()), (5, 5));
+}
 
-pub const LONG: Setup = Setup {
-    blocks: 300,
-    region: 128,
-    chunk: 8,
-    ..ONE_LEG
-};
-
-const WRITE_AND_READS_KEPT: [(Kind, u64, u8); 4] = [
-    (Kind::Read, 3, 0x00),
-    (Kind::Write(0), 3, 0xaa),
-    (Kind::Read, 3, 0xaa),
-    (Kind::Read, 3, 0xaa),
-];
-
-/// The row of a write and reads, on legs of this shape, and its history.
-fn writes_and_reads(rt: &impl Abort, alloc: Global, with: Setup) -> Result<(), Fail> {
-    let stripe = after(rt, alloc, with, &WRITE_AND_READS)?;
-    keeps(rt, alloc, &stripe, &WRITE_AND_READS_KEPT)
+/// Gives an empty list to `run`, and compares the entries that are kept with those before.
+fn keeps_by_no_steps(
+    rt: &impl Abort,
+    alloc: Global,
+    stripe: &mut Stripe<FuseLeg>,
+) -> Result<(), Fail> {
+    let before = kept_entries(rt, alloc, stripe)?;
+    compare(rt, alloc, stripe, &[])?;
+    assert!(rt; kept_entries(rt, alloc, stripe)? == before);
+    Ok(())
 }
 
 #[test]
-fn a_write_takes_effect_at_the_master(rt: HostRuntime) -> Result<(), Fail> {
-    writes_and_reads(&rt, rt.alloc(), TWO_LEGS)
-}
-
-#[test]
-fn a_write_takes_effect_at_the_master_of_longer_legs(rt: HostRuntime) -> Result<(), Fail> {
-    writes_and_reads(&rt, rt.alloc(), LONGER)
-}
-
-#[test]
-fn the_last_number_is_given_to_one_entry(rt: HostRuntime) -> Result<(), Fail> {
-    has(&rt, rt.alloc(), LAST_FIRST, &LAST_NUMBER)
-}
-
-/// 256 begins, and the steps after them.
-pub fn full_and_after(alloc: Global) -> Result<Vec<(Ask, Summary)>, AllocError> {
-    let mut rows = Vec::new(alloc);
-    for ticket in 0..256 {
-        rows.push((Ask::Begin(ticket, 0xaa), Summary::Begun(ticket)))?;
-    }
-    rows.extend_from_slice(&AFTER_256)?;
-    Ok(rows)
-}
-
-#[test]
-fn no_more_than_256_records_stand(rt: HostRuntime) -> Result<(), Fail> {
-    has(&rt, rt.alloc(), LONG, &full_and_after(rt.alloc())?)
-}
-
-#[test]
-fn the_first_condition_that_holds_is_answered(rt: HostRuntime) -> Result<(), Fail> {
-    has(&rt, rt.alloc(), TWO_LEGS, &FIRST_CONDITIONS)
+fn no_steps_change_nothing(rt: HostRuntime) -> Result<(), Fail> {
+    let mut stripe = open_fused(&rt, rt.alloc(), SHORTER)?;
+    compare(&rt, rt.alloc(), &mut stripe, &SHORT_REGION)?;
+    is_after_short_region(&rt, &stripe);
+    keeps_by_no_steps(&rt, rt.alloc(), &mut stripe)?;
+    is_after_short_region(&rt, &stripe);
+    compare(&rt, rt.alloc(), &mut stripe, &GOES_ON)
 }
 
 fn at(blocks: u64) -> At
