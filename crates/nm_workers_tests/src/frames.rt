@@ -1,6 +1,6 @@
-//! Frames byte for byte, as proto.md lays them out, and devices that take less than they are given.
-use nm_replies::{Reply, ReplyWriter, SendFault, frame, put_frame};
-use nm_wire::{Memory, SimpleReply, errors, sizes};
+//! The largest frame, and devices that take less than they are given.
+use nm_replies::{Reply, ReplyWriter, SendFault, frame};
+use nm_wire::{errors, sizes};
 use std::alloc::Global;
 use std::io;
 use std::io::{ErrorKind, Write};
@@ -55,66 +55,6 @@ const DONE: [u8; 16] = [
 const REFUSED: [u8; 16] = [
     0x67, 0x44, 0x66, 0x98, 0, 0, 0, 0x16, 0, 0, 0, 0, 0, 0, 0, 0x13,
 ];
-
-// A reply's frame, of which nothing is said in proofs, so that the tests' goals stay small.
-fn frame_of(alloc: Global, reply: &Reply) -> Result<Vec<u8>, Memory> {
-    frame(alloc, reply)
-}
-
-#[test]
-fn frames_of_done_requests(rt: HostRuntime) -> Result<(), Fail> {
-    let written = frame_of(rt.alloc(), &Reply::done(0x11))?;
-    assert_eq!(rt; written.as_slice(), DONE.as_slice());
-    assert_eq!(rt; written.capacity(), 16);
-    let empty = Reply::with_data(0x11, Vec::new(rt.alloc()));
-    let empty = frame_of(rt.alloc(), &empty)?;
-    assert_eq!(rt; empty.as_slice(), DONE.as_slice());
-    Ok(())
-}
-
-#[test]
-fn frame_of_a_read(rt: HostRuntime) -> Result<(), Fail> {
-    let read = Reply::with_data(0x11, [0xaa; 512].to_vec(rt.alloc())?);
-    let read = frame_of(rt.alloc(), &read)?;
-    assert_eq!(rt; read.len(), 528);
-    assert_eq!(rt; read.capacity(), 528);
-    assert_eq!(rt; read.get(..16), Some(DONE.as_slice()));
-    assert_eq!(rt; read.get(16..), Some([0xaa; 512].as_slice()));
-    Ok(())
-}
-
-#[test]
-fn frames_of_errors(rt: HostRuntime) -> Result<(), Fail> {
-    let invalid = frame(rt.alloc(), &Reply::error(0x13, errors::EINVAL))?;
-    assert_eq!(rt; invalid.as_slice(), REFUSED.as_slice());
-    let mut past_the_end = REFUSED;
-    past_the_end[7] = 0x1c;
-    past_the_end[15] = 0x14;
-    let no_space = frame(rt.alloc(), &Reply::error(0x14, errors::ENOSPC))?;
-    assert_eq!(rt; no_space.as_slice(), past_the_end.as_slice());
-    Ok(())
-}
-
-// A READ's frame, then an error's, whose data are left out.
-#[test]
-fn frames_one_after_the_other(rt: HostRuntime) -> Result<(), Fail> {
-    let mut out = Vec::new(rt.alloc());
-    let done = SimpleReply {
-        error: 0,
-        cookie: 0x11,
-    };
-    let refused = SimpleReply {
-        error: errors::EINVAL,
-        cookie: 0x13,
-    };
-    put_frame(&mut out, done, &[0xaa; 512])?;
-    put_frame(&mut out, refused, &[0xaa; 512])?;
-    assert_eq!(rt; out.len(), 544);
-    assert_eq!(rt; &out.as_slice()[..16], DONE.as_slice());
-    assert_eq!(rt; &out.as_slice()[16..528], [0xaa; 512].as_slice());
-    assert_eq!(rt; &out.as_slice()[528..], REFUSED.as_slice());
-    Ok(())
-}
 
 #[test]
 fn replies_give_their_data_back(rt: HostRuntime) -> Result<(), Fail> {

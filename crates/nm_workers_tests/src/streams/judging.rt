@@ -19,30 +19,6 @@ static OTHER_FLAGS: [u16; 14] = [
     4, 8, 16, 32, 64, 128, 256, 512, 1024, 2048, 4096, 8192, 16_384, 32_768,
 ];
 
-// At a length of 512 in 1 MiB: the offset, and what READ, WRITE, TRIM and WRITE_ZEROES get: 0 for a
-// task, or the error.
-static OFFSETS: [(u64, [u32; 4]); 19] = [
-    (0, [0, 0, 0, 0]),
-    (1, [0, 0, 0, 0]),
-    (511, [0, 0, 0, 0]),
-    (512, [0, 0, 0, 0]),
-    (513, [0, 0, 0, 0]),
-    (1_048_063, [0, 0, 0, 0]),
-    (1_048_064, [0, 0, 0, 0]),
-    (1_048_065, [22, 28, 22, 28]),
-    (1_048_575, [22, 28, 22, 28]),
-    (1_048_576, [22, 28, 22, 28]),
-    (1_048_577, [22, 28, 22, 28]),
-    (33_554_432, [22, 28, 22, 28]),
-    (4_294_967_295, [22, 28, 22, 28]),
-    (9_223_372_036_854_775_807, [22, 28, 22, 28]),
-    (9_223_372_036_854_775_808, [22, 28, 22, 28]),
-    (18_446_744_073_709_551_103, [22, 28, 22, 28]),
-    (18_446_744_073_709_551_104, [22, 28, 22, 28]),
-    (18_446_744_073_709_551_105, [22, 28, 22, 28]),
-    (18_446_744_073_709_551_615, [22, 28, 22, 28]),
-];
-
 // At offset 0 in 1 MiB: the length, and what the four get.
 static LENGTHS: [(u32, [u32; 4]); 15] = [
     (1, [0, 0, 0, 0]),
@@ -93,60 +69,9 @@ static EXTENTS: [(u64, u32, [u32; 4]); 16] = [
     (18_446_744_073_709_551_615, 2, [22, 28, 22, 28]),
 ];
 
-// Type, flags, offset, length, and the result: of a writable and of a read-only export.
-static RESULTS: [(u16, u16, u64, u32, Result<Task, u32>, Result<Task, u32>); 22] = [
-    (0, 0, 0, 512, Ok(READ), Ok(READ)),
-    (1, 0, 0, 512, Ok(WRITE), Err(1)),
-    (2, 0, 0, 512, Ok(Task::Disconnect), Ok(Task::Disconnect)),
-    (3, 0, 0, 512, Ok(Task::Flush), Ok(Task::Flush)),
-    (4, 0, 0, 512, Ok(ZERO), Err(1)),
-    (5, 0, 0, 512, Err(22), Err(22)),
-    (6, 0, 0, 512, Ok(ZERO), Err(1)),
-    (7, 0, 0, 512, Err(22), Err(22)),
-    (8, 0, 0, 512, Err(22), Err(22)),
-    (9, 0, 0, 512, Err(22), Err(22)),
-    (10, 0, 0, 512, Err(22), Err(22)),
-    (65_535, 0, 0, 512, Err(22), Err(22)),
-    (3, 0, 5, 7, Ok(Task::Flush), Ok(Task::Flush)),
-    (0, 4, 0, 512, Err(22), Err(22)),
-    (
-        2,
-        65_535,
-        0,
-        512,
-        Ok(Task::Disconnect),
-        Ok(Task::Disconnect),
-    ),
-    (4, 0, 1, 512, Ok(ZERO_AT_1), Err(1)),
-    (1, 0, 0, 0, Ok(Task::Nothing), Err(1)),
-    (1, 0, 1_048_576, 512, Err(28), Err(1)),
-    (1, 4, 1, 512, Err(22), Err(22)),
-    (3, 4, 0, 0, Err(22), Err(22)),
-    (5, 0, 0, 0, Err(22), Err(22)),
-    (0, 0, 0, 0, Ok(Task::Nothing), Ok(Task::Nothing)),
-];
-
 const READ: Task = Task::Read {
     offset: 0,
     length: 512,
-};
-
-const WRITE: Task = Task::Write {
-    offset: 0,
-    length: 512,
-    fua: false,
-};
-
-const ZERO: Task = Task::Zero {
-    offset: 0,
-    length: 512,
-    fua: false,
-};
-
-const ZERO_AT_1: Task = Task::Zero {
-    offset: 1,
-    length: 512,
-    fua: false,
 };
 
 fn request(kind: u16, flags: u16, offset: u64, length: u32) -> Request {
@@ -206,14 +131,6 @@ fn expect_tasks(rt: &impl Abort, disk: &Export, offset: u64, length: u32, errors
 }
 
 #[test]
-fn judges_each_offset(rt: HostRuntime) {
-    let disk = export(rt.alloc(), SMALL, false);
-    for (offset, errors) in &OFFSETS {
-        expect_tasks(&rt, &disk, *offset, 512, errors);
-    }
-}
-
-#[test]
 fn judges_each_length(rt: HostRuntime) {
     let disk = export(rt.alloc(), SMALL, false);
     for (length, errors) in &LENGTHS {
@@ -247,39 +164,6 @@ fn judges_the_end_before_length_0(rt: HostRuntime) {
     let disk = export(rt.alloc(), SMALL, false);
     for (offset, length, errors) in &EXTENTS {
         expect_nothing(&rt, &disk, *offset, *length, errors);
-    }
-}
-
-// A READ of a block gets a task, or the error where there is one; each change gets error 1.
-fn expect_no_change(rt: &impl Abort, disk: &Export, offset: u64, error: u32) {
-    assert_eq!(rt;
-        result_of(disk, 0, 0, offset, 512),
-        expected_task(0, offset, 512, false, error),
-        "at {offset}"
-    );
-    for kind in [1, 4, 6] {
-        let got = result_of(disk, kind, 0, offset, 512);
-        assert_eq!(rt; got, Err(1), "at {offset}");
-    }
-}
-
-#[test]
-fn refuses_each_change_of_a_read_only_export(rt: HostRuntime) {
-    let disk = export(rt.alloc(), SMALL, true);
-    for (offset, errors) in &OFFSETS {
-        expect_no_change(&rt, &disk, *offset, errors[0]);
-    }
-}
-
-#[test]
-fn judges_each_type(rt: HostRuntime) {
-    let disk = export(rt.alloc(), SMALL, false);
-    let fixed = export(rt.alloc(), SMALL, true);
-    for &(kind, flags, offset, length, writable, read_only) in &RESULTS {
-        let got = result_of(&disk, kind, flags, offset, length);
-        assert_eq!(rt; got, writable, "{kind} with {flags}");
-        let got = result_of(&fixed, kind, flags, offset, length);
-        assert_eq!(rt; got, read_only, "{kind} with {flags}");
     }
 }
 

@@ -1,81 +1,27 @@
-//! Whole sessions over memory, byte for byte: cut anywhere, to each end, and broken off at each
-//! read and each write. The expected bytes were written by hand.
+//! Whole sessions of `serve` over memory, byte for byte, and broken off at each read and each write.
+//! The expected bytes were written by hand.
 
 use crate::copying_target::CopyingTarget;
+use crate::texts::{
+    DESCRIBED, DISC, FLAGS, GO, GREETING, READ, SIZE, WRITE, concat, export, put_reply, put_request,
+};
 use nm_replies::ReplyWriter;
 use nm_session::{CutReader, CutWriter, End, MemTarget, ServeFault, Served, serve};
-use nm_wire::{Export, Memory, Name};
+use nm_wire::Memory;
 use std::alloc::{AllocError, Global};
-use std::process::Abort;
 use std::sync::Wait;
 use std::test::Fail;
 
-// The client's flags.
-pub(crate) const FLAGS: [u8; 4] = *b"\0\0\0\x03";
-
-pub(crate) const GO: [u8; 26] = *b"IHAVEOPT\0\0\0\x07\0\0\0\x0a\0\0\0\x04disk\0\0";
-
-// GO that asks for block sizes.
-pub(crate) const GO_ASKING: [u8; 28] = *b"IHAVEOPT\0\0\0\x07\0\0\0\x0c\0\0\0\x04disk\0\x01\0\x03";
-
-// GO whose name is longer than its data.
-pub(crate) const GO_TOO_SHORT: [u8; 26] = *b"IHAVEOPT\0\0\0\x07\0\0\0\x0a\0\0\0\x05disk\0\0";
-
-pub(crate) const GREETING: [u8; 18] = *b"NBDMAGICIHAVEOPT\0\x03";
-
-// What GO is answered with: size and flags, block sizes, ACK.
-pub(crate) const DESCRIBED: [u8; 86] =
-    *b"\0\x03\xe8\x89\x04\x55\x65\xa9\0\0\0\x07\0\0\0\x03\0\0\0\x0c\
-    \0\0\0\0\0\0\0\x10\0\0\x01\x6d\
-    \0\x03\xe8\x89\x04\x55\x65\xa9\0\0\0\x07\0\0\0\x03\0\0\0\x0e\
-    \0\x03\0\0\0\x01\0\0\x10\0\x02\0\0\0\
-    \0\x03\xe8\x89\x04\x55\x65\xa9\0\0\0\x07\0\0\0\x01\0\0\0\0";
-
-// What GO is answered with where its lengths do not add up: INVALID.
-pub(crate) const INVALID_GO: [u8; 20] =
-    *b"\0\x03\xe8\x89\x04\x55\x65\xa9\0\0\0\x07\x80\0\0\x03\0\0\0\0";
-
-pub(crate) const LIST_WITH_DATA: [u8; 17] = *b"IHAVEOPT\0\0\0\x03\0\0\0\x01\0";
-
-pub(crate) const INVALID_LIST: [u8; 20] =
-    *b"\0\x03\xe8\x89\x04\x55\x65\xa9\0\0\0\x03\x80\0\0\x03\0\0\0\0";
-
-pub(crate) const STRUCTURED_REPLY: [u8; 16] = *b"IHAVEOPT\0\0\0\x08\0\0\0\0";
-
-pub(crate) const UNSUPPORTED: [u8; 20] =
-    *b"\0\x03\xe8\x89\x04\x55\x65\xa9\0\0\0\x08\x80\0\0\x01\0\0\0\0";
-
-const ABORT: [u8; 16] = *b"IHAVEOPT\0\0\0\x02\0\0\0\0";
-
-const ABORTED: [u8; 20] = *b"\0\x03\xe8\x89\x04\x55\x65\xa9\0\0\0\x02\0\0\0\x01\0\0\0\0";
-
-pub(crate) const EXPORT_NAME_DISK: [u8; 20] = *b"IHAVEOPT\0\0\0\x01\0\0\0\x04disk";
-
-pub(crate) const EXPORT_NAME_DISC: [u8; 20] = *b"IHAVEOPT\0\0\0\x01\0\0\0\x04disc";
-
-pub(crate) const SIZE_AND_FLAGS: [u8; 10] = *b"\0\0\0\0\0\x10\0\0\x01\x6d";
-
-const DISC: [u8; 28] = *b"\x25\x60\x95\x13\0\0\0\x02\0\0\0\0\0\0\0\x99\0\0\0\0\0\0\0\0\0\0\0\0";
-
-const LONG_WRITE: [u8; 28] =
-    *b"\x25\x60\x95\x13\0\0\0\x01\0\0\0\0\0\0\0\x11\0\0\0\0\0\0\0\0\x02\0\0\x01";
-
-const READ: u8 = 0;
-
-const WRITE: u8 = 1;
-
-pub(crate) const SIZE: usize = 1_048_576;
-
 // What a session left: how it ended, what was written, and block 1 of its target.
 #[derive(Drop)]
-pub(crate) struct Found {
+struct Found {
     ended: Result<Served, ServeFault>,
-    pub(crate) out: Vec<u8>,
+    out: Vec<u8>,
     block: Vec<u8>,
 }
 
 impl Found {
-    pub(crate) fn is(&self, requests: u64, end: End) -> bool {
+    fn is(&self, requests: u64, end: End) -> bool {
         match self.ended {
             Ok(served) => served.requests == requests && served.end == end,
             Err(_) => false,
@@ -89,7 +35,7 @@ impl Found {
         }
     }
 
-    pub(crate) fn block_is_all(&self, byte: u8) -> bool {
+    fn block_is_all(&self, byte: u8) -> bool {
         self.block.len() == 512 && self.block.iter().all(|b| *b == byte)
     }
 }
@@ -102,11 +48,7 @@ fn run<R: Wait>(
     mut reader: CutReader,
     writer: CutWriter,
 ) -> Result<Found, Memory> {
-    let export = Export {
-        name: Name::new(b"disk".to_vec(alloc)?),
-        blocks: 2_048,
-        read_only: false,
-    };
+    let export = export(alloc)?;
     if (target.as_bytes().len() as u64) < export.size() {
         return Err(Memory);
     }
@@ -119,47 +61,6 @@ fn run<R: Wait>(
         .unwrap_or(&[])
         .to_vec(alloc)?;
     Ok(Found { ended, out, block })
-}
-
-// These parts in a row.
-pub(crate) fn concat(alloc: Global, parts: &[&[u8]]) -> Result<Vec<u8>, AllocError> {
-    let mut whole = Vec::new(alloc);
-    for part in parts {
-        whole.extend_from_slice(part)?;
-    }
-    Ok(whole)
-}
-
-// A request, its payload so many bytes of one kind.
-fn put_request(
-    out: &mut Vec<u8>,
-    kind: u8,
-    cookie: u8,
-    offset: u64,
-    length: u32,
-) -> Result<(), AllocError> {
-    out.extend_from_slice(&[
-        0x25, 0x60, 0x95, 0x13, 0, 0, 0, kind, 0, 0, 0, 0, 0, 0, 0, cookie,
-    ])?;
-    out.extend_from_slice(&offset.to_be_bytes())?;
-    out.extend_from_slice(&length.to_be_bytes())
-}
-
-fn put_reply(out: &mut Vec<u8>, error: u8, cookie: u8) -> Result<(), AllocError> {
-    out.extend_from_slice(&[
-        0x67, 0x44, 0x66, 0x98, 0, 0, 0, error, 0, 0, 0, 0, 0, 0, 0, cookie,
-    ])
-}
-
-// The handshake, a WRITE of block 1, and a DISC; and what goes out.
-pub(crate) fn one_write(alloc: Global) -> Result<(Vec<u8>, Vec<u8>), AllocError> {
-    let mut stream = concat(alloc, &[&FLAGS, &GO])?;
-    put_request(&mut stream, WRITE, 0x11, 512, 512)?;
-    stream.extend_from_slice(&[0xaa; 512])?;
-    stream.extend_from_slice(&DISC)?;
-    let mut out = concat(alloc, &[&GREETING, &DESCRIBED])?;
-    put_reply(&mut out, 0, 0x11)?;
-    Ok((stream, out))
 }
 
 // The handshake, requests at the export's edges and across its blocks, and a DISC.
@@ -200,13 +101,13 @@ fn replies(alloc: Global) -> Result<Vec<u8>, AllocError> {
 
 // Where a reader cuts its bytes, and which read fails; 0 for none.
 #[derive(Clone, Copy)]
-pub(crate) struct Cuts {
-    pub(crate) at: usize,
-    pub(crate) longest: usize,
-    pub(crate) fails_at: u64,
+struct Cuts {
+    at: usize,
+    longest: usize,
+    fails_at: u64,
 }
 
-pub(crate) const WHOLE: Cuts = Cuts {
+const WHOLE: Cuts = Cuts {
     at: 0,
     longest: 0,
     fails_at: 0,
@@ -232,7 +133,7 @@ fn run_cut<R: Wait>(rt: &R, alloc: Global, stream: &[u8], cuts: Cuts) -> Result<
 }
 
 // Serves them over this target.
-pub(crate) fn run_over<R: Wait>(
+fn run_over<R: Wait>(
     rt: &R,
     alloc: Global,
     target: &mut MemTarget,
@@ -241,61 +142,6 @@ pub(crate) fn run_over<R: Wait>(
 ) -> Result<Found, Memory> {
     let reader = reader(alloc, stream, cuts)?;
     run(rt, alloc, target, reader, CutWriter::new(alloc, 4_096)?)
-}
-
-// The session comes to this end, and these parts go out.
-fn expect<R: Wait + Abort>(
-    rt: &R,
-    alloc: Global,
-    stream: &[&[u8]],
-    out: &[&[u8]],
-    end: End,
-) -> Result<(), Memory> {
-    let stream = concat(alloc, stream)?;
-    let found = run_cut(rt, alloc, stream.as_slice(), WHOLE)?;
-    assert!(rt; found.is(0, end));
-    assert!(rt; found.out.as_slice() == concat(alloc, out)?.as_slice());
-    Ok(())
-}
-
-// Serves the requests cut in two, at each byte of this quarter of their 1,310 bytes. What they find
-// does not change from run to run, so one target serves them all.
-fn expect_cut<R: Wait + Abort>(rt: &R, alloc: Global, quarter: usize) -> Result<(), Memory> {
-    let stream = requests(alloc)?;
-    let out = replies(alloc)?;
-    let mut target = MemTarget::new(alloc, SIZE)?;
-    for place in 0..330 {
-        let at = quarter.wrapping_mul(330).wrapping_add(place);
-        let cuts = Cuts { at, ..WHOLE };
-        let found = run_over(rt, alloc, &mut target, stream.as_slice(), cuts)?;
-        assert!(rt; found.is(9, End::Disc));
-        assert!(rt; found.out.as_slice() == out.as_slice());
-    }
-    Ok(())
-}
-
-#[test]
-fn serves_requests_cut_in_the_first_quarter(rt: HostRuntime) -> Result<(), Fail> {
-    expect_cut(&rt, rt.alloc(), 0)?;
-    Ok(())
-}
-
-#[test]
-fn serves_requests_cut_in_the_second_quarter(rt: HostRuntime) -> Result<(), Fail> {
-    expect_cut(&rt, rt.alloc(), 1)?;
-    Ok(())
-}
-
-#[test]
-fn serves_requests_cut_in_the_third_quarter(rt: HostRuntime) -> Result<(), Fail> {
-    expect_cut(&rt, rt.alloc(), 2)?;
-    Ok(())
-}
-
-#[test]
-fn serves_requests_cut_in_the_last_quarter(rt: HostRuntime) -> Result<(), Fail> {
-    expect_cut(&rt, rt.alloc(), 3)?;
-    Ok(())
 }
 
 #[test]
@@ -310,111 +156,6 @@ fn serves_requests_byte_by_byte(rt: HostRuntime) -> Result<(), Fail> {
     let found = run_cut(&rt, alloc, stream.as_slice(), bytewise)?;
     assert!(rt; found.is(9, End::Disc));
     assert!(rt; found.out.as_slice() == replies(alloc)?.as_slice());
-    Ok(())
-}
-
-#[test]
-fn ends_where_the_client_leaves(rt: HostRuntime) -> Result<(), Fail> {
-    let alloc = rt.alloc();
-    expect(&rt, alloc, &[], &[&GREETING], End::EndOfInput)?;
-    expect(
-        &rt,
-        alloc,
-        &[&FLAGS, &GO],
-        &[&GREETING, &DESCRIBED],
-        End::EndOfInput,
-    )?;
-    expect(
-        &rt,
-        alloc,
-        &[&FLAGS, &GO_ASKING],
-        &[&GREETING, &DESCRIBED],
-        End::EndOfInput,
-    )?;
-    expect(
-        &rt,
-        alloc,
-        &[&FLAGS, &ABORT],
-        &[&GREETING, &ABORTED],
-        End::Aborted,
-    )?;
-    Ok(())
-}
-
-#[test]
-fn ends_at_an_unknown_flag_and_at_an_unknown_name(rt: HostRuntime) -> Result<(), Fail> {
-    let alloc = rt.alloc();
-    expect(&rt, alloc, &[b"\0\0\0\x04"], &[&GREETING], End::Protocol)?;
-    expect(
-        &rt,
-        alloc,
-        &[&FLAGS, &EXPORT_NAME_DISC],
-        &[&GREETING],
-        End::Protocol,
-    )?;
-    Ok(())
-}
-
-#[test]
-fn answers_export_name_with_zeroes_and_without(rt: HostRuntime) -> Result<(), Fail> {
-    let alloc = rt.alloc();
-    let zeroes: [&[u8]; 3] = [&GREETING, &SIZE_AND_FLAGS, &[0; 124]];
-    expect(
-        &rt,
-        alloc,
-        &[b"\0\0\0\x01", &EXPORT_NAME_DISK],
-        &zeroes,
-        End::EndOfInput,
-    )?;
-    expect(
-        &rt,
-        alloc,
-        &[&FLAGS, &EXPORT_NAME_DISK],
-        &[&GREETING, &SIZE_AND_FLAGS],
-        End::EndOfInput,
-    )?;
-    Ok(())
-}
-
-#[test]
-fn haggles_on_after_a_refused_option(rt: HostRuntime) -> Result<(), Fail> {
-    let alloc = rt.alloc();
-    let options: [&[u8]; 5] = [
-        &FLAGS,
-        &LIST_WITH_DATA,
-        &STRUCTURED_REPLY,
-        &GO_TOO_SHORT,
-        &GO,
-    ];
-    let out: [&[u8]; 5] = [
-        &GREETING,
-        &INVALID_LIST,
-        &UNSUPPORTED,
-        &INVALID_GO,
-        &DESCRIBED,
-    ];
-    expect(&rt, alloc, &options, &out, End::EndOfInput)?;
-    // A magic number that is none.
-    let broken: [&[u8]; 3] = [&FLAGS, &GO, &[0; 28]];
-    expect(&rt, alloc, &broken, &[&GREETING, &DESCRIBED], End::Protocol)?;
-    // A WRITE of one byte more than 32 MiB.
-    let long: [&[u8]; 3] = [&FLAGS, &GO, &LONG_WRITE];
-    expect(&rt, alloc, &long, &[&GREETING, &DESCRIBED], End::Protocol)?;
-    Ok(())
-}
-
-#[test]
-fn serves_no_part_of_a_write(rt: HostRuntime) -> Result<(), Fail> {
-    let alloc = rt.alloc();
-    let (stream, out) = one_write(alloc)?;
-    let mut target = MemTarget::new(alloc, SIZE)?;
-    for taken in 31..570 {
-        let front = stream.get(..taken).unwrap_or(&[]);
-        let found = run_over(&rt, alloc, &mut target, front, WHOLE)?;
-        assert!(rt; found.is(0, End::EndOfInput));
-        assert!(rt; found.out.as_slice() == out.get(..104).unwrap_or(&[]));
-        assert!(rt; found.block_is_all(0));
-    }
     Ok(())
 }
 
@@ -503,11 +244,7 @@ fn replies_go_out_once_1_mib_has_gathered(rt: HostRuntime) -> Result<(), Fail> {
 // many writes: what went out, and block 1.
 fn run_copying<R: Wait>(rt: &R, alloc: Global, writes: u64) -> Result<(Vec<u8>, Vec<u8>), Memory> {
     let (stream, _, _) = write_and_read(alloc)?;
-    let export = Export {
-        name: Name::new(b"disk".to_vec(alloc)?),
-        blocks: 2_048,
-        read_only: false,
-    };
+    let export = export(alloc)?;
     let mut target = CopyingTarget::new(alloc, SIZE, writes)?;
     if (target.as_bytes().len() as u64) < export.size() {
         return Err(Memory);

@@ -116,41 +116,6 @@ fn take_out(
     Ok(count)
 }
 
-// The session cut in two at this byte.
-fn expect_cut(rt: &impl Abort, alloc: Global, bytes: &[u8], cut: usize) -> Result<(), Fail> {
-    let (front, back) = bytes.split_at_checked(cut).ok_or("cut past the end")?;
-    let mut reader = RequestReader::new();
-    feed(&mut reader, alloc, front)?;
-    let count = take_out(rt, alloc, &mut reader, 0)?;
-    feed(&mut reader, alloc, back)?;
-    let count = take_out(rt, alloc, &mut reader, count)?;
-    assert_eq!(rt; count, 6, "cut at {cut}");
-    Ok(())
-}
-
-#[test]
-fn reads_the_session_cut_at_every_byte(rt: HostRuntime) -> Result<(), Fail> {
-    let stream = session(rt.alloc())?;
-    assert_eq!(rt; stream.len(), 1192);
-    for cut in 0..=1192 {
-        expect_cut(&rt, rt.alloc(), &stream, cut)?;
-    }
-    Ok(())
-}
-
-#[test]
-fn reads_the_session_byte_by_byte(rt: HostRuntime) -> Result<(), Fail> {
-    let stream = session(rt.alloc())?;
-    let mut reader = RequestReader::new();
-    let mut count = 0;
-    for byte in stream.as_slice() {
-        feed(&mut reader, rt.alloc(), &[*byte])?;
-        count = take_out(&rt, rt.alloc(), &mut reader, count)?;
-    }
-    assert_eq!(rt; count, 6);
-    Ok(())
-}
-
 #[test]
 fn issues_no_request_before_its_payload_is_whole(rt: HostRuntime) -> Result<(), Fail> {
     let stream = session(rt.alloc())?;

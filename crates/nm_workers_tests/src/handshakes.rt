@@ -1,4 +1,4 @@
-//! Handshakes byte for byte, in every cutting, and what comes at the edges of each length.
+//! Handshakes: long ones, ones that memory refuses, and what comes after the end.
 ghost use Rattle.std.specs.Prelude.{◌≤◌, length, IfOk};
 
 use nm_haggle::{Haggle, Next, Refused, Turn};
@@ -17,32 +17,12 @@ const GO: [u8; 26] = [
     0x69, 0x73, 0x6b, 0, 0,
 ];
 
-// GO for "disk", asking for the block sizes.
-const GO_ASKING: [u8; 28] = [
-    0x49, 0x48, 0x41, 0x56, 0x45, 0x4f, 0x50, 0x54, 0, 0, 0, 7, 0, 0, 0, 0x0c, 0, 0, 0, 4, 0x64,
-    0x69, 0x73, 0x6b, 0, 1, 0, 3,
-];
-
-// GO whose name is longer than its data.
-const GO_TOO_SHORT: [u8; 26] = [
-    0x49, 0x48, 0x41, 0x56, 0x45, 0x4f, 0x50, 0x54, 0, 0, 0, 7, 0, 0, 0, 0x0a, 0, 0, 0, 5, 0x64,
-    0x69, 0x73, 0x6b, 0, 0,
-];
-
 // What GO is answered with: size and flags, block sizes, and ACK.
 const DESCRIBED: [u8; 86] = [
     0x00, 0x03, 0xe8, 0x89, 0x04, 0x55, 0x65, 0xa9, 0, 0, 0, 7, 0, 0, 0, 3, 0, 0, 0, 0x0c, 0, 0, 0,
     0, 0, 0, 0, 0x10, 0, 0, 0x01, 0x6d, 0x00, 0x03, 0xe8, 0x89, 0x04, 0x55, 0x65, 0xa9, 0, 0, 0, 7,
     0, 0, 0, 3, 0, 0, 0, 0x0e, 0, 3, 0, 0, 0, 1, 0, 0, 0x10, 0, 2, 0, 0, 0, 0x00, 0x03, 0xe8, 0x89,
     0x04, 0x55, 0x65, 0xa9, 0, 0, 0, 7, 0, 0, 0, 1, 0, 0, 0, 0,
-];
-
-const EXPORT_NAME_DISK: [u8; 20] = [
-    0x49, 0x48, 0x41, 0x56, 0x45, 0x4f, 0x50, 0x54, 0, 0, 0, 1, 0, 0, 0, 4, 0x64, 0x69, 0x73, 0x6b,
-];
-
-const EXPORT_NAME_DISC: [u8; 20] = [
-    0x49, 0x48, 0x41, 0x56, 0x45, 0x4f, 0x50, 0x54, 0, 0, 0, 1, 0, 0, 0, 4, 0x64, 0x69, 0x73, 0x63,
 ];
 
 const SIZE_AND_FLAGS: [u8; 10] = [0, 0, 0, 0, 0, 0x10, 0, 0, 0x01, 0x6d];
@@ -57,14 +37,6 @@ const LISTED: [u8; 48] = [
     0, 0, 0, 0,
 ];
 
-const LIST_WITH_DATA: [u8; 17] = [
-    0x49, 0x48, 0x41, 0x56, 0x45, 0x4f, 0x50, 0x54, 0, 0, 0, 3, 0, 0, 0, 1, 0,
-];
-
-const STRUCTURED_REPLY: [u8; 16] = [
-    0x49, 0x48, 0x41, 0x56, 0x45, 0x4f, 0x50, 0x54, 0, 0, 0, 8, 0, 0, 0, 0,
-];
-
 const ABORT: [u8; 16] = [
     0x49, 0x48, 0x41, 0x56, 0x45, 0x4f, 0x50, 0x54, 0, 0, 0, 2, 0, 0, 0, 0,
 ];
@@ -74,11 +46,6 @@ const TOO_LONG: [u8; 16] = [
     0x49, 0x48, 0x41, 0x56, 0x45, 0x4f, 0x50, 0x54, 0, 0, 0, 2, 0, 1, 0, 1,
 ];
 
-// The header of an option whose magic's last bit is wrong.
-const WRONG_MAGIC: [u8; 16] = [
-    0x49, 0x48, 0x41, 0x56, 0x45, 0x4f, 0x50, 0x55, 0, 0, 0, 2, 0, 0, 0, 0,
-];
-
 // The beginning of a request, which is none of the haggling's.
 const REQUEST: [u8; 5] = [0x25, 0x60, 0x95, 0x13, 0];
 
@@ -86,14 +53,6 @@ const REQUEST: [u8; 5] = [0x25, 0x60, 0x95, 0x13, 0];
 const ACK: [u8; 4] = [0, 0, 0, 1];
 
 const UNSUP: [u8; 4] = [0x80, 0, 0, 1];
-
-const INVALID: [u8; 4] = [0x80, 0, 0, 3];
-
-const UNKNOWN: [u8; 4] = [0x80, 0, 0, 6];
-
-const CLOSED: Next = Next::Close { aborted: false };
-
-const ABORTED: Next = Next::Close { aborted: true };
 
 /// A reply without data.
 fn empty_reply(option: u8, kind: [u8; 4]) -> [u8; 20] {
@@ -172,15 +131,6 @@ impl Client {
     }
 }
 
-/// A client that sent a text cut in two at this byte.
-fn send_cut(alloc: Global, text: &[u8], at: usize) -> Result<Client, Fail> {
-    let (front, back) = text.split_at(at.min(text.len()));
-    let mut client = Client::new(alloc)?;
-    client.send(alloc, front)?;
-    client.send(alloc, back)?;
-    Ok(client)
-}
-
 /// A client that sent a text in pieces of this size.
 fn send_pieces(alloc: Global, text: &[u8], size: usize) -> Result<Client, Fail> {
     let mut client = Client::new(alloc)?;
@@ -188,105 +138,6 @@ fn send_pieces(alloc: Global, text: &[u8], size: usize) -> Result<Client, Fail> 
         client.send(alloc, piece)?;
     }
     Ok(client)
-}
-
-/// A text is answered with these bytes, so many of it are used and that comes next: whole, cut in
-/// two at every byte, and byte by byte.
-fn expect_cut(
-    rt: &impl Abort,
-    alloc: Global,
-    text: &[u8],
-    out: &[u8],
-    used: usize,
-    next: Next,
-) -> Result<(), Fail> {
-    for at in 0..=text.len() {
-        send_cut(alloc, text, at)?.expect(rt, out, used, next, at);
-    }
-    send_pieces(alloc, text, 1)?.expect(rt, out, used, next, text.len());
-    Ok(())
-}
-
-#[test]
-fn greets(rt: HostRuntime) {
-    let greeting: [u8; 18] = [
-        0x4e, 0x42, 0x44, 0x4d, 0x41, 0x47, 0x49, 0x43, 0x49, 0x48, 0x41, 0x56, 0x45, 0x4f, 0x50,
-        0x54, 0x00, 0x03,
-    ];
-    assert_eq!(rt; Haggle::greeting(), greeting);
-}
-
-#[test]
-fn answers_go(rt: HostRuntime) -> Result<(), Fail> {
-    let alloc = rt.alloc();
-    let plain = concat(alloc, &[&FIXED_NO_ZEROES, &GO])?;
-    expect_cut(&rt, alloc, &plain, &DESCRIBED, 30, Next::Transmit)?;
-    let asking = concat(alloc, &[&FIXED_NO_ZEROES, &GO_ASKING])?;
-    expect_cut(&rt, alloc, &asking, &DESCRIBED, 32, Next::Transmit)?;
-    let followed = concat(alloc, &[&FIXED, &GO, &REQUEST])?;
-    expect_cut(&rt, alloc, &followed, &DESCRIBED, 30, Next::Transmit)
-}
-
-#[test]
-fn answers_export_name(rt: HostRuntime) -> Result<(), Fail> {
-    let alloc = rt.alloc();
-    let filled = concat(alloc, &[&SIZE_AND_FLAGS, &[0; 124]])?;
-    let with_zeroes = concat(alloc, &[&FIXED, &EXPORT_NAME_DISK])?;
-    expect_cut(&rt, alloc, &with_zeroes, &filled, 24, Next::Transmit)?;
-    let without = concat(alloc, &[&FIXED_NO_ZEROES, &EXPORT_NAME_DISK, &REQUEST])?;
-    expect_cut(&rt, alloc, &without, &SIZE_AND_FLAGS, 24, Next::Transmit)?;
-    let unknown = concat(alloc, &[&FIXED, &EXPORT_NAME_DISC])?;
-    expect_cut(&rt, alloc, &unknown, &[], 24, CLOSED)
-}
-
-#[test]
-fn goes_on_after_refused_options(rt: HostRuntime) -> Result<(), Fail> {
-    let alloc = rt.alloc();
-    let text = concat(
-        alloc,
-        &[&FIXED_NO_ZEROES, &LIST_WITH_DATA, &STRUCTURED_REPLY, &GO],
-    )?;
-    let out = concat(
-        alloc,
-        &[&empty_reply(3, INVALID), &empty_reply(8, UNSUP), &DESCRIBED],
-    )?;
-    expect_cut(&rt, alloc, &text, &out, 63, Next::Transmit)?;
-    let short = concat(alloc, &[&FIXED_NO_ZEROES, &GO_TOO_SHORT])?;
-    expect_cut(&rt, alloc, &short, &empty_reply(7, INVALID), 30, Next::More)
-}
-
-#[test]
-fn answers_list_and_abort(rt: HostRuntime) -> Result<(), Fail> {
-    let alloc = rt.alloc();
-    let list = concat(alloc, &[&FIXED_NO_ZEROES, &LIST])?;
-    expect_cut(&rt, alloc, &list, &LISTED, 20, Next::More)?;
-    let abort = concat(alloc, &[&FIXED_NO_ZEROES, &ABORT, &REQUEST])?;
-    let acknowledged = empty_reply(2, ACK);
-    expect_cut(&rt, alloc, &abort, &acknowledged, 20, ABORTED)
-}
-
-/// The flags of this bit alone close the haggling.
-fn expect_bad_flag(rt: &impl Abort, alloc: Global, bit: u32) -> Result<(), Fail> {
-    let flags = 1u32.wrapping_shl(bit).to_be_bytes();
-    let text = concat(alloc, &[&flags, &GO])?;
-    expect_cut(rt, alloc, &text, &[], 4, CLOSED)
-}
-
-/// An option's header closes the haggling, as soon as it is whole.
-fn expect_bad_header(rt: &impl Abort, alloc: Global, head: &[u8; 16]) -> Result<(), Fail> {
-    let text = concat(alloc, &[&FIXED, head, &REQUEST])?;
-    expect_cut(rt, alloc, &text, &[], 20, CLOSED)?;
-    let part = concat(alloc, &[&FIXED, &head[..15]])?;
-    expect_cut(rt, alloc, &part, &[], 19, Next::More)
-}
-
-#[test]
-fn closes_on_bad_flags_and_headers(rt: HostRuntime) -> Result<(), Fail> {
-    for bit in 2..32u32 {
-        expect_bad_flag(&rt, rt.alloc(), bit)?;
-    }
-    expect_bad_header(&rt, rt.alloc(), &TOO_LONG)?;
-    expect_bad_header(&rt, rt.alloc(), &WRONG_MAGIC)
 }
 
 /// A client that sent flags and then this takes no more.
@@ -325,148 +176,6 @@ fn option_text(alloc: Global, number: u8, payload: &[u8]) -> Result<Vec<u8>, All
     )
 }
 
-/// An option with these data is answered so: whole, and cut at its header's and its data's edges.
-fn expect_answer(
-    rt: &impl Abort,
-    alloc: Global,
-    number: u8,
-    payload: &[u8],
-    out: &[u8],
-    next: Next,
-) -> Result<(), Fail> {
-    let text = option_text(alloc, number, payload)?;
-    let used = if payload.len() > 65_536 {
-        20
-    } else {
-        text.len()
-    };
-    for cut in [0, 4, 19, 20, 21, text.len().saturating_sub(1)] {
-        send_cut(alloc, &text, cut)?.expect(rt, out, used, next, cut);
-    }
-    Ok(())
-}
-
-/// What INFO is answered with.
-fn described_by_info() -> [u8; 86] {
-    let mut described = DESCRIBED;
-    described[11] = 6;
-    described[43] = 6;
-    described[77] = 6;
-    described
-}
-
-/// An option with zeroes of these lengths as its data is answered so, each time.
-fn expect_lengths(
-    rt: &impl Abort,
-    alloc: Global,
-    number: u8,
-    lengths: &[usize],
-    out: &[u8],
-    next: Next,
-) -> Result<(), Fail> {
-    for &length in lengths {
-        let payload = vec![in alloc; 0u8; length]?;
-        expect_answer(rt, alloc, number, &payload, out, next)?;
-    }
-    Ok(())
-}
-
-#[test]
-fn takes_data_of_each_length(rt: HostRuntime) -> Result<(), Fail> {
-    let alloc = rt.alloc();
-    expect_lengths(&rt, alloc, 1, &[0], &SIZE_AND_FLAGS, Next::Transmit)?;
-    expect_lengths(&rt, alloc, 1, &[1, 5, 65_536], &[], CLOSED)?;
-    let aborted = empty_reply(2, ACK);
-    expect_lengths(&rt, alloc, 2, &[0, 1, 65_536], &aborted, ABORTED)?;
-    expect_lengths(&rt, alloc, 3, &[0], &LISTED, Next::More)?;
-    let invalid = empty_reply(3, INVALID);
-    expect_lengths(&rt, alloc, 3, &[1, 65_536], &invalid, Next::More)?;
-    let unsupported = empty_reply(8, UNSUP);
-    expect_lengths(&rt, alloc, 8, &[0, 1, 65_536], &unsupported, Next::More)
-}
-
-#[test]
-fn takes_data_of_info_and_go_of_each_length(rt: HostRuntime) -> Result<(), Fail> {
-    let alloc = rt.alloc();
-    let described = described_by_info();
-    expect_lengths(&rt, alloc, 6, &[6], &described, Next::More)?;
-    expect_lengths(&rt, alloc, 7, &[6], &DESCRIBED, Next::Transmit)?;
-    for number in [6, 7] {
-        let invalid = empty_reply(number, INVALID);
-        expect_lengths(&rt, alloc, number, &[0, 1, 7, 65_536], &invalid, Next::More)?;
-    }
-    Ok(())
-}
-
-#[test]
-fn closes_on_data_of_more_than_64_kib(rt: HostRuntime) -> Result<(), Fail> {
-    for number in 1..9 {
-        expect_lengths(&rt, rt.alloc(), number, &[65_537], &[], CLOSED)?;
-    }
-    Ok(())
-}
-
-#[test]
-fn adds_up_the_lengths_of_info_and_go(rt: HostRuntime) -> Result<(), Fail> {
-    let alloc = rt.alloc();
-    for (name_length, type_count) in [
-        (0u32, 1u16),
-        (3, 1),
-        (5, 1),
-        (6, 1),
-        (65_535, 1),
-        (1 << 31, 1),
-        (u32::MAX, 1),
-        (4, 0),
-        (4, 2),
-        (4, u16::MAX),
-    ] {
-        let payload = concat(
-            alloc,
-            &[
-                &name_length.to_be_bytes(),
-                b"disk",
-                &type_count.to_be_bytes(),
-                &[0, 3],
-            ],
-        )?;
-        for number in [6, 7] {
-            let invalid = empty_reply(number, INVALID);
-            expect_answer(&rt, alloc, number, &payload, &invalid, Next::More)?;
-        }
-    }
-    let payload = concat(alloc, &[&[0, 0, 0, 4], b"disk", &[0, 1, 0, 3]])?;
-    expect_answer(&rt, alloc, 6, &payload, &described_by_info(), Next::More)?;
-    expect_answer(&rt, alloc, 7, &payload, &DESCRIBED, Next::Transmit)
-}
-
-/// The data of GO for this name, asking for nothing.
-fn name_data(alloc: Global, name: &[u8]) -> Result<Vec<u8>, AllocError> {
-    let length = u32::try_from(name.len()).unwrap_or(0).to_be_bytes();
-    concat(alloc, &[&length, name, &[0, 0]])
-}
-
-#[test]
-fn knows_names_byte_for_byte(rt: HostRuntime) -> Result<(), Fail> {
-    let alloc = rt.alloc();
-    for name in [&b""[..], b"disk"] {
-        let payload = name_data(alloc, name)?;
-        expect_answer(&rt, alloc, 7, &payload, &DESCRIBED, Next::Transmit)?;
-    }
-    let unknown = empty_reply(7, UNKNOWN);
-    for name in [
-        &b"disc"[..],
-        b"Disk",
-        b"dis",
-        b"disk0",
-        &[0xff, 0xfe, 0xfd, 0xfc],
-    ] {
-        let payload = name_data(alloc, name)?;
-        expect_answer(&rt, alloc, 7, &payload, &unknown, Next::More)?;
-    }
-    Ok(())
-}
-
 #[test]
 fn serves_a_name_that_is_no_text(rt: HostRuntime) -> Result<(), Fail> {
     let alloc = rt.alloc();
@@ -475,21 +184,6 @@ fn serves_a_name_that_is_no_text(rt: HostRuntime) -> Result<(), Fail> {
     let turn = client.feed(alloc, &text)?;
     assert_eq!(rt; turn.out.as_slice(), &SIZE_AND_FLAGS[..]);
     assert_eq!(rt; turn.next, Next::Transmit);
-    Ok(())
-}
-
-#[test]
-fn describes_a_read_only_export(rt: HostRuntime) -> Result<(), Fail> {
-    let alloc = rt.alloc();
-    let mut disk = export(alloc, b"disk")?;
-    disk.read_only = true;
-    let mut client = Client::of(alloc, disk);
-    let text = concat(alloc, &[&FIXED_NO_ZEROES, &EXPORT_NAME_DISK])?;
-    let turn = client.feed(alloc, &text)?;
-    assert_eq!(rt;
-        turn.out.as_slice(),
-        &[0, 0, 0, 0, 0, 0x10, 0, 0, 0x01, 0x07][..]
-    );
     Ok(())
 }
 
@@ -508,43 +202,6 @@ fn takes_the_longest_option_in_pieces(rt: HostRuntime) -> Result<(), Fail> {
         let client = send_pieces(alloc, &text, size)?;
         client.expect(&rt, &empty_reply(8, UNSUP), 65_556, Next::More, size);
     }
-    Ok(())
-}
-
-// The longest name, and the header of its entry in a list.
-static LONGEST_NAME: [u8; 255] = [0x6e; 255];
-
-static LONGEST_NAME_HEAD: [u8; 24] = [
-    0x00, 0x03, 0xe8, 0x89, 0x04, 0x55, 0x65, 0xa9, 0, 0, 0, 3, 0, 0, 0, 2, 0, 0, 0x01, 0x03, 0, 0,
-    0, 0xff,
-];
-
-/// A piece is answered with this.
-fn expect_turn(
-    rt: &impl Abort,
-    alloc: Global,
-    client: &mut Client,
-    piece: &[u8],
-    out: &[u8],
-    next: Next,
-) -> Result<(), Refused> {
-    let turn = client.feed(alloc, piece)?;
-    assert_eq!(rt; turn.out.as_slice(), out);
-    assert_eq!(rt; turn.next, next);
-    Ok(())
-}
-
-#[test]
-fn lists_the_longest_name(rt: HostRuntime) -> Result<(), Fail> {
-    let alloc = rt.alloc();
-    let mut client = Client::of(alloc, export(alloc, &LONGEST_NAME)?);
-    let text = concat(alloc, &[&FIXED_NO_ZEROES, &LIST])?;
-    let end = empty_reply(3, ACK);
-    let listed = concat(alloc, &[&LONGEST_NAME_HEAD, &LONGEST_NAME, &end])?;
-    expect_turn(&rt, alloc, &mut client, &text, &listed, Next::More)?;
-    let go = option_text(alloc, 7, &name_data(alloc, &LONGEST_NAME)?)?;
-    let go = go.get(4..).ok_or("too short")?;
-    expect_turn(&rt, alloc, &mut client, go, &DESCRIBED, Next::Transmit)?;
     Ok(())
 }
 

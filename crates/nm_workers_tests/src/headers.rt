@@ -1,9 +1,8 @@
 //! Headers byte for byte, as proto.md lays them out, and the protocol's numbers.
 use bitflags::Flags;
 use nm_wire::{
-    ClientFlags, Command, CommandFlags, Export, ExportFlags, InfoKind, Memory, Name, OptionHead,
-    OptionKind, OptionReply, ReplyKind, RequestHead, ServerFlags, SimpleReply, WireFault, errors,
-    magic, sizes,
+    ClientFlags, Command, CommandFlags, ExportFlags, InfoKind, Memory, OptionHead, OptionKind,
+    OptionReply, ReplyKind, RequestHead, ServerFlags, SimpleReply, WireFault, errors,
 };
 use std::test::Fail;
 
@@ -89,33 +88,6 @@ fn simple_reply(rt: HostRuntime) {
 }
 
 #[test]
-fn numbers_of_commands_and_options(rt: HostRuntime) {
-    let commands = [
-        (Command::Read, 0),
-        (Command::Write, 1),
-        (Command::Disconnect, 2),
-        (Command::Flush, 3),
-        (Command::Trim, 4),
-        (Command::WriteZeroes, 6),
-    ];
-    for (command, number) in commands {
-        assert_eq!(rt; command.number(), number);
-        assert_eq!(rt; Command::from_number(number), Some(command));
-    }
-    let options = [
-        (OptionKind::ExportName, 1),
-        (OptionKind::Abort, 2),
-        (OptionKind::List, 3),
-        (OptionKind::Info, 6),
-        (OptionKind::Go, 7),
-    ];
-    for (option, number) in options {
-        assert_eq!(rt; option.number(), number);
-        assert_eq!(rt; OptionKind::from_number(number), Some(option));
-    }
-}
-
-#[test]
 fn numbers_of_replies_and_information(rt: HostRuntime) {
     let replies = [
         (ReplyKind::Ack, 0x0000_0001),
@@ -159,46 +131,6 @@ fn bits_of_flags(rt: HostRuntime) {
     assert_eq!(rt; ClientFlags::NO_ZEROES.bits(), 0x0000_0002);
     assert_eq!(rt; ServerFlags::FIXED_NEWSTYLE.bits(), 0x0001);
     assert_eq!(rt; ServerFlags::NO_ZEROES.bits(), 0x0002);
-}
-
-#[test]
-fn constants_of_the_protocol(rt: HostRuntime) {
-    assert_eq!(rt; &magic::GREETING_MAGIC.to_be_bytes(), b"NBDMAGIC");
-    assert_eq!(rt; &magic::OPTION_MAGIC.to_be_bytes(), b"IHAVEOPT");
-    let constants = [
-        (errors::EPERM, 1),
-        (errors::EIO, 5),
-        (errors::ENOMEM, 12),
-        (errors::EINVAL, 22),
-        (errors::ENOSPC, 28),
-        (sizes::MIN_BLOCK, 1),
-        (sizes::PREFERRED_BLOCK, 4_096),
-        (sizes::MAX_PAYLOAD, 0x0200_0000),
-        (sizes::MAX_OPTION_DATA, 65_536),
-    ];
-    for (constant, value) in constants {
-        assert_eq!(rt; constant, value);
-    }
-    assert_eq!(rt; sizes::EXPORT_NAME_ZEROES, 124);
-}
-
-#[test]
-fn export_of_one_mebibyte(rt: HostRuntime) -> Result<(), Fail> {
-    for (read_only, flags) in [(false, 0x016d), (true, 0x0107)] {
-        let export = Export {
-            name: Name::new(b"disk".to_vec(rt.alloc())?),
-            blocks: 2_048,
-            read_only,
-        };
-        assert_eq!(rt; export.size(), 0x0010_0000);
-        assert_eq!(rt; export.flags().bits(), flags);
-        assert_eq!(rt; export.clone()?.name.as_bytes(), b"disk".as_slice());
-        let Export { name, .. } = export;
-        assert_eq!(rt; name.into_bytes().as_slice(), b"disk".as_slice());
-    }
-    let longest = Name::new([0xc3; 255].to_vec(rt.alloc())?);
-    assert_eq!(rt; longest.clone()?.as_bytes(), [0xc3; 255].as_slice());
-    Ok(())
 }
 
 #[test]
