@@ -10,6 +10,8 @@ use Rattle.nm_session.specs.declared.serve_fault.ServeFault.TheVariants as fault
 use Rattle.nm_session.specs.declared.served.Served.{Served}
 use Rattle.nm_session.specs.declared.stage.Stage.{Stage}
 use Rattle.nm_session.specs.declared.stage.Stage.TheVariants as stage
+use Rattle.nm_requests.specs.declared.task.Task.{Task}
+use Rattle.nm_session.specs.Calling.{TaskResult}
 use Rattle.nm_session.specs.Event.{Fed, Took, Takes}
 use Rattle.nm_session.specs.Feeding.{FeedsAt}
 use Rattle.nm_session.specs.Moving.{moment}
@@ -19,67 +21,68 @@ use Rattle.nm_session.specs.Session.{Session}
 use Rattle.nm_workers.specs.Serving.{Wires, wires, Goes, Ends, Breaks}
 use Rattle.nm_workers.proofs.WholeSessions.{goes_on, ends_on, breaks_on}
 
--- replies are taken out and written
-sends : (old new : Session) (bytes output written : Option (List ℕ)) → SendsOut old new output written
-    → Goes old new (wires bytes output) (wires bytes written)
-sends old new bytes output written sent = record {
-  events = Took old.out ∷ [];
-  runs = (new, sent.takes, refl);
-  consumes = Consumes-nil bytes;
-  appends = subst (Appends output written) (sym (append-nil old.out)) sent.appends;
-}
+module _ {F : Task → TaskResult → Type 0} where
+  -- replies are taken out and written
+  sends : (old new : Session) (bytes output written : Option (List ℕ)) → SendsOut old new output written
+      → Goes F old new (wires bytes output) (wires bytes written)
+  sends old new bytes output written sent = record {
+    events = Took old.out ∷ [];
+    runs = (new, sent.takes, refl);
+    consumes = Consumes-nil bytes;
+    appends = subst (Appends output written) (sym (append-nil old.out)) sent.appends;
+  }
 
-sends_part : (found : ServeFault) (old new : Session) (bytes output written : Option (List ℕ))
-    → SendsPart found old new output written → Breaks found old bytes output written
-sends_part fault.Memory old new bytes output written part = absurd part
-sends_part fault.Read old new bytes output written part = absurd part
-sends_part (fault.Write sent) old new bytes output written part = record {
-  events = Took old.out ∷ [];
-  last = new;
-  unread = bytes;
-  unfed = [];
-  written = take sent old.out;
-  runs = (new, part.0, refl);
-  consumes = Consumes-nil bytes;
-  appends = part.1;
-  cause = ([], old.out, append-nil old.out, refl, part.2);
-}
+  sends_part : (found : ServeFault) (old new : Session) (bytes output written : Option (List ℕ))
+      → SendsPart found old new output written → Breaks F found old (wires bytes output) written
+  sends_part fault.Memory old new bytes output written part = absurd part
+  sends_part fault.Read old new bytes output written part = absurd part
+  sends_part (fault.Write sent) old new bytes output written part = record {
+    events = Took old.out ∷ [];
+    last = new;
+    unread = bytes;
+    unfed = [];
+    written = take sent old.out;
+    runs = (new, part.0, refl);
+    consumes = Consumes-nil bytes;
+    appends = part.1;
+    cause = ([], old.out, append-nil old.out, refl, part.2);
+  }
 
--- a piece is read and fed
-feeds : (old new : Session) (bytes unread output : Option (List ℕ)) → FeedsPiece true old new bytes unread
-    → Goes old new (wires bytes output) (wires unread output)
-feeds old new bytes unread output piece = record {
-  events = Fed piece.0 ∷ [];
-  runs = (new, piece.2, refl);
-  consumes = subst (Consumes bytes unread) (sym (append-nil piece.0)) piece.1;
-  appends = Appends-nil output;
-}
+  -- a piece is read and fed
+  feeds : (old new : Session) (bytes unread output : Option (List ℕ)) → FeedsPiece true old new bytes unread
+      → Goes F old new (wires bytes output) (wires unread output)
+  feeds old new bytes unread output piece = record {
+    events = Fed piece.0 ∷ [];
+    runs = (new, piece.2, refl);
+    consumes = subst (Consumes bytes unread) (sym (append-nil piece.0)) piece.1;
+    appends = Appends-nil output;
+  }
 
-feeds_none : (found : ServeFault) (old new : Session) (bytes unread output : Option (List ℕ))
-    → FeedsNone found old new bytes unread → Breaks found old bytes output output
-feeds_none (fault.Write sent) old new bytes unread output none = absurd none
-feeds_none fault.Memory old new bytes unread output none = record {
-  events = [];
-  last = new;
-  unread = unread;
-  unfed = none.0;
-  written = [];
-  runs = none.2;
-  consumes = none.1;
-  appends = Appends-nil output;
-  cause = refl;
-}
-feeds_none fault.Read old new bytes unread output none = record {
-  events = [];
-  last = new;
-  unread = unread;
-  unfed = [];
-  written = [];
-  runs = none.1;
-  consumes = none.0;
-  appends = Appends-nil output;
-  cause = refl;
-}
+  feeds_none : (found : ServeFault) (old new : Session) (bytes unread output : Option (List ℕ))
+      → FeedsNone found old new bytes unread → Breaks F found old (wires bytes output) output
+  feeds_none (fault.Write sent) old new bytes unread output none = absurd none
+  feeds_none fault.Memory old new bytes unread output none = record {
+    events = [];
+    last = new;
+    unread = unread;
+    unfed = none.0;
+    written = [];
+    runs = none.2;
+    consumes = none.1;
+    appends = Appends-nil output;
+    cause = refl;
+  }
+  feeds_none fault.Read old new bytes unread output none = record {
+    events = [];
+    last = new;
+    unread = unread;
+    unfed = [];
+    written = [];
+    runs = none.1;
+    consumes = none.0;
+    appends = Appends-nil output;
+    cause = refl;
+  }
 
 -- what is outstanding stays
 sent_idle : (old new : Session) (bytes : List ℕ) → Takes old bytes new → old.outstanding ≡ [] → new.outstanding ≡ []
@@ -98,78 +101,79 @@ as_told unread written end.Disc core ends = ends
 as_told unread written end.Aborted core ends = ends
 as_told unread written end.Protocol core ends = ends
 
-module _ (start old mid : Session) (u : Wires) (bytes output written : Option (List ℕ))
-    (goes : Goes start old u (wires bytes output)) (idle : old.outstanding ≡ []) where
-  -- part of what waits is sent
-  pub part_sent : (found : ServeFault) → SendsPart found old mid output written
-      → Breaks found start u.input u.output written
-  part_sent found part = breaks_on found start old u (wires bytes output) written goes
-      (sends_part found old mid bytes output written part)
+module _ {F : Task → TaskResult → Type 0} where
+  module _ (start old mid : Session) (u : Wires) (bytes output written : Option (List ℕ))
+      (goes : Goes F start old u (wires bytes output)) (idle : old.outstanding ≡ []) where
+    -- part of what waits is sent
+    pub part_sent : (found : ServeFault) → SendsPart found old mid output written
+        → Breaks F found start u written
+    part_sent found part = breaks_on found start old u (wires bytes output) written goes
+        (sends_part found old mid bytes output written part)
 
-  module _ (sent : SendsOut old mid output written) where
-    -- all that waits is sent
-    pub sent_goes : Goes start mid u (wires bytes written)
-    sent_goes = goes_on start old mid u (wires bytes output) (wires bytes written) goes
-        (sends old mid bytes output written sent)
+    module _ (sent : SendsOut old mid output written) where
+      -- all that waits is sent
+      pub sent_goes : Goes F start mid u (wires bytes written)
+      sent_goes = goes_on start old mid u (wires bytes output) (wires bytes written) goes
+          (sends old mid bytes output written sent)
 
-    pub mid_idle : mid.outstanding ≡ []
-    mid_idle = sent_idle old mid old.out sent.takes idle
+      pub mid_idle : mid.outstanding ≡ []
+      mid_idle = sent_idle old mid old.out sent.takes idle
 
-    pub mid_sent : mid.out ≡ []
-    mid_sent = none_after_send old mid old.out sent.takes
+      pub mid_sent : mid.out ≡ []
+      mid_sent = none_after_send old mid old.out sent.takes
 
-    -- and then a piece is fed
-    pub fed_goes : (new : Session) (unread : Option (List ℕ)) → FeedsPiece true mid new bytes unread
-        → Goes start new u (wires unread written) × (new.outstanding ≡ [])
-    fed_goes new unread piece = (
-      goes_on start mid new u (wires bytes written) (wires unread written) sent_goes
-          (feeds mid new bytes unread written piece),
-      fed_idle mid.stage mid new piece.0 piece.2 mid_idle,
-    )
+      -- and then a piece is fed
+      pub fed_goes : (new : Session) (unread : Option (List ℕ)) → FeedsPiece true mid new bytes unread
+          → Goes F start new u (wires unread written) × (new.outstanding ≡ [])
+      fed_goes new unread piece = (
+        goes_on start mid new u (wires bytes written) (wires unread written) sent_goes
+            (feeds mid new bytes unread written piece),
+        fed_idle mid.stage mid new piece.0 piece.2 mid_idle,
+      )
 
-    -- or none can be
-    pub fed_breaks : (found : ServeFault) (new : Session) (unread : Option (List ℕ))
-        → FeedsNone found mid new bytes unread → Breaks found start u.input u.output written
-    fed_breaks found new unread none = breaks_on found start mid u (wires bytes written) written sent_goes
-        (feeds_none found mid new bytes unread written none)
+      -- or none can be
+      pub fed_breaks : (found : ServeFault) (new : Session) (unread : Option (List ℕ))
+          → FeedsNone found mid new bytes unread → Breaks F found start u written
+      fed_breaks found new unread none = breaks_on found start mid u (wires bytes written) written sent_goes
+          (feeds_none found mid new bytes unread written none)
 
-    -- or the input has ended
-    pub input_over : (served : Served) (new : Session) (unread : Option (List ℕ)) → mid.stage ≡ stage.Haggling
-        → FeedsPiece false mid new bytes unread → served ≡ record { requests = new.count; end = end.EndOfInput }
-        → Ends served start u.input u.output written
-    input_over served new unread haggling none is = subst (λ (s : Served). Ends s start u.input u.output written) (sym is)
-        (ends_on (record { requests = new.count; end = end.EndOfInput }) start mid u (wires bytes written) written sent_goes
-        (record {
-          events = [];
-          last = new;
-          unread = unread;
-          unfed = [];
-          runs = none.2;
-          consumes = none.0;
-          all_fed = λ same. refl;
-          appends = Appends-nil written;
-          answered = ap (λ (s : Session). s.outstanding) none.2 ∙ mid_idle;
-          sent = ap (λ (s : Session). s.out) none.2 ∙ mid_sent;
-          requests = refl;
-          end_is = (inl (ap (λ (s : Session). s.stage) none.2 ∙ haggling), none.1);
-        }))
+      -- or the input has ended
+      pub input_over : (served : Served) (new : Session) (unread : Option (List ℕ)) → mid.stage ≡ stage.Haggling
+          → FeedsPiece false mid new bytes unread → served ≡ record { requests = new.count; end = end.EndOfInput }
+          → Ends F served start u written
+      input_over served new unread haggling none is = subst (λ (s : Served). Ends F s start u written) (sym is)
+          (ends_on (record { requests = new.count; end = end.EndOfInput }) start mid u (wires bytes written) written sent_goes
+          (record {
+            events = [];
+            last = new;
+            unread = unread;
+            unfed = [];
+            runs = none.2;
+            consumes = none.0;
+            all_fed = λ same. refl;
+            appends = Appends-nil written;
+            answered = ap (λ (s : Session). s.outstanding) none.2 ∙ mid_idle;
+            sent = ap (λ (s : Session). s.out) none.2 ∙ mid_sent;
+            requests = refl;
+            end_is = (inl (ap (λ (s : Session). s.stage) none.2 ∙ haggling), none.1);
+          }))
 
-    -- or the core has
-    pub core_over : (told : End) (served : Served) → CoreEnds told mid.stage
-        → served ≡ record { requests = mid.count; end = told } → Ends served start u.input u.output written
-    core_over told served ends is = subst (λ (s : Served). Ends s start u.input u.output written) (sym is)
-        (ends_on (record { requests = mid.count; end = told }) start mid u (wires bytes written) written sent_goes
-        (record {
-          events = [];
-          last = mid;
-          unread = bytes;
-          unfed = [];
-          runs = refl;
-          consumes = Consumes-nil bytes;
-          all_fed = λ same. refl;
-          appends = Appends-nil written;
-          answered = mid_idle;
-          sent = mid_sent;
-          requests = refl;
-          end_is = as_told bytes written told mid ends;
-        }))
+      -- or the core has
+      pub core_over : (told : End) (served : Served) → CoreEnds told mid.stage
+          → served ≡ record { requests = mid.count; end = told } → Ends F served start u written
+      core_over told served ends is = subst (λ (s : Served). Ends F s start u written) (sym is)
+          (ends_on (record { requests = mid.count; end = told }) start mid u (wires bytes written) written sent_goes
+          (record {
+            events = [];
+            last = mid;
+            unread = bytes;
+            unfed = [];
+            runs = refl;
+            consumes = Consumes-nil bytes;
+            all_fed = λ same. refl;
+            appends = Appends-nil written;
+            answered = mid_idle;
+            sent = mid_sent;
+            requests = refl;
+            end_is = as_told bytes written told mid ends;
+          }))

@@ -1,3 +1,5 @@
+pub mod ResultRuns
+pub mod Results
 pub mod Steps
 pub mod Requests
 pub mod Rounds
@@ -5,3 +7,4 @@ pub mod ReadPieces
 pub mod WholeSessions
 pub mod Greetings
 pub mod Owning
+pub mod Working

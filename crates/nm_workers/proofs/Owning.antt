@@ -9,7 +9,9 @@ use Rattle.nm_session.proofs.WholeSessions.{if_ok, if_err}
 use Rattle.nm_session.specs.declared.serve_fault.ServeFault.{ServeFault}
 use Rattle.nm_session.specs.declared.serve_fault.ServeFault.TheVariants as fault
 use Rattle.nm_session.specs.declared.served.Served.{Served}
+use Rattle.nm_requests.specs.declared.task.Task.{Task}
 use Rattle.nm_session.specs.CalledValue.{CalledValue}
+use Rattle.nm_session.specs.Calling.{TaskResult}
 use Rattle.nm_session.specs.Event.{Event, Runs}
 use Rattle.nm_session.specs.Laws.{SoFar}
 use Rattle.nm_session.specs.Session.{Session, session_of}
@@ -17,42 +19,43 @@ use Rattle.nm_wire.specs.declared.export.Export.{Export}
 use Rattle.nm_wire.specs.Export.{size_of}
 use Rattle.nm_workers.specs.Moving.{stand, Attends, BreaksOff}
 use Rattle.nm_workers.specs.Reading.{HasRead}
-use Rattle.nm_workers.specs.Serving.{Ends, Breaks, IsServed, IsBrokenOff}
+use Rattle.nm_workers.specs.Serving.{wires, Ends, Breaks, IsServed, IsBrokenOff}
 use Rattle.nm_workers.proofs.Requests.{export_stays}
 use Rattle.nm_workers.proofs.WholeSessions.{ends_there, breaks_there, breaks_at_once, whole, broken}
 
-module _ (bytes unread output after : Option (List ℕ)) (pieces : List Piece)
-    (core last : Session) (first heard : List (Message CalledValue)) (fresh : first ≡ [])
-    (read : HasRead bytes unread pieces) (begins : IsBeginning (pieces_of heard) pieces)
-    (result : Result Served ServeFault) where
-  -- a session that came to its end
-  pub owned_ends : IfOk result (λ served. Attends served (stand core first output) (stand last heard after))
-      → IfOk result (λ served. Ends served core bytes output after)
-  owned_ends holds = if_ok result (λ served. Attends served (stand core first output) (stand last heard after))
-      (λ served. Ends served core bytes output after)
-      (λ served attends. ends_there bytes unread output after pieces core last heard read begins served
-      (subst (λ (f : List (Message CalledValue)). Attends served (stand core f output) (stand last heard after)) fresh attends))
-      holds
+module _ (F : Task → TaskResult → Type 0) where
+  module _ (bytes unread output after : Option (List ℕ)) (pieces : List Piece)
+      (core last : Session) (first heard : List (Message CalledValue)) (fresh : first ≡ [])
+      (read : HasRead bytes unread pieces) (begins : IsBeginning (pieces_of heard) pieces)
+      (result : Result Served ServeFault) where
+    -- a session that came to its end
+    pub owned_ends : IfOk result (λ served. Attends F served (stand core first output) (stand last heard after))
+        → IfOk result (λ served. Ends F served core (wires bytes output) after)
+    owned_ends holds = if_ok result (λ served. Attends F served (stand core first output) (stand last heard after))
+        (λ served. Ends F served core (wires bytes output) after)
+        (λ served attends. ends_there bytes unread output after pieces core last heard read begins served
+        (subst (λ (f : List (Message CalledValue)). Attends F served (stand core f output) (stand last heard after)) fresh attends))
+        holds
 
-  -- a session that broke off
-  pub owned_breaks : IfErr result (λ found. BreaksOff found (stand core first output) (stand last heard after))
-      → IfErr result (λ found. Breaks found core bytes output after)
-  owned_breaks holds = if_err result (λ found. BreaksOff found (stand core first output) (stand last heard after))
-      (λ found. Breaks found core bytes output after)
-      (λ found breaks. breaks_there bytes unread output after pieces core last heard read begins found
-      (subst (λ (f : List (Message CalledValue)). BreaksOff found (stand core f output) (stand last heard after)) fresh breaks))
-      holds
+    -- a session that broke off
+    pub owned_breaks : IfErr result (λ found. BreaksOff F found (stand core first output) (stand last heard after))
+        → IfErr result (λ found. Breaks F found core (wires bytes output) after)
+    owned_breaks holds = if_err result (λ found. BreaksOff F found (stand core first output) (stand last heard after))
+        (λ found. Breaks F found core (wires bytes output) after)
+        (λ found breaks. breaks_there bytes unread output after pieces core last heard read begins found
+        (subst (λ (f : List (Message CalledValue)). BreaksOff F found (stand core f output) (stand last heard after)) fresh breaks))
+        holds
 
--- a session that broke off before anything happened
-module _ {O : Type 0} (contents : O → Option (List ℕ)) (core : Session) (bytes : Option (List ℕ))
-    (sent sender : ReplyWriter O) (result : Result Served ServeFault) where
-  pub failed_err : result ≡ Err fault.Memory → sent ≡ sender
-      → IfErr result (λ found. Breaks found core bytes (contents (device_of sender)) (contents (device_of sent)))
-  failed_err is same = rw (is, same) (breaks_at_once core bytes (contents (device_of sender)))
+  -- a session that broke off before anything happened
+  module _ {O : Type 0} (contents : O → Option (List ℕ)) (core : Session) (bytes : Option (List ℕ))
+      (sent sender : ReplyWriter O) (result : Result Served ServeFault) where
+    pub failed_err : result ≡ Err fault.Memory → sent ≡ sender
+        → IfErr result (λ found. Breaks F found core (wires bytes (contents (device_of sender))) (contents (device_of sent)))
+    failed_err is same = rw (is, same) (breaks_at_once core bytes (contents (device_of sender)))
 
-  pub failed_ok : result ≡ Err fault.Memory
-      → IfOk result (λ served. Ends served core bytes (contents (device_of sender)) (contents (device_of sent)))
-  failed_ok is = rw is tt
+    pub failed_ok : result ≡ Err fault.Memory
+        → IfOk result (λ served. Ends F served core (wires bytes (contents (device_of sender))) (contents (device_of sent)))
+    failed_ok is = rw is tt
 
 -- a target that has the bytes of the export has them still
 pub sizes_stay : {T : Type 0} (size : T → ℕ) (old new : Session) (events : List Event) (targets : List T)
@@ -62,13 +65,14 @@ sizes_stay size old new events targets runs large =
     subst (λ (export : Export). All (λ target. size_of export ≤ size target) targets)
     (sym (export_stays events old new runs)) large
 
--- the session of a new core is a whole one
-pub whole_at : SoFar → (served : Served) (export : Export) (core : Session) (bytes output written : Option (List ℕ))
-    → core ≡ session_of export 16 → Ends served core bytes output written → IsServed served export bytes output written
-whole_at so_far served export core bytes output written is ends = whole so_far served export bytes output written
-    (subst (λ (c : Session). Ends served c bytes output written) is ends)
+module _ {F : Task → TaskResult → Type 0} where
+  -- the session of a new core is a whole one
+  pub whole_at : SoFar → (served : Served) (export : Export) (core : Session) (bytes output written : Option (List ℕ))
+      → core ≡ session_of export 16 → Ends F served core (wires bytes output) written → IsServed F served export (wires bytes output) written
+  whole_at so_far served export core bytes output written is ends = whole so_far served export bytes output written
+      (subst (λ (c : Session). Ends F served c (wires bytes output) written) is ends)
 
-pub broken_at : SoFar → (found : ServeFault) (export : Export) (core : Session) (bytes output after : Option (List ℕ))
-    → core ≡ session_of export 16 → Breaks found core bytes output after → IsBrokenOff found export bytes output after
-broken_at so_far found export core bytes output after is breaks = broken so_far found export bytes output after
-    (subst (λ (c : Session). Breaks found c bytes output after) is breaks)
+  pub broken_at : SoFar → (found : ServeFault) (export : Export) (core : Session) (bytes output after : Option (List ℕ))
+      → core ≡ session_of export 16 → Breaks F found core (wires bytes output) after → IsBrokenOff F found export (wires bytes output) after
+  broken_at so_far found export core bytes output after is breaks = broken so_far found export bytes output after
+      (subst (λ (c : Session). Breaks F found c (wires bytes output) after) is breaks)

@@ -8,19 +8,23 @@ use Rattle.nm_mailbox.specs.declared.message.Message.TheVariants as message
 use Rattle.nm_mailbox.specs.declared.message.Piece.{Piece}
 use Rattle.nm_mailbox.specs.declared.message.Piece.TheVariants as piece
 use Rattle.nm_mailbox.specs.Messages.{pieces_of}
-use Rattle.nm_session.proofs.Motion.{runs-append, fed-append, taken-append}
+use Rattle.nm_requests.specs.declared.task.Task.{Task}
+use Rattle.nm_session.proofs.Motion.{fed-append, taken-append}
 use Rattle.nm_session.specs.declared.serve_fault.ServeFault.{ServeFault}
 use Rattle.nm_session.specs.declared.serve_fault.ServeFault.TheVariants as fault
 use Rattle.nm_session.specs.CalledValue.{CalledValue}
+use Rattle.nm_session.specs.Calling.{TaskResult}
 use Rattle.nm_session.specs.Event.{Event, Fed, Asked, Stopped, Answered, Took, fed_bytes, taken_bytes}
 use Rattle.nm_session.specs.Laws.{AreReadings, IsRead}
 use Rattle.nm_session.specs.MovingBytes.{SendsOut, SendsPart}
 use Rattle.nm_session.specs.Session.{Session}
 use Rattle.nm_workers.specs.declared.input.Input.{Input}
 use Rattle.nm_workers.specs.declared.input.Input.TheVariants as input
-use Rattle.nm_workers.specs.Hearing.{Hears, IsCausedBy, SettlesAny}
+use Rattle.nm_workers.specs.Hearing.{Hears, IsCausedBy, Settles, SettlesJob}
 use Rattle.nm_workers.specs.Moving.{Stand, stand, Moves, BreaksOff, IsCause, IsKnown, IsLearned}
+use Rattle.nm_workers.specs.JobValue.{JobValue, called_for}
 use Rattle.nm_workers.specs.Pieces.{bytes_of, HasEnded}
+use Rattle.nm_workers.proofs.ResultRuns.{runs_with-append, readings_with}
 
 pub bytes-append : (xs ys : List Piece) → bytes_of (xs ++ ys) ≡ bytes_of xs ++ bytes_of ys
 bytes-append [] ys = refl
@@ -46,19 +50,20 @@ fed_on xs ys ms ns first second =
     ∙ in_a_row (fed_bytes xs) (fed_bytes ys) (bytes_of (pieces_of ms)) (bytes_of (pieces_of ns)) first second
     ∙ sym (heard-append ms ns)
 
--- one move after the other
-pub moves_on : (a b c : Stand) → Moves a b → Moves b c → Moves a c
-moves_on a b c first second = record {
-  events = first.events ++ second.events;
-  messages = first.messages ++ second.messages;
-  runs = runs-append a.core b.core c.core first.events second.events first.runs second.runs;
-  heard = second.heard ∙ ap (λ (heard : List (Message CalledValue)). heard ++ second.messages) first.heard
-      ∙ append_assoc a.heard first.messages second.messages;
-  fed_are = fed_on first.events second.events first.messages second.messages first.fed_are second.fed_are;
-  appends = subst (Appends a.output c.output) (sym (taken-append first.events second.events))
-      (Appends-trans a.output b.output c.output (taken_bytes first.events) (taken_bytes second.events)
-      first.appends second.appends);
-}
+module _ {F : Task → TaskResult → Type 0} where
+  -- one move after the other
+  pub moves_on : (a b c : Stand) → Moves F a b → Moves F b c → Moves F a c
+  moves_on a b c first second = record {
+    events = first.events ++ second.events;
+    messages = first.messages ++ second.messages;
+    runs = runs_with-append F a.core b.core c.core first.events second.events first.runs second.runs;
+    heard = second.heard ∙ ap (λ (heard : List (Message CalledValue)). heard ++ second.messages) first.heard
+        ∙ append_assoc a.heard first.messages second.messages;
+    fed_are = fed_on first.events second.events first.messages second.messages first.fed_are second.fed_are;
+    appends = subst (Appends a.output c.output) (sym (taken-append first.events second.events))
+        (Appends-trans a.output b.output c.output (taken_bytes first.events) (taken_bytes second.events)
+        first.appends second.appends);
+  }
 
 -- a fault leaves the same unwritten after more bytes that were taken out and written
 pub cause_on : (found : ServeFault) (before taken written : List ℕ)
@@ -74,45 +79,53 @@ cause_on (fault.Write sent) before taken written cause = (
   cause.4,
 )
 
--- a move, and then a break
-pub breaks_on : (found : ServeFault) (a b c : Stand) → Moves a b → BreaksOff found b c
-    → BreaksOff found a c
-breaks_on found a b c first second = record {
-  events = first.events ++ second.events;
-  messages = first.messages ++ second.messages;
-  lost = second.lost;
-  written = taken_bytes first.events ++ second.written;
-  runs = runs-append a.core b.core c.core first.events second.events first.runs second.runs;
-  heard = second.heard
-      ∙ ap (λ (heard : List (Message CalledValue)). heard ++ (second.messages ++ second.lost)) first.heard
-      ∙ append_assoc a.heard first.messages (second.messages ++ second.lost)
-      ∙ ap (λ (more : List (Message CalledValue)). a.heard ++ more)
-      (sym (append_assoc first.messages second.messages second.lost));
-  fed_are = fed_on first.events second.events first.messages second.messages first.fed_are second.fed_are;
-  appends = Appends-trans a.output b.output c.output (taken_bytes first.events) second.written
-      first.appends second.appends;
-  cause = subst (λ (all : List ℕ). IsCause found all (taken_bytes first.events ++ second.written))
-      (sym (taken-append first.events second.events))
-      (cause_on found (taken_bytes first.events) (taken_bytes second.events) second.written second.cause);
-}
+module _ {F : Task → TaskResult → Type 0} where
+  -- a move, and then a break
+  pub breaks_on : (found : ServeFault) (a b c : Stand) → Moves F a b → BreaksOff F found b c
+      → BreaksOff F found a c
+  breaks_on found a b c first second = record {
+    events = first.events ++ second.events;
+    messages = first.messages ++ second.messages;
+    lost = second.lost;
+    written = taken_bytes first.events ++ second.written;
+    runs = runs_with-append F a.core b.core c.core first.events second.events first.runs second.runs;
+    heard = second.heard
+        ∙ ap (λ (heard : List (Message CalledValue)). heard ++ (second.messages ++ second.lost)) first.heard
+        ∙ append_assoc a.heard first.messages (second.messages ++ second.lost)
+        ∙ ap (λ (more : List (Message CalledValue)). a.heard ++ more)
+        (sym (append_assoc first.messages second.messages second.lost));
+    fed_are = fed_on first.events second.events first.messages second.messages first.fed_are second.fed_are;
+    appends = Appends-trans a.output b.output c.output (taken_bytes first.events) second.written
+        first.appends second.appends;
+    cause = subst (λ (all : List ℕ). IsCause found all (taken_bytes first.events ++ second.written))
+        (sym (taken-append first.events second.events))
+        (cause_on found (taken_bytes first.events) (taken_bytes second.events) second.written second.cause);
+  }
 
--- no move at all
-pub moves_nowhere : (a : Stand) → Moves a a
-moves_nowhere a = record {
-  events = [];
-  messages = [];
-  runs = refl;
-  heard = sym (append-nil a.heard);
-  fed_are = refl;
-  appends = Appends-nil a.output;
-}
+  -- no move at all
+  pub moves_nowhere : (a : Stand) → Moves F a a
+  moves_nowhere a = record {
+    events = [];
+    messages = [];
+    runs = refl;
+    heard = sym (append-nil a.heard);
+    fed_are = refl;
+    appends = Appends-nil a.output;
+  }
 
--- nor where no message came
-pub moves_unheard : (core : Session) (heard all : List (Message CalledValue)) (output : Option (List ℕ))
-    → all ≡ heard → Moves (stand core heard output) (stand core all output)
-moves_unheard core heard all output same =
-    subst (λ (h : List (Message CalledValue)). Moves (stand core heard output) (stand core h output))
-    (sym same) (moves_nowhere (stand core heard output))
+  -- nor where the core stays
+  pub stays : (old new : Session) (heard : List (Message CalledValue)) (output : Option (List ℕ)) → new ≡ old
+      → Moves F (stand old heard output) (stand new heard output)
+  stays old new heard output same =
+      subst (λ (core : Session). Moves F (stand old heard output) (stand core heard output))
+      (sym same) (moves_nowhere (stand old heard output))
+
+  -- nor where no message came
+  pub moves_unheard : (core : Session) (heard all : List (Message CalledValue)) (output : Option (List ℕ))
+      → all ≡ heard → Moves F (stand core heard output) (stand core all output)
+  moves_unheard core heard all output same =
+      subst (λ (h : List (Message CalledValue)). Moves F (stand core heard output) (stand core h output))
+      (sym same) (moves_nowhere (stand core heard output))
 
 -- a fault that leaves nothing unwritten
 abbrev pub IsQuiet : ServeFault → Type 0
@@ -125,20 +138,21 @@ quiet_cause fault.Memory written quiet = refl
 quiet_cause fault.Read written quiet = refl
 quiet_cause (fault.Write sent) written quiet = absurd quiet
 
--- a move, and a fault there
-pub stops : (found : ServeFault) → IsQuiet found → (a b : Stand) → Moves a b → BreaksOff found a b
-stops found quiet a b moves = record {
-  events = moves.events;
-  messages = moves.messages;
-  lost = [];
-  written = taken_bytes moves.events;
-  runs = moves.runs;
-  heard = moves.heard ∙ ap (λ (more : List (Message CalledValue)). a.heard ++ more)
-      (sym (append-nil moves.messages));
-  fed_are = moves.fed_are;
-  appends = moves.appends;
-  cause = quiet_cause found (taken_bytes moves.events) quiet;
-}
+module _ {F : Task → TaskResult → Type 0} where
+  -- a move, and a fault there
+  pub stops : (found : ServeFault) → IsQuiet found → (a b : Stand) → Moves F a b → BreaksOff F found a b
+  stops found quiet a b moves = record {
+    events = moves.events;
+    messages = moves.messages;
+    lost = [];
+    written = taken_bytes moves.events;
+    runs = moves.runs;
+    heard = moves.heard ∙ ap (λ (more : List (Message CalledValue)). a.heard ++ more)
+        (sym (append-nil moves.messages));
+    fed_are = moves.fed_are;
+    appends = moves.appends;
+    cause = quiet_cause found (taken_bytes moves.events) quiet;
+  }
 
 -- readings bring no bytes and take none out
 readings_fed : (events : List Event) → AreReadings events → fed_bytes events ≡ []
@@ -157,125 +171,127 @@ readings_taken (Stopped found ∷ events) are = readings_taken events are
 readings_taken (Answered index outcome ∷ events) are = absurd are
 readings_taken (Took bytes ∷ events) are = absurd are
 
--- requests that are read are a move
-pub reads : (old new : Session) (heard : List (Message CalledValue)) (output : Option (List ℕ))
-    → IsRead old new → Moves (stand old heard output) (stand new heard output)
-reads old new heard output read = record {
-  events = read.events;
-  messages = [];
-  runs = read.runs;
-  heard = sym (append-nil heard);
-  fed_are = readings_fed read.events read.are_readings;
-  appends = subst (Appends output output) (sym (readings_taken read.events read.are_readings))
-      (Appends-nil output);
-}
+module _ {F : Task → TaskResult → Type 0} where
+  -- requests that are read are a move
+  pub reads : (old new : Session) (heard : List (Message CalledValue)) (output : Option (List ℕ))
+      → IsRead old new → Moves F (stand old heard output) (stand new heard output)
+  reads old new heard output read = record {
+    events = read.events;
+    messages = [];
+    runs = readings_with F old new read.events read.are_readings read.runs;
+    heard = sym (append-nil heard);
+    fed_are = readings_fed read.events read.are_readings;
+    appends = subst (Appends output output) (sym (readings_taken read.events read.are_readings))
+        (Appends-nil output);
+  }
 
--- replies are taken out and written
-pub sends : (old new : Session) (heard : List (Message CalledValue)) (output written : Option (List ℕ))
-    → SendsOut old new output written → Moves (stand old heard output) (stand new heard written)
-sends old new heard output written sent = record {
-  events = Took old.out ∷ [];
-  messages = [];
-  runs = (new, sent.takes, refl);
-  heard = sym (append-nil heard);
-  fed_are = refl;
-  appends = subst (Appends output written) (sym (append-nil old.out)) sent.appends;
-}
+  -- replies are taken out and written
+  pub sends : (old new : Session) (heard : List (Message CalledValue)) (output written : Option (List ℕ))
+      → SendsOut old new output written → Moves F (stand old heard output) (stand new heard written)
+  sends old new heard output written sent = record {
+    events = Took old.out ∷ [];
+    messages = [];
+    runs = (new, sent.takes, refl);
+    heard = sym (append-nil heard);
+    fed_are = refl;
+    appends = subst (Appends output written) (sym (append-nil old.out)) sent.appends;
+  }
 
--- not all of them are written
-pub sends_part : (found : ServeFault) (old new : Session) (heard : List (Message CalledValue))
-    (output written : Option (List ℕ)) → SendsPart found old new output written
-    → BreaksOff found (stand old heard output) (stand new heard written)
-sends_part fault.Memory old new heard output written part = absurd part
-sends_part fault.Read old new heard output written part = absurd part
-sends_part (fault.Write sent) old new heard output written part = record {
-  events = Took old.out ∷ [];
-  messages = [];
-  lost = [];
-  written = take sent old.out;
-  runs = (new, part.0, refl);
-  heard = sym (append-nil heard);
-  fed_are = refl;
-  appends = part.1;
-  cause = ([], old.out, append-nil old.out, refl, part.2);
-}
+  -- not all of them are written
+  pub sends_part : (found : ServeFault) (old new : Session) (heard : List (Message CalledValue))
+      (output written : Option (List ℕ)) → SendsPart found old new output written
+      → BreaksOff F found (stand old heard output) (stand new heard written)
+  sends_part fault.Memory old new heard output written part = absurd part
+  sends_part fault.Read old new heard output written part = absurd part
+  sends_part (fault.Write sent) old new heard output written part = record {
+    events = Took old.out ∷ [];
+    messages = [];
+    lost = [];
+    written = take sent old.out;
+    runs = (new, part.0, refl);
+    heard = sym (append-nil heard);
+    fed_are = refl;
+    appends = part.1;
+    cause = ([], old.out, append-nil old.out, refl, part.2);
+  }
 
--- a message that is taken is a move
-pub hears : (old new : Session) (one : Message CalledValue) (heard : List (Message CalledValue))
-    (output : Option (List ℕ)) → Hears old one new
-    → Moves (stand old heard output) (stand new (heard ++ one ∷ []) output)
-hears old new (message.Piece (piece.Bytes bytes)) heard output is = record {
-  events = Fed bytes.items ∷ [];
-  messages = message.Piece (piece.Bytes bytes) ∷ [];
-  runs = (new, is, refl);
-  heard = refl;
-  fed_are = refl;
-  appends = Appends-nil output;
-}
-hears old new (message.Piece piece.Ended) heard output is = record {
-  events = [];
-  messages = message.Piece piece.Ended ∷ [];
-  runs = is;
-  heard = refl;
-  fed_are = refl;
-  appends = Appends-nil output;
-}
-hears old new (message.Piece piece.Failed) heard output is = absurd is
-hears old new (message.Outcome called) heard output (inl answers) = record {
-  events = Answered called.index answers.outcome ∷ [];
-  messages = message.Outcome called ∷ [];
-  runs = (new, answers.answers, refl);
-  heard = refl;
-  fed_are = refl;
-  appends = Appends-nil output;
-}
-hears old new (message.Outcome called) heard output (inr passes) = record {
-  events = [];
-  messages = message.Outcome called ∷ [];
-  runs = passes.unchanged;
-  heard = refl;
-  fed_are = refl;
-  appends = Appends-nil output;
-}
+  -- a message that is taken is a move
+  pub hears : (old new : Session) (one : Message CalledValue) (heard : List (Message CalledValue))
+      (output : Option (List ℕ)) → Hears F old one new
+      → Moves F (stand old heard output) (stand new (heard ++ one ∷ []) output)
+  hears old new (message.Piece (piece.Bytes bytes)) heard output is = record {
+    events = Fed bytes.items ∷ [];
+    messages = message.Piece (piece.Bytes bytes) ∷ [];
+    runs = (new, is, refl);
+    heard = refl;
+    fed_are = refl;
+    appends = Appends-nil output;
+  }
+  hears old new (message.Piece piece.Ended) heard output is = record {
+    events = [];
+    messages = message.Piece piece.Ended ∷ [];
+    runs = is;
+    heard = refl;
+    fed_are = refl;
+    appends = Appends-nil output;
+  }
+  hears old new (message.Piece piece.Failed) heard output is = absurd is
+  hears old new (message.Outcome called) heard output (inl answers) = record {
+    events = Answered called.index answers.outcome ∷ [];
+    messages = message.Outcome called ∷ [];
+    runs = (new, answers.own, refl);
+    heard = refl;
+    fed_are = refl;
+    appends = Appends-nil output;
+  }
+  hears old new (message.Outcome called) heard output (inr passes) = record {
+    events = [];
+    messages = message.Outcome called ∷ [];
+    runs = passes.unchanged;
+    heard = refl;
+    fed_are = refl;
+    appends = Appends-nil output;
+  }
 
--- what came of a task that the owner did itself is a move
-pub settles : (old new : Session) (heard : List (Message CalledValue)) (output : Option (List ℕ))
-    → SettlesAny old new → Moves (stand old heard output) (stand new heard output)
-settles old new heard output (inl same) =
-    subst (λ (core : Session). Moves (stand old heard output) (stand core heard output))
-    (sym same) (moves_nowhere (stand old heard output))
-settles old new heard output (inr (called, inl answers)) = record {
-  events = Answered called.index answers.outcome ∷ [];
-  messages = [];
-  runs = (new, answers.answers, refl);
-  heard = sym (append-nil heard);
-  fed_are = refl;
-  appends = Appends-nil output;
-}
-settles old new heard output (inr (called, inr passes)) =
-    subst (λ (core : Session). Moves (stand old heard output) (stand core heard output))
-    (sym passes.unchanged) (moves_nowhere (stand old heard output))
+  -- what came of the job that was held back is a move
+  settled : (called : CalledValue) (old new : Session) (heard : List (Message CalledValue)) (output : Option (List ℕ))
+      → Settles F old called new → Moves F (stand old heard output) (stand new heard output)
+  settled called old new heard output (inl answers) = record {
+    events = Answered called.index answers.outcome ∷ [];
+    messages = [];
+    runs = (new, answers.own, refl);
+    heard = sym (append-nil heard);
+    fed_are = refl;
+    appends = Appends-nil output;
+  }
+  settled called old new heard output (inr passes) = stays old new heard output passes.unchanged
+
+  pub settles : (old new : Session) (job : Option JobValue) (heard : List (Message CalledValue))
+      (output : Option (List ℕ)) → SettlesJob F old job new → Moves F (stand old heard output) (stand new heard output)
+  settles old new job heard output done =
+      settled (called_for done.job done.outcome) old new heard output done.settles
 
 message_cause : (found : ServeFault) (one : Message CalledValue) → IsCausedBy found one → IsCause found [] []
 message_cause fault.Memory one is = refl
 message_cause fault.Read one is = refl
 message_cause (fault.Write sent) one is = absurd is
 
--- a message that breaks the session off is lost
-pub loses : (found : ServeFault) (old new : Session) (one : Message CalledValue) (heard : List (Message CalledValue))
-    (output : Option (List ℕ)) → IsCausedBy found one → new ≡ old
-    → BreaksOff found (stand old heard output) (stand new (heard ++ one ∷ []) output)
-loses found old new one heard output is same = record {
-  events = [];
-  messages = [];
-  lost = one ∷ [];
-  written = [];
-  runs = same;
-  heard = refl;
-  fed_are = refl;
-  appends = Appends-nil output;
-  cause = message_cause found one is;
-}
+module _ {F : Task → TaskResult → Type 0} where
+  -- a message that breaks the session off is lost
+  pub loses : (found : ServeFault) (old new : Session) (one : Message CalledValue) (heard : List (Message CalledValue))
+      (output : Option (List ℕ)) → IsCausedBy found one → new ≡ old
+      → BreaksOff F found (stand old heard output) (stand new (heard ++ one ∷ []) output)
+  loses found old new one heard output is same = record {
+    events = [];
+    messages = [];
+    lost = one ∷ [];
+    written = [];
+    runs = same;
+    heard = refl;
+    fed_are = refl;
+    appends = Appends-nil output;
+    cause = message_cause found one is;
+  }
 
 -- what was known of the client's bytes stays known
 ended_on : (heard more : List (Message CalledValue)) → HasEnded (pieces_of heard)
@@ -302,26 +318,30 @@ learns input.Ended before heard one (inr told) known = record {
       ∙ ap (λ (m : Message CalledValue). pieces_of heard ++ pieces_of (m ∷ [])) told;
 }
 
-module _ (old new : Session) (one : Message CalledValue) (heard all : List (Message CalledValue))
-    (is_all : all ≡ heard ++ one ∷ []) where
-  -- the same, of all messages that were received by then
-  pub hears_at : (output : Option (List ℕ)) → Hears old one new → Moves (stand old heard output) (stand new all output)
-  hears_at output is = subst (λ (h : List (Message CalledValue)). Moves (stand old heard output) (stand new h output))
-      (sym is_all) (hears old new one heard output is)
+-- the same, of all messages that were received by then
+pub learns_at : (one : Message CalledValue) (heard all : List (Message CalledValue)) → all ≡ heard ++ one ∷ []
+    → (next before : Input) → IsLearned next before one → IsKnown before heard → IsKnown next all
+learns_at one heard all is_all next before is known =
+    subst (IsKnown next) (sym is_all) (learns next before heard one is known)
 
-  pub loses_at : (found : ServeFault) (output : Option (List ℕ)) → IsCausedBy found one → new ≡ old
-      → BreaksOff found (stand old heard output) (stand new all output)
-  loses_at found output is same =
-      subst (λ (h : List (Message CalledValue)). BreaksOff found (stand old heard output) (stand new h output))
-      (sym is_all) (loses found old new one heard output is same)
+module _ {F : Task → TaskResult → Type 0} where
+  module _ (old new : Session) (one : Message CalledValue) (heard all : List (Message CalledValue))
+      (is_all : all ≡ heard ++ one ∷ []) where
+    -- the same, of all messages that were received by then
+    pub hears_at : (output : Option (List ℕ)) → Hears F old one new → Moves F (stand old heard output) (stand new all output)
+    hears_at output is = subst (λ (h : List (Message CalledValue)). Moves F (stand old heard output) (stand new h output))
+        (sym is_all) (hears old new one heard output is)
 
-  pub learns_at : (next before : Input) → IsLearned next before one → IsKnown before heard → IsKnown next all
-  learns_at next before is known = subst (IsKnown next) (sym is_all) (learns next before heard one is known)
+    pub loses_at : (found : ServeFault) (output : Option (List ℕ)) → IsCausedBy found one → new ≡ old
+        → BreaksOff F found (stand old heard output) (stand new all output)
+    loses_at found output is same =
+        subst (λ (h : List (Message CalledValue)). BreaksOff F found (stand old heard output) (stand new h output))
+        (sym is_all) (loses found old new one heard output is same)
 
--- no message comes any more
-pub stops_hearing : (core : Session) (heard all : List (Message CalledValue)) (output : Option (List ℕ)) → all ≡ heard
-    → BreaksOff fault.Read (stand core heard output) (stand core all output)
-stops_hearing core heard all output same =
-    subst (λ (h : List (Message CalledValue)). BreaksOff fault.Read (stand core heard output) (stand core h output))
-    (sym same) (stops fault.Read tt (stand core heard output) (stand core heard output)
-    (moves_nowhere (stand core heard output)))
+  -- no message comes any more
+  pub stops_hearing : (core : Session) (heard all : List (Message CalledValue)) (output : Option (List ℕ)) → all ≡ heard
+      → BreaksOff F fault.Read (stand core heard output) (stand core all output)
+  stops_hearing core heard all output same =
+      subst (λ (h : List (Message CalledValue)). BreaksOff F fault.Read (stand core heard output) (stand core h output))
+      (sym same) (stops fault.Read tt (stand core heard output) (stand core heard output)
+      (moves_nowhere (stand core heard output)))

@@ -6,7 +6,7 @@ use Rattle.nm_mailbox.specs.declared.message.Message.{Message}
 use Rattle.nm_mailbox.specs.declared.message.Piece.{Piece}
 use Rattle.nm_mailbox.specs.declared.message.Piece.TheVariants as piece
 use Rattle.nm_mailbox.specs.Messages.{pieces_of, IsBeginning}
-use Rattle.nm_session.proofs.Motion.{runs-append, fed-append, taken-append}
+use Rattle.nm_session.proofs.Motion.{fed-append, taken-append}
 use Rattle.nm_session.specs.declared.end.End.{End}
 use Rattle.nm_session.specs.declared.end.End.TheVariants as end
 use Rattle.nm_session.specs.declared.serve_fault.ServeFault.{ServeFault}
@@ -14,7 +14,9 @@ use Rattle.nm_session.specs.declared.serve_fault.ServeFault.TheVariants as fault
 use Rattle.nm_session.specs.declared.served.Served.{Served}
 use Rattle.nm_session.specs.declared.stage.Stage.{Stage}
 use Rattle.nm_session.specs.declared.stage.Stage.TheVariants as stage
+use Rattle.nm_requests.specs.declared.task.Task.{Task}
 use Rattle.nm_session.specs.CalledValue.{CalledValue}
+use Rattle.nm_session.specs.Calling.{TaskResult}
 use Rattle.nm_session.specs.Event.{Event, Fed, Asked, Stopped, Answered, Took, Runs, fed_bytes, taken_bytes, messages}
 use Rattle.nm_session.specs.Feeding.{FeedsAt}
 use Rattle.nm_session.specs.Laws.{SoFar}
@@ -27,80 +29,84 @@ use Rattle.nm_workers.specs.declared.input.Input.{Input}
 use Rattle.nm_workers.specs.Moving.{stand, Attends, BreaksOff, ComesTo, IsCause, IsKnown}
 use Rattle.nm_workers.specs.Pieces.{bytes_of, HasEnded}
 use Rattle.nm_workers.specs.Reading.{HasRead}
-use Rattle.nm_workers.specs.Serving.{Wires, Goes, Ends, Breaks, IsServed, IsBrokenOff}
+use Rattle.nm_workers.specs.Serving.{Wires, wires, Goes, Ends, Breaks, IsServed, IsBrokenOff}
+use Rattle.nm_workers.specs.Results.{no_result}
+use Rattle.nm_workers.proofs.ResultRuns.{runs_with-append, runs_of, unanswered_with}
 use Rattle.nm_workers.proofs.Steps.{bytes-append, heard-append, cause_on}
 
--- one part of a session after the other
-pub goes_on : (a b c : Session) (u v w : Wires) → Goes a b u v → Goes b c v w → Goes a c u w
-goes_on a b c u v w first second = record {
-  events = first.events ++ second.events;
-  runs = runs-append a b c first.events second.events first.runs second.runs;
-  consumes = subst (Consumes u.input w.input) (sym (fed-append first.events second.events))
-      (Consumes-trans u.input v.input w.input (fed_bytes first.events) (fed_bytes second.events)
-      first.consumes second.consumes);
-  appends = subst (Appends u.output w.output) (sym (taken-append first.events second.events))
-      (Appends-trans u.output v.output w.output (taken_bytes first.events) (taken_bytes second.events)
-      first.appends second.appends);
-}
+module _ {F : Task → TaskResult → Type 0} where
+  -- one part of a session after the other
+  pub goes_on : (a b c : Session) (u v w : Wires) → Goes F a b u v → Goes F b c v w → Goes F a c u w
+  goes_on a b c u v w first second = record {
+    events = first.events ++ second.events;
+    runs = runs_with-append F a b c first.events second.events first.runs second.runs;
+    consumes = subst (Consumes u.input w.input) (sym (fed-append first.events second.events))
+        (Consumes-trans u.input v.input w.input (fed_bytes first.events) (fed_bytes second.events)
+        first.consumes second.consumes);
+    appends = subst (Appends u.output w.output) (sym (taken-append first.events second.events))
+        (Appends-trans u.output v.output w.output (taken_bytes first.events) (taken_bytes second.events)
+        first.appends second.appends);
+  }
 
 -- fed bytes, and what follows them unfed
 fed_on : (xs ys : List Event) (unfed : List ℕ) → fed_bytes xs ++ (fed_bytes ys ++ unfed) ≡ fed_bytes (xs ++ ys) ++ unfed
 fed_on xs ys unfed = sym (append_assoc (fed_bytes xs) (fed_bytes ys) unfed)
     ∙ ap (λ (all : List ℕ). all ++ unfed) (sym (fed-append xs ys))
 
-pub ends_on : (served : Served) (a b : Session) (u v : Wires) (written : Option (List ℕ)) → Goes a b u v
-    → Ends served b v.input v.output written → Ends served a u.input u.output written
-ends_on served a b u v written first second = record {
-  events = first.events ++ second.events;
-  last = second.last;
-  unread = second.unread;
-  unfed = second.unfed;
-  runs = runs-append a b second.last first.events second.events first.runs second.runs;
-  consumes = subst (Consumes u.input second.unread) (fed_on first.events second.events second.unfed)
-      (Consumes-trans u.input v.input second.unread (fed_bytes first.events) (fed_bytes second.events ++ second.unfed)
-      first.consumes second.consumes);
-  all_fed = second.all_fed;
-  appends = subst (Appends u.output written) (sym (taken-append first.events second.events))
-      (Appends-trans u.output v.output written (taken_bytes first.events) (taken_bytes second.events)
-      first.appends second.appends);
-  answered = second.answered;
-  sent = second.sent;
-  requests = second.requests;
-  end_is = second.end_is;
-}
+module _ {F : Task → TaskResult → Type 0} where
+  pub ends_on : (served : Served) (a b : Session) (u v : Wires) (written : Option (List ℕ)) → Goes F a b u v
+      → Ends F served b v written → Ends F served a u written
+  ends_on served a b u v written first second = record {
+    events = first.events ++ second.events;
+    last = second.last;
+    unread = second.unread;
+    unfed = second.unfed;
+    runs = runs_with-append F a b second.last first.events second.events first.runs second.runs;
+    consumes = subst (Consumes u.input second.unread) (fed_on first.events second.events second.unfed)
+        (Consumes-trans u.input v.input second.unread (fed_bytes first.events) (fed_bytes second.events ++ second.unfed)
+        first.consumes second.consumes);
+    all_fed = second.all_fed;
+    appends = subst (Appends u.output written) (sym (taken-append first.events second.events))
+        (Appends-trans u.output v.output written (taken_bytes first.events) (taken_bytes second.events)
+        first.appends second.appends);
+    answered = second.answered;
+    sent = second.sent;
+    requests = second.requests;
+    end_is = second.end_is;
+  }
 
-pub breaks_on : (found : ServeFault) (a b : Session) (u v : Wires) (after : Option (List ℕ)) → Goes a b u v
-    → Breaks found b v.input v.output after → Breaks found a u.input u.output after
-breaks_on found a b u v after first second = record {
-  events = first.events ++ second.events;
-  last = second.last;
-  unread = second.unread;
-  unfed = second.unfed;
-  written = taken_bytes first.events ++ second.written;
-  runs = runs-append a b second.last first.events second.events first.runs second.runs;
-  consumes = subst (Consumes u.input second.unread) (fed_on first.events second.events second.unfed)
-      (Consumes-trans u.input v.input second.unread (fed_bytes first.events) (fed_bytes second.events ++ second.unfed)
-      first.consumes second.consumes);
-  appends = Appends-trans u.output v.output after (taken_bytes first.events) second.written
-      first.appends second.appends;
-  cause = subst (λ (all : List ℕ). IsCause found all (taken_bytes first.events ++ second.written))
-      (sym (taken-append first.events second.events))
-      (cause_on found (taken_bytes first.events) (taken_bytes second.events) second.written second.cause);
-}
+  pub breaks_on : (found : ServeFault) (a b : Session) (u v : Wires) (after : Option (List ℕ)) → Goes F a b u v
+      → Breaks F found b v after → Breaks F found a u after
+  breaks_on found a b u v after first second = record {
+    events = first.events ++ second.events;
+    last = second.last;
+    unread = second.unread;
+    unfed = second.unfed;
+    written = taken_bytes first.events ++ second.written;
+    runs = runs_with-append F a b second.last first.events second.events first.runs second.runs;
+    consumes = subst (Consumes u.input second.unread) (fed_on first.events second.events second.unfed)
+        (Consumes-trans u.input v.input second.unread (fed_bytes first.events) (fed_bytes second.events ++ second.unfed)
+        first.consumes second.consumes);
+    appends = Appends-trans u.output v.output after (taken_bytes first.events) second.written
+        first.appends second.appends;
+    cause = subst (λ (all : List ℕ). IsCause found all (taken_bytes first.events ++ second.written))
+        (sym (taken-append first.events second.events))
+        (cause_on found (taken_bytes first.events) (taken_bytes second.events) second.written second.cause);
+  }
 
--- a session that broke off before anything happened
-pub breaks_at_once : (core : Session) (bytes output : Option (List ℕ)) → Breaks fault.Memory core bytes output output
-breaks_at_once core bytes output = record {
-  events = [];
-  last = core;
-  unread = bytes;
-  unfed = [];
-  written = [];
-  runs = refl;
-  consumes = Consumes-nil bytes;
-  appends = Appends-nil output;
-  cause = refl;
-}
+  -- a session that broke off before anything happened
+  pub breaks_at_once : (core : Session) (bytes output : Option (List ℕ)) → Breaks F fault.Memory core (wires bytes output) output
+  breaks_at_once core bytes output = record {
+    events = [];
+    last = core;
+    unread = bytes;
+    unfed = [];
+    written = [];
+    runs = refl;
+    consumes = Consumes-nil bytes;
+    appends = Appends-nil output;
+    cause = refl;
+  }
 
 -- the first of two lists that are none together is none
 second_none : {X : Type 0} (xs ys : List X) → xs ++ ys ≡ [] → ys ≡ []
@@ -136,8 +142,8 @@ module _ (bytes unread output after : Option (List ℕ)) (pieces : List Piece)
   come_to end.Protocol known is_known comes = (comes, λ same. absurd (cc))
 
   -- requests were answered to the end
-  pub ends_there : (served : Served) → Attends served (stand core [] output) (stand last heard after)
-      → Ends served core bytes output after
+  pub ends_there : {F : Task → TaskResult → Type 0} → (served : Served)
+      → Attends F served (stand core [] output) (stand last heard after) → Ends F served core (wires bytes output) after
   ends_there served attends =
       let to = come_to served.end attends.known attends.is_known attends.is_over.end_is in
       record {
@@ -159,8 +165,8 @@ module _ (bytes unread output after : Option (List ℕ)) (pieces : List Piece)
       }
 
   -- a fault broke the session off
-  pub breaks_there : (found : ServeFault) → BreaksOff found (stand core [] output) (stand last heard after)
-      → Breaks found core bytes output after
+  pub breaks_there : {F : Task → TaskResult → Type 0} → (found : ServeFault)
+      → BreaksOff F found (stand core [] output) (stand last heard after) → Breaks F found core (wires bytes output) after
   breaks_there found breaks = record {
     events = breaks.events;
     last = last;
@@ -212,27 +218,76 @@ unwritten_of (fault.Write sent) all written cause = (
       ∙ ap (λ (front : List ℕ). front ++ drop sent cause.1) (sym cause.3),
 )
 
--- a whole session that came to its end
-pub whole : SoFar → (served : Served) (export : Export) (bytes output written : Option (List ℕ))
-    → Ends served (session_of export 16) bytes output written → IsServed served export bytes output written
-whole so_far served export bytes output written ends = record {
-  ends = ends;
-  requests = ends.requests ∙ omega (arith, counted (session_of export 16) ends.last ends.events ends.runs);
-  goes_out = subst (GoesOut export ends.events)
-      (ap (λ (rest : List ℕ). taken_bytes ends.events ++ rest) ends.sent ∙ append-nil (taken_bytes ends.events))
-      (so_far export 16 ends.events ends.last ends.runs);
-}
+module _ {F : Task → TaskResult → Type 0} where
+  -- a whole session that came to its end
+  pub whole : SoFar → (served : Served) (export : Export) (bytes output written : Option (List ℕ))
+      → Ends F served (session_of export 16) (wires bytes output) written → IsServed F served export (wires bytes output) written
+  whole so_far served export bytes output written ends = record {
+    ends = ends;
+    requests = ends.requests ∙ omega (
+      arith,
+      counted (session_of export 16) ends.last ends.events
+          (runs_of F (session_of export 16) ends.last ends.events ends.runs),
+    );
+    goes_out = subst (GoesOut export ends.events)
+        (ap (λ (rest : List ℕ). taken_bytes ends.events ++ rest) ends.sent ∙ append-nil (taken_bytes ends.events))
+        (so_far export 16 ends.events ends.last
+        (runs_of F (session_of export 16) ends.last ends.events ends.runs));
+  }
 
--- a session that broke off
-pub broken : SoFar → (found : ServeFault) (export : Export) (bytes output after : Option (List ℕ))
-    → Breaks found (session_of export 16) bytes output after → IsBrokenOff found export bytes output after
-broken so_far found export bytes output after breaks =
-    let rest = unwritten_of found (taken_bytes breaks.events) breaks.written breaks.cause in
-    record {
-      breaks = breaks;
-      unwritten = rest.0 ++ breaks.last.out;
-      goes_out = subst (GoesOut export breaks.events)
-          (ap (λ (front : List ℕ). front ++ breaks.last.out) rest.1
-          ∙ append_assoc breaks.written rest.0 breaks.last.out)
-          (so_far export 16 breaks.events breaks.last breaks.runs);
-    }
+  -- a session that broke off
+  pub broken : SoFar → (found : ServeFault) (export : Export) (bytes output after : Option (List ℕ))
+      → Breaks F found (session_of export 16) (wires bytes output) after → IsBrokenOff F found export (wires bytes output) after
+  broken so_far found export bytes output after breaks =
+      let rest = unwritten_of found (taken_bytes breaks.events) breaks.written breaks.cause in
+      record {
+        breaks = breaks;
+        unwritten = rest.0 ++ breaks.last.out;
+        goes_out = subst (GoesOut export breaks.events)
+            (ap (λ (front : List ℕ). front ++ breaks.last.out) rest.1
+            ∙ append_assoc breaks.written rest.0 breaks.last.out)
+            (so_far export 16 breaks.events breaks.last
+            (runs_of F (session_of export 16) breaks.last breaks.events breaks.runs));
+      }
+
+  -- the haggling, after which nothing is answered yet
+  pub haggled : (a b : Session) (u v : Wires) → Goes no_result a b u v → Goes F a b u v
+  haggled a b u v goes = record {
+    events = goes.events;
+    runs = unanswered_with F a b goes.events goes.runs;
+    consumes = goes.consumes;
+    appends = goes.appends;
+  }
+
+  -- a session that ends in it
+  pub haggled_ends : (served : Served) (core : Session) (u : Wires) (written : Option (List ℕ))
+      → Ends no_result served core u written → Ends F served core u written
+  haggled_ends served core u written ends = record {
+    events = ends.events;
+    last = ends.last;
+    unread = ends.unread;
+    unfed = ends.unfed;
+    runs = unanswered_with F core ends.last ends.events ends.runs;
+    consumes = ends.consumes;
+    all_fed = ends.all_fed;
+    appends = ends.appends;
+    answered = ends.answered;
+    sent = ends.sent;
+    requests = ends.requests;
+    end_is = ends.end_is;
+  }
+
+  -- or breaks off
+  pub haggled_breaks : (found : ServeFault) (core : Session) (u : Wires) (after : Option (List ℕ))
+      → Breaks no_result found core u after → Breaks F found core u after
+  haggled_breaks found core u after breaks = record {
+    events = breaks.events;
+    last = breaks.last;
+    unread = breaks.unread;
+    unfed = breaks.unfed;
+    written = breaks.written;
+    runs = unanswered_with F core breaks.last breaks.events breaks.runs;
+    consumes = breaks.consumes;
+    appends = breaks.appends;
+    cause = breaks.cause;
+  }

@@ -1,29 +1,27 @@
 -- What a session does with a message from one of its threads.
-use Rattle.std.specs.Prelude.{◌≡◌, ◌≤◌, ◌⊎◌, All, Err}
+use Rattle.std.specs.Prelude.{◌≡◌, ◌≤◌, ◌⊎◌, Option, Some}
 use Rattle.nm_mailbox.specs.declared.message.Piece.TheVariants.{Bytes, Ended, Failed}
 use Rattle.nm_mailbox.specs.declared.message.Message.{Message}
 use Rattle.nm_mailbox.specs.declared.message.Message.TheVariants as message
 use Rattle.nm_session.specs.declared.outcome.Outcome.{Outcome}
 use Rattle.nm_session.specs.declared.serve_fault.ServeFault.{ServeFault}
 use Rattle.nm_session.specs.declared.serve_fault.ServeFault.TheVariants as fault
-use Rattle.nm_session.specs.Asking.{Answers}
+use Rattle.nm_requests.specs.declared.task.Task.{Task}
 use Rattle.nm_session.specs.CalledValue.{CalledValue}
+use Rattle.nm_session.specs.Calling.{TaskResult}
 use Rattle.nm_session.specs.Feeding.{Feeds}
 use Rattle.nm_session.specs.Outcome.{says}
 use Rattle.nm_session.specs.Session.{Session, IsSettled}
+use Rattle.nm_workers.specs.JobValue.{JobValue, called_for}
+use Rattle.nm_workers.specs.Results.{AnswersWith}
 
--- the task that was called for is that of the outstanding request with its index
-abbrev pub Matches : CalledValue → Session → Type 0
-Matches called core =
-    All (λ held. held.index ≡ called.index → held.task ≡ called.task) core.outstanding
-
--- the request is answered with what came of its task; with EIO ("Error values") where it was
--- another one's
-pub record AnswersCall (old : Session) (called : CalledValue) (new : Session) : Type 0 where
+-- the request is answered with what came of its task
+pub record AnswersCall (HasResult : Task → TaskResult → Type 0)
+    (old : Session) (called : CalledValue) (new : Session) : Type 0 where
   pub outcome : Outcome
-  pub own : Matches called old → says outcome ≡ called.outcome
-  pub other : ¬ Matches called old → says outcome ≡ Err 5
-  pub answers : Answers old called.index outcome new
+  pub says_so : says outcome ≡ called.outcome
+  pub own : AnswersWith HasResult old called.index outcome new
+  pub task_is : own.answers.held.task ≡ called.task
 
 -- no request of this index is outstanding, and nothing changes
 pub record PassesOver (old : Session) (called : CalledValue) (new : Session) : Type 0 where
@@ -31,19 +29,26 @@ pub record PassesOver (old : Session) (called : CalledValue) (new : Session) : T
   pub unchanged : new ≡ old
 
 -- what came of a task is told
-abbrev pub Settles : Session → CalledValue → Session → Type 0
-Settles old called new = AnswersCall old called new ⊎ PassesOver old called new
+abbrev pub Settles : (HasResult : Task → TaskResult → Type 0) → Session → CalledValue → Session
+    → Type 0
+Settles HasResult old called new =
+    AnswersCall HasResult old called new ⊎ PassesOver old called new
 
--- nothing changed, or what came of some task is told
-abbrev pub SettlesAny : Session → Session → Type 0
-SettlesAny old new = (new ≡ old) ⊎ ((called : CalledValue) × Settles old called new)
+-- what came of the task of the job that was held back is told
+pub record SettlesJob (HasResult : Task → TaskResult → Type 0)
+    (old : Session) (held : Option JobValue) (new : Session) : Type 0 where
+  pub job : JobValue
+  pub held_is : held ≡ Some job
+  pub outcome : TaskResult
+  pub settles : Settles HasResult old (called_for job outcome) new
 
 -- the session takes what a message tells; the end of the bytes changes nothing
-abbrev pub Hears : Session → Message CalledValue → Session → Type 0
-Hears old (message.Piece (Bytes bytes)) new = Feeds old bytes.items new
-Hears old (message.Piece Ended) new = new ≡ old
-Hears old (message.Piece Failed) new = ⊥
-Hears old (message.Outcome called) new = Settles old called new
+abbrev pub Hears : (HasResult : Task → TaskResult → Type 0) → Session → Message CalledValue
+    → Session → Type 0
+Hears HasResult old (message.Piece (Bytes bytes)) new = Feeds old bytes.items new
+Hears HasResult old (message.Piece Ended) new = new ≡ old
+Hears HasResult old (message.Piece Failed) new = ⊥
+Hears HasResult old (message.Outcome called) new = Settles HasResult old called new
 
 -- why a message breaks the session off: there is no memory, or it tells that a read failed
 abbrev pub IsCausedBy : ServeFault → Message CalledValue → Type 0

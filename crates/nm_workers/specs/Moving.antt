@@ -1,5 +1,6 @@
 -- How a session moves on while its threads read and call its targets.
-use Rattle.std.specs.Prelude.{◌≡◌, ℕ, ◌<◌, ◌⊎◌, List, [], ◌++◌, length, take, Option, Result, Ok, Err}
+use Rattle.std.specs.Prelude.{◌≡◌, ℕ, ◌<◌, ◌⊎◌, List, [], ◌++◌, length, take}
+use Rattle.std.specs.Prelude.{Option, Result, Ok, Err}
 use Rattle.std.specs.Io.KnownBytes.{Appends}
 use Rattle.nm_mailbox.specs.declared.message.Message.{Message}
 use Rattle.nm_mailbox.specs.declared.message.Message.TheVariants as message
@@ -11,7 +12,9 @@ use Rattle.nm_session.specs.declared.serve_fault.ServeFault.{ServeFault}
 use Rattle.nm_session.specs.declared.serve_fault.ServeFault.TheVariants as fault
 use Rattle.nm_session.specs.declared.served.Served.{Served}
 use Rattle.nm_session.specs.CalledValue.{CalledValue}
-use Rattle.nm_session.specs.Event.{Event, Runs, fed_bytes, taken_bytes}
+use Rattle.nm_requests.specs.declared.task.Task.{Task}
+use Rattle.nm_session.specs.Calling.{TaskResult}
+use Rattle.nm_session.specs.Event.{Event, fed_bytes, taken_bytes}
 use Rattle.nm_session.specs.Feeding.{IsEnded}
 use Rattle.nm_session.specs.Serving.{CoreEnds}
 use Rattle.nm_session.specs.Session.{Session, IsFull}
@@ -25,6 +28,7 @@ use Rattle.nm_workers.specs.declared.pause.Pause.TheVariants as pause
 use Rattle.nm_workers.specs.declared.stretch.Stretch.{Stretch}
 use Rattle.nm_workers.specs.declared.stretch.Stretch.TheVariants as stretch
 use Rattle.nm_workers.specs.Pieces.{bytes_of, HasEnded}
+use Rattle.nm_workers.specs.Results.{RunsWith}
 
 -- a session at one moment: its core, the messages that its threads sent and that were received, and
 -- what its writer holds, where it tells it
@@ -37,12 +41,12 @@ pub record Stand : Type 0 where
 abbrev pub stand : Session → List (Message CalledValue) → Option (List ℕ) → Stand
 stand core heard output = record { core = core; heard = heard; output = output }
 
--- from one moment to another: the bytes of the pieces that were received are fed, and what is taken
--- out is written
-pub record Moves (from to : Stand) : Type 0 where
+-- from one moment to another: the bytes of the pieces that were received are fed, what is taken out
+-- is written, and each request that is answered is so with a result of its own task
+pub record Moves (HasResult : Task → TaskResult → Type 0) (from to : Stand) : Type 0 where
   pub events : List Event
   pub messages : List (Message CalledValue)
-  pub runs : Runs from.core events to.core
+  pub runs : RunsWith HasResult from.core events to.core
   pub heard : to.heard ≡ from.heard ++ messages
   pub fed_are : fed_bytes events ≡ bytes_of (pieces_of messages)
   pub appends : Appends from.output to.output (taken_bytes events)
@@ -57,12 +61,13 @@ IsCause (fault.Write sent) taken written =
     × (written ≡ before ++ take sent batch) × (sent < length batch)
 
 -- from one moment to that at which a fault broke the session off; the last messages may be lost
-pub record BreaksOff (fault : ServeFault) (from to : Stand) : Type 0 where
+pub record BreaksOff (HasResult : Task → TaskResult → Type 0) (fault : ServeFault)
+    (from to : Stand) : Type 0 where
   pub events : List Event
   pub messages : List (Message CalledValue)
   pub lost : List (Message CalledValue)
   pub written : List ℕ
-  pub runs : Runs from.core events to.core
+  pub runs : RunsWith HasResult from.core events to.core
   pub heard : to.heard ≡ from.heard ++ (messages ++ lost)
   pub fed_are : fed_bytes events ≡ bytes_of (pieces_of messages)
   pub appends : Appends from.output to.output written
@@ -102,25 +107,28 @@ pub record IsOverAt (served : Served) (core : Session) (known : Input) : Type 0 
   pub end_is : ComesTo served.end core known
 
 -- requests are answered up to the session's end, and all replies are written
-pub record Attends (served : Served) (from to : Stand) : Type 0 where
-  pub moves : Moves from to
+pub record Attends (HasResult : Task → TaskResult → Type 0) (served : Served)
+    (from to : Stand) : Type 0 where
+  pub moves : Moves HasResult from to
   pub sent : to.core.out ≡ []
   pub known : Input
   pub is_known : IsKnown known to.heard
   pub is_over : IsOverAt served to.core known
 
 -- a round leads to the next one, or to the session's end
-abbrev pub IsAttended : Attended → Stand → Stand → Type 0
-IsAttended (attended.On next) from to = Moves from to × IsKnown next to.heard
-IsAttended (attended.Turns next) from to = Moves from to × IsKnown next to.heard
-IsAttended (attended.Over served) from to = Attends served from to
+abbrev pub IsAttended : (HasResult : Task → TaskResult → Type 0) → Attended → Stand → Stand → Type 0
+IsAttended HasResult (attended.On next) from to = Moves HasResult from to × IsKnown next to.heard
+IsAttended HasResult (attended.Turns next) from to =
+    Moves HasResult from to × IsKnown next to.heard
+IsAttended HasResult (attended.Over served) from to = Attends HasResult served from to
 
 -- requests are answered up to the session's end, or a fault breaks it off
-abbrev pub EndsAs : Result Served ServeFault → Stand → Stand → Type 0
-EndsAs (Ok served) from to = Attends served from to
-EndsAs (Err fault) from to = BreaksOff fault from to
+abbrev pub EndsAs : (HasResult : Task → TaskResult → Type 0) → Result Served ServeFault
+    → Stand → Stand → Type 0
+EndsAs HasResult (Ok served) from to = Attends HasResult served from to
+EndsAs HasResult (Err fault) from to = BreaksOff HasResult fault from to
 
 -- some rounds lead to where another thread is to read, or to the session's end
-abbrev pub IsStretch : Stretch → Stand → Stand → Type 0
-IsStretch (stretch.Turns next) from to = Moves from to × IsKnown next to.heard
-IsStretch (stretch.Ended result) from to = EndsAs result from to
+abbrev pub IsStretch : (HasResult : Task → TaskResult → Type 0) → Stretch → Stand → Stand → Type 0
+IsStretch HasResult (stretch.Turns next) from to = Moves HasResult from to × IsKnown next to.heard
+IsStretch HasResult (stretch.Ended result) from to = EndsAs HasResult result from to

@@ -45,7 +45,8 @@ Goes true input unread pieces = ReadsOn input unread pieces
 Goes false input unread pieces = HasRead input unread pieces
 
 -- what was read by then and sent, and more
-abbrev pub ReadsFurther : {I : Type 0} → (I → Option (List ℕ)) → (old new : ReadSide I) → Type 0
+abbrev pub ReadsFurther : {I M : Type 0} → (I → Option (List ℕ)) → (old new : ReadSide I M)
+    → Type 0
 ReadsFurther remaining old new = (input : Option (List ℕ))
     → Goes old.goes_on input (remaining old.reader) (pieces_by old.pieces)
     → Goes new.goes_on input (remaining new.reader) (pieces_by new.pieces)

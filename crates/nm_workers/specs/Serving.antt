@@ -5,12 +5,15 @@ use Rattle.nm_wire.specs.declared.export.Export.{Export}
 use Rattle.nm_session.specs.declared.end.End.TheVariants as end
 use Rattle.nm_session.specs.declared.serve_fault.ServeFault.{ServeFault}
 use Rattle.nm_session.specs.declared.served.Served.{Served}
-use Rattle.nm_session.specs.Event.{Event, Runs, fed_bytes, taken_bytes, messages}
+use Rattle.nm_requests.specs.declared.task.Task.{Task}
+use Rattle.nm_session.specs.Calling.{TaskResult}
+use Rattle.nm_session.specs.Event.{Event, fed_bytes, taken_bytes, messages}
 use Rattle.nm_session.specs.Moving.{moment}
 use Rattle.nm_session.specs.Serving.{IsEnd}
 use Rattle.nm_session.specs.Session.{Session, session_of}
 use Rattle.nm_session.specs.Text.{GoesOut}
 use Rattle.nm_workers.specs.Moving.{IsCause}
+use Rattle.nm_workers.specs.Results.{RunsWith, no_result}
 
 -- what the reader has left and what the writer holds, where they tell it
 pub record Wires : Type 0 where
@@ -20,60 +23,62 @@ pub record Wires : Type 0 where
 abbrev pub wires : (input output : Option (List ℕ)) → Wires
 wires input output = record { input = input; output = output }
 
--- the session goes from one core to another: what is read is fed, and what is taken out is written
-pub record Goes (from to : Session) (before after : Wires) : Type 0 where
+-- the session goes from one core to another: what is read is fed, what is taken out is written, and
+-- each answer is a result of its own request's task
+pub record Goes (HasResult : Task → TaskResult → Type 0) (from to : Session)
+    (before after : Wires) : Type 0 where
   pub events : List Event
-  pub runs : Runs from events to
+  pub runs : RunsWith HasResult from events to
   pub consumes : Consumes before.input after.input (fed_bytes events)
   pub appends : Appends before.output after.output (taken_bytes events)
 
 -- from this core on the session comes to its end: the bytes fed are the first of those that
--- are read, all where they ended; all that goes out is written, and each request is answered
-pub record Ends (served : Served) (core : Session) (input output written : Option (List ℕ))
-    : Type 0 where
+-- are read, all where they ended; all that goes out is written, and each request is answered with a
+-- result of its own task
+pub record Ends (HasResult : Task → TaskResult → Type 0) (served : Served) (core : Session)
+    (before : Wires) (written : Option (List ℕ)) : Type 0 where
   pub events : List Event
   pub last : Session
   pub unread : Option (List ℕ)
   pub unfed : List ℕ
-  pub runs : Runs core events last
-  pub consumes : Consumes input unread (fed_bytes events ++ unfed)
+  pub runs : RunsWith HasResult core events last
+  pub consumes : Consumes before.input unread (fed_bytes events ++ unfed)
   pub all_fed : served.end ≡ end.EndOfInput → unfed ≡ []
-  pub appends : Appends output written (taken_bytes events)
+  pub appends : Appends before.output written (taken_bytes events)
   pub answered : last.outstanding ≡ []
   pub sent : last.out ≡ []
   pub requests : served.requests ≡ last.count
   pub end_is : IsEnd served.end (moment last (tt {0}) unread written)
 
 -- from this core on a fault breaks the session off
-pub record Breaks (fault : ServeFault) (core : Session) (input output after : Option (List ℕ))
-    : Type 0 where
+pub record Breaks (HasResult : Task → TaskResult → Type 0) (fault : ServeFault) (core : Session)
+    (before : Wires) (after : Option (List ℕ)) : Type 0 where
   pub events : List Event
   pub last : Session
   pub unread : Option (List ℕ)
   pub unfed : List ℕ
   pub written : List ℕ
-  pub runs : Runs core events last
-  pub consumes : Consumes input unread (fed_bytes events ++ unfed)
-  pub appends : Appends output after written
+  pub runs : RunsWith HasResult core events last
+  pub consumes : Consumes before.input unread (fed_bytes events ++ unfed)
+  pub appends : Appends before.output after written
   pub cause : IsCause fault (taken_bytes events) written
 
 -- the haggling leads to transmission, with no request outstanding, or to the session's end
 abbrev pub Greets : Option Served → (from to : Session) → (before after : Wires) → Type 0
 Greets None from to before after =
-    Goes from to before after × (to.outstanding ≡ []) × (to.out ≡ [])
-Greets (Some served) from to before after =
-    Ends served from before.input before.output after.output
+    Goes no_result from to before after × (to.outstanding ≡ []) × (to.out ≡ [])
+Greets (Some served) from to before after = Ends no_result served from before after.output
 
 -- a whole session over an export: what was written is what goes out
-pub record IsServed (served : Served) (export : Export) (input output written : Option (List ℕ))
-    : Type 0 where
-  pub ends : Ends served (session_of export 16) input output written
+pub record IsServed (HasResult : Task → TaskResult → Type 0) (served : Served) (export : Export)
+    (before : Wires) (written : Option (List ℕ)) : Type 0 where
+  pub ends : Ends HasResult served (session_of export 16) before written
   pub requests : served.requests ≡ length (messages ends.events)
   pub goes_out : GoesOut export ends.events (taken_bytes ends.events)
 
 -- a session that a fault broke off: what was written is a beginning of what goes out
-pub record IsBrokenOff (fault : ServeFault) (export : Export)
-    (input output after : Option (List ℕ)) : Type 0 where
-  pub breaks : Breaks fault (session_of export 16) input output after
+pub record IsBrokenOff (HasResult : Task → TaskResult → Type 0) (fault : ServeFault)
+    (export : Export) (before : Wires) (after : Option (List ℕ)) : Type 0 where
+  pub breaks : Breaks HasResult fault (session_of export 16) before after
   pub unwritten : List ℕ
   pub goes_out : GoesOut export breaks.events (breaks.written ++ unwritten)

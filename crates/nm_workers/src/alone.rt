@@ -1,7 +1,7 @@
 //! A session without threads, while its client waits for each reply before it sends the next
 //! request: the owner of the core reads, does small requests and replies on its own thread. To hand
 //! these on and to hear of them would take longer than to do them.
-ghost use Rattle.std.specs.Prelude.{◌≡◌, ◌≤◌, List, [], IfOk, IfErr, OnOk};
+ghost use Rattle.std.specs.Prelude.{◌≡◌, ◌≤◌, ◌<◌, List, [], IfOk, IfErr, OnOk, IsSome, vec_len};
 ghost use Rattle.nm_mailbox.specs.declared.message.Message.{Message};
 ghost use Rattle.nm_mailbox.specs.Ends.{received_by, IsSameEnd, IsSameInbox};
 ghost use Rattle.nm_replies.specs.Sending.{device_of};
@@ -9,7 +9,8 @@ ghost use Rattle.nm_session.specs.declared.serve_fault.ServeFault.TheVariants.{M
 ghost use Rattle.nm_session.specs.CalledValue.{CalledValue};
 ghost use Rattle.nm_wire.specs.Export.{size_of};
 ghost use Rattle.nm_workers.specs.declared.input.Input.TheVariants.{Ended};
-ghost use Rattle.nm_workers.specs.Hearing.{SettlesAny};
+ghost use Rattle.nm_workers.specs.Hearing.{SettlesJob};
+ghost use Rattle.nm_workers.specs.Results.{IsResult};
 ghost use Rattle.nm_workers.specs.Moving.{stand, Moves, BreaksOff, PausesAt, IsKnown};
 ghost use Rattle.nm_workers.specs.Moving.{IsAttended, IsStretch};
 ghost use Rattle.nm_workers.specs.Reading.{ReadsFurther};
@@ -24,6 +25,7 @@ use crate::extent::Extent;
 use crate::handing::hand_out;
 use crate::hearing::listen;
 use crate::input::Input;
+use crate::job_result::JobResult;
 use crate::leave::Leave;
 use crate::pause::Pause;
 use crate::read_side::ReadSide;
@@ -31,7 +33,7 @@ use crate::reading::poll_and_read;
 use crate::stretch::Stretch;
 use nm_mailbox::Inbox;
 use nm_replies::ReplyWriter;
-use nm_session::{Called, ServeFault, SessionCore, Target, send_out};
+use nm_session::{ServeFault, SessionCore, Target, send_out};
 use std::alloc::Global;
 use std::io::Write;
 use std::sync::Wait;
@@ -55,9 +57,9 @@ pub(crate) fn attend_alone<'s, S, E, R, I, O, T>(
     alloc: Global,
     core: &mut SessionCore,
     sender: &mut ReplyWriter<O>,
-    inbox: &mut Inbox<Called>,
+    inbox: &mut Inbox<JobResult<T>>,
     desk: &mut Desk<'_, Crew<'_, 's, S, E, T>>,
-    side: &mut ReadSide<I>,
+    side: &mut ReadSide<I, JobResult<T>>,
     mut input: Input,
 ) -> Stretch
 where
@@ -68,7 +70,7 @@ where
     T: Target + Send + Drop + 's,
     requires size { size_of core.old.haggling.export ≤ E.bytes }
     requires known { IsKnown input (received_by inbox.old) }
-    ensures stretch { IsStretch result
+    ensures stretch { IsStretch (IsResult T.follows) result
         (stand core.old (received_by inbox.old) (O.contents (device_of sender.old)))
         (stand core.new (received_by inbox.new) (O.contents (device_of sender.new))) }
     ensures channel { IsSameInbox inbox.new inbox.old }
@@ -92,9 +94,9 @@ fn attend_once_alone<'s, S, E, R, I, O, T>(
     alloc: Global,
     core: &mut SessionCore,
     sender: &mut ReplyWriter<O>,
-    inbox: &mut Inbox<Called>,
+    inbox: &mut Inbox<JobResult<T>>,
     desk: &mut Desk<'_, Crew<'_, 's, S, E, T>>,
-    side: &mut ReadSide<I>,
+    side: &mut ReadSide<I, JobResult<T>>,
     input: Input,
 ) -> Result<Attended, ServeFault>
 where
@@ -105,10 +107,10 @@ where
     T: Target + Send + Drop + 's,
     requires size { size_of core.old.haggling.export ≤ E.bytes }
     requires known { IsKnown input (received_by inbox.old) }
-    ensures ok { IfOk result (λ attended. IsAttended attended
+    ensures ok { IfOk result (λ attended. IsAttended (IsResult T.follows) attended
         (stand core.old (received_by inbox.old) (O.contents (device_of sender.old)))
         (stand core.new (received_by inbox.new) (O.contents (device_of sender.new)))) }
-    ensures err { IfErr result (λ fault. BreaksOff fault
+    ensures err { IfErr result (λ fault. BreaksOff (IsResult T.follows) fault
         (stand core.old (received_by inbox.old) (O.contents (device_of sender.old)))
         (stand core.new (received_by inbox.new) (O.contents (device_of sender.new)))) }
     ensures channel { IsSameInbox inbox.new inbox.old }
@@ -123,7 +125,7 @@ where
     if !desk.streak.is_long() {
         return Ok(Attended::Turns(input));
     }
-    if desk.crew.holds_job() {
+    if desk.crew.could_do_it_here() {
         return match do_held(alloc, core, sender, &mut desk.crew) {
             Ok(()) => Ok(Attended::On(input)),
             Err(fault) => Err(fault),
@@ -155,11 +157,14 @@ fn do_held<S, E: Extent, O: Write, T: Target + Drop>(
     sender: &mut ReplyWriter<O>,
     crew: &mut Crew<'_, '_, S, E, T>,
 ) -> Result<(), ServeFault>
+    requires held { IsSome crew.old.held }
+    requires spare { 0 < vec_len crew.old.roster.spare }
     ensures ok { OnOk result ((heard : List (Message CalledValue))
-        → Moves (stand core.old heard (O.contents (device_of sender.old)))
+        → Moves (IsResult T.follows) (stand core.old heard (O.contents (device_of sender.old)))
         (stand core.new heard (O.contents (device_of sender.new)))) }
     ensures err { IfErr result (λ fault. (heard : List (Message CalledValue))
-        → BreaksOff fault (stand core.old heard (O.contents (device_of sender.old)))
+        → BreaksOff (IsResult T.follows) fault
+        (stand core.old heard (O.contents (device_of sender.old)))
         (stand core.new heard (O.contents (device_of sender.new)))) }
 {
     if let Err(fault) = answer_held(alloc, core, crew) {
@@ -171,32 +176,33 @@ fn do_held<S, E: Extent, O: Write, T: Target + Drop>(
     }
 }
 
-// Does the job that is held back, and answers its request with what came of it.
+// Does the job that is held back, and answers its request with the result.
 fn answer_held<S, E: Extent, T: Target + Drop>(
     alloc: Global,
     core: &mut SessionCore,
     crew: &mut Crew<'_, '_, S, E, T>,
 ) -> Result<(), ServeFault>
-    ensures ok { OnOk result (SettlesAny core.old core.new) }
+    requires held { IsSome crew.old.held }
+    requires spare { 0 < vec_len crew.old.roster.spare }
+    ensures ok { OnOk result (SettlesJob (IsResult T.follows) core.old crew.old.held core.new) }
     ensures err { IfErr result (λ fault. (fault ≡ Memory) × (core.new ≡ core.old)) }
 {
-    match crew.do_held(alloc) {
-        Ok(Some(called)) => answer(alloc, core, called),
-        Ok(None) => Ok(()),
-        Err(_) => Err(ServeFault::Memory),
-    }
+    let (job, worker) = crew.take_held();
+    let (done, worker) = worker.do_job(alloc, job);
+    crew.take_back(worker);
+    answer(alloc, core, done)
 }
 
 // Reads a piece where no whole request is there and the client's bytes have not ended, and sends it
 // to the mailbox, where it is heard next. No reply waits for what the client sends: no request is
 // outstanding.
-fn read_here<R: Wait, I: BusyPoll, C>(
+fn read_here<R: Wait, I: BusyPoll, C, M: Drop>(
     rt: &R,
     alloc: Global,
     core: &SessionCore,
     pause: Pause,
     input: Input,
-    side: &mut ReadSide<I>,
+    side: &mut ReadSide<I, M>,
     desk: &mut Desk<'_, C>,
 ) -> Result<Input, ServeFault>
     requires pause { PausesAt pause core.now }

@@ -5,6 +5,7 @@ ghost use Rattle.nm_replies.specs.Sending.{device_of};
 ghost use Rattle.nm_session.specs.declared.serve_fault.ServeFault.TheVariants.{Memory};
 ghost use Rattle.nm_wire.specs.Export.{size_of};
 ghost use Rattle.nm_workers.specs.declared.input.Input.TheVariants.{Ended};
+ghost use Rattle.nm_workers.specs.Results.{IsResult};
 ghost use Rattle.nm_workers.specs.Moving.{stand, BreaksOff, PausesAt, IsKnown, Attends};
 ghost use Rattle.nm_workers.specs.Moving.{IsAttended, IsOverAt, IsStretch};
 
@@ -16,13 +17,14 @@ use crate::extent::Extent;
 use crate::handing::hand_out;
 use crate::hearing::listen;
 use crate::input::Input;
+use crate::job_result::JobResult;
 use crate::leave::Leave;
 use crate::leaves::LeaveSender;
 use crate::pause::Pause;
 use crate::stretch::Stretch;
 use nm_mailbox::Inbox;
 use nm_replies::ReplyWriter;
-use nm_session::{Called, End, ServeFault, Served, SessionCore, Target, send_out};
+use nm_session::{End, ServeFault, Served, SessionCore, Target, send_out};
 use std::alloc::Global;
 use std::io::Write;
 use std::sync::Wait;
@@ -35,7 +37,7 @@ pub(crate) fn attend<'s, S, E, R, O, T>(
     alloc: Global,
     core: &mut SessionCore,
     sender: &mut ReplyWriter<O>,
-    inbox: &mut Inbox<Called>,
+    inbox: &mut Inbox<JobResult<T>>,
     desk: &mut Desk<'_, Crew<'_, 's, S, E, T>>,
     mut leaves: LeaveSender,
     mut input: Input,
@@ -47,7 +49,7 @@ where
     T: Target + Send + Drop + 's,
     requires size { size_of core.old.haggling.export ≤ E.bytes }
     requires known { IsKnown input (received_by inbox.old) }
-    ensures stretch { IsStretch result
+    ensures stretch { IsStretch (IsResult T.follows) result
         (stand core.old (received_by inbox.old) (O.contents (device_of sender.old)))
         (stand core.new (received_by inbox.new) (O.contents (device_of sender.new))) }
     ensures channel { IsSameInbox inbox.new inbox.old }
@@ -73,7 +75,7 @@ fn attend_once<'s, S, E, R, O, T>(
     alloc: Global,
     core: &mut SessionCore,
     sender: &mut ReplyWriter<O>,
-    inbox: &mut Inbox<Called>,
+    inbox: &mut Inbox<JobResult<T>>,
     desk: &mut Desk<'_, Crew<'_, 's, S, E, T>>,
     leaves: &mut LeaveSender,
     input: Input,
@@ -85,10 +87,10 @@ where
     T: Target + Send + Drop + 's,
     requires size { size_of core.old.haggling.export ≤ E.bytes }
     requires known { IsKnown input (received_by inbox.old) }
-    ensures ok { IfOk result (λ attended. IsAttended attended
+    ensures ok { IfOk result (λ attended. IsAttended (IsResult T.follows) attended
         (stand core.old (received_by inbox.old) (O.contents (device_of sender.old)))
         (stand core.new (received_by inbox.new) (O.contents (device_of sender.new)))) }
-    ensures err { IfErr result (λ fault. BreaksOff fault
+    ensures err { IfErr result (λ fault. BreaksOff (IsResult T.follows) fault
         (stand core.old (received_by inbox.old) (O.contents (device_of sender.old)))
         (stand core.new (received_by inbox.new) (O.contents (device_of sender.new)))) }
     ensures channel { IsSameInbox inbox.new inbox.old }

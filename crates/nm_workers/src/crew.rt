@@ -1,53 +1,21 @@
 //! The workers of a session. Each gets its thread once there is something to do for it.
-ghost use Rattle.std.specs.Prelude.{◌≡◌, ◌≤◌, All};
+ghost use Rattle.std.specs.Prelude.{◌≡◌, ◌≤◌, ◌<◌, All, IsSome, IsTrue, Some};
+ghost use Rattle.std.specs.Prelude.{vec_len, vec_capacity};
 
 use crate::extent::Extent;
 use crate::job::Job;
-use crate::working::{do_job, work};
+use crate::job_result::JobResult;
+use crate::worker::{Worker, work};
 use crossbeam_channel::{Receiver, Sender, bounded};
 use nm_mailbox::OutcomeEnd;
-use nm_session::{Called, Target};
+use nm_session::Target;
 use nm_wire::Memory;
 use std::alloc::Global;
-use std::marker::PhantomData;
 use std::sync::Wait;
 use std::thread::{Scope, Threads};
 
 // How many jobs wait at most.
 const WAITING: usize = 16;
-
-// A worker that has no thread yet: the target that it calls, and where it tells what came of it.
-#[derive(Drop)]
-pub struct Spare<E: Extent, T: Target> {
-    target: T,
-    outcomes: OutcomeEnd<Called>,
-    of: PhantomData<E>,
-    ghost size: { E.bytes ≤ T.size target },
-}
-
-impl<E: Extent, T: Target> Spare<E, T> {
-    // The worker of this target.
-    fn new(target: T, outcomes: OutcomeEnd<Called>) -> Spare<E, T>
-        requires { E.bytes ≤ T.size target }
-    {
-        Spare {
-            target,
-            outcomes,
-            of: PhantomData,
-        }
-    }
-
-    // Calls the target for a job on this thread.
-    fn do_job(self, alloc: Global, job: Job<E>) -> (Called, Spare<E, T>) {
-        let Spare {
-            mut target,
-            outcomes,
-            of: _,
-        } = self;
-        let called = do_job(alloc, &mut target, job);
-        (called, Spare::new(target, outcomes))
-    }
-}
 
 // The workers of a session while none of them has a thread, and the channel through which they get
 // their jobs.
@@ -55,7 +23,7 @@ impl<E: Extent, T: Target> Spare<E, T> {
 pub struct Roster<E: Extent, T: Target> {
     jobs: Sender<Job<E>>,
     tasks: Receiver<Job<E>>,
-    spare: Vec<Spare<E, T>>,
+    pub(crate) spare: Vec<Worker<E, T>>,
 }
 
 impl<E: Extent, T: Target + Drop> Roster<E, T> {
@@ -63,7 +31,7 @@ impl<E: Extent, T: Target + Drop> Roster<E, T> {
     pub(crate) fn new(
         alloc: Global,
         targets: Vec<T>,
-        ends: Vec<OutcomeEnd<Called>>,
+        ends: Vec<OutcomeEnd<JobResult<T>>>,
     ) -> Result<Roster<E, T>, Memory>
         requires sizes { All (λ target. E.bytes ≤ T.size target) targets.items }
     {
@@ -77,8 +45,8 @@ impl<E: Extent, T: Target + Drop> Roster<E, T> {
 fn spare_workers<E: Extent, T: Target + Drop>(
     alloc: Global,
     targets: Vec<T>,
-    ends: Vec<OutcomeEnd<Called>>,
-) -> Result<Vec<Spare<E, T>>, Memory>
+    ends: Vec<OutcomeEnd<JobResult<T>>>,
+) -> Result<Vec<Worker<E, T>>, Memory>
     requires sizes { All (λ target. E.bytes ≤ T.size target) targets.items }
 {
     let mut ends = ends;
@@ -87,7 +55,7 @@ fn spare_workers<E: Extent, T: Target + Drop>(
         let Some(outcomes) = ends.pop() else {
             return Ok(spare);
         };
-        if spare.push(Spare::new(target, outcomes)).is_err() {
+        if spare.push(Worker::new(target, outcomes)).is_err() {
             return Err(Memory);
         }
     }
@@ -99,9 +67,9 @@ fn spare_workers<E: Extent, T: Target + Drop>(
 #[derive(Drop)]
 pub struct Crew<'a, 's, S, E: Extent, T: Target> {
     scope: &'a Scope<'s, S>,
-    roster: Roster<E, T>,
+    pub(crate) roster: Roster<E, T>,
     started: usize,
-    held: Option<Job<E>>,
+    pub(crate) held: Option<Job<E>>,
 }
 
 impl<'a, 's, S, E: Extent, T: Target> Crew<'a, 's, S, E, T> {
@@ -125,31 +93,32 @@ impl<'a, 's, S, E: Extent, T: Target> Crew<'a, 's, S, E, T> {
         self.held.is_some()
     }
 
-    // Whether the job that is held back is small, and a target is left to do it here.
-    pub(crate) fn could_do_it_here(&self) -> bool {
+    // Whether the job that is held back is small, and a worker is left to do it here.
+    pub(crate) fn could_do_it_here(&self) -> bool
+        ensures held { IsTrue result → IsSome self.now.held }
+        ensures spare { IsTrue result → 0 < vec_len self.now.roster.spare }
+    {
         match &self.held {
             Some(job) => job.is_small() && !self.roster.spare.is_empty(),
             None => false,
         }
     }
-}
 
-impl<S, E: Extent, T: Target + Drop> Crew<'_, '_, S, E, T> {
-    // Does the job that is held back on this thread, over the target of a worker without a thread.
-    // `None` where there is no such job or worker.
-    pub(crate) fn do_held(&mut self, alloc: Global) -> Result<Option<Called>, Memory> {
-        let Some(job) = self.held.take() else {
-            return Ok(None);
-        };
-        let Some(spare) = self.roster.spare.pop() else {
-            self.held = Some(job);
-            return Ok(None);
-        };
-        let (called, spare) = spare.do_job(alloc, job);
-        match self.roster.spare.push(spare) {
-            Ok(()) => Ok(Some(called)),
-            Err(_) => Err(Memory),
-        }
+    // Takes the job that is held back, and a worker without a thread.
+    pub(crate) fn take_held(&mut self) -> (Job<E>, Worker<E, T>)
+        requires held { IsSome self.old.held }
+        requires spare { 0 < vec_len self.old.roster.spare }
+        ensures job { self.old.held ≡ Some result.0 }
+        ensures room { vec_len self.new.roster.spare < vec_capacity self.new.roster.spare }
+    {
+        (self.held.take().unwrap(), self.roster.spare.pop().unwrap())
+    }
+
+    // Takes the worker back, for which there is room.
+    pub(crate) fn take_back(&mut self, worker: Worker<E, T>)
+        requires room { vec_len self.old.roster.spare < vec_capacity self.old.roster.spare }
+    {
+        self.roster.spare.push_reserved(worker);
     }
 }
 
@@ -224,22 +193,13 @@ where
     T: Target + Send + Drop + 's,
     ensures started { crew.new.started ≡ crew.old.started }
 {
-    let Some(
-        Spare {
-            target,
-            outcomes,
-            of: _,
-        },
-    ) = crew.roster.spare.pop()
-    else {
+    let Some(worker) = crew.roster.spare.pop() else {
         return Ok(false);
     };
     let jobs = crew.roster.tasks.clone()?;
-    let start = crew.scope.spawn(
-        move ||
-            requires { E.bytes ≤ T.size target }
-        { work(rt, alloc, target, jobs, outcomes) },
-    );
+    let start = crew
+        .scope
+        .spawn(move || drop(work(rt, alloc, worker, jobs)));
     if start.is_err() {
         return Err(Memory);
     }

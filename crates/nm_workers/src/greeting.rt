@@ -1,6 +1,7 @@
 //! A session's first part: the haggling over its export, before any thread is started.
 ghost use Rattle.std.specs.Prelude.{◌≡◌, ◌<◌, [], length, None, IfOk, IfErr};
 ghost use Rattle.nm_replies.specs.Sending.{device_of};
+ghost use Rattle.nm_workers.specs.Results.{no_result};
 ghost use Rattle.nm_workers.specs.Serving.{wires, Greets, Breaks};
 
 use nm_replies::ReplyWriter;
@@ -26,8 +27,9 @@ pub fn greet<R: Wait, I: Read, O: Write>(
         (wires (I.remaining reader.new) (O.contents (device_of sender.new)))) }
     ensures export { IfOk result (λ served. served ≡ None
         → core.new.haggling.export ≡ core.old.haggling.export) }
-    ensures err { IfErr result (λ fault. Breaks fault core.old (I.remaining reader.old)
-        (O.contents (device_of sender.old)) (O.contents (device_of sender.new))) }
+    ensures err { IfErr result (λ fault. Breaks no_result fault core.old
+        (wires (I.remaining reader.old) (O.contents (device_of sender.old)))
+        (O.contents (device_of sender.new))) }
 {
     'pieces: for _ in rt.forever() {
         if let Err(fault) = send_out(core, sender) {

@@ -2,14 +2,16 @@
 ghost use Rattle.std.specs.Prelude.{◌≡◌, ℕ, List, Option, IfOk, IfErr};
 ghost use Rattle.nm_mailbox.specs.Ends.{received_by, IsSameInbox};
 ghost use Rattle.nm_workers.specs.Hearing.{Hears, IsCausedBy};
+ghost use Rattle.nm_workers.specs.Results.{IsResult};
 ghost use Rattle.nm_workers.specs.Moving.{stand, Moves, BreaksOff, IsKnown, IsLearned};
 
 use crate::answering::answer;
 use crate::desk::Desk;
 use crate::input::Input;
+use crate::job_result::JobResult;
 use crate::room::Room;
 use nm_mailbox::{Inbox, Message, Piece};
-use nm_session::{Called, ServeFault, SessionCore};
+use nm_session::{ServeFault, SessionCore, Target};
 use std::alloc::Global;
 use std::sync::Wait;
 
@@ -17,21 +19,21 @@ use std::sync::Wait;
 const WAITING: usize = 32;
 
 // Waits for a message, and takes it and all others that wait by then.
-pub(crate) fn listen<R: Wait, C>(
+pub(crate) fn listen<R: Wait, C, T: Target + Drop>(
     rt: &R,
     alloc: Global,
     core: &mut SessionCore,
-    inbox: &mut Inbox<Called>,
+    inbox: &mut Inbox<JobResult<T>>,
     input: Input,
     desk: &mut Desk<'_, C>,
 ) -> Result<Input, ServeFault>
     requires known { IsKnown input (received_by inbox.old) }
     ensures ok { IfOk result (λ next. (output : Option (List ℕ))
-        → Moves (stand core.old (received_by inbox.old) output)
+        → Moves (IsResult T.follows) (stand core.old (received_by inbox.old) output)
         (stand core.new (received_by inbox.new) output)) }
     ensures known { IfOk result (λ next. IsKnown next (received_by inbox.new)) }
     ensures err { IfErr result (λ fault. (output : Option (List ℕ))
-        → BreaksOff fault (stand core.old (received_by inbox.old) output)
+        → BreaksOff (IsResult T.follows) fault (stand core.old (received_by inbox.old) output)
         (stand core.new (received_by inbox.new) output)) }
     ensures channel { IsSameInbox inbox.new inbox.old }
 {
@@ -56,14 +58,14 @@ pub(crate) fn listen<R: Wait, C>(
 
 // Feeds the piece to the core, and lets the room for the next one follow it, or answers a request
 // with what came of its task. Gives what is known then of the client's bytes.
-fn hear(
+fn hear<T: Target>(
     alloc: Global,
     core: &mut SessionCore,
-    message: Message<Called>,
+    message: Message<JobResult<T>>,
     input: Input,
     room: &mut Room,
 ) -> Result<Input, ServeFault>
-    ensures ok { IfOk result (λ next. Hears core.old message core.new) }
+    ensures ok { IfOk result (λ next. Hears (IsResult T.follows) core.old message core.new) }
     ensures learned { IfOk result (λ next. IsLearned next input message) }
     ensures cause { IfErr result (λ fault. IsCausedBy fault message) }
     ensures err { IfErr result (λ fault. core.new ≡ core.old) }

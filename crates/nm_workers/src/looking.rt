@@ -6,7 +6,6 @@ use crate::busy_poll::BusyPoll;
 use crate::lookout::Lookout;
 use crate::patience::Patience;
 use nm_mailbox::{Inbox, Message};
-use nm_session::Called;
 use std::hint::spin_loop;
 use std::sync::Wait;
 
@@ -36,12 +35,12 @@ impl<'a> Looking<'a> {
     }
 
     // Waits for the next message while so many requests are under way.
-    pub(crate) fn wait<R: Wait>(
+    pub(crate) fn wait<R: Wait, M: Drop>(
         &mut self,
         rt: &R,
-        inbox: &mut Inbox<Called>,
+        inbox: &mut Inbox<M>,
         under_way: usize,
-    ) -> Option<Message<Called>>
+    ) -> Option<Message<M>>
         ensures some { IfSome result
             (λ message. received_by inbox.new ≡ received_by inbox.old ++ message ∷ []) }
         ensures none { IfNone result (received_by inbox.new ≡ received_by inbox.old) }
@@ -79,7 +78,7 @@ impl<'a> Looking<'a> {
 }
 
 // Looks for a message for a while.
-fn look<R: Wait>(rt: &R, inbox: &mut Inbox<Called>) -> Option<Message<Called>>
+fn look<R: Wait, M: Drop>(rt: &R, inbox: &mut Inbox<M>) -> Option<Message<M>>
     ensures some { IfSome result
         (λ message. received_by inbox.new ≡ received_by inbox.old ++ message ∷ []) }
     ensures none { IfNone result (received_by inbox.new ≡ received_by inbox.old) }

@@ -10,7 +10,6 @@ use crate::leaves::{LeaveReceiver, LeaveSender, leave_channel};
 use crate::looking::Looking;
 use crate::read_side::ReadSide;
 use nm_mailbox::{Piece, PieceEnd};
-use nm_session::Called;
 use std::alloc::Global;
 use std::io::Read;
 use std::snapshot::Snapshot;
@@ -19,15 +18,16 @@ use std::thread::{Promise, PromisedHandle, Scope};
 
 // Starts a thread that reads a piece for each leave. Where there is no memory or no thread for it,
 // the reader comes back.
-pub(crate) fn start_reading<'s, S, R, I>(
+pub(crate) fn start_reading<'s, S, R, I, M>(
     rt: &'s R,
     alloc: Global,
     scope: &Scope<'s, S>,
-    side: ReadSide<I>,
-) -> Result<(LeaveSender, PromisedHandle<ReadSide<I>, AllRead<I>>), ReadSide<I>>
+    side: ReadSide<I, M>,
+) -> Result<(LeaveSender, PromisedHandle<ReadSide<I, M>, AllRead<I, M>>), ReadSide<I, M>>
 where
     R: Wait + Sync + 's,
     I: Read + Send + Drop + 's,
+    M: Send + Drop + 's,
     ensures ok { IfOk result (λ started. started.1.promise.0.value ≡ side) }
     ensures reads { IfErr result (λ back. ReadsFurther I.remaining side back) }
     ensures channel { IfErr result (λ back. IsSameEnd back.pieces side.pieces) }
@@ -48,7 +48,11 @@ where
 
 // Reads one piece for each leave and sends it, until the client's bytes end, a read fails, or no
 // further leave comes.
-fn read_pieces<R: Wait, I: Read>(rt: &R, side: ReadSide<I>, leaves: LeaveReceiver) -> ReadSide<I>
+fn read_pieces<R: Wait, I: Read, M: Drop>(
+    rt: &R,
+    side: ReadSide<I, M>,
+    leaves: LeaveReceiver,
+) -> ReadSide<I, M>
     ensures reads { ReadsFurther I.remaining side result }
     ensures channel { IsSameEnd result.pieces side.pieces }
 {
@@ -66,10 +70,10 @@ fn read_pieces<R: Wait, I: Read>(rt: &R, side: ReadSide<I>, leaves: LeaveReceive
 }
 
 // Polls for bytes for a while, and then reads a piece and sends it, unless no more is to be read.
-pub(crate) fn poll_and_read<R: Wait, I: BusyPoll>(
+pub(crate) fn poll_and_read<R: Wait, I: BusyPoll, M: Drop>(
     rt: &R,
     looking: &mut Looking<'_>,
-    side: &mut ReadSide<I>,
+    side: &mut ReadSide<I, M>,
     leave: Leave,
 )
     ensures reads { ReadsFurther I.remaining side.old side.new }
@@ -80,7 +84,7 @@ pub(crate) fn poll_and_read<R: Wait, I: BusyPoll>(
 }
 
 // Reads a piece and sends it, unless no more is to be read.
-fn read_on<R: Wait, I: Read>(rt: &R, side: &mut ReadSide<I>, leave: Leave)
+fn read_on<R: Wait, I: Read, M: Drop>(rt: &R, side: &mut ReadSide<I, M>, leave: Leave)
     ensures reads { ReadsFurther I.remaining side.old side.new }
     ensures channel { IsSameEnd side.new.pieces side.old.pieces }
 {
@@ -90,10 +94,10 @@ fn read_on<R: Wait, I: Read>(rt: &R, side: &mut ReadSide<I>, leave: Leave)
 }
 
 // Reads a piece and sends it. False where no more is to be read.
-fn read_piece<R: Wait, I: Read>(
+fn read_piece<R: Wait, I: Read, M: Drop>(
     rt: &R,
     reader: &mut I,
-    pieces: &mut PieceEnd<Called>,
+    pieces: &mut PieceEnd<M>,
     leave: Leave,
 ) -> bool
     ensures goes { (input : Option (List ℕ))
@@ -137,9 +141,9 @@ fn take_piece<I: Read>(reader: &mut I, leave: Leave) -> Piece
 
 // What the reading thread promises, by the side that it starts with.
 #[derive(Drop)]
-pub(crate) struct AllRead<I>(pub(crate) Snapshot<ReadSide<I>>);
+pub(crate) struct AllRead<I, M: Drop>(pub(crate) Snapshot<ReadSide<I, M>>);
 
-impl<I: Read> Promise<ReadSide<I>> for AllRead<I> {
+impl<I: Read, M: Drop> Promise<ReadSide<I, M>> for AllRead<I, M> {
     ghost use Rattle.nm_mailbox.specs.Ends.{IsSameEnd};
     ghost use Rattle.nm_workers.specs.Reading.{ReadsFurther};
 

@@ -2,7 +2,8 @@
 ghost use Rattle.std.specs.Prelude.{◌≡◌, ◌≤◌, [], All, IfOk, IfErr, vec_len};
 ghost use Rattle.nm_replies.specs.Sending.{device_of};
 ghost use Rattle.nm_wire.specs.Export.{size_of};
-ghost use Rattle.nm_workers.specs.Serving.{Ends, Breaks, IsServed, IsBrokenOff};
+ghost use Rattle.nm_workers.specs.Results.{IsResult};
+ghost use Rattle.nm_workers.specs.Serving.{wires, Ends, Breaks, IsServed, IsBrokenOff};
 
 use crate::busy_poll::{BusyPoll, Unpolled};
 use crate::finished::Finished;
@@ -47,10 +48,12 @@ where
     requires some { 1 ≤ vec_len targets }
     requires few { vec_len targets ≤ 16 }
     requires size { All (λ target. size_of export ≤ T.size target) targets.items }
-    ensures ok { IfOk result.result (λ served. IsServed served export (I.remaining reader)
-        (O.contents (device_of sender)) (O.contents (device_of result.sender))) }
-    ensures err { IfErr result.result (λ fault. IsBrokenOff fault export (I.remaining reader)
-        (O.contents (device_of sender)) (O.contents (device_of result.sender))) }
+    ensures ok { IfOk result.result (λ served. IsServed (IsResult T.follows) served export
+        (wires (I.remaining reader) (O.contents (device_of sender)))
+        (O.contents (device_of result.sender))) }
+    ensures err { IfErr result.result (λ fault. IsBrokenOff (IsResult T.follows) fault export
+        (wires (I.remaining reader) (O.contents (device_of sender)))
+        (O.contents (device_of result.sender))) }
 {
     laws::so_far();
     let Ok(core) = SessionCore::new(alloc, export, LIMIT) else {
@@ -80,10 +83,12 @@ where
     requires some { 1 ≤ vec_len targets }
     requires few { vec_len targets ≤ 16 }
     requires size { All (λ target. size_of core.haggling.export ≤ T.size target) targets.items }
-    ensures ok { IfOk result.result (λ served. Ends served core (I.remaining reader)
-        (O.contents (device_of sender)) (O.contents (device_of result.sender))) }
-    ensures err { IfErr result.result (λ fault. Breaks fault core (I.remaining reader)
-        (O.contents (device_of sender)) (O.contents (device_of result.sender))) }
+    ensures ok { IfOk result.result (λ served. Ends (IsResult T.follows) served core
+        (wires (I.remaining reader) (O.contents (device_of sender)))
+        (O.contents (device_of result.sender))) }
+    ensures err { IfErr result.result (λ fault. Breaks (IsResult T.follows) fault core
+        (wires (I.remaining reader) (O.contents (device_of sender)))
+        (O.contents (device_of result.sender))) }
 {
     let (mut core, mut reader, mut sender) = (core, reader, sender);
     let Ok(mut room) = vec![in alloc; 0; ROOM] else {
@@ -128,10 +133,12 @@ where
     O: Write + Drop,
     T: Target + Send + Drop,
     requires size { All (λ target. size_of core.haggling.export ≤ T.size target) targets.items }
-    ensures ok { IfOk result.result (λ served. Ends served core (I.remaining reader)
-        (O.contents (device_of sender)) (O.contents (device_of result.sender))) }
-    ensures err { IfErr result.result (λ fault. Breaks fault core (I.remaining reader)
-        (O.contents (device_of sender)) (O.contents (device_of result.sender))) }
+    ensures ok { IfOk result.result (λ served. Ends (IsResult T.follows) served core
+        (wires (I.remaining reader) (O.contents (device_of sender)))
+        (O.contents (device_of result.sender))) }
+    ensures err { IfErr result.result (λ fault. Breaks (IsResult T.follows) fault core
+        (wires (I.remaining reader) (O.contents (device_of sender)))
+        (O.contents (device_of result.sender))) }
 {
     serve_requests::<Brand, R, I, O, T>(rt, alloc, core, reader, sender, targets, lookout)
 }

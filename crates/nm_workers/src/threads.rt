@@ -3,13 +3,15 @@ ghost use Rattle.std.specs.Prelude.{◌≡◌, ◌≤◌, [], true, All, IfOk, I
 ghost use Rattle.nm_mailbox.specs.Ends.{pieces_by, received_by, SendsTo};
 ghost use Rattle.nm_replies.specs.Sending.{device_of};
 ghost use Rattle.nm_wire.specs.Export.{size_of};
-ghost use Rattle.nm_workers.specs.Serving.{Ends, Breaks};
+ghost use Rattle.nm_workers.specs.Results.{IsResult};
+ghost use Rattle.nm_workers.specs.Serving.{wires, Ends, Breaks};
 
 use crate::busy_poll::BusyPoll;
 use crate::crew::{Crew, Roster};
 use crate::desk::Desk;
 use crate::extent::Extent;
 use crate::finished::Finished;
+use crate::job_result::JobResult;
 use crate::looking::Looking;
 use crate::lookout::Lookout;
 use crate::read_side::ReadSide;
@@ -18,7 +20,7 @@ use crate::streak::Streak;
 use crate::turns::{AllAttended, take_turns};
 use nm_mailbox::{Inbox, mailbox};
 use nm_replies::ReplyWriter;
-use nm_session::{Called, ServeFault, SessionCore, Target};
+use nm_session::{ServeFault, SessionCore, Target};
 use std::alloc::Global;
 use std::io::Write;
 use std::sync::Wait;
@@ -42,12 +44,14 @@ where
     T: Target + Send + Drop,
     requires size { size_of core.haggling.export ≤ E.bytes }
     requires sizes { All (λ target. E.bytes ≤ T.size target) targets.items }
-    ensures ok { IfOk result.result (λ served. Ends served core (I.remaining reader)
-        (O.contents (device_of sender)) (O.contents (device_of result.sender))) }
-    ensures err { IfErr result.result (λ fault. Breaks fault core (I.remaining reader)
-        (O.contents (device_of sender)) (O.contents (device_of result.sender))) }
+    ensures ok { IfOk result.result (λ served. Ends (IsResult T.follows) served core
+        (wires (I.remaining reader) (O.contents (device_of sender)))
+        (O.contents (device_of result.sender))) }
+    ensures err { IfErr result.result (λ fault. Breaks (IsResult T.follows) fault core
+        (wires (I.remaining reader) (O.contents (device_of sender)))
+        (O.contents (device_of result.sender))) }
 {
-    let Ok((pieces, ends, inbox)) = mailbox::<Called>(alloc, targets.len()) else {
+    let Ok((pieces, ends, inbox)) = mailbox::<JobResult<T>>(alloc, targets.len()) else {
         return broken_off(sender);
     };
     let Ok(roster) = Roster::<E, T>::new(alloc, targets, ends) else {
@@ -60,10 +64,12 @@ where
             requires size { size_of core.haggling.export ≤ E.bytes }
             requires fresh { (pieces_by pieces ≡ []) × (received_by inbox ≡ []) }
             requires channel { SendsTo pieces inbox }
-            ensures ok { IfOk result.result (λ served. Ends served core (I.remaining reader)
-                (O.contents (device_of sender)) (O.contents (device_of result.sender))) }
-            ensures err { IfErr result.result (λ fault. Breaks fault core (I.remaining reader)
-                (O.contents (device_of sender)) (O.contents (device_of result.sender))) }
+            ensures ok { IfOk result.result (λ served. Ends (IsResult T.follows) served core
+                (wires (I.remaining reader) (O.contents (device_of sender)))
+                (O.contents (device_of result.sender))) }
+            ensures err { IfErr result.result (λ fault. Breaks (IsResult T.follows) fault core
+                (wires (I.remaining reader) (O.contents (device_of sender)))
+                (O.contents (device_of result.sender))) }
         {
             let desk = Desk {
                 crew: Crew::new(scope, roster),
@@ -94,9 +100,9 @@ fn own<'s, S, E, R, I, O, T>(
     alloc: Global,
     core: SessionCore,
     sender: ReplyWriter<O>,
-    inbox: Inbox<Called>,
+    inbox: Inbox<JobResult<T>>,
     desk: Desk<'_, Crew<'_, 's, S, E, T>>,
-    side: ReadSide<I>,
+    side: ReadSide<I, JobResult<T>>,
 ) -> Finished<O>
 where
     E: Extent + Send + 's,
@@ -108,10 +114,12 @@ where
     requires fresh { (pieces_by side.pieces ≡ []) × (received_by inbox ≡ []) }
     requires goes_on { side.goes_on ≡ true }
     requires channel { SendsTo side.pieces inbox }
-    ensures ok { IfOk result.result (λ served. Ends served core (I.remaining side.reader)
-        (O.contents (device_of sender)) (O.contents (device_of result.sender))) }
-    ensures err { IfErr result.result (λ fault. Breaks fault core (I.remaining side.reader)
-        (O.contents (device_of sender)) (O.contents (device_of result.sender))) }
+    ensures ok { IfOk result.result (λ served. Ends (IsResult T.follows) served core
+        (wires (I.remaining side.reader) (O.contents (device_of sender)))
+        (O.contents (device_of result.sender))) }
+    ensures err { IfErr result.result (λ fault. Breaks (IsResult T.follows) fault core
+        (wires (I.remaining side.reader) (O.contents (device_of sender)))
+        (O.contents (device_of result.sender))) }
 {
     let (mut core, mut sender, mut inbox) = (core, sender, inbox);
     let attended = take_turns(rt, alloc, &mut core, &mut sender, &mut inbox, desk, side);

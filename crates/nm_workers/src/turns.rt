@@ -3,6 +3,7 @@ ghost use Rattle.std.specs.Prelude.{◌≤◌};
 ghost use Rattle.nm_mailbox.specs.Ends.{received_by, IsSameEnd, IsSameInbox};
 ghost use Rattle.nm_replies.specs.Sending.{device_of};
 ghost use Rattle.nm_wire.specs.Export.{size_of};
+ghost use Rattle.nm_workers.specs.Results.{IsResult};
 ghost use Rattle.nm_workers.specs.Moving.{stand, EndsAs};
 ghost use Rattle.nm_workers.specs.Reading.{ReadsFurther};
 
@@ -13,12 +14,13 @@ use crate::crew::Crew;
 use crate::desk::Desk;
 use crate::extent::Extent;
 use crate::input::Input;
+use crate::job_result::JobResult;
 use crate::read_side::ReadSide;
 use crate::reading::start_reading;
 use crate::stretch::Stretch;
 use nm_mailbox::Inbox;
 use nm_replies::ReplyWriter;
-use nm_session::{Called, ServeFault, Served, SessionCore, Target};
+use nm_session::{ServeFault, Served, SessionCore, Target};
 use std::alloc::Global;
 use std::io::Write;
 use std::sync::Wait;
@@ -26,9 +28,9 @@ use std::thread::Threads;
 
 // A session that was attended to its end, and what read its bytes.
 #[derive(Drop)]
-pub struct AllAttended<I> {
+pub struct AllAttended<I, M: Drop> {
     pub(crate) result: Result<Served, ServeFault>,
-    pub(crate) side: ReadSide<I>,
+    pub(crate) side: ReadSide<I, M>,
 }
 
 // Attends requests until the session ends: while a thread reads, and then on this thread alone, and
@@ -38,10 +40,10 @@ pub(crate) fn take_turns<'s, S, E, R, I, O, T>(
     alloc: Global,
     core: &mut SessionCore,
     sender: &mut ReplyWriter<O>,
-    inbox: &mut Inbox<Called>,
+    inbox: &mut Inbox<JobResult<T>>,
     desk: Desk<'_, Crew<'_, 's, S, E, T>>,
-    side: ReadSide<I>,
-) -> AllAttended<I>
+    side: ReadSide<I, JobResult<T>>,
+) -> AllAttended<I, JobResult<T>>
 where
     E: Extent + Send + 's,
     R: Threads + Wait + Sync + 's,
@@ -49,7 +51,7 @@ where
     O: Write,
     T: Target + Send + Drop + 's,
     requires size { size_of core.old.haggling.export ≤ E.bytes }
-    ensures ends { EndsAs result.result
+    ensures ends { EndsAs (IsResult T.follows) result.result
         (stand core.old (received_by inbox.old) (O.contents (device_of sender.old)))
         (stand core.new (received_by inbox.new) (O.contents (device_of sender.new))) }
     ensures channel { IsSameInbox inbox.new inbox.old }

@@ -1,16 +1,15 @@
 -- The request is answered, and what is to go out is sent.
-use Rattle.std.proofs.Common.{inl}
 use Rattle.nm_replies.specs.Sending.{device_of}
 use Rattle.nm_workers.specs.Moving.{stand}
 use Rattle.nm_workers.proofs.Rounds.{stops_there}
-use Rattle.nm_workers.proofs.Steps.{moves_on, breaks_on, settles, sends, sends_part}
+use Rattle.nm_workers.proofs.Steps.{moves_on, breaks_on, stays, settles, sends, sends_part}
 use Rattle.nm_workers.proofs.alone.do_held.Goals as goal
 
 pub returns-in-Err-clause-err : goal.returns-in-Err-clause-err
 returns-in-Err-clause-err g c heard =
     stops_there c.in-Err.fault c.in-Err.ensures.err.0 _ _
-    (settles c.args.core.now c.answer_held.new.core heard (g.O.Write.contents (device_of c.args.sender.now))
-    (inl c.in-Err.ensures.err.1))
+    (stays c.args.core.now c.answer_held.new.core heard (g.O.Write.contents (device_of c.args.sender.now))
+    c.in-Err.ensures.err.1)
 
 pub returns-in-Ok-clause-ok : goal.returns-in-Ok-clause-ok
 returns-in-Ok-clause-ok g c heard =
@@ -18,7 +17,7 @@ returns-in-Ok-clause-ok g c heard =
     let written = g.O.Write.contents (device_of c.send_out.new.sender) in
     moves_on (stand c.args.core.now heard output) (stand c.answer_held.new.core heard output)
     (stand c.send_out.new.core heard written)
-    (settles c.args.core.now c.answer_held.new.core heard output c.in_default.ensures.ok)
+    (settles c.args.core.now c.answer_held.new.core c.args.crew.now.held heard output c.in_default.ensures.ok)
     (sends c.answer_held.new.core c.send_out.new.core heard output written c.in-Ok.ensures.ok)
 
 pub returns-in-Err-send_out-clause-err : goal.returns-in-Err-send_out-clause-err
@@ -27,6 +26,6 @@ returns-in-Err-send_out-clause-err g c heard =
     let written = g.O.Write.contents (device_of c.send_out.new.sender) in
     breaks_on c.in-Err-send_out.fault (stand c.args.core.now heard output)
     (stand c.answer_held.new.core heard output) (stand c.send_out.new.core heard written)
-    (settles c.args.core.now c.answer_held.new.core heard output c.in_default.ensures.ok)
+    (settles c.args.core.now c.answer_held.new.core c.args.crew.now.held heard output c.in_default.ensures.ok)
     (sends_part c.in-Err-send_out.fault c.answer_held.new.core c.send_out.new.core heard output written
     c.in-Err-send_out.ensures.err)

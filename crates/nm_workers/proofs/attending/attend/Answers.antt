@@ -4,7 +4,9 @@ use Rattle.nm_mailbox.specs.Ends.{received_by}
 use Rattle.nm_replies.specs.Sending.{device_of}
 use Rattle.nm_workers.specs.declared.attended.Attended.TheVariants as attended
 use Rattle.nm_workers.specs.Moving.{stand, IsAttended}
+use Rattle.nm_workers.specs.Results.{IsResult}
 use Rattle.nm_workers.proofs.Requests.{size_stays}
+use Rattle.nm_workers.proofs.ResultRuns.{runs_of}
 use Rattle.nm_workers.proofs.Rounds.{attended_on}
 use Rattle.nm_workers.proofs.Steps.{moves_on, moves_nowhere, breaks_on}
 use Rattle.nm_workers.proofs.attending.attend.Goals as goal
@@ -19,7 +21,7 @@ rounds-init g c = record {
 pub attend_once-requires-clause-size : goal.attend_once-requires-clause-size
 attend_once-requires-clause-size g c κs within =
     size_stays c.args.core.now c.rounds.core c.rounds.invariant.moves.events g.E.Extent.bytes
-    c.rounds.invariant.moves.runs c.requires.size
+    (runs_of _ _ _ _ c.rounds.invariant.moves.runs) c.requires.size
 
 pub rounds-preserved : goal.rounds-preserved
 rounds-preserved g c =
@@ -27,7 +29,7 @@ rounds-preserved g c =
     let here = stand c.rounds.core (received_by c.rounds.inbox) (g.O.Write.contents (device_of c.rounds.sender)) in
     let there = stand c.attend_once.new.core (received_by c.attend_once.new.inbox)
     (g.O.Write.contents (device_of c.attend_once.new.sender)) in
-    let round : IsAttended (attended.On c.in-Ok-On.next) here there =
+    let round : IsAttended (IsResult g.T.Target.follows) (attended.On c.in-Ok-On.next) here there =
     rw c.in-Ok-On.field-0-is at c.in-Ok-On.ensures.ok in
     record {
       moves = moves_on start here there c.rounds.invariant.moves round.0;

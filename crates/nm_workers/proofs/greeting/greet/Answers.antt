@@ -1,9 +1,11 @@
 -- Each way through the loop goes on from the haggling so far.
 use Rattle.nm_replies.specs.Sending.{device_of}
 use Rattle.nm_session.proofs.Pieces.{haggling_stage}
+use Rattle.nm_workers.specs.Results.{no_result}
 use Rattle.nm_workers.specs.Serving.{wires, Goes}
 use Rattle.nm_workers.proofs.Greetings.{part_sent, sent_goes, mid_idle, mid_sent, fed_goes, fed_breaks, input_over, core_over}
 use Rattle.nm_workers.proofs.Requests.{export_stays}
+use Rattle.nm_workers.proofs.ResultRuns.{runs_of}
 use Rattle.nm_workers.proofs.greeting.greet.Goals as goal
 
 pub returns-in-Err-clause-err : goal.returns-in-Err-clause-err
@@ -75,8 +77,9 @@ pub returns-in-Serving-clause-export : goal.returns-in-Serving-clause-export
 returns-in-Serving-clause-export g c =
     let before = wires (g.I.Read.remaining c.args.reader.now) (g.O.Write.contents (device_of c.args.sender.now)) in
     let after = wires (g.I.Read.remaining c.pieces.reader) (g.O.Write.contents (device_of c.send_out.new.sender)) in
-    let goes : Goes c.args.core.now c.send_out.new.core before after =
+    let goes : Goes no_result c.args.core.now c.send_out.new.core before after =
     sent_goes c.args.core.now c.pieces.core c.send_out.new.core before (g.I.Read.remaining c.pieces.reader)
     (g.O.Write.contents (device_of c.pieces.sender)) (g.O.Write.contents (device_of c.send_out.new.sender))
     c.pieces.invariant.goes c.pieces.invariant.idle c.in_default.ensures.ok in
-    λ _. export_stays goes.events c.args.core.now c.send_out.new.core goes.runs
+    λ _. export_stays goes.events c.args.core.now c.send_out.new.core
+    (runs_of no_result c.args.core.now c.send_out.new.core goes.events goes.runs)

@@ -1,12 +1,13 @@
 -- So far the client and the server haggled.
 use Rattle.std.proofs.Common.{◌≡◌, []}
 use Rattle.nm_replies.specs.Sending.{device_of}
+use Rattle.nm_workers.specs.Results.{no_result}
 use Rattle.nm_workers.specs.Serving.{wires, Goes}
 use Rattle.nm_workers.proofs.greeting.greet.Given as goal
 
 abbrev pub invariant-pieces : goal.invariant-pieces
 invariant-pieces g l = record {
-  goes : Goes l.fn.core l.core
+  goes : Goes no_result l.fn.core l.core
       (wires (g.I.Read.remaining l.fn.reader) (g.O.Write.contents (device_of l.fn.sender)))
       (wires (g.I.Read.remaining l.reader) (g.O.Write.contents (device_of l.sender)));
   idle : l.core.outstanding ≡ [];

@@ -17,7 +17,7 @@ pub messages-init : goal.messages-init
 messages-init g c = record {
   moves = λ output. hears_at c.args.core.now c.hear.new.core c.in-Some.first (received_by c.args.inbox.now)
       (received_by c.wait.new.inbox) c.in-Some.ensures.some output c.in-Ok.ensures.ok;
-  known = learns_at c.args.core.now c.hear.new.core c.in-Some.first (received_by c.args.inbox.now)
+  known = learns_at c.in-Some.first (received_by c.args.inbox.now)
       (received_by c.wait.new.inbox) c.in-Some.ensures.some c.in-Ok.input c.args.input c.in-Ok.ensures.learned
       c.requires.known;
   channel = c.in-Some.ensures.channel;
@@ -42,7 +42,7 @@ messages-preserved g c = record {
       (hears_at c.messages.core c.hear-in-messages.new.core c.in-Some-try_recv.message
       (received_by c.messages.inbox) (received_by c.try_recv.new.self) c.in-Some-try_recv.ensures.some output
       c.in-Ok-hear.ensures.ok);
-  known = learns_at c.messages.core c.hear-in-messages.new.core c.in-Some-try_recv.message
+  known = learns_at c.in-Some-try_recv.message
       (received_by c.messages.inbox) (received_by c.try_recv.new.self) c.in-Some-try_recv.ensures.some
       c.in-Ok-hear.next c.messages.input c.in-Ok-hear.ensures.learned c.messages.invariant.known;
   channel = c.in-Some-try_recv.ensures.channel ∙ c.messages.invariant.channel;

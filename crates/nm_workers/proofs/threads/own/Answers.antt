@@ -3,6 +3,7 @@ use Rattle.nm_mailbox.specs.Ends.{pieces_by, received_by}
 use Rattle.nm_replies.specs.Sending.{device_of}
 use Rattle.nm_workers.specs.Moving.{stand}
 use Rattle.nm_workers.specs.Reading.{HasRead}
+use Rattle.nm_workers.specs.Results.{IsResult}
 use Rattle.nm_workers.proofs.Owning.{owned_ends, owned_breaks}
 use Rattle.nm_workers.proofs.ReadPieces.{reads_first, has_read}
 use Rattle.nm_workers.proofs.Rounds.{ends_ok, ends_err}
@@ -18,10 +19,10 @@ returns-clause-ok g c =
     has_read side.goes_on bytes (g.I.Read.remaining side.reader) (pieces_by side.pieces)
     (c.take_turns-attended.ensures.reads bytes
     (reads_first bytes (pieces_by c.args.side.pieces) c.args.side.goes_on c.requires.fresh.0 c.requires.goes_on)) in
-    owned_ends bytes (g.I.Read.remaining side.reader) output written (pieces_by side.pieces) c.args.core
+    owned_ends (IsResult g.T.Target.follows) bytes (g.I.Read.remaining side.reader) output written (pieces_by side.pieces) c.args.core
     c.take_turns-attended.new.core (received_by c.args.inbox) (received_by c.take_turns-attended.new.inbox)
     c.requires.fresh.1 read c.settle.ensures.beginning c.take_turns-attended.result.result
-    (ends_ok c.take_turns-attended.result.result (stand c.args.core (received_by c.args.inbox) output)
+    (ends_ok (IsResult g.T.Target.follows) c.take_turns-attended.result.result (stand c.args.core (received_by c.args.inbox) output)
     (stand c.take_turns-attended.new.core (received_by c.take_turns-attended.new.inbox) written)
     c.take_turns-attended.ensures.ends)
 
@@ -35,9 +36,9 @@ returns-clause-err g c =
     has_read side.goes_on bytes (g.I.Read.remaining side.reader) (pieces_by side.pieces)
     (c.take_turns-attended.ensures.reads bytes
     (reads_first bytes (pieces_by c.args.side.pieces) c.args.side.goes_on c.requires.fresh.0 c.requires.goes_on)) in
-    owned_breaks bytes (g.I.Read.remaining side.reader) output written (pieces_by side.pieces) c.args.core
+    owned_breaks (IsResult g.T.Target.follows) bytes (g.I.Read.remaining side.reader) output written (pieces_by side.pieces) c.args.core
     c.take_turns-attended.new.core (received_by c.args.inbox) (received_by c.take_turns-attended.new.inbox)
     c.requires.fresh.1 read c.settle.ensures.beginning c.take_turns-attended.result.result
-    (ends_err c.take_turns-attended.result.result (stand c.args.core (received_by c.args.inbox) output)
+    (ends_err (IsResult g.T.Target.follows) c.take_turns-attended.result.result (stand c.args.core (received_by c.args.inbox) output)
     (stand c.take_turns-attended.new.core (received_by c.take_turns-attended.new.inbox) written)
     c.take_turns-attended.ensures.ends)

@@ -6,7 +6,9 @@ use Rattle.nm_session.specs.declared.serve_fault.ServeFault.TheVariants as fault
 use Rattle.nm_workers.specs.declared.stretch.Stretch.TheVariants as stretch
 use Rattle.nm_workers.specs.Moving.{stand, IsStretch}
 use Rattle.nm_workers.specs.Reading.{ReadsFurther}
+use Rattle.nm_workers.specs.Results.{IsResult}
 use Rattle.nm_workers.proofs.Requests.{size_stays}
+use Rattle.nm_workers.proofs.ResultRuns.{runs_of}
 use Rattle.nm_workers.proofs.Rounds.{ends_on}
 use Rattle.nm_workers.proofs.Steps.{moves_on, moves_nowhere, stops}
 use Rattle.nm_workers.proofs.turns.take_turns.Goals as goal
@@ -29,7 +31,7 @@ returns-in-Err-clause-reads g c input goes = c.in-Err.ensures.reads input (c.tur
 pub attend-requires-clause-size : goal.attend-requires-clause-size
 attend-requires-clause-size g c κs within =
     size_stays c.args.core.now c.turns.core c.turns.invariant.moves.events g.E.Extent.bytes
-    c.turns.invariant.moves.runs c.requires.size
+    (runs_of _ _ _ _ c.turns.invariant.moves.runs) c.requires.size
 
 pub returns-in-Ended-clause-ends : goal.returns-in-Ended-clause-ends
 returns-in-Ended-clause-ends g c =
@@ -51,9 +53,9 @@ attend_alone-requires-clause-size g c κs within =
     let here = stand c.turns.core (received_by c.turns.inbox) (g.O.Write.contents (device_of c.turns.sender)) in
     let there = stand c.attend.new.core (received_by c.attend.new.inbox)
     (g.O.Write.contents (device_of c.attend.new.sender)) in
-    let first : IsStretch (stretch.Turns c.in-Turns.next) here there = c.in-Turns.ensures.stretch in
+    let first : IsStretch (IsResult g.T.Target.follows) (stretch.Turns c.in-Turns.next) here there = c.in-Turns.ensures.stretch in
     let moves = moves_on start here there c.turns.invariant.moves first.0 in
-    size_stays c.args.core.now c.attend.new.core moves.events g.E.Extent.bytes moves.runs c.requires.size
+    size_stays c.args.core.now c.attend.new.core moves.events g.E.Extent.bytes (runs_of _ _ _ _ moves.runs) c.requires.size
 
 pub turns-preserved : goal.turns-preserved
 turns-preserved g c =
@@ -63,8 +65,8 @@ turns-preserved g c =
     (g.O.Write.contents (device_of c.attend.new.sender)) in
     let beyond = stand c.attend_alone.new.core (received_by c.attend_alone.new.inbox)
     (g.O.Write.contents (device_of c.attend_alone.new.sender)) in
-    let first : IsStretch (stretch.Turns c.in-Turns.next) here there = c.in-Turns.ensures.stretch in
-    let second : IsStretch (stretch.Turns c.in-Turns-attend_alone.next) there beyond =
+    let first : IsStretch (IsResult g.T.Target.follows) (stretch.Turns c.in-Turns.next) here there = c.in-Turns.ensures.stretch in
+    let second : IsStretch (IsResult g.T.Target.follows) (stretch.Turns c.in-Turns-attend_alone.next) there beyond =
     c.in-Turns-attend_alone.ensures.stretch in
     let read : ReadsFurther g.I.Read.remaining c.turns.side c.join-side-in-turns.result =
     rw c.in-Ok.ensures.ok at c.join-side-in-turns.ensures.0 in
@@ -84,7 +86,7 @@ returns-in-Ended-attend_alone-clause-ends g c =
     (g.O.Write.contents (device_of c.attend.new.sender)) in
     let beyond = stand c.attend_alone.new.core (received_by c.attend_alone.new.inbox)
     (g.O.Write.contents (device_of c.attend_alone.new.sender)) in
-    let first : IsStretch (stretch.Turns c.in-Turns.next) here there = c.in-Turns.ensures.stretch in
+    let first : IsStretch (IsResult g.T.Target.follows) (stretch.Turns c.in-Turns.next) here there = c.in-Turns.ensures.stretch in
     ends_on c.in-Ended-attend_alone.result start there beyond
     (moves_on start here there c.turns.invariant.moves first.0) c.in-Ended-attend_alone.ensures.stretch
 

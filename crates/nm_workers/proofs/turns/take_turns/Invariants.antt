@@ -1,13 +1,14 @@
 -- So far the session went on.
 use Rattle.nm_mailbox.specs.Ends.{received_by, IsSameEnd, IsSameInbox}
 use Rattle.nm_replies.specs.Sending.{device_of}
+use Rattle.nm_workers.specs.Results.{IsResult}
 use Rattle.nm_workers.specs.Moving.{stand, Moves, IsKnown}
 use Rattle.nm_workers.specs.Reading.{ReadsFurther}
 use Rattle.nm_workers.proofs.turns.take_turns.Given as goal
 
 abbrev pub invariant-turns : goal.invariant-turns
 invariant-turns g l = record {
-  moves : Moves
+  moves : Moves (IsResult g.T.Target.follows)
       (stand l.fn.core (received_by l.fn.inbox) (g.O.Write.contents (device_of l.fn.sender)))
       (stand l.core (received_by l.inbox) (g.O.Write.contents (device_of l.sender)));
   known : IsKnown l.input (received_by l.inbox);
