@@ -3,25 +3,33 @@ use Rattle.std.specs.Prelude.{◌≡◌, ◌<◌, ◌≤◌, ℕ, ◌^◌, List,
 use Rattle.std.specs.Str.Parse.{IsNumeral, digits_value}
 use Rattle.nm_commands.specs.declared.control_command.ControlCommand.{ControlCommand}
 use Rattle.nm_commands.specs.declared.control_command.ControlCommand.TheVariants.{Status, Fail}
-use Rattle.nm_commands.specs.declared.control_command.ControlCommand.TheVariants.{Attach, Quit, Bad}
+use Rattle.nm_commands.specs.declared.control_command.ControlCommand.TheVariants.{Attach, Quit}
+use Rattle.nm_commands.specs.declared.control_command.ControlCommand.TheVariants.{QuitWithin, Bad}
 
--- The word names a leg: 1 to 20 decimal digits of this number, which fits 64 bits.
-pub record NamesLeg (word : List ℕ) (leg : ℕ) : Type 0 where
+-- The word is this number: 1 to 20 decimal digits of it, and it fits 64 bits.
+pub record IsNumeralOf (word : List ℕ) (number : ℕ) : Type 0 where
   pub digits : IsNumeral 10 word
   pub few : length word ≤ 20
-  pub value : digits_value 10 word ≡ leg
-  pub fits : leg < 2 ^ 64
+  pub value : digits_value 10 word ≡ number
+  pub fits : number < 2 ^ 64
 
--- The line is this beginning and the name of a leg.
-abbrev pub IsOfLeg : List ℕ → List ℕ → ℕ → Type 0
-IsOfLeg start line leg = (word : List ℕ) × (line ≡ start ++ word) × NamesLeg word leg
+-- The line is this beginning and a number.
+abbrev pub IsWithNumber : List ℕ → List ℕ → ℕ → Type 0
+IsWithNumber start line number =
+    (word : List ℕ) × (line ≡ start ++ word) × IsNumeralOf word number
+
+-- The line asks for an end within so many seconds, a day at most.
+pub record IsQuitWithin (line : List ℕ) (seconds : ℕ) : Type 0 where
+  pub number : IsWithNumber (codes "quit ") line seconds
+  pub bound : seconds ≤ 86400
 
 -- The line asks for this.
 abbrev pub Asks : List ℕ → ControlCommand → Type 0
 Asks line Status = line ≡ codes "status"
-Asks line (Fail leg) = IsOfLeg (codes "fail ") line leg
-Asks line (Attach leg) = IsOfLeg (codes "attach ") line leg
+Asks line (Fail leg) = IsWithNumber (codes "fail ") line leg
+Asks line (Attach leg) = IsWithNumber (codes "attach ") line leg
 Asks line Quit = line ≡ codes "quit"
+Asks line (QuitWithin seconds) = IsQuitWithin line seconds
 Asks line Bad = ⊥
 
 -- The line is read as what it asks for, or as bad where it asks for nothing.

@@ -1,8 +1,11 @@
 //! The lines of the control port.
 ghost use Rattle.std.specs.Prelude.{◌≡◌, ℕ, List, ◌++◌, IfSome, IsNone};
-ghost use Rattle.nm_commands.specs.ControlLine.{IsOfLeg, IsReadAs, NamesLeg};
+ghost use Rattle.nm_commands.specs.ControlLine.{IsNumeralOf, IsQuitWithin, IsReadAs, IsWithNumber};
 
 use std::str::from_utf8;
+
+/// How many seconds a `quit` gives the clients at most: a day.
+const MOST_SECONDS: u64 = 86_400;
 
 /// What a line asks for.
 #[derive(Clone, Copy, Debug, PartialEq, Eq)]
@@ -13,17 +16,19 @@ pub enum ControlCommand {
     Fail(u64),
     /// The leg is to be copied again in every stripe.
     Attach(u64),
-    /// The server ends.
+    /// The server ends once its clients have left.
     Quit,
+    /// The server ends, and after so many seconds closes what is left of its clients.
+    QuitWithin(u64),
     /// Nothing that is known.
     Bad,
 }
 
-// The leg that a word names: 1 to 20 decimal digits, of a number below 2^64. `parse` alone would
+// The number that a word is: 1 to 20 decimal digits, of a number below 2^64. `parse` alone would
 // take a plus before them.
-fn leg_number(word: &[u8]) -> Option<u64>
-    ensures some { IfSome result (λ leg. NamesLeg word.now leg) }
-    ensures none { IsNone result → (leg : ℕ) → NamesLeg word.now leg → ⊥ }
+fn number_of(word: &[u8]) -> Option<u64>
+    ensures some { IfSome result (λ number. IsNumeralOf word.now number) }
+    ensures none { IsNone result → (number : ℕ) → IsNumeralOf word.now number → ⊥ }
 {
     if word.len() > 20 || word.starts_with(b"+") {
         return None;
@@ -46,12 +51,24 @@ fn after<'a>(line: &'a [u8], start: &[u8]) -> Option<&'a [u8]>
     if head == start { Some(word) } else { None }
 }
 
-// The leg that a line of this beginning names.
-fn leg_after(line: &[u8], start: &[u8]) -> Option<u64>
-    ensures some { IfSome result (λ leg. IsOfLeg start.now line.now leg) }
-    ensures none { IsNone result → (leg : ℕ) → IsOfLeg start.now line.now leg → ⊥ }
+// The number that follows this beginning of a line.
+fn number_after(line: &[u8], start: &[u8]) -> Option<u64>
+    ensures some { IfSome result (λ number. IsWithNumber start.now line.now number) }
+    ensures none { IsNone result → (number : ℕ) → IsWithNumber start.now line.now number → ⊥ }
 {
-    leg_number(after(line, start)?)
+    number_of(after(line, start)?)
+}
+
+// The seconds within which a line asks the server to end.
+fn quit_within(line: &[u8]) -> Option<u64>
+    ensures some { IfSome result (IsQuitWithin line.now) }
+    ensures none { IsNone result → (seconds : ℕ) → IsQuitWithin line.now seconds → ⊥ }
+{
+    let seconds = number_after(line, b"quit ")?;
+    if seconds > MOST_SECONDS {
+        return None;
+    }
+    Some(seconds)
 }
 
 /// Reads a line, without its LF.
@@ -64,11 +81,14 @@ pub fn control_line(line: &[u8]) -> ControlCommand
     if line == b"quit".as_slice() {
         return ControlCommand::Quit;
     }
-    if let Some(leg) = leg_after(line, b"fail ") {
+    if let Some(leg) = number_after(line, b"fail ") {
         return ControlCommand::Fail(leg);
     }
-    if let Some(leg) = leg_after(line, b"attach ") {
+    if let Some(leg) = number_after(line, b"attach ") {
         return ControlCommand::Attach(leg);
     }
-    ControlCommand::Bad
+    match quit_within(line) {
+        Some(seconds) => ControlCommand::QuitWithin(seconds),
+        None => ControlCommand::Bad,
+    }
 }

@@ -2,6 +2,7 @@ use Rattle.std.proofs.Common.{rules, refl}
 use Rattle.nm_commands.proofs.Lines.{asks_nothing}
 use Rattle.nm_commands.proofs.control_command.control_line.Goals as goal
 
-pub returns : goal.returns
-returns c = asks_nothing c.args.line.now (λ same. search rules) (λ same. search rules)
-    (c.in_default.ensures.none refl) (c.in_default-leg_after.ensures.none refl)
+pub returns-in-None : goal.returns-in-None
+returns-in-None c = asks_nothing c.args.line.now (λ same. search rules) (λ same. search rules)
+    (c.in_default.ensures.none refl) (c.in_default-number_after.ensures.none refl)
+    (c.in-None.ensures.none refl)
