@@ -8,6 +8,7 @@
 
 pub use asking::{ask, ask_read};
 pub use counts::{AttachCounts, FailCounts};
+pub use glance::Glance;
 pub use lock::Lock;
 pub use mirror::Mirror;
 pub use nm_geometry::Shape;
@@ -28,6 +29,7 @@ mod asking;
 mod calls;
 mod closing;
 mod counts;
+mod glance;
 mod legs;
 mod lock;
 mod mirror;

@@ -18,7 +18,7 @@ type Line = [u64; 8];
 ///
 /// It lends the stripe to nobody outside: each step takes it once. Beside it stand whether
 /// something was written since the last sync began, and how many long calls are at work in the
-/// mirror where the stripe is its first. No cache line has parts of two locks, since threads at
+/// mirror where the stripe is its first, and how many threads have slept for it. No cache line has parts of two locks, since threads at
 /// work on two stripes would else take it from one another.
 #[derive(Drop)]
 #[repr(C)]
@@ -27,6 +27,7 @@ pub struct Lock<L: LegPart> {
     pub(crate) stripe: Mutex<Stripe<L>>,
     unsynced: AtomicBool,
     calls: AtomicU64,
+    got: AtomicU64,
     after: Line,
 }
 
@@ -38,6 +39,7 @@ impl<L: LegPart> Lock<L> {
             stripe: Mutex::new(stripe),
             unsynced: AtomicBool::new(false),
             calls: AtomicU64::new(0),
+            got: AtomicU64::new(0),
             after: [0; 8],
         }
     }
@@ -66,7 +68,20 @@ impl<L: LegPart> Lock<L> {
                 return guard;
             }
         }
-        self.stripe.lock(rt)
+        let guard = self.stripe.lock(rt);
+        self.got.fetch_add(1, Ordering::SeqCst);
+        guard
+    }
+
+    /// Takes the stripe, unless somebody has it or waits for it right now.
+    pub(crate) fn try_hold(&self) -> Option<MutexGuard<'_, Stripe<L>>> {
+        self.stripe.try_lock()
+    }
+
+    /// How many threads have slept for the stripe and got it. Where this goes up, the stripe goes
+    /// from hand to hand, though a try may find it taken each time.
+    pub(crate) fn got(&self) -> u64 {
+        self.got.load(Ordering::SeqCst)
     }
 
     /// Whether somebody has the stripe right now.

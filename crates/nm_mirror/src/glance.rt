@@ -1,0 +1,129 @@
+//! What each stripe is doing, without waiting for one whose leg does not answer.
+ghost use Rattle.std.specs.Prelude.{◌≡◌, length, IfOk};
+
+use crate::lock::Lock;
+use crate::mirror::Mirror;
+use crate::status::{StripeStatus, status_of};
+use nm_lanes::Gate;
+use nm_leg::LegPart;
+use nm_replay::Memory;
+use std::alloc::Global;
+use std::fmt;
+use std::sync::Wait;
+use std::thread;
+use std::time::{Clock, Duration, Instant};
+
+/// How many milliseconds a stripe must stay taken to be told as busy.
+const HELD_MILLISECONDS: u64 = 500;
+
+/// After how many milliseconds each stripe that could not be had yet is told as busy.
+const ALL_MILLISECONDS: u64 = 1_500;
+
+/// How many milliseconds pass from one look to the next.
+const PAUSE_MILLISECONDS: u64 = 2;
+
+/// How often the stripes are looked at, at most.
+const MOST_LOOKS: u64 = ALL_MILLISECONDS / PAUSE_MILLISECONDS;
+
+/// What a stripe is doing, unless somebody has had it for half a second.
+///
+/// It prints as the stripe's status, or as `busy`.
+#[derive(Drop)]
+pub struct Glance {
+    told: Option<StripeStatus>,
+    // How many threads had waited for the stripe and got it, at the first look.
+    got: u64,
+    // Whether it is still to be looked at.
+    is_open: bool,
+}
+
+impl Glance {
+    /// What the stripe is doing, unless it is busy.
+    pub fn told(&self) -> Option<&StripeStatus> {
+        self.told.as_ref()
+    }
+
+    // Looks at the stripe, if nobody has it right now. Where the same thread may have had it since
+    // the first look, it stays busy once that is `long` ago.
+    fn look<L: LegPart>(&mut self, lock: &Lock<L>, alloc: Global, long: bool) -> Result<(), Memory> {
+        match lock.try_hold() {
+            Some(stripe) => {
+                self.told = Some(status_of(&stripe, alloc)?);
+                self.is_open = false;
+            }
+            None => self.is_open = !long || lock.got() != self.got,
+        }
+        Ok(())
+    }
+}
+
+impl fmt::Display for Glance {
+    fn fmt<W: fmt::Write>(&self, f: &mut fmt::Formatter<W>) -> fmt::Result {
+        match &self.told {
+            Some(status) => status.fmt(f),
+            None => f.write_str("busy"),
+        }
+    }
+}
+
+// Looks once at each stripe that is to be looked at. Whether some are left.
+fn look_once<L: LegPart>(
+    locks: &[Lock<L>],
+    glances: &mut [Glance],
+    alloc: Global,
+    long: bool,
+) -> Result<bool, Memory> {
+    let mut some_left = false;
+    for (lock, glance) in locks.iter().zip(glances.iter_mut()) {
+        if glance.is_open {
+            glance.look(lock, alloc, long)?;
+            some_left = some_left || glance.is_open;
+        }
+    }
+    Ok(some_left)
+}
+
+// Looks at the stripes until each was seen or is busy.
+fn look_all<R: Clock, L: LegPart>(
+    rt: &R,
+    locks: &[Lock<L>],
+    glances: &mut [Glance],
+    alloc: Global,
+) -> Result<(), Memory> {
+    let begun = Instant::now(rt).ok();
+    for _ in 0..MOST_LOOKS {
+        let passed = match begun {
+            Some(begun) => begun.elapsed(rt).unwrap_or(Duration::ZERO),
+            None => Duration::ZERO,
+        };
+        let long = passed >= Duration::from_millis(HELD_MILLISECONDS);
+        if !look_once(locks, glances, alloc, long)? {
+            return Ok(());
+        }
+        if passed >= Duration::from_millis(ALL_MILLISECONDS) {
+            return Ok(());
+        }
+        thread::sleep(rt, Duration::from_millis(PAUSE_MILLISECONDS));
+    }
+    Ok(())
+}
+
+impl<L: LegPart, G: Gate + Drop> Mirror<L, G> {
+    /// What each stripe is doing, by rising number of the stripes, within about a second and a half
+    /// however many of them stay taken.
+    pub fn glance<R: Wait + Clock>(&self, rt: &R, alloc: Global) -> Result<Vec<Glance>, Memory>
+        ensures { IfOk result (λ all. length all.items ≡ length self.now.locks.items) }
+    {
+        let mut all = Vec::new(alloc);
+        all.reserve(self.locks.len())?;
+        for lock in &self.locks {
+            all.push_reserved(Glance {
+                told: None,
+                got: lock.got(),
+                is_open: true,
+            });
+        }
+        look_all(rt, &self.locks, all.as_mut_slice(), alloc)?;
+        Ok(all)
+    }
+}
