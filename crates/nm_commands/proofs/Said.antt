@@ -1,5 +1,5 @@
 -- What the getters of matches give is what the rows of the command line have.
-use Rattle.std.proofs.Common.{◌≡◌, ◌∙◌, ℕ, List, Some, Bool, true, false, option_map, refl, ap, sym, codes, inl, inr, Result, Ok, Err, IsErrAnd, IfErr}
+use Rattle.std.proofs.Common.{◌≡◌, ◌∙◌, ℕ, List, Option, None, Some, IfSome, Bool, true, false, option_map, refl, ap, sym, codes, inl, inr, Result, Ok, Err, IsErrAnd, IfErr}
 use Rattle.std.specs.Borrow.{Bor}
 use Rattle.clap.specs.Words.{App, HasKind, Row, Text, fault_of, is_simple, is_simple_and_free, first_of, one_of, all_of, first_value, one_text, matched_of, raw_values, rows_of}
 use Rattle.clap.specs.declared.parser.matches.Found.{Found}
@@ -8,7 +8,7 @@ use Rattle.clap.proofs.OnLiterals.{clap_on_literals}
 use Rattle.nm_commands.specs.CommandLine.{nbdmirror}
 use Rattle.clap.specs.declared.error.Error.{Error}
 use Rattle.nm_commands.specs.CommandLine.{ArePolicies, AreStarts}
-use Rattle.nm_commands.specs.Settings.{IsNumber, IsRefusal, HasFlag}
+use Rattle.nm_commands.specs.Settings.{IsNumber, IsRefusal, HasFlag, NamesMaster}
 
 pub simple : (policies starts : Bor (List (Bor Text))) →
     is_simple (nbdmirror policies starts) ≡ true
@@ -49,6 +49,13 @@ said_number f rows id n e h = record {
   numeral = h.numeral;
   value = h.value;
 }
+
+pub said_master : (f : Found) (rows : List Row) (master : Option ℕ) → rows_of f ≡ rows →
+    IfSome master (λ leg. IsNumber (one_text f (codes "master")) leg) →
+    (master ≡ None → first_value f (codes "master") ≡ None) → NamesMaster rows master
+said_master f rows (Some leg) e some none = said_number f rows (codes "master") leg e some
+said_master f rows None e some none =
+    sym (first_value-rows f (codes "master") ∙ ap (first_of (codes "master")) e) ∙ none refl
 
 pub said_flag : (f : Found) (rows : List Row) (id : Text) (flag : Bool) → rows_of f ≡ rows →
     ((one_text f id ≡ Some (codes "true")) → flag ≡ true) →

@@ -19,6 +19,15 @@ parsed_rule id default parser = record (option_rule id default) { parser = Some 
 abbrev pub number_rule : Text → Text → ℤ → ℤ → Rule
 number_rule id default least most = parsed_rule id default (vp.Signed least most)
 
+-- The option --ID with one value, a number from `least` to `most`, and none where the words have
+-- none.
+abbrev pub bare_number_rule : Text → ℤ → ℤ → Rule
+bare_number_rule id least most = record (new_rule id) {
+  long = Some id;
+  value_names = 1;
+  parser = Some (vp.Signed least most);
+}
+
 -- The option --ID, without a value.
 abbrev pub flag_rule : Text → Rule
 flag_rule id = record (new_rule id) { long = Some id; action = Some SetTrue }
@@ -52,12 +61,14 @@ abbrev pub mirror_command : (policies starts : Bor (List (Bor Text))) → App
 mirror_command policies starts = with_rule (with_rule (with_rule (with_rule base_command
     (number_rule (codes "stripes") (codes "16") (pos 1) (pos 64)))
     (parsed_rule (codes "policy") (codes "round-robin") (vp.Names policies)))
-    (number_rule (codes "master") (codes "0") (pos 0) (pos 7)))
+    (bare_number_rule (codes "master") (pos 0) (pos 7)))
     (parsed_rule (codes "start") (codes "compare") (vp.Names starts))
 
 -- The command line, with its options' defaults and ranges.
 abbrev pub nbdmirror : (policies starts : Bor (List (Bor Text))) → App
-nbdmirror policies starts = with_rule (with_rule (with_rule (mirror_command policies starts)
+nbdmirror policies starts =
+    with_rule (with_rule (with_rule (with_rule (mirror_command policies starts)
     (number_rule (codes "sessions") (codes "16") (pos 1) (pos 64)))
     (flag_rule (codes "read-only")))
+    (flag_rule (codes "force-in-use")))
     (words_rule (codes "leg"))

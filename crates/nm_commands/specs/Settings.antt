@@ -1,5 +1,5 @@
 -- What the words of a command line ask for.
-use Rattle.std.specs.Prelude.{◌≡◌, ◌⊎◌, ℕ, Bool, true, false, List, [], map, Option, Some}
+use Rattle.std.specs.Prelude.{◌≡◌, ◌⊎◌, ℕ, Bool, true, false, List, [], map, Option, None, Some}
 use Rattle.std.specs.Prelude.{codes}
 use Rattle.std.specs.Borrow.{Bor}
 use Rattle.std.specs.Str.Parse.{IsNumeral, digits_value, without_leading_plus}
@@ -31,6 +31,11 @@ pub record IsNumber (found : Option Text) (number : ℕ) : Type 0 where
   pub numeral : IsNumeral 10 (without_leading_plus text)
   pub value : digits_value 10 (without_leading_plus text) ≡ number
 
+-- The master is the leg that the rows name, and none where they name none.
+abbrev pub NamesMaster : List Row → Option ℕ → Type 0
+NamesMaster rows (Some leg) = IsNumber (one_of (codes "master") rows) leg
+NamesMaster rows None = first_of (codes "master") rows ≡ None
+
 -- The flag is set where the rows have it as true.
 abbrev pub HasFlag : List Row → Text → Bool → Type 0
 HasFlag rows id flag = (one_of id rows ≡ Some (codes "true") → flag ≡ true)
@@ -43,10 +48,11 @@ pub record HasSettings (rows : List Row) (s : Settings) : Type 0 where
   pub name : first_of (codes "name") rows ≡ Some s.name.now
   pub stripes : IsNumber (one_of (codes "stripes") rows) s.stripes
   pub policy : first_of (codes "policy") rows ≡ Some (policy_text s.policy)
-  pub master : IsNumber (one_of (codes "master") rows) s.master
+  pub master : NamesMaster rows s.master
   pub start : first_of (codes "start") rows ≡ Some (start_text s.start)
   pub sessions : IsNumber (one_of (codes "sessions") rows) s.sessions
   pub read_only : HasFlag rows (codes "read-only") s.read_only
+  pub force_in_use : HasFlag rows (codes "force-in-use") s.force_in_use
   pub legs : all_of (codes "leg") rows ≡ Some (map (λ leg. leg.now) s.legs.items)
 
 -- The settings are those that the words of a command line ask for, with the defaults for the rest.

@@ -1,11 +1,12 @@
 //! The command line of `nbdmirror`.
 ghost use Rattle.std.specs.Prelude.{◌≡◌, ◌≤◌, ◌^◌, ◌<◌, ℕ, List, IfErr, IfOk, Ok};
-ghost use Rattle.std.specs.Prelude.{map, length, codes, false, option_map, Some};
+ghost use Rattle.std.specs.Prelude.{map, length, codes, false, option_map, None, Some, IfSome};
 ghost use Rattle.clap.specs.declared.builder.value_parser.ValueParser.TheVariants.{Names};
 ghost use Rattle.clap.specs.Words.{app_of, kind_of, rule_of, first_value, found_of, one_text};
 ghost use Rattle.clap.specs.Words.{matched_of, raw_values, rows_of};
 ghost use Rattle.clap.specs.declared.error.kind.ErrorKind.TheVariants.{OutOfMemory};
-ghost use Rattle.nm_commands.specs.CommandLine.{ArePolicies, AreStarts, base_command};
+ghost use Rattle.nm_commands.specs.CommandLine.{ArePolicies, AreStarts, bare_number_rule};
+ghost use Rattle.nm_commands.specs.CommandLine.{base_command};
 ghost use Rattle.nm_commands.specs.CommandLine.{mirror_command};
 ghost use Rattle.nm_commands.specs.CommandLine.{flag_rule, nbdmirror, number_rule};
 ghost use Rattle.nm_commands.specs.CommandLine.{option_rule, parsed_rule, words_rule};
@@ -51,6 +52,24 @@ fn number_option<'a>(
     ensures own { result.global ≡ false }
 {
     option(alloc, id, default, "N", help).value_parser(ValueParser::Signed(least, most))
+}
+
+// An option without a default, whose value is a number in a range.
+fn bare_number_option<'a>(
+    alloc: Global,
+    id: &'a str,
+    least: i64,
+    most: i64,
+    help: &'a str,
+) -> Arg<'a>
+    ensures rule { rule_of result ≡ bare_number_rule id.entry.now least most }
+    ensures own { result.global ≡ false }
+{
+    Arg::new(alloc, id)
+        .long(id)
+        .value_name("N")
+        .value_parser(ValueParser::Signed(least, most))
+        .help(help)
 }
 
 // The option that names the policy.
@@ -148,13 +167,12 @@ fn mirror_command<'a>(alloc: Global) -> Result<Command<'a>, Error>
     let with_stripes = program.arg(stripes)?;
     let policy = policy_option(alloc);
     let with_policy = with_stripes.arg(policy)?;
-    let master = number_option(
+    let master = bare_number_option(
         alloc,
         "master",
-        "0",
         0,
         7,
-        "the leg with the newest contents",
+        "the leg with the newest contents, needed where legs differ",
     );
     let with_master = with_policy.arg(master)?;
     let start = start_option(alloc);
@@ -172,13 +190,19 @@ fn command_line<'a>(alloc: Global) -> Result<Command<'a>, Error>
     let sessions = number_option(alloc, "sessions", "16", 1, 64, "how many clients at once");
     let with_sessions = program.arg(sessions)?;
     let read_only = flag(alloc, "read-only", "refuse writes");
-    let with_flag = with_sessions.arg(read_only)?;
+    let with_read_only = with_sessions.arg(read_only)?;
+    let force_in_use = flag(
+        alloc,
+        "force-in-use",
+        "serve legs that are mounted or otherwise in use",
+    );
+    let with_flags = with_read_only.arg(force_in_use)?;
     let legs = words(
         alloc,
         "leg",
         "the legs' files, from leg 0 on, all of one length",
     );
-    let command = with_flag.arg(legs)?;
+    let command = with_flags.arg(legs)?;
     Ok(command)
 }
 
@@ -214,6 +238,20 @@ fn policy(matches: &ArgMatches<'_>) -> Result<Policy, Error>
         "round-robin" => Ok(Policy::RoundRobin),
         "striped" => Ok(Policy::Striped),
         _ => Err(Error::from(AllocError)),
+    }
+}
+
+// The leg that is named as the master, if one is.
+fn master(matches: &ArgMatches<'_>) -> Result<Option<u8>, Error>
+    ensures some { IfOk result (λ master. IfSome master (λ leg.
+        IsNumber (one_text (found_of matches.now) (codes "master")) leg)) }
+    ensures none { IfOk result (λ master. master ≡ None
+        → first_value (found_of matches.now) (codes "master") ≡ None) }
+    ensures memory { IfErr result (λ error. kind_of error ≡ OutOfMemory) }
+{
+    match matches.get_str("master") {
+        None => Ok(None),
+        Some(_) => Ok(Some(number(matches, "master")?)),
     }
 }
 
@@ -259,10 +297,11 @@ fn settings_of<'a>(alloc: Global, matches: &ArgMatches<'a>) -> Result<Settings<'
     let name = text(matches, "name")?;
     let stripes = number(matches, "stripes")?;
     let policy = policy(matches)?;
-    let master = number(matches, "master")?;
+    let master = master(matches)?;
     let start = start_of(matches)?;
     let sessions = number(matches, "sessions")?;
     let read_only = matches.get_flag("read-only");
+    let force_in_use = matches.get_flag("force-in-use");
     let legs = legs_of(alloc, matches)?;
     Ok(Settings {
         listen,
@@ -274,6 +313,7 @@ fn settings_of<'a>(alloc: Global, matches: &ArgMatches<'a>) -> Result<Settings<'
         start,
         sessions,
         read_only,
+        force_in_use,
         legs,
     })
 }

@@ -14,14 +14,16 @@ pub struct Settings<'a> {
     pub stripes: u8,
     /// Which leg a read takes.
     pub policy: Policy,
-    /// The leg that is in sync at the start.
-    pub master: u8,
+    /// The leg with the newest contents, where one was named.
+    pub master: Option<u8>,
     /// How the other legs stand at the start.
     pub start: Start,
     /// How many sessions may be served at once.
     pub sessions: u8,
     /// Whether clients may only read.
     pub read_only: bool,
+    /// Whether legs are served that the system has in use.
+    pub force_in_use: bool,
     /// The legs' file names, from leg 0 on.
     pub legs: Vec<&'a str>,
 }

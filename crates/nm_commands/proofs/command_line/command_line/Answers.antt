@@ -8,9 +8,11 @@ returns-clause-ok c =
     let line = c.in_ok-program.ensures.ok in
     let one = c.in_ok-with_sessions.ensures.shape c.number_option-sessions.ensures.own
     ∙ ap₂ with_rule line.2.2 c.number_option-sessions.ensures.rule in
-    let two = c.in_ok-with_flag.ensures.shape c.flag-read_only.ensures.own
+    let two = c.in_ok-with_read_only.ensures.shape c.flag-read_only.ensures.own
     ∙ ap₂ with_rule one c.flag-read_only.ensures.rule in
+    let three = c.in_ok-with_flags.ensures.shape c.flag-force_in_use.ensures.own
+    ∙ ap₂ with_rule two c.flag-force_in_use.ensures.rule in
     let all : app_of c.in_ok-command.command ≡ nbdmirror line.0 line.2.0 =
     c.in_ok-command.ensures.shape c.words-legs.ensures.own
-    ∙ ap₂ with_rule two c.words-legs.ensures.rule in
+    ∙ ap₂ with_rule three c.words-legs.ensures.rule in
     (line.0, line.1, (line.2.0, line.2.1, all))

@@ -11,8 +11,8 @@ returns-clause-ok c =
     ∙ ap₂ with_rule c.in_ok-program.ensures.ok c.number_option-stripes.ensures.rule in
     let two = c.in_ok-with_policy.ensures.shape c.policy_option-policy.ensures.own
     ∙ ap₂ with_rule one policy.2 in
-    let three = c.in_ok-with_master.ensures.shape c.number_option-master.ensures.own
-    ∙ ap₂ with_rule two c.number_option-master.ensures.rule in
+    let three = c.in_ok-with_master.ensures.shape c.bare_number_option-master.ensures.own
+    ∙ ap₂ with_rule two c.bare_number_option-master.ensures.rule in
     let all : app_of c.in_ok-command.command ≡ mirror_command policy.0 start.0 =
     c.in_ok-command.ensures.shape c.start_option-start.ensures.own
     ∙ ap₂ with_rule three start.2 in
