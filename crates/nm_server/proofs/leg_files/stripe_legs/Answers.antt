@@ -5,7 +5,7 @@ use Rattle.nm_server.proofs.Pushing.{has-one-more, all-more}
 use Rattle.nm_server.proofs.leg_files.stripe_legs.Goals as goal
 
 pub loop-number-preserved : goal.loop-number-preserved
-loop-number-preserved g c =
+loop-number-preserved c =
     let went : is_ok c.push.result ≡ true =
     c.is_err.ensures.negation ∙ ap not c.if-is_err.false in
     let pushed = has-one-more (is_ok c.push.result) c.loop-number.legs.items
