@@ -7,5 +7,3 @@ mod command_lines;
 mod control_lines;
 #[cfg(test)]
 mod mirror_sessions;
-#[cfg(test)]
-mod whole_server;
