@@ -2,7 +2,7 @@
 ghost use Rattle.std.specs.Prelude.{◌≡◌, ◌≤◌, length, IfOk};
 
 use bytes::{Bytes, BytesMut};
-use nm_fanout::{Data, LEGS, MOST_RECORDS, Record, RecordData, Records};
+use nm_fanout::{Data, LEGS, MOST_RECORDS, Records};
 use nm_replay::Block;
 use std::alloc::{AllocError, Global};
 use std::process::Abort;
@@ -40,46 +40,12 @@ fn legs_1_and_2() -> [bool; LEGS] {
     [false, true, true, false, false, false, false, false]
 }
 
-/// Of the eight legs these two are owed.
-fn legs_2_and_7() -> [bool; LEGS] {
-    [false, false, true, false, false, false, false, true]
-}
-
 /// A write of block 3 under way, under ticket 7, that owes legs 0 and 1.
 fn begin_one(alloc: Global) -> Result<Records, Fail> {
     let mut records = Records::new(alloc)?;
     let data = Data::Cut(cut(alloc, 0xaa)?);
     records.begin(7, 3, data, &Block::ZERO, legs_0_and_1());
     Ok(records)
-}
-
-/// The write of block 3 under ticket 7 alone is under way.
-fn compare_busy(rt: &impl Abort, records: &Records) {
-    assert_eq!(rt; records.len(), 1);
-    assert_eq!(rt; records.unlanded_count(), 1);
-    assert_eq!(rt; records.busy_on(3), Some(7));
-    assert_eq!(rt; records.busy_on(7), None);
-}
-
-/// The write under ticket 7 alone owes a leg, and leg 0 first.
-fn compare_first(rt: &impl Abort, records: &Records) {
-    assert_eq!(rt; records.next_owed(7), Some(0));
-    assert_eq!(rt; records.first_owed(), Some((7, 0)));
-    assert_eq!(rt; records.next_owed(3), None);
-}
-
-#[test]
-fn new_records_are_empty(rt: HostRuntime) -> Result<(), Fail> {
-    assert!(rt; Records::new(rt.alloc())?.is_empty());
-    Ok(())
-}
-
-#[test]
-fn a_write_owes_its_legs(rt: HostRuntime) -> Result<(), Fail> {
-    let records = begin_one(rt.alloc())?;
-    compare_busy(&rt, &records);
-    compare_first(&rt, &records);
-    Ok(())
 }
 
 /// The write at this place reaches a leg.
@@ -123,75 +89,6 @@ fn a_write_reaches_its_legs(rt: HostRuntime) -> Result<(), Fail> {
     Ok(())
 }
 
-/// Compares whom a record owes, which are legs 2 and 7.
-fn compare_owed(rt: &impl Abort, record: &Record) {
-    assert!(rt; record.owes(2) && record.owes(7));
-    assert!(rt; !record.owes(3) && !record.owes(8) && !record.owes(255));
-    assert_eq!(rt; record.owed_count(), 2);
-    assert!(rt; record.is_under_way());
-    assert_eq!(rt; record.lowest_owed(), Some(2));
-}
-
-/// Compares the record of a write of block 3.
-fn compare_record(rt: &impl Abort, record: &Record) {
-    assert_eq!(rt; record.block, 3);
-    assert_eq!(rt; record.data.bytes(), [0xaa; 512].as_slice());
-    compare_owed(rt, record);
-    assert_eq!(rt; record.entry, None);
-}
-
-#[test]
-fn a_record_lends_what_it_holds(rt: HostRuntime) -> Result<(), Fail> {
-    let mut records = Records::new(rt.alloc())?;
-    let data = Data::Cut(cut(rt.alloc(), 0xaa)?);
-    records.begin(7, 3, data, &Block::ZERO, legs_2_and_7());
-    assert!(rt; records.get(3).is_none());
-    compare_record(&rt, records.get(7).ok_or("the record of ticket 7")?);
-    Ok(())
-}
-
-#[test]
-fn a_write_of_zeroes_needs_no_buffer(rt: HostRuntime) -> Result<(), Fail> {
-    assert!(rt; Data::Zero.fits_block());
-    assert!(rt; !Data::Zero.is_part());
-    assert_eq!(rt; RecordData::Zero.bytes(), [0; 512].as_slice());
-    assert!(rt; !Data::Cut(Bytes::new()).fits_block());
-    Ok(())
-}
-
-#[test]
-fn a_part_fits_where_it_ends_inside_the_block(rt: HostRuntime) -> Result<(), Fail> {
-    assert!(rt; Data::ZeroPart { from: 0, len: 512 }.fits_block());
-    assert!(rt; Data::ZeroPart { from: 511, len: 1 }.fits_block());
-    assert!(rt; !Data::ZeroPart { from: 511, len: 2 }.fits_block());
-    assert!(rt; !Data::ZeroPart { from: 512, len: 0 }.fits_block());
-    let long = cut(rt.alloc(), 0xaa)?;
-    assert!(rt;
-        Data::Part {
-            from: 0,
-            bytes: long
-        }
-        .fits_block()
-    );
-    let long = cut(rt.alloc(), 0xaa)?;
-    assert!(rt;
-        !Data::Part {
-            from: 1,
-            bytes: long
-        }
-        .fits_block()
-    );
-    let none = Bytes::new();
-    assert!(rt;
-        !Data::Part {
-            from: 0,
-            bytes: none
-        }
-        .fits_block()
-    );
-    Ok(())
-}
-
 /// A write of the last two bytes of a block under way, and one of zeroes to all but the first and
 /// the last byte of another.
 fn begin_parts(rt: &impl Abort, alloc: Global) -> Result<Records, Fail> {
@@ -214,17 +111,6 @@ fn a_part_is_laid_over_what_the_block_holds(rt: HostRuntime) -> Result<(), Fail>
     laid[511] = 0xbb;
     let first = records.get(7).ok_or("the record of ticket 7")?;
     assert_eq!(rt; first.data.bytes(), laid.as_slice());
-    Ok(())
-}
-
-#[test]
-fn zeroes_are_laid_over_what_the_block_holds(rt: HostRuntime) -> Result<(), Fail> {
-    let records = begin_parts(&rt, rt.alloc())?;
-    let mut cleared = [0; 512];
-    cleared[0] = 0xaa;
-    cleared[511] = 0xaa;
-    let second = records.get(8).ok_or("the record of ticket 8")?;
-    assert_eq!(rt; second.data.bytes(), cleared.as_slice());
     Ok(())
 }
 
