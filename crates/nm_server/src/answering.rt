@@ -1,12 +1,15 @@
 //! The control port: lines in, lines out.
 
+use crate::ending::Quit;
 use nm_commands::{ControlCommand, Fed, LineRoom, control_line};
 use nm_lanes::Gate;
 use nm_leg::LegPart;
 use nm_mirror::Mirror;
 use std::alloc::{AllocError, Global};
+use std::io;
 use std::io::{Read, Write};
 use std::sync::Wait;
+use std::time::Clock;
 
 /// How many bytes of a connection are read at once.
 const ROOM: usize = 256;
@@ -16,21 +19,21 @@ const ROOM: usize = 256;
 enum After {
     GoOn,
     Close,
-    Quit,
+    Quit(Quit),
 }
 
 // The answer to `status`.
-fn put_status<R: Wait, L: LegPart, G: Gate + Drop>(
+fn put_status<R: Wait + Clock, L: LegPart, G: Gate + Drop>(
     rt: &R,
     alloc: Global,
     mirror: &Mirror<L, G>,
     text: &mut String,
 ) -> Result<(), AllocError> {
-    let Ok(stripes) = mirror.status(rt, alloc) else {
+    let Ok(stripes) = mirror.glance(rt, alloc) else {
         return Err(AllocError);
     };
-    for (stripe, status) in stripes.iter().enumerate() {
-        writeln!(text, "stripe {stripe}: {status}")?;
+    for (stripe, glance) in stripes.iter().enumerate() {
+        writeln!(text, "stripe {stripe}: {glance}")?;
     }
     text.push_str("end\n")
 }
@@ -71,8 +74,14 @@ fn put_attach<R: Wait, L: LegPart, G: Gate + Drop>(
     )
 }
 
+// Puts the answer to a `quit`. Where there is no memory for it, the server ends all the same.
+fn say_bye(quit: Quit, text: &mut String) -> After {
+    let _ = text.push_str("bye\n");
+    After::Quit(quit)
+}
+
 // Does what a line asks for, and puts the answer.
-fn do_line<R: Wait, L: LegPart, G: Gate + Drop>(
+fn do_line<R: Wait + Clock, L: LegPart, G: Gate + Drop>(
     rt: &R,
     alloc: Global,
     mirror: &Mirror<L, G>,
@@ -83,10 +92,8 @@ fn do_line<R: Wait, L: LegPart, G: Gate + Drop>(
         ControlCommand::Status => put_status(rt, alloc, mirror, text),
         ControlCommand::Fail(leg) => put_fail(rt, mirror, leg.min(255) as u8, text),
         ControlCommand::Attach(leg) => put_attach(rt, mirror, leg.min(255) as u8, text),
-        ControlCommand::Quit => {
-            let _ = text.push_str("bye\n");
-            return After::Quit;
-        }
+        ControlCommand::Quit => return say_bye(Quit::WhenTheyLeave, text),
+        ControlCommand::QuitWithin(seconds) => return say_bye(Quit::Within(seconds), text),
         ControlCommand::Bad => text.push_str("bad command\n"),
     };
     match put {
@@ -95,8 +102,14 @@ fn do_line<R: Wait, L: LegPart, G: Gate + Drop>(
     }
 }
 
+// Sends an answer. The flush tells the connection that it was sent.
+fn send<O: Write>(writer: &mut O, answer: &[u8]) -> io::Result<()> {
+    writer.write_all(answer)?;
+    writer.flush()
+}
+
 // Takes one byte of a connection, and answers the line that it ends.
-fn take_byte<R: Wait, O: Write, L: LegPart, G: Gate + Drop>(
+fn take_byte<R: Wait + Clock, O: Write, L: LegPart, G: Gate + Drop>(
     rt: &R,
     alloc: Global,
     room: &mut LineRoom,
@@ -115,40 +128,40 @@ fn take_byte<R: Wait, O: Write, L: LegPart, G: Gate + Drop>(
     if after == After::Close {
         return After::Close;
     }
-    let sent = writer.write_all(text.as_bytes());
+    let sent = send(writer, text.as_bytes());
     if sent.is_err() && after == After::GoOn {
         return After::Close;
     }
     after
 }
 
-/// Serves one connection of the control port to its end, and tells whether it asked the server to
-/// end.
+/// Serves one connection of the control port to its end, and tells how it asked the server to end,
+/// if it did.
 ///
 /// A line ends with LF and has at most 64 bytes without it. A longer one ends the connection, and
 /// nothing after it is run; so do an answer that cannot be written, and no memory for one. Bytes
 /// after the last LF are no line.
-pub fn control<R: Wait, I: Read, O: Write, L: LegPart, G: Gate + Drop>(
+pub fn control<R: Wait + Clock, I: Read, O: Write, L: LegPart, G: Gate + Drop>(
     rt: &R,
     alloc: Global,
     reader: &mut I,
     writer: &mut O,
     mirror: &Mirror<L, G>,
-) -> bool {
+) -> Option<Quit> {
     let mut room = LineRoom::new();
     let mut piece = [0u8; ROOM];
     for _ in rt.forever() {
         let Ok(count) = reader.read(&mut piece) else {
-            return false;
+            return None;
         };
         if count == 0 {
-            return false;
+            return None;
         }
         for byte in &piece[..count] {
             match take_byte(rt, alloc, &mut room, *byte, writer, mirror) {
                 After::GoOn => (),
-                After::Close => return false,
-                After::Quit => return true,
+                After::Close => return None,
+                After::Quit(quit) => return Some(quit),
             }
         }
     }

@@ -6,22 +6,29 @@
 
 mod answering;
 mod client_reader;
+mod client_writer;
+mod control_places;
 mod control_port;
+mod control_stream;
 mod counting_file;
+mod ending;
 mod file_calls;
-mod handshake_reader;
 mod hang_up;
 mod leg_files;
+mod log_lines;
 mod mirror_calls;
 mod mirror_target;
 mod program;
 mod progress;
 mod resync;
+mod serving;
 mod session_places;
 mod sessions;
 mod start_fault;
+mod timed_stream;
 
 pub use crate::answering::control;
+pub use crate::ending::Quit;
 pub use crate::file_calls::{
     FileCalls, flush_through, read_through, sync_through, write_through, zero_through,
 };

@@ -2,18 +2,17 @@
 ghost use Rattle.std.specs.Prelude.{◌≡◌};
 ghost use Rattle.nm_server.specs.StartFault.{status_of};
 
-use crate::control_port::serve_control;
 use crate::counting_file::BytesRead;
 use crate::leg_files::{FileMirror, Leg, LegFiles, stripe_legs};
+use crate::log_lines::LogLines;
 use crate::progress::{Comparison, tell_progress};
-use crate::resync::resynchronise;
-use crate::session_places::SessionPlaces;
-use crate::sessions::{AT_ONCE, ExportName, serve_place, take_clients};
+use crate::serving::serve_and_copy;
+use crate::sessions::{AT_ONCE, ExportName};
 use crate::start_fault::StartFault;
 use clap::Error;
 use clap::error::ErrorKind;
 use crossbeam_channel::bounded;
-use log::{Log, warn};
+use log::Log;
 use nm_commands::{Settings, settings};
 use nm_lanes::NoGate;
 use nm_mirror::{Mirror, OpenFault, Pass, Start, open_stripes};
@@ -23,7 +22,7 @@ use std::fs::File;
 use std::io::Write;
 use std::net::{Net, TcpListener, TcpStream};
 use std::rt::Files;
-use std::sync::atomic::{AtomicBool, AtomicU64, Ordering};
+use std::sync::atomic::AtomicU64;
 use std::sync::{Arc, Wait};
 use std::thread;
 use std::thread::Threads;
@@ -91,9 +90,10 @@ fn open_watched<'a, R>(
     alloc: Global,
     settings: &Settings<'a>,
     files: &LegFiles,
+    lines: &LogLines,
 ) -> Result<FileMirror, StartFault<'a>>
 where
-    R: Threads + Wait + Sync + Clock + Log + Files<File = File>,
+    R: Threads + Wait + Sync + Clock + Files<File = File>,
 {
     let Ok(read) = Arc::new(alloc, AtomicU64::new(0)) else {
         return Err(StartFault::Memory);
@@ -110,7 +110,7 @@ where
         read: &read,
     };
     thread::scope(thread::scope_env(), rt, |scope| {
-        let _ = scope.spawn(move || tell_progress(rt, &ended, &comparison));
+        let _ = scope.spawn(move || tell_progress(rt, alloc, &ended, &comparison, lines));
         let mirror = open_mirror(alloc, settings, files, &read);
         drop(comparing);
         mirror
@@ -147,77 +147,6 @@ fn passes_of<'a, R: Wait>(
     Ok(passes)
 }
 
-// Serves clients until the control port has heard `quit` and the last session has ended. False
-// where a thread could not be started.
-fn serve_all<R>(
-    rt: &R,
-    alloc: Global,
-    named: &ExportName<'_>,
-    listeners: (&TcpListener, &TcpListener),
-    mirror: &FileMirror,
-    passes: &mut [Pass<Leg>],
-    places: &SessionPlaces,
-) -> bool
-where
-    R: Threads + Wait + Sync + Copy + Clock + Log + Net<Listener = TcpListener, Stream = TcpStream>,
-{
-    let is_ending = AtomicBool::new(false);
-    let ending = &is_ending;
-    let (clients, control) = listeners;
-    thread::scope(thread::scope_env(), rt, |scope| {
-        for own in passes.chunks_mut(AT_ONCE) {
-            let start = scope.spawn(move || serve_place(rt, alloc, places, named, mirror, own));
-            if start.is_err() {
-                places.close(rt);
-                return false;
-            }
-        }
-        let start = scope.spawn(move || serve_control(rt, alloc, control, clients, mirror, ending));
-        if start.is_err() {
-            places.close(rt);
-            return false;
-        }
-        take_clients(rt, clients, places, ending);
-        places.close(rt);
-        true
-    })
-}
-
-// Serves until the last session has ended, while a thread copies legs.
-fn serve_and_copy<'a, R>(
-    rt: &R,
-    alloc: Global,
-    named: &ExportName<'_>,
-    listeners: (&TcpListener, &TcpListener),
-    mirror: &FileMirror,
-    passes: &mut [Pass<Leg>],
-) -> Result<(), StartFault<'a>>
-where
-    R: Threads + Wait + Sync + Copy + Clock + Log + Net<Listener = TcpListener, Stream = TcpStream>,
-{
-    let Ok(places) = SessionPlaces::new(alloc, passes.len() / AT_ONCE) else {
-        return Err(StartFault::Memory);
-    };
-    let has_ended = AtomicBool::new(false);
-    let ended = &has_ended;
-    let is_served = thread::scope(thread::scope_env(), rt, |scope| {
-        if scope
-            .spawn(move || resynchronise(rt, mirror, ended))
-            .is_err()
-        {
-            return false;
-        }
-        let is_served = serve_all(rt, alloc, named, listeners, mirror, passes, &places);
-        ended.store(true, Ordering::SeqCst);
-        is_served
-    });
-    if is_served {
-        Ok(())
-    } else {
-        Err(StartFault::Memory)
-    }
-}
-
 // Tells where the server listens.
 fn announce<O: Write>(out: &mut O, settings: &Settings<'_>) {
     let _ = writeln!(out, "listening on {}", settings.listen);
@@ -248,6 +177,7 @@ fn run<'a, R, O: Write>(
     alloc: Global,
     settings: &Settings<'a>,
     out: &mut O,
+    lines: &LogLines,
 ) -> Result<(), StartFault<'a>>
 where
     R: Threads
@@ -255,19 +185,23 @@ where
         + Sync
         + Copy
         + Clock
-        + Log
         + Files<File = File>
         + Net<Listener = TcpListener, Stream = TcpStream>,
 {
     let named = export_asked(settings)?;
     let files = LegFiles::open(rt, alloc, &settings.legs)?;
-    let mirror = open_watched(rt, alloc, settings, &files)?;
+    let mirror = open_watched(rt, alloc, settings, &files, lines)?;
     let mut passes = passes_of(rt, alloc, &mirror, settings.sessions)?;
     let clients = listen(rt, settings.listen)?;
     let control = listen(rt, settings.control)?;
     if !is_loopback(&control) {
         let port = settings.control;
-        warn!(rt; "the control port on {port} is open to other machines: it knows no passwords");
+        lines.warn(
+            rt,
+            format!(in alloc;
+                "the control port on {port} is open to other machines: it knows no passwords"
+            ),
+        );
     }
     announce(out, settings);
     serve_and_copy(
@@ -277,6 +211,7 @@ where
         (&clients, &control),
         &mirror,
         passes.as_mut_slice(),
+        lines,
     )?;
     close(alloc, mirror, passes, out)
 }
@@ -323,16 +258,23 @@ where
         + Wait
         + Sync
         + Copy
+        + Send
         + Clock
         + Log
         + Files<File = File>
-        + Net<Listener = TcpListener, Stream = TcpStream>,
+        + Net<Listener = TcpListener, Stream = TcpStream>
+        + 'static,
 {
     let settings = match settings(alloc, words) {
         Ok(settings) => settings,
         Err(error) => return tell_refusal(&error, err),
     };
-    match run(rt, alloc, &settings, out) {
+    let Ok(lines) = LogLines::start(rt, alloc) else {
+        return tell_fault(&StartFault::Memory, err);
+    };
+    let ended = run(rt, alloc, &settings, out, &lines);
+    lines.close(rt);
+    match ended {
         Ok(()) => 0,
         Err(fault) => tell_fault(&fault, err),
     }

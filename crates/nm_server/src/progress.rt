@@ -1,7 +1,8 @@
 //! Tells how far the comparison of the legs is.
 
+use crate::log_lines::LogLines;
 use crossbeam_channel::{Receiver, RecvTimeoutError};
-use log::{Log, info};
+use std::alloc::Global;
 use std::sync::Wait;
 use std::sync::atomic::{AtomicU64, Ordering};
 use std::time::{Clock, Duration, Instant};
@@ -25,24 +26,34 @@ pub struct Comparison<'a> {
 
 // Tells in a line how much was read in so many seconds, and how long the rest will take at that
 // rate.
-fn tell<R: Log>(rt: &R, comparison: &Comparison<'_>, seconds: u64) {
+fn tell<R: Wait>(
+    rt: &R,
+    alloc: Global,
+    comparison: &Comparison<'_>,
+    seconds: u64,
+    lines: &LogLines,
+) {
     let read = comparison.read.load(Ordering::SeqCst);
     let rate = read / seconds.max(1);
     let left = comparison.bytes.saturating_sub(read) / rate.max(1);
     let legs = comparison.legs;
     let (done, all) = (read / BLOCK_BYTES, comparison.bytes / BLOCK_BYTES);
     let mebibytes = rate >> 20;
-    info!(
-        rt;
-        "comparing {legs} legs: {done} of {all} blocks read, {mebibytes} MiB/s, {left} s left"
+    lines.inform(
+        rt,
+        format!(in alloc;
+            "comparing {legs} legs: {done} of {all} blocks read, {mebibytes} MiB/s, {left} s left"
+        ),
     );
 }
 
 /// Tells each second how far the comparison is, until it has ended: then the sender is gone.
-pub fn tell_progress<R: Wait + Clock + Log>(
+pub fn tell_progress<R: Wait + Clock>(
     rt: &R,
+    alloc: Global,
     ended: &Receiver<()>,
     comparison: &Comparison<'_>,
+    lines: &LogLines,
 ) {
     let Ok(begun) = Instant::now(rt) else {
         return;
@@ -55,7 +66,7 @@ pub fn tell_progress<R: Wait + Clock + Log>(
             return;
         };
         if let Ok(passed) = begun.elapsed(rt) {
-            tell(rt, comparison, passed.as_secs());
+            tell(rt, alloc, comparison, passed.as_secs(), lines);
         }
     }
 }

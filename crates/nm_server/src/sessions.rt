@@ -5,27 +5,31 @@ ghost use Rattle.nm_server.specs.Handshake.{HasGreeted};
 ghost use Rattle.nm_wire.specs.Export.{size_of};
 
 use crate::client_reader::ClientReader;
+use crate::client_writer::ClientWriter;
+use crate::ending::Ending;
 use crate::file_calls::FileCalls;
-use crate::handshake_reader::HandshakeReader;
 use crate::hang_up::HangUp;
 use crate::leg_files::{FileMirror, Leg};
+use crate::log_lines::LogLines;
 use crate::mirror_calls::{MirrorCalls, ReadyMirror};
 use crate::mirror_target::MirrorTarget;
-use crate::session_places::SessionPlaces;
-use log::{Log, warn};
+use crate::session_places::{ClientStream, SessionPlaces};
+use crate::timed_stream::TimedStream;
 use nm_leg::LegPart;
 use nm_mirror::Pass;
 use nm_replies::ReplyWriter;
+use nm_service::Refusals;
 use nm_session::{ServeFault, SessionCore};
 use nm_wire::{Export, Name};
 use nm_workers::{Lookout, greet, transmit};
 use std::alloc::Global;
-use std::net::{Shutdown, TcpListener, TcpStream};
+use std::cell::Cell;
+use std::net::{Shutdown, SocketAddr, TcpListener, TcpStream};
 use std::sync::Wait;
-use std::sync::atomic::{AtomicBool, Ordering};
+use std::sync::atomic::AtomicBool;
 use std::thread;
 use std::thread::Threads;
-use std::time::{Clock, Duration};
+use std::time::{Clock, Duration, Instant};
 
 /// How many requests of a session are served at once: each goes through a pass of its own.
 pub const AT_ONCE: usize = 16;
@@ -38,6 +42,9 @@ const HANDSHAKE_SECONDS: u64 = 30;
 
 /// How many milliseconds pass after an accept that failed.
 const AFTER_FAILURE_MILLISECONDS: u64 = 100;
+
+/// How many milliseconds pass from one look at the time of a `quit` to the next.
+const BETWEEN_LOOKS_MILLISECONDS: u64 = 100;
 
 /// The export as each session is told of it.
 #[derive(Drop)]
@@ -84,7 +91,6 @@ fn shake_hands<R: Wait + Clock>(
     alloc: Global,
     stream: &TcpStream,
     core: &mut SessionCore,
-    sender: &mut ReplyWriter<&TcpStream>,
 ) -> Result<bool, ServeFault>
     requires idle { core.old.outstanding ≡ [] }
     ensures greeted { IfOk result (λ goes_on. HasGreeted goes_on core.old core.new) }
@@ -95,11 +101,13 @@ fn shake_hands<R: Wait + Clock>(
     let Ok(mut room) = vec![in alloc; 0; ROOM] else {
         return Err(ServeFault::Memory);
     };
-    let Ok(mut reader) = HandshakeReader::new(rt, stream, within) else {
+    let Ok(begun) = Instant::now(rt) else {
         return Err(ServeFault::Read);
     };
-    let _ = stream.set_write_timeout(Some(within));
-    match greet(rt, alloc, core, &mut room, &mut reader, sender) {
+    let begun = Cell::new(begun);
+    let mut reader = TimedStream::new(rt, stream, &begun, within);
+    let mut sender = ReplyWriter::new(TimedStream::new(rt, stream, &begun, within));
+    match greet(rt, alloc, core, &mut room, &mut reader, &mut sender) {
         Ok(None) => {
             let _ = stream.set_read_timeout(None);
             let _ = stream.set_write_timeout(None);
@@ -145,7 +153,7 @@ fn answer_requests<R, L: LegPart + Send, C: MirrorCalls<L> + Sync + Drop>(
     mirror: &ReadyMirror<L, C>,
     passes: &mut [Pass<L>],
     core: SessionCore,
-    sender: ReplyWriter<&TcpStream>,
+    is_over: &AtomicBool,
     lookout: &Lookout,
 ) -> Result<(), ServeFault>
 where
@@ -153,7 +161,8 @@ where
     requires size { size_of core.haggling.export ≤ 512 * mirror.now.blocks }
 {
     let targets = targets_of(alloc, mirror, passes, stream)?;
-    let reader = ClientReader::new(stream);
+    let reader = ClientReader::new(stream, is_over);
+    let sender = ReplyWriter::new(ClientWriter::new(stream));
     transmit(rt, alloc, core, reader, sender, targets, lookout).result?;
     Ok(())
 }
@@ -166,7 +175,7 @@ fn serve_client<R: Threads + Wait + Sync + Copy + Clock>(
     named: &ExportName<'_>,
     mirror: &FileMirror,
     passes: &mut [Pass<Leg>],
-    lookout: &Lookout,
+    places: &SessionPlaces,
 ) -> Result<(), ServeFault> {
     let _ = stream.set_nodelay(true);
     let Some(export) = export_of(alloc, named, mirror.shape().blocks) else {
@@ -175,46 +184,69 @@ fn serve_client<R: Threads + Wait + Sync + Copy + Clock>(
     let Ok(mut core) = SessionCore::new(alloc, export, AT_ONCE) else {
         return Err(ServeFault::Memory);
     };
-    let mut sender = ReplyWriter::new(stream);
-    if !shake_hands(rt, alloc, stream, &mut core, &mut sender)? {
+    if !shake_hands(rt, alloc, stream, &mut core)? {
         return Ok(());
     }
     let ready = ReadyMirror::new(FileCalls { rt, alloc, mirror });
-    answer_requests(rt, alloc, stream, &ready, passes, core, sender, lookout)
+    let (is_over, lookout) = (places.is_over(), places.lookout());
+    answer_requests(rt, alloc, stream, &ready, passes, core, is_over, lookout)
 }
 
-/// Serves the clients that get this place, one after the other, until the places are closed. Their
-/// requests take the passes, as many at once as there are.
+/// Serves the clients that get the place of this number, one after the other, until the places are
+/// closed. Their requests take the passes, as many at once as there are.
 ///
 /// A client's place is free again before its connection is closed.
 pub fn serve_place<R>(
     rt: &R,
     alloc: Global,
     places: &SessionPlaces,
+    number: usize,
     named: &ExportName<'_>,
     mirror: &FileMirror,
     passes: &mut [Pass<Leg>],
+    lines: &LogLines,
 )
 where
-    R: Threads + Wait + Sync + Copy + Clock + Log,
+    R: Threads + Wait + Sync + Copy + Clock,
 {
     for _ in rt.forever() {
-        let Some(stream) = places.take(rt) else {
+        let Some(client) = places.take(rt, number) else {
             return;
         };
-        if let Err(fault) = serve_client(
-            rt,
-            alloc,
-            &stream,
-            named,
-            mirror,
-            passes,
-            places.lookout(),
-        ) {
-            warn!(rt; "a session broke off: {}", fault);
+        let ClientStream { stream, address } = &*client;
+        if let Err(fault) = serve_client(rt, alloc, stream, named, mirror, passes, places) {
+            lines.warn(
+                rt,
+                format!(in alloc; "client {address}: a session broke off: {fault}"),
+            );
         }
-        places.free(rt);
+        places.free(rt, number);
         let _ = stream.shutdown(Shutdown::Write);
+    }
+}
+
+// Notes that a connection was refused, and tells of it where a line is due.
+fn refuse<R: Wait + Clock>(
+    rt: &R,
+    alloc: Global,
+    refusals: &mut Refusals,
+    begun: &Option<Instant>,
+    address: &SocketAddr,
+    places: usize,
+    lines: &LogLines,
+) {
+    let now = match begun {
+        Some(begun) => begun.elapsed(rt).unwrap_or(Duration::ZERO).as_secs(),
+        None => 0,
+    };
+    if let Some(count) = refusals.note(now) {
+        lines.warn(
+            rt,
+            format!(in alloc;
+                "{count} connections refused since the last such line, the last from {address}: \
+                 all {places} places are taken (--sessions)"
+            ),
+        );
     }
 }
 
@@ -224,18 +256,41 @@ where
 /// a pause.
 pub fn take_clients<R: Wait + Clock>(
     rt: &R,
+    alloc: Global,
     listener: &TcpListener,
     places: &SessionPlaces,
-    is_ending: &AtomicBool,
+    ending: &Ending,
+    lines: &LogLines,
 ) {
+    let begun = Instant::now(rt).ok();
+    let mut refusals = Refusals::new();
     for _ in rt.forever() {
         let accepted = listener.accept();
-        if is_ending.load(Ordering::SeqCst) {
+        if ending.has_begun() {
             return;
         }
         match accepted {
-            Ok((stream, _)) => places.offer(rt, stream),
+            Ok((stream, address)) => {
+                if !places.offer(rt, ClientStream { stream, address }) {
+                    let count = places.count();
+                    refuse(rt, alloc, &mut refusals, &begun, &address, count, lines);
+                }
+            }
             Err(_) => thread::sleep(rt, Duration::from_millis(AFTER_FAILURE_MILLISECONDS)),
+        }
+    }
+}
+
+/// Waits until the sessions have ended, or closes those that are left once their time is over.
+pub fn see_off<R: Wait + Clock>(rt: &R, places: &SessionPlaces, ending: &Ending) {
+    for _ in rt.forever() {
+        if ending.is_due(rt) {
+            places.hang_up(rt);
+            return;
+        }
+        let within = Duration::from_millis(BETWEEN_LOOKS_MILLISECONDS);
+        if places.wait_until_free(rt, within) {
+            return;
         }
     }
 }

@@ -4,18 +4,19 @@ use nm_geometry::Shape;
 use nm_lanes::NoGate;
 use nm_leg::MemLeg;
 use nm_mirror::{Mirror, Start, open_stripes};
-use nm_server::control;
+use nm_server::{Quit, control};
 use nm_stripe::Policy;
 use std::alloc::Global;
 use std::process::Abort;
 use std::sync::Wait;
 use std::test::Fail;
+use std::time::Clock;
 
 /// What a client sends, what it is answered, and whether the server ends.
 type Talk = (&'static [u8], &'static [u8], bool);
 
 /// One connection after the other, all to the same mirror.
-static TALKS: [Talk; 14] = [
+static TALKS: [Talk; 15] = [
     (
         b"status\n",
         b"stripe 0: master 0 settling no legs in join(1024)\n\
@@ -77,6 +78,11 @@ static TALKS: [Talk; 14] = [
         b"",
         false,
     ),
+    (
+        b"quit 86401\nquit -1\n",
+        b"bad command\nbad command\n",
+        false,
+    ),
     // Lines after a quit are not run.
     (b"quit\nfail 0\n", b"bye\n", true),
 ];
@@ -102,7 +108,7 @@ fn mirror(alloc: Global, start: Start) -> Result<Mirror<MemLeg, NoGate>, Fail> {
 }
 
 /// Whether a connection goes as it must.
-fn goes<R: Wait + Abort>(
+fn goes<R: Wait + Abort + Clock>(
     rt: &R,
     alloc: Global,
     mirror: &Mirror<MemLeg, NoGate>,
@@ -112,8 +118,8 @@ fn goes<R: Wait + Abort>(
 ) -> bool {
     let mut reader = sent;
     let mut writer = Vec::new(alloc);
-    let has_quit = control(rt, alloc, &mut reader, &mut writer, mirror);
-    has_quit == ends && writer.as_slice() == answered
+    let quit = control(rt, alloc, &mut reader, &mut writer, mirror);
+    quit.is_some() == ends && writer.as_slice() == answered
 }
 
 #[test]
@@ -136,5 +142,23 @@ fn equal_legs_that_are_compared_have_nothing_to_copy(rt: HostRuntime) -> Result<
     let told = b"stripe 0: master 0 settling no legs in join(0)\n\
           stripe 1: master 0 settling no legs in join(0)\nend\n";
     assert!(rt; goes(&rt, alloc, &mirror, b"status\n", told, false));
+    Ok(())
+}
+
+#[test]
+fn a_quit_has_its_time(rt: HostRuntime) -> Result<(), Fail> {
+    let alloc = rt.alloc();
+    let mirror = mirror(alloc, Start::Full)?;
+    let lines: [(&[u8], Quit); 3] = [
+        (b"quit\n", Quit::WhenTheyLeave),
+        (b"quit 0\n", Quit::Within(0)),
+        (b"quit 86400\n", Quit::Within(86_400)),
+    ];
+    for (line, quit) in lines {
+        let (mut reader, mut writer) = (line, Vec::new(alloc));
+        let asked = control(&rt, alloc, &mut reader, &mut writer, &mirror);
+        assert_eq!(rt; asked, Some(quit));
+        assert_eq!(rt; writer.as_slice(), b"bye\n".as_slice());
+    }
     Ok(())
 }
