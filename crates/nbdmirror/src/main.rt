@@ -3,7 +3,7 @@
 //! `nbdmirror --help` lists its words; docs/OPERATING.md says how to run it.
 #![tactic(auto)]
 
-use nm_server::start;
+use nm_server::{refuse_words, start};
 use std::env;
 use std::process::ExitCode;
 
@@ -12,8 +12,9 @@ const NO_MEMORY: u8 = 5;
 
 fn main(rt: HostRuntime) -> ExitCode {
     let alloc = rt.alloc();
-    let Ok(args) = env::args(&rt) else {
-        return ExitCode::from(NO_MEMORY);
+    let args = match env::args(&rt) {
+        Ok(args) => args,
+        Err(error) => return ExitCode::from(refuse_words(&error, &mut rt.stderr())),
     };
     let mut words = Vec::new(alloc);
     for word in args {

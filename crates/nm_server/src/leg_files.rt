@@ -10,6 +10,7 @@ use nm_file_leg::{FileLeg, FileUser, ReadAhead, SharedFile};
 use nm_geometry::{MOST_STRIPES, Shape};
 use nm_lanes::NoGate;
 use nm_mirror::Mirror;
+use nm_system::{Limits, is_below, is_in_use};
 use std::alloc::{AllocError, Global};
 use std::fs::{File, OpenOptions};
 use std::io::{Seek, SeekFrom};
@@ -84,6 +85,11 @@ fn blocks_of(file: &File) -> Option<u64>
     }
 }
 
+// Whether it is a file that grows as it is written, and no device.
+fn is_regular(file: &File) -> bool {
+    matches!(file.metadata(), Ok(metadata) if metadata.is_file())
+}
+
 // A leg's file for the stripes, of which there are at most so many.
 fn share(alloc: Global, file: File) -> Result<Arc<SharedFile<File>>, AllocError> {
     let shared = SharedFile::new(alloc, file, MOST_STRIPES as usize)?;
@@ -91,11 +97,14 @@ fn share(alloc: Global, file: File) -> Result<Arc<SharedFile<File>>, AllocError>
 }
 
 impl LegFiles {
-    /// Opens, locks and measures the legs' files, one after the other.
+    /// Opens, locks and measures the legs' files, one after the other. One that the system has in
+    /// use is refused unless that is allowed, and one that is longer than files may be written.
     pub fn open<'a, R: Files<File = File>>(
         rt: &R,
         alloc: Global,
         names: &[&str],
+        force_in_use: bool,
+        limits: &Limits,
     ) -> Result<LegFiles, StartFault<'a>>
         ensures ok { IfOk result (λ files. files.legs ≡ length names.now) }
     {
@@ -105,6 +114,9 @@ impl LegFiles {
             let Some(file) = open_locked(rt, names[number]) else {
                 return Err(StartFault::CannotOpen(number));
             };
+            if !force_in_use && is_in_use(rt, alloc, &file)? {
+                return Err(StartFault::InUse(number));
+            }
             let Some(own) = blocks_of(&file) else {
                 return Err(StartFault::BadLength(number));
             };
@@ -112,6 +124,9 @@ impl LegFiles {
                 blocks = own;
             } else if own != blocks {
                 return Err(StartFault::OtherLength(number));
+            }
+            if is_regular(&file) && is_below(limits.file_bytes, own * BLOCK_BYTES) {
+                return Err(StartFault::OverFileLimit(number));
             }
             let Ok(shared) = share(alloc, file) else {
                 return Err(StartFault::Memory);

@@ -4,6 +4,7 @@
 //! safe is proved.
 #![tactic(auto)]
 
+mod alike;
 mod answering;
 mod client_reader;
 mod client_writer;
@@ -18,6 +19,7 @@ mod leg_files;
 mod log_lines;
 mod mirror_calls;
 mod mirror_target;
+mod needs;
 mod program;
 mod progress;
 mod resync;
@@ -25,6 +27,8 @@ mod serving;
 mod session_places;
 mod sessions;
 mod start_fault;
+mod starting;
+mod thread_trial;
 mod timed_stream;
 
 pub use crate::answering::control;
@@ -34,5 +38,5 @@ pub use crate::file_calls::{
 };
 pub use crate::mirror_calls::{MirrorCalls, ReadyMirror};
 pub use crate::mirror_target::MirrorTarget;
-pub use crate::program::start;
+pub use crate::program::{refuse_words, start};
 pub use crate::start_fault::StartFault;

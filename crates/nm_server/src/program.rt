@@ -5,51 +5,53 @@ ghost use Rattle.nm_server.specs.StartFault.{status_of};
 use crate::counting_file::BytesRead;
 use crate::leg_files::{FileMirror, Leg, LegFiles, stripe_legs};
 use crate::log_lines::LogLines;
+use crate::needs::{check_files, check_stack};
 use crate::progress::{Comparison, tell_progress};
 use crate::serving::serve_and_copy;
 use crate::sessions::{AT_ONCE, ExportName};
 use crate::start_fault::StartFault;
+use crate::starting::{open_asked, start_for};
+use crate::thread_trial::try_threads;
 use clap::Error;
 use clap::error::ErrorKind;
 use crossbeam_channel::bounded;
 use log::Log;
 use nm_commands::{Settings, settings};
 use nm_lanes::NoGate;
-use nm_mirror::{Mirror, OpenFault, Pass, Start, open_stripes};
+use nm_mirror::{Mirror, Pass, Start};
+use nm_system::{Limits, take_standard_streams};
 use std::alloc::Global;
 use std::convert::AsStr;
 use std::fs::File;
-use std::io::Write;
+use std::io::{ErrorKind as IoErrorKind, Write};
 use std::net::{Net, TcpListener, TcpStream};
 use std::rt::Files;
 use std::sync::atomic::AtomicU64;
 use std::sync::{Arc, Wait};
-use std::thread;
 use std::thread::Threads;
 use std::time::Clock;
+use std::{io, thread};
 
 /// How many legs a mirror has at most.
 const MOST_LEGS: usize = 8;
+
+/// How many threads there are beside those of sessions: the control port's, the one that copies,
+/// and one that reads for a session.
+const OTHER_THREADS: usize = 8;
 
 // The export that the settings ask for, unless they are wrong by themselves.
 fn export_asked<'a>(settings: &Settings<'a>) -> Result<ExportName<'a>, StartFault<'a>> {
     if settings.legs.len() > MOST_LEGS {
         return Err(StartFault::TooManyLegs);
     }
-    if settings.master as usize >= settings.legs.len() {
-        return Err(StartFault::NoMaster(settings.master));
+    if let Some(master) = settings.master {
+        if master as usize >= settings.legs.len() {
+            return Err(StartFault::NoMaster(master));
+        }
     }
     match ExportName::new(settings.name, settings.read_only) {
         Some(named) => Ok(named),
         None => Err(StartFault::BadName),
-    }
-}
-
-// How the mirror's legs stand as it is opened.
-fn start_of(settings: &Settings<'_>) -> Start {
-    match settings.start {
-        nm_commands::Start::Compare => Start::Compare,
-        nm_commands::Start::Full => Start::Full,
     }
 }
 
@@ -70,13 +72,7 @@ fn open_mirror<'a>(
             return Err(StartFault::Memory);
         }
     }
-    let (master, policy, start) = (settings.master, settings.policy, start_of(settings));
-    let stripes = match open_stripes(alloc, &shape, legs, master, policy, start) {
-        Ok(stripes) => stripes,
-        Err(OpenFault::MasterFault) => return Err(StartFault::CannotRead(master)),
-        // That they do not fit cannot be: each leg was made with the blocks of its stripe.
-        Err(OpenFault::Memory | OpenFault::Misfit) => return Err(StartFault::Memory),
-    };
+    let stripes = open_asked(alloc, settings, &shape, legs)?;
     match Mirror::new(alloc, shape, stripes, NoGate) {
         Ok(mirror) => Ok(mirror),
         Err(_) => Err(StartFault::Memory),
@@ -98,7 +94,7 @@ where
     let Ok(read) = Arc::new(alloc, AtomicU64::new(0)) else {
         return Err(StartFault::Memory);
     };
-    if start_of(settings) == Start::Full || settings.legs.len() < 2 {
+    if start_for(settings.start) == Start::Full || settings.legs.len() < 2 {
         return open_mirror(alloc, settings, files, &read);
     }
     let Ok((comparing, ended)) = bounded(alloc, 1) else {
@@ -147,10 +143,12 @@ fn passes_of<'a, R: Wait>(
     Ok(passes)
 }
 
-// Tells where the server listens.
-fn announce<O: Write>(out: &mut O, settings: &Settings<'_>) {
-    let _ = writeln!(out, "listening on {}", settings.listen);
-    let _ = writeln!(out, "control on {}", settings.control);
+// Tells where a socket listens, with the port that it got where any was asked for.
+fn tell_address<O: Write>(out: &mut O, words: &str, listener: &TcpListener, asked: &str) {
+    let _ = match listener.local_addr() {
+        Ok(address) => writeln!(out, "{words} {address}"),
+        Err(_) => writeln!(out, "{words} {asked}"),
+    };
     let _ = out.flush();
 }
 
@@ -188,10 +186,25 @@ where
         + Files<File = File>
         + Net<Listener = TcpListener, Stream = TcpStream>,
 {
+    let Some(_streams) = take_standard_streams(rt, alloc) else {
+        return Err(StartFault::NoStandardStreams);
+    };
     let named = export_asked(settings)?;
-    let files = LegFiles::open(rt, alloc, &settings.legs)?;
+    let limits = Limits::read(rt, alloc)?;
+    check_stack(&limits)?;
+    let files = LegFiles::open(rt, alloc, &settings.legs, settings.force_in_use, &limits)?;
+    check_files(
+        &limits,
+        settings.legs.len().min(MOST_LEGS) as u8,
+        settings.sessions,
+    )?;
     let mirror = open_watched(rt, alloc, settings, &files, lines)?;
     let mut passes = passes_of(rt, alloc, &mirror, settings.sessions)?;
+    try_threads(
+        rt,
+        alloc,
+        settings.sessions as usize + AT_ONCE + OTHER_THREADS,
+    )?;
     let clients = listen(rt, settings.listen)?;
     let control = listen(rt, settings.control)?;
     if !is_loopback(&control) {
@@ -203,7 +216,8 @@ where
             ),
         );
     }
-    announce(out, settings);
+    tell_address(out, "listening on", &clients, settings.listen);
+    tell_address(out, "control on", &control, settings.control);
     serve_and_copy(
         rt,
         alloc,
@@ -240,12 +254,20 @@ fn tell_refusal<E: Write>(error: &Error, err: &mut E) -> u8 {
     2
 }
 
+/// Tells why the words of the command line could not be had, and returns the exit status.
+pub fn refuse_words<E: Write>(error: &io::Error, err: &mut E) -> u8 {
+    if error.kind() == IoErrorKind::OutOfMemory {
+        return tell_fault(&StartFault::Memory, err);
+    }
+    tell_fault(&StartFault::NotUtf8, err)
+}
+
 /// Runs the server that these words ask for, the first of them the program's name, and returns the
 /// exit status.
 ///
 /// 0 after a `quit`. Otherwise `err` says why: status 2 for words that are no command line, 3 for
 /// settings or legs that do not fit, 4 where it cannot listen, 5 out of memory, 6 where what the
-/// stripes have had is not what the sessions counted.
+/// stripes have had is not what the sessions counted, 7 where no master is named and the legs differ.
 pub fn start<R, S: AsStr, O: Write, E: Write>(
     rt: &R,
     alloc: Global,

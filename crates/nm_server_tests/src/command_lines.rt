@@ -18,10 +18,11 @@ struct Asked {
     listen: &'static str,
     control: &'static str,
     name: &'static str,
-    numbers: [u8; 3],
+    numbers: [Option<u8>; 3],
     policy: Policy,
     start: Start,
     read_only: bool,
+    force_in_use: bool,
     legs: usize,
 }
 
@@ -30,15 +31,30 @@ const PLAIN: Asked = Asked {
     listen: "127.0.0.1:10809",
     control: "127.0.0.1:10810",
     name: "disk",
-    numbers: [16, 0, 16],
+    numbers: [Some(16), None, Some(16)],
     policy: Policy::RoundRobin,
     start: Start::Compare,
     read_only: false,
+    force_in_use: false,
     legs: 1,
 };
 
-static TAKEN: [Taken; 17] = [
+static TAKEN: [Taken; 19] = [
     (&["a"], PLAIN),
+    (
+        &["--master", "0", "a"],
+        Asked {
+            numbers: [Some(16), Some(0), Some(16)],
+            ..PLAIN
+        },
+    ),
+    (
+        &["a", "--force-in-use"],
+        Asked {
+            force_in_use: true,
+            ..PLAIN
+        },
+    ),
     (&["a", "b", "c"], Asked { legs: 3, ..PLAIN }),
     (
         &["--listen", "[::]:1", "a"],
@@ -58,35 +74,35 @@ static TAKEN: [Taken; 17] = [
     (
         &["--stripes", "1", "a"],
         Asked {
-            numbers: [1, 0, 16],
+            numbers: [Some(1), None, Some(16)],
             ..PLAIN
         },
     ),
     (
         &["--stripes=64", "a"],
         Asked {
-            numbers: [64, 0, 16],
+            numbers: [Some(64), None, Some(16)],
             ..PLAIN
         },
     ),
     (
         &["--master", "7", "a"],
         Asked {
-            numbers: [16, 7, 16],
+            numbers: [Some(16), Some(7), Some(16)],
             ..PLAIN
         },
     ),
     (
         &["--sessions", "1", "a"],
         Asked {
-            numbers: [16, 0, 1],
+            numbers: [Some(16), None, Some(1)],
             ..PLAIN
         },
     ),
     (
         &["--sessions", "64", "a"],
         Asked {
-            numbers: [16, 0, 64],
+            numbers: [Some(16), None, Some(64)],
             ..PLAIN
         },
     ),
@@ -156,10 +172,15 @@ fn is_asked(settings: &Settings<'_>, asked: Asked) -> bool {
     settings.listen == asked.listen
         && settings.control == asked.control
         && settings.name == asked.name
-        && [settings.stripes, settings.master, settings.sessions] == asked.numbers
+        && [
+            Some(settings.stripes),
+            settings.master,
+            Some(settings.sessions),
+        ] == asked.numbers
         && settings.policy == asked.policy
         && settings.start == asked.start
         && settings.read_only == asked.read_only
+        && settings.force_in_use == asked.force_in_use
         && settings.legs.len() == asked.legs
 }
 

@@ -1,0 +1,72 @@
+//! The stripes of the mirror that the settings ask for.
+ghost use Rattle.std.specs.Prelude.{◌≡◌, None, map, IfOk, IfErr};
+ghost use Rattle.nm_leg.specs.Leg.{leg_type};
+ghost use Rattle.nm_mirror.specs.Opening.{AreAllOpened};
+ghost use Rattle.nm_mirror.specs.Stripes.{AreStripesOf};
+ghost use Rattle.nm_server.specs.Alike.{AreAlike};
+ghost use Rattle.nm_server.specs.Starting.{RefusesStart, asked_by, master_or_first, start_for};
+
+use crate::alike::are_alike;
+use crate::start_fault::StartFault;
+use nm_commands::Settings;
+use nm_geometry::Shape;
+use nm_leg::LegPart;
+use nm_mirror::{OpenFault, Start, open_stripes};
+use nm_stripe::Stripe;
+use std::alloc::Global;
+
+/// How the mirror's legs stand as it is opened.
+pub fn start_for(start: nm_commands::Start) -> Start
+    ensures { result ≡ start_for start }
+{
+    match start {
+        nm_commands::Start::Compare => Start::Compare,
+        nm_commands::Start::Full => Start::Full,
+    }
+}
+
+// The leg that was named as the master, and leg 0 where none was.
+fn master_or_first(named: Option<u8>) -> u8
+    ensures { result ≡ master_or_first named }
+{
+    named.unwrap_or(0)
+}
+
+// Why the stripes were not opened, where this leg or none was named as the master.
+fn fault_of<'a>(named: Option<u8>, fault: OpenFault) -> StartFault<'a> {
+    match (fault, named) {
+        (OpenFault::MasterFault, Some(leg)) => StartFault::CannotRead(leg),
+        (OpenFault::MasterFault, None) => StartFault::LegsDiffer,
+        // That they do not fit cannot be: each leg was made with the blocks of its stripe.
+        (OpenFault::Memory | OpenFault::Misfit, _) => StartFault::Memory,
+    }
+}
+
+/// Opens the stripes that the settings ask for on these legs, one list a stripe.
+///
+/// Where no master is named, leg 0 is the master, and legs that may differ are refused: nothing was
+/// written to them.
+pub fn open_asked<'a, L: LegPart>(
+    alloc: Global,
+    settings: &Settings<'_>,
+    shape: &Shape,
+    legs: Vec<Vec<L>>,
+) -> Result<Vec<Stripe<L>>, StartFault<'a>>
+    ensures stripes { IfOk result (λ stripes. AreStripesOf shape.now stripes.items) }
+    ensures opened { IfOk result (λ stripes. AreAllOpened (leg_type L.model L.honest)
+        (asked_by settings.now shape.now) (map (λ own. own.items) legs.items) stripes.items) }
+    ensures alike { IfOk result (λ stripes. settings.now.master ≡ None
+        → AreAlike stripes.items) }
+    ensures refused { IfErr result (RefusesStart (leg_type L.model L.honest) settings.now.master
+        (asked_by settings.now shape.now) (map (λ own. own.items) legs.items)) }
+{
+    let master = master_or_first(settings.master);
+    let start = start_for(settings.start);
+    match open_stripes(alloc, shape, legs, master, settings.policy, start) {
+        Ok(stripes) if settings.master.is_none() && !are_alike(&stripes) => {
+            Err(StartFault::LegsDiffer)
+        }
+        Ok(stripes) => Ok(stripes),
+        Err(fault) => Err(fault_of(settings.master, fault)),
+    }
+}

@@ -1,0 +1,95 @@
+//! Lines of the files in which the kernel tells what it has mounted, swaps to, and limits.
+ghost use Rattle.std.specs.Prelude.{◌≡◌, ◌+◌, ◌*◌, ◌-◌, IfSome};
+
+use std::alloc::{AllocError, Global};
+
+/// What a line of `/proc/self/mountinfo` tells of a mount.
+#[derive(Drop)]
+pub struct MountLine<'a> {
+    /// The number of its device, as `8:1`.
+    pub device: &'a [u8],
+    /// What is mounted, with escapes.
+    pub source: &'a [u8],
+}
+
+/// The mount of a line of `/proc/self/mountinfo`: the device is the third word, and the source the
+/// second one after a word that is a dash.
+pub fn mount_of(line: &[u8]) -> Option<MountLine<'_>> {
+    let mut words = line.split(|byte| *byte == b' ');
+    let device = words.nth(2)?;
+    for word in &mut words {
+        if word == b"-".as_slice() {
+            break;
+        }
+    }
+    let source = words.nth(1)?;
+    Some(MountLine { device, source })
+}
+
+/// The file of a line of `/proc/swaps`, with escapes: its first word.
+pub fn swap_of(line: &[u8]) -> &[u8] {
+    match line.iter().position(|byte| matches!(*byte, b' ' | b'\t')) {
+        Some(end) => &line[..end],
+        None => line,
+    }
+}
+
+// The number of some decimal digits.
+fn number(digits: &[u8]) -> Option<u64> {
+    str::from_utf8(digits).ok()?.parse::<u64>().ok()
+}
+
+/// The major and the minor number of a device that is written as `8:1`.
+pub fn device_number(text: &[u8]) -> Option<(u64, u64)> {
+    let colon = text.iter().position(|byte| *byte == b':')?;
+    Some((number(&text[..colon])?, number(&text[colon + 1..])?))
+}
+
+// The byte of three octal digits.
+fn octal(first: u8, second: u8, third: u8) -> Option<u8>
+    ensures { IfSome result (λ byte.
+        byte + 64 * 48 + 8 * 48 + 48 ≡ 64 * first + 8 * second + third) }
+{
+    match (first, second, third) {
+        (b'0'..=b'3', b'0'..=b'7', b'0'..=b'7') => {
+            Some(64 * (first - b'0') + 8 * (second - b'0') + (third - b'0'))
+        }
+        _ => None,
+    }
+}
+
+// The byte whose escape these bytes begin with.
+fn escaped(text: &[u8]) -> Option<u8> {
+    match text {
+        [b'\\', first, second, third, ..] => octal(*first, *second, *third),
+        _ => None,
+    }
+}
+
+/// The name that is written with spaces, tabs, line ends and backslashes as `\040` and the like.
+pub fn unescaped(alloc: Global, text: &[u8]) -> Result<Vec<u8>, AllocError> {
+    let mut name = Vec::new(alloc);
+    let mut digits = 0u8;
+    for (at, byte) in text.iter().enumerate() {
+        if digits > 0 {
+            digits -= 1;
+        } else if let Some(hidden) = escaped(&text[at..]) {
+            name.push(hidden)?;
+            digits = 3;
+        } else {
+            name.push(*byte)?;
+        }
+    }
+    Ok(name)
+}
+
+/// The soft limit of this name in `/proc/self/limits`; none where it is unlimited, or not there.
+pub fn soft_limit(limits: &[u8], name: &str) -> Option<u64> {
+    for line in limits.split(|byte| *byte == b'\n') {
+        if let Some(rest) = line.strip_prefix(name.as_bytes()) {
+            let mut words = rest.split(|byte| *byte == b' ');
+            return number(words.find(|word| !word.is_empty())?);
+        }
+    }
+    None
+}

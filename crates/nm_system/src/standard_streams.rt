@@ -1,0 +1,29 @@
+//! Standard input, output and error, of which each may be closed as the program starts.
+
+use std::alloc::Global;
+use std::fs::{File, OpenOptions};
+use std::os::fd::AsRawFd;
+use std::rt::Files;
+
+/// The highest number of a standard stream's descriptor.
+const LAST: i32 = 2;
+
+/// Takes the descriptors of standard streams that are closed, so that no leg gets one of them and
+/// has text written into it. They are taken as long as these files are kept.
+///
+/// None where something has to be opened for it and cannot be.
+pub fn take_standard_streams<R: Files<File = File>>(rt: &R, alloc: Global) -> Option<Vec<File>> {
+    let mut taken = Vec::new(alloc);
+    for _ in 0..=LAST + 1 {
+        let file = OpenOptions::new()
+            .read(true)
+            .write(true)
+            .open(rt, "/dev/null")
+            .ok()?;
+        if file.as_raw_fd() > LAST {
+            return Some(taken);
+        }
+        taken.push(file).ok()?;
+    }
+    None
+}

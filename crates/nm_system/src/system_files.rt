@@ -1,0 +1,43 @@
+//! Files in which the system tells of itself. What cannot be read counts as empty.
+
+use std::alloc::{AllocError, Global};
+use std::fs::File;
+use std::io;
+use std::io::{ErrorKind, Read};
+use std::rt::Files;
+
+// What was read, unless there was no memory for it.
+fn unless_no_memory(bytes: Vec<u8>, read: io::Result<usize>) -> Result<Vec<u8>, AllocError> {
+    match read {
+        Err(error) if error.kind() == ErrorKind::OutOfMemory => Err(AllocError),
+        _ => Ok(bytes),
+    }
+}
+
+/// What the file holds.
+pub fn contents<R: Files<File = File>>(
+    rt: &R,
+    alloc: Global,
+    path: &str,
+) -> Result<Vec<u8>, AllocError> {
+    let mut bytes = Vec::new(alloc);
+    let Ok(mut file) = File::open(rt, path) else {
+        return Ok(bytes);
+    };
+    let read = file.read_to_end(&mut bytes);
+    unless_no_memory(bytes, read)
+}
+
+/// The names in the folder, each ended by a NUL.
+pub fn names<R: Files<File = File>>(
+    rt: &R,
+    alloc: Global,
+    path: &str,
+) -> Result<Vec<u8>, AllocError> {
+    let mut bytes = Vec::new(alloc);
+    let Ok(mut folder) = rt.open_dir(path) else {
+        return Ok(bytes);
+    };
+    let read = folder.read_to_end(&mut bytes);
+    unless_no_memory(bytes, read)
+}
