@@ -8,10 +8,9 @@ use nm_lanes::Gate;
 use nm_leg::LegPart;
 use nm_replay::Memory;
 use std::alloc::Global;
-use std::fmt;
 use std::sync::Wait;
-use std::thread;
 use std::time::{Clock, Duration, Instant};
+use std::{fmt, thread};
 
 /// How many milliseconds a stripe must stay taken to be told as busy.
 const HELD_MILLISECONDS: u64 = 500;
@@ -45,7 +44,12 @@ impl Glance {
 
     // Looks at the stripe, if nobody has it right now. Where the same thread may have had it since
     // the first look, it stays busy once that is `long` ago.
-    fn look<L: LegPart>(&mut self, lock: &Lock<L>, alloc: Global, long: bool) -> Result<(), Memory> {
+    fn look<L: LegPart>(
+        &mut self,
+        lock: &Lock<L>,
+        alloc: Global,
+        long: bool,
+    ) -> Result<(), Memory> {
         match lock.try_hold() {
             Some(stripe) => {
                 self.told = Some(status_of(&stripe, alloc)?);

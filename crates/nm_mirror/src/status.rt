@@ -57,7 +57,10 @@ fn legs_of<L: LegPart>(stripe: &Stripe<L>, alloc: Global) -> Result<Vec<LegStatu
 }
 
 /// What the stripe is doing.
-pub(crate) fn status_of<L: LegPart>(stripe: &Stripe<L>, alloc: Global) -> Result<StripeStatus, Memory>
+pub(crate) fn status_of<L: LegPart>(
+    stripe: &Stripe<L>,
+    alloc: Global,
+) -> Result<StripeStatus, Memory>
     ensures { IfOk result (IsStatus stripe.now) }
 {
     if stripe.is_stopped() {
