@@ -40,6 +40,12 @@ MayDiffer {L} type asked legs = RefusesOpening type asked legs MasterFault
     ⊎ ((stripes : List (StripeState L)) × AreAllOpened type asked legs stripes
     × ¬ AreAlike stripes)
 
+-- what is told where the master cannot be read: that this leg, which was named, cannot; or, where
+-- none was named, that the legs differ
+abbrev pub unread_master : Option ℕ → StartFault
+unread_master (Some leg) = fault.CannotRead leg
+unread_master None = fault.LegsDiffer
+
 -- why the stripes that were asked for are not opened, where this leg or none was named as the
 -- master
 abbrev pub RefusesStart : {L : Type 0} → LegType L → Option ℕ → Asked → List (List L)

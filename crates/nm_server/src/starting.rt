@@ -5,6 +5,7 @@ ghost use Rattle.nm_mirror.specs.Opening.{AreAllOpened};
 ghost use Rattle.nm_mirror.specs.Stripes.{AreStripesOf};
 ghost use Rattle.nm_server.specs.Alike.{AreAlike};
 ghost use Rattle.nm_server.specs.Starting.{RefusesStart, asked_by, master_or_first, start_for};
+ghost use Rattle.nm_server.specs.Starting.{unread_master};
 
 use crate::alike::are_alike;
 use crate::start_fault::StartFault;
@@ -32,13 +33,13 @@ fn master_or_first(named: Option<u8>) -> u8
     named.unwrap_or(0)
 }
 
-// Why the stripes were not opened, where this leg or none was named as the master.
-fn fault_of<'a>(named: Option<u8>, fault: OpenFault) -> StartFault<'a> {
-    match (fault, named) {
-        (OpenFault::MasterFault, Some(leg)) => StartFault::CannotRead(leg),
-        (OpenFault::MasterFault, None) => StartFault::LegsDiffer,
-        // That they do not fit cannot be: each leg was made with the blocks of its stripe.
-        (OpenFault::Memory | OpenFault::Misfit, _) => StartFault::Memory,
+// What is told where the master cannot be read, which this leg was named to be, or none.
+fn unread_master<'a>(named: Option<u8>) -> StartFault<'a>
+    ensures { result ≡ unread_master named }
+{
+    match named {
+        Some(leg) => StartFault::CannotRead(leg),
+        None => StartFault::LegsDiffer,
     }
 }
 
@@ -62,11 +63,14 @@ pub fn open_asked<'a, L: LegPart>(
 {
     let master = master_or_first(settings.master);
     let start = start_for(settings.start);
-    match open_stripes(alloc, shape, legs, master, settings.policy, start) {
-        Ok(stripes) if settings.master.is_none() && !are_alike(&stripes) => {
-            Err(StartFault::LegsDiffer)
-        }
-        Ok(stripes) => Ok(stripes),
-        Err(fault) => Err(fault_of(settings.master, fault)),
+    let stripes = match open_stripes(alloc, shape, legs, master, settings.policy, start) {
+        Ok(stripes) => stripes,
+        Err(OpenFault::MasterFault) => return Err(unread_master(settings.master)),
+        // That they do not fit cannot be: each leg was made with the blocks of its stripe.
+        Err(OpenFault::Memory | OpenFault::Misfit) => return Err(StartFault::Memory),
+    };
+    if settings.master.is_none() && !are_alike(&stripes) {
+        return Err(StartFault::LegsDiffer);
     }
+    Ok(stripes)
 }
