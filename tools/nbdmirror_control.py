@@ -7,10 +7,12 @@ import socket
 import time
 
 DEFAULT = "127.0.0.1:10810"
-# The server may be at work on another control connection, and lets one that says nothing stay for 60 seconds.
+# The server gives a line and its answer 60 seconds.
 TIMEOUT_SECONDS = 70
 # After so long without an answer a person is told what that may mean.
 QUIET_SECONDS = 2
+# What it means that none comes. An older server serves one connection at a time, and none after a quit.
+NO_ANSWER = "a leg hangs, or the control port is busy"
 # What no server sends more of: bytes in a line, and stripes.
 MOST_BYTES, MOST_STRIPES = 4096, 1024
 STRIPE = re.compile(r"stripe (\d{1,20}): (.*)")
@@ -62,11 +64,9 @@ class Control:
                 data = self.socket.recv(1 << 16)
             except TimeoutError as error:
                 if not self.tell or self.end <= time.monotonic():
-                    raise Trouble(f"no answer within {self.timeout:g} seconds: other control connections are open, a "
-                                  "leg hangs, or the server has had a quit and serves its last clients") from error
+                    raise Trouble(f"no answer within {self.timeout:g} seconds: {NO_ANSWER}") from error
                 tell, self.tell = self.tell, None
-                tell("no answer yet: other control connections are open, a leg hangs, or the server has had a quit and "
-                     f"serves its last clients; waiting for {self.timeout:g} seconds in all")
+                tell(f"no answer yet: {NO_ANSWER}; it may take {self.timeout:g} seconds")
                 continue
             except OSError as error:
                 raise Trouble(f"the connection broke: {error}") from error
