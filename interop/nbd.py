@@ -133,6 +133,11 @@ class Server:
         with open(f"{self.room}/err", encoding="utf-8", errors="replace") as file:
             return file.read()
 
+    def printed(self):
+        """What the server has written on standard output."""
+        with open(f"{self.room}/out", encoding="utf-8") as file:
+            return file.read()
+
     def start(self, *options):
         """Starts it and waits until it listens."""
         for _ in range(5):
@@ -146,20 +151,18 @@ class Server:
                  "--control", f"127.0.0.1:{self.control_port}", *self.options, *options, *self.files]
 
         def bound():
-            if self.address_space:
-                resource.setrlimit(resource.RLIMIT_AS, (self.address_space,) * 2)
+            resource.setrlimit(resource.RLIMIT_AS, (self.address_space,) * 2)
 
         # One arena, so that address space is what is used, and not what threads set aside.
         own = {**os.environ, "MALLOC_ARENA_MAX": "1"} if self.one_arena else None
 
         with open(f"{self.room}/out", "wb") as out, open(f"{self.room}/err", "wb") as err:
             self.process = subprocess.Popen(words, stdin=subprocess.DEVNULL, stdout=out, stderr=err,
-                                            preexec_fn=bound, env=own)
+                                            preexec_fn=bound if self.address_space else None, env=own)
         end = time.monotonic() + 60 * PATIENCE
         while time.monotonic() < end and self.process.poll() is None:
-            with open(f"{self.room}/out", encoding="utf-8") as file:
-                if "control on" in file.read():
-                    return True
+            if "control on" in self.printed():
+                return True
             time.sleep(0.005)
         status = self.process.poll()
         self.kill()
