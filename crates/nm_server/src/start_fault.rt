@@ -1,5 +1,6 @@
 ghost use Rattle.std.specs.Prelude.{◌≡◌};
 ghost use Rattle.nm_server.specs.StartFault.{status_of};
+ghost use Rattle.nm_server.specs.declared.start_fault.StartFault.TheVariants.{Memory};
 
 use std::alloc::AllocError;
 use thiserror::Error;
