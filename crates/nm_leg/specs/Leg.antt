@@ -1,6 +1,7 @@
 -- What a leg holds, and what one call does to it.
-use Rattle.std.specs.Prelude.{◌≡◌, ◌≢◌, ℕ, ◌+◌, ◌%◌, ◌^◌, Bool, IsTrue, IsFalse, if◌then◌else◌}
-use Rattle.std.specs.Prelude.{List, ◌++◌, length, replicate, take, drop, Some, slice_get, slice_set}
+use Rattle.std.specs.Prelude.{◌≡◌, ◌≢◌, ◌⊎◌, ℕ, zero, suc, ◌+◌, ◌*◌, ◌/◌, ◌%◌, ◌^◌, ◌<◌, ◌≤◌}
+use Rattle.std.specs.Prelude.{Bool, IsTrue, IsFalse, if◌then◌else◌, Some, slice_get, slice_set}
+use Rattle.std.specs.Prelude.{List, [], ◌∷◌, length, replicate, take, drop}
 use Rattle.nm_replay.specs.declared.block.Block.{Block}
 use Rattle.nm_replay.specs.declared.block.TheConstants.{BLOCK_BYTES}
 use Rattle.nm_replay.specs.Array.{Array}
@@ -25,10 +26,6 @@ leg_type model honest = record { model = model; honest = honest }
 abbrev pub block_of : List ℕ → Block
 block_of bytes = record { 0 = bytes }
 
--- a block of which a write failed halfway: 256 bytes are new, and the rest as they were
-abbrev pub torn_block : List ℕ → Block → Block
-torn_block bytes was = block_of (take 256 bytes ++ drop 256 was.0)
-
 -- an array of so many blocks, with one byte in every place
 abbrev pub filled_array : ℕ → ℕ → Array
 filled_array blocks byte = replicate blocks (block_of (replicate BLOCK_BYTES byte))
@@ -50,24 +47,59 @@ pub record CallsLeg (succeeded : Bool) (old new : Leg) : Type 0 where
   pub faults : new.faults ≡ (if succeeded then old.faults else (old.faults + 1) % 2 ^ 64)
   pub fault_moves : IsFalse succeeded → new.faults ≢ old.faults
 
--- A read of the block at `at` into a target. A fault leaves the target.
-pub record ReadsLeg (honest succeeded : Bool) (at : ℕ)
-    (old new : Leg) (target filled : Block) : Type 0 where
+-- how many whole blocks these bytes are
+abbrev pub blocks_in : List ℕ → ℕ
+blocks_in bytes = length bytes / 512
+
+-- the bytes, cut into so many blocks
+abbrev pub cut_into : ℕ → List ℕ → List Block
+cut_into zero bytes = []
+cut_into (suc n) bytes = block_of (take 512 bytes) ∷ cut_into n (drop 512 bytes)
+
+-- the blocks that these bytes are
+abbrev pub blocks_of : List ℕ → List Block
+blocks_of bytes = cut_into (blocks_in bytes) bytes
+
+-- the bytes are a run: whole blocks, at least one, that lie inside so many from `at` on
+pub record IsRun (at blocks : ℕ) (bytes : List ℕ) : Type 0 where
+  pub some : 0 < length bytes
+  pub whole : length bytes ≡ 512 * blocks_in bytes
+  pub inside : at + blocks_in bytes ≤ blocks
+
+-- the array with these blocks from `at` on
+abbrev pub set_run : ℕ → List Block → Array → Array
+set_run at [] array = array
+set_run at (block ∷ blocks) array = set_run (at + 1) blocks (slice_set array at block)
+
+-- the array has these blocks from `at` on
+abbrev pub HoldsRun : ℕ → List Block → Array → Type 0
+HoldsRun at [] array = Unit {0}
+HoldsRun at (block ∷ blocks) array =
+    (slice_get array at ≡ Some block) × HoldsRun (at + 1) blocks array
+
+-- the block is none of so many from `at` on
+abbrev pub IsOutside : ℕ → ℕ → ℕ → Type 0
+IsOutside at count k = (k < at) ⊎ (at + count ≤ k)
+
+-- A read of a run from `at` on into a target. A fault leaves any bytes in the target.
+pub record ReadsLeg (honest succeeded : Bool) (at : ℕ) (old new : Leg) (filled : List ℕ)
+    : Type 0 where
   pub calls : CallsLeg succeeded old new
-  pub found : IsTrue honest → IsTrue succeeded → slice_get old.contents at ≡ Some filled
-  pub target_left : IsFalse succeeded → filled ≡ target
+  pub found : IsTrue honest → IsTrue succeeded
+      → HoldsRun at (blocks_of filled) old.contents
   pub contents : IsTrue honest → new.contents ≡ old.contents
   pub durable : IsTrue honest → new.durable ≡ old.durable
 
--- A write of the block at `at`. A fault leaves any bytes there, and what is durable there is open.
+-- A write of a run from `at` on. A fault leaves any bytes in each of its blocks, and what is
+-- durable there is open.
 pub record WritesLeg (honest succeeded : Bool) (at : ℕ) (bytes : List ℕ)
     (old new : Leg) : Type 0 where
   pub calls : CallsLeg succeeded old new
   pub written : IsTrue honest → IsTrue succeeded
-      → new.contents ≡ slice_set old.contents at (block_of bytes)
-  pub others : IsTrue honest → (k : ℕ) → k ≢ at
+      → new.contents ≡ set_run at (blocks_of bytes) old.contents
+  pub others : IsTrue honest → (k : ℕ) → IsOutside at (blocks_in bytes) k
       → slice_get new.contents k ≡ slice_get old.contents k
-  pub durable_others : IsTrue honest → (k : ℕ) → k ≢ at
+  pub durable_others : IsTrue honest → (k : ℕ) → IsOutside at (blocks_in bytes) k
       → slice_get new.durable k ≡ slice_get old.durable k
 
 -- A sync. A fault leaves what is durable wherever it equals the contents.

@@ -1,3 +1,4 @@
+pub mod Bytes
 pub mod Fuse
 pub mod Leg
 pub mod LegCalls

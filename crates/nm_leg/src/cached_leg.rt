@@ -1,7 +1,7 @@
 ghost use Rattle.std.specs.Prelude.{◌≡◌, ◌<◌, true, length, slice_get, is_ok, Some, IfOk, OnErr};
-ghost use Rattle.nm_replay.specs.declared.block.TheConstants.{BLOCK_BYTES};
-ghost use Rattle.nm_leg.specs.Leg.{WritesLeg, zeroed_leg};
+ghost use Rattle.nm_leg.specs.Leg.{IsRun, WritesLeg, zeroed_leg};
 
+use crate::moving::{put_blocks, take_blocks};
 use crate::{LegFault, LegPart};
 use nm_replay::{Block, Memory};
 use std::alloc::Global;
@@ -52,19 +52,18 @@ impl LegPart for CachedLeg {
         self.contents.len() as u64
     }
 
-    fn read(&mut self, at: u64, into: &mut Block) -> Result<(), LegFault> {
-        into.0.copy_from_slice(&self.contents[at as usize].0);
+    fn read(&mut self, at: u64, into: &mut [u8]) -> Result<(), LegFault> {
+        take_blocks(&self.contents, at as usize, into);
         Ok(())
     }
 
     fn write(&mut self, at: u64, bytes: &[u8]) -> Result<(), LegFault>
-        requires block { at < length (of_cached self.old).contents }
-        requires bytes { length bytes.now ≡ BLOCK_BYTES }
+        requires { IsRun at (length (of_cached self.old).contents) bytes.now }
         ensures cached { (of_cached self.new).durable ≡ (of_cached self.old).durable }
         ensures writes { WritesLeg true (is_ok result) at bytes.now
             (of_cached self.old) (of_cached self.new) }
     {
-        self.contents[at as usize].0.copy_from_slice(bytes);
+        put_blocks(&mut self.contents, at as usize, bytes);
         Ok(())
     }
 

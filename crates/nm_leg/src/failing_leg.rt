@@ -3,7 +3,6 @@ ghost use Rattle.nm_leg.specs.Leg.{ReadsLeg, WritesLeg, SyncsLeg, zeroed_leg};
 ghost use Rattle.nm_leg.specs.TestLegs.{of_failing};
 
 use crate::{LegFault, LegPart};
-use nm_replay::Block;
 
 /// A leg whose every read, write and sync fails, for tests. It is honest: it keeps its zero blocks.
 #[derive(Drop)]
@@ -40,10 +39,10 @@ impl LegPart for FailingLeg {
         self.blocks
     }
 
-    fn read(&mut self, at: u64, into: &mut Block) -> Result<(), LegFault>
+    fn read(&mut self, at: u64, into: &mut [u8]) -> Result<(), LegFault>
         ensures fails { IsErr result }
         ensures reads { ReadsLeg true (is_ok result) at
-            (of_failing self.old) (of_failing self.new) into.old into.new }
+            (of_failing self.old) (of_failing self.new) into.new }
     {
         self.fail()
     }

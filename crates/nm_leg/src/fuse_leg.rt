@@ -1,16 +1,14 @@
 ghost use Rattle.std.specs.Prelude.{◌≡◌, ◌+◌, ◌%◌, ◌^◌, ◌<◌, true, length, refl, is_ok, slice_get};
-ghost use Rattle.std.specs.Prelude.{slice_set, Some, IfSome, IfOk, IsErr, OnErr};
-ghost use Rattle.nm_replay.specs.declared.block.TheConstants.{BLOCK_BYTES};
-ghost use Rattle.nm_leg.specs.Leg.{WritesLeg, filled_leg, torn_block};
+ghost use Rattle.std.specs.Prelude.{Some, IfSome, IfOk, IsErr, OnErr};
+ghost use Rattle.nm_leg.specs.Leg.{IsRun, WritesLeg, filled_leg};
+ghost use Rattle.nm_leg.specs.TestLegs.{torn_at, torn_run};
 
 use crate::fuse::Fuse;
+use crate::moving::{put_blocks, take_blocks};
 use crate::{LegFault, LegPart};
 use nm_replay::{BLOCK_BYTES, Block, Memory};
 use std::alloc::Global;
 use std::cell::Cell;
-
-/// How many bytes of a block a write that fails still writes.
-const TORN: usize = 256;
 
 /// An honest leg in memory whose calls fail as a fuse says, for tests.
 ///
@@ -23,12 +21,18 @@ pub struct FuseLeg {
     fuse: Cell<Fuse>,
 }
 
-/// Writes the first of the bytes to the block.
-fn tear(block: &mut Block, bytes: &[u8])
-    requires { length bytes.now ≡ BLOCK_BYTES }
-    ensures { block.new ≡ torn_block bytes.now block.old }
+/// Writes the first half of a run's bytes.
+fn tear(blocks: &mut [Block], at: usize, bytes: &[u8])
+    requires { IsRun at (length blocks.old) bytes.now }
+    ensures { IfSome (slice_get blocks.old (torn_at at bytes.now))
+        (λ was. blocks.new ≡ torn_run at bytes.now was blocks.old) }
 {
-    block.0[..TORN].copy_from_slice(&bytes[..TORN]);
+    let half = &bytes[..bytes.len() / 2];
+    let whole = half.len() / BLOCK_BYTES;
+    let rest = &half[whole * BLOCK_BYTES..];
+    put_blocks(blocks, at, half);
+    let torn = &mut blocks[at + whole].0[..];
+    torn[..rest.len()].copy_from_slice(rest);
 }
 
 impl FuseLeg {
@@ -112,28 +116,27 @@ impl LegPart for FuseLeg {
         self.blocks.len() as u64
     }
 
-    fn read(&mut self, at: u64, into: &mut Block) -> Result<(), LegFault> {
+    fn read(&mut self, at: u64, into: &mut [u8]) -> Result<(), LegFault> {
         if self.burn() {
             return self.fail();
         }
-        into.0.copy_from_slice(&self.blocks[at as usize].0);
+        take_blocks(&self.blocks, at as usize, into);
         Ok(())
     }
 
     fn write(&mut self, at: u64, bytes: &[u8]) -> Result<(), LegFault>
-        requires block { at < length (of_fuse self.old).contents }
-        requires bytes { length bytes.now ≡ BLOCK_BYTES }
-        ensures torn { IfSome (slice_get (of_fuse self.old).contents at) (λ was. OnErr result
-            ((of_fuse self.new).contents
-            ≡ slice_set (of_fuse self.old).contents at (torn_block bytes.now was))) }
+        requires { IsRun at (length (of_fuse self.old).contents) bytes.now }
+        ensures torn { IfSome (slice_get (of_fuse self.old).contents (torn_at at bytes.now))
+            (λ was. OnErr result ((of_fuse self.new).contents
+            ≡ torn_run at bytes.now was (of_fuse self.old).contents)) }
         ensures writes { WritesLeg true (is_ok result) at bytes.now
             (of_fuse self.old) (of_fuse self.new) }
     {
         if self.burn() {
-            tear(&mut self.blocks[at as usize], bytes);
+            tear(&mut self.blocks, at as usize, bytes);
             return self.fail();
         }
-        self.blocks[at as usize].0.copy_from_slice(bytes);
+        put_blocks(&mut self.blocks, at as usize, bytes);
         Ok(())
     }
 

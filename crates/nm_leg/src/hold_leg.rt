@@ -1,9 +1,7 @@
-ghost use Rattle.std.specs.Prelude.{◌≡◌, ◌<◌, length, is_ok};
-ghost use Rattle.nm_replay.specs.declared.block.TheConstants.{BLOCK_BYTES};
-ghost use Rattle.nm_leg.specs.Leg.{ReadsLeg, WritesLeg, SyncsLeg};
+ghost use Rattle.std.specs.Prelude.{◌≡◌, length, is_ok};
+ghost use Rattle.nm_leg.specs.Leg.{IsRun, ReadsLeg, WritesLeg, SyncsLeg};
 
 use crate::{LegFault, LegPart};
-use nm_replay::Block;
 use std::thread::yield_now;
 
 /// Says whether the calls of a leg are held.
@@ -69,18 +67,17 @@ impl<L: LegPart, H: Hold> LegPart for HoldLeg<L, H> {
         self.leg.len()
     }
 
-    fn read(&mut self, at: u64, into: &mut Block) -> Result<(), LegFault>
-        requires { at < length (L.model self.old.leg).contents }
+    fn read(&mut self, at: u64, into: &mut [u8]) -> Result<(), LegFault>
+        requires { IsRun at (length (L.model self.old.leg).contents) into.old }
         ensures reads { ReadsLeg L.honest (is_ok result) at (L.model self.old.leg)
-            (L.model self.new.leg) into.old into.new }
+            (L.model self.new.leg) into.new }
     {
         self.wait();
         self.leg.read(at, into)
     }
 
     fn write(&mut self, at: u64, bytes: &[u8]) -> Result<(), LegFault>
-        requires block { at < length (L.model self.old.leg).contents }
-        requires bytes { length bytes.now ≡ BLOCK_BYTES }
+        requires { IsRun at (length (L.model self.old.leg).contents) bytes.now }
         ensures writes { WritesLeg L.honest (is_ok result) at bytes.now (L.model self.old.leg)
             (L.model self.new.leg) }
     {

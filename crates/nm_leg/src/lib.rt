@@ -27,3 +27,4 @@ mod leg_fault;
 mod leg_part;
 mod lying_leg;
 mod mem_leg;
+mod moving;

@@ -1,10 +1,8 @@
-ghost use Rattle.std.specs.Prelude.{◌≡◌, false, refl, replicate, is_ok};
-ghost use Rattle.nm_replay.specs.declared.block.TheConstants.{BLOCK_BYTES};
-ghost use Rattle.nm_leg.specs.Leg.{ReadsLeg, block_of, zeroed_leg};
+ghost use Rattle.std.specs.Prelude.{◌≡◌, false, length, refl, replicate, is_ok};
+ghost use Rattle.nm_leg.specs.Leg.{ReadsLeg, zeroed_leg};
 ghost use Rattle.nm_leg.specs.TestLegs.{of_lying};
 
 use crate::{LegFault, LegPart};
-use nm_replay::Block;
 
 /// A leg that is not honest, for tests: it answers success to every call, keeps nothing that is
 /// written, and each read of it gives bytes of 255.
@@ -33,12 +31,12 @@ impl LegPart for LyingLeg {
         self.blocks
     }
 
-    fn read(&mut self, at: u64, into: &mut Block) -> Result<(), LegFault>
-        ensures lies { into.new ≡ block_of (replicate BLOCK_BYTES 255) }
+    fn read(&mut self, at: u64, into: &mut [u8]) -> Result<(), LegFault>
+        ensures lies { into.new ≡ replicate (length into.old) 255 }
         ensures reads { ReadsLeg false (is_ok result) at
-            (of_lying self.old) (of_lying self.new) into.old into.new }
+            (of_lying self.old) (of_lying self.new) into.new }
     {
-        into.0.fill(255);
+        into.fill(255);
         Ok(())
     }
 
