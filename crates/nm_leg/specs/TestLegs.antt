@@ -43,4 +43,4 @@ abbrev pub torn_run : ℕ → List ℕ → Block → Array → Array
 torn_run at bytes was array =
     let half = half_of bytes in
     slice_set (set_run at (blocks_of half) array) (torn_at at bytes)
-        (torn_block (drop (512 * blocks_in half) half) was)
+    (torn_block (drop (512 * blocks_in half) half) was)

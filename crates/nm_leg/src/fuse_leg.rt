@@ -4,7 +4,7 @@ ghost use Rattle.nm_leg.specs.Leg.{IsRun, WritesLeg, filled_leg};
 ghost use Rattle.nm_leg.specs.TestLegs.{torn_at, torn_run};
 
 use crate::fuse::Fuse;
-use crate::moving::{put_blocks, take_blocks};
+use crate::moving::{put_blocks, splice, take_blocks};
 use crate::{LegFault, LegPart};
 use nm_replay::{BLOCK_BYTES, Block, Memory};
 use std::alloc::Global;
@@ -31,8 +31,7 @@ fn tear(blocks: &mut [Block], at: usize, bytes: &[u8])
     let whole = half.len() / BLOCK_BYTES;
     let rest = &half[whole * BLOCK_BYTES..];
     put_blocks(blocks, at, half);
-    let torn = &mut blocks[at + whole].0[..];
-    torn[..rest.len()].copy_from_slice(rest);
+    splice(&mut blocks[at + whole].0, 0, rest);
 }
 
 impl FuseLeg {

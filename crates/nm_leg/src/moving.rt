@@ -6,7 +6,7 @@ ghost use Rattle.nm_leg.specs.Leg.{HoldsRun, IsRun, blocks_in, blocks_of, set_ru
 use nm_replay::{BLOCK_BYTES, Block};
 
 /// Changes a part of the bytes, from `at` on.
-fn splice(bytes: &mut [u8], at: usize, part: &[u8])
+pub(crate) fn splice(bytes: &mut [u8], at: usize, part: &[u8])
     requires { at + length part.now ≤ length bytes.old }
     ensures { bytes.new ≡ spliced at part.now bytes.old }
 {
