@@ -272,7 +272,7 @@ module _ {L : Type 0} (type : LegType L) (old new : StripeState L) (block : ℕ)
     lengths = λ leg. ap (λ xs. length (contents_of type.model xs leg)) same;
     contents = λ is_honest leg. ap (λ xs. contents_of type.model xs leg) same;
   }
-  base-same true base reads = read-same type old new.legs true old.master block reads.0 base reads.1
+  base-same true base reads = read-same type old new.legs true old.master block base reads
 
   module _ (ticket : ℕ) (k : Keeps type old) (b : Begins type old new block bytes ticket) where
     -- the stripe with the legs that the read left
@@ -294,7 +294,7 @@ module _ {L : Type 0} (type : LegType L) (old new : StripeState L) (block : ℕ)
         let reads : ReadsBase type true old new.legs block b.base = subst (λ (p : Bool). ReadsBase type p old new.legs block b.base) part b.reads in
         (array-at type.model mid block).free may.free
         ∙ ap (λ xs. slice_get xs block) (mid-same.contents is_honest old.master)
-        ∙ reads-found type old.legs new.legs old.master block reads.0 b.base is_honest reads.1
+        ∙ reads-found type old.legs new.legs old.master block b.base is_honest reads
 
     base-inside : block < old.place.blocks → block < length (stripe_array type.model mid)
     base-inside inside = omega (arith, inside, length-array type.model mid, mid-keeps.legs.lengths old.master (master_inside type.model mid mid-keeps.legs))
@@ -335,5 +335,5 @@ fails_in_begin-explained type old new block bytes is_honest k f = record {
   events = [];
   marked = refl;
   acts = subst (λ s. Acts type.model old s []) (sym f.after)
-      (called-acts type old new.legs (read-same type old new.legs false old.master block f.called.target f.called.found f.called.reads) is_honest k);
+      (called-acts type old new.legs (read-same type old new.legs false old.master block f.called.found f.called.reads) is_honest k);
 }

@@ -4,7 +4,8 @@ use Rattle.std.proofs.lemmas.Option.{slice_get_within}
 use Rattle.nm_replay.specs.declared.block.Block.{Block}
 use Rattle.nm_replay.proofs.Arrays.{slice_get-set_same, slice_get-set_other}
 use Rattle.nm_leg.specs.Leg.{Leg, LegType}
-use Rattle.nm_leg.specs.LegCalls.{ChangesLeg, ReadsLegAt, SyncsLegAt, WritesLegAt}
+use Rattle.nm_leg.specs.LegCalls.{ChangesLeg, SyncsLegAt}
+use Rattle.nm_rules.specs.BlockCalls.{ReadsBlockAt, WritesBlockAt}
 use Rattle.nm_rules.specs.Array.{contents_of}
 use Rattle.nm_rules.specs.Flushed.{durable_at, durable_of}
 use Rattle.nm_rules.proofs.LegLemmas.{calls-after, calls-before, calls-other}
@@ -24,13 +25,13 @@ calls-durable_before : {L : Type 0} (model : L → Leg) (old new : List L) (k : 
 calls-durable_before model old new k before after calls = ap (λ o. durable_at model o) calls.was
 
 -- an honest read changes nothing that is durable
-pub reads-durable : {L : Type 0} (type : LegType L) (succeeded : Bool) (old new : List L) (k at j : ℕ) (target filled : Block) → IsTrue type.honest → ReadsLegAt type succeeded k at old new target filled → durable_of type.model new j ≡ durable_of type.model old j
-reads-durable type succeeded old new k at j target filled is_honest r =
+pub reads-durable : {L : Type 0} (type : LegType L) (succeeded : Bool) (old new : List L) (k at j : ℕ) (filled : Block) → IsTrue type.honest → ReadsBlockAt type succeeded k at old new filled → durable_of type.model new j ≡ durable_of type.model old j
+reads-durable type succeeded old new k at j filled is_honest r =
     ⊎_elim (λ is. subst (λ (i : ℕ). durable_of type.model new i ≡ durable_of type.model old i) (sym is)
     (calls-durable_after type.model old new k r.before r.after r.change ∙ r.reads.durable is_honest ∙ sym (calls-durable_before type.model old new k r.before r.after r.change)))
     (λ ne. calls-durable_other type.model old new k j r.before r.after r.change ne) (one_or_two j k)
 
-module _ {L : Type 0} (type : LegType L) (succeeded : Bool) (old new : List L) (k at : ℕ) (bytes : List ℕ) (w : WritesLegAt type succeeded k at bytes old new) where
+module _ {L : Type 0} (type : LegType L) (succeeded : Bool) (old new : List L) (k at : ℕ) (bytes : List ℕ) (w : WritesBlockAt type succeeded k at bytes old new) where
   -- a write, whether it went well or not, leaves each other block of every leg, and what is durable of it
   pub writes-contents_block : (j b : ℕ) → IsTrue type.honest → b ≢ at → slice_get (contents_of type.model new j) b ≡ slice_get (contents_of type.model old j) b
   writes-contents_block j b is_honest off =

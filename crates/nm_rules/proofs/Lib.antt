@@ -2,6 +2,7 @@ pub mod ActsLemmas
 pub mod ArrayLemmas
 pub mod AttachLemmas
 pub mod BeginLemmas
+pub mod BlockCallLemmas
 pub mod CalledLemmas
 pub mod CauseLemmas
 pub mod ChunkLemmas

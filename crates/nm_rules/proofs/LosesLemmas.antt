@@ -12,7 +12,8 @@ use Rattle.nm_fanout.specs.RecordData.{bytes_of}
 use Rattle.nm_fanout.specs.Record.{owes}
 use Rattle.nm_fanout.proofs.Owed.{owes-under_way}
 use Rattle.nm_leg.specs.Leg.{CallsLeg, LegType}
-use Rattle.nm_leg.specs.LegCalls.{ChangesLeg, ReadsLegAt, SyncsLegAt, WritesLegAt}
+use Rattle.nm_leg.specs.LegCalls.{ChangesLeg, SyncsLegAt}
+use Rattle.nm_rules.specs.BlockCalls.{ReadsBlockAt, WritesBlockAt}
 use Rattle.nm_regions.specs.declared.copy_place.CopyPlace.{CopyPlace}
 use Rattle.nm_regions.specs.LegFlags.{is_behind}
 use Rattle.nm_regions.specs.Table.{has_copied, leg_at, region_of, targets}
@@ -83,15 +84,15 @@ module _ {L : Type 0} (type : LegType L) (succeeded : Bool) (old : StripeState L
   }
 
   -- a read
-  pub read-loses : (at : ℕ) (target filled : Block) → ReadsLegAt type succeeded leg at old.legs legs target filled → LosesLeg type old legs leg
-  read-loses at target filled r = call-loses r.before r.after r.change r.reads.calls (λ is_honest b clear. ap (λ xs. slice_get xs b) (r.reads.contents is_honest))
+  pub read-loses : (at : ℕ) (filled : Block) → ReadsBlockAt type succeeded leg at old.legs legs filled → LosesLeg type old legs leg
+  read-loses at filled r = call-loses r.before r.after r.change r.reads.calls (λ is_honest b clear. ap (λ xs. slice_get xs b) (r.reads.contents is_honest))
 
   -- a sync
   pub sync-loses : SyncsLegAt type succeeded leg old.legs legs → LosesLeg type old legs leg
   sync-loses s = call-loses s.before s.after s.change s.syncs.calls (λ is_honest b clear. ap (λ xs. slice_get xs b) (s.syncs.contents is_honest))
 
   -- and a write, where its block is behind
-  pub write-loses : (at : ℕ) (bytes : List ℕ) → is_behind (at / old.place.region) (dirty_and_out (table old).writes (leg_at leg (table old))) ≡ true → WritesLegAt type succeeded leg at bytes old.legs legs → LosesLeg type old legs leg
+  pub write-loses : (at : ℕ) (bytes : List ℕ) → is_behind (at / old.place.region) (dirty_and_out (table old).writes (leg_at leg (table old))) ≡ true → WritesBlockAt type succeeded leg at bytes old.legs legs → LosesLeg type old legs leg
   write-loses at bytes behind w =
       call-loses w.before w.after w.change w.writes.calls
       (λ is_honest b clear. w.writes.others is_honest b

@@ -66,7 +66,7 @@ module _ {L : Type 0} (type : LegType L) (old : StripeState L) (legs : List L) (
 
   -- the call changed no contents
   same_contents : SameContents type old legs
-  same_contents = read-same type old legs true leg block called.target bytes called.reads
+  same_contents = read-same type old legs true leg block bytes called.reads
 
   legs_keep : Keeps type (with_legs type old legs)
   legs_keep = called-keeps type old legs same_contents k
@@ -75,7 +75,7 @@ module _ {L : Type 0} (type : LegType L) (old : StripeState L) (legs : List L) (
   pub read-array : IsTrue type.honest → block < old.place.blocks → slice_get (stripe_array type.model old) block ≡ Some bytes
   read-array is_honest inside =
       sym (read_holds type old block is_honest k may.runs may.not_settling inside leg called.leg_is)
-      ∙ reads-found type old.legs legs leg block called.target bytes is_honest called.reads
+      ∙ reads-found type old.legs legs leg block bytes is_honest called.reads
 
   -- and leaves the array
   array_stays : IsTrue type.honest → stripe_array type.model new ≡ stripe_array type.model old
@@ -188,5 +188,5 @@ fails_in_read-explained type old new block bytes is_honest k f = record {
   events = [];
   marked = refl;
   acts = subst (λ s. Acts type.model old s []) (sym f.after)
-      (called-acts type old new.legs (read-same type old new.legs false f.leg block f.called.target bytes f.called.reads) is_honest k);
+      (called-acts type old new.legs (read-same type old new.legs false f.leg block bytes f.called.reads) is_honest k);
 }

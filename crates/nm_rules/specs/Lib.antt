@@ -2,6 +2,7 @@ pub mod Acts
 pub mod Array
 pub mod Attach
 pub mod Begin
+pub mod BlockCalls
 pub mod Cause
 pub mod Claim
 pub mod Comparing
