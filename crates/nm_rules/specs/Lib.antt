@@ -21,6 +21,13 @@ pub mod Push
 pub mod Read
 pub mod Receipt
 pub mod Refusal
+pub mod RunBegin
+pub mod RunCalls
+pub mod RunClaim
+pub mod RunCopy
+pub mod RunPush
+pub mod RunRead
+pub mod Runs
 pub mod Shape
 pub mod Sound
 pub mod State
