@@ -101,7 +101,7 @@ module _ {L : Type 0} (type : LegType L) (old : StripeState L) (block : ℕ) (by
       (mark-behind region (region_of b (table old)) (leg_at leg (table old))) here
 
   -- whether a leg is current stays
-  begin-current : (leg b : ℕ) → is_current leg b begun_state ≡ is_current leg b old
+  pub begin-current : (leg b : ℕ) → is_current leg b begun_state ≡ is_current leg b old
   begin-current leg b =
       let copied : Bool = has_copied leg (region_of b (table old)) (place_of b (table old)) old.copy in
       ap (λ (l : LegRegions). (not l.out && not (is_behind (region_of b (table old)) l)) || copied) (begin-leg_at leg)

@@ -1,5 +1,5 @@
 -- A call of a leg for a run of one block is a call for that block.
-use Rattle.std.proofs.Common.{◌≡◌, ◌≢◌, ⊎_elim, inl, inr, ℕ, ◌+◌, ◌<◌, ◌/◌, Bool, true, IsTrue, List, [], ◌∷◌, length, take, Some, refl, sym, ap, ◌∙◌, subst, arith, slice_get, slice_set}
+use Rattle.std.proofs.Common.{◌≡◌, ◌≢◌, ⊎_elim, inl, inr, ℕ, ◌/◌, Bool, List, [], ◌∷◌, length, ap, ◌∙◌, subst, arith}
 use Rattle.std.proofs.lemmas.Bool.{cases_lt}
 use Rattle.std.proofs.lemmas.List.{take_all}
 use Rattle.nm_replay.specs.declared.block.Block.{Block}

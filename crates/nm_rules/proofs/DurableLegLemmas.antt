@@ -17,11 +17,11 @@ calls-durable_other model old new k j before after calls ne =
     ap (λ xs. durable_of model xs j) calls.others ∙ ap (λ o. durable_at model o) (slice_get-set_other old k j after (λ e. ne (sym e)))
 
 -- of the called leg it is what the call left
-calls-durable_after : {L : Type 0} (model : L → Leg) (old new : List L) (k : ℕ) (before after : L) → ChangesLeg model k old new before after → durable_of model new k ≡ (model after).durable
+pub calls-durable_after : {L : Type 0} (model : L → Leg) (old new : List L) (k : ℕ) (before after : L) → ChangesLeg model k old new before after → durable_of model new k ≡ (model after).durable
 calls-durable_after model old new k before after calls =
     ap (λ xs. durable_of model xs k) calls.others ∙ ap (λ o. durable_at model o) (slice_get-set_same old k after (slice_get_within old k before calls.was))
 
-calls-durable_before : {L : Type 0} (model : L → Leg) (old new : List L) (k : ℕ) (before after : L) → ChangesLeg model k old new before after → durable_of model old k ≡ (model before).durable
+pub calls-durable_before : {L : Type 0} (model : L → Leg) (old new : List L) (k : ℕ) (before after : L) → ChangesLeg model k old new before after → durable_of model old k ≡ (model before).durable
 calls-durable_before model old new k before after calls = ap (λ o. durable_at model o) calls.was
 
 -- an honest read changes nothing that is durable

@@ -1,6 +1,7 @@
 -- A leg that a step calls is not out, and where its call fails, it changes no more than what is behind
 -- for it once it has gone out.
-use Rattle.std.proofs.Common.{◌≡◌, ℕ, ◌+◌, ◌/◌, ◌*◌, ◌<◌, ◌&&◌, ◌||◌, zero, suc, Bool, true, false, not, IsTrue, List, [], ◌∷◌, length, Some, get_or, refl, sym, ap, ◌∙◌, subst, arith, cond, slice_get}
+use Rattle.std.proofs.Common.{◌≡◌, ⊎_elim, inl, inr, ℕ, ◌≤◌, ◌+◌, ◌/◌, ◌*◌, ◌<◌, ◌&&◌, ◌||◌, zero, suc, Bool, true, false, not, IsTrue, List, [], ◌∷◌, length, Some, get_or, refl, sym, ap, ◌∙◌, subst, arith, cond, slice_get}
+use Rattle.std.proofs.lemmas.Bool.{cases_lt}
 use Rattle.std.proofs.lemmas.List.Quantifiers.{position-Some}
 use Rattle.std.proofs.lemmas.Nat.{div-mul-add}
 use Rattle.std.proofs.lemmas.Option.{same_Some}
@@ -22,6 +23,7 @@ use Rattle.nm_rules.specs.Copy.{CallsToCopyWrite}
 use Rattle.nm_rules.specs.Invariant.{Keeps}
 use Rattle.nm_rules.specs.Lost.{dirty_and_out}
 use Rattle.nm_rules.specs.Push.{CallsToPush}
+use Rattle.nm_rules.specs.RunCalls.{WritesRunAt}
 use Rattle.nm_rules.specs.Read.{current_legs, read_leg, true_from}
 use Rattle.nm_rules.specs.State.{Chunk, StripeState, copy_start, is_current, is_out, is_quiet, leg_state, table}
 use Rattle.nm_rules.proofs.ChunkLemmas.{not_copying}
@@ -98,6 +100,19 @@ module _ {L : Type 0} (type : LegType L) (succeeded : Bool) (old : StripeState L
       (λ is_honest b clear. w.writes.others is_honest b
       (λ is. let here : is_behind (b / old.place.region) (dirty_and_out (table old).writes (leg_at leg (table old))) ≡ true = subst (λ (n : ℕ). is_behind (n / old.place.region) (dirty_and_out (table old).writes (leg_at leg (table old))) ≡ true) (sym is) behind in
       absurd (let clash : true ≡ false = sym here ∙ clear in cc)))
+
+  -- and a write of a run, where each of its blocks is behind
+  pub run-loses : (at : ℕ) (blocks : List Block) → ((b : ℕ) → at ≤ b → b < at + length blocks → is_behind (b / old.place.region) (dirty_and_out (table old).writes (leg_at leg (table old))) ≡ true) → WritesRunAt type succeeded leg at blocks old.legs legs → LosesLeg type old legs leg
+  run-loses at blocks behind w =
+      call-loses w.before w.after w.change w.writes.calls
+      (λ is_honest b clear.
+      ⊎_elim
+      (λ low. w.writes.others is_honest b (inl low))
+      (λ from. ⊎_elim
+      (λ inside. let here : is_behind (b / old.place.region) (dirty_and_out (table old).writes (leg_at leg (table old))) ≡ true = behind b from inside in absurd (let clash : true ≡ false = sym here ∙ clear in cc))
+      (λ past. w.writes.others is_honest b (inr past))
+      (cases_lt b (at + length blocks)))
+      (cases_lt b at))
 
 -- and no call at all
 pub none-loses : {L : Type 0} (type : LegType L) (old : StripeState L) (leg : ℕ) → LosesLeg type old old.legs leg

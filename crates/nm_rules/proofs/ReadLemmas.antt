@@ -14,8 +14,10 @@ use Rattle.nm_leg.specs.Leg.{LegType}
 use Rattle.nm_rules.specs.declared.refusal.Refusal.TheVariants.{Stopped, Settling, Exhausted}
 use Rattle.nm_rules.specs.Acts.{Acts, IsExplainedStep}
 use Rattle.nm_rules.specs.Array.{laid_from, stripe_array, write_life, read_life}
+use Rattle.nm_rules.specs.Kept.{kept_with}
 use Rattle.nm_rules.specs.Invariant.{HasNumbers, LegsAgree, Keeps}
-use Rattle.nm_rules.specs.Read.{CallsToRead, FailsInRead, Finds, after_read, read_cause, read_rows}
+use Rattle.nm_rules.specs.Read.{FailsInRead, Finds, after_read, read_cause, read_rows, turn_after}
+use Rattle.nm_rules.specs.BlockCalls.{ReadsBlockAt}
 use Rattle.nm_rules.specs.Receipt.{EntryName}
 use Rattle.nm_rules.specs.State.{StripeState, is_exhausted, is_quiet, next_number}
 use Rattle.nm_rules.proofs.CalledLemmas.{SameContents, with_legs, called-keeps, called-acts, read-same}
@@ -23,8 +25,17 @@ use Rattle.nm_rules.proofs.CauseLemmas.{none_holds, when_off, below}
 use Rattle.nm_rules.proofs.ChunkLemmas.{chunk-stays}
 use Rattle.nm_rules.proofs.KeptLemmas.{kept_start, kept-starts, kept-numbered, kept-length, kept-consistent, kept-ends}
 use Rattle.nm_rules.proofs.LegLemmas.{reads-found}
-use Rattle.nm_rules.proofs.ReadLegLemmas.{read_holds}
+use Rattle.nm_rules.proofs.ReadLegLemmas.{ReadFrom, from_holds, read_from}
 use Rattle.nm_rules.proofs.RecordLemmas.{same}
+
+-- the stripe after a read of a block, with this turn
+abbrev pub after_read_one : {L : Type 0} → StripeState L → List L → ℕ → Block → ℕ → StripeState L
+after_read_one old legs block bytes turn = record old {
+  legs = legs;
+  turn = turn;
+  kept = kept_with (entry_of_read (next_number old) block bytes ∷ []) old.kept;
+  total = old.total + 1;
+}
 
 -- a block may be read
 pub record MayRead {L : Type 0} (stripe : StripeState L) : Type 0 where
@@ -47,13 +58,13 @@ read_events number block bytes =
     BeginsRead number block ∷ Lands (entry_of_read number block bytes) ∷ RepliesRead number bytes ∷ []
 
 -- the turn stays in its range
-turn-below : (turn : ℕ) (quiet : Bool) → turn < 840 → cond quiet (next_turn turn) turn < 840
+pub turn-below : (turn : ℕ) (quiet : Bool) → turn < 840 → cond quiet (next_turn turn) turn < 840
 turn-below turn true few = mod_below (turn + 1) 840 (omega arith)
 turn-below turn false few = few
 
-module _ {L : Type 0} (type : LegType L) (old : StripeState L) (legs : List L) (block leg : ℕ) (bytes : Block) (k : Keeps type old) (called : CallsToRead type true old legs block leg bytes) where
+module _ {L : Type 0} (type : LegType L) (old : StripeState L) (legs : List L) (block leg : ℕ) (bytes : Block) (k : Keeps type old) (may : MayRead old) (from : ReadFrom type old block leg) (reads : ReadsBlockAt type true leg block old.legs legs bytes) (turn : ℕ) (few : turn < 840) where
   abbrev new : StripeState L
-  new = after_read old legs block bytes
+  new = after_read_one old legs block bytes turn
 
   abbrev number : ℕ
   number = next_number old
@@ -61,12 +72,9 @@ module _ {L : Type 0} (type : LegType L) (old : StripeState L) (legs : List L) (
   abbrev entry : Entry
   entry = entry_of_read number block bytes
 
-  may : MayRead old
-  may = may_read old called.no_cause
-
   -- the call changed no contents
   same_contents : SameContents type old legs
-  same_contents = read-same type old legs true leg block bytes called.reads
+  same_contents = read-same type old legs true leg block bytes reads
 
   legs_keep : Keeps type (with_legs type old legs)
   legs_keep = called-keeps type old legs same_contents k
@@ -74,8 +82,8 @@ module _ {L : Type 0} (type : LegType L) (old : StripeState L) (legs : List L) (
   -- the read finds what the array has
   pub read-array : IsTrue type.honest → block < old.place.blocks → slice_get (stripe_array type.model old) block ≡ Some bytes
   read-array is_honest inside =
-      sym (read_holds type old block is_honest k may.runs may.not_settling inside leg called.leg_is)
-      ∙ reads-found type old.legs legs leg block bytes is_honest called.reads
+      sym (from_holds type old block is_honest k may.runs may.not_settling inside leg from)
+      ∙ reads-found type old.legs legs leg block bytes is_honest reads
 
   -- and leaves the array
   array_stays : IsTrue type.honest → stripe_array type.model new ≡ stripe_array type.model old
@@ -124,7 +132,7 @@ module _ {L : Type 0} (type : LegType L) (old : StripeState L) (legs : List L) (
             (λ c h is. record { long = is.long; some = is.some; most = is.most; more = is.more; read_first = is.read_first })
             mid.chunk;
         numbers = read-numbers;
-        turn = turn-below old.turn (is_quiet block old) k.turn;
+        turn = few;
         consistent = λ is_honest. kept-consistent old.kept (entry ∷ [])
             (consistent-read k.numbers.start old.kept (stripe_array type.model old) number block bytes k.numbers.numbered (sym k.numbers.starts) (k.agrees is_honest may.runs).last (read-array is_honest inside) (k.consistent is_honest));
         agrees = λ is_honest runs. read-agrees is_honest inside;
@@ -164,11 +172,11 @@ module _ {L : Type 0} (type : LegType L) (old : StripeState L) (legs : List L) (
 module _ {L : Type 0} (type : LegType L) (old new : StripeState L) (block : ℕ) (bytes : Block) (receipt : EntryName) (k : Keeps type old) (f : Finds type old new block bytes receipt) where
   -- a read keeps what every stripe keeps
   pub finds-keeps : block < old.place.blocks → Keeps type new
-  finds-keeps inside = subst (λ s. Keeps type s) (sym f.after) (read-keeps type old new.legs block f.leg bytes k f.called inside)
+  finds-keeps inside = subst (λ s. Keeps type s) (sym f.after) (read-keeps type old new.legs block f.leg bytes k (may_read old f.called.no_cause) (read_from type old block f.leg f.called.leg_is) f.called.reads (turn_after block old) (turn-below old.turn (is_quiet block old) k.turn) inside)
 
   -- finds what the array has
   pub finds-array : IsTrue type.honest → block < old.place.blocks → slice_get (stripe_array type.model old) block ≡ Some bytes
-  finds-array is_honest inside = read-array type old new.legs block f.leg bytes k f.called is_honest inside
+  finds-array is_honest inside = read-array type old new.legs block f.leg bytes k (may_read old f.called.no_cause) (read_from type old block f.leg f.called.leg_is) f.called.reads (turn_after block old) (turn-below old.turn (is_quiet block old) k.turn) is_honest inside
 
   receipt_number : receipt.number ≡ next_number old
   receipt_number = ap (λ (e : EntryName). e.number) f.names
@@ -178,7 +186,7 @@ module _ {L : Type 0} (type : LegType L) (old new : StripeState L) (block : ℕ)
   finds-acts is_honest inside =
       subst (λ s. Acts type.model old s (read_events receipt.number block bytes)) (sym f.after)
       (subst (λ (n : ℕ). Acts type.model old (after_read old new.legs block bytes) (read_events n block bytes)) (sym receipt_number)
-      (read-acts type old new.legs block f.leg bytes k f.called is_honest inside))
+      (read-acts type old new.legs block f.leg bytes k (may_read old f.called.no_cause) (read_from type old block f.leg f.called.leg_is) f.called.reads (turn_after block old) (turn-below old.turn (is_quiet block old) k.turn) is_honest inside))
 
   pub finds-explained : IsTrue type.honest → block < old.place.blocks → IsExplainedStep type.model (BeginsRead receipt.number block ∷ RepliesRead receipt.number bytes ∷ []) old new
   finds-explained is_honest inside = record { events = read_events receipt.number block bytes; marked = refl; acts = finds-acts is_honest inside }
