@@ -67,6 +67,7 @@ pub mod RunFlushedLemmas
 pub mod RunFormLemmas
 pub mod RunJoiningLemmas
 pub mod RunLegLemmas
+pub mod RunOneLemmas
 pub mod RunPushLemmas
 pub mod RunPushSteps
 pub mod RunReadLemmas
