@@ -60,6 +60,7 @@ pub mod RunBeginSteps
 pub mod RunBegunLemmas
 pub mod RunCallLemmas
 pub mod RunClaimLemmas
+pub mod RunComparingLemmas
 pub mod RunCopiedSteps
 pub mod RunCopyLemmas
 pub mod RunCopySteps

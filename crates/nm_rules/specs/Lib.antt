@@ -24,6 +24,7 @@ pub mod Refusal
 pub mod RunBegin
 pub mod RunCalls
 pub mod RunClaim
+pub mod RunComparing
 pub mod RunCopy
 pub mod RunPush
 pub mod RunRead
