@@ -2,19 +2,18 @@
 use Rattle.std.proofs.Common.{◌≡◌, ℕ, ◌+◌, ◌%◌, ◌^◌, ◌<◌, ◌≤◌, ◌==◌, ◌&&◌, Bool, true, false, List, [], ◌∷◌, length, Option, None, Some, refl, sym, ap, ◌∙◌, subst, arith, cond, nat_lt}
 use Rattle.std.specs.Option.{option_map}
 use Rattle.std.proofs.lemmas.Bool.Decides.{nat_tests}
-use Rattle.nm_replay.specs.Array.{put_of}
+use Rattle.nm_replay.specs.Array.{Put}
 use Rattle.nm_replay.specs.Events.{BeginsWrite, Event, marks_of}
 use Rattle.nm_fanout.specs.declared.record_data.RecordData.{RecordData}
 use Rattle.nm_fanout.specs.declared.write_record.Record.{Record}
 use Rattle.nm_fanout.specs.Record.{is_under_way}
-use Rattle.nm_fanout.specs.RecordData.{bytes_of, span_of}
 use Rattle.nm_fanout.specs.Records.{busy_among, busy_on, is_among, unlanded}
-use Rattle.nm_leg.specs.Leg.{LegType, block_of}
+use Rattle.nm_leg.specs.Leg.{LegType}
 use Rattle.nm_regions.specs.declared.copy_place.CopyPlace.{CopyPlace}
 use Rattle.nm_rules.specs.declared.refusal.Refusal.TheVariants.{Busy, Copying, Exhausted, Settling, Stopped}
 use Rattle.nm_rules.specs.Acts.{Acts, IsExplainedStep}
 use Rattle.nm_rules.specs.Invariant.{Keeps}
-use Rattle.nm_rules.specs.RunBegin.{BeginsRun, after_begin_run, begin_run_cause, begin_run_rows, begins_of, meets_copy}
+use Rattle.nm_rules.specs.RunBegin.{BeginsRun, after_begin_run, begin_run_cause, begin_run_rows, begins_of, meets_copy, puts_of}
 use Rattle.nm_rules.specs.Runs.{is_exhausted_by}
 use Rattle.nm_rules.specs.State.{Chunk, StripeState, next_number}
 use Rattle.nm_rules.proofs.CauseLemmas.{map_off, none_holds, when_off}
@@ -85,16 +84,16 @@ each-begun : {L : Type 0} (type : LegType L) (ds : List RecordData) (old : Strip
 each-begun type [] old block some apart short = absurd (let e : ⊥ = omega (arith, some) in e)
 each-begun type (d ∷ ds) old block some apart short = run-begun_so type ds d old block apart short
 
-marks-begins : (ticket block : ℕ) (ds : List RecordData) → marks_of (begins_of ticket block ds) ≡ begins_of ticket block ds
+marks-begins : (ticket block : ℕ) (puts : List Put) → marks_of (begins_of ticket block puts) ≡ begins_of ticket block puts
 marks-begins ticket block [] = refl
-marks-begins ticket block (d ∷ ds) = ap (λ (es : List Event). BeginsWrite ticket block (put_of (span_of d) (block_of (bytes_of d))) ∷ es) (marks-begins (ticket + 1) (block + 1) ds)
+marks-begins ticket block (put ∷ puts) = ap (λ (es : List Event). BeginsWrite ticket block put ∷ es) (marks-begins (ticket + 1) (block + 1) puts)
 
 module _ {L : Type 0} (type : LegType L) (run : Record → ℕ) (old new : StripeState L) (block : ℕ) (ds : List RecordData) (ticket : ℕ) (k : Keeps type old) (room : length old.records + length ds ≤ 256) (b : BeginsRun run old new block ds ticket) where
-  begins : RunDone type old new (begins_of ticket block ds)
+  begins : RunDone type old new (begins_of ticket block (puts_of ds))
   begins =
       let may = may_begin_run run old block (length ds) room b.no_cause in
-      subst (λ (t : ℕ). RunDone type old new (begins_of t block ds)) (sym b.next)
-      (subst (λ (s : StripeState L). RunDone type old s (begins_of old.tickets block ds)) (each-begun type ds old block b.fits.some may.apart b.fits.one_region ∙ sym b.after)
+      subst (λ (t : ℕ). RunDone type old new (begins_of t block (puts_of ds))) (sym b.next)
+      (subst (λ (s : StripeState L). RunDone type old s (begins_of old.tickets block (puts_of ds))) (each-begun type ds old block b.fits.some may.apart b.fits.one_region ∙ sym b.after)
       (run-begun type ds old block k may.may b.fits.inside b.whole))
 
   -- a begin of a run keeps what every stripe keeps
@@ -102,8 +101,8 @@ module _ {L : Type 0} (type : LegType L) (run : Record → ℕ) (old new : Strip
   begins_run-keeps = begins.keeps
 
   -- and begins each of its writes
-  pub begins_run-acts : Acts type.model old new (begins_of ticket block ds)
+  pub begins_run-acts : Acts type.model old new (begins_of ticket block (puts_of ds))
   begins_run-acts = begins.acts
 
-  pub begins_run-explained : IsExplainedStep type.model (begins_of ticket block ds) old new
-  begins_run-explained = record { events = begins_of ticket block ds; marked = marks-begins ticket block ds; acts = begins.acts }
+  pub begins_run-explained : IsExplainedStep type.model (begins_of ticket block (puts_of ds)) old new
+  begins_run-explained = record { events = begins_of ticket block (puts_of ds); marked = marks-begins ticket block (puts_of ds); acts = begins.acts }

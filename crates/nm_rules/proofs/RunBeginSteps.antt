@@ -16,7 +16,7 @@ use Rattle.nm_rules.specs.Acts.{Acts}
 use Rattle.nm_rules.specs.Array.{put_by, stripe_array}
 use Rattle.nm_rules.specs.Begin.{after_begin}
 use Rattle.nm_rules.specs.Invariant.{Keeps}
-use Rattle.nm_rules.specs.RunBegin.{AreWhole, begins_of}
+use Rattle.nm_rules.specs.RunBegin.{AreWhole, begins_of, puts_of}
 use Rattle.nm_rules.specs.State.{StripeState, is_copied_now, next_number, table}
 use Rattle.nm_rules.proofs.ActsLemmas.{acts-append, acts-none}
 use Rattle.nm_rules.proofs.BeginLemmas.{MayBegin, begin-acts, begin-keeps, new_record}
@@ -89,7 +89,7 @@ lies-whole d whole = subst (λ s. LiesInside s) (sym whole) tt
 
 pub run-begun : {L : Type 0} (type : LegType L) (ds : List RecordData) (old : StripeState L) (block : ℕ)
     → Keeps type old → MayBeginRun old block (length ds) → block + length ds ≤ old.place.blocks → AreWhole ds
-    → RunDone type old (begin_each old block ds) (begins_of old.tickets block ds)
+    → RunDone type old (begin_each old block ds) (begins_of old.tickets block (puts_of ds))
 run-begun type [] old block k m inside whole = record { keeps = k; acts = acts-none type.model old k.numbers.most }
 run-begun type (d ∷ ds) old block k m inside whole =
     let may = may-first old block (length ds) m in
@@ -97,6 +97,6 @@ run-begun type (d ∷ ds) old block k m inside whole =
     let rest = run-begun type ds (after_begin old block d) (block + 1) keeps (may-next old block d (length ds) m) (omega (arith, inside)) whole.2 in
     record {
       keeps = rest.keeps;
-      acts = acts-append type.model old (after_begin old block d) (begin_each old block (d ∷ ds)) (BeginsWrite old.tickets block (put_by (new_record type old block d)) ∷ []) (begins_of (old.tickets + 1) (block + 1) ds)
+      acts = acts-append type.model old (after_begin old block d) (begin_each old block (d ∷ ds)) (BeginsWrite old.tickets block (put_by (new_record type old block d)) ∷ []) (begins_of (old.tickets + 1) (block + 1) (puts_of ds))
           (begin-acts type old block d k) rest.acts;
     }

@@ -1,5 +1,5 @@
 -- A claim of a run is a claim of each of its blocks, in order: what it keeps, and how it is explained.
-use Rattle.std.proofs.Common.{◌≡◌, ◌≢◌, ℕ, ◌+◌, ◌<◌, List, [], ◌∷◌, refl, sym, ap, ◌∙◌, subst, arith}
+use Rattle.std.proofs.Common.{◌≡◌, ◌≢◌, ℕ, zero, suc, ◌+◌, ◌<◌, List, [], ◌∷◌, length, refl, sym, ap, ◌∙◌, subst, arith}
 use Rattle.nm_replay.specs.Events.{Event, RepliesWrite, marks_of}
 use Rattle.nm_fanout.proofs.Finding.{find_record-without_other}
 use Rattle.nm_fanout.specs.declared.write_record.Record.{Record}
@@ -34,7 +34,7 @@ finished-next u (q ∷ rs) records ticket block number below are =
 
 -- a claim of each of them
 run-claimed : {L : Type 0} (type : LegType L) (rs : List Record) (old : StripeState L) (ticket block number : ℕ)
-    → Keeps type old → AreFinished ticket block number rs old.records → RunDone type old (claim_each old rs) (replies_of ticket number rs)
+    → Keeps type old → AreFinished ticket block number rs old.records → RunDone type old (claim_each old rs) (replies_of ticket number (length rs))
 run-claimed type [] old ticket block number k are = record { keeps = k; acts = acts-none type.model old k.numbers.most }
 run-claimed type (r ∷ rs) old ticket block number k are =
     let keeps = claim-keeps type old r.ticket r are.2 are.3 k in
@@ -43,29 +43,30 @@ run-claimed type (r ∷ rs) old ticket block number k are =
     subst (λ (t : ℕ). Acts type.model old (after_claim old r.ticket) (RepliesWrite t number ∷ [])) are.0 (claim-acts type old r.ticket r are.2 are.3 k number are.4) in
     record {
       keeps = rest.keeps;
-      acts = acts-append type.model old (after_claim old r.ticket) (claim_each old (r ∷ rs)) (RepliesWrite ticket number ∷ []) (replies_of (ticket + 1) (number + 1) rs) first rest.acts;
+      acts = acts-append type.model old (after_claim old r.ticket) (claim_each old (r ∷ rs)) (RepliesWrite ticket number ∷ []) (replies_of (ticket + 1) (number + 1) (length rs)) first rest.acts;
     }
 
-marks-replies : (ticket number : ℕ) (rs : List Record) → marks_of (replies_of ticket number rs) ≡ replies_of ticket number rs
-marks-replies ticket number [] = refl
-marks-replies ticket number (r ∷ rs) = ap (λ (es : List Event). RepliesWrite ticket number ∷ es) (marks-replies (ticket + 1) (number + 1) rs)
+marks-replies : (ticket number count : ℕ) → marks_of (replies_of ticket number count) ≡ replies_of ticket number count
+marks-replies ticket number zero = refl
+marks-replies ticket number (suc count) = ap (λ (es : List Event). RepliesWrite ticket number ∷ es) (marks-replies (ticket + 1) (number + 1) count)
 
 module _ {L : Type 0} (type : LegType L) (run : Record → ℕ) (old new : StripeState L) (ticket : ℕ) (answer : EntryNames) (k : Keeps type old) (c : ClaimsRun run old new ticket answer) where
   abbrev all : List Record
   all = of_run run ticket old.records
 
-  claimed : RunDone type old new (replies_of ticket answer.number all)
+  claimed : RunDone type old new (replies_of ticket answer.number answer.count)
   claimed =
-      subst (λ (s : StripeState L). RunDone type old s (replies_of ticket answer.number all)) (each-claimed all old ∙ sym c.after)
-      (run-claimed type all old ticket answer.block answer.number k c.are)
+      subst (λ (n : ℕ). RunDone type old new (replies_of ticket answer.number n)) (sym c.count)
+      (subst (λ (s : StripeState L). RunDone type old s (replies_of ticket answer.number (length all))) (each-claimed all old ∙ sym c.after)
+      (run-claimed type all old ticket answer.block answer.number k c.are))
 
   -- a claim of a run keeps what every stripe keeps
   pub claims_run-keeps : Keeps type new
   claims_run-keeps = claimed.keeps
 
   -- and replies to each of its writes
-  pub claims_run-acts : Acts type.model old new (replies_of ticket answer.number all)
+  pub claims_run-acts : Acts type.model old new (replies_of ticket answer.number answer.count)
   claims_run-acts = claimed.acts
 
-  pub claims_run-explained : IsExplainedStep type.model (replies_of ticket answer.number all) old new
-  claims_run-explained = record { events = replies_of ticket answer.number all; marked = marks-replies ticket answer.number all; acts = claimed.acts }
+  pub claims_run-explained : IsExplainedStep type.model (replies_of ticket answer.number answer.count) old new
+  claims_run-explained = record { events = replies_of ticket answer.number answer.count; marked = marks-replies ticket answer.number answer.count; acts = claimed.acts }

@@ -2,7 +2,7 @@
 use Rattle.std.specs.Prelude.{◌≡◌, ℕ, ◌+◌, ◌&&◌, Bool, false, nat_le, nat_lt, map, length}
 use Rattle.std.specs.Prelude.{List, [], ◌∷◌, ◌++◌, Option, None, Some, if◌then◌else◌}
 use Rattle.std.specs.Option.{option_map}
-use Rattle.nm_replay.specs.Array.{Entire, put_of}
+use Rattle.nm_replay.specs.Array.{Entire, Put, put_of}
 use Rattle.nm_replay.specs.Events.{BeginsWrite, Event}
 use Rattle.nm_fanout.specs.declared.record_data.RecordData.{RecordData}
 use Rattle.nm_fanout.specs.declared.write_record.Record.{Record}
@@ -71,12 +71,15 @@ begun_each ticket block owed [] = []
 begun_each ticket block owed (d ∷ ds) =
     begun ticket block d owed ∷ begun_each (ticket + 1) (block + 1) owed ds
 
--- the begins of the writes of a run, from this ticket and block on
-abbrev pub begins_of : ℕ → ℕ → List RecordData → List Event
+-- what each of the data puts into its block
+abbrev pub puts_of : List RecordData → List Put
+puts_of ds = map (λ d. put_of (span_of d) (block_of (bytes_of d))) ds
+
+-- the begins of writes that put these, from this ticket and block on
+abbrev pub begins_of : ℕ → ℕ → List Put → List Event
 begins_of ticket block [] = []
-begins_of ticket block (d ∷ ds) =
-    BeginsWrite ticket block (put_of (span_of d) (block_of (bytes_of d)))
-    ∷ begins_of (ticket + 1) (block + 1) ds
+begins_of ticket block (put ∷ puts) =
+    BeginsWrite ticket block put ∷ begins_of (ticket + 1) (block + 1) puts
 
 -- the stripe after a run has begun: its blocks have the next tickets and no entries, owe each leg
 -- that is current at the first, and their region falls behind on each leg that is out

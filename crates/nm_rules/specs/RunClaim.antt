@@ -1,5 +1,5 @@
 -- A claim of a finished run: why it is refused, and what it does.
-use Rattle.std.specs.Prelude.{◌≡◌, ℕ, ◌+◌, List, [], ◌∷◌, length, Option, None, is_none}
+use Rattle.std.specs.Prelude.{◌≡◌, ℕ, zero, suc, ◌+◌, List, [], ◌∷◌, length, Option, None, is_none}
 use Rattle.std.specs.Option.{option_and_then}
 use Rattle.nm_replay.specs.Events.{Event, RepliesWrite}
 use Rattle.nm_fanout.specs.declared.write_record.Record.{Record}
@@ -27,11 +27,11 @@ claim_run_cause run stripe ticket = first_cause (claim_run_rows run stripe ticke
 abbrev pub after_claim_run : {L : Type 0} → StripeState L → List Record → StripeState L
 after_claim_run old rs = record old { records = without_each rs old.records }
 
--- the replies to the writes of a run of so many blocks, from this ticket and this number on
-abbrev pub replies_of : ℕ → ℕ → List Record → List Event
-replies_of ticket number [] = []
-replies_of ticket number (r ∷ rs) =
-    RepliesWrite ticket number ∷ replies_of (ticket + 1) (number + 1) rs
+-- the replies to so many writes, from this ticket and this number on
+abbrev pub replies_of : ℕ → ℕ → ℕ → List Event
+replies_of ticket number zero = []
+replies_of ticket number (suc count) =
+    RepliesWrite ticket number ∷ replies_of (ticket + 1) (number + 1) count
 
 -- a claim: all records that name the ticket as their run go, and the answer names their entries
 pub record ClaimsRun {L : Type 0} (run : Record → ℕ) (old new : StripeState L) (ticket : ℕ)
