@@ -2,19 +2,6 @@
 use nm_choice::{LegState, Policy, elect, next_turn, pick};
 
 #[test]
-fn a_quiet_region_is_read_by_the_policy(rt: HostRuntime) {
-    assert_eq!(rt; pick(Policy::RoundRobin, 5, 2, &[0, 2, 3], 2, true), 3);
-    assert_eq!(rt; pick(Policy::Striped, 5, 4, &[0, 2, 3], 2, true), 2);
-}
-
-#[test]
-fn a_busy_region_is_read_from_the_master(rt: HostRuntime) {
-    for policy in [Policy::RoundRobin, Policy::Striped] {
-        assert_eq!(rt; pick(policy, 5, 4, &[0, 2, 3], 2, false), 2);
-    }
-}
-
-#[test]
 fn three_reads_go_round_two_legs(rt: HostRuntime) {
     let second = next_turn(0);
     let third = next_turn(second);

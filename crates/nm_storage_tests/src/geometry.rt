@@ -31,22 +31,6 @@ fn the_worked_blocks(rt: HostRuntime) {
 }
 
 #[test]
-fn the_last_region_is_short(rt: HostRuntime) {
-    assert_eq!(rt; UNEVEN.regions(), 17);
-    assert_eq!(rt; UNEVEN.stripe_regions(0), 9);
-    assert_eq!(rt; UNEVEN.stripe_blocks(0), 1_026);
-    assert_eq!(rt; UNEVEN.stripe_regions(1), 8);
-    assert_eq!(rt; UNEVEN.stripe_blocks(1), 1_024);
-}
-
-#[test]
-fn no_more_stripes_than_regions(rt: HostRuntime) {
-    assert!(rt; Shape::new(2_050, 128, 8, 17, 2).is_some());
-    assert!(rt; Shape::new(2_050, 128, 8, 18, 2).is_none());
-    assert!(rt; Shape::new(1 << 31, 65_536, 65_536, 64, 8).is_some());
-}
-
-#[test]
 fn a_range_of_three_blocks(rt: HostRuntime) {
     let range = ByteRange {
         offset: 1_000,
@@ -62,14 +46,4 @@ fn a_range_of_three_blocks(rt: HostRuntime) {
         assert_eq!(rt; range.piece(number).is_whole(), number == 1);
         assert_eq!(rt; range.before(number), before);
     }
-}
-
-#[test]
-fn a_range_of_no_bytes_has_no_piece(rt: HostRuntime) {
-    let none = ByteRange {
-        offset: 1_000,
-        length: 0,
-    };
-    assert_eq!(rt; none.pieces(), 0);
-    assert!(rt; UNEVEN.holds(none));
 }

@@ -216,18 +216,6 @@ fn judges_lists_as_by_hand(rt: HostRuntime) -> Result<(), Fail> {
     Ok(())
 }
 
-// A block of which one byte alone differs, the last, is another block.
-#[test]
-fn tells_blocks_apart_by_their_last_byte(rt: HostRuntime) -> Result<(), Fail> {
-    let mut list = entries(rt.alloc(), &[(0, Write(0), 3, 0xaa), (1, Read, 3, 0xaa)])?;
-    assert_eq!(rt; list.len(), 2);
-    assert!(rt; check(&list));
-    list[1].bytes.0[511] = 0xab;
-    assert!(rt; !check(&list));
-    assert!(rt; !check_indexed(rt.alloc(), &list, 4)?);
-    Ok(())
-}
-
 // 20,000 writes, each to the next of 64 blocks: more than a bound for a small history would allow.
 const MANY: usize = 20_000;
 
@@ -269,50 +257,6 @@ fn judges_a_long_history_and_keeps_its_end(rt: HostRuntime) -> Result<(), Fail> 
     }
     assert!(rt; !check(&all));
     assert!(rt; !check_indexed(rt.alloc(), &all, 65_536)?);
-    Ok(())
-}
-
-// What is pushed comes back in order, and is counted.
-#[test]
-fn keeps_what_is_pushed(rt: HostRuntime) -> Result<(), Fail> {
-    let list = entries(rt.alloc(), &[(5, Read, 3, 0), (6, Write(0), 3, 0xaa)])?;
-    assert_eq!(rt; list.len(), 2);
-    let mut kept = Kept::new(rt.alloc())?;
-    assert_eq!(rt; kept.total(), 0);
-    assert!(rt; kept.entries(rt.alloc())?.is_empty());
-    kept.push(&list[0]);
-    kept.push(&list[1]);
-    assert_eq!(rt; kept.total(), 2);
-    let copy = kept.entries(rt.alloc())?;
-    assert_eq!(rt; copy.as_slice(), list.as_slice());
-    Ok(())
-}
-
-// Where one byte of a block changed, a part's entry is right if the byte lies in the part.
-#[test]
-fn finds_each_byte_that_changed_outside_a_part(rt: HostRuntime) -> Result<(), Fail> {
-    for (from, len) in [
-        (0, 1),
-        (511, 1),
-        (5, 7),
-        (1, 511),
-        (0, 511),
-        (0, 512),
-        (510, 2),
-    ] {
-        for place in 0..BLOCK_BYTES {
-            let mut changed = Block::ZERO;
-            changed.0[place] = 1;
-            let patch = Entry {
-                bytes: changed,
-                ..entry((1, Patch(1, from, len), 0, 0))
-            };
-            let list = [entry((0, Write(0), 0, 0)), patch];
-            let is_inside = (from as usize..(from + len) as usize).contains(&place);
-            assert_eq!(rt; check(&list), is_inside);
-            assert_eq!(rt; check_indexed(rt.alloc(), &list, 1)?, is_inside);
-        }
-    }
     Ok(())
 }
 

@@ -1,5 +1,5 @@
 //! The records of writes: one write from its beginning until it is claimed, and a full list.
-ghost use Rattle.std.specs.Prelude.{◌≡◌, ◌≤◌, length, IfOk};
+ghost use Rattle.std.specs.Prelude.{◌≡◌, length, IfOk};
 
 use bytes::{Bytes, BytesMut};
 use nm_fanout::{Data, LEGS, MOST_RECORDS, Records};
@@ -12,17 +12,9 @@ use std::test::Fail;
 fn cut(alloc: Global, byte: u8) -> Result<Bytes, AllocError>
     ensures { IfOk result (λ b. length b ≡ 512) }
 {
-    cut_of(alloc, byte, 512)
-}
-
-/// A cut of a receive buffer: so many bytes of one value, 512 at most.
-fn cut_of(alloc: Global, byte: u8, len: usize) -> Result<Bytes, AllocError>
-    requires { len ≤ 512 }
-    ensures { IfOk result (λ b. length b ≡ len) }
-{
     let mut buffer = BytesMut::new(alloc);
     buffer.extend_from_slice(&[byte; 512])?;
-    buffer.freeze_to(len)
+    buffer.freeze_to(512)
 }
 
 /// Of the eight legs the first alone is owed.
@@ -33,11 +25,6 @@ fn leg_0() -> [bool; LEGS] {
 /// Of the eight legs these two are owed.
 fn legs_0_and_1() -> [bool; LEGS] {
     [true, true, false, false, false, false, false, false]
-}
-
-/// Of the eight legs these two are owed.
-fn legs_1_and_2() -> [bool; LEGS] {
-    [false, true, true, false, false, false, false, false]
 }
 
 /// A write of block 3 under way, under ticket 7, that owes legs 0 and 1.
@@ -89,31 +76,6 @@ fn a_write_reaches_its_legs(rt: HostRuntime) -> Result<(), Fail> {
     Ok(())
 }
 
-/// A write of the last two bytes of a block under way, and one of zeroes to all but the first and
-/// the last byte of another.
-fn begin_parts(rt: &impl Abort, alloc: Global) -> Result<Records, Fail> {
-    let mut records = Records::new(alloc)?;
-    let base = Block([0xaa; 512]);
-    let bytes = cut_of(alloc, 0xbb, 2)?;
-    let part = Data::Part { from: 510, bytes };
-    assert!(rt; part.is_part() && part.fits_block());
-    records.begin(7, 3, part, &base, legs_0_and_1());
-    let zeroes = Data::ZeroPart { from: 1, len: 510 };
-    records.begin(8, 4, zeroes, &base, legs_0_and_1());
-    Ok(records)
-}
-
-#[test]
-fn a_part_is_laid_over_what_the_block_holds(rt: HostRuntime) -> Result<(), Fail> {
-    let records = begin_parts(&rt, rt.alloc())?;
-    let mut laid = [0xaa; 512];
-    laid[510] = 0xbb;
-    laid[511] = 0xbb;
-    let first = records.get(7).ok_or("the record of ticket 7")?;
-    assert_eq!(rt; first.data.bytes(), laid.as_slice());
-    Ok(())
-}
-
 #[test]
 fn a_claim_gives_the_block_of_a_part_back(rt: HostRuntime) -> Result<(), Fail> {
     let mut records = Records::new(rt.alloc())?;
@@ -157,55 +119,4 @@ fn as_many_as_256_records_stand_and_each_is_found(rt: HostRuntime) -> Result<(),
     assert!(rt; records.is_full());
     find_256(&rt, &records);
     Ok(())
-}
-
-/// Three writes under way, of which two owe leg 0.
-fn begin_three(alloc: Global) -> Result<Records, Fail> {
-    let mut records = Records::new(alloc)?;
-    records.begin(4, 10, Data::Zero, &Block::ZERO, legs_0_and_1());
-    records.begin(6, 12, Data::Zero, &Block::ZERO, leg_0());
-    records.begin(9, 11, Data::Zero, &Block::ZERO, legs_1_and_2());
-    Ok(records)
-}
-
-/// Three writes take effect, under the numbers from 20 on.
-fn land_three(rt: &impl Abort, records: &mut Records) -> Result<(), Fail> {
-    for number in 20..23 {
-        let place = records.first_unlanded().ok_or("a write to land")?;
-        land(rt, records, place, number);
-    }
-    Ok(())
-}
-
-/// Compares the numbers of the entries of these tickets' writes, all of which took effect.
-fn compare_entries(rt: &impl Abort, records: &Records, want: &[(u64, u64)]) -> Result<(), Fail> {
-    assert_eq!(rt; records.first_unlanded(), None);
-    assert_eq!(rt; records.unlanded_count(), 0);
-    for (ticket, number) in want {
-        let record = records.get(*ticket).ok_or("the record of a ticket")?;
-        assert_eq!(rt; record.entry, Some(*number), "ticket {ticket}");
-    }
-    Ok(())
-}
-
-#[test]
-fn a_leg_leaves(rt: HostRuntime) -> Result<(), Fail> {
-    let mut records = begin_three(rt.alloc())?;
-    assert_eq!(rt; records.busy_among(11, 2), Some(6));
-    assert_eq!(rt; records.busy_among(10, 1), Some(4));
-    assert_eq!(rt; records.busy_among(13, u64::MAX), None);
-    records.leave(0);
-    assert_eq!(rt; records.next_owed(4), Some(1));
-    assert_eq!(rt; records.next_owed(6), None);
-    assert_eq!(rt; records.busy_among(11, 2), Some(9));
-    assert!(rt; records.is_any_under_way());
-    Ok(())
-}
-
-#[test]
-fn a_leg_leaves_and_the_writes_land_by_rising_ticket(rt: HostRuntime) -> Result<(), Fail> {
-    let mut records = begin_three(rt.alloc())?;
-    records.leave(0);
-    land_three(&rt, &mut records)?;
-    compare_entries(&rt, &records, &[(4, 20), (6, 21), (9, 22)])
 }
