@@ -74,70 +74,63 @@ static LISTS: [(Setup, &[(Ask, Summary)]); 20] = [
     (TWO_LEGS, &HEALING),
 ];
 
-/// Takes all memory that these lists need.
-fn prepare_lists(rt: &impl Abort, alloc: Global) -> Result<Vec<Prepared>, Fail> {
-    let mut all = Vec::new(alloc);
-    for (with, rows) in &LISTS {
-        all.push(prepare(rt, alloc, *with, rows)?)?;
-    }
-    Ok(all)
-}
-
-/// Does their steps, from the last list to the first.
-fn do_lists(rt: &impl Abort, all: &mut Vec<Prepared>) {
-    for (_, rows) in LISTS.iter().rev() {
-        do_last(rt, all, rows);
-    }
-}
-
-/// What is done once all memory is taken: the lists, one that is longer than what is kept of the
-/// records, one that is longer than what is kept of the history, and those of the last leg.
-#[derive(Drop)]
-struct Ready {
-    lists: Vec<Prepared>,
-    full: Prepared,
-    reads: Prepared,
-    last: Prepared,
-    halts: Vec<Step<FuseLeg>>,
-}
-
-/// Takes all of that memory.
+/// Takes all memory that these lists need, and then that for the list of the last leg, for one that is
+/// longer than what is kept of the history, and for one longer than what is kept of the records.
 fn prepare_all(
     rt: &impl Abort,
     alloc: Global,
     full: &[(Ask, Summary)],
     reads: &[(Ask, Summary)],
-) -> Result<Ready, Fail> {
-    Ok(Ready {
-        lists: prepare_lists(rt, alloc)?,
-        full: prepare(rt, alloc, LONG, full)?,
-        reads: prepare(rt, alloc, ONE_LEG, reads)?,
-        last: prepare(rt, alloc, FIRST_FAILS, &LAST_LEG_READS)?,
-        halts: steps_of(alloc, Vec::new(alloc), &LAST_LEG_HALTS)?,
-    })
+) -> Result<Vec<Prepared>, Fail> {
+    let mut all = Vec::new(alloc);
+    for (with, rows) in &LISTS {
+        add(rt, alloc, &mut all, *with, rows)?;
+    }
+    add(rt, alloc, &mut all, FIRST_FAILS, &LAST_LEG_READS)?;
+    add(rt, alloc, &mut all, ONE_LEG, reads)?;
+    add(rt, alloc, &mut all, LONG, full)?;
+    Ok(all)
 }
 
-/// Does all the steps, and takes no memory.
-fn do_all(rt: &impl Abort, ready: Ready, full: &[(Ask, Summary)], reads: &[(Ask, Summary)]) {
-    let Ready {
-        mut lists,
-        full: full_stripe,
-        reads: read_stripe,
-        last,
-        halts,
-    } = ready;
-    do_lists(rt, &mut lists);
-    do_steps(rt, full_stripe, full);
-    do_steps(rt, read_stripe, reads);
-    do_last_leg(rt, last, halts);
+/// Takes the memory of one more list.
+fn add(
+    rt: &impl Abort,
+    alloc: Global,
+    all: &mut Vec<Prepared>,
+    with: Setup,
+    rows: &[(Ask, Summary)],
+) -> Result<(), Fail> {
+    let prepared = prepare(rt, alloc, with, rows)?;
+    Ok(all.push(prepared)?)
+}
+
+/// Does the steps of all of them, from the last to the first, and takes no memory.
+fn do_all(
+    rt: &impl Abort,
+    all: Vec<Prepared>,
+    halts: Vec<Step<FuseLeg>>,
+    full: &[(Ask, Summary)],
+    reads: &[(Ask, Summary)],
+) {
+    let mut all = all;
+    do_last(rt, &mut all, full);
+    do_last(rt, &mut all, reads);
+    do_last_leg(rt, &mut all, halts);
+    for (_, rows) in LISTS.iter().rev() {
+        do_last(rt, &mut all, rows);
+    }
 }
 
 /// Does the steps of the last leg in sync, which fails in a read, and then in a write.
-fn do_last_leg(rt: &impl Abort, last: Prepared, halts: Vec<Step<FuseLeg>>) {
-    let Prepared { mut stripe, steps } = last;
-    compare_each(rt, &mut stripe, steps, &LAST_LEG_READS);
-    fuse_of(rt, &stripe, FIRST_FAILS);
-    compare_each(rt, &mut stripe, halts, &LAST_LEG_HALTS);
+fn do_last_leg(rt: &impl Abort, all: &mut Vec<Prepared>, halts: Vec<Step<FuseLeg>>) {
+    match all.pop() {
+        Some(Prepared { mut stripe, steps }) => {
+            compare_each(rt, &mut stripe, steps, &LAST_LEG_READS);
+            fuse_of(rt, &stripe, FIRST_FAILS);
+            compare_each(rt, &mut stripe, halts, &LAST_LEG_HALTS);
+        }
+        None => assert!(rt; false, "nothing is prepared"),
+    }
 }
 
 /// Allocates once.
@@ -155,7 +148,8 @@ fn steps_take_no_memory(rt: HostRuntime) -> Result<(), Fail> {
     let alloc = rt.alloc();
     let full = full_and_after(alloc)?;
     let reads = many_reads(alloc)?;
-    let ready = prepare_all(&rt, alloc, &full, &reads)?;
-    do_all(&rt, ready, &full, &reads);
+    let halts = steps_of(alloc, Vec::new(alloc), &LAST_LEG_HALTS)?;
+    let all = prepare_all(&rt, alloc, &full, &reads)?;
+    do_all(&rt, all, halts, &full, &reads);
     take_some(&rt, alloc)
 }

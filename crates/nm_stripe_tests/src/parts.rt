@@ -85,21 +85,6 @@ fn a_part_reads_into_a_block_what_the_step_answers(rt: HostRuntime) -> Result<()
     Ok(())
 }
 
-#[test]
-fn an_astray_read_leaves_its_block_as_it_was(rt: HostRuntime) -> Result<(), Fail> {
-    let mut own = open_fused(&rt, rt.alloc(), ONE_LEG)?;
-    let mut part = Part::of(&own);
-    let mut into = Block([0x11; 512]);
-    let told = read_into(&rt, &mut part, &mut own, &mut into);
-    assert_eq!(rt; told, Summary::Value(0, 0x00));
-    let mut other = open_fused(&rt, rt.alloc(), ONE_LEG)?;
-    let astray = read_into(&rt, &mut part, &mut other, &mut into);
-    assert_eq!(rt; astray, Summary::Refused(Refusal::Astray));
-    assert!(rt; into == Block::ZERO);
-    assert_eq!(rt; (other.total(), part.front(), part.count()), (0, 1, 1));
-    Ok(())
-}
-
 /// The part's step in a new stripe is refused, and does nothing there.
 fn is_astray(rt: &impl Abort, alloc: Global, part: &mut Part<FuseLeg>) -> Result<(), Fail> {
     let mut other = open_fused(rt, alloc, ONE_LEG)?;

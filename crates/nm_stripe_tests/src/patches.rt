@@ -1,59 +1,8 @@
-//! Writes of parts of a block: what comes back, and which legs are called.
-use crate::asking::{Ask, Summary, may_ask, part};
+//! Writes of parts of a block: which legs are called.
+use crate::asking::{Ask, Summary};
 use crate::calls::compare_calls;
-use crate::opening::{TWO_LEGS, fuse, open_fused};
-use nm_fanout::Data;
-use nm_leg::{FuseLeg, LegPart};
-use nm_stripe::{Answer, Handed, Refusal, Step, Stripe};
-use std::alloc::Global;
-use std::process::Abort;
+use nm_stripe::Refusal;
 use std::test::Fail;
-
-/// A part of two bytes of block 0.
-fn patch<L: LegPart>(
-    rt: &impl Abort,
-    alloc: Global,
-    stripe: &mut Stripe<L>,
-) -> Result<Answer<L>, Fail> {
-    let step = Step::Begin(0, part(alloc, 510, 2, 0xbb)?);
-    may_ask(rt, stripe, &step);
-    Ok(stripe.step(step))
-}
-
-/// Whether the data are that part.
-fn came_back(data: &Data) -> bool {
-    match data {
-        Data::Part { from, bytes } => *from == 510 && bytes.as_slice() == [0xbb; 2].as_slice(),
-        _ => false,
-    }
-}
-
-fn loses_leg_0(rt: &impl Abort, answer: &Answer<FuseLeg>) {
-    match answer {
-        Answer::LegLost(leg, Handed::Data(data)) => assert!(rt; *leg == 0 && came_back(data)),
-        _other => assert!(rt; false, "the master was not lost"),
-    }
-}
-
-fn is_refused(rt: &impl Abort, answer: &Answer<FuseLeg>) {
-    match answer {
-        Answer::Refused(refusal, Handed::Data(data)) => {
-            assert_eq!(rt; *refusal, Refusal::Fault);
-            assert!(rt; came_back(data));
-        }
-        _other => assert!(rt; false, "the part was not refused"),
-    }
-}
-
-#[test]
-fn a_part_comes_back_where_it_did_not_begin(rt: HostRuntime) -> Result<(), Fail> {
-    let mut stripe = open_fused(&rt, rt.alloc(), TWO_LEGS)?;
-    fuse(&rt, &stripe, 0, 1);
-    loses_leg_0(&rt, &patch(&rt, rt.alloc(), &mut stripe)?);
-    fuse(&rt, &stripe, 1, 1);
-    is_refused(&rt, &patch(&rt, rt.alloc(), &mut stripe)?);
-    Ok(())
-}
 
 const IN_TURN: [(Ask, Summary); 12] = [
     (Ask::Read(0), Summary::Value(0, 0x00)),

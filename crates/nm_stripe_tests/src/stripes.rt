@@ -3,10 +3,9 @@ ghost use Rattle.std.specs.Prelude.{◌≡◌, ◌<◌, ◌≤◌, length};
 
 use crate::asking::{Ask, Summary, compare};
 use crate::lists::{SHORT_REGION, SHORTER};
-use crate::opening::{Setup, TWO_LEGS, open_fused, try_open};
+use crate::opening::open_fused;
 use crate::worked::{kept_entries, stand};
 use nm_leg::{FailingLeg, FuseLeg, LegPart, LyingLeg};
-use nm_replay::Block;
 use nm_stripe::{At, LegState, Policy, Refusal, Stripe};
 use std::alloc::Global;
 use std::process::Abort;
@@ -101,26 +100,6 @@ fn a_leg_that_fails_stops_the_stripe(rt: HostRuntime) -> Result<(), Fail> {
 #[test]
 fn a_leg_that_lies_is_believed(rt: HostRuntime) -> Result<(), Fail> {
     read_begin_push(&rt, rt.alloc(), LyingLeg::new(4), &LYING)
-}
-
-// Refused memory (`rt try --test --fail-alloc N`), `open` gives back the legs as they were.
-#[test]
-fn a_refused_open_hands_the_legs_back(rt: HostRuntime) -> Result<(), Fail> {
-    let setup = Setup {
-        fill: 0xaa,
-        ..TWO_LEGS
-    };
-    match try_open(&rt, rt.alloc(), setup)? {
-        Ok(stripe) => assert_eq!(rt; stripe.legs(), 2),
-        Err(mut legs) => {
-            assert_eq!(rt; legs.len(), 2);
-            let mut into = Block::ZERO;
-            assert!(rt; legs[1].len() == 8);
-            assert_eq!(rt; legs[1].read(3, &mut into), Ok(()));
-            assert_eq!(rt; into, Block([0xaa; 512]));
-        }
-    }
-    Ok(())
 }
 
 #[test]
