@@ -1,6 +1,7 @@
 -- What a lane's read into the caller's own block finds.
-use Rattle.std.specs.Prelude.{◌≡◌, ℕ, Option, Some, None, List, [], ◌∷◌}
+use Rattle.std.specs.Prelude.{◌≡◌, ◌≢◌, ℕ, Option, Some, None, List, [], ◌∷◌}
 use Rattle.nm_replay.specs.declared.block.Block.{Block}
+use Rattle.nm_rules.specs.declared.refusal.Refusal.TheVariants.{Fault}
 use Rattle.nm_stripe.specs.declared.answer.Answer.{Answer}
 use Rattle.nm_stripe.specs.declared.answer.Answer.TheVariants as answer
 use Rattle.nm_stripe.specs.declared.step.Step.TheVariants.{Read}
@@ -9,14 +10,14 @@ use Rattle.nm_lanes.specs.declared.found.Found.TheVariants.{Value, LegLost, Refu
 use Rattle.nm_lanes.specs.Done.{Done, done_as}
 use Rattle.nm_lanes.specs.Fits.{AnswerFits}
 
--- the answer says what was found, and the target, before and after, has a value's bytes; but for a
--- value it is as it was
+-- the answer says what was found, and the target, before and after, has a value's bytes; what is
+-- refused for its cause leaves it as it was
 abbrev pub Tells : {L : Type 0} → Answer L → Block × Block → Found → Type 0
 Tells (answer.Value value) target (Value number) =
     (value.entry.number ≡ number) × (value.bytes ≡ target.1)
-Tells (answer.LegLost gone handed) target (LegLost leg) = (gone ≡ leg) × (target.1 ≡ target.0)
+Tells (answer.LegLost gone handed) target (LegLost leg) = gone ≡ leg
 Tells (answer.Refused refusal handed) target (Refused cause) =
-    (refusal ≡ cause) × (target.1 ≡ target.0)
+    (refusal ≡ cause) × (refusal ≢ Fault → target.1 ≡ target.0)
 Tells told target found = ⊥
 
 -- a step of the lane read the block, and its answer says what was found

@@ -27,7 +27,8 @@ pub trait Lane<L: LegPart, K> {
         ensures fits { AnswerFits «step» result };
 
     /// Does the step `Step::Read` of this block, in one hold of the lock, and puts the bytes of a
-    /// value into `into`. But for a value `into` is as it was.
+    /// value into `into`. A leg that failed leaves any bytes there; any other refusal leaves it as
+    /// it was.
     fn read<R: Wait>(&mut self, rt: &R, lock: &K, block: u64, into: &mut Block) -> Found
         ensures { FindsBlock follows (self.old, self.new) block (into.old, into.new) result };
 

@@ -61,7 +61,8 @@ pub fn ask<L: LegPart>(part: &mut Part<L>, stripe: &mut Stripe<L>, step: Step<L>
 /// Reads a block of the stripe through a part into `into`: the step `Step::Read`, whose answer need
 /// not carry the block.
 ///
-/// A block that is not there is refused as `ask` refuses it. But for a value `into` is as it was.
+/// A block that is not there is refused as `ask` refuses it. A leg that failed leaves any bytes in
+/// `into`; any other refusal leaves it as it was.
 #[inline(always)]
 pub fn ask_read<L: LegPart>(
     part: &mut Part<L>,

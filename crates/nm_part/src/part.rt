@@ -147,7 +147,8 @@ impl<L: LegPart> Part<L> {
     /// answer need not carry the block.
     ///
     /// Refused as `Astray` before anything else where the stripe is not the part's or the part can
-    /// count no more; then nothing changes. But for a value `into` is as it was.
+    /// count no more; then nothing changes. A leg that failed leaves any bytes in `into`; any other
+    /// refusal leaves it as it was.
     #[inline(always)]
     pub fn read(
         &mut self,

@@ -6,11 +6,12 @@ use Rattle.std.proofs.lemmas.List.{length-replicate}
 use Rattle.std.proofs.lemmas.Option.{same_Some, slice_get_within}
 use Rattle.nm_replay.proofs.Arrays.{slice_get-set_same, slice_get-set_other}
 use Rattle.nm_replay.specs.Array.{Array}
-use Rattle.nm_leg.specs.Leg.{Leg, block_of, filled_array}
-use Rattle.nm_leg.specs.LegCalls.{EachHas, HasBlock, WritesLegAt}
+use Rattle.nm_leg.specs.Leg.{IsRun, Leg, block_of, filled_array}
+use Rattle.nm_leg.specs.LegCalls.{EachHas, HasRun}
 use Rattle.nm_leg.specs.TestLegs.{of_fuse}
 use Rattle.nm_leg.specs.declared.fuse_leg.FuseLeg.{FuseLeg}
 use Rattle.nm_rules.specs.Array.{contents_at}
+use Rattle.nm_rules.specs.BlockCalls.{WritesBlockAt}
 use Rattle.nm_rules.specs.Comparing.{comparing, OpensCompared}
 use Rattle.nm_rules.proofs.ComparingLemmas.{Stage, blocks-moved, starts}
 use Rattle.nm_rules.proofs.LegLemmas.{calls-length}
@@ -19,6 +20,11 @@ use Rattle.nm_script_lib.specs.declared.load.Load.{Load}
 use Rattle.nm_script_lib.specs.declared.mirror_line.MirrorLine.{MirrorLine}
 use Rattle.nm_script_lib.specs.MemStripe.{MemStripe, InRange, IsFilled, AreNewLegs, AreLoadedLegs, HasShape, FitsLoad, filled_block, fuse_legs, loaded, loaded_leg, place_of, with_load}
 use Rattle.nm_script_lib.proofs.Legs.{at_place}
+
+-- a block of one byte has 512
+pub filled_length : (fill : ℕ) → length (filled_block fill) ≡ 512
+unfolding filled_block
+filled_length fill = length-replicate 512 fill
 
 -- a load leaves the length of an array
 
@@ -73,7 +79,7 @@ of_parts leg all faults holds failed =
     ap (λ (xs : Array). let x : Leg = record { contents = xs; durable = xs; faults = leg.faults } in x) holds
     ∙ ap (λ (k : ℕ). let x : Leg = record { contents = all; durable = all; faults = k } in x) failed
 
-module _ (m : MirrorLine) (loads : List Load) (load : Load) (old new : List FuseLeg) (are : AreLoadedLegs m loads old) (writes : WritesLegAt fuse_legs true load.leg load.block (filled_block load.fill) old new) where
+module _ (m : MirrorLine) (loads : List Load) (load : Load) (old new : List FuseLeg) (are : AreLoadedLegs m loads old) (writes : WritesBlockAt fuse_legs true load.leg load.block (filled_block load.fill) old new) where
   abbrev before : Array
   before = loaded load.leg loads (filled_array m.blocks 0)
 
@@ -126,10 +132,15 @@ module _ (m : MirrorLine) (loads : List Load) (load : Load) (old new : List Fuse
 
 -- a load is of a block that its leg has
 pub load_inside : (m : MirrorLine) (loads : List Load) (load : Load) (legs : List FuseLeg) →
-    AreLoadedLegs m loads legs → FitsLoad m load → HasBlock of_fuse legs load.leg load.block
+    AreLoadedLegs m loads legs → FitsLoad m load → HasRun of_fuse legs load.leg load.block (filled_block load.fill)
 load_inside m loads load legs are fits = λ leg found.
     let long = loaded_lengths m loads legs are load.leg leg found in
-    omega (arith, long, fits.1)
+    let whole : length (filled_block load.fill) ≡ 512 = filled_length load.fill in
+    record {
+      some = omega (arith, whole);
+      whole = omega (arith, whole);
+      inside = omega (arith, whole, long, fits.1);
+    }
 
 -- a stripe that was opened by comparing has the mirror's shape
 pub compared_shape : (m : MirrorLine) (loads : List Load) (legs : List FuseLeg) (master : ℕ)

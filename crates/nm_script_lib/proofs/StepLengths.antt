@@ -61,7 +61,7 @@ begin_refused blocks old new block bytes given (BeginFault is fails) long = fail
 -- a begin reads a leg, or none
 begin_long : (blocks : ℕ) (part : Bool) (old : MemStripe) (legs : List FuseLeg) (block : ℕ) (base : Block) → ReadsBase fuse_legs part old legs block base → EachHas of_fuse old.legs blocks → EachHas of_fuse legs blocks
 begin_long blocks false old legs block base stays long = subst (λ (ls : List FuseLeg). EachHas of_fuse ls blocks) (sym stays) long
-begin_long blocks true old legs block base reads long = reads.1.change.lengths blocks long
+begin_long blocks true old legs block base reads long = reads.change.lengths blocks long
 
 read_refused : (blocks : ℕ) (old new : MemStripe) (block : ℕ) (given : Refusal) → RefusesRead fuse_legs old new block given → Long blocks old → Long blocks new
 read_refused blocks old new block given (ReadCause cause is) long = same blocks old new is long

@@ -4,7 +4,7 @@ ghost use Rattle.std.specs.Prelude.{◌≡◌, ℕ, ◌<◌, ◌≤◌, ◌-◌,
 ghost use Rattle.std.specs.Prelude.{IfOk, IfErr, OnOk};
 ghost use Rattle.std.specs.List.{AllByRecursion};
 ghost use Rattle.nm_fanout.specs.declared.block_data.Data.TheVariants.{Part};
-ghost use Rattle.nm_leg.specs.LegCalls.{HasBlock, WritesLegAt};
+ghost use Rattle.nm_leg.specs.LegCalls.{HasRun, WritesLegAt};
 ghost use Rattle.nm_leg.specs.TestLegs.{of_fuse};
 ghost use Rattle.nm_script_lib.specs.declared.step.Step.TheVariants.{Ask};
 ghost use Rattle.nm_script_lib.specs.MemStripe.{InRange, AreNewLegs, AreLoadedLegs, IsNew};
@@ -76,7 +76,8 @@ fn open(alloc: Global, mirror: &MirrorLine) -> Result<Stripe<FuseLeg>, RunError>
 /// Writes a load to its leg. No call of a leg fails here, as no fuse is set.
 fn load_leg(legs: &mut [FuseLeg], load: &Load) -> Result<(), RunError>
     requires leg { load.now.leg < length legs.old }
-    requires block { HasBlock of_fuse legs.old load.now.leg load.now.block }
+    requires run { HasRun of_fuse legs.old load.now.leg load.now.block
+        (filled_block load.now.fill) }
     ensures ok { OnOk result (WritesLegAt fuse_legs true load.now.leg load.now.block
         (filled_block load.now.fill) legs.old legs.new) }
     ensures cause { IfErr result (λ e. e ≡ Memory) }

@@ -46,7 +46,7 @@ fn read_blocks(rt: &impl Abort, leg: &mut CountedLeg, from: u8, to: u8) {
     for block in from..to {
         let at = u64::from(block);
         assert!(rt; at < leg.len());
-        assert_eq!(rt; leg.read(at, &mut found), Ok(()));
+        assert_eq!(rt; leg.read(at, &mut found.0), Ok(()));
         assert_eq!(rt; found, Block([block; 512]));
     }
 }
@@ -106,7 +106,7 @@ fn a_page_is_one_of_the_medium(rt: HostRuntime) -> Result<(), Fail> {
     let mut leg = counted_leg(&rt, &two, 1, 12 * 512)?;
     assert!(rt; 0 < leg.len());
     let mut found = Block([255; 512]);
-    leg.read(0, &mut found)?;
+    leg.read(0, &mut found.0)?;
     assert_eq!(rt; found, Block([12; 512]));
     assert_eq!(rt; calls(&leg), (1, 12, 4));
     Ok(())
@@ -168,16 +168,16 @@ fn reading_ahead_ends_with_the_region(rt: HostRuntime) -> Result<(), Fail> {
     let mut leg = fused_leg(&rt)?;
     assert!(rt; leg.len() == 6);
     let mut found = Block([9; 512]);
-    leg.read(0, &mut found)?;
-    leg.read(1, &mut found)?;
+    leg.read(0, &mut found.0)?;
+    leg.read(1, &mut found.0)?;
     leg.write(3, &[0xaa; 512])?;
     leg.medium().inner().fail_from(1);
-    leg.read(2, &mut found)?;
+    leg.read(2, &mut found.0)?;
     assert_eq!(rt; found, Block([7; 512]));
-    leg.read(3, &mut found)?;
+    leg.read(3, &mut found.0)?;
     assert_eq!(rt; found, Block([0xaa; 512]));
-    assert_eq!(rt; leg.read(4, &mut found), Err(LegFault));
-    assert_eq!(rt; leg.read(3, &mut found), Err(LegFault));
+    assert_eq!(rt; leg.read(4, &mut found.0), Err(LegFault));
+    assert_eq!(rt; leg.read(3, &mut found.0), Err(LegFault));
     Ok(())
 }
 
@@ -190,7 +190,7 @@ fn where_reading_ahead_fails_the_block_is_read_alone(rt: HostRuntime) -> Result<
         assert!(rt; block < leg.len());
         let mut found = Block([9; 512]);
         leg.medium().inner().set(1);
-        leg.read(block, &mut found)?;
+        leg.read(block, &mut found.0)?;
         assert_eq!(rt; found, Block([7; 512]), "block {block}");
     }
     // The fuse has gone off.

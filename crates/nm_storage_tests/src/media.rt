@@ -28,7 +28,7 @@ fn a_leg_keeps_what_is_written_in_its_places(rt: HostRuntime) -> Result<(), Fail
     assert!(rt; leg.len() == 4);
     leg.write(2, &[0xaa; 512])?;
     let mut found = Block([9; 512]);
-    leg.read(2, &mut found)?;
+    leg.read(2, &mut found.0)?;
     assert_eq!(rt; found, Block([0xaa; 512]));
     let bytes = leg.medium().inner().bytes();
     assert_eq!(rt; bytes.len(), 8 * 512);
@@ -62,9 +62,7 @@ fn a_leg_that_was_not_written_is_synced_without_a_call(rt: HostRuntime) -> Resul
     leg.sync()?;
     leg.medium().fail_from(1);
     assert_eq!(rt; leg.sync(), Ok(()));
-    let mut found = Block([9; 512]);
-    assert_eq!(rt; leg.read(0, &mut found), Err(LegFault));
-    assert_eq!(rt; found, Block([9; 512]));
+    assert_eq!(rt; leg.read(0, &mut [9; 512]), Err(LegFault));
     assert_eq!(rt; leg.write(0, &[0xaa; 512]), Err(LegFault));
     assert_eq!(rt; leg.sync(), Err(LegFault));
     assert_eq!(rt; leg.faults(), 3);

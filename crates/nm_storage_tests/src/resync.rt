@@ -49,7 +49,7 @@ fn a_chunk_of_one_block_goes_from_leg_to_leg(rt: HostRuntime) -> Result<(), Fail
     let mut master = MemLeg::with_byte(rt.alloc(), 1, 0xaa)?;
     let mut leg = MemLeg::new(rt.alloc(), 1)?;
     let mut copy = Copy::new(rt.alloc(), 1)?;
-    master.read(0, copy.slot())?;
+    master.read(0, &mut copy.slot().0)?;
     copy.open(1);
     copy.fill();
     assert_eq!(rt; copy.next_move(), Move::Write(0));

@@ -7,12 +7,13 @@ use Rattle.nm_choice.specs.declared.leg_state.LegState.{LegState}
 use Rattle.nm_choice.specs.declared.leg_state.LegState.TheVariants.{InSync, Joining, Out}
 use Rattle.nm_choice.specs.declared.policy.Policy.{Policy}
 use Rattle.nm_leg.specs.Leg.{Leg, LegType}
-use Rattle.nm_leg.specs.LegCalls.{EachHas, ReadsLegAt}
+use Rattle.nm_leg.specs.LegCalls.{EachHas}
 use Rattle.nm_regions.specs.Changes.{all_set_aside, attached}
 use Rattle.nm_regions.specs.LegFlags.{LegRegions, no_leg, opened_leg, set_aside}
 use Rattle.nm_regions.specs.LegFlags as leg_flags
 use Rattle.nm_regions.specs.Table.{regions_of}
 use Rattle.nm_rules.specs.declared.at.At.{At}
+use Rattle.nm_rules.specs.BlockCalls.{ReadsBlockAt}
 use Rattle.nm_rules.specs.Comparing.{comparing, marked_at, dropped, ComparesLeg, IsPassedOver, HoldsSame, HoldsOther, FailsRead, ComparesLegs, ComparesBlock}
 use Rattle.nm_rules.specs.Opening.{opened, opened_state, bits_from, has_bit}
 use Rattle.nm_rules.specs.State.{StripeState, is_joining, leg_state, table}
@@ -32,8 +33,8 @@ out-set flags leg l inside same j =
 
 module _ {L : Type 0} (type : LegType L) where
   -- the legs after a read
-  pub read-comparing : (succeeded : Bool) (leg block : ℕ) (old : StripeState L) (legs : List L) (target found : Block) → ReadsLegAt type succeeded leg block old.legs legs target found → IsComparing type.model old → IsComparing type.model (record old { legs = legs })
-  read-comparing succeeded leg block old legs target found r k =
+  pub read-comparing : (succeeded : Bool) (leg block : ℕ) (old : StripeState L) (legs : List L) (found : Block) → ReadsBlockAt type succeeded leg block old.legs legs found → IsComparing type.model old → IsComparing type.model (record old { legs = legs })
+  read-comparing succeeded leg block old legs found r k =
       let count : length legs ≡ length old.legs = calls-length type.model old.legs legs leg r.before r.after r.change in
       record {
         lengths = r.change.lengths old.place.blocks k.lengths;
@@ -75,22 +76,22 @@ module _ {L : Type 0} (type : LegType L) where
 
   pub leg-comparing : (block : ℕ) (bytes : Block) (leg : ℕ) (old new : StripeState L) → leg < length old.legs → IsComparing type.model old → ComparesLeg type block bytes leg old new → IsComparing type.model new
   leg-comparing block bytes leg old new inside k (IsPassedOver off after) = subst (λ (s : StripeState L). IsComparing type.model s) (sym after) k
-  leg-comparing block bytes leg old new inside k (HoldsSame on target reads after) =
-      subst (λ (s : StripeState L). IsComparing type.model s) (sym after) (read-comparing true leg block old new.legs target bytes reads k)
-  leg-comparing block bytes leg old new inside k (HoldsOther on target found reads differs after) =
+  leg-comparing block bytes leg old new inside k (HoldsSame on reads after) =
+      subst (λ (s : StripeState L). IsComparing type.model s) (sym after) (read-comparing true leg block old new.legs bytes reads k)
+  leg-comparing block bytes leg old new inside k (HoldsOther on found reads differs after) =
       let count : length new.legs ≡ length old.legs = calls-length type.model old.legs new.legs leg reads.before reads.after reads.change in
       subst (λ (s : StripeState L). IsComparing type.model s) (sym after)
-      (marked-comparing leg block (record old { legs = new.legs }) (omega (arith, inside, count)) (read-comparing true leg block old new.legs target found reads k))
-  leg-comparing block bytes leg old new inside k (FailsRead on target found reads after) =
+      (marked-comparing leg block (record old { legs = new.legs }) (omega (arith, inside, count)) (read-comparing true leg block old new.legs found reads k))
+  leg-comparing block bytes leg old new inside k (FailsRead on found reads after) =
       let count : length new.legs ≡ length old.legs = calls-length type.model old.legs new.legs leg reads.before reads.after reads.change in
       subst (λ (s : StripeState L). IsComparing type.model s) (sym after)
-      (dropped-comparing leg (record old { legs = new.legs }) (omega (arith, inside, count)) (read-comparing false leg block old new.legs target found reads k))
+      (dropped-comparing leg (record old { legs = new.legs }) (omega (arith, inside, count)) (read-comparing false leg block old new.legs found reads k))
 
   pub leg-count : (block : ℕ) (bytes : Block) (leg : ℕ) (old new : StripeState L) → ComparesLeg type block bytes leg old new → (length new.legs ≡ length old.legs) × (new.place ≡ old.place)
   leg-count block bytes leg old new (IsPassedOver off after) = (ap (λ (s : StripeState L). length s.legs) after, ap (λ (s : StripeState L). s.place) after)
-  leg-count block bytes leg old new (HoldsSame on target reads after) = (calls-length type.model old.legs new.legs leg reads.before reads.after reads.change, ap (λ (s : StripeState L). s.place) after)
-  leg-count block bytes leg old new (HoldsOther on target found reads differs after) = (calls-length type.model old.legs new.legs leg reads.before reads.after reads.change, ap (λ (s : StripeState L). s.place) after)
-  leg-count block bytes leg old new (FailsRead on target found reads after) = (calls-length type.model old.legs new.legs leg reads.before reads.after reads.change, ap (λ (s : StripeState L). s.place) after)
+  leg-count block bytes leg old new (HoldsSame on reads after) = (calls-length type.model old.legs new.legs leg reads.before reads.after reads.change, ap (λ (s : StripeState L). s.place) after)
+  leg-count block bytes leg old new (HoldsOther on found reads differs after) = (calls-length type.model old.legs new.legs leg reads.before reads.after reads.change, ap (λ (s : StripeState L). s.place) after)
+  leg-count block bytes leg old new (FailsRead on found reads after) = (calls-length type.model old.legs new.legs leg reads.before reads.after reads.change, ap (λ (s : StripeState L). s.place) after)
 
   -- a comparison leaves the place, and as many legs
   pub legs-count : (block : ℕ) (bytes : Block) (n : ℕ) (old new : StripeState L) → ComparesLegs type block bytes n old new → (length new.legs ≡ length old.legs) × (new.place ≡ old.place)
@@ -109,35 +110,35 @@ module _ {L : Type 0} (type : LegType L) where
   pub block-comparing : (block : ℕ) (old new : StripeState L) → IsComparing type.model old → ComparesBlock type block old new → IsComparing type.model new × (new.place ≡ old.place)
   block-comparing block old new k b =
       let count : length b.legs ≡ length old.legs = calls-length type.model old.legs b.legs old.master b.reads.before b.reads.after b.reads.change in (
-        legs-comparing block b.bytes (length old.legs) (record old { legs = b.legs }) new (omega (arith, count)) (read-comparing true old.master block old b.legs b.target b.bytes b.reads k) b.compares,
+        legs-comparing block b.bytes (length old.legs) (record old { legs = b.legs }) new (omega (arith, count)) (read-comparing true old.master block old b.legs b.bytes b.reads k) b.compares,
         (legs-count block b.bytes (length old.legs) (record old { legs = b.legs }) new b.compares).1,
       )
 
   -- a leg was read: what the call and the change after it say, as one comparison
-  module _ (leg block : ℕ) (bytes target found : Block) (old mid new : StripeState L) (joins : is_joining (leg_state leg old) ≡ true) (ok : Bool) (reads : ReadsLegAt type ok leg block old.legs mid.legs target found) (others : mid ≡ record old { legs = mid.legs }) where
-    read-as : (is : Bool) → ok ≡ is → (legs : List L) → legs ≡ mid.legs → ReadsLegAt type is leg block old.legs legs target found
+  module _ (leg block : ℕ) (bytes found : Block) (old mid new : StripeState L) (joins : is_joining (leg_state leg old) ≡ true) (ok : Bool) (reads : ReadsBlockAt type ok leg block old.legs mid.legs found) (others : mid ≡ record old { legs = mid.legs }) where
+    read-as : (is : Bool) → ok ≡ is → (legs : List L) → legs ≡ mid.legs → ReadsBlockAt type is leg block old.legs legs found
     read-as is ok_is legs same =
-        subst (λ (ls : List L). ReadsLegAt type is leg block old.legs ls target found) (sym same)
-        (subst (λ (b : Bool). ReadsLegAt type b leg block old.legs mid.legs target found) ok_is reads)
+        subst (λ (ls : List L). ReadsBlockAt type is leg block old.legs ls found) (sym same)
+        (subst (λ (b : Bool). ReadsBlockAt type b leg block old.legs mid.legs found) ok_is reads)
 
     pub fails-read : ok ≡ false → new ≡ dropped leg mid → ComparesLeg type block bytes leg old new
     fails-read failed after =
         let legs_are : new.legs ≡ mid.legs = ap (λ (s : StripeState L). s.legs) after in
-        FailsRead joins target found (read-as false failed new.legs legs_are)
+        FailsRead joins found (read-as false failed new.legs legs_are)
         (after ∙ ap (λ (s : StripeState L). dropped leg s) others
         ∙ ap (λ (ls : List L). dropped leg (let s : StripeState L = record old { legs = ls } in s)) (sym legs_are))
 
     pub holds-other : ok ≡ true → found ≢ bytes → new ≡ marked_at leg block mid → ComparesLeg type block bytes leg old new
     holds-other went_well differs after =
         let legs_are : new.legs ≡ mid.legs = ap (λ (s : StripeState L). s.legs) after in
-        HoldsOther joins target found (read-as true went_well new.legs legs_are) differs
+        HoldsOther joins found (read-as true went_well new.legs legs_are) differs
         (after ∙ ap (λ (s : StripeState L). marked_at leg block s) others
         ∙ ap (λ (ls : List L). marked_at leg block (let s : StripeState L = record old { legs = ls } in s)) (sym legs_are))
 
     pub holds-same : ok ≡ true → found ≡ bytes → ComparesLeg type block bytes leg old mid
     holds-same went_well same =
-        HoldsSame joins target
-        (subst (λ (b : Block). ReadsLegAt type true leg block old.legs mid.legs target b) same (read-as true went_well mid.legs refl))
+        HoldsSame joins
+        (subst (λ (b : Block). ReadsBlockAt type true leg block old.legs mid.legs b) same (read-as true went_well mid.legs refl))
         others
 
 -- no leg is in sync where no bit is set

@@ -10,7 +10,7 @@ use Rattle.std.proofs.lemmas.Option.{same_Some}
 use Rattle.std.proofs.Math.Nat.{lt_of_mul-lt-mul_right}
 use Rattle.nm_replay.specs.declared.block.Block.{Block}
 use Rattle.nm_leg.specs.Leg.{LegType}
-use Rattle.nm_leg.specs.LegCalls.{ReadsLegAt, WritesLegAt}
+use Rattle.nm_rules.specs.BlockCalls.{ReadsBlockAt, WritesBlockAt}
 use Rattle.nm_regions.specs.declared.copy_place.CopyPlace.{CopyPlace}
 use Rattle.nm_regions.specs.Changes.{advanced, cleared_for, moved, region_finished}
 use Rattle.nm_regions.specs.LegFlags.{no_leg}
@@ -122,20 +122,20 @@ stored : {X Z : Type 0} (legs : Vec X Z) (new : List X) → length new ≡ lengt
 stored legs new same = sym (with_items_is legs new (same ∙ sym legs.ok.0))
 
 -- a read and a write that failed, in the words of the state
-pub read-failed : {L Z : Type 0} (type : LegType L) (legs : Vec L Z) (lent new : List L) (ok : Bool) (leg at start : ℕ) (target bytes : Block) → ReadsLegAt type ok leg at lent new target bytes → lent ≡ legs.items → ok ≡ false → at ≡ start
-    → ReadsLegAt type false leg start legs.items (with_items legs new).items target bytes
-read-failed type legs lent new ok leg at start target bytes r whole failed is =
+pub read-failed : {L Z : Type 0} (type : LegType L) (legs : Vec L Z) (lent new : List L) (ok : Bool) (leg at start : ℕ) (bytes : Block) → ReadsBlockAt type ok leg at lent new bytes → lent ≡ legs.items → ok ≡ false → at ≡ start
+    → ReadsBlockAt type false leg start legs.items (with_items legs new).items bytes
+read-failed type legs lent new ok leg at start bytes r whole failed is =
     let same : length new ≡ length legs.items = ap (λ (xs : List _). length xs) r.change.others ∙ length-set lent leg r.after ∙ ap (λ (xs : List _). length xs) whole in
-    let one = subst (λ (b : Bool). ReadsLegAt type b leg at lent new target bytes) failed r in
-    let two = subst (λ (n : ℕ). ReadsLegAt type false leg n lent new target bytes) is one in
-    let three = subst (λ (xs : List _). ReadsLegAt type false leg start xs new target bytes) whole two in
-    subst (λ (xs : List _). ReadsLegAt type false leg start legs.items xs target bytes) (stored legs new same) three
+    let one = subst (λ (b : Bool). ReadsBlockAt type b leg at lent new bytes) failed r in
+    let two = subst (λ (n : ℕ). ReadsBlockAt type false leg n lent new bytes) is one in
+    let three = subst (λ (xs : List _). ReadsBlockAt type false leg start xs new bytes) whole two in
+    subst (λ (xs : List _). ReadsBlockAt type false leg start legs.items xs bytes) (stored legs new same) three
 
-pub write-failed : {L Z : Type 0} (type : LegType L) (legs : Vec L Z) (lent new : List L) (ok : Bool) (leg at start : ℕ) (bytes : List ℕ) → WritesLegAt type ok leg at bytes lent new → lent ≡ legs.items → ok ≡ false → at ≡ start
-    → WritesLegAt type false leg start bytes legs.items (with_items legs new).items
+pub write-failed : {L Z : Type 0} (type : LegType L) (legs : Vec L Z) (lent new : List L) (ok : Bool) (leg at start : ℕ) (bytes : List ℕ) → WritesBlockAt type ok leg at bytes lent new → lent ≡ legs.items → ok ≡ false → at ≡ start
+    → WritesBlockAt type false leg start bytes legs.items (with_items legs new).items
 write-failed type legs lent new ok leg at start bytes w whole failed is =
     let same : length new ≡ length legs.items = ap (λ (xs : List _). length xs) w.change.others ∙ length-set lent leg w.after ∙ ap (λ (xs : List _). length xs) whole in
-    let one = subst (λ (b : Bool). WritesLegAt type b leg at bytes lent new) failed w in
-    let two = subst (λ (n : ℕ). WritesLegAt type false leg n bytes lent new) is one in
-    let three = subst (λ (xs : List _). WritesLegAt type false leg start bytes xs new) whole two in
-    subst (λ (xs : List _). WritesLegAt type false leg start bytes legs.items xs) (stored legs new same) three
+    let one = subst (λ (b : Bool). WritesBlockAt type b leg at bytes lent new) failed w in
+    let two = subst (λ (n : ℕ). WritesBlockAt type false leg n bytes lent new) is one in
+    let three = subst (λ (xs : List _). WritesBlockAt type false leg start bytes xs new) whole two in
+    subst (λ (xs : List _). WritesBlockAt type false leg start bytes legs.items xs) (stored legs new same) three

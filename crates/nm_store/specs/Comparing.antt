@@ -2,8 +2,9 @@
 use Rattle.std.specs.Prelude.{◌≡◌, ℕ, ◌<◌, true, false, length}
 use Rattle.nm_replay.specs.declared.block.Block.{Block}
 use Rattle.nm_leg.specs.Leg.{Leg, LegType}
-use Rattle.nm_leg.specs.LegCalls.{EachHas, ReadsLegAt}
+use Rattle.nm_leg.specs.LegCalls.{EachHas}
 use Rattle.nm_regions.specs.Table.{is_out}
+use Rattle.nm_rules.specs.BlockCalls.{ReadsBlockAt}
 use Rattle.nm_rules.specs.State.{StripeState, is_joining, leg_state, table}
 
 -- the legs are as long as the stripe, the master is one of them, and those that join are out in the
@@ -19,6 +20,5 @@ pub record IsComparing {L : Type 0} (model : L → Leg) (stripe : StripeState L)
 -- the read of this block on the master failed
 pub record FailsAt {L : Type 0} (type : LegType L) (block : ℕ) (old new : StripeState L)
     : Type 0 where
-  pub target : Block
   pub found : Block
-  pub fails : ReadsLegAt type false old.master block old.legs new.legs target found
+  pub fails : ReadsBlockAt type false old.master block old.legs new.legs found

@@ -1,3 +1,4 @@
+pub mod BlockCalls
 pub mod Comparing
 pub mod Copying
 pub mod Counting

@@ -3,20 +3,22 @@ ghost use Rattle.std.specs.Prelude.{◌≡◌, ◌⊎◌, ◌<◌, ◌≤◌, []
 ghost use Rattle.std.specs.Prelude.{None, Some, IsFalse, OnOk, IfErr};
 ghost use Rattle.std.specs.Option.{option_map};
 ghost use Rattle.nm_leg.specs.Leg.{leg_type};
-ghost use Rattle.nm_leg.specs.LegCalls.{HasBlock, ReadsLegAt};
 ghost use Rattle.nm_regions.specs.Table.{has_behind, length_of, is_out, copy_rest};
 ghost use Rattle.nm_resync.specs.Chunk.{Chunk};
 ghost use Rattle.nm_resync.specs.Moves.{Reads, next_move, after_read};
+ghost use Rattle.nm_rules.specs.BlockCalls.{ReadsBlockAt};
 ghost use Rattle.nm_rules.specs.declared.refusal.Refusal.TheVariants.{Busy};
 ghost use Rattle.nm_rules.specs.Copy.{CopiesRead, CopiesWrite, GoesOn};
 ghost use Rattle.nm_rules.specs.Copy.{copy_cause, copy_more_cause, copy_of, chunk_of, chunk_or};
 ghost use Rattle.nm_rules.specs.Copy.{chunk_copied, new_chunk, busy_new_chunk};
 ghost use Rattle.nm_rules.specs.Invariant.{Keeps};
 ghost use Rattle.nm_rules.specs.State.{table};
+ghost use Rattle.nm_store.specs.BlockCalls.{HasBlock};
 ghost use Rattle.nm_store.specs.Copying.{FailsToCopy};
 
+use crate::block_calls::{read_block_at, write_block_at};
 use crate::store::Store;
-use nm_leg::{LegFault, LegPart, read_leg_at, write_leg_at};
+use nm_leg::{LegFault, LegPart};
 use nm_regions::{CopyPlace, Regions};
 use nm_resync::{Copy as CopyBuffer, Move};
 use nm_rules::Refusal;
@@ -125,7 +127,7 @@ impl<L: LegPart> Store<L> {
     {
         let at = self.block_of(copy) + number;
         let bytes = &self.buffer.block(number).0;
-        if write_leg_at(&mut self.legs, copy.leg, at, bytes).is_err() {
+        if write_block_at(&mut self.legs, copy.leg, at, bytes).is_err() {
             return Err(copy.leg);
         }
         if let Some(blocks) = self.buffer.wrote() {
@@ -165,11 +167,11 @@ fn read_slot<L: LegPart>(
     requires leg { leg < length legs.old }
     requires block { HasBlock L.model legs.old leg at }
     requires reads { Reads (next_move buffer.old) }
-    ensures reads { ReadsLegAt (leg_type L.model L.honest) (is_ok result) leg at
-        legs.old legs.new buffer.old.slot buffer.new.slot }
+    ensures reads { ReadsBlockAt (leg_type L.model L.honest) (is_ok result) leg at
+        legs.old legs.new buffer.new.slot }
     ensures others { buffer.new ≡ record buffer.old { slot = buffer.new.slot } }
 {
-    read_leg_at(legs, leg, at, buffer.slot())
+    read_block_at(legs, leg, at, buffer.slot())
 }
 
 /// Keeps the block in the buffer's slot as the chunk's next one. Where no chunk is open, one of so

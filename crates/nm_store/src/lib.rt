@@ -9,6 +9,7 @@
 pub use read_choice::ReadChoice;
 pub use store::Store;
 
+mod block_calls;
 mod causes;
 mod comparing;
 mod copying;

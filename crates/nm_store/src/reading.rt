@@ -1,15 +1,17 @@
 //! Which leg a read takes, and the changes of a read: a leg is called, and the entry is kept.
 ghost use Rattle.std.specs.Prelude.{◌≡◌, ◌<◌, ◌^◌, [], length, is_ok, Some};
 ghost use Rattle.nm_leg.specs.Leg.{leg_type};
-ghost use Rattle.nm_leg.specs.LegCalls.{HasBlock, ReadsLegAt};
+ghost use Rattle.nm_rules.specs.BlockCalls.{ReadsBlockAt};
 ghost use Rattle.nm_rules.specs.State.{next_number, is_quiet};
 ghost use Rattle.nm_rules.specs.Read.{after_read, current_legs, read_leg, true_from};
+ghost use Rattle.nm_store.specs.BlockCalls.{HasBlock};
 
+use crate::block_calls::read_block_at;
 use crate::read_choice::ReadChoice;
 use crate::store::Store;
 use arrayvec::ArrayVec;
 use nm_choice::{next_turn, pick};
-use nm_leg::{LegFault, LegPart, read_leg_at};
+use nm_leg::{LegFault, LegPart};
 use nm_regions::LEGS;
 use nm_replay::{Block, Entry, Kind};
 
@@ -44,15 +46,15 @@ impl<L: LegPart> Store<L> {
         ReadChoice { leg, quiet }
     }
 
-    /// Reads a block of a leg. No more than the leg changes.
+    /// Reads a block of a leg, of which a fault leaves any bytes. No more than the leg changes.
     pub fn read_leg(&mut self, leg: u8, block: u64, into: &mut Block) -> Result<(), LegFault>
         requires leg { leg < length self.old.legs }
         requires block { HasBlock L.model self.old.legs leg block }
-        ensures reads { ReadsLegAt (leg_type L.model L.honest) (is_ok result) leg block
-            self.old.legs self.new.legs into.old into.new }
+        ensures reads { ReadsBlockAt (leg_type L.model L.honest) (is_ok result) leg block
+            self.old.legs self.new.legs into.new }
         ensures others { self.new ≡ record self.old { legs = self.new.legs } }
     {
-        read_leg_at(&mut self.legs, leg, block, into)
+        read_block_at(&mut self.legs, leg, block, into)
     }
 
     /// Keeps the entry of a read that found these bytes, and gives its number. Where no write is

@@ -9,7 +9,7 @@ ghost use Rattle.nm_fanout.specs.Record.{is_under_way, owes};
 ghost use Rattle.nm_fanout.specs.Records.{AllBelow, AreInOrder, entry_at, landed, unlanded};
 ghost use Rattle.nm_replay.specs.Events.{write_kind};
 ghost use Rattle.nm_leg.specs.Leg.{leg_type};
-ghost use Rattle.nm_leg.specs.LegCalls.{HasBlock, WritesLegAt};
+ghost use Rattle.nm_rules.specs.BlockCalls.{WritesBlockAt};
 ghost use Rattle.nm_rules.specs.Read.{current_legs};
 ghost use Rattle.nm_rules.specs.Begin.{after_begin};
 ghost use Rattle.nm_rules.specs.Kept.{kept_with};
@@ -17,10 +17,12 @@ ghost use Rattle.nm_rules.specs.Push.{after_push, after_reach, lands_at, write_e
 ghost use Rattle.nm_rules.specs.Claim.{after_claim};
 ghost use Rattle.nm_rules.specs.Lost.{settled};
 ghost use Rattle.nm_rules.specs.State.{next_number};
+ghost use Rattle.nm_store.specs.BlockCalls.{HasBlock};
 
+use crate::block_calls::write_block_at;
 use crate::store::Store;
 use nm_fanout::{Data, Record, RecordData};
-use nm_leg::{LegFault, LegPart, write_leg_at};
+use nm_leg::{LegFault, LegPart};
 use nm_replay::{BLOCK_BYTES, Block, Entry, Kind};
 
 /// The kind of the entry of a write of these data, under this ticket.
@@ -89,12 +91,12 @@ impl<L: LegPart> Store<L> {
         requires block { (r : Record) → slice_get self.old.records place ≡ Some r
             → HasBlock L.model self.old.legs leg r.block }
         ensures writes { (r : Record) → slice_get self.old.records place ≡ Some r
-            → WritesLegAt (leg_type L.model L.honest) (is_ok result) leg r.block (bytes_of r.data)
+            → WritesBlockAt (leg_type L.model L.honest) (is_ok result) leg r.block (bytes_of r.data)
             self.old.legs self.new.legs }
         ensures others { self.new ≡ record self.old { legs = self.new.legs } }
     {
         let record = self.records.at(place);
-        write_leg_at(&mut self.legs, leg, record.block, record.data.bytes())
+        write_block_at(&mut self.legs, leg, record.block, record.data.bytes())
     }
 
     /// Whether the write at this place takes effect as it reaches the leg.

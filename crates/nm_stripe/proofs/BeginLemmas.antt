@@ -6,7 +6,7 @@ use Rattle.nm_fanout.specs.Data.{is_part}
 use Rattle.nm_fanout.specs.Laying.{data_over}
 use Rattle.nm_fanout.specs.Records.{AllBelow, unlanded}
 use Rattle.nm_leg.specs.Leg.{LegType}
-use Rattle.nm_leg.specs.LegCalls.{ReadsLegAt}
+use Rattle.nm_rules.specs.BlockCalls.{ReadsBlockAt}
 use Rattle.nm_rules.specs.Begin.{Begins, FailsToBegin, LosesInBegin, FailsInBegin, ReadsBase, after_begin, begin_cause}
 use Rattle.nm_rules.specs.Invariant.{HasLegs, Keeps}
 use Rattle.nm_rules.specs.Lost.{lost}
@@ -17,14 +17,14 @@ use Rattle.nm_rules.proofs.StateLemmas.{master_inside}
 use Rattle.nm_stripe.proofs.LostLemmas.{lost-after, lost-legs_after}
 
 -- a read of the master, said of it
-pub reads-at : {L : Type 0} {succeeded : Bool} {leg : ℕ} {target : Block} (type : LegType L) (is : Bool) (old mid : StripeState L) (block : ℕ) (base : Block) → succeeded ≡ is → leg ≡ old.master
-    → ReadsLegAt type succeeded leg block old.legs mid.legs target base → (t : Block) × ReadsLegAt type is old.master block old.legs mid.legs t base
-reads-at {L} {succeeded} {leg} {target} type is old mid block base went here reads =
-    (target, subst (λ (b : Bool). ReadsLegAt type b old.master block old.legs mid.legs target base) went (subst (λ (k : ℕ). ReadsLegAt type succeeded k block old.legs mid.legs target base) here reads))
+pub reads-at : {L : Type 0} {succeeded : Bool} {leg : ℕ} (type : LegType L) (is : Bool) (old mid : StripeState L) (block : ℕ) (base : Block) → succeeded ≡ is → leg ≡ old.master
+    → ReadsBlockAt type succeeded leg block old.legs mid.legs base → ReadsBlockAt type is old.master block old.legs mid.legs base
+reads-at {L} {succeeded} {leg} type is old mid block base went here reads =
+    subst (λ (b : Bool). ReadsBlockAt type b old.master block old.legs mid.legs base) went (subst (λ (k : ℕ). ReadsBlockAt type succeeded k block old.legs mid.legs base) here reads)
 
 -- the master is there after it was read
-pub master-read : {L : Type 0} (type : LegType L) (succeeded : Bool) (old mid : StripeState L) (block : ℕ) (target base : Block) → HasLegs type.model old → ReadsLegAt type succeeded old.master block old.legs mid.legs target base → old.master < length mid.legs
-master-read type succeeded old mid block target base k r = omega (arith, master_inside type.model old k, calls-length type.model old.legs mid.legs old.master r.before r.after r.change)
+pub master-read : {L : Type 0} (type : LegType L) (succeeded : Bool) (old mid : StripeState L) (block : ℕ) (base : Block) → HasLegs type.model old → ReadsBlockAt type succeeded old.master block old.legs mid.legs base → old.master < length mid.legs
+master-read type succeeded old mid block base k r = omega (arith, master_inside type.model old k, calls-length type.model old.legs mid.legs old.master r.before r.after r.change)
 
 -- a write may begin: there is room for its record, and a ticket for it
 pub room : {L : Type 0} (type : LegType L) (old mid : StripeState L) (block : ℕ) → Keeps type old → begin_cause old block ≡ None → mid ≡ record old { legs = mid.legs }
@@ -51,13 +51,13 @@ begins-whole type old new block bytes ticket base filled none whole next after =
       after = after ∙ ap (λ (ls : List _). after_begin (record old { legs = ls }) block (data_over bytes base)) (sym same);
     }
 
-module _ {L : Type 0} (type : LegType L) (old mid new : StripeState L) (block : ℕ) (bytes : Data) (target base : Block) (others : mid ≡ record old { legs = mid.legs }) (none : begin_cause old block ≡ None) (part : is_part bytes ≡ true) where
+module _ {L : Type 0} (type : LegType L) (old mid new : StripeState L) (block : ℕ) (bytes : Data) (base : Block) (others : mid ≡ record old { legs = mid.legs }) (none : begin_cause old block ≡ None) (part : is_part bytes ≡ true) where
   -- a part whose block was read
-  pub begins-part : (ticket : ℕ) → length base.0 ≡ 512 → ReadsLegAt type true old.master block old.legs mid.legs target base → ticket ≡ mid.tickets → new ≡ after_begin mid block (data_over bytes base) → Begins type old new block bytes ticket
+  pub begins-part : (ticket : ℕ) → length base.0 ≡ 512 → ReadsBlockAt type true old.master block old.legs mid.legs base → ticket ≡ mid.tickets → new ≡ after_begin mid block (data_over bytes base) → Begins type old new block bytes ticket
   begins-part ticket filled reads next after =
       let is : new ≡ after_begin (record old { legs = mid.legs }) block (data_over bytes base) = after ∙ ap (λ (m : StripeState L). after_begin m block (data_over bytes base)) others in
       let same : new.legs ≡ mid.legs = ap (λ (s : StripeState L). s.legs) is in
-      let read : (t : Block) × ReadsLegAt type true old.master block old.legs new.legs t base = (target, subst (λ (ls : List L). ReadsLegAt type true old.master block old.legs ls target base) (sym same) reads) in
+      let read : ReadsBlockAt type true old.master block old.legs new.legs base = subst (λ (ls : List L). ReadsBlockAt type true old.master block old.legs ls base) (sym same) reads in
       record {
         no_cause = none;
         next = next ∙ ap (λ (s : StripeState L). s.tickets) others;
@@ -68,10 +68,10 @@ module _ {L : Type 0} (type : LegType L) (old mid new : StripeState L) (block : 
       }
 
   -- a part whose master failed
-  pub fails-to : (legs : List L) → legs ≡ mid.legs → ReadsLegAt type false old.master block old.legs mid.legs target base → FailsToBegin type old legs block bytes
-  fails-to legs same reads = record { no_cause = none; part = part; target = target; found = base; reads = subst (λ (ls : List L). ReadsLegAt type false old.master block old.legs ls target base) (sym same) reads }
+  pub fails-to : (legs : List L) → legs ≡ mid.legs → ReadsBlockAt type false old.master block old.legs mid.legs base → FailsToBegin type old legs block bytes
+  fails-to legs same reads = record { no_cause = none; part = part; found = base; reads = subst (λ (ls : List L). ReadsBlockAt type false old.master block old.legs ls base) (sym same) reads }
 
-  pub loses : ReadsLegAt type false old.master block old.legs mid.legs target base → is_last old.master old ≡ false → new ≡ lost old.master mid → LosesInBegin type old new block bytes old.master
+  pub loses : ReadsBlockAt type false old.master block old.legs mid.legs base → is_last old.master old ≡ false → new ≡ lost old.master mid → LosesInBegin type old new block bytes old.master
   loses reads not_last after =
       let is : new ≡ lost old.master (record old { legs = mid.legs }) = after ∙ ap (λ (m : StripeState L). lost old.master m) others in
       record {
@@ -82,6 +82,6 @@ module _ {L : Type 0} (type : LegType L) (old mid new : StripeState L) (block : 
       }
 
 -- and it is the only leg in sync
-pub fails : {L : Type 0} (type : LegType L) (old mid : StripeState L) (block : ℕ) (bytes : Data) (target base : Block) → mid ≡ record old { legs = mid.legs } → begin_cause old block ≡ None → is_part bytes ≡ true
-    → ReadsLegAt type false old.master block old.legs mid.legs target base → is_last old.master old ≡ true → FailsInBegin type old mid block bytes
-fails type old mid block bytes target base others none part reads last = record { called = fails-to type old mid mid block bytes target base others none part mid.legs refl reads; last = last; after = others }
+pub fails : {L : Type 0} (type : LegType L) (old mid : StripeState L) (block : ℕ) (bytes : Data) (base : Block) → mid ≡ record old { legs = mid.legs } → begin_cause old block ≡ None → is_part bytes ≡ true
+    → ReadsBlockAt type false old.master block old.legs mid.legs base → is_last old.master old ≡ true → FailsInBegin type old mid block bytes
+fails type old mid block bytes base others none part reads last = record { called = fails-to type old mid mid block bytes base others none part mid.legs refl reads; last = last; after = others }

@@ -8,8 +8,8 @@ use Rattle.nm_fanout.proofs.Finding.{find_record-ticket}
 use Rattle.nm_fanout.proofs.InOrder.{AreInOrder-reached}
 use Rattle.nm_fanout.proofs.Places.{IsAt-reached, IsAt-landed}
 use Rattle.nm_leg.specs.Leg.{Leg, LegType}
-use Rattle.nm_leg.specs.LegCalls.{WritesLegAt}
 use Rattle.nm_rules.specs.Acts.{IsExplainedStep}
+use Rattle.nm_rules.specs.BlockCalls.{WritesBlockAt}
 use Rattle.nm_rules.specs.Invariant.{Keeps}
 use Rattle.nm_rules.specs.Lost.{lost, settled}
 use Rattle.nm_rules.specs.Push.{push_cause, after_push, after_landing, after_reach, lands_at, CallsToPush, Pushes, LosesInPush, Halts}
@@ -34,7 +34,7 @@ module _ {L : Type 0} (type : LegType L) (succeeded : Bool) (old : StripeState L
     pub called : CallsToPush type succeeded old legs ticket leg pushed
 
   pub has-called : IsAt ticket place old.records → push_cause old ticket leg ≡ None
-      → ((r : Record) → slice_get old.records place ≡ Some r → WritesLegAt type succeeded leg r.block (bytes_of r.data) old.legs legs) → Called
+      → ((r : Record) → slice_get old.records place ≡ Some r → WritesBlockAt type succeeded leg r.block (bytes_of r.data) old.legs legs) → Called
   has-called at none writes =
       let may = may_push old ticket leg none in
       let here : slice_get old.records place ≡ Some may.pushed = sym at.found ∙ may.found in

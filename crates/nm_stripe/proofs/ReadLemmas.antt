@@ -2,7 +2,6 @@
 use Rattle.std.proofs.Common.{◌≡◌, ℕ, ◌<◌, Bool, true, false, List, length, sym, ap, ◌∙◌, subst, arith}
 use Rattle.nm_replay.specs.declared.block.Block.{Block}
 use Rattle.nm_leg.specs.Leg.{Leg, LegType}
-use Rattle.nm_leg.specs.LegCalls.{HasBlock}
 use Rattle.nm_rules.specs.Array.{contents_at}
 use Rattle.nm_rules.specs.Invariant.{HasLegs}
 use Rattle.nm_rules.specs.Lost.{lost}
@@ -10,6 +9,7 @@ use Rattle.nm_rules.specs.Read.{after_read, CallsToRead, Finds, LosesInRead, Fai
 use Rattle.nm_rules.specs.Receipt.{EntryName}
 use Rattle.nm_rules.specs.State.{StripeState, is_last, next_number}
 use Rattle.nm_rules.proofs.LegLemmas.{calls-length}
+use Rattle.nm_store.specs.BlockCalls.{HasBlock}
 use Rattle.nm_stripe.proofs.LostLemmas.{lost-after, lost-legs_after}
 
 -- each leg has each block of the stripe

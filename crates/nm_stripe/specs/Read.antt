@@ -1,5 +1,5 @@
 -- What a read answers.
-use Rattle.std.specs.Prelude.{◌≡◌, ℕ, [], ◌∷◌, Some, Result, Ok, Err, slice_get}
+use Rattle.std.specs.Prelude.{◌≡◌, ◌≢◌, ℕ, [], ◌∷◌, Some, Result, Ok, Err, slice_get}
 use Rattle.nm_replay.specs.declared.block.Block.{Block}
 use Rattle.nm_replay.specs.Events.{BeginsRead, RepliesRead}
 use Rattle.nm_leg.specs.Leg.{Leg, LegType}
@@ -37,8 +37,7 @@ IsExplainedReading model old new block bytes (Value receipt) =
     (BeginsRead receipt.number block ∷ RepliesRead receipt.number bytes ∷ []) old new
 IsExplainedReading model old new block bytes (LegLost leg) = IsExplainedStep model [] old new
 
--- but for a value the target is as it was
+-- what is refused for its cause leaves the target as it was: no leg was called
 abbrev pub LeavesTarget : {L : Type 0} → Result (Reading L) Refusal → Block → Block → Type 0
-LeavesTarget (Ok (Value receipt)) was is = Unit {0}
-LeavesTarget (Ok (LegLost leg)) was is = is ≡ was
-LeavesTarget (Err refusal) was is = is ≡ was
+LeavesTarget (Ok reading) was is = Unit {0}
+LeavesTarget (Err refusal) was is = refusal ≢ Fault → is ≡ was

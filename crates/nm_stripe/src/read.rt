@@ -25,7 +25,8 @@ impl<L: LegPart> Stripe<L> {
     /// stripe's policy says, and else the master.
     ///
     /// Refused as `Stopped`, `Settling`, `Exhausted` or `Fault` (the only leg in sync failed), the
-    /// first whose condition holds. But for a `Value` `into` is as it was.
+    /// first whose condition holds. A leg that failed leaves any bytes in `into`; any other refusal
+    /// leaves it as it was.
     #[inline(always)]
     pub fn read(&mut self, block: u64, into: &mut Block) -> Result<Reading<L>, Refusal>
         requires { block < self.old.place.blocks }

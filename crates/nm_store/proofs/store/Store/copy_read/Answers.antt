@@ -28,8 +28,7 @@ returns-then-is_err-clause-failed g c =
         refl,
         record {
           not_filled = ap (λ n. nat_lt n chunk.length) (sym next) ∙ short;
-          target = c.self.inside.buffer.slot;
-          reads = read-failed _ c.self.inside.legs c.deref_mut.result.now c.read_slot.new.legs (is_ok c.read_slot.result) old.master _ _ c.self.inside.buffer.slot c.read_slot.new.buffer.slot c.read_slot.ensures.reads c.deref_mut.ensures.value failed at;
+          reads = read-failed _ c.self.inside.legs c.deref_mut.result.now c.read_slot.new.legs (is_ok c.read_slot.result) old.master _ _ c.read_slot.new.buffer.slot c.read_slot.ensures.reads c.deref_mut.ensures.value failed at;
         },
       );
       after = ap (λ (b : CopyBuffer). let s : StripeState _ = record old { legs = (with_items c.self.inside.legs c.read_slot.new.legs).items; chunk = b.chunk } in s) c.read_slot.ensures.others;

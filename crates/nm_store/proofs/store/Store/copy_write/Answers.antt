@@ -17,7 +17,7 @@ returns-then-is_err-clause-failed g c =
     let next : c.args.number ≡ chunk.written = here (λ s. c.args.number ≡ (chunk_of copy s).written) c.requires.next in
     let open_chunk : old.chunk ≡ Some chunk = here (λ s. s.chunk ≡ Some (chunk_of copy s)) c.requires.open in
     let start : c.block_of.result ≡ copy_start old.place.region copy = here (λ s. c.block_of.result ≡ copy_start s.place.region copy) c.block_of.ensures.start in
-    let failed : is_ok c.write_leg_at.result ≡ false = search rules in
+    let failed : is_ok c.write_block_at.result ≡ false = search rules in
     let at : c.block_of.result + c.args.number ≡ copy_start old.place.region copy + chunk.written = omega (arith, start, next) in
     rw (← c.self.view_is) (record {
       copy = copy;
@@ -29,7 +29,7 @@ returns-then-is_err-clause-failed g c =
         record {
           filled = here (λ s. nat_lt (length (chunk_of copy s).blocks) (chunk_of copy s).length ≡ false) c.requires.filled;
           next = ap (λ n. slice_get chunk.blocks n) (sym next) ∙ ap (λ o. slice_get (blocks_of o) c.args.number) (sym open_chunk) ∙ c.block.ensures;
-          writes = write-failed _ c.self.inside.legs c.deref_mut.result.now c.write_leg_at.new.legs (is_ok c.write_leg_at.result) copy.leg _ _ c.block.result.now.0 c.write_leg_at.ensures c.deref_mut.ensures.value failed at;
+          writes = write-failed _ c.self.inside.legs c.deref_mut.result.now c.write_block_at.new.legs (is_ok c.write_block_at.result) copy.leg _ _ c.block.result.now.0 c.write_block_at.ensures c.deref_mut.ensures.value failed at;
         },
       );
       after = refl;
@@ -43,7 +43,7 @@ invariant_of-self-in-Some g c =
     let legs : length c.end_chunk.new.regions.legs ≡ length old.flags = ap (λ (t : RegionTable). length t.legs) regions ∙ copied-legs blocks (table old) in
     record {
       regions = copied-table blocks (table old) c.end_chunk.new.regions regions;
-      states = c.self.invariant.states ∙ legs-count c.self.inside.legs c.write_leg_at.new.legs;
-      flags = legs ∙ c.self.invariant.flags ∙ legs-count c.self.inside.legs c.write_leg_at.new.legs;
+      states = c.self.invariant.states ∙ legs-count c.self.inside.legs c.write_block_at.new.legs;
+      flags = legs ∙ c.self.invariant.flags ∙ legs-count c.self.inside.legs c.write_block_at.new.legs;
       chunk = ap (λ (b : CopyBuffer). b.most) c.wrote.ensures.written ∙ c.self.invariant.chunk;
     }

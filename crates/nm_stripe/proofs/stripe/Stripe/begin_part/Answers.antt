@@ -72,7 +72,7 @@ invariant_of-self g c =
     let reads = reads-at type true s mid c.args.block base ok here c.read_leg.ensures.reads in
     let within : c.args.block < s.place.blocks = subst (λ (s : StripeState _). c.args.block < s.place.blocks) (sym c.self.view_is) c.requires.inside in
     let new = c.begin.new.self in
-    let is : Begins type s new c.args.block c.args.data c.begin.result = begins-part type s mid new c.args.block c.args.data reads.0 base c.read_leg.ensures.others none c.requires.part c.begin.result c.begin.ensures.filled reads.1 c.begin.ensures.ticket c.begin.ensures.begun in
+    let is : Begins type s new c.args.block c.args.data c.begin.result = begins-part type s mid new c.args.block c.args.data base c.read_leg.ensures.others none c.requires.part c.begin.result c.begin.ensures.filled reads c.begin.ensures.ticket c.begin.ensures.begun in
     begins-keeps type s new c.args.block c.args.data c.begin.result c.self.invariant is within c.requires.fits
 
 pub returns-then-is_ok-clause-ok : goal.returns-then-is_ok-clause-ok
@@ -87,7 +87,7 @@ returns-then-is_ok-clause-ok g c =
     let reads = reads-at type true s mid c.args.block base ok here c.read_leg.ensures.reads in
     let within : c.args.block < s.place.blocks = subst (λ (s : StripeState _). c.args.block < s.place.blocks) (sym c.self.view_is) c.requires.inside in
     let new = c.begin.new.self in
-    let is : Begins type s new c.args.block c.args.data c.begin.result = begins-part type s mid new c.args.block c.args.data reads.0 base c.read_leg.ensures.others none c.requires.part c.begin.result c.begin.ensures.filled reads.1 c.begin.ensures.ticket c.begin.ensures.begun in
+    let is : Begins type s new c.args.block c.args.data c.begin.result = begins-part type s mid new c.args.block c.args.data base c.read_leg.ensures.others none c.requires.part c.begin.result c.begin.ensures.filled reads c.begin.ensures.ticket c.begin.ensures.begun in
     rw (← c.self.view_is) is
 
 pub returns-then-is_ok-clause-acts : goal.returns-then-is_ok-clause-acts
@@ -102,7 +102,7 @@ returns-then-is_ok-clause-acts g c is_honest =
     let reads = reads-at type true s mid c.args.block base ok here c.read_leg.ensures.reads in
     let within : c.args.block < s.place.blocks = subst (λ (s : StripeState _). c.args.block < s.place.blocks) (sym c.self.view_is) c.requires.inside in
     let new = c.begin.new.self in
-    let is : Begins type s new c.args.block c.args.data c.begin.result = begins-part type s mid new c.args.block c.args.data reads.0 base c.read_leg.ensures.others none c.requires.part c.begin.result c.begin.ensures.filled reads.1 c.begin.ensures.ticket c.begin.ensures.begun in
+    let is : Begins type s new c.args.block c.args.data c.begin.result = begins-part type s mid new c.args.block c.args.data base c.read_leg.ensures.others none c.requires.part c.begin.result c.begin.ensures.filled reads c.begin.ensures.ticket c.begin.ensures.begun in
     rw (← c.self.view_is) (begins-explained type s new c.args.block c.args.data c.begin.result c.self.invariant is c.requires.fits is_honest)
 
 pub is_last-requires : goal.is_last-requires
@@ -115,7 +115,7 @@ is_last-requires g c =
     let ok : is_ok c.read_leg.result ≡ false = search rules in
     let here : c.master-master.result ≡ s.master = search rules in
     let reads = reads-at type false s mid c.args.block base ok here c.read_leg.ensures.reads in
-    rw here (master-read type false s mid c.args.block reads.0 base c.self.invariant.legs reads.1)
+    rw here (master-read type false s mid c.args.block base c.self.invariant.legs reads)
 
 pub invariant_of-self-then-is_last : goal.invariant_of-self-then-is_last
 invariant_of-self-then-is_last g c =
@@ -129,7 +129,7 @@ invariant_of-self-then-is_last g c =
     let reads = reads-at type false s mid c.args.block base ok here c.read_leg.ensures.reads in
     let given : c.is_last.result ≡ true = search rules in
     let last : is_last s.master s ≡ true = last-from s.master s mid c.is_last.result c.read_leg.ensures.others (rw (← here) c.is_last.ensures) ∙ given in
-    let is : FailsInBegin type s mid c.args.block c.args.data = fails type s mid c.args.block c.args.data reads.0 base c.read_leg.ensures.others none c.requires.part reads.1 last in
+    let is : FailsInBegin type s mid c.args.block c.args.data = fails type s mid c.args.block c.args.data base c.read_leg.ensures.others none c.requires.part reads last in
     begin_fault-keeps type s mid c.self.invariant c.args.block c.args.data is
 
 pub returns-then-is_last-clause-refused : goal.returns-then-is_last-clause-refused
@@ -144,7 +144,7 @@ returns-then-is_last-clause-refused g c =
     let reads = reads-at type false s mid c.args.block base ok here c.read_leg.ensures.reads in
     let given : c.is_last.result ≡ true = search rules in
     let last : is_last s.master s ≡ true = last-from s.master s mid c.is_last.result c.read_leg.ensures.others (rw (← here) c.is_last.ensures) ∙ given in
-    let is : FailsInBegin type s mid c.args.block c.args.data = fails type s mid c.args.block c.args.data reads.0 base c.read_leg.ensures.others none c.requires.part reads.1 last in
+    let is : FailsInBegin type s mid c.args.block c.args.data = fails type s mid c.args.block c.args.data base c.read_leg.ensures.others none c.requires.part reads last in
     rw (← c.self.view_is) (ForFault refl is)
 
 pub returns-then-is_last-clause-refused_acts : goal.returns-then-is_last-clause-refused_acts
@@ -159,7 +159,7 @@ returns-then-is_last-clause-refused_acts g c is_honest =
     let reads = reads-at type false s mid c.args.block base ok here c.read_leg.ensures.reads in
     let given : c.is_last.result ≡ true = search rules in
     let last : is_last s.master s ≡ true = last-from s.master s mid c.is_last.result c.read_leg.ensures.others (rw (← here) c.is_last.ensures) ∙ given in
-    let is : FailsInBegin type s mid c.args.block c.args.data = fails type s mid c.args.block c.args.data reads.0 base c.read_leg.ensures.others none c.requires.part reads.1 last in
+    let is : FailsInBegin type s mid c.args.block c.args.data = fails type s mid c.args.block c.args.data base c.read_leg.ensures.others none c.requires.part reads last in
     rw (← c.self.view_is) (fails_in_begin-explained type s mid c.args.block c.args.data is_honest c.self.invariant is)
 
 pub lose-requires-clause-leg : goal.lose-requires-clause-leg
@@ -172,7 +172,7 @@ lose-requires-clause-leg g c =
     let ok : is_ok c.read_leg.result ≡ false = search rules in
     let here : c.master-master.result ≡ s.master = search rules in
     let reads = reads-at type false s mid c.args.block base ok here c.read_leg.ensures.reads in
-    rw here (master-read type false s mid c.args.block reads.0 base c.self.invariant.legs reads.1)
+    rw here (master-read type false s mid c.args.block base c.self.invariant.legs reads)
 
 pub invariant_of-self-2 : goal.invariant_of-self-2
 invariant_of-self-2 g c =
@@ -187,7 +187,7 @@ invariant_of-self-2 g c =
     let given : c.is_last.result ≡ false = search rules in
     let last : is_last s.master s ≡ false = last-from s.master s mid c.is_last.result c.read_leg.ensures.others (rw (← here) c.is_last.ensures) ∙ given in
     let new = c.lose.new.self in
-    let is : LosesInBegin type s new c.args.block c.args.data s.master = loses type s mid new c.args.block c.args.data reads.0 base c.read_leg.ensures.others none c.requires.part reads.1 last (rw (← here) c.lose.ensures) in
+    let is : LosesInBegin type s new c.args.block c.args.data s.master = loses type s mid new c.args.block c.args.data base c.read_leg.ensures.others none c.requires.part reads last (rw (← here) c.lose.ensures) in
     begin_lost-keeps type s new c.self.invariant c.args.block c.args.data s.master is
 
 pub returns-clause-ok : goal.returns-clause-ok
@@ -203,7 +203,7 @@ returns-clause-ok g c =
     let given : c.is_last.result ≡ false = search rules in
     let last : is_last s.master s ≡ false = last-from s.master s mid c.is_last.result c.read_leg.ensures.others (rw (← here) c.is_last.ensures) ∙ given in
     let new = c.lose.new.self in
-    let is : LosesInBegin type s new c.args.block c.args.data s.master = loses type s mid new c.args.block c.args.data reads.0 base c.read_leg.ensures.others none c.requires.part reads.1 last (rw (← here) c.lose.ensures) in
+    let is : LosesInBegin type s new c.args.block c.args.data s.master = loses type s mid new c.args.block c.args.data base c.read_leg.ensures.others none c.requires.part reads last (rw (← here) c.lose.ensures) in
     rw (← c.self.view_is, here) (is, refl)
 
 pub returns-clause-acts : goal.returns-clause-acts
@@ -219,5 +219,5 @@ returns-clause-acts g c is_honest =
     let given : c.is_last.result ≡ false = search rules in
     let last : is_last s.master s ≡ false = last-from s.master s mid c.is_last.result c.read_leg.ensures.others (rw (← here) c.is_last.ensures) ∙ given in
     let new = c.lose.new.self in
-    let is : LosesInBegin type s new c.args.block c.args.data s.master = loses type s mid new c.args.block c.args.data reads.0 base c.read_leg.ensures.others none c.requires.part reads.1 last (rw (← here) c.lose.ensures) in
+    let is : LosesInBegin type s new c.args.block c.args.data s.master = loses type s mid new c.args.block c.args.data base c.read_leg.ensures.others none c.requires.part reads last (rw (← here) c.lose.ensures) in
     rw (← c.self.view_is) (begin_lost-acts type s new c.self.invariant c.args.block c.args.data s.master is is_honest)

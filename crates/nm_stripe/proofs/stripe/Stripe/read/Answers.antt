@@ -48,7 +48,7 @@ invariant_of-self g c =
     let bytes = c.read_leg.new.into in
     let none : read_cause s ≡ None = search rules in
     let ok : is_ok c.read_leg.result ≡ true = search rules in
-    let called : CallsToRead type true s mid.legs c.args.block leg bytes = record { no_cause = none; leg_is = c.leg_to_read-choice.ensures.leg; target = c.args.into.now; reads = rw (← ok) c.read_leg.ensures.reads } in
+    let called : CallsToRead type true s mid.legs c.args.block leg bytes = record { no_cause = none; leg_is = c.leg_to_read-choice.ensures.leg; reads = rw (← ok) c.read_leg.ensures.reads } in
     let within : c.args.block < s.place.blocks = subst (λ (s : StripeState _). c.args.block < s.place.blocks) (sym c.self.view_is) c.requires in
     let new = c.keep_read-number.new.self in
     let entry : EntryName = record { stripe = new.place.stripe; block = c.args.block; number = c.keep_read-number.result } in
@@ -64,7 +64,7 @@ returns-then-is_ok-clause-ok g c =
     let bytes = c.read_leg.new.into in
     let none : read_cause s ≡ None = search rules in
     let ok : is_ok c.read_leg.result ≡ true = search rules in
-    let called : CallsToRead type true s mid.legs c.args.block leg bytes = record { no_cause = none; leg_is = c.leg_to_read-choice.ensures.leg; target = c.args.into.now; reads = rw (← ok) c.read_leg.ensures.reads } in
+    let called : CallsToRead type true s mid.legs c.args.block leg bytes = record { no_cause = none; leg_is = c.leg_to_read-choice.ensures.leg; reads = rw (← ok) c.read_leg.ensures.reads } in
     let within : c.args.block < s.place.blocks = subst (λ (s : StripeState _). c.args.block < s.place.blocks) (sym c.self.view_is) c.requires in
     let new = c.keep_read-number.new.self in
     let is : Finds type s new c.args.block bytes c.new-receipt.result = finds type s mid new c.args.block leg bytes c.read_leg.ensures.others c.new-receipt.result c.place.result.stripe c.keep_read-number.result called c.keep_read-number.ensures.kept c.new-receipt.ensures (search rules) c.keep_read-number.ensures.number in
@@ -79,7 +79,7 @@ returns-then-is_ok-clause-acts g c is_honest =
     let bytes = c.read_leg.new.into in
     let none : read_cause s ≡ None = search rules in
     let ok : is_ok c.read_leg.result ≡ true = search rules in
-    let called : CallsToRead type true s mid.legs c.args.block leg bytes = record { no_cause = none; leg_is = c.leg_to_read-choice.ensures.leg; target = c.args.into.now; reads = rw (← ok) c.read_leg.ensures.reads } in
+    let called : CallsToRead type true s mid.legs c.args.block leg bytes = record { no_cause = none; leg_is = c.leg_to_read-choice.ensures.leg; reads = rw (← ok) c.read_leg.ensures.reads } in
     let within : c.args.block < s.place.blocks = subst (λ (s : StripeState _). c.args.block < s.place.blocks) (sym c.self.view_is) c.requires in
     let new = c.keep_read-number.new.self in
     let is : Finds type s new c.args.block bytes c.new-receipt.result = finds type s mid new c.args.block leg bytes c.read_leg.ensures.others c.new-receipt.result c.place.result.stripe c.keep_read-number.result called c.keep_read-number.ensures.kept c.new-receipt.ensures (search rules) c.keep_read-number.ensures.number in
@@ -95,7 +95,7 @@ is_last-requires g c =
     let bytes = c.read_leg.new.into in
     let none : read_cause s ≡ None = search rules in
     let ok : is_ok c.read_leg.result ≡ false = search rules in
-    let called : CallsToRead type false s mid.legs c.args.block leg bytes = record { no_cause = none; leg_is = c.leg_to_read-choice.ensures.leg; target = c.args.into.now; reads = rw (← ok) c.read_leg.ensures.reads } in
+    let called : CallsToRead type false s mid.legs c.args.block leg bytes = record { no_cause = none; leg_is = c.leg_to_read-choice.ensures.leg; reads = rw (← ok) c.read_leg.ensures.reads } in
     let inside : leg < length s.legs = legs.read-inside type s c.args.block c.self.invariant.legs c.self.invariant.chunk leg c.leg_to_read-choice.ensures.leg in
     read-inside type false s mid.legs c.args.block leg bytes called inside
 
@@ -108,7 +108,7 @@ invariant_of-self-then-is_last g c =
     let bytes = c.read_leg.new.into in
     let none : read_cause s ≡ None = search rules in
     let ok : is_ok c.read_leg.result ≡ false = search rules in
-    let called : CallsToRead type false s mid.legs c.args.block leg bytes = record { no_cause = none; leg_is = c.leg_to_read-choice.ensures.leg; target = c.args.into.now; reads = rw (← ok) c.read_leg.ensures.reads } in
+    let called : CallsToRead type false s mid.legs c.args.block leg bytes = record { no_cause = none; leg_is = c.leg_to_read-choice.ensures.leg; reads = rw (← ok) c.read_leg.ensures.reads } in
     let given : c.is_last.result ≡ true = search rules in
     let last : is_last leg s ≡ true = last-from leg s mid c.is_last.result c.read_leg.ensures.others c.is_last.ensures ∙ given in
     let is : FailsInRead type s mid c.args.block bytes = fails type s mid c.args.block leg bytes c.read_leg.ensures.others called last in
@@ -123,7 +123,7 @@ returns-then-is_last-clause-refused g c =
     let bytes = c.read_leg.new.into in
     let none : read_cause s ≡ None = search rules in
     let ok : is_ok c.read_leg.result ≡ false = search rules in
-    let called : CallsToRead type false s mid.legs c.args.block leg bytes = record { no_cause = none; leg_is = c.leg_to_read-choice.ensures.leg; target = c.args.into.now; reads = rw (← ok) c.read_leg.ensures.reads } in
+    let called : CallsToRead type false s mid.legs c.args.block leg bytes = record { no_cause = none; leg_is = c.leg_to_read-choice.ensures.leg; reads = rw (← ok) c.read_leg.ensures.reads } in
     let given : c.is_last.result ≡ true = search rules in
     let last : is_last leg s ≡ true = last-from leg s mid c.is_last.result c.read_leg.ensures.others c.is_last.ensures ∙ given in
     let is : FailsInRead type s mid c.args.block bytes = fails type s mid c.args.block leg bytes c.read_leg.ensures.others called last in
@@ -138,7 +138,7 @@ returns-then-is_last-clause-refused_acts g c is_honest =
     let bytes = c.read_leg.new.into in
     let none : read_cause s ≡ None = search rules in
     let ok : is_ok c.read_leg.result ≡ false = search rules in
-    let called : CallsToRead type false s mid.legs c.args.block leg bytes = record { no_cause = none; leg_is = c.leg_to_read-choice.ensures.leg; target = c.args.into.now; reads = rw (← ok) c.read_leg.ensures.reads } in
+    let called : CallsToRead type false s mid.legs c.args.block leg bytes = record { no_cause = none; leg_is = c.leg_to_read-choice.ensures.leg; reads = rw (← ok) c.read_leg.ensures.reads } in
     let given : c.is_last.result ≡ true = search rules in
     let last : is_last leg s ≡ true = last-from leg s mid c.is_last.result c.read_leg.ensures.others c.is_last.ensures ∙ given in
     let is : FailsInRead type s mid c.args.block bytes = fails type s mid c.args.block leg bytes c.read_leg.ensures.others called last in
@@ -153,7 +153,7 @@ lose-requires-clause-leg g c =
     let bytes = c.read_leg.new.into in
     let none : read_cause s ≡ None = search rules in
     let ok : is_ok c.read_leg.result ≡ false = search rules in
-    let called : CallsToRead type false s mid.legs c.args.block leg bytes = record { no_cause = none; leg_is = c.leg_to_read-choice.ensures.leg; target = c.args.into.now; reads = rw (← ok) c.read_leg.ensures.reads } in
+    let called : CallsToRead type false s mid.legs c.args.block leg bytes = record { no_cause = none; leg_is = c.leg_to_read-choice.ensures.leg; reads = rw (← ok) c.read_leg.ensures.reads } in
     let inside : leg < length s.legs = legs.read-inside type s c.args.block c.self.invariant.legs c.self.invariant.chunk leg c.leg_to_read-choice.ensures.leg in
     read-inside type false s mid.legs c.args.block leg bytes called inside
 
@@ -166,7 +166,7 @@ invariant_of-self-2 g c =
     let bytes = c.read_leg.new.into in
     let none : read_cause s ≡ None = search rules in
     let ok : is_ok c.read_leg.result ≡ false = search rules in
-    let called : CallsToRead type false s mid.legs c.args.block leg bytes = record { no_cause = none; leg_is = c.leg_to_read-choice.ensures.leg; target = c.args.into.now; reads = rw (← ok) c.read_leg.ensures.reads } in
+    let called : CallsToRead type false s mid.legs c.args.block leg bytes = record { no_cause = none; leg_is = c.leg_to_read-choice.ensures.leg; reads = rw (← ok) c.read_leg.ensures.reads } in
     let given : c.is_last.result ≡ false = search rules in
     let last : is_last leg s ≡ false = last-from leg s mid c.is_last.result c.read_leg.ensures.others c.is_last.ensures ∙ given in
     let new = c.lose.new.self in
@@ -182,7 +182,7 @@ returns-clause-ok g c =
     let bytes = c.read_leg.new.into in
     let none : read_cause s ≡ None = search rules in
     let ok : is_ok c.read_leg.result ≡ false = search rules in
-    let called : CallsToRead type false s mid.legs c.args.block leg bytes = record { no_cause = none; leg_is = c.leg_to_read-choice.ensures.leg; target = c.args.into.now; reads = rw (← ok) c.read_leg.ensures.reads } in
+    let called : CallsToRead type false s mid.legs c.args.block leg bytes = record { no_cause = none; leg_is = c.leg_to_read-choice.ensures.leg; reads = rw (← ok) c.read_leg.ensures.reads } in
     let given : c.is_last.result ≡ false = search rules in
     let last : is_last leg s ≡ false = last-from leg s mid c.is_last.result c.read_leg.ensures.others c.is_last.ensures ∙ given in
     let new = c.lose.new.self in
@@ -198,7 +198,7 @@ returns-clause-acts g c is_honest =
     let bytes = c.read_leg.new.into in
     let none : read_cause s ≡ None = search rules in
     let ok : is_ok c.read_leg.result ≡ false = search rules in
-    let called : CallsToRead type false s mid.legs c.args.block leg bytes = record { no_cause = none; leg_is = c.leg_to_read-choice.ensures.leg; target = c.args.into.now; reads = rw (← ok) c.read_leg.ensures.reads } in
+    let called : CallsToRead type false s mid.legs c.args.block leg bytes = record { no_cause = none; leg_is = c.leg_to_read-choice.ensures.leg; reads = rw (← ok) c.read_leg.ensures.reads } in
     let given : c.is_last.result ≡ false = search rules in
     let last : is_last leg s ≡ false = last-from leg s mid c.is_last.result c.read_leg.ensures.others c.is_last.ensures ∙ given in
     let new = c.lose.new.self in

@@ -1,0 +1,8 @@
+-- A block of one leg out of a list of legs.
+use Rattle.std.specs.Prelude.{◌≡◌, ◌<◌, ℕ, List, length, Some, slice_get}
+use Rattle.nm_leg.specs.Leg.{Leg}
+
+-- the leg at this place has a block of this number
+abbrev pub HasBlock : {L : Type 0} → (L → Leg) → List L → ℕ → ℕ → Type 0
+HasBlock {L} model legs place at =
+    (leg : L) → slice_get legs place ≡ Some leg → at < length (model leg).contents
