@@ -1,18 +1,16 @@
--- A call of a medium as a call of the leg that it keeps.
-use Rattle.std.proofs.Common.{◌≡◌, ◌≢◌, ℕ, ◌+◌, ◌*◌, ◌/◌, ◌%◌, ◌^◌, ◌<◌, ◌≤◌, Bool, true, false, IsTrue, IsFalse, List, length, take, refl, ap, sym, ◌∙◌, subst, arith, inl, inr, Result, Ok, slice_get}
+-- What the calls for a run do to a medium as a call of the leg that it keeps.
+use Rattle.std.proofs.Common.{◌≡◌, ⊎_elim, ℕ, ◌+◌, ◌%◌, ◌^◌, ◌<◌, ◌≤◌, Bool, true, false, IsTrue, IsFalse, List, length, refl, ap, sym, ◌∙◌, subst, arith, inl, inr, Result, Ok, slice_get}
 use Rattle.std.specs.Prelude.{Some}
-use Rattle.std.proofs.lemmas.Bool.{cases_lt}
-use Rattle.std.proofs.Math.Nat.{le-mul_of_pos_right}
-use Rattle.std.proofs.lemmas.Nat.{div-add-mod', mul-le}
-use Rattle.std.proofs.lemmas.List.{take_all}
-use Rattle.nm_replay.specs.declared.block.Block.{Block}
-use Rattle.nm_leg.specs.Leg.{block_of, CallsLeg, ReadsLeg, WritesLeg, SyncsLeg}
-use Rattle.nm_geometry.specs.Geometry.{Geometry, IsGeometry, row, export_block, block_in_stripe, stripe_blocks}
-use Rattle.nm_file_leg.specs.Medium.{Held, Owns, window, Apart, ReadsMedium, WritesMedium, SyncsMedium, Kept}
-use Rattle.nm_file_leg.specs.Blocks.{first_byte, bytes_at, blocks_from, leg_on, same_length}
+use Rattle.nm_replay.proofs.Arrays.{same_by_slice_get}
+use Rattle.nm_leg.specs.Leg.{block_of, blocks_in, blocks_of, cut_into, set_run, IsOutside, CallsLeg, ReadsLeg, WritesLeg, SyncsLeg}
+use Rattle.nm_leg.proofs.RunLemmas.{get-cut_into, holds-cut, length-cut_into, set_run-inside, set_run-outside, where_is}
+use Rattle.nm_geometry.specs.Geometry.{Geometry, IsGeometry, stripe_blocks}
+use Rattle.nm_file_leg.specs.Medium.{Held, window, SyncsMedium, Kept}
+use Rattle.nm_file_leg.specs.Blocks.{first_byte, bytes_at, blocks_from, leg_on, length-blocks_from, same_length}
+use Rattle.nm_file_leg.specs.Runs.{run_places, OwnsRun, IsApart, ReadsRun, WritesRun}
 use Rattle.nm_file_leg.specs.FileLeg.{OwnsBlocks, FileRules}
-use Rattle.nm_file_leg.proofs.BlockLemmas.{get-blocks_from, same-get, same-blocks, bytes-same, set-blocks}
-use Rattle.nm_geometry.proofs.Places.{back-and-there}
+use Rattle.nm_file_leg.proofs.BlockLemmas.{get-blocks_from, same-get, same-blocks, bytes-same}
+use Rattle.nm_file_leg.proofs.PlaceLemmas.{blocks-apart}
 
 -- a call that succeeds counts no fault
 pub calls-succeeded : (s : ℕ) (p : Geometry) (f : ℕ) (old new : Held) → CallsLeg true (leg_on old s p f) (leg_on new s p f)
@@ -32,107 +30,86 @@ calls-failed s p f g old new counted = record {
   fault_moves = λ q. λ same. let e : ⊥ = omega (arith, counted, same) in e;
 }
 
--- a stripe has at most the blocks of the export
-pub blocks-most : (s : ℕ) (p : Geometry) → IsGeometry p → stripe_blocks s p ≤ p.blocks
-blocks-most s p bounds =
-    let q = p.blocks / row p in
-    let wide : p.region ≤ row p = le-mul_of_pos_right p.region bounds.some_stripes in
-    let rows : q * p.region ≤ q * row p = mul-le q p.region q (row p) (omega arith) wide in
-    omega (arith, rows, div-add-mod' p.blocks (row p))
-
--- two blocks that are not one have no byte in common
-apart-if-other : (x y : ℕ) → y ≢ x → Apart (512 * x) 512 (512 * y) 512
-apart-if-other x y other =
-    elim (cases_lt y x) as (λ _. Apart (512 * x) 512 (512 * y) 512) [
-      | inl below ↦ inl (omega (arith, below))
-      | inr above ↦ inr (omega (arith, above, other))
-    ]
-
--- two blocks of the stripe have no byte in common: each is one block of the export, and comes back
-pub blocks-apart : (s : ℕ) (p : Geometry) (at k : ℕ) → IsGeometry p → s < p.stripes → k ≢ at
-    → Apart (first_byte s p at) 512 (first_byte s p k) 512
-blocks-apart s p at k bounds own other =
-    let back = λ (i : ℕ). (back-and-there p s i bounds own).block_back in
-    apart-if-other (export_block s at p) (export_block s k p) (λ (same : export_block s k p ≡ export_block s at p).
-    other (sym (back k) ∙ ap (λ (e : ℕ). block_in_stripe e p) same ∙ back at))
-
--- a whole block was read
-pub reads-block : {E : Type 0} (honest : Bool) (s : ℕ) (p : Geometry) (f at : ℕ) (result : Result ℕ E) (old new : Held) (target : Block) (filled : List ℕ)
-    → at < stripe_blocks s p → length filled ≡ 512 → result ≡ Ok 512 → (IsTrue honest → OwnsBlocks old s p) → ReadsMedium honest result (first_byte s p at) old new filled
-    → ReadsLeg honest true at (leg_on old s p f) (leg_on new s p f) target (block_of filled)
-reads-block honest s p f at result old new target filled below full whole owns reads = record {
+-- a run was read
+pub reads-run : (honest succeeded : Bool) (s : ℕ) (p : Geometry) (f at : ℕ) (old new : Held) (filled : List ℕ)
+    → IsTrue succeeded → at + blocks_in filled ≤ stripe_blocks s p → (IsTrue honest → OwnsBlocks old s p) → ReadsRun honest succeeded (run_places s p at) old new filled
+    → ReadsLeg honest true at (leg_on old s p f) (leg_on new s p f) filled
+reads-run honest succeeded s p f at old new filled done inside owns reads = record {
   calls = calls-succeeded s p f old new;
   found = λ is_honest _.
-      let read : Owns old (first_byte s p at) 512 → take 512 filled ≡ bytes_at s p at old.contents = rw whole at (reads.found is_honest) in
-      let found : take 512 filled ≡ bytes_at s p at old.contents = read (owns is_honest at below) in
-      let all : take 512 filled ≡ filled = take_all 512 filled (omega (arith, full)) in
-      let e : 0 + at ≡ at = omega arith in
-      get-blocks_from s p 0 (stripe_blocks s p) at old.contents below ∙ ap (λ (i : ℕ). Some (block_of (bytes_at s p i old.contents))) e
-      ∙ ap (λ (b : List ℕ). Some (block_of b)) (sym found ∙ all);
-  target_left = λ q. absurd (let e : ⊥ = cc in e);
+      let all : OwnsRun old (run_places s p at) (blocks_in filled) = λ i low. owns is_honest (at + i) (omega (arith, low, inside)) in
+      holds-cut (blocks_in filled) at filled (blocks_from s p 0 (stripe_blocks s p) old.contents) (λ i below.
+      let e : 0 + (at + i) ≡ at + i = omega arith in
+      get-blocks_from s p 0 (stripe_blocks s p) (at + i) old.contents (omega (arith, below, inside)) ∙ ap (λ (k : ℕ). Some (block_of (bytes_at s p k old.contents))) e
+      ∙ ap (λ (b : List ℕ). Some (block_of b)) (reads.found is_honest done all i below));
   contents = λ is_honest. ap (λ (h : Held). blocks_from s p 0 (stripe_blocks s p) h.contents) (reads.same is_honest);
   durable = λ is_honest. ap (λ (h : Held). blocks_from s p 0 (stripe_blocks s p) h.durable) (reads.same is_honest);
 }
 
--- a read failed, and its target is as it was
-pub reads-failed : {E : Type 0} (honest : Bool) (s : ℕ) (p : Geometry) (f g at first : ℕ) (result : Result ℕ E) (old new : Held) (target : Block) (filled : List ℕ)
-    → g ≡ (f + 1) % 2 ^ 64 → ReadsMedium honest result first old new filled
-    → ReadsLeg honest false at (leg_on old s p f) (leg_on new s p g) target target
-reads-failed honest s p f g at first result old new target filled counted reads = record {
+-- a read failed
+pub reads-failed : (honest succeeded : Bool) (s : ℕ) (p : Geometry) (f g at : ℕ) (old new : Held) (filled : List ℕ)
+    → g ≡ (f + 1) % 2 ^ 64 → ReadsRun honest succeeded (run_places s p at) old new filled
+    → ReadsLeg honest false at (leg_on old s p f) (leg_on new s p g) filled
+reads-failed honest succeeded s p f g at old new filled counted reads = record {
   calls = calls-failed s p f g old new counted;
   found = λ _ q. absurd (let e : ⊥ = cc in e);
-  target_left = λ _. refl;
   contents = λ is_honest. ap (λ (h : Held). blocks_from s p 0 (stripe_blocks s p) h.contents) (reads.same is_honest);
   durable = λ is_honest. ap (λ (h : Held). blocks_from s p 0 (stripe_blocks s p) h.durable) (reads.same is_honest);
 }
 
--- a write leaves the bytes of every other block
-pub others-contents : {E : Type 0} (honest : Bool) (s : ℕ) (p : Geometry) (at k : ℕ) (result : Result ℕ E) (bytes : List ℕ) (old new : Held)
-    → IsGeometry p → s < p.stripes → length bytes ≡ 512 → WritesMedium honest result (first_byte s p at) bytes old new
-    → IsTrue honest → k ≢ at → bytes_at s p k new.contents ≡ bytes_at s p k old.contents
-others-contents honest s p at k result bytes old new bounds own full writes is_honest other =
-    writes.others is_honest _ _ (subst (λ (many : ℕ). Apart (first_byte s p at) many (first_byte s p k) 512) (sym full) (blocks-apart s p at k bounds own other))
+module _ (honest succeeded : Bool) (s : ℕ) (p : Geometry) (at : ℕ) (bytes : List ℕ) (old new : Held)
+    (bounds : IsGeometry p) (own : s < p.stripes) (writes : WritesRun honest succeeded (run_places s p at) bytes old new) where
+  -- every other block lies apart from the run
+  run-apart : (k : ℕ) → IsOutside at (blocks_in bytes) k → IsApart (run_places s p at) (blocks_in bytes) (first_byte s p k) 512
+  run-apart k out i low = blocks-apart s p (at + i) k bounds own (λ same. ⊎_elim (λ under. omega (arith, under, same)) (λ over. omega (arith, over, same, low)) out)
 
-pub others-durable : {E : Type 0} (honest : Bool) (s : ℕ) (p : Geometry) (at k : ℕ) (result : Result ℕ E) (bytes : List ℕ) (old new : Held)
-    → IsGeometry p → s < p.stripes → length bytes ≡ 512 → WritesMedium honest result (first_byte s p at) bytes old new
-    → IsTrue honest → k ≢ at → bytes_at s p k new.durable ≡ bytes_at s p k old.durable
-others-durable honest s p at k result bytes old new bounds own full writes is_honest other =
-    writes.durable_others is_honest _ _ (subst (λ (many : ℕ). Apart (first_byte s p at) many (first_byte s p k) 512) (sym full) (blocks-apart s p at k bounds own other))
+  -- a write leaves the bytes of every other block
+  others-contents : IsTrue honest → (k : ℕ) → IsOutside at (blocks_in bytes) k → slice_get (blocks_from s p 0 (stripe_blocks s p) new.contents) k ≡ slice_get (blocks_from s p 0 (stripe_blocks s p) old.contents) k
+  others-contents is_honest k out = same-get s p 0 (stripe_blocks s p) k new.contents old.contents (λ (low : k < stripe_blocks s p).
+      let e : k ≡ 0 + k = omega arith in
+      subst (λ (i : ℕ). bytes_at s p i new.contents ≡ bytes_at s p i old.contents) e (writes.others is_honest _ 512 (omega arith) (run-apart k out)))
 
--- a whole block was written
-pub writes-block : {E : Type 0} (honest : Bool) (s : ℕ) (p : Geometry) (f at : ℕ) (result : Result ℕ E) (bytes : List ℕ) (old new : Held)
-    → IsGeometry p → s < p.stripes → at < stripe_blocks s p → length bytes ≡ 512 → result ≡ Ok 512 → (IsTrue honest → OwnsBlocks old s p) → WritesMedium honest result (first_byte s p at) bytes old new
-    → WritesLeg honest true at bytes (leg_on old s p f) (leg_on new s p f)
-writes-block honest s p f at result bytes old new bounds own below full whole owns writes = record {
-  calls = calls-succeeded s p f old new;
-  written = λ is_honest _.
-      let own_bytes : Owns old (first_byte s p at) (length bytes) = subst (λ (n : ℕ). Owns old (first_byte s p at) n) (sym full) (owns is_honest at below) in
-      let written : bytes_at s p at new.contents ≡ take 512 bytes = rw whole at (writes.written is_honest own_bytes) in
-      let all : take 512 bytes ≡ bytes = take_all 512 bytes (omega (arith, full)) in
-      set-blocks s p (stripe_blocks s p) at old.contents new.contents bytes below (written ∙ all)
-      (λ k low other. others-contents honest s p at k result bytes old new bounds own full writes is_honest other);
-  others = λ is_honest k other. same-get s p 0 (stripe_blocks s p) k new.contents old.contents (λ (low : k < stripe_blocks s p).
+  others-durable : IsTrue honest → (k : ℕ) → IsOutside at (blocks_in bytes) k → slice_get (blocks_from s p 0 (stripe_blocks s p) new.durable) k ≡ slice_get (blocks_from s p 0 (stripe_blocks s p) old.durable) k
+  others-durable is_honest k out = same-get s p 0 (stripe_blocks s p) k new.durable old.durable (λ (low : k < stripe_blocks s p).
       let e : k ≡ 0 + k = omega arith in
-      subst (λ (i : ℕ). bytes_at s p i new.contents ≡ bytes_at s p i old.contents) e (others-contents honest s p at k result bytes old new bounds own full writes is_honest other));
-  durable_others = λ is_honest k other. same-get s p 0 (stripe_blocks s p) k new.durable old.durable (λ (low : k < stripe_blocks s p).
-      let e : k ≡ 0 + k = omega arith in
-      subst (λ (i : ℕ). bytes_at s p i new.durable ≡ bytes_at s p i old.durable) e (others-durable honest s p at k result bytes old new bounds own full writes is_honest other));
-}
+      subst (λ (i : ℕ). bytes_at s p i new.durable ≡ bytes_at s p i old.durable) e (writes.durable_others is_honest _ 512 (omega arith) (run-apart k out)))
 
--- a write failed
-pub writes-failed : {E : Type 0} (honest : Bool) (s : ℕ) (p : Geometry) (f g at : ℕ) (result : Result ℕ E) (bytes : List ℕ) (old new : Held)
-    → IsGeometry p → s < p.stripes → length bytes ≡ 512 → g ≡ (f + 1) % 2 ^ 64 → WritesMedium honest result (first_byte s p at) bytes old new
-    → WritesLeg honest false at bytes (leg_on old s p f) (leg_on new s p g)
-writes-failed honest s p f g at result bytes old new bounds own full counted writes = record {
-  calls = calls-failed s p f g old new counted;
-  written = λ _ q. absurd (let e : ⊥ = cc in e);
-  others = λ is_honest k other. same-get s p 0 (stripe_blocks s p) k new.contents old.contents (λ (low : k < stripe_blocks s p).
-      let e : k ≡ 0 + k = omega arith in
-      subst (λ (i : ℕ). bytes_at s p i new.contents ≡ bytes_at s p i old.contents) e (others-contents honest s p at k result bytes old new bounds own full writes is_honest other));
-  durable_others = λ is_honest k other. same-get s p 0 (stripe_blocks s p) k new.durable old.durable (λ (low : k < stripe_blocks s p).
-      let e : k ≡ 0 + k = omega arith in
-      subst (λ (i : ℕ). bytes_at s p i new.durable ≡ bytes_at s p i old.durable) e (others-durable honest s p at k result bytes old new bounds own full writes is_honest other));
-}
+  -- a run was written
+  pub writes-run : (f : ℕ) → IsTrue succeeded → at + blocks_in bytes ≤ stripe_blocks s p → (IsTrue honest → OwnsBlocks old s p) → WritesLeg honest true at bytes (leg_on old s p f) (leg_on new s p f)
+  writes-run f done inside owns = record {
+    calls = calls-succeeded s p f old new;
+    written = λ is_honest _.
+        let n = stripe_blocks s p in
+        let all : OwnsRun old (run_places s p at) (blocks_in bytes) = λ i low. owns is_honest (at + i) (omega (arith, low, inside)) in
+        let count : length (cut_into (blocks_in bytes) bytes) ≡ blocks_in bytes = length-cut_into (blocks_in bytes) bytes in
+        let long : length (blocks_from s p 0 n old.contents) ≡ n = length-blocks_from s p 0 n old.contents in
+        same_by_slice_get _ _ (λ k.
+        elim (where_is at (blocks_in bytes) k) as (λ _. slice_get (blocks_from s p 0 n new.contents) k ≡ slice_get (set_run at (blocks_of bytes) (blocks_from s p 0 n old.contents)) k) [
+          | inl inner ↦
+              let i : ℕ = inner.0 in
+              let e : 0 + (at + i) ≡ at + i = omega arith in
+              ap (λ (j : ℕ). slice_get (blocks_from s p 0 n new.contents) j) (sym inner.2)
+              ∙ get-blocks_from s p 0 n (at + i) new.contents (omega (arith, inner.1, inside)) ∙ ap (λ (j : ℕ). Some (block_of (bytes_at s p j new.contents))) e
+              ∙ ap (λ (b : List ℕ). Some (block_of b)) (writes.written is_honest done all i inner.1)
+              ∙ sym (get-cut_into (blocks_in bytes) i bytes inner.1)
+              ∙ sym (set_run-inside at i (blocks_of bytes) (blocks_from s p 0 n old.contents) (omega (arith, inner.1, count)) (omega (arith, count, long, inside)))
+              ∙ ap (λ (j : ℕ). slice_get (set_run at (blocks_of bytes) (blocks_from s p 0 n old.contents)) j) inner.2
+          | inr out ↦
+              others-contents is_honest k out
+              ∙ sym (set_run-outside at k (blocks_of bytes) (blocks_from s p 0 n old.contents) (subst (λ (m : ℕ). IsOutside at m k) (sym count) out))
+        ]);
+    others = others-contents;
+    durable_others = others-durable;
+  }
+
+  -- a write failed
+  pub writes-failed : (f g : ℕ) → g ≡ (f + 1) % 2 ^ 64 → WritesLeg honest false at bytes (leg_on old s p f) (leg_on new s p g)
+  writes-failed f g counted = record {
+    calls = calls-failed s p f g old new counted;
+    written = λ _ q. absurd (let e : ⊥ = cc in e);
+    others = others-contents;
+    durable_others = others-durable;
+  }
 
 -- nothing was written since the last sync that succeeded, so all is durable without a call
 pub syncs-quiet : (honest : Bool) (s : ℕ) (p : Geometry) (f r : ℕ) (dirty : Bool) (held : Held) → IsFalse dirty → FileRules honest held s p r dirty

@@ -1,6 +1,9 @@
 pub mod BlockLemmas
 pub mod LegLemmas
 pub mod MediaLemmas
-pub mod RuleLemmas
+pub mod PlaceLemmas
 pub mod ReadAheadLemmas
+pub mod RuleLemmas
+pub mod RunLemmas
+pub mod StepLemmas
 pub mod WindowLemmas

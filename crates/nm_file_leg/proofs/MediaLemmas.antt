@@ -3,7 +3,8 @@ use Rattle.std.proofs.Common.{◌≡◌, ℕ, ◌≤◌, true, List, length, tak
 use Rattle.std.proofs.lemmas.List.{length-take-le}
 use Rattle.nm_file_leg.specs.Medium.{window, spliced, ReadsMedium, WritesMedium}
 use Rattle.nm_file_leg.specs.Media.{steady}
-use Rattle.nm_file_leg.proofs.WindowLemmas.{window-none, window-spliced, window-apart}
+use Rattle.nm_leg.proofs.WindowLemmas.{window-none, window-spliced}
+use Rattle.nm_file_leg.proofs.WindowLemmas.{window-apart}
 
 -- a read past the end finds nothing
 pub reads-none : {E : Type 0} (at : ℕ) (bytes filled : List ℕ) → ReadsMedium {E = E} true (Ok 0) at (steady bytes) (steady bytes) filled

@@ -6,7 +6,7 @@ use Rattle.std.proofs.lemmas.List.{take_all, take-take, drop-take, drop-drop, ta
 use Rattle.nm_file_leg.specs.declared.read_ahead_buffer.ReadAheadBuffer.{ReadAheadBuffer}
 use Rattle.nm_file_leg.specs.Medium.{Held, Owns, OwnsWholeRows, window, spliced, ReadsMedium, WritesMedium}
 use Rattle.nm_file_leg.specs.ReadAheadBuffer.{IsReadFrom, Changes}
-use Rattle.nm_file_leg.proofs.WindowLemmas.{window-none, window-front, window-spliced, window-before, window-behind}
+use Rattle.nm_leg.proofs.WindowLemmas.{window-none, window-front, window-spliced, window-before, window-behind}
 
 -- a window is its front and its back
 pub window-split : (at m n : ℕ) (xs : List ℕ) → window at (m + n) xs ≡ window at m xs ++ window (at + m) n xs

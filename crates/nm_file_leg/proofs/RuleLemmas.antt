@@ -1,31 +1,36 @@
 -- What a leg knows of its medium, through writes and syncs.
-use Rattle.std.proofs.Common.{◌≡◌, ℕ, ◌+◌, ◌*◌, ◌<◌, ◌≤◌, Bool, true, false, IsTrue, List, ap, sym, ◌∙◌, subst, arith, inl, inr, Result, Ok}
-use Rattle.std.proofs.lemmas.Bool.{cases_eq}
+use Rattle.std.proofs.Common.{◌≡◌, ⊎_elim, ℕ, ◌+◌, ◌-◌, ◌≤◌, Bool, true, false, IsTrue, List, ap, sym, ◌∙◌, subst, arith, Result, Ok}
+use Rattle.std.proofs.lemmas.Bool.{cases_lt}
+use Rattle.nm_leg.specs.Leg.{blocks_in}
 use Rattle.nm_geometry.specs.Geometry.{Geometry, stripe_blocks}
-use Rattle.nm_file_leg.specs.Medium.{Held, window, Kept, WritesMedium, SyncsMedium}
+use Rattle.nm_file_leg.specs.Medium.{Held, window, Kept, SyncsMedium}
 use Rattle.nm_file_leg.specs.Blocks.{first_byte, bytes_at}
+use Rattle.nm_file_leg.specs.Runs.{run_places, WritesRun}
 use Rattle.nm_file_leg.specs.FileLeg.{OwnsBlocks, FileRules}
 
 -- any write leaves what was kept, and the leg is no longer known to be durable
-pub rules-write : {E : Type 0} (honest : Bool) (s : ℕ) (p : Geometry) (r at : ℕ) (dirty : Bool) (result : Result ℕ E) (bytes : List ℕ) (old new : Held)
-    → FileRules honest old s p r dirty → WritesMedium honest result at bytes old new → FileRules honest new s p r true
-rules-write honest s p r at dirty result bytes old new rules writes = record {
+pub rules-write : (honest succeeded : Bool) (s : ℕ) (p : Geometry) (r : ℕ) (dirty : Bool) (places : ℕ → ℕ) (bytes : List ℕ) (old new : Held)
+    → FileRules honest old s p r dirty → WritesRun honest succeeded places bytes old new → FileRules honest new s p r true
+rules-write honest succeeded s p r dirty places bytes old new rules writes = record {
   cursor = rules.cursor;
   kept = λ is_honest k below. writes.kept_others is_honest _ _ (rules.kept is_honest k below);
   synced = λ _ q. absurd (let e : ⊥ = cc in e);
 }
 
--- the first block that was not written again is written, and the cursor moves past it
-pub rules-next : {E : Type 0} (honest : Bool) (s : ℕ) (p : Geometry) (r at : ℕ) (dirty : Bool) (result : Result ℕ E) (bytes : List ℕ) (old new : Held)
-    → at ≡ r → at < stripe_blocks s p → result ≡ Ok 512 → FileRules honest old s p r dirty → WritesMedium honest result (first_byte s p at) bytes old new → FileRules honest new s p (r + 1) true
-rules-next honest s p r at dirty result bytes old new next below whole rules writes = record {
-  cursor = omega (arith, next, below);
-  kept = λ is_honest k low. elim (cases_eq k at) as (λ _. Kept new (first_byte s p k) 512) [
-    | inl same ↦
-        let here : Kept new (first_byte s p at) 512 = rw whole at (writes.kept is_honest) in
-        subst (λ (i : ℕ). Kept new (first_byte s p i) 512) (sym same) here
-    | inr other ↦ writes.kept_others is_honest _ _ (rules.kept is_honest k (omega (arith, low, next, other)))
-  ];
+-- a run that the first block not written again lies in is written, and the cursor moves past it
+pub rules-next : (honest succeeded : Bool) (s : ℕ) (p : Geometry) (r at : ℕ) (dirty : Bool) (bytes : List ℕ) (old new : Held)
+    → IsTrue succeeded → at ≤ r → at + blocks_in bytes ≤ stripe_blocks s p → FileRules honest old s p r dirty → WritesRun honest succeeded (run_places s p at) bytes old new
+    → FileRules honest new s p (at + blocks_in bytes) true
+rules-next honest succeeded s p r at dirty bytes old new done next inside rules writes = record {
+  cursor = inside;
+  kept = λ is_honest k low.
+      ⊎_elim
+      (λ below. writes.kept_others is_honest _ _ (rules.kept is_honest k (omega (arith, below, next))))
+      (λ from.
+      let i : ℕ = k - at in
+      let is : at + i ≡ k = omega (arith, from) in
+      subst (λ (m : ℕ). Kept new (first_byte s p m) 512) is (writes.kept is_honest done i (omega (arith, low, is))))
+      (cases_lt k at);
   synced = λ _ q. absurd (let e : ⊥ = cc in e);
 }
 

@@ -1,6 +1,6 @@
 -- What a leg on a medium knows of it.
-use Rattle.std.specs.Prelude.{◌≡◌, ℕ, ◌+◌, ◌-◌, ◌<◌, ◌≤◌, ◌==◌, ◌&&◌, if◌then◌else◌}
-use Rattle.std.specs.Prelude.{Bool, IsTrue, IsFalse}
+use Rattle.std.specs.Prelude.{◌≡◌, ℕ, ◌+◌, ◌-◌, ◌<◌, ◌≤◌, ◌&&◌, if◌then◌else◌}
+use Rattle.std.specs.Prelude.{Bool, IsTrue, IsFalse, nat_le, nat_lt}
 use Rattle.nm_geometry.specs.Geometry.{Geometry, stripe_blocks}
 use Rattle.nm_file_leg.specs.Medium.{Held, Owns, Kept}
 use Rattle.nm_file_leg.specs.Blocks.{first_byte, bytes_at}
@@ -34,7 +34,10 @@ pub record FileRules (honest : Bool) (held : Held) (stripe : ℕ) (shape : Geome
 abbrev pub Reaches : (stripe : ℕ) → Geometry → (size : ℕ) → Type 0
 Reaches stripe shape size = first_byte stripe shape (stripe_blocks stripe shape - 1) + 512 ≤ size
 
--- the first block that was not written again, once a write of this one has succeeded or failed
-abbrev pub cursor_after : Bool → ℕ → ℕ → ℕ
-cursor_after succeeded at rewritten_below =
-    if succeeded && (at == rewritten_below) then rewritten_below + 1 else rewritten_below
+-- the first block that was not written again, once a write of so many blocks has succeeded or
+-- failed
+abbrev pub cursor_after : Bool → (at count rewritten_below : ℕ) → ℕ
+cursor_after succeeded at count rewritten_below =
+    if succeeded && (nat_le at rewritten_below && nat_lt rewritten_below (at + count))
+    then at + count
+    else rewritten_below

@@ -3,3 +3,4 @@ pub mod FileLeg
 pub mod Media
 pub mod Medium
 pub mod ReadAheadBuffer
+pub mod Runs

@@ -7,15 +7,8 @@
 --   * A failed sync fails the next sync of every user: whoever's it is, it is told to each user
 --     that has written since the last sync that succeeded.
 use Rattle.std.specs.Prelude.{◌≡◌, ℕ, ◌+◌, ◌/◌, ◌<◌, ◌≤◌, ◌⊎◌, Bool, IsTrue, IsFalse}
-use Rattle.std.specs.Prelude.{List, ◌++◌, length, take, drop, Result, IfOk, OnOk}
-
--- so many bytes from a place on
-unfoldable pub window : ℕ → ℕ → List ℕ → List ℕ
-window at n bytes = take n (drop at bytes)
-
--- the bytes of which a part, from a place on, is changed
-unfoldable pub spliced : ℕ → List ℕ → List ℕ → List ℕ
-spliced at part bytes = take at bytes ++ (part ++ drop (at + length part) bytes)
+use Rattle.std.specs.Prelude.{List, length, take, Result, IfOk, OnOk}
+unfoldable pub use Rattle.nm_leg.specs.Bytes.{spliced, window}
 
 -- Whether the byte at a place is the user's own, the bytes as reads find them, the same bytes as a
 -- loss of power would leave them, and whether the byte at a place is lost to later syncs, since one
@@ -31,7 +24,8 @@ pub record Held : Type 0 where
 abbrev pub Owns : Held → (from many : ℕ) → Type 0
 Owns held from many = (at : ℕ) → from ≤ at → at < from + many → IsTrue (held.own at)
 
--- of each row of so many bytes, the first of which begins with the medium, the user owns all or none
+-- of each row of so many bytes, the first of which begins with the medium, the user owns all or
+-- none
 abbrev pub OwnsWholeRows : Held → (row : ℕ) → Type 0
 OwnsWholeRows held row = (at other : ℕ) → at / row ≡ other / row → held.own at ≡ held.own other
 

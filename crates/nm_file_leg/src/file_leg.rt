@@ -1,15 +1,15 @@
 ghost use Rattle.std.specs.Prelude.{◌≡◌, ◌+◌, ◌%◌, ◌^◌, ◌<◌, ◌≤◌, length, is_ok, IsTrue, IsFalse};
 ghost use Rattle.std.specs.Prelude.{IsErr, OnOk, OnErr, IfOk};
-ghost use Rattle.nm_replay.specs.declared.block.TheConstants.{BLOCK_BYTES};
-ghost use Rattle.nm_leg.specs.Leg.{ReadsLeg, WritesLeg, SyncsLeg};
+ghost use Rattle.nm_leg.specs.Leg.{IsRun, WritesLeg, SyncsLeg, blocks_in};
 ghost use Rattle.nm_geometry.specs.Geometry.{IsGeometry, stripe_blocks};
-ghost use Rattle.nm_file_leg.specs.Blocks.{first_byte, leg_on, same_length};
+ghost use Rattle.nm_file_leg.specs.Blocks.{leg_on, same_length};
 ghost use Rattle.nm_file_leg.specs.FileLeg.{OwnsBlocks, KeepsBlocks, FileRules, Reaches, cursor_after};
 
 use crate::Medium;
+use crate::runs::{read_run, write_run};
 use nm_geometry::Shape;
 use nm_leg::{LegFault, LegPart};
-use nm_replay::{BLOCK_BYTES, Block};
+use nm_replay::BLOCK_BYTES;
 use std::io;
 
 /// The leg of one stripe on a medium, which has the blocks of the whole export in their order.
@@ -77,14 +77,6 @@ impl<M: Medium> FileLeg<M> {
         &self.medium
     }
 
-    /// Where a block of the stripe begins in the medium.
-    fn first_byte(&self, block: u64) -> u64
-        requires { block < stripe_blocks self.now.stripe self.now.shape }
-        ensures { result ≡ first_byte self.now.stripe self.now.shape block }
-    {
-        BLOCK_BYTES as u64 * self.shape.export_block(self.stripe, block)
-    }
-
     /// Asks the medium for its length: it has one, and is not shorter than it was.
     fn is_whole(&self) -> bool
         ensures { IsTrue M.honest → IsTrue result
@@ -115,22 +107,16 @@ impl<M: Medium> LegPart for FileLeg<M> {
         self.shape.stripe_blocks(self.stripe)
     }
 
-    fn read(&mut self, at: u64, into: &mut Block) -> Result<(), LegFault> {
-        let mut found = [0; BLOCK_BYTES];
-        let first = self.first_byte(at);
-        match self.medium.read_at(first, &mut found) {
-            Ok(512) => {
-                into.0 = found;
-                Ok(())
-            }
-            _ => Err(count_fault(&mut self.faults)),
+    fn read(&mut self, at: u64, into: &mut [u8]) -> Result<(), LegFault> {
+        if !read_run(&mut self.medium, &self.shape, self.stripe, at, into) {
+            return Err(count_fault(&mut self.faults));
         }
+        Ok(())
     }
 
     fn write(&mut self, at: u64, bytes: &[u8]) -> Result<(), LegFault>
-        requires block { at < length (leg_on (M.held self.old.medium) self.old.stripe
-            self.old.shape self.old.faults).contents }
-        requires bytes { length bytes.now ≡ BLOCK_BYTES }
+        requires { IsRun at (length (leg_on (M.held self.old.medium) self.old.stripe
+            self.old.shape self.old.faults).contents) bytes.now }
         ensures writes { WritesLeg M.honest (is_ok result) at bytes.now
             (leg_on (M.held self.old.medium) self.old.stripe self.old.shape self.old.faults)
             (leg_on (M.held self.new.medium) self.new.stripe self.new.shape self.new.faults) }
@@ -139,22 +125,20 @@ impl<M: Medium> LegPart for FileLeg<M> {
             → IsErr result × (self.new.medium ≡ self.old.medium) }
         ensures dirty { OnOk result (IsTrue self.new.dirty) }
         ensures rewritten { self.new.rewritten_below
-            ≡ cursor_after (is_ok result) at self.old.rewritten_below }
+            ≡ cursor_after (is_ok result) at (blocks_in bytes.now) self.old.rewritten_below }
     {
-        let first = self.first_byte(at);
         if !self.is_whole() {
             return Err(count_fault(&mut self.faults));
         }
         self.dirty = true;
-        match self.medium.write_at(first, bytes) {
-            Ok(512) => {
-                if at == self.rewritten_below {
-                    self.rewritten_below += 1;
-                }
-                Ok(())
-            }
-            _ => Err(count_fault(&mut self.faults)),
+        if !write_run(&mut self.medium, &self.shape, self.stripe, at, bytes) {
+            return Err(count_fault(&mut self.faults));
         }
+        let end = at + (bytes.len() / BLOCK_BYTES) as u64;
+        if at <= self.rewritten_below && self.rewritten_below < end {
+            self.rewritten_below = end;
+        }
+        Ok(())
     }
 
     fn sync(&mut self) -> Result<(), LegFault>

@@ -25,6 +25,7 @@ mod medium;
 mod mem_medium;
 mod read_ahead;
 mod read_ahead_buffer;
+mod runs;
 mod shared_file;
 mod splice;
 mod sync_counts;

@@ -57,6 +57,7 @@ impl Medium for MemMedium {
         ensures writes { WritesMedium true result at bytes.now (of_mem self.old)
             (of_mem self.new) }
         ensures all { result ≡ Ok (min (length bytes.now) (length self.old.bytes.items - at)) }
+        ensures long { length self.new.bytes.items ≡ length self.old.bytes.items }
     {
         if at >= self.bytes.len() as u64 {
             return Ok(0);

@@ -4,7 +4,7 @@ ghost use Rattle.nm_file_leg.specs.Medium.{OwnsWholeRows, ReadsMedium, WritesMed
 
 use crate::Medium;
 use crate::read_ahead_buffer::ReadAheadBuffer;
-use nm_replay::Memory;
+use nm_replay::{BLOCK_BYTES, Memory};
 use std::alloc::Global;
 use std::cell::Cell;
 use std::io;
@@ -92,14 +92,15 @@ impl<M: Medium> ReadAhead<M> {
     }
 
     /// Reads ahead from this place on, where that is more than what is asked for, of which not all
-    /// is kept.
+    /// is kept. Nothing is read ahead of more than one block: that is a run, which is read by one
+    /// call as it is.
     fn read_ahead(&mut self, at: u64, asked: usize)
         ensures { IsTrue M.honest → M.held self.new.medium ≡ M.held self.old.medium }
     {
         if self.length_failed.take() {
             self.buffer.clear();
         }
-        if self.buffer.keeps(at, asked) {
+        if asked > BLOCK_BYTES || self.buffer.keeps(at, asked) {
             return;
         }
         let most = self.bytes_at_once(at);

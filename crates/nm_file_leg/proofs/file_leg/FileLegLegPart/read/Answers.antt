@@ -1,17 +1,21 @@
-use Rattle.std.proofs.Common.{arith, ap, ◌∙◌, subst, Ok, ◌<◌, ℕ}
+use Rattle.std.proofs.Common.{rules, ◌≡◌, ℕ, ◌+◌, ◌/◌, ◌≤◌, length, ap, subst, arith}
+use Rattle.nm_leg.specs.Leg.{IsRun}
+use Rattle.nm_geometry.specs.Geometry.{stripe_blocks}
 use Rattle.nm_file_leg.specs.Blocks.{length-blocks_from}
-use Rattle.nm_file_leg.proofs.LegLemmas.{reads-block, reads-failed}
+use Rattle.nm_file_leg.proofs.LegLemmas.{reads-run, reads-failed}
 use Rattle.nm_file_leg.proofs.file_leg.FileLegLegPart.read.Goals as goal
 
-pub first_byte-first-requires : goal.first_byte-first-requires
-first_byte-first-requires g c = subst (λ (n : ℕ). c.args.at < n) (length-blocks_from c.args.self.now.stripe c.args.self.now.shape _ _ _) c.requires
+pub read_run-requires-clause-run : goal.read_run-requires-clause-run
+read_run-requires-clause-run g c =
+    let leg = c.args.self.now in
+    subst (λ (n : ℕ). IsRun c.args.at n c.args.into.now) (length-blocks_from leg.stripe leg.shape _ _ _) c.requires
 
-pub returns-in-Ok-eq512 : goal.returns-in-Ok-eq512
-returns-in-Ok-eq512 g c =
-    let below = subst (λ (n : ℕ). c.args.at < n) (length-blocks_from c.args.self.now.stripe c.args.self.now.shape _ _ _) c.requires in
-    let whole = c.in-Ok-eq512.is ∙ ap (λ (n : ℕ). Ok n) c.in-Ok-eq512.field-0-test in
-    let reads = rw c.first_byte-first.ensures at c.read_at.ensures in
-    reads-block _ c.args.self.now.stripe c.args.self.now.shape _ c.args.at _ _ _ _ _ below (omega (arith, c.read_at.auto.into)) whole c.args.self.now.owns reads
+pub returns-then-not-read_run : goal.returns-then-not-read_run
+returns-then-not-read_run g c = reads-failed _ _ c.args.self.now.stripe c.args.self.now.shape _ _ _ _ _ _ c.count_fault.ensures c.read_run.ensures
 
-pub returns-in_default : goal.returns-in_default
-returns-in_default g c = reads-failed _ c.args.self.now.stripe c.args.self.now.shape _ _ _ _ _ _ _ _ _ c.count_fault.ensures c.read_at.ensures
+pub returns : goal.returns
+returns g c =
+    let leg = c.args.self.now in
+    let long : length c.read_run.new.into / 512 ≡ length c.args.into.now / 512 = ap (λ (n : ℕ). n / 512) c.read_run.auto.into in
+    let inside : c.args.at + length c.read_run.new.into / 512 ≤ stripe_blocks leg.stripe leg.shape = omega (arith, long, c.requires.inside, length-blocks_from leg.stripe leg.shape 0 (stripe_blocks leg.stripe leg.shape) (g.M.Medium.held leg.medium).contents) in
+    reads-run _ _ leg.stripe leg.shape _ _ _ _ _ (search rules) inside leg.owns c.read_run.ensures

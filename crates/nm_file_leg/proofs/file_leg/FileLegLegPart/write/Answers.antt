@@ -1,50 +1,63 @@
-use Rattle.std.proofs.Common.{arith, ap, ◌∙◌, subst, Ok, ◌<◌, ◌≤◌, ℕ}
+-- The run is written, and the cursor moves past it where it stood inside.
+use Rattle.std.proofs.Common.{rules, ℕ, ◌+◌, ◌/◌, ◌≤◌, length, subst, arith}
+use Rattle.nm_leg.specs.Leg.{IsRun}
 use Rattle.nm_geometry.specs.Geometry.{stripe_blocks}
 use Rattle.nm_file_leg.specs.Blocks.{length-blocks_from}
-use Rattle.nm_file_leg.proofs.LegLemmas.{blocks-most, writes-block, writes-failed}
+use Rattle.nm_file_leg.proofs.PlaceLemmas.{blocks-most}
+use Rattle.nm_file_leg.proofs.LegLemmas.{writes-run, writes-failed}
 use Rattle.nm_file_leg.proofs.RuleLemmas.{rules-write, rules-next, owns-kept}
 use Rattle.nm_file_leg.proofs.file_leg.FileLegLegPart.write.Goals as goal
+use Rattle.nm_file_leg.proofs.file_leg.FileLegLegPart.write.Goals.{else-at-self-via-then-at-self+else-self-end, else-at-self-via-else-at-self}
 
-pub first_byte-first-requires : goal.first_byte-first-requires
-first_byte-first-requires g c = subst (λ (n : ℕ). c.args.at < n) (length-blocks_from c.args.self.now.stripe c.args.self.now.shape _ _ _) c.requires.block
+pub write_run-requires-clause-run : goal.write_run-requires-clause-run
+write_run-requires-clause-run g c =
+    let leg = c.args.self.now in
+    subst (λ (n : ℕ). IsRun c.args.at n c.args.bytes.now) (length-blocks_from leg.stripe leg.shape _ _ _) c.requires
 
-pub invariant_of-self-then-at-self : goal.invariant_of-self-then-at-self
-invariant_of-self-then-at-self g c =
-    let below = subst (λ (n : ℕ). c.args.at < n) (length-blocks_from c.args.self.now.stripe c.args.self.now.shape _ _ _) c.requires.block in
-    let whole = c.in-Ok-eq512.is ∙ ap (λ (n : ℕ). Ok n) c.in-Ok-eq512.field-0-test in
-    let writes = rw c.first_byte-first.ensures at c.write_at.ensures in
-    record { bounds = c.args.self.now.bounds; inside = c.args.self.now.inside; owns = owns-kept _ c.args.self.now.stripe c.args.self.now.shape (g.M.Medium.held c.args.self.now.medium) (g.M.Medium.held c.write_at.new.self) c.write_at.ensures.own c.args.self.now.owns; rules = rules-next _ c.args.self.now.stripe c.args.self.now.shape _ _ _ _ _ _ _ c.if-at-self.true below whole c.args.self.now.rules writes }
+pub overflow_add-end : goal.overflow_add-end
+overflow_add-end g c =
+    let leg = c.args.self.now in
+    let inside : c.args.at + length c.args.bytes.now / 512 ≤ stripe_blocks leg.stripe leg.shape = omega (arith, c.requires.inside, length-blocks_from leg.stripe leg.shape 0 (stripe_blocks leg.stripe leg.shape) (g.M.Medium.held leg.medium).contents) in
+    omega (arith, inside, blocks-most leg.stripe leg.shape leg.bounds, leg.bounds.most_blocks)
+
+pub invariant_of-self-then-not-write_run : goal.invariant_of-self-then-not-write_run
+invariant_of-self-then-not-write_run g c =
+    let leg = c.args.self.now in
+    record { bounds = leg.bounds; inside = leg.inside; owns = owns-kept _ leg.stripe leg.shape (g.M.Medium.held leg.medium) (g.M.Medium.held c.write_run.new.medium) c.write_run.ensures.own leg.owns; rules = rules-write _ _ leg.stripe leg.shape _ _ _ _ _ _ leg.rules c.write_run.ensures }
+
+pub invariant_of-self-then-self-end : goal.invariant_of-self-then-self-end
+invariant_of-self-then-self-end g c =
+    let leg = c.args.self.now in
+    let inside : c.args.at + length c.args.bytes.now / 512 ≤ stripe_blocks leg.stripe leg.shape = omega (arith, c.requires.inside, length-blocks_from leg.stripe leg.shape 0 (stripe_blocks leg.stripe leg.shape) (g.M.Medium.held leg.medium).contents) in
+    record { bounds = leg.bounds; inside = leg.inside; owns = owns-kept _ leg.stripe leg.shape (g.M.Medium.held leg.medium) (g.M.Medium.held c.write_run.new.medium) c.write_run.ensures.own leg.owns; rules = rules-next _ _ leg.stripe leg.shape _ _ _ _ _ _ (search rules) c.if-at-self.true inside leg.rules c.write_run.ensures }
+
+pub invariant_of-self-else-self-end : goal.invariant_of-self-else-self-end
+invariant_of-self-else-self-end g c =
+    let leg = c.args.self.now in
+    record { bounds = leg.bounds; inside = leg.inside; owns = owns-kept _ leg.stripe leg.shape (g.M.Medium.held leg.medium) (g.M.Medium.held c.write_run.new.medium) c.write_run.ensures.own leg.owns; rules = rules-write _ _ leg.stripe leg.shape _ _ _ _ _ _ leg.rules c.write_run.ensures }
 
 pub invariant_of-self-else-at-self : goal.invariant_of-self-else-at-self
 invariant_of-self-else-at-self g c =
-    record { bounds = c.args.self.now.bounds; inside = c.args.self.now.inside; owns = owns-kept _ c.args.self.now.stripe c.args.self.now.shape (g.M.Medium.held c.args.self.now.medium) (g.M.Medium.held c.write_at.new.self) c.write_at.ensures.own c.args.self.now.owns; rules = rules-write _ c.args.self.now.stripe c.args.self.now.shape _ _ _ _ _ _ _ c.args.self.now.rules c.write_at.ensures }
-
-pub invariant_of-self-in_default : goal.invariant_of-self-in_default
-invariant_of-self-in_default g c =
-    record { bounds = c.args.self.now.bounds; inside = c.args.self.now.inside; owns = owns-kept _ c.args.self.now.stripe c.args.self.now.shape (g.M.Medium.held c.args.self.now.medium) (g.M.Medium.held c.write_at.new.self) c.write_at.ensures.own c.args.self.now.owns; rules = rules-write _ c.args.self.now.stripe c.args.self.now.shape _ _ _ _ _ _ _ c.args.self.now.rules c.write_at.ensures }
-
-pub overflow_add-self : goal.overflow_add-self
-overflow_add-self g c =
     let leg = c.args.self.now in
-    let below : c.args.at < stripe_blocks leg.stripe leg.shape = subst (λ (n : ℕ). c.args.at < n) (length-blocks_from leg.stripe leg.shape _ _ _) c.requires.block in
-    let most : stripe_blocks leg.stripe leg.shape ≤ leg.shape.blocks = blocks-most leg.stripe leg.shape leg.bounds in
-    omega (arith, c.if-at-self.true, below, most, leg.bounds.most_blocks)
+    record { bounds = leg.bounds; inside = leg.inside; owns = owns-kept _ leg.stripe leg.shape (g.M.Medium.held leg.medium) (g.M.Medium.held c.write_run.new.medium) c.write_run.ensures.own leg.owns; rules = rules-write _ _ leg.stripe leg.shape _ _ _ _ _ _ leg.rules c.write_run.ensures }
 
-pub returns-then-at-self-clause-writes : goal.returns-then-at-self-clause-writes
-returns-then-at-self-clause-writes g c =
-    let below = subst (λ (n : ℕ). c.args.at < n) (length-blocks_from c.args.self.now.stripe c.args.self.now.shape _ _ _) c.requires.block in
-    let whole = c.in-Ok-eq512.is ∙ ap (λ (n : ℕ). Ok n) c.in-Ok-eq512.field-0-test in
-    let writes = rw c.first_byte-first.ensures at c.write_at.ensures in
-    writes-block _ c.args.self.now.stripe c.args.self.now.shape _ _ _ _ _ _ c.args.self.now.bounds c.args.self.now.inside below c.requires.bytes whole c.args.self.now.owns writes
+pub returns-then-not-write_run-clause-writes : goal.returns-then-not-write_run-clause-writes
+returns-then-not-write_run-clause-writes g c =
+    let leg = c.args.self.now in
+    writes-failed _ _ leg.stripe leg.shape _ c.args.bytes.now _ _ leg.bounds leg.inside c.write_run.ensures _ _ c.count_fault-then-not-write_run.ensures
+
+pub returns-then-self-end-clause-writes : goal.returns-then-self-end-clause-writes
+returns-then-self-end-clause-writes g c =
+    let leg = c.args.self.now in
+    let inside : c.args.at + length c.args.bytes.now / 512 ≤ stripe_blocks leg.stripe leg.shape = omega (arith, c.requires.inside, length-blocks_from leg.stripe leg.shape 0 (stripe_blocks leg.stripe leg.shape) (g.M.Medium.held leg.medium).contents) in
+    writes-run _ _ leg.stripe leg.shape _ c.args.bytes.now _ _ leg.bounds leg.inside c.write_run.ensures _ (search rules) inside leg.owns
 
 pub returns-else-at-self-clause-writes : goal.returns-else-at-self-clause-writes
 returns-else-at-self-clause-writes g c =
-    let below = subst (λ (n : ℕ). c.args.at < n) (length-blocks_from c.args.self.now.stripe c.args.self.now.shape _ _ _) c.requires.block in
-    let whole = c.in-Ok-eq512.is ∙ ap (λ (n : ℕ). Ok n) c.in-Ok-eq512.field-0-test in
-    let writes = rw c.first_byte-first.ensures at c.write_at.ensures in
-    writes-block _ c.args.self.now.stripe c.args.self.now.shape _ _ _ _ _ _ c.args.self.now.bounds c.args.self.now.inside below c.requires.bytes whole c.args.self.now.owns writes
-
-pub returns-in_default-clause-writes : goal.returns-in_default-clause-writes
-returns-in_default-clause-writes g c =
-    let writes = rw c.first_byte-first.ensures at c.write_at.ensures in
-    writes-failed _ c.args.self.now.stripe c.args.self.now.shape _ _ _ _ _ _ _ c.args.self.now.bounds c.args.self.now.inside c.requires.bytes c.count_fault-in_default.ensures writes
+    let leg = c.args.self.now in
+    let inside : c.args.at + length c.args.bytes.now / 512 ≤ stripe_blocks leg.stripe leg.shape = omega (arith, c.requires.inside, length-blocks_from leg.stripe leg.shape 0 (stripe_blocks leg.stripe leg.shape) (g.M.Medium.held leg.medium).contents) in
+    let wrote = writes-run g.M.Medium.honest _ leg.stripe leg.shape c.args.at c.args.bytes.now (g.M.Medium.held leg.medium) (g.M.Medium.held c.write_run.new.medium) leg.bounds leg.inside c.write_run.ensures leg.faults (search rules) inside leg.owns in
+    elim c.else-at-self.branch [
+      | else-at-self-via-then-at-self+else-self-end w ↦ rw w.self-is wrote
+      | else-at-self-via-else-at-self w ↦ rw w.self-is wrote
+    ]

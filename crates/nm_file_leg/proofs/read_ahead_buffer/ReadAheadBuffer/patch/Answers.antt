@@ -2,7 +2,7 @@ use Rattle.std.proofs.Common.{◌≡◌, ℕ, List, ◌∙◌, ap, sym, subst, l
 use Rattle.std.proofs.lemmas.List.{with_items_is}
 use Rattle.nm_file_leg.specs.Medium.{Owns, spliced}
 use Rattle.nm_file_leg.specs.ReadAheadBuffer.{Changes}
-use Rattle.nm_file_leg.proofs.WindowLemmas.{window-none}
+use Rattle.nm_leg.proofs.WindowLemmas.{window-none}
 use Rattle.nm_file_leg.proofs.ReadAheadLemmas.{read-spliced}
 use Rattle.nm_file_leg.proofs.read_ahead_buffer.ReadAheadBuffer.patch.Goals as goal
 

@@ -1,0 +1,48 @@
+-- One call more writes on to the end of its region.
+use Rattle.std.proofs.Common.{◌≡◌, ℕ, ◌+◌, ◌-◌, ap, ◌∙◌, arith, Ok}
+use Rattle.nm_file_leg.proofs.StepLemmas.{one-call, writes-step, writes-ends}
+use Rattle.nm_file_leg.proofs.runs.write_run.Goals as goal
+
+pub loop-done-preserved : goal.loop-done-preserved
+loop-done-preserved g c =
+    let p = c.args.shape.now in
+    let done = c.loop-done.done in
+    let many = c.bytes_in_region-many.result in
+    let xs = c.args.bytes.now in
+    let so_far = c.loop-done.invariant in
+    let call = one-call c.args.at done many p.region xs c.requires.shape.some_region c.loop-done-test.true so_far.whole c.requires.run.whole c.bytes_in_region-many.ensures in
+    let is = c.in-Ok.is ∙ ap (λ (n : ℕ). Ok n) c.if-written-many.true in
+    let span : done + many - done ≡ many = omega arith in
+    let placed = rw c.first_byte-first.ensures at c.write_at.ensures in
+    let writes = rw span at placed in
+    record {
+      most = call.fits;
+      whole = omega (arith, call.blocks, so_far.whole);
+      writes = writes-step _ c.args.stripe p c.args.at done many so_far.whole call.blocks call.short _ _ _ _ xs c.requires.shape c.requires.stripe call.some call.fits is so_far.writes writes;
+    }
+
+pub returns-in_default : goal.returns-in_default
+returns-in_default g c =
+    let p = c.args.shape.now in
+    let done = c.loop-done.done in
+    let many = c.bytes_in_region-many.result in
+    let xs = c.args.bytes.now in
+    let so_far = c.loop-done.invariant in
+    let call = one-call c.args.at done many p.region xs c.requires.shape.some_region c.loop-done-test.true so_far.whole c.requires.run.whole c.bytes_in_region-many.ensures in
+    let span : done + many - done ≡ many = omega arith in
+    let placed = rw c.first_byte-first.ensures at c.write_at.ensures in
+    let writes = rw span at placed in
+    writes-ends _ c.args.stripe p c.args.at done many so_far.whole call.blocks call.short _ _ _ _ xs c.requires.shape c.requires.stripe call.some call.fits so_far.writes writes
+
+pub returns-in_default-2 : goal.returns-in_default-2
+returns-in_default-2 g c =
+    let p = c.args.shape.now in
+    let done = c.loop-done.done in
+    let many = c.bytes_in_region-many.result in
+    let xs = c.args.bytes.now in
+    let so_far = c.loop-done.invariant in
+    let call = one-call c.args.at done many p.region xs c.requires.shape.some_region c.loop-done-test.true so_far.whole c.requires.run.whole c.bytes_in_region-many.ensures in
+    let span : done + many - done ≡ many = omega arith in
+    let placed = rw c.first_byte-first.ensures at c.write_at.ensures in
+    let writes = rw span at placed in
+    writes-ends _ c.args.stripe p c.args.at done many so_far.whole call.blocks call.short _ _ _ _ xs c.requires.shape c.requires.stripe call.some call.fits so_far.writes writes
