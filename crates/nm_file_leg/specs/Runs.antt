@@ -25,7 +25,8 @@ KeepsRun held places count = (number : ℕ) → number < count → Kept held (pl
 -- the first blocks of a run, so many, and the bytes from `from` on, `many` of them, have no place in
 -- common
 abbrev pub IsApart : (places : ℕ → ℕ) → (count from many : ℕ) → Type 0
-IsApart places count from many = (number : ℕ) → number < count → Apart (places number) 512 from many
+IsApart places count from many =
+    (number : ℕ) → number < count → Apart (places number) 512 from many
 
 -- A read of a run whose blocks begin at these places. A fault leaves any bytes in the target.
 pub record ReadsRun (honest succeeded : Bool) (places : ℕ → ℕ) (old new : Held)
