@@ -1,4 +1,5 @@
-//! Tests of the storage crates through their public surface: what no clause of theirs says.
+//! Tests of the storage crates through their public surface: what no clause of theirs says. The
+//! honest medium whose syncs fail is public, for the tests of stripes.
 #![tactic(auto)]
 
 #[cfg(test)]
@@ -25,3 +26,5 @@ mod regions;
 mod resync;
 #[cfg(test)]
 mod shared_files;
+pub mod shared_medium;
+pub mod shared_syncs;
