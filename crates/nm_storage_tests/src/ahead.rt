@@ -93,6 +93,21 @@ fn a_page_is_read_by_one_call(rt: HostRuntime) -> Result<(), Fail> {
 }
 
 #[test]
+fn a_run_is_read_by_a_call_for_each_region(rt: HostRuntime) -> Result<(), Fail> {
+    let regions = Shape { region: 8, ..WHOLE };
+    let mut leg = counted_leg(&rt, &regions, 0, 8 * 512)?;
+    assert!(rt; leg.len() == 60);
+    let mut found = [255; 4 * 512];
+    leg.read(1, &mut found)?;
+    assert_eq!(rt; (found[0], found[4 * 512 - 1]), (1, 4));
+    assert_eq!(rt; calls(&leg), (1, 1, 4));
+    leg.read(6, &mut found)?;
+    assert_eq!(rt; (found[0], found[4 * 512 - 1]), (6, 9));
+    assert_eq!(rt; calls(&leg), (3, 8, 2));
+    Ok(())
+}
+
+#[test]
 fn a_page_is_one_of_the_medium(rt: HostRuntime) -> Result<(), Fail> {
     // The second of two stripes, with regions of 12 blocks: its first block is block 12 of the
     // medium.

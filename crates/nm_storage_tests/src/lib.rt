@@ -28,3 +28,5 @@ mod resync;
 mod shared_files;
 pub mod shared_medium;
 pub mod shared_syncs;
+#[cfg(test)]
+mod shares;

@@ -40,6 +40,24 @@ fn a_leg_keeps_what_is_written_in_its_places(rt: HostRuntime) -> Result<(), Fail
 }
 
 #[test]
+fn a_run_goes_on_in_the_next_region(rt: HostRuntime) -> Result<(), Fail> {
+    let mut leg = leg_of_four(&rt)?;
+    assert!(rt; leg.len() == 4);
+    let mut run = [0xaa; 3 * 512];
+    run[512..].fill(0xbb);
+    leg.write(1, &run)?;
+    let mut found = [9; 3 * 512];
+    leg.read(1, &mut found)?;
+    assert!(rt; found == run);
+    let bytes = leg.medium().inner().bytes();
+    assert_eq!(rt; bytes.len(), 8 * 512);
+    for (block, byte) in [(2, 0), (3, 0xaa), (4, 0), (5, 0), (6, 0xbb), (7, 0xbb)] {
+        assert_eq!(rt; bytes[block * 512], byte, "block {block}");
+    }
+    Ok(())
+}
+
+#[test]
 fn behind_a_failed_sync_all_blocks_are_written_again(rt: HostRuntime) -> Result<(), Fail> {
     let mut leg = leg_of_four(&rt)?;
     assert!(rt; leg.len() == 4);

@@ -11,7 +11,7 @@ use std::process::Abort;
 use std::sync::Arc;
 use std::sync::atomic::{AtomicBool, AtomicU64, Ordering};
 use std::test::Fail;
-use std::thread::{join, yield_now};
+use std::thread::{Threads, join, yield_now};
 
 /// How often a held sync yields at most.
 const TURNS: u64 = 1_000_000;
@@ -162,23 +162,34 @@ fn a_user_that_there_is_not_fails(rt: HostRuntime) -> Result<(), Fail> {
     Ok(())
 }
 
-#[test]
-fn a_sync_covers_no_write_that_began_after_it(rt: HostRuntime) -> Result<(), Fail> {
-    let (file, mut one, mut two, _three) = three_users(rt.alloc())?;
-    one.write_at(0, &[1; 512])?;
+// The first user syncs, and the second writes while that sync is held: whether each succeeded.
+fn sync_while_other_writes(
+    rt: &impl Threads,
+    file: &Shared,
+    one: &mut User,
+    two: &mut User,
+) -> (bool, bool) {
     file.file().hold(TURNS);
-    let (synced, wrote) = join(
-        &rt,
-        || one.sync(),
+    join(
+        rt,
+        || one.sync().is_ok(),
         || {
             file.file().wait_for_sync();
             let wrote = two.write_at(512, &[2; 512]);
             file.file().let_go();
-            wrote
+            wrote.is_ok()
         },
+    )
+}
+
+#[test]
+fn a_sync_covers_no_write_that_began_after_it(rt: HostRuntime) -> Result<(), Fail> {
+    let (file, mut one, mut two, _three) = three_users(rt.alloc())?;
+    one.write_at(0, &[1; 512])?;
+    assert_eq!(rt;
+        sync_while_other_writes(&rt, &file, &mut one, &mut two),
+        (true, true)
     );
-    assert!(rt; synced.is_ok());
-    assert!(rt; wrote.is_ok());
     assert_eq!(rt; file.file().syncs(), 1);
     two.sync()?;
     assert_eq!(rt; file.file().syncs(), 2);
@@ -189,20 +200,11 @@ fn a_sync_covers_no_write_that_began_after_it(rt: HostRuntime) -> Result<(), Fai
 fn a_write_during_a_failed_sync_is_told(rt: HostRuntime) -> Result<(), Fail> {
     let (file, mut one, mut two, _three) = three_users(rt.alloc())?;
     one.write_at(0, &[1; 512])?;
-    file.file().hold(TURNS);
     file.file().set_fails(true);
-    let (synced, wrote) = join(
-        &rt,
-        || one.sync(),
-        || {
-            file.file().wait_for_sync();
-            let wrote = two.write_at(512, &[2; 512]);
-            file.file().let_go();
-            wrote
-        },
+    assert_eq!(rt;
+        sync_while_other_writes(&rt, &file, &mut one, &mut two),
+        (false, true)
     );
-    assert!(rt; synced.is_err());
-    assert!(rt; wrote.is_ok());
     file.file().set_fails(false);
     assert!(rt; two.sync().is_err());
     assert_eq!(rt; file.file().syncs(), 1);
