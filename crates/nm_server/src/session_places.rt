@@ -1,7 +1,7 @@
 //! The places of sessions: who is served now, and who is served next.
 
 use nm_replay::Memory;
-use nm_workers::Lookout;
+use nm_workers::SpinToken;
 use std::alloc::Global;
 use std::net::{Shutdown, SocketAddr, TcpStream};
 use std::sync::atomic::{AtomicBool, Ordering};
@@ -33,7 +33,7 @@ pub struct SessionPlaces {
     waiting: Mutex<Waiting>,
     changed: Condvar,
     is_over: AtomicBool,
-    lookout: Lookout,
+    lookout: SpinToken,
 }
 
 impl SessionPlaces {
@@ -59,12 +59,12 @@ impl SessionPlaces {
             }),
             changed: Condvar::new(),
             is_over: AtomicBool::new(false),
-            lookout: Lookout::new(),
+            lookout: SpinToken::new(),
         })
     }
 
     /// The lookout that the sessions share.
-    pub(crate) fn lookout(&self) -> &Lookout {
+    pub(crate) fn lookout(&self) -> &SpinToken {
         &self.lookout
     }
 

@@ -21,7 +21,7 @@ use nm_replies::ReplyWriter;
 use nm_service::Refusals;
 use nm_session::{ServeFault, SessionCore};
 use nm_wire::{Export, Name};
-use nm_workers::{Lookout, greet, transmit};
+use nm_workers::{SpinToken, greet, transmit};
 use std::alloc::Global;
 use std::cell::Cell;
 use std::net::{Shutdown, SocketAddr, TcpListener, TcpStream};
@@ -154,7 +154,7 @@ fn answer_requests<R, L: LegPart + Send, C: MirrorCalls<L> + Sync + Drop>(
     passes: &mut [Pass<L>],
     core: SessionCore,
     is_over: &AtomicBool,
-    lookout: &Lookout,
+    lookout: &SpinToken,
 ) -> Result<(), ServeFault>
 where
     R: Threads + Wait + Sync,

@@ -17,7 +17,7 @@ use Rattle.nm_session.specs.Laws.{SoFar}
 use Rattle.nm_session.specs.Session.{Session, session_of}
 use Rattle.nm_wire.specs.declared.export.Export.{Export}
 use Rattle.nm_wire.specs.Export.{size_of}
-use Rattle.nm_workers.specs.Moving.{stand, Attends, BreaksOff}
+use Rattle.nm_workers.specs.Moving.{owner_state, Attends, BreaksOff}
 use Rattle.nm_workers.specs.Reading.{HasRead}
 use Rattle.nm_workers.specs.Serving.{wires, Ends, Breaks, IsServed, IsBrokenOff}
 use Rattle.nm_workers.proofs.Requests.{export_stays}
@@ -29,21 +29,21 @@ module _ (F : Task → TaskResult → Type 0) where
       (read : HasRead bytes unread pieces) (begins : IsBeginning (pieces_of heard) pieces)
       (result : Result Served ServeFault) where
     -- a session that came to its end
-    pub owned_ends : IfOk result (λ served. Attends F served (stand core first output) (stand last heard after))
+    pub owned_ends : IfOk result (λ served. Attends F served (owner_state core first output) (owner_state last heard after))
         → IfOk result (λ served. Ends F served core (wires bytes output) after)
-    owned_ends holds = if_ok result (λ served. Attends F served (stand core first output) (stand last heard after))
+    owned_ends holds = if_ok result (λ served. Attends F served (owner_state core first output) (owner_state last heard after))
         (λ served. Ends F served core (wires bytes output) after)
         (λ served attends. ends_there bytes unread output after pieces core last heard read begins served
-        (subst (λ (f : List (Message CalledValue)). Attends F served (stand core f output) (stand last heard after)) fresh attends))
+        (subst (λ (f : List (Message CalledValue)). Attends F served (owner_state core f output) (owner_state last heard after)) fresh attends))
         holds
 
     -- a session that broke off
-    pub owned_breaks : IfErr result (λ found. BreaksOff F found (stand core first output) (stand last heard after))
+    pub owned_breaks : IfErr result (λ found. BreaksOff F found (owner_state core first output) (owner_state last heard after))
         → IfErr result (λ found. Breaks F found core (wires bytes output) after)
-    owned_breaks holds = if_err result (λ found. BreaksOff F found (stand core first output) (stand last heard after))
+    owned_breaks holds = if_err result (λ found. BreaksOff F found (owner_state core first output) (owner_state last heard after))
         (λ found. Breaks F found core (wires bytes output) after)
         (λ found breaks. breaks_there bytes unread output after pieces core last heard read begins found
-        (subst (λ (f : List (Message CalledValue)). BreaksOff F found (stand core f output) (stand last heard after)) fresh breaks))
+        (subst (λ (f : List (Message CalledValue)). BreaksOff F found (owner_state core f output) (owner_state last heard after)) fresh breaks))
         holds
 
   -- a session that broke off before anything happened

@@ -11,16 +11,16 @@ use Rattle.nm_session.specs.Calling.{TaskResult}
 use Rattle.nm_session.specs.Laws.{IsRead}
 use Rattle.nm_session.specs.MovingBytes.{SendsOut, SendsPart}
 use Rattle.nm_session.specs.Session.{Session}
-use Rattle.nm_workers.specs.declared.attended.Attended.{Attended}
-use Rattle.nm_workers.specs.declared.attended.Attended.TheVariants as attended
-use Rattle.nm_workers.specs.declared.input.Input.{Input}
-use Rattle.nm_workers.specs.declared.input.Input.TheVariants as input
-use Rattle.nm_workers.specs.Moving.{Stand, stand, Moves, BreaksOff, IsKnown, IsOverAt, Attends, IsAttended, EndsAs}
+use Rattle.nm_workers.specs.declared.round.Round.{Round}
+use Rattle.nm_workers.specs.declared.round.Round.TheVariants as round
+use Rattle.nm_workers.specs.declared.round.ReadState.{ReadState}
+use Rattle.nm_workers.specs.declared.round.ReadState.TheVariants as state
+use Rattle.nm_workers.specs.Moving.{OwnerState, owner_state, Moves, BreaksOff, IsKnown, IsOverAt, Attends, IsRound, EndsAs}
 use Rattle.nm_workers.proofs.Steps.{moves_on, breaks_on, stops, reads, sends, sends_part}
 
 module _ {F : Task → TaskResult → Type 0} where
   -- a move, and then the rest of the session
-  pub attends_on : (served : Served) (a b c : Stand) → Moves F a b → Attends F served b c → Attends F served a c
+  pub attends_on : (served : Served) (a b c : OwnerState) → Moves F a b → Attends F served b c → Attends F served a c
   attends_on served a b c first second = record {
     moves = moves_on a b c first second.moves;
     sent = second.sent;
@@ -30,45 +30,45 @@ module _ {F : Task → TaskResult → Type 0} where
   }
 
   -- a move, and then a round
-  pub attended_on : (attended : Attended) (a b c : Stand) → Moves F a b → IsAttended F attended b c
-      → IsAttended F attended a c
-  attended_on (attended.On next) a b c first (second, known) = (moves_on a b c first second, known)
-  attended_on (attended.Turns next) a b c first (second, known) = (moves_on a b c first second, known)
-  attended_on (attended.Over served) a b c first second = attends_on served a b c first second
+  pub round_on : (round : Round) (a b c : OwnerState) → Moves F a b → IsRound F round b c
+      → IsRound F round a c
+  round_on (round.Continue next) a b c first (second, known) = (moves_on a b c first second, known)
+  round_on (round.SwitchReader next) a b c first (second, known) = (moves_on a b c first second, known)
+  round_on (round.Done served) a b c first second = attends_on served a b c first second
 
   -- a move, and then the session's end
-  pub ends_on : (result : Result Served ServeFault) (a b c : Stand) → Moves F a b → EndsAs F result b c → EndsAs F result a c
+  pub ends_on : (result : Result Served ServeFault) (a b c : OwnerState) → Moves F a b → EndsAs F result b c → EndsAs F result a c
   ends_on (Ok served) a b c first second = attends_on served a b c first second
   ends_on (Err found) a b c first second = breaks_on found a b c first second
 
   -- there is no memory, after a move
-  pub stops_there : (found : ServeFault) → found ≡ fault.Memory → (a b : Stand) → Moves F a b → BreaksOff F found a b
+  pub stops_there : (found : ServeFault) → found ≡ fault.Memory → (a b : OwnerState) → Moves F a b → BreaksOff F found a b
   stops_there found is a b moves =
       subst (λ (f : ServeFault). BreaksOff F f a b) (sym is) (stops fault.Memory tt a b moves)
 
 -- what is known of the client's bytes is not called more than it is
-pub known_as : (next before : Input) (heard : List (Message CalledValue)) → (next ≡ input.Ended → before ≡ input.Ended)
+pub known_as : (next before : ReadState) (heard : List (Message CalledValue)) → (next ≡ state.Eof → before ≡ state.Eof)
     → IsKnown before heard → IsKnown next heard
-known_as input.Idle before heard same known = tt
-known_as input.Coming before heard same known = tt
-known_as input.Ended before heard same known = subst (λ (i : Input). IsKnown i heard) (same refl) known
+known_as state.Idle before heard same known = tt
+known_as state.Pending before heard same known = tt
+known_as state.Eof before heard same known = subst (λ (i : ReadState). IsKnown i heard) (same refl) known
 
 module _ {F : Task → TaskResult → Type 0} where
   module _ (old mid new : Session) (heard : List (Message CalledValue)) (output written : Option (List ℕ))
       (read : IsRead old mid) where
     -- requests are handed out, and replies sent
-    pub reads_sends : SendsOut mid new output written → Moves F (stand old heard output) (stand new heard written)
-    reads_sends sent = moves_on (stand old heard output) (stand mid heard output) (stand new heard written)
+    pub reads_sends : SendsOut mid new output written → Moves F (owner_state old heard output) (owner_state new heard written)
+    reads_sends sent = moves_on (owner_state old heard output) (owner_state mid heard output) (owner_state new heard written)
         (reads old mid heard output read) (sends mid new heard output written sent)
 
     pub reads_sends_part : (found : ServeFault) → SendsPart found mid new output written
-        → BreaksOff F found (stand old heard output) (stand new heard written)
-    reads_sends_part found part = breaks_on found (stand old heard output) (stand mid heard output) (stand new heard written)
+        → BreaksOff F found (owner_state old heard output) (owner_state new heard written)
+    reads_sends_part found part = breaks_on found (owner_state old heard output) (owner_state mid heard output) (owner_state new heard written)
         (reads old mid heard output read) (sends_part found mid new heard output written part)
 
     -- and the session is over then
-    pub over_there : (served : Served) (known : Input) → SendsOut mid new output written → IsKnown known heard
-        → IsOverAt served new known → Attends F served (stand old heard output) (stand new heard written)
+    pub over_there : (served : Served) (known : ReadState) → SendsOut mid new output written → IsKnown known heard
+        → IsOverAt served new known → Attends F served (owner_state old heard output) (owner_state new heard written)
     over_there served known sent is_known over = record {
       moves = reads_sends sent;
       sent = none_after_send mid new mid.out sent.takes;
@@ -78,12 +78,12 @@ module _ {F : Task → TaskResult → Type 0} where
     }
 
 module _ (F : Task → TaskResult → Type 0) where
-  pub ends_ok : (result : Result Served ServeFault) (a b : Stand) → EndsAs F result a b
+  pub ends_ok : (result : Result Served ServeFault) (a b : OwnerState) → EndsAs F result a b
       → IfOk result (λ served. Attends F served a b)
   ends_ok (Ok served) a b ends = ends
   ends_ok (Err found) a b ends = tt
 
-  pub ends_err : (result : Result Served ServeFault) (a b : Stand) → EndsAs F result a b
+  pub ends_err : (result : Result Served ServeFault) (a b : OwnerState) → EndsAs F result a b
       → IfErr result (λ found. BreaksOff F found a b)
   ends_err (Ok served) a b ends = tt
   ends_err (Err found) a b ends = ends

@@ -18,10 +18,10 @@ use Rattle.nm_session.specs.Event.{Event, Fed, Asked, Stopped, Answered, Took, f
 use Rattle.nm_session.specs.Laws.{AreReadings, IsRead}
 use Rattle.nm_session.specs.MovingBytes.{SendsOut, SendsPart}
 use Rattle.nm_session.specs.Session.{Session}
-use Rattle.nm_workers.specs.declared.input.Input.{Input}
-use Rattle.nm_workers.specs.declared.input.Input.TheVariants as input
+use Rattle.nm_workers.specs.declared.round.ReadState.{ReadState}
+use Rattle.nm_workers.specs.declared.round.ReadState.TheVariants as state
 use Rattle.nm_workers.specs.Hearing.{Hears, IsCausedBy, Settles, SettlesJob}
-use Rattle.nm_workers.specs.Moving.{Stand, stand, Moves, BreaksOff, IsCause, IsKnown, IsLearned}
+use Rattle.nm_workers.specs.Moving.{OwnerState, owner_state, Moves, BreaksOff, IsCause, IsKnown, IsLearned}
 use Rattle.nm_workers.specs.JobValue.{JobValue, called_for}
 use Rattle.nm_workers.specs.Pieces.{bytes_of, HasEnded}
 use Rattle.nm_workers.proofs.ResultRuns.{runs_with-append, readings_with}
@@ -52,7 +52,7 @@ fed_on xs ys ms ns first second =
 
 module _ {F : Task → TaskResult → Type 0} where
   -- one move after the other
-  pub moves_on : (a b c : Stand) → Moves F a b → Moves F b c → Moves F a c
+  pub moves_on : (a b c : OwnerState) → Moves F a b → Moves F b c → Moves F a c
   moves_on a b c first second = record {
     events = first.events ++ second.events;
     messages = first.messages ++ second.messages;
@@ -81,7 +81,7 @@ cause_on (fault.Write sent) before taken written cause = (
 
 module _ {F : Task → TaskResult → Type 0} where
   -- a move, and then a break
-  pub breaks_on : (found : ServeFault) (a b c : Stand) → Moves F a b → BreaksOff F found b c
+  pub breaks_on : (found : ServeFault) (a b c : OwnerState) → Moves F a b → BreaksOff F found b c
       → BreaksOff F found a c
   breaks_on found a b c first second = record {
     events = first.events ++ second.events;
@@ -103,7 +103,7 @@ module _ {F : Task → TaskResult → Type 0} where
   }
 
   -- no move at all
-  pub moves_nowhere : (a : Stand) → Moves F a a
+  pub moves_nowhere : (a : OwnerState) → Moves F a a
   moves_nowhere a = record {
     events = [];
     messages = [];
@@ -115,17 +115,17 @@ module _ {F : Task → TaskResult → Type 0} where
 
   -- nor where the core stays
   pub stays : (old new : Session) (heard : List (Message CalledValue)) (output : Option (List ℕ)) → new ≡ old
-      → Moves F (stand old heard output) (stand new heard output)
+      → Moves F (owner_state old heard output) (owner_state new heard output)
   stays old new heard output same =
-      subst (λ (core : Session). Moves F (stand old heard output) (stand core heard output))
-      (sym same) (moves_nowhere (stand old heard output))
+      subst (λ (core : Session). Moves F (owner_state old heard output) (owner_state core heard output))
+      (sym same) (moves_nowhere (owner_state old heard output))
 
   -- nor where no message came
   pub moves_unheard : (core : Session) (heard all : List (Message CalledValue)) (output : Option (List ℕ))
-      → all ≡ heard → Moves F (stand core heard output) (stand core all output)
+      → all ≡ heard → Moves F (owner_state core heard output) (owner_state core all output)
   moves_unheard core heard all output same =
-      subst (λ (h : List (Message CalledValue)). Moves F (stand core heard output) (stand core h output))
-      (sym same) (moves_nowhere (stand core heard output))
+      subst (λ (h : List (Message CalledValue)). Moves F (owner_state core heard output) (owner_state core h output))
+      (sym same) (moves_nowhere (owner_state core heard output))
 
 -- a fault that leaves nothing unwritten
 abbrev pub IsQuiet : ServeFault → Type 0
@@ -140,7 +140,7 @@ quiet_cause (fault.Write sent) written quiet = absurd quiet
 
 module _ {F : Task → TaskResult → Type 0} where
   -- a move, and a fault there
-  pub stops : (found : ServeFault) → IsQuiet found → (a b : Stand) → Moves F a b → BreaksOff F found a b
+  pub stops : (found : ServeFault) → IsQuiet found → (a b : OwnerState) → Moves F a b → BreaksOff F found a b
   stops found quiet a b moves = record {
     events = moves.events;
     messages = moves.messages;
@@ -174,7 +174,7 @@ readings_taken (Took bytes ∷ events) are = absurd are
 module _ {F : Task → TaskResult → Type 0} where
   -- requests that are read are a move
   pub reads : (old new : Session) (heard : List (Message CalledValue)) (output : Option (List ℕ))
-      → IsRead old new → Moves F (stand old heard output) (stand new heard output)
+      → IsRead old new → Moves F (owner_state old heard output) (owner_state new heard output)
   reads old new heard output read = record {
     events = read.events;
     messages = [];
@@ -187,7 +187,7 @@ module _ {F : Task → TaskResult → Type 0} where
 
   -- replies are taken out and written
   pub sends : (old new : Session) (heard : List (Message CalledValue)) (output written : Option (List ℕ))
-      → SendsOut old new output written → Moves F (stand old heard output) (stand new heard written)
+      → SendsOut old new output written → Moves F (owner_state old heard output) (owner_state new heard written)
   sends old new heard output written sent = record {
     events = Took old.out ∷ [];
     messages = [];
@@ -200,7 +200,7 @@ module _ {F : Task → TaskResult → Type 0} where
   -- not all of them are written
   pub sends_part : (found : ServeFault) (old new : Session) (heard : List (Message CalledValue))
       (output written : Option (List ℕ)) → SendsPart found old new output written
-      → BreaksOff F found (stand old heard output) (stand new heard written)
+      → BreaksOff F found (owner_state old heard output) (owner_state new heard written)
   sends_part fault.Memory old new heard output written part = absurd part
   sends_part fault.Read old new heard output written part = absurd part
   sends_part (fault.Write sent) old new heard output written part = record {
@@ -218,7 +218,7 @@ module _ {F : Task → TaskResult → Type 0} where
   -- a message that is taken is a move
   pub hears : (old new : Session) (one : Message CalledValue) (heard : List (Message CalledValue))
       (output : Option (List ℕ)) → Hears F old one new
-      → Moves F (stand old heard output) (stand new (heard ++ one ∷ []) output)
+      → Moves F (owner_state old heard output) (owner_state new (heard ++ one ∷ []) output)
   hears old new (message.Piece (piece.Bytes bytes)) heard output is = record {
     events = Fed bytes.items ∷ [];
     messages = message.Piece (piece.Bytes bytes) ∷ [];
@@ -255,7 +255,7 @@ module _ {F : Task → TaskResult → Type 0} where
 
   -- what came of the job that was held back is a move
   settled : (called : CalledValue) (old new : Session) (heard : List (Message CalledValue)) (output : Option (List ℕ))
-      → Settles F old called new → Moves F (stand old heard output) (stand new heard output)
+      → Settles F old called new → Moves F (owner_state old heard output) (owner_state new heard output)
   settled called old new heard output (inl answers) = record {
     events = Answered called.index answers.outcome ∷ [];
     messages = [];
@@ -267,7 +267,7 @@ module _ {F : Task → TaskResult → Type 0} where
   settled called old new heard output (inr passes) = stays old new heard output passes.unchanged
 
   pub settles : (old new : Session) (job : Option JobValue) (heard : List (Message CalledValue))
-      (output : Option (List ℕ)) → SettlesJob F old job new → Moves F (stand old heard output) (stand new heard output)
+      (output : Option (List ℕ)) → SettlesJob F old job new → Moves F (owner_state old heard output) (owner_state new heard output)
   settles old new job heard output done =
       settled (called_for done.job done.outcome) old new heard output done.settles
 
@@ -280,7 +280,7 @@ module _ {F : Task → TaskResult → Type 0} where
   -- a message that breaks the session off is lost
   pub loses : (found : ServeFault) (old new : Session) (one : Message CalledValue) (heard : List (Message CalledValue))
       (output : Option (List ℕ)) → IsCausedBy found one → new ≡ old
-      → BreaksOff F found (stand old heard output) (stand new (heard ++ one ∷ []) output)
+      → BreaksOff F found (owner_state old heard output) (owner_state new (heard ++ one ∷ []) output)
   loses found old new one heard output is same = record {
     events = [];
     messages = [];
@@ -305,13 +305,13 @@ ended_on heard more ended = record {
 }
 
 -- and a message tells the rest
-pub learns : (next before : Input) (heard : List (Message CalledValue)) (one : Message CalledValue)
+pub learns : (next before : ReadState) (heard : List (Message CalledValue)) (one : Message CalledValue)
     → IsLearned next before one → IsKnown before heard → IsKnown next (heard ++ one ∷ [])
-learns input.Idle before heard one is known = tt
-learns input.Coming before heard one is known = tt
-learns input.Ended before heard one (inl same) known =
-    ended_on heard (one ∷ []) (subst (λ (i : Input). IsKnown i heard) same known)
-learns input.Ended before heard one (inr told) known = record {
+learns state.Idle before heard one is known = tt
+learns state.Pending before heard one is known = tt
+learns state.Eof before heard one (inl same) known =
+    ended_on heard (one ∷ []) (subst (λ (i : ReadState). IsKnown i heard) same known)
+learns state.Eof before heard one (inr told) known = record {
   before = pieces_of heard;
   after = [];
   pieces_are = pieces_append heard (one ∷ [])
@@ -320,7 +320,7 @@ learns input.Ended before heard one (inr told) known = record {
 
 -- the same, of all messages that were received by then
 pub learns_at : (one : Message CalledValue) (heard all : List (Message CalledValue)) → all ≡ heard ++ one ∷ []
-    → (next before : Input) → IsLearned next before one → IsKnown before heard → IsKnown next all
+    → (next before : ReadState) → IsLearned next before one → IsKnown before heard → IsKnown next all
 learns_at one heard all is_all next before is known =
     subst (IsKnown next) (sym is_all) (learns next before heard one is known)
 
@@ -328,20 +328,20 @@ module _ {F : Task → TaskResult → Type 0} where
   module _ (old new : Session) (one : Message CalledValue) (heard all : List (Message CalledValue))
       (is_all : all ≡ heard ++ one ∷ []) where
     -- the same, of all messages that were received by then
-    pub hears_at : (output : Option (List ℕ)) → Hears F old one new → Moves F (stand old heard output) (stand new all output)
-    hears_at output is = subst (λ (h : List (Message CalledValue)). Moves F (stand old heard output) (stand new h output))
+    pub hears_at : (output : Option (List ℕ)) → Hears F old one new → Moves F (owner_state old heard output) (owner_state new all output)
+    hears_at output is = subst (λ (h : List (Message CalledValue)). Moves F (owner_state old heard output) (owner_state new h output))
         (sym is_all) (hears old new one heard output is)
 
     pub loses_at : (found : ServeFault) (output : Option (List ℕ)) → IsCausedBy found one → new ≡ old
-        → BreaksOff F found (stand old heard output) (stand new all output)
+        → BreaksOff F found (owner_state old heard output) (owner_state new all output)
     loses_at found output is same =
-        subst (λ (h : List (Message CalledValue)). BreaksOff F found (stand old heard output) (stand new h output))
+        subst (λ (h : List (Message CalledValue)). BreaksOff F found (owner_state old heard output) (owner_state new h output))
         (sym is_all) (loses found old new one heard output is same)
 
   -- no message comes any more
   pub stops_hearing : (core : Session) (heard all : List (Message CalledValue)) (output : Option (List ℕ)) → all ≡ heard
-      → BreaksOff F fault.Read (stand core heard output) (stand core all output)
+      → BreaksOff F fault.Read (owner_state core heard output) (owner_state core all output)
   stops_hearing core heard all output same =
-      subst (λ (h : List (Message CalledValue)). BreaksOff F fault.Read (stand core heard output) (stand core h output))
-      (sym same) (stops fault.Read tt (stand core heard output) (stand core heard output)
-      (moves_nowhere (stand core heard output)))
+      subst (λ (h : List (Message CalledValue)). BreaksOff F fault.Read (owner_state core heard output) (owner_state core h output))
+      (sym same) (stops fault.Read tt (owner_state core heard output) (owner_state core heard output)
+      (moves_nowhere (owner_state core heard output)))

@@ -25,8 +25,8 @@ use Rattle.nm_session.specs.Serving.{IsEnd}
 use Rattle.nm_session.specs.Session.{Session, session_of}
 use Rattle.nm_session.specs.Text.{GoesOut}
 use Rattle.nm_wire.specs.declared.export.Export.{Export}
-use Rattle.nm_workers.specs.declared.input.Input.{Input}
-use Rattle.nm_workers.specs.Moving.{stand, Attends, BreaksOff, ComesTo, IsCause, IsKnown}
+use Rattle.nm_workers.specs.declared.round.ReadState.{ReadState}
+use Rattle.nm_workers.specs.Moving.{owner_state, Attends, BreaksOff, ComesTo, IsCause, IsKnown}
 use Rattle.nm_workers.specs.Pieces.{bytes_of, HasEnded}
 use Rattle.nm_workers.specs.Reading.{HasRead}
 use Rattle.nm_workers.specs.Serving.{Wires, wires, Goes, Ends, Breaks, IsServed, IsBrokenOff}
@@ -132,10 +132,10 @@ module _ (bytes unread output after : Option (List ℕ)) (pieces : List Piece)
         ap (λ (rest : List Piece). bytes_of rest ++ read.unsent) (second_none ended.after begins.0 all.1) ∙ all.2,
       )
 
-  come_to : (told : End) (known : Input) → IsKnown known heard → ComesTo told last known
+  come_to : (told : End) (known : ReadState) → IsKnown known heard → ComesTo told last known
       → IsEnd told (moment last (tt {0}) unread after) × (told ≡ end.EndOfInput → bytes_of begins.0 ++ read.unsent ≡ [])
   come_to end.EndOfInput known is_known comes =
-      let all = told_end (subst (λ (i : Input). IsKnown i heard) comes.1 is_known) in
+      let all = told_end (subst (λ (i : ReadState). IsKnown i heard) comes.1 is_known) in
       ((comes.0, all.0), λ same. all.1)
   come_to end.Disc known is_known comes = (comes, λ same. absurd (cc))
   come_to end.Aborted known is_known comes = (comes, λ same. absurd (cc))
@@ -143,7 +143,7 @@ module _ (bytes unread output after : Option (List ℕ)) (pieces : List Piece)
 
   -- requests were answered to the end
   pub ends_there : {F : Task → TaskResult → Type 0} → (served : Served)
-      → Attends F served (stand core [] output) (stand last heard after) → Ends F served core (wires bytes output) after
+      → Attends F served (owner_state core [] output) (owner_state last heard after) → Ends F served core (wires bytes output) after
   ends_there served attends =
       let to = come_to served.end attends.known attends.is_known attends.is_over.end_is in
       record {
@@ -166,7 +166,7 @@ module _ (bytes unread output after : Option (List ℕ)) (pieces : List Piece)
 
   -- a fault broke the session off
   pub breaks_there : {F : Task → TaskResult → Type 0} → (found : ServeFault)
-      → BreaksOff F found (stand core [] output) (stand last heard after) → Breaks F found core (wires bytes output) after
+      → BreaksOff F found (owner_state core [] output) (owner_state last heard after) → Breaks F found core (wires bytes output) after
   breaks_there found breaks = record {
     events = breaks.events;
     last = last;

@@ -36,9 +36,9 @@ Settles HasResult old called new =
 
 -- what came of the task of the job that was held back is told
 pub record SettlesJob (HasResult : Task → TaskResult → Type 0)
-    (old : Session) (held : Option JobValue) (new : Session) : Type 0 where
+    (old : Session) (deferred : Option JobValue) (new : Session) : Type 0 where
   pub job : JobValue
-  pub held_is : held ≡ Some job
+  pub deferred_is : deferred ≡ Some job
   pub outcome : TaskResult
   pub settles : Settles HasResult old (called_for job outcome) new
 

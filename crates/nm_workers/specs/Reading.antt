@@ -4,7 +4,7 @@ use Rattle.std.specs.Io.KnownBytes.{Consumes, IsAtEnd}
 use Rattle.nm_mailbox.specs.declared.message.Piece.{Piece}
 use Rattle.nm_mailbox.specs.declared.message.Piece.TheVariants.{Bytes, Ended, Failed}
 use Rattle.nm_mailbox.specs.Ends.{pieces_by}
-use Rattle.nm_workers.specs.declared.read_side.ReadSide.{ReadSide}
+use Rattle.nm_workers.specs.declared.reader.Reader.{Reader}
 use Rattle.nm_workers.specs.Pieces.{bytes_of}
 
 -- one read: it gave these bytes, or found the end, or failed
@@ -45,8 +45,8 @@ Goes true input unread pieces = ReadsOn input unread pieces
 Goes false input unread pieces = HasRead input unread pieces
 
 -- what was read by then and sent, and more
-abbrev pub ReadsFurther : {I M : Type 0} → (I → Option (List ℕ)) → (old new : ReadSide I M)
+abbrev pub ReadsFurther : {I M : Type 0} → (I → Option (List ℕ)) → (old new : Reader I M)
     → Type 0
 ReadsFurther remaining old new = (input : Option (List ℕ))
-    → Goes old.goes_on input (remaining old.reader) (pieces_by old.pieces)
-    → Goes new.goes_on input (remaining new.reader) (pieces_by new.pieces)
+    → Goes old.is_open input (remaining old.source) (pieces_by old.pieces)
+    → Goes new.is_open input (remaining new.source) (pieces_by new.pieces)

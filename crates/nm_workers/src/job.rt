@@ -1,12 +1,20 @@
-ghost use Rattle.std.specs.Prelude.{◌≡◌};
+ghost use Rattle.std.specs.Prelude.{ℕ, ◌≡◌};
 
-use crate::extent::Extent;
-use crate::pause::Pause;
+use crate::round::NoRequest;
 use bytes::Bytes;
 use nm_requests::Task;
-use nm_session::{Next, ServeFault, SessionCore};
+use nm_session::{Called, Next, ServeFault, SessionCore, Target, call};
 use std::alloc::Global;
-use std::marker::{Model, PhantomData};
+use std::marker::{Brand, Model, PhantomData};
+
+/// How many bytes the targets of a session have at least. It stands in proofs alone.
+pub trait Extent {
+    ghost bytes: { ℕ };
+}
+
+impl Extent for Brand {
+    ghost bytes = { 0 };
+}
 
 // How many bytes a small job reads or writes at most.
 const SMALL: u32 = 16 * 1024;
@@ -40,18 +48,18 @@ impl<E: Extent> Job<E> {
     ghost use Rattle.nm_session.specs.Laws.{IsRead};
     ghost use Rattle.nm_session.specs.Reading.{Reads};
     ghost use Rattle.nm_wire.specs.Export.{size_of};
-    ghost use Rattle.nm_workers.specs.Moving.{PausesAt};
+    ghost use Rattle.nm_workers.specs.Moving.{HasNoRequest};
 
     // The job of the next request that the core hands out, or why it hands out none.
     pub(crate) fn next(
         alloc: Global,
         core: &mut SessionCore,
-    ) -> Result<Result<Job<E>, Pause>, ServeFault>
+    ) -> Result<Result<Job<E>, NoRequest>, ServeFault>
         requires size { size_of core.old.haggling.export ≤ E.bytes }
         ensures job { IfOk result (λ next. IfOk next (λ job.
             Reads core.old (Issue job.index job.task job.payload) core.new)) }
-        ensures pause { IfOk result (λ next. IfErr next (λ pause.
-            IsRead core.old core.new × PausesAt pause core.new)) }
+        ensures why { IfOk result (λ next. IfErr next (λ why.
+            IsRead core.old core.new × HasNoRequest why core.new)) }
         ensures err { IfErr result (λ fault. (fault ≡ Memory) × IsRead core.old core.new) }
     {
         let Ok(next) = core.next(alloc) else {
@@ -59,9 +67,9 @@ impl<E: Extent> Job<E> {
         };
         match next {
             Next::Issue(index, task, payload) => Ok(Ok(Job::new(index, task, payload))),
-            Next::Starved => Ok(Err(Pause::Starved)),
-            Next::Full => Ok(Err(Pause::Full)),
-            Next::Ended => Ok(Err(Pause::Ended)),
+            Next::Starved => Ok(Err(NoRequest::Starved)),
+            Next::Full => Ok(Err(NoRequest::Full)),
+            Next::Ended => Ok(Err(NoRequest::Ended)),
         }
     }
 
@@ -103,5 +111,54 @@ impl<E: Extent> Job<E> {
             of: _,
         } = self;
         (index, task, payload)
+    }
+}
+
+// The result of a job. Only a target that was called for its task gives one.
+#[derive(Drop)]
+pub struct JobResult<T: Target> {
+    called: Called,
+    of: PhantomData<T>,
+}
+
+impl<T: Target> Model for JobResult<T> {
+    ghost use Rattle.nm_session.specs.CalledValue.{CalledValue};
+    ghost use Rattle.nm_workers.specs.Results.{IsResult};
+
+    ghost Value = { CalledValue };
+
+    ghost view = { λ result. result.called };
+
+    ghost invariant = { λ result. IsResult T.follows result.called.task result.called.outcome };
+}
+
+impl<T: Target> JobResult<T> {
+    ghost use Rattle.std.specs.Prelude.{◌≤◌};
+    ghost use Rattle.nm_session.specs.Calling.{Calls};
+    ghost use Rattle.nm_workers.specs.Results.{IsResult};
+
+    // Calls the target for a job, and for nothing else.
+    pub(crate) fn of<E: Extent>(alloc: Global, target: &mut T, job: Job<E>) -> JobResult<T>
+        requires size { E.bytes ≤ T.size target.old }
+        ensures index { result.index ≡ job.index }
+        ensures task { result.task ≡ job.task }
+        ensures calls { Calls job.task job.payload result.outcome
+            (λ calls. T.follows target.old calls target.new) }
+        ensures size { T.size target.new ≡ T.size target.old }
+    {
+        let (index, task, payload) = job.into_parts();
+        JobResult {
+            called: call(alloc, target, index, task, payload),
+            of: PhantomData,
+        }
+    }
+
+    // The request's index, its task and the outcome.
+    pub(crate) fn into_called(self) -> Called
+        ensures called { result ≡ self }
+        ensures is_result { IsResult T.follows self.task self.outcome }
+    {
+        let JobResult { called, of: _ } = self;
+        called
     }
 }

@@ -5,39 +5,22 @@
 //! order in which the requests are done.
 #![tactic(auto)]
 
-pub use busy_poll::BusyPoll;
-pub use finished::Finished;
 pub use greeting::greet;
-pub use lookout::Lookout;
-pub use serving::{serve_many, transmit};
+pub use session::{Finished, serve_many, transmit};
+pub use spin_wait::{BusyPoll, SpinToken};
 
-mod alone;
-mod answering;
-mod attended;
-mod attending;
-mod busy_poll;
-mod crew;
-mod desk;
-mod extent;
-mod finished;
+mod dispatcher;
 mod greeting;
-mod handing;
-mod hearing;
-mod input;
+mod inline;
 mod job;
-mod job_result;
-mod leave;
-mod leaves;
-mod looking;
-mod lookout;
-mod patience;
-mod pause;
-mod read_side;
-mod reading;
-mod room;
-mod serving;
-mod streak;
-mod stretch;
-mod threads;
-mod turns;
+mod messages;
+mod permits;
+mod phases;
+mod pool;
+mod read_buffer;
+mod reader;
+mod round;
+mod session;
+mod spin_wait;
+mod threaded;
 mod worker;

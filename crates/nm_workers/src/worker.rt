@@ -4,9 +4,7 @@ ghost use Rattle.nm_mailbox.specs.Ends.{outcomes_by};
 ghost use Rattle.nm_session.specs.Calling.{Calls};
 ghost use Rattle.nm_workers.specs.Working.{WorksFor};
 
-use crate::extent::Extent;
-use crate::job::Job;
-use crate::job_result::JobResult;
+use crate::job::{Extent, Job, JobResult};
 use crossbeam_channel::Receiver;
 use nm_mailbox::OutcomeEnd;
 use nm_session::Target;
@@ -14,7 +12,7 @@ use std::alloc::Global;
 use std::marker::PhantomData;
 use std::sync::Wait;
 
-// The target that it calls, and where it tells what came of it.
+// The target that it calls, and where it reports what came of it.
 #[derive(Drop)]
 pub struct Worker<E: Extent, T: Target> {
     target: T,
@@ -61,8 +59,8 @@ impl<E: Extent, T: Target> Worker<E, T> {
         (done, Worker::new(target, outcomes))
     }
 
-    // Tells the result of a job. False where nobody hears of it.
-    fn tell<R: Wait>(&mut self, rt: &R, done: JobResult<T>) -> bool
+    // Reports the result of a job. False where nobody hears of it.
+    fn report<R: Wait>(&mut self, rt: &R, done: JobResult<T>) -> bool
         ensures target { self.new.target ≡ self.old.target }
         ensures heard { result ≡ true
             → outcomes_by self.new.outcomes ≡ outcomes_by self.old.outcomes ++ done ∷ [] }
@@ -73,7 +71,7 @@ impl<E: Extent, T: Target> Worker<E, T> {
     }
 }
 
-// Does each job and tells its result, until no more come. Every job handed out is done, also once
+// Does each job and reports its result, until no more come. Every job handed out is done, also once
 // nobody hears of it any more.
 pub(crate) fn work<R: Wait, E: Extent, T: Target + Drop>(
     rt: &R,
@@ -91,7 +89,7 @@ pub(crate) fn work<R: Wait, E: Extent, T: Target + Drop>(
         };
         let (done, after) = worker.do_job(alloc, job);
         worker = after;
-        heard = heard && worker.tell(rt, done);
+        heard = heard && worker.report(rt, done);
     }
     unreachable!()
 }

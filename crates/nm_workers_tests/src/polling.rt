@@ -8,7 +8,7 @@ use crate::texts::{DISC, SIZE, Talk, export};
 use nm_replies::ReplyWriter;
 use nm_session::{ServeFault, Served, SessionCore};
 use nm_wire::{Export, Memory};
-use nm_workers::{BusyPoll, Lookout, greet, transmit};
+use nm_workers::{BusyPoll, SpinToken, greet, transmit};
 use std::alloc::Global;
 use std::io::{self, Read, Write};
 use std::sync::Wait;
@@ -63,8 +63,8 @@ where
     let mut sender = ReplyWriter::new(writer);
     match greet(rt, alloc, &mut core, &mut room, &mut reader, &mut sender) {
         Ok(None) => {
-            let lookout = Lookout::new();
-            Ok(transmit(rt, alloc, core, reader, sender, targets, &lookout).result)
+            let token = SpinToken::new();
+            Ok(transmit(rt, alloc, core, reader, sender, targets, &token).result)
         }
         Ok(Some(served)) => Ok(Ok(served)),
         Err(fault) => Ok(Err(fault)),

@@ -12,13 +12,13 @@ jobs-init g c = works_nowhere g.T.Target.follows c.args.worker.target (outcomes_
 pub jobs-preserved-then-heard : goal.jobs-preserved-then-heard
 jobs-preserved-then-heard g c =
     works_on g.T.Target.follows c.args.worker.target c.jobs.worker.target c.do_job-done.result.1.target
-    c.tell-heard.new.self.target c.jobs.heard (outcomes_by c.args.worker.outcomes)
+    c.report-heard.new.self.target c.jobs.heard (outcomes_by c.args.worker.outcomes)
     (outcomes_by c.jobs.worker.outcomes) (outcomes_by c.do_job-done.result.1.outcomes)
-    (outcomes_by c.tell-heard.new.self.outcomes) c.do_job-done.result.0 _ _ c.jobs.invariant
+    (outcomes_by c.report-heard.new.self.outcomes) c.do_job-done.result.0 _ _ c.jobs.invariant
     c.do_job-done.ensures.task c.do_job-done.ensures.calls
     (ap (λ (end : OutcomeEnd CalledValue). outcomes_by end) c.do_job-done.ensures.outcomes)
-    c.tell-heard.result c.tell-heard.ensures.target c.if-heard.true c.tell-heard.ensures.heard
-    c.tell-heard.ensures.unheard
+    c.report-heard.result c.report-heard.ensures.target c.if-heard.true c.report-heard.ensures.heard
+    c.report-heard.ensures.unheard
 
 pub jobs-preserved : goal.jobs-preserved
 jobs-preserved g c =

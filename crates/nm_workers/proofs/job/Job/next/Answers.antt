@@ -12,11 +12,11 @@ new-requires g c =
     issued_callable c.args.core.now c.next.new.self c.in-Issue.index c.in-Issue.task c.in-Issue.payload
     g.E.Extent.bytes (rw c.in-Issue.is at c.in-Ok.ensures.ok) c.requires.size
 
-pub returns-in-Starved-clause-pause : goal.returns-in-Starved-clause-pause
-returns-in-Starved-clause-pause g c = (next_reads _ _ _ c.in-Ok.ensures.ok, starves _ _ (rw c.in-Starved.is at c.in-Ok.ensures.ok))
+pub returns-in-Starved-clause-why : goal.returns-in-Starved-clause-why
+returns-in-Starved-clause-why g c = (next_reads _ _ _ c.in-Ok.ensures.ok, starves _ _ (rw c.in-Starved.is at c.in-Ok.ensures.ok))
 
-pub returns-in-Full-clause-pause : goal.returns-in-Full-clause-pause
-returns-in-Full-clause-pause g c = (next_reads _ _ _ c.in-Ok.ensures.ok, fills_up _ _ (rw c.in-Full.is at c.in-Ok.ensures.ok))
+pub returns-in-Full-clause-why : goal.returns-in-Full-clause-why
+returns-in-Full-clause-why g c = (next_reads _ _ _ c.in-Ok.ensures.ok, fills_up _ _ (rw c.in-Full.is at c.in-Ok.ensures.ok))
 
-pub returns-in-Ended-clause-pause : goal.returns-in-Ended-clause-pause
-returns-in-Ended-clause-pause g c = (next_reads _ _ _ c.in-Ok.ensures.ok, ends _ _ (rw c.in-Ended.is at c.in-Ok.ensures.ok))
+pub returns-in-Ended-clause-why : goal.returns-in-Ended-clause-why
+returns-in-Ended-clause-why g c = (next_reads _ _ _ c.in-Ok.ensures.ok, ends _ _ (rw c.in-Ended.is at c.in-Ok.ensures.ok))

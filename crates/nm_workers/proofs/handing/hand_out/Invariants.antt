@@ -1,6 +1,0 @@
--- So far requests were read.
-use Rattle.nm_session.specs.Laws.{IsRead}
-use Rattle.nm_workers.proofs.handing.hand_out.Given as goal
-
-abbrev pub invariant-requests : goal.invariant-requests
-invariant-requests g l = IsRead l.fn.core l.core

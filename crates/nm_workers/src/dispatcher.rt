@@ -1,0 +1,119 @@
+//! Requests on their way from the session's core to its workers, or to the owner itself.
+ghost use Rattle.std.specs.Prelude.{◌≡◌, ◌≤◌, IfOk, IfErr, IfSome};
+ghost use Rattle.nm_session.specs.declared.serve_fault.ServeFault.TheVariants.{Memory};
+ghost use Rattle.nm_session.specs.Laws.{IsRead};
+ghost use Rattle.nm_wire.specs.Export.{size_of};
+ghost use Rattle.nm_workers.specs.Moving.{HasNoRequest};
+
+use crate::job::{Extent, Job};
+use crate::pool::{WorkerPool, defer_job};
+use crate::read_buffer::ReadBuffer;
+use crate::round::NoRequest;
+use crate::spin_wait::SpinWait;
+use nm_session::{ServeFault, SessionCore, Target};
+use std::alloc::Global;
+use std::sync::Wait;
+use std::thread::Threads;
+
+// Where the owner of a session's core hands out jobs, to its pool, and finds a buffer to read into.
+// Workers end once it is gone.
+#[derive(Drop)]
+pub struct Dispatcher<'a, C> {
+    pub(crate) pool: C,
+    pub(crate) buffer: ReadBuffer,
+    pub(crate) spin_wait: SpinWait<'a>,
+    pub(crate) client: SerialClient,
+}
+
+// How many requests in a row make a client serial.
+const ENOUGH: u16 = 16;
+
+// After how many requests it has to be shown anew, so that a client which no longer waits for
+// replies is noticed.
+const MOST: u16 = 1024;
+
+// How many requests in a row were small and came alone: no other one was outstanding then. A client
+// that waits for each reply before it sends the next request is serial.
+#[derive(Clone, Copy, Drop)]
+pub struct SerialClient {
+    alone: u16,
+}
+
+impl SerialClient {
+    // None yet.
+    pub(crate) fn new() -> SerialClient {
+        SerialClient { alone: 0 }
+    }
+
+    // Whether enough requests in a row were so.
+    pub(crate) fn is_serial(&self) -> bool {
+        self.alone >= ENOUGH
+    }
+
+    // Notes a request, which was small and alone or not.
+    pub(crate) fn note(&mut self, alone: bool) {
+        self.alone = if alone && self.alone < MOST {
+            self.alone + 1
+        } else {
+            0
+        };
+    }
+}
+
+// Hands out the tasks of the requests that are there, in their order, and says why no more are. The
+// last one is deferred: it is given once the permit to read was.
+pub(crate) fn hand_out<'s, S, E, R, T>(
+    rt: &'s R,
+    alloc: Global,
+    core: &mut SessionCore,
+    pool: &mut WorkerPool<'_, 's, S, E, T>,
+) -> Result<NoRequest, ServeFault>
+where
+    E: Extent + Send + 's,
+    R: Threads + Wait + Sync + 's,
+    T: Target + Send + Drop + 's,
+    requires size { size_of core.old.haggling.export ≤ E.bytes }
+    ensures ok { IfOk result (λ why. IsRead core.old core.new) }
+    ensures why { IfOk result (λ why. HasNoRequest why core.new) }
+    ensures err { IfErr result (λ fault. (fault ≡ Memory) × IsRead core.old core.new) }
+{
+    'requests: for _ in rt.forever() {
+        match issue(rt, alloc, core, pool) {
+            Ok(None) => (),
+            Ok(Some(why)) => return Ok(why),
+            Err(fault) => return Err(fault),
+        }
+    }
+    unreachable!()
+}
+
+// Hands out the next task, or says why none is there.
+fn issue<'s, S, E, R, T>(
+    rt: &'s R,
+    alloc: Global,
+    core: &mut SessionCore,
+    pool: &mut WorkerPool<'_, 's, S, E, T>,
+) -> Result<Option<NoRequest>, ServeFault>
+where
+    E: Extent + Send + 's,
+    R: Threads + Wait + Sync + 's,
+    T: Target + Send + Drop + 's,
+    requires size { size_of core.old.haggling.export ≤ E.bytes }
+    ensures ok { IfOk result (λ why. IsRead core.old core.new) }
+    ensures why { IfOk result (λ why. IfSome why (λ why. HasNoRequest why core.new)) }
+    ensures err { IfErr result (λ fault. (fault ≡ Memory) × IsRead core.old core.new) }
+{
+    let next = match Job::next(alloc, core) {
+        Ok(next) => next,
+        Err(fault) => return Err(fault),
+    };
+    match next {
+        Ok(job) => {
+            if defer_job(rt, alloc, pool, job, core.under_way()).is_err() {
+                return Err(ServeFault::Memory);
+            }
+            Ok(None)
+        }
+        Err(why) => Ok(Some(why)),
+    }
+}

@@ -1,0 +1,111 @@
+//! Messages on their way from the session's threads to its core.
+ghost use Rattle.std.specs.Prelude.{◌≡◌, ℕ, List, Option, IfOk, IfErr, OnOk};
+ghost use Rattle.nm_mailbox.specs.Ends.{received_by, IsSameInbox};
+ghost use Rattle.nm_workers.specs.Hearing.{Hears, IsCausedBy, Settles};
+ghost use Rattle.nm_workers.specs.Results.{IsResult};
+ghost use Rattle.nm_workers.specs.Moving.{owner_state, Moves, BreaksOff, IsKnown, IsLearned};
+ghost use Rattle.nm_session.specs.declared.serve_fault.ServeFault.TheVariants.{Memory};
+
+use crate::dispatcher::Dispatcher;
+use crate::job::JobResult;
+use crate::read_buffer::ReadBuffer;
+use crate::round::ReadState;
+use nm_mailbox::{Inbox, Message, Piece};
+use nm_session::{Refused, ServeFault, SessionCore, Target};
+use std::alloc::Global;
+use std::sync::Wait;
+
+// How many messages a mailbox has room for.
+const WAITING: usize = 32;
+
+// Waits for a message, and takes it and all others that wait by then.
+pub(crate) fn receive<R: Wait, C, T: Target + Drop>(
+    rt: &R,
+    alloc: Global,
+    core: &mut SessionCore,
+    inbox: &mut Inbox<JobResult<T>>,
+    state: ReadState,
+    dispatcher: &mut Dispatcher<'_, C>,
+) -> Result<ReadState, ServeFault>
+    requires known { IsKnown state (received_by inbox.old) }
+    ensures ok { IfOk result (λ next. (output : Option (List ℕ))
+        → Moves (IsResult T.follows) (owner_state core.old (received_by inbox.old) output)
+        (owner_state core.new (received_by inbox.new) output)) }
+    ensures known { IfOk result (λ next. IsKnown next (received_by inbox.new)) }
+    ensures err { IfErr result (λ fault. (output : Option (List ℕ))
+        → BreaksOff (IsResult T.follows) fault (owner_state core.old (received_by inbox.old) output)
+        (owner_state core.new (received_by inbox.new) output)) }
+    ensures channel { IsSameInbox inbox.new inbox.old }
+{
+    let Some(first) = dispatcher.spin_wait.wait(rt, inbox, core.under_way()) else {
+        return Err(ServeFault::Read);
+    };
+    let mut state = match handle_message(alloc, core, first, state, &mut dispatcher.buffer) {
+        Ok(state) => state,
+        Err(fault) => return Err(fault),
+    };
+    'messages: for _ in 1..WAITING {
+        let Some(message) = inbox.try_recv(rt) else {
+            return Ok(state);
+        };
+        match handle_message(alloc, core, message, state, &mut dispatcher.buffer) {
+            Ok(next) => state = next,
+            Err(fault) => return Err(fault),
+        }
+    }
+    Ok(state)
+}
+
+// Feeds the piece to the core, and lets the room for the next one follow it, or answers a request
+// with what came of its task. Gives what is known then of the client's bytes.
+fn handle_message<T: Target>(
+    alloc: Global,
+    core: &mut SessionCore,
+    message: Message<JobResult<T>>,
+    state: ReadState,
+    room: &mut ReadBuffer,
+) -> Result<ReadState, ServeFault>
+    ensures ok { IfOk result (λ next. Hears (IsResult T.follows) core.old message core.new) }
+    ensures learned { IfOk result (λ next. IsLearned next state message) }
+    ensures cause { IfErr result (λ fault. IsCausedBy fault message) }
+    ensures err { IfErr result (λ fault. core.new ≡ core.old) }
+{
+    match message {
+        Message::Outcome(called) => match answer(alloc, core, called) {
+            Ok(()) => Ok(state),
+            Err(fault) => Err(fault),
+        },
+        Message::Piece(Piece::Bytes(bytes)) => match core.feed(alloc, bytes.as_slice()) {
+            Ok(()) => {
+                room.follow(alloc, bytes);
+                Ok(ReadState::Idle)
+            }
+            Err(_) => Err(ServeFault::Memory),
+        },
+        Message::Piece(Piece::Ended) => Ok(ReadState::Eof),
+        Message::Piece(Piece::Failed) => Err(ServeFault::Read),
+    }
+}
+
+// Answers the request with the result of its task. One that is not outstanding stays as it is. The
+// result of another task than the request's never comes; it would break the session off.
+pub(crate) fn answer<T: Target>(
+    alloc: Global,
+    core: &mut SessionCore,
+    done: JobResult<T>,
+) -> Result<(), ServeFault>
+    ensures ok { OnOk result (Settles (IsResult T.follows) core.old done core.new) }
+    ensures memory { IfErr result (λ fault. fault ≡ Memory) }
+    ensures err { IfErr result (λ fault. core.new ≡ core.old) }
+{
+    let called = done.into_called();
+    let index = called.index();
+    if !core.has_task(index, called.task()) {
+        return Err(ServeFault::Memory);
+    }
+    match core.answer(alloc, index, called.into_outcome()) {
+        Ok(()) => Ok(()),
+        Err((Refused::Memory, _)) => Err(ServeFault::Memory),
+        Err(_) => Ok(()),
+    }
+}
