@@ -39,7 +39,7 @@ script:
 
 check:
 	@echo 'Proving every crate and its tests from nothing, then the must-fail edits, the tests and the programs.'
-	@echo 'This takes about an hour on 4 cores; a line comes as each crate, edit and run ends, and out/gate.log has the rest.'
+	@echo 'This takes an hour to an hour and a half on 4 cores; a line comes as each crate, edit and run ends, and out/gate.log has the rest.'
 	@tools/gate
 
 gate-cost:
