@@ -1,45 +1,37 @@
 -- One try of a step, and then another.
-use Rattle.std.proofs.Common.{◌≡◌, ℕ, true, false, None, List, [], ◌∷◌, ◌++◌, refl, rules}
+use Rattle.std.proofs.Common.{◌≡◌, ℕ, Ok, true, false, None, List, [], ◌∷◌, ◌++◌, refl, rules}
 use Rattle.nm_rules.specs.declared.refusal.Refusal.{Refusal}
 use Rattle.nm_rules.specs.declared.refusal.Refusal.TheVariants as refusal
 use Rattle.nm_stripe.specs.declared.answer.Answer.{Answer}
-use Rattle.nm_stripe.specs.declared.answer.Answer.TheVariants.{Refused, LegLost}
-use Rattle.nm_stripe.specs.declared.answer.Handed.{Handed}
 use Rattle.nm_stripe.specs.declared.step.Step.{Step}
 use Rattle.nm_stripe.specs.declared.step.Step.TheVariants.{Sync}
+use Rattle.nm_stripe.specs.declared.sync.Syncing.{Syncing}
+use Rattle.nm_stripe.specs.declared.sync.Syncing.TheVariants as syncing
 use Rattle.nm_stripe.specs.Flush.{SyncsLeg}
-use Rattle.nm_lanes.specs.declared.cause_kind.CauseKind.{CauseKind}
+use Rattle.nm_lanes.specs.Answers.{answer_of_sync, lost_with_nothing, refused_with_nothing}
 use Rattle.nm_lanes.specs.Done.{Done, done_as}
-use Rattle.nm_lanes.specs.Own.{end_of, ends_with, finds_out, helps, EndsSo}
-use Rattle.nm_lanes.specs.Lane.{LaneDoes, LaneStops}
-use Rattle.nm_lanes.specs.Steps.{Nobodys, EndsHere, IsRefused, LosesLeg, Completes}
-use Rattle.nm_lanes.proofs.LaneLemmas.{does-own, does-does, refused-goes, refused-ends}
+use Rattle.nm_lanes.specs.Own.{end_of, finds_out, helps}
+use Rattle.nm_lanes.specs.Lane.{LaneDoes}
+use Rattle.nm_lanes.specs.Steps.{Completes}
+use Rattle.nm_lanes.proofs.LaneLemmas.{does-own, does-does}
 
 -- a refused sync only helps, unless it found the leg out
-pub sync-helps : {L : Type 0} (leg : ℕ) (r : Refusal) (handed : Handed L) → end_of r ≡ None → finds_out r ≡ false → helps (Sync leg) (Refused r handed) ≡ true
-sync-helps leg r handed e other = rw (e, other) refl
+pub sync-helps : (L : Type 0) (leg : ℕ) (r : Refusal) → end_of r ≡ None → finds_out r ≡ false → helps {L = L} (Sync leg) (refused_with_nothing r) ≡ true
+sync-helps L leg r e other = rw (e, other) refl
 
-module _ {L D : Type 0} (follows : D → List (Done L) → D → Type 0)
-    (joins : (first mid last : D) (before after : List (Done L)) → follows first before mid → follows mid after last → follows first (before ++ after) last) where
-  -- a refused step, and what helped after it
-  pub turn-goes : (old mid new : D) (step : Step L) (r : Refusal) → IsRefused follows old mid step r → ((handed : Handed L) → helps step (Refused r handed) ≡ true)
-      → LaneDoes follows mid new [] → LaneDoes follows old new []
-  turn-goes old mid new step r met is after = refused-goes follows joins old mid new step (Refused r met.handed) met.leads (is met.handed) after
+-- tries, and the one that succeeded
+pub does-completes : {L D : Type 0} (follows : D → List (Done L) → D → Type 0)
+    (joins : (first mid last : D) (before after : List (Done L)) → follows first before mid → follows mid after last → follows first (before ++ after) last)
+    (old mid new : D) (step : Step L) (IsAnswer : Answer L → Type 0) → LaneDoes follows old mid [] → Completes follows mid new step IsAnswer → Completes follows old new step IsAnswer
+does-completes follows joins old mid new step IsAnswer a b = record { answer = b.answer; does = does-does follows joins old mid new [] (done_as step b.answer ∷ []) a b.does; is_answer = b.is_answer }
 
-  -- a refused step, and the end of the call
-  pub turn-ends : (old mid new : D) (step : Step L) (r : Refusal) (kind : CauseKind) → IsRefused follows old mid step r → ((handed : Handed L) → ends_with step (Refused r handed) ≡ end_of r)
-      → (end_of r ≡ None → (handed : Handed L) → helps step (Refused r handed) ≡ true) → EndsHere follows (mid, new) r kind → LaneStops follows old new [] (EndsSo Nobodys kind)
-  turn-ends old mid new step r kind met meant is after =
-      refused-ends follows joins old mid new step (Refused r met.handed) r kind met.leads (meant met.handed) (λ e. is e met.handed) after
+module _ {L D : Type 0} (follows : D → List (Done L) → D → Type 0) (old new : D) (leg : ℕ) where
+  -- a sync that was done, or lost its leg
+  pub sync-done : (did : Syncing) → follows old (done_as (Sync leg) (answer_of_sync (Ok did)) ∷ []) new → Completes follows old new (Sync leg) (SyncsLeg leg (Sync leg))
+  sync-done syncing.Synced leads = record { answer = answer_of_sync (Ok syncing.Synced); does = does-own follows old new (Sync leg) (answer_of_sync (Ok syncing.Synced)) leads refl; is_answer = refl }
+  sync-done (syncing.LegLost gone) leads = record { answer = lost_with_nothing gone; does = does-own follows old new (Sync leg) (lost_with_nothing gone) leads refl; is_answer = refl }
 
-  -- tries, and the one that succeeded
-  pub does-completes : (old mid new : D) (step : Step L) (IsAnswer : Answer L → Type 0) → LaneDoes follows old mid [] → Completes follows mid new step IsAnswer → Completes follows old new step IsAnswer
-  does-completes old mid new step IsAnswer a b = record { answer = b.answer; does = does-does follows joins old mid new [] (done_as step b.answer ∷ []) a b.does; is_answer = b.is_answer }
-
--- a sync that lost its leg, or found it out, is done
-pub syncs-lost : {L D : Type 0} (follows : D → List (Done L) → D → Type 0) (old new : D) (leg : ℕ) → LosesLeg follows old new (Sync leg) → Completes follows old new (Sync leg) (SyncsLeg leg (Sync leg))
-syncs-lost follows old new leg a = record { answer = LegLost a.leg a.handed; does = does-own follows old new (Sync leg) (LegLost a.leg a.handed) a.leads refl; is_answer = refl }
-
-pub syncs-out : {L D : Type 0} (follows : D → List (Done L) → D → Type 0) (old new : D) (leg : ℕ) (r : Refusal) → finds_out r ≡ true → IsRefused follows old new (Sync leg) r → Completes follows old new (Sync leg) (SyncsLeg leg (Sync leg))
-syncs-out follows old new leg refusal.AlreadyOut is a = record { answer = Refused refusal.AlreadyOut a.handed; does = does-own follows old new (Sync leg) (Refused refusal.AlreadyOut a.handed) a.leads refl; is_answer = refl }
-syncs-out follows old new leg r is a = search (rules, is)
+  -- or that found its leg out
+  pub syncs-out : (r : Refusal) → finds_out r ≡ true → follows old (done_as (Sync leg) (refused_with_nothing r) ∷ []) new → Completes follows old new (Sync leg) (SyncsLeg leg (Sync leg))
+  syncs-out refusal.AlreadyOut is leads = record { answer = refused_with_nothing refusal.AlreadyOut; does = does-own follows old new (Sync leg) (refused_with_nothing refusal.AlreadyOut) leads refl; is_answer = refl }
+  syncs-out r is leads = search (rules, is)

@@ -1,6 +1,5 @@
 pub mod Done
-pub mod Fits
-pub mod Found
+pub mod Answers
 pub mod Told
 pub mod Hinders
 pub mod Own

@@ -1,20 +1,13 @@
--- What one step of a call met, as the call goes on from it.
+-- What a call does on a lane for one step of its own, however often it is tried.
 use Rattle.std.specs.Prelude.{Result, Ok, Err, ◌≡◌, ◌⊎◌, ℕ, Bool, true, false, List, [], ◌∷◌, Some}
 use Rattle.std.specs.Prelude.{None}
 use Rattle.nm_rules.specs.declared.refusal.Refusal.{Refusal}
 use Rattle.nm_stripe.specs.declared.answer.Answer.{Answer}
-use Rattle.nm_stripe.specs.declared.answer.Answer.TheVariants.{Begun as BegunAs, LegLost, Written}
-use Rattle.nm_stripe.specs.declared.answer.Answer.TheVariants.{Refused as RefusedAs}
-use Rattle.nm_stripe.specs.declared.answer.Handed.{Handed}
+use Rattle.nm_stripe.specs.declared.answer.Answer.TheVariants.{Begun, Written}
 use Rattle.nm_stripe.specs.declared.step.Step.{Step}
 use Rattle.nm_stripe.specs.declared.step.Step.TheVariants.{Begin, Claim}
 use Rattle.nm_fanout.specs.declared.block_data.Data.{Data}
 use Rattle.nm_lanes.specs.declared.cause_kind.CauseKind.{CauseKind}
-use Rattle.nm_lanes.specs.declared.beginning.Beginning.{Beginning}
-use Rattle.nm_lanes.specs.declared.beginning.Beginning.TheVariants.{Begun, Lost as BeginLost}
-use Rattle.nm_lanes.specs.declared.beginning.Beginning.TheVariants.{Refused as BeginRefused}
-use Rattle.nm_lanes.specs.declared.met.Met.{Met}
-use Rattle.nm_lanes.specs.declared.met.Met.TheVariants.{Done as Success, Lost, Refused}
 use Rattle.nm_lanes.specs.Done.{Done, done_as}
 use Rattle.nm_lanes.specs.Own.{end_of, EndsSo}
 use Rattle.nm_lanes.specs.Lane.{LaneDoes, LaneStops}
@@ -27,34 +20,6 @@ IsWritten answer = ⊥
 -- no ticket is ours
 abbrev pub Nobodys : ℕ → Type 0
 Nobodys ticket = ⊥
-
--- the step was done, with an answer of this kind
-pub record Succeeds {L D : Type 0} (follows : D → List (Done L) → D → Type 0) (old new : D)
-    (step : Step L) (IsAnswer : Answer L → Type 0) : Type 0 where
-  pub answer : Answer L
-  pub leads : follows old (done_as step answer ∷ []) new
-  pub is_answer : IsAnswer answer
-
--- the step was refused so
-pub record IsRefused {L D : Type 0} (follows : D → List (Done L) → D → Type 0) (old new : D)
-    (step : Step L) (refusal : Refusal) : Type 0 where
-  pub handed : Handed L
-  pub leads : follows old (done_as step (RefusedAs refusal handed) ∷ []) new
-
--- the step lost a leg
-pub record LosesLeg {L D : Type 0} (follows : D → List (Done L) → D → Type 0) (old new : D)
-    (step : Step L) : Type 0 where
-  pub leg : ℕ
-  pub handed : Handed L
-  pub leads : follows old (done_as step (LegLost leg handed) ∷ []) new
-
--- the step was done with an answer of this kind, lost a leg or was refused, as it is told
-abbrev pub Meets : {L D : Type 0} → (D → List (Done L) → D → Type 0) → D × D
-    → Step L → (Answer L → Type 0) → Met → Type 0
-Meets follows lanes step IsAnswer Success = Succeeds follows lanes.0 lanes.1 step IsAnswer
-Meets follows lanes step IsAnswer Lost = LosesLeg follows lanes.0 lanes.1 step
-Meets follows lanes step IsAnswer (Refused refusal) =
-    IsRefused follows lanes.0 lanes.1 step refusal
 
 -- a refusal that ends the call, before anything else was done; or it does not, and a step that
 -- should help on ended the call
@@ -78,21 +43,11 @@ abbrev pub Turns : {L D : Type 0} → (D → List (Done L) → D → Type 0) →
 Turns follows lanes step IsAnswer true = Completes follows lanes.0 lanes.1 step IsAnswer
 Turns follows lanes step IsAnswer false = LaneDoes follows lanes.0 lanes.1 []
 
--- what the begin of a write met: it began under this ticket, or its data have come back
-abbrev pub BeginsSo : {L D : Type 0} → (D → List (Done L) → D → Type 0) → D × D
-    → ℕ → Data → Beginning → Type 0
-BeginsSo follows lanes block bytes (Begun ticket) =
-    follows lanes.0 (done_as (Begin block bytes) (BegunAs ticket) ∷ []) lanes.1
-BeginsSo follows lanes block bytes (BeginLost handed) =
-    (handed ≡ bytes) × LosesLeg follows lanes.0 lanes.1 (Begin block bytes)
-BeginsSo follows lanes block bytes (BeginRefused refusal handed) =
-    (handed ≡ bytes) × IsRefused follows lanes.0 lanes.1 (Begin block bytes) refusal
-
 -- a write began, and nothing else was done but such as helps
 abbrev pub LaneBegins : {L D : Type 0} → (D → List (Done L) → D → Type 0) → D × D
     → ℕ → Data → ℕ → Type 0
 LaneBegins follows lanes block bytes ticket =
-    LaneDoes follows lanes.0 lanes.1 (done_as (Begin block bytes) (BegunAs ticket) ∷ [])
+    LaneDoes follows lanes.0 lanes.1 (done_as (Begin block bytes) (Begun ticket) ∷ [])
 
 -- a write began under this ticket, or nothing was done but such as helps and its data have come
 -- back
@@ -112,7 +67,7 @@ pub record LaneWrites {L D : Type 0} (follows : D → List (Done L) → D → Ty
   pub ticket : ℕ
   pub answer : Answer L
   pub does : LaneDoes follows old new
-      (done_as (Begin block bytes) (BegunAs ticket) ∷ done_as (Claim ticket) answer ∷ [])
+      (done_as (Begin block bytes) (Begun ticket) ∷ done_as (Claim ticket) answer ∷ [])
   pub written : IsWritten answer
 
 -- the call ended in a write: before it began, or after its begin
@@ -121,5 +76,5 @@ abbrev pub LaneWriteStops : {L D : Type 0} → (D → List (Done L) → D → Ty
 LaneWriteStops {L} follows lanes block bytes kind =
     LaneStops {L = L} follows lanes.0 lanes.1 [] (EndsSo Nobodys kind)
     ⊎ ((ticket : ℕ)
-    × LaneStops follows lanes.0 lanes.1 (done_as (Begin block bytes) (BegunAs ticket) ∷ [])
+    × LaneStops follows lanes.0 lanes.1 (done_as (Begin block bytes) (Begun ticket) ∷ [])
     (EndsSo (Only ticket) kind))

@@ -1,36 +1,71 @@
 ghost use Rattle.std.specs.Prelude.{List, [], ◌∷◌, ◌++◌};
+ghost use Rattle.nm_stripe.specs.declared.step.Step.TheVariants as step;
+ghost use Rattle.nm_stripe.specs.Read.{LeavesTarget};
+ghost use Rattle.nm_lanes.specs.Answers.{answer_of_begin, answer_of_claim, answer_of_copy};
+ghost use Rattle.nm_lanes.specs.Answers.{answer_of_push, answer_of_read, answer_of_sync, HandsBack};
 ghost use Rattle.nm_lanes.specs.Done.{Done, done_as};
-ghost use Rattle.nm_lanes.specs.Fits.{AnswerFits};
-ghost use Rattle.nm_lanes.specs.Found.{FindsBlock};
 
-use crate::found::Found;
+use nm_fanout::Data;
 use nm_leg::LegPart;
 use nm_replay::Block;
-use nm_stripe::{Answer, Step};
+use nm_rules::Refusal;
+use nm_stripe::{Beginning, Copying, Reach, Reading, Syncing, Written};
 use std::sync::Wait;
 
 /// One stripe's access path: it does steps on the stripe behind a lock, one hold of the lock for
 /// each.
 ///
 /// `K` is the lock. Between two calls no lock is held, and others may do steps of their own on the
-/// stripe; so what a lane knows is the list of its own steps with their answers.
+/// stripe; so what a lane knows is the list of its own steps with their answers. A step that the
+/// stripe may not be asked for, whose block or leg is not there, is refused as `Astray`.
 pub trait Lane<L: LegPart, K> {
     /// These steps, answered so, lead from one state of the lane to another.
     ghost follows: { Self → List (Done L) → Self → Type 0 };
 
-    /// Does one step on the stripe behind the lock, in one hold of it.
-    ///
-    /// A step that the stripe may not be asked for, whose block or leg is not there, is refused as
-    /// `Astray`.
-    fn step<R: Wait>(&mut self, rt: &R, lock: &K, step: Step<L>) -> Answer<L>
-        ensures follows { follows self.old (done_as «step» result ∷ []) self.new }
-        ensures fits { AnswerFits «step» result };
+    /// Begins a write of this block, or of a part of it. Where it does not begin its data come
+    /// back.
+    fn begin<R: Wait>(
+        &mut self,
+        rt: &R,
+        lock: &K,
+        block: u64,
+        data: Data,
+    ) -> Result<Beginning, (Refusal, Data)>
+        ensures follows { follows self.old
+            (done_as (step.Begin block «data») (answer_of_begin result) ∷ []) self.new }
+        ensures handed_back { HandsBack «data» result };
 
-    /// Does the step `Step::Read` of this block, in one hold of the lock, and puts the bytes of a
-    /// value into `into`. A leg that failed leaves any bytes there; any other refusal leaves it as
-    /// it was.
-    fn read<R: Wait>(&mut self, rt: &R, lock: &K, block: u64, into: &mut Block) -> Found
-        ensures { FindsBlock follows (self.old, self.new) block (into.old, into.new) result };
+    /// Pushes a write to a leg.
+    fn push<R: Wait>(&mut self, rt: &R, lock: &K, ticket: u64, leg: u8) -> Result<Reach, Refusal>
+        ensures follows { follows self.old
+            (done_as (step.Push ticket leg) (answer_of_push result) ∷ []) self.new };
+
+    /// Claims a finished write.
+    fn claim<R: Wait>(&mut self, rt: &R, lock: &K, ticket: u64) -> Result<Written<L>, Refusal>
+        ensures follows { follows self.old
+            (done_as (step.Claim ticket) (answer_of_claim result) ∷ []) self.new };
+
+    /// Reads a block into `into`. `LeavesTarget` says where `into` is as it was.
+    fn read<R: Wait>(
+        &mut self,
+        rt: &R,
+        lock: &K,
+        block: u64,
+        into: &mut Block,
+    ) -> Result<Reading<L>, Refusal>
+        ensures follows { follows self.old
+            (done_as (step.Read block) (answer_of_read result into.new) ∷ []) self.new }
+        ensures target { LeavesTarget result into.old into.new };
+
+    /// Syncs a leg.
+    fn sync<R: Wait>(&mut self, rt: &R, lock: &K, leg: u8) -> Result<Syncing, Refusal>
+        ensures follows { follows self.old
+            (done_as (step.Sync leg) (answer_of_sync result) ∷ []) self.new };
+
+    /// Does a step of the copy to a leg.
+    fn copy<R: Wait>(&mut self, rt: &R, lock: &K, leg: u8) -> Result<Copying, Refusal>
+        ensures follows { follows self.old
+            (done_as (step.Copy leg) (answer_of_copy result) ∷ []) self.new };
 
     /// The lowest leg that a write still has to reach, with the write's ticket: of this ticket, or
     /// of the lowest ticket under way where none is given. One hold of the lock.

@@ -1,30 +1,26 @@
 //! One step of a call on one lane.
-ghost use Rattle.std.specs.Prelude.{◌≡◌, ◌+◌, ◌≤◌, [], ◌∷◌, length, take, drop, IfErr, OnOk};
+ghost use Rattle.std.specs.Prelude.{◌≡◌, [], ◌∷◌, IfErr, OnOk};
 ghost use Rattle.nm_stripe.specs.declared.step.Step.TheVariants as step;
-ghost use Rattle.nm_stripe.specs.declared.answer.Answer.TheVariants as answer;
-ghost use Rattle.nm_lanes.specs.Done.{Done, done_as};
-ghost use Rattle.nm_lanes.specs.Fits.{AnswerFits};
-ghost use Rattle.nm_lanes.specs.Found.{FindsBlock};
+ghost use Rattle.nm_lanes.specs.Answers.{answer_of_begin, answer_of_claim, answer_of_copy};
+ghost use Rattle.nm_lanes.specs.Answers.{answer_of_push, answer_of_read, answer_of_sync, HandsBack};
+ghost use Rattle.nm_lanes.specs.Done.{done_as};
 ghost use Rattle.nm_lanes.specs.Lane.{LaneDoes, LaneStops};
 ghost use Rattle.nm_lanes.specs.Own.{EndsSo};
-ghost use Rattle.nm_lanes.specs.Reads.{IsValue, value_bytes};
-ghost use Rattle.nm_lanes.specs.Steps.{Nobodys, Meets, IsWritten, BeginsSo};
-ghost use Rattle.nm_lanes.specs.Told.{number_of};
+ghost use Rattle.nm_lanes.specs.Steps.{Nobodys};
+ghost use Rattle.nm_lanes.specs.Told.{number_claimed, number_read};
 
-use crate::beginning::Beginning;
 use crate::call_kind::CallKind;
 use crate::cause_kind::CauseKind;
-use crate::found::Found;
 use crate::gate::Gate;
 use crate::hindrance::end_of;
 use crate::lane::Lane;
-use crate::met::Met;
 use crate::place::Place;
 use crate::step_kind::StepKind;
 use nm_fanout::Data;
 use nm_leg::LegPart;
 use nm_replay::Block;
-use nm_stripe::{Answer, Handed, Step};
+use nm_rules::Refusal;
+use nm_stripe::{Beginning, Copying, Reach, Reading, Syncing, Written};
 use std::sync::Wait;
 
 /// Where a call is at work: the lock of one stripe, and what the gate is told.
@@ -39,95 +35,126 @@ pub(crate) struct Site<'a, R, G, K> {
     pub(crate) block: Option<u64>,
 }
 
-/// The number of the entry that a step was given.
-#[inline(always)]
-fn number_of<L>(answer: &Answer<L>) -> Option<u64>
-    ensures { result ≡ number_of answer.now }
+/// The number of the entry that a claim was given.
+fn number_claimed<L>(claimed: &Result<Written<L>, Refusal>) -> Option<u64>
+    ensures { result ≡ number_claimed claimed.now }
 {
-    match answer {
-        Answer::Value(value) => Some(value.number()),
-        Answer::Written(written) => Some(written.number()),
+    match claimed {
+        Ok(written) => Some(written.number()),
+        Err(_) => None,
+    }
+}
+
+/// The number of the entry that a read was given.
+fn number_read<L>(read: &Result<Reading<L>, Refusal>) -> Option<u64>
+    ensures { result ≡ number_read read.now }
+{
+    match read {
+        Ok(Reading::Value(receipt)) => Some(receipt.number()),
         _ => None,
     }
 }
 
+/// Each step, and then the gate.
 impl<R: Wait, G: Gate, K> Site<'_, R, G, K> {
-    /// One step, and then the gate.
-    #[inline(always)]
-    fn step<L: LegPart, D: Lane<L, K>>(&self, lane: &mut D, step: Step<L>) -> Answer<L>
-        ensures follows { D.follows lane.old (done_as «step» result ∷ []) lane.new }
-        ensures fits { AnswerFits «step» result }
-    {
-        let kind = StepKind::of(&step);
-        let answer = lane.step(self.rt, self.lock, step);
+    /// Tells the gate of a step that was done, and of the entry that it was given.
+    fn pass_gate(&self, step: StepKind, number: Option<u64>) {
         self.gate.between(&Place {
             pass: self.pass,
             call: self.call,
             stripe: self.stripe,
             block: self.block,
-            step: kind,
-            number: number_of(&answer),
+            step,
+            number,
         });
-        answer
     }
 
-    /// One read of a block, and then the gate.
-    #[inline(always)]
-    fn read<L: LegPart, D: Lane<L, K>>(&self, lane: &mut D, block: u64, into: &mut Block) -> Found
-        ensures { FindsBlock D.follows (lane.old, lane.new) block (into.old, into.new) result }
-    {
-        let found = lane.read(self.rt, self.lock, block, into);
-        self.gate.between(&Place {
-            pass: self.pass,
-            call: self.call,
-            stripe: self.stripe,
-            block: self.block,
-            step: StepKind::Read,
-            number: found.number(),
-        });
-        found
-    }
-
-    /// Reads a block into the spare one, and puts what it holds from one place on into the target.
-    pub(crate) fn try_read<L: LegPart, D: Lane<L, K>>(
+    /// Begins a write.
+    pub(crate) fn begin<L: LegPart, D: Lane<L, K>>(
         &self,
         lane: &mut D,
         block: u64,
-        from: u16,
-        into: &mut [u8],
-        spare: &mut Block,
-    ) -> Met
-        requires { from + length into.old ≤ 512 }
-        ensures { Meets D.follows (lane.old, lane.new) (step.Read block) (λ told.
-            IsValue told
-            × (into.new ≡ take (length into.old) (drop from (value_bytes told)))) result }
+        slice: Data,
+    ) -> Result<Beginning, (Refusal, Data)>
+        ensures follows { D.follows lane.old
+            (done_as (step.Begin block slice) (answer_of_begin result) ∷ []) lane.new }
+        ensures handed_back { HandsBack slice result }
     {
-        match self.read(lane, block, spare) {
-            Found::Value(_) => {
-                let from = from as usize;
-                into.copy_from_slice(&spare.0[from..from + into.len()]);
-                Met::Done
-            }
-            Found::LegLost(_) => Met::Lost,
-            Found::Refused(refusal) => Met::Refused(refusal),
-        }
+        let begun = lane.begin(self.rt, self.lock, block, slice);
+        self.pass_gate(StepKind::Begin, None);
+        begun
+    }
+
+    /// Pushes a write to a leg.
+    fn push<L: LegPart, D: Lane<L, K>>(
+        &self,
+        lane: &mut D,
+        ticket: u64,
+        leg: u8,
+    ) -> Result<Reach, Refusal>
+        ensures follows { D.follows lane.old
+            (done_as (step.Push ticket leg) (answer_of_push result) ∷ []) lane.new }
+    {
+        let pushed = lane.push(self.rt, self.lock, ticket, leg);
+        self.pass_gate(StepKind::Push, None);
+        pushed
+    }
+
+    /// Claims a write.
+    pub(crate) fn claim<L: LegPart, D: Lane<L, K>>(
+        &self,
+        lane: &mut D,
+        ticket: u64,
+    ) -> Result<Written<L>, Refusal>
+        ensures follows { D.follows lane.old
+            (done_as (step.Claim ticket) (answer_of_claim result) ∷ []) lane.new }
+    {
+        let claimed = lane.claim(self.rt, self.lock, ticket);
+        self.pass_gate(StepKind::Claim, number_claimed(&claimed));
+        claimed
+    }
+
+    /// Reads a block.
+    pub(crate) fn read<L: LegPart, D: Lane<L, K>>(
+        &self,
+        lane: &mut D,
+        block: u64,
+        into: &mut Block,
+    ) -> Result<Reading<L>, Refusal>
+        ensures follows { D.follows lane.old
+            (done_as (step.Read block) (answer_of_read result into.new) ∷ []) lane.new }
+    {
+        let read = lane.read(self.rt, self.lock, block, into);
+        self.pass_gate(StepKind::Read, number_read(&read));
+        read
     }
 
     /// Syncs a leg.
-    pub(crate) fn try_sync<L: LegPart, D: Lane<L, K>>(&self, lane: &mut D, leg: u8) -> Met
-        ensures { Meets D.follows (lane.old, lane.new) (step.Sync leg)
-            (λ told. told ≡ answer.Synced) result }
+    pub(crate) fn sync<L: LegPart, D: Lane<L, K>>(
+        &self,
+        lane: &mut D,
+        leg: u8,
+    ) -> Result<Syncing, Refusal>
+        ensures follows { D.follows lane.old
+            (done_as (step.Sync leg) (answer_of_sync result) ∷ []) lane.new }
     {
-        match self.step(lane, Step::Sync(leg)) {
-            Answer::Synced => Met::Done,
-            Answer::LegLost(_, _) => Met::Lost,
-            Answer::Refused(refusal, _) => Met::Refused(refusal),
-            _ => unreachable!(),
-        }
+        let synced = lane.sync(self.rt, self.lock, leg);
+        self.pass_gate(StepKind::Sync, None);
+        synced
     }
 
-    /// Pushes a write to a leg: true once the write has reached its last one. Refused by no end of
-    /// the call, it was no use, and no harm.
+    /// Does a step of the copy to a leg.
+    fn copy<L: LegPart, D: Lane<L, K>>(&self, lane: &mut D, leg: u8) -> Result<Copying, Refusal>
+        ensures follows { D.follows lane.old
+            (done_as (step.Copy leg) (answer_of_copy result) ∷ []) lane.new }
+    {
+        let copied = lane.copy(self.rt, self.lock, leg);
+        self.pass_gate(StepKind::Copy, None);
+        copied
+    }
+
+    /// Pushes a write to a leg: true once the write has reached its last one. A refusal that does
+    /// not end the call is harmless.
     pub(crate) fn try_push<L: LegPart, D: Lane<L, K>>(
         &self,
         lane: &mut D,
@@ -138,20 +165,19 @@ impl<R: Wait, G: Gate, K> Site<'_, R, G, K> {
         ensures err { IfErr result (λ kind.
             LaneStops D.follows lane.old lane.new [] (EndsSo Nobodys kind)) }
     {
-        match self.step(lane, Step::Push(ticket, leg)) {
-            Answer::Pushed(_) => Ok(false),
-            Answer::Complete(_) => Ok(true),
-            Answer::LegLost(_, _) => Ok(false),
-            Answer::Halted => Err(CauseKind::Halted),
-            Answer::Refused(refusal, _) => match end_of(refusal) {
+        match self.push(lane, ticket, leg) {
+            Ok(Reach::Pushed(_)) => Ok(false),
+            Ok(Reach::Complete(_)) => Ok(true),
+            Ok(Reach::LegLost(_)) => Ok(false),
+            Ok(Reach::Halted) => Err(CauseKind::Halted),
+            Err(refusal) => match end_of(refusal) {
                 Some(kind) => Err(kind),
                 None => Ok(false),
             },
-            _ => unreachable!(),
         }
     }
 
-    /// Does a step of the copy to a leg.
+    /// Does a step of the copy to a leg. A refusal that does not end the call is harmless.
     pub(crate) fn try_copy<L: LegPart, D: Lane<L, K>>(
         &self,
         lane: &mut D,
@@ -161,43 +187,14 @@ impl<R: Wait, G: Gate, K> Site<'_, R, G, K> {
         ensures err { IfErr result (λ kind.
             LaneStops D.follows lane.old lane.new [] (EndsSo Nobodys kind)) }
     {
-        match self.step(lane, Step::Copy(leg)) {
-            Answer::Copied(_) => Ok(()),
-            Answer::Nothing => Ok(()),
-            Answer::LegLost(_, _) => Ok(()),
-            Answer::Refused(refusal, _) => match end_of(refusal) {
+        match self.copy(lane, leg) {
+            Ok(Copying::Copied(_)) => Ok(()),
+            Ok(Copying::Nothing) => Ok(()),
+            Ok(Copying::LegLost(_)) => Ok(()),
+            Err(refusal) => match end_of(refusal) {
                 Some(kind) => Err(kind),
                 None => Ok(()),
             },
-            _ => unreachable!(),
-        }
-    }
-
-    /// Claims a write.
-    pub(crate) fn try_claim<L: LegPart, D: Lane<L, K>>(&self, lane: &mut D, ticket: u64) -> Met
-        ensures { Meets D.follows (lane.old, lane.new) (step.Claim ticket) IsWritten result }
-    {
-        match self.step(lane, Step::Claim(ticket)) {
-            Answer::Written(_) => Met::Done,
-            Answer::Refused(refusal, _) => Met::Refused(refusal),
-            _ => unreachable!(),
-        }
-    }
-
-    /// Begins a write.
-    pub(crate) fn try_begin<L: LegPart, D: Lane<L, K>>(
-        &self,
-        lane: &mut D,
-        block: u64,
-        slice: Data,
-    ) -> Beginning
-        ensures { BeginsSo D.follows (lane.old, lane.new) block slice result }
-    {
-        match self.step(lane, Step::Begin(block, slice)) {
-            Answer::Begun(ticket) => Beginning::Begun(ticket),
-            Answer::LegLost(_, Handed::Data(slice)) => Beginning::Lost(slice),
-            Answer::Refused(refusal, Handed::Data(slice)) => Beginning::Refused(refusal, slice),
-            _ => unreachable!(),
         }
     }
 }

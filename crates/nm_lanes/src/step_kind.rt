@@ -1,8 +1,3 @@
-ghost use Rattle.std.specs.Prelude.{◌≡◌};
-ghost use Rattle.nm_lanes.specs.Told.{kind_of};
-
-use nm_stripe::Step;
-
 /// What kind of step a stripe was asked for.
 #[derive(Debug, Clone, Copy, PartialEq, Eq, Drop)]
 pub enum StepKind {
@@ -26,25 +21,4 @@ pub enum StepKind {
     Promote,
     /// A leg is synced.
     Sync,
-}
-
-impl StepKind {
-    /// The kind of this step.
-    #[inline(always)]
-    pub fn of<L>(step: &Step<L>) -> Self
-        ensures { result ≡ kind_of «step».now }
-    {
-        match step {
-            Step::Begin(_, _) => StepKind::Begin,
-            Step::Push(_, _) => StepKind::Push,
-            Step::Claim(_) => StepKind::Claim,
-            Step::Read(_) => StepKind::Read,
-            Step::Fail(_) => StepKind::Fail,
-            Step::Attach(_) => StepKind::Attach,
-            Step::Replace(_, _) => StepKind::Replace,
-            Step::Copy(_) => StepKind::Copy,
-            Step::Promote(_) => StepKind::Promote,
-            Step::Sync(_) => StepKind::Sync,
-        }
-    }
 }

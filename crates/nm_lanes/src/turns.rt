@@ -11,14 +11,15 @@ use crate::cause_kind::CauseKind;
 use crate::gate::Gate;
 use crate::hindrance::finds_out;
 use crate::lane::Lane;
-use crate::met::Met;
 use crate::site::Site;
 use nm_leg::LegPart;
 use nm_replay::Block;
+use nm_stripe::Reading;
 use std::sync::Wait;
 
 impl<R: Wait, G: Gate, K> Site<'_, R, G, K> {
-    /// One try of a read: true where it found its block.
+    /// One try of a read of a block into the spare one: true where it was found, and what it holds
+    /// from one place on was put into the target.
     fn read_turn<L: LegPart, D: Lane<L, K>>(
         &self,
         lane: &mut D,
@@ -34,10 +35,14 @@ impl<R: Wait, G: Gate, K> Site<'_, R, G, K> {
         ensures err { IfErr result (λ kind.
             LaneStops D.follows lane.old lane.new [] (EndsSo Nobodys kind)) }
     {
-        match self.try_read(lane, block, from, into, spare) {
-            Met::Done => Ok(true),
-            Met::Lost => Ok(false),
-            Met::Refused(refusal) => {
+        match self.read(lane, block, spare) {
+            Ok(Reading::Value(_)) => {
+                let from = from as usize;
+                into.copy_from_slice(&spare.0[from..from + into.len()]);
+                Ok(true)
+            }
+            Ok(Reading::LegLost(_)) => Ok(false),
+            Err(refusal) => {
                 self.go_on(lane, refusal)?;
                 Ok(false)
             }
@@ -75,10 +80,9 @@ impl<R: Wait, G: Gate, K> Site<'_, R, G, K> {
         ensures err { IfErr result (λ kind.
             LaneStops D.follows lane.old lane.new [] (EndsSo Nobodys kind)) }
     {
-        match self.try_sync(lane, leg) {
-            Met::Done => Ok(true),
-            Met::Lost => Ok(true),
-            Met::Refused(refusal) => {
+        match self.sync(lane, leg) {
+            Ok(_) => Ok(true),
+            Err(refusal) => {
                 if finds_out(refusal) {
                     return Ok(true);
                 }

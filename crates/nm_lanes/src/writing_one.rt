@@ -6,15 +6,14 @@ ghost use Rattle.nm_lanes.specs.Own.{EndsSo};
 ghost use Rattle.nm_lanes.specs.Steps.{BeginTurns, Completes, IsWritten, LaneBegins, LaneWrites};
 ghost use Rattle.nm_lanes.specs.Steps.{LaneWriteStops, Nobodys, Only, Turns};
 
-use crate::beginning::Beginning;
 use crate::cause_kind::CauseKind;
 use crate::gate::Gate;
 use crate::hindrance::claim_end_of;
 use crate::lane::Lane;
-use crate::met::Met;
 use crate::site::Site;
 use nm_fanout::Data;
 use nm_leg::LegPart;
+use nm_stripe::Beginning;
 use std::sync::Wait;
 
 impl<R: Wait, G: Gate, K> Site<'_, R, G, K> {
@@ -29,10 +28,10 @@ impl<R: Wait, G: Gate, K> Site<'_, R, G, K> {
         ensures err { IfErr result (λ kind.
             LaneStops D.follows lane.old lane.new [] (EndsSo Nobodys kind)) }
     {
-        match self.try_begin(lane, block, slice) {
-            Beginning::Begun(ticket) => Ok(Ok(ticket)),
-            Beginning::Lost(slice) => Ok(Err(slice)),
-            Beginning::Refused(refusal, slice) => {
+        match self.begin(lane, block, slice) {
+            Ok(Beginning::Begun(ticket)) => Ok(Ok(ticket)),
+            Ok(Beginning::LegLost(_, slice)) => Ok(Err(slice)),
+            Err((refusal, slice)) => {
                 self.go_on(lane, refusal)?;
                 Ok(Err(slice))
             }
@@ -91,10 +90,9 @@ impl<R: Wait, G: Gate, K> Site<'_, R, G, K> {
         ensures err { IfErr result (λ kind.
             LaneStops D.follows lane.old lane.new [] (EndsSo (Only ticket) kind)) }
     {
-        match self.try_claim(lane, ticket) {
-            Met::Done => Ok(true),
-            Met::Lost => Ok(false),
-            Met::Refused(refusal) => {
+        match self.claim(lane, ticket) {
+            Ok(_) => Ok(true),
+            Err(refusal) => {
                 if let Some(kind) = claim_end_of(refusal) {
                     return Err(kind);
                 }

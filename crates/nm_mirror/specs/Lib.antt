@@ -1,4 +1,3 @@
-pub mod Asking
 pub mod Closing
 pub mod Counting
 pub mod Counts

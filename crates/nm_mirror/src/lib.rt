@@ -6,15 +6,14 @@
 //! of the mirror as a whole. What a caller needs of the crates below is handed on from here.
 #![tactic(auto)]
 
-pub use asking::{ask, ask_read};
 pub use counts::{AttachCounts, FailCounts};
 pub use glance::Glance;
 pub use lock::Lock;
 pub use mirror::Mirror;
 pub use nm_geometry::Shape;
 pub use nm_lanes::{
-    CallKind, Cause, CauseKind, Found, Gate, Lane, NoGate, Place, StepKind, WriteFault, flush_by,
-    laws, read_by, sync_by, write_by, zero_by,
+    CallKind, Cause, CauseKind, Gate, Lane, NoGate, Place, StepKind, WriteFault, flush_by, laws,
+    read_by, sync_by, write_by, zero_by,
 };
 pub use open_fault::OpenFault;
 pub use opening::{Opening, open_stripes};
@@ -25,7 +24,6 @@ pub use start::Start;
 pub use status::{LegStatus, StripeStatus};
 pub use totals::Totals;
 
-mod asking;
 mod calls;
 mod closing;
 mod counts;

@@ -1,5 +1,5 @@
 use nm_leg::LegPart;
-use nm_stripe::{Step, Stripe};
+use nm_stripe::Stripe;
 use std::hint::spin_loop;
 use std::sync::atomic::{AtomicBool, AtomicU64, Ordering};
 use std::sync::{Mutex, MutexGuard, Wait};
@@ -113,13 +113,9 @@ impl<L: LegPart> Lock<L> {
         }
     }
 
-    /// Notes a step that is done now: one that may write to a leg, or a sync.
+    /// Notes that a sync begins.
     #[inline(always)]
-    pub(crate) fn note(&self, step: &Step<L>) {
-        match step {
-            Step::Push(_, _) | Step::Copy(_) => self.note_write(),
-            Step::Sync(_) => self.unsynced.store(false, Ordering::SeqCst),
-            _ => (),
-        }
+    pub(crate) fn note_sync(&self) {
+        self.unsynced.store(false, Ordering::SeqCst);
     }
 }

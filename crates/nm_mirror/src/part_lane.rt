@@ -1,18 +1,20 @@
 //! The part of a pass as a lane over its stripe's lock.
 ghost use Rattle.std.specs.Prelude.{◌≡◌, [], ◌∷◌};
+ghost use Rattle.nm_stripe.specs.declared.step.Step.TheVariants as step;
+ghost use Rattle.nm_stripe.specs.Read.{LeavesTarget};
+ghost use Rattle.nm_lanes.specs.Answers.{answer_of_begin, answer_of_claim, answer_of_copy};
+ghost use Rattle.nm_lanes.specs.Answers.{answer_of_push, answer_of_read, answer_of_sync, HandsBack};
 ghost use Rattle.nm_lanes.specs.Done.{done_as};
-ghost use Rattle.nm_lanes.specs.Fits.{AnswerFits};
-ghost use Rattle.nm_lanes.specs.Found.{FindsBlock};
 ghost use Rattle.nm_part.specs.Parts.{part_of};
-ghost use Rattle.nm_mirror.specs.Counting.{Follows, part_after_all};
+ghost use Rattle.nm_mirror.specs.Counting.{part_after_all};
 
-use crate::asking::{ask, ask_read};
 use crate::lock::Lock;
-use nm_lanes::{Found, Lane};
+use nm_fanout::Data;
+use nm_lanes::Lane;
 use nm_leg::LegPart;
 use nm_part::Part;
 use nm_replay::Block;
-use nm_stripe::{Answer, Reading, Step, Stripe};
+use nm_stripe::{Beginning, Copying, Reach, Reading, Refusal, Stripe, Syncing, Written};
 use std::marker::Model;
 use std::sync::Wait;
 
@@ -57,26 +59,75 @@ impl<L: LegPart> Lane<L, Lock<L>> for PartLane<L> {
     ghost follows = { Follows };
 
     #[inline(always)]
-    fn step<R: Wait>(&mut self, rt: &R, lock: &Lock<L>, step: Step<L>) -> Answer<L>
-        ensures follows { self.new ≡ part_after_all (done_as «step» result ∷ []) self.old }
-        ensures fits { AnswerFits «step» result }
+    fn begin<R: Wait>(
+        &mut self,
+        rt: &R,
+        lock: &Lock<L>,
+        block: u64,
+        data: Data,
+    ) -> Result<Beginning, (Refusal, Data)>
+        ensures follows { self.new ≡ part_after_all {L = L}
+            (done_as (step.Begin block «data») (answer_of_begin result) ∷ []) self.old }
+        ensures handed_back { HandsBack «data» result }
     {
-        let mut stripe = lock.hold(rt);
-        lock.note(&step);
-        ask(&mut self.part, &mut stripe, step)
+        self.part.begin(&mut lock.hold(rt), block, data)
     }
 
     #[inline(always)]
-    fn read<R: Wait>(&mut self, rt: &R, lock: &Lock<L>, block: u64, into: &mut Block) -> Found
-        ensures { FindsBlock {L = L} Follows (self.old, self.new) block (into.old, into.new)
-            result }
+    fn push<R: Wait>(
+        &mut self,
+        rt: &R,
+        lock: &Lock<L>,
+        ticket: u64,
+        leg: u8,
+    ) -> Result<Reach, Refusal>
+        ensures follows { self.new ≡ part_after_all {L = L}
+            (done_as (step.Push ticket leg) (answer_of_push result) ∷ []) self.old }
     {
         let mut stripe = lock.hold(rt);
-        match ask_read(&mut self.part, &mut stripe, block, into) {
-            Ok(Reading::Value(receipt)) => Found::Value(receipt.number()),
-            Ok(Reading::LegLost(leg)) => Found::LegLost(leg),
-            Err(refusal) => Found::Refused(refusal),
-        }
+        lock.note_write();
+        self.part.push(&mut stripe, ticket, leg)
+    }
+
+    #[inline(always)]
+    fn claim<R: Wait>(&mut self, rt: &R, lock: &Lock<L>, ticket: u64) -> Result<Written<L>, Refusal>
+        ensures follows { self.new ≡ part_after_all {L = L}
+            (done_as (step.Claim ticket) (answer_of_claim result) ∷ []) self.old }
+    {
+        self.part.claim(&mut lock.hold(rt), ticket)
+    }
+
+    #[inline(always)]
+    fn read<R: Wait>(
+        &mut self,
+        rt: &R,
+        lock: &Lock<L>,
+        block: u64,
+        into: &mut Block,
+    ) -> Result<Reading<L>, Refusal>
+        ensures follows { self.new ≡ part_after_all
+            (done_as (step.Read block) (answer_of_read result into.new) ∷ []) self.old }
+        ensures target { LeavesTarget result into.old into.new }
+    {
+        self.part.read(&mut lock.hold(rt), block, into)
+    }
+
+    fn sync<R: Wait>(&mut self, rt: &R, lock: &Lock<L>, leg: u8) -> Result<Syncing, Refusal>
+        ensures follows { self.new ≡ part_after_all {L = L}
+            (done_as (step.Sync leg) (answer_of_sync result) ∷ []) self.old }
+    {
+        let mut stripe = lock.hold(rt);
+        lock.note_sync();
+        self.part.sync(&mut stripe, leg)
+    }
+
+    fn copy<R: Wait>(&mut self, rt: &R, lock: &Lock<L>, leg: u8) -> Result<Copying, Refusal>
+        ensures follows { self.new ≡ part_after_all {L = L}
+            (done_as (step.Copy leg) (answer_of_copy result) ∷ []) self.old }
+    {
+        let mut stripe = lock.hold(rt);
+        lock.note_write();
+        self.part.copy(&mut stripe, leg)
     }
 
     fn owed<R: Wait>(&self, rt: &R, lock: &Lock<L>, ticket: Option<u64>) -> Option<(u64, u8)> {

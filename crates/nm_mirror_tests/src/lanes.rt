@@ -12,7 +12,7 @@ use nm_lanes::{
 use nm_leg::FuseLeg;
 use nm_mirror::{Start, open_stripes};
 use nm_part::Part;
-use nm_stripe::{Policy, Step};
+use nm_stripe::Policy;
 use std::alloc::Global;
 use std::marker::Sync;
 use std::process::Abort;
@@ -215,7 +215,7 @@ impl<R: Wait> Gate for Claiming<'_, R> {
         if place.step == StepKind::Push {
             let mut part = self.part.lock(self.rt);
             let mut stripe = self.lock.lock(self.rt);
-            let _ = part.step(&mut stripe, Step::Claim(0));
+            let _ = part.claim(&mut stripe, 0);
         }
     }
 }

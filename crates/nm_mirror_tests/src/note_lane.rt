@@ -1,16 +1,18 @@
 //! A lane that notes its steps, and calls over such lanes.
-ghost use Rattle.std.specs.Prelude.{◌≡◌, [], ◌∷◌, length};
+ghost use Rattle.std.specs.Prelude.{◌≡◌, [], ◌∷◌};
+ghost use Rattle.nm_stripe.specs.declared.step.Step.TheVariants as step;
+ghost use Rattle.nm_stripe.specs.Read.{LeavesTarget};
+ghost use Rattle.nm_lanes.specs.Answers.{answer_of_begin, answer_of_claim, answer_of_copy};
+ghost use Rattle.nm_lanes.specs.Answers.{answer_of_push, answer_of_read, answer_of_sync, HandsBack};
 ghost use Rattle.nm_lanes.specs.Done.{done_as};
-ghost use Rattle.nm_lanes.specs.Fits.{AnswerFits};
-ghost use Rattle.nm_lanes.specs.Found.{FindsBlock};
-ghost use Rattle.nm_mirror.specs.Counting.{Follows, part_after_all};
+ghost use Rattle.nm_mirror.specs.Counting.{part_after_all};
 
-use nm_lanes::{Found, Lane, StepKind};
+use nm_fanout::Data;
+use nm_lanes::{Lane, StepKind};
 use nm_leg::FuseLeg;
-use nm_mirror::ask;
 use nm_part::Part;
 use nm_replay::Block;
-use nm_stripe::{Answer, Refusal, Step, Stripe};
+use nm_stripe::{Beginning, Copying, Reach, Reading, Refusal, Stripe, Syncing, Written};
 use std::alloc::Global;
 use std::marker::Model;
 use std::sync::atomic::{AtomicU64, Ordering};
@@ -81,26 +83,12 @@ impl NoteLane {
     pub fn notes(&self) -> &[Note] {
         self.notes.as_slice()
     }
-}
 
-/// The block, ticket or leg that a step names first.
-fn first_number(step: &Step<FuseLeg>) -> u64 {
-    match step {
-        Step::Begin(at, _) | Step::Push(at, _) | Step::Claim(at) | Step::Read(at) => *at,
-        Step::Fail(leg)
-        | Step::Attach(leg)
-        | Step::Replace(leg, _)
-        | Step::Copy(leg)
-        | Step::Promote(leg)
-        | Step::Sync(leg) => *leg as u64,
-    }
-}
-
-/// Why a step was refused.
-fn refusal_of(answer: &Answer<FuseLeg>) -> Option<Refusal> {
-    match answer {
-        Answer::Refused(refusal, _) => Some(*refusal),
-        _ => None,
+    /// Notes a step.
+    fn note(&mut self, kind: StepKind, at: u64, refusal: Option<Refusal>)
+        ensures { self.new ≡ self.old }
+    {
+        let _ = self.notes.push(Note { kind, at, refusal });
     }
 }
 
@@ -110,32 +98,81 @@ impl Lane<FuseLeg, Door> for NoteLane {
 
     ghost follows = { Follows };
 
-    fn step<R: Wait>(&mut self, rt: &R, lock: &Door, step: Step<FuseLeg>) -> Answer<FuseLeg>
-        ensures follows { self.new ≡ part_after_all (done_as «step» result ∷ []) self.old }
-        ensures fits { AnswerFits «step» result }
+    fn begin<R: Wait>(
+        &mut self,
+        rt: &R,
+        lock: &Door,
+        block: u64,
+        data: Data,
+    ) -> Result<Beginning, (Refusal, Data)>
+        ensures follows { self.new ≡ part_after_all {L = FuseLeg}
+            (done_as (step.Begin block «data») (answer_of_begin result) ∷ []) self.old }
+        ensures handed_back { HandsBack «data» result }
     {
-        let kind = StepKind::of(&step);
-        let at = first_number(&step);
-        let mut stripe = lock.lock(rt);
-        let answer = ask(&mut self.part, &mut stripe, step);
-        let refusal = refusal_of(&answer);
-        let _ = self.notes.push(Note { kind, at, refusal });
-        answer
+        let begun = self.part.begin(&mut lock.lock(rt), block, data);
+        let refusal = match &begun {
+            Ok(_) => None,
+            Err(refused) => Some(refused.0),
+        };
+        self.note(StepKind::Begin, block, refusal);
+        begun
     }
 
-    fn read<R: Wait>(&mut self, rt: &R, lock: &Door, block: u64, into: &mut Block) -> Found
-        ensures { FindsBlock {L = FuseLeg} Follows (self.old, self.new) block (into.old, into.new)
-            result }
+    fn push<R: Wait>(&mut self, rt: &R, lock: &Door, ticket: u64, leg: u8) -> Result<Reach, Refusal>
+        ensures follows { self.new ≡ part_after_all {L = FuseLeg}
+            (done_as (step.Push ticket leg) (answer_of_push result) ∷ []) self.old }
     {
-        match self.step(rt, lock, Step::Read(block)) {
-            Answer::Value(value) => {
-                *into = *value.bytes();
-                Found::Value(value.number())
-            }
-            Answer::LegLost(leg, _) => Found::LegLost(leg),
-            Answer::Refused(refusal, _) => Found::Refused(refusal),
-            _ => unreachable!(),
-        }
+        let told = self.part.push(&mut lock.lock(rt), ticket, leg);
+        self.note(StepKind::Push, ticket, told.as_ref().err().copied());
+        told
+    }
+
+    fn claim<R: Wait>(
+        &mut self,
+        rt: &R,
+        lock: &Door,
+        ticket: u64,
+    ) -> Result<Written<FuseLeg>, Refusal>
+        ensures follows { self.new ≡ part_after_all {L = FuseLeg}
+            (done_as (step.Claim ticket) (answer_of_claim result) ∷ []) self.old }
+    {
+        let told = self.part.claim(&mut lock.lock(rt), ticket);
+        self.note(StepKind::Claim, ticket, told.as_ref().err().copied());
+        told
+    }
+
+    fn read<R: Wait>(
+        &mut self,
+        rt: &R,
+        lock: &Door,
+        block: u64,
+        into: &mut Block,
+    ) -> Result<Reading<FuseLeg>, Refusal>
+        ensures follows { self.new ≡ part_after_all {L = FuseLeg}
+            (done_as (step.Read block) (answer_of_read result into.new) ∷ []) self.old }
+        ensures target { LeavesTarget result into.old into.new }
+    {
+        let told = self.part.read(&mut lock.lock(rt), block, into);
+        self.note(StepKind::Read, block, told.as_ref().err().copied());
+        told
+    }
+
+    fn sync<R: Wait>(&mut self, rt: &R, lock: &Door, leg: u8) -> Result<Syncing, Refusal>
+        ensures follows { self.new ≡ part_after_all {L = FuseLeg}
+            (done_as (step.Sync leg) (answer_of_sync result) ∷ []) self.old }
+    {
+        let told = self.part.sync(&mut lock.lock(rt), leg);
+        self.note(StepKind::Sync, leg as u64, told.as_ref().err().copied());
+        told
+    }
+
+    fn copy<R: Wait>(&mut self, rt: &R, lock: &Door, leg: u8) -> Result<Copying, Refusal>
+        ensures follows { self.new ≡ part_after_all {L = FuseLeg}
+            (done_as (step.Copy leg) (answer_of_copy result) ∷ []) self.old }
+    {
+        let told = self.part.copy(&mut lock.lock(rt), leg);
+        self.note(StepKind::Copy, leg as u64, told.as_ref().err().copied());
+        told
     }
 
     fn owed<R: Wait>(&self, rt: &R, lock: &Door, ticket: Option<u64>) -> Option<(u64, u8)> {

@@ -1,1 +1,1 @@
-mod ReadLemmas
+mod AskLemmas

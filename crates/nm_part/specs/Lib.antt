@@ -1,3 +1,3 @@
 pub mod PartState
 pub mod Parts
-pub mod Reads
+pub mod Asking

@@ -5,6 +5,6 @@
 //! what the stripes' histories have had.
 #![tactic(auto)]
 
-pub use part::{Part, handed_in};
+pub use part::Part;
 
 mod part;

@@ -1,16 +1,19 @@
-ghost use Rattle.std.specs.Prelude.{◌≡◌, ◌<◌, ◌-◌, ◌^◌, [], ◌∷◌, IsTrue, IsFalse};
+ghost use Rattle.std.specs.Prelude.{◌≡◌, ◌<◌, ◌-◌, ◌^◌, [], ◌∷◌, ◌↔◌, length, IsTrue, IsFalse};
 ghost use Rattle.nm_leg.specs.Leg.{leg_type};
 ghost use Rattle.nm_rules.specs.Acts.{IsExplainedStep};
 ghost use Rattle.nm_stripe.specs.declared.step.Step.TheVariants as step;
 ghost use Rattle.nm_stripe.specs.Read.{LeavesTarget};
-ghost use Rattle.nm_stripe.specs.Run.{MayBeAsked, NoneHalted, StepOf, marks};
-ghost use Rattle.nm_part.specs.Parts.{ValueAbove, astray, given, handed_in, is_astray, part_after};
-ghost use Rattle.nm_part.specs.Parts.{part_of};
-ghost use Rattle.nm_part.specs.Reads.{answer_of};
+ghost use Rattle.nm_stripe.specs.Run.{NoneHalted, marks};
+ghost use Rattle.nm_lanes.specs.Answers.{answer_of_begin, answer_of_claim, answer_of_copy};
+ghost use Rattle.nm_lanes.specs.Answers.{answer_of_push, answer_of_read, answer_of_sync, HandsBack};
+ghost use Rattle.nm_part.specs.Asking.{AsksStripe};
+ghost use Rattle.nm_part.specs.Parts.{ValueAbove, given, is_astray, part_after, part_of};
 
+use nm_fanout::Data;
 use nm_leg::LegPart;
 use nm_replay::Block;
-use nm_stripe::{Answer, Handed, Reading, Refusal, Step, Stripe};
+use nm_rules::Refusal;
+use nm_stripe::{Beginning, Copying, Reach, Reading, Stripe, Syncing, Written};
 use std::marker::{Model, PhantomData};
 
 /// The part of a pass in one stripe.
@@ -31,17 +34,6 @@ impl<L> Model for Part<L> {
     ghost Value = { PartState };
 
     ghost view = { λ p. record { stripe = p.stripe; front = p.front; count = p.count } };
-}
-
-/// What is handed in with a step, to be handed back.
-pub fn handed_in<L>(step: Step<L>) -> Handed<L>
-    ensures { result ≡ handed_in «step» }
-{
-    match step {
-        Step::Begin(_, data) => Handed::Data(data),
-        Step::Replace(_, part) => Handed::Replacement(part),
-        _ => Handed::Nothing,
-    }
 }
 
 impl<L> Part<L> {
@@ -76,20 +68,6 @@ impl<L> Part<L> {
         self.count += 1;
         self.front = self.front.max(number + 1);
     }
-
-    /// Takes note of an answer.
-    #[inline(always)]
-    fn note(&mut self, answer: &Answer<L>)
-        requires { self.old.count < 2 ^ 64 - 1 }
-        ensures { self.new ≡ part_after answer.now self.old }
-    {
-        let number = match answer {
-            Answer::Value(value) => value.number(),
-            Answer::Written(written) => written.number(),
-            _ => return,
-        };
-        self.take(number);
-    }
 }
 
 impl<L: LegPart> Part<L> {
@@ -116,39 +94,93 @@ impl<L: LegPart> Part<L> {
             || self.count == u64::MAX
     }
 
-    /// Does a step of the stripe, and counts a value and a finished write.
-    ///
-    /// Refused as `Astray` before anything else where the stripe is not the part's or the part can
-    /// count no more; then nothing changes, and what was handed in comes back.
+    /// Whether the stripe is the part's own and has this block.
     #[inline(always)]
-    pub fn step(&mut self, stripe: &mut Stripe<L>, step: Step<L>) -> Answer<L>
-        requires { MayBeAsked L.model stripe.old «step» }
-        ensures astray { IsTrue (is_astray self.old stripe.old)
-            → (result ≡ astray «step») × (stripe.new ≡ stripe.old) × (self.new ≡ self.old) }
-        ensures step { IsFalse (is_astray self.old stripe.old)
-            → StepOf (leg_type L.model L.honest) «step» result stripe.old stripe.new }
-        ensures acts { IsFalse (is_astray self.old stripe.old)
-            → IsTrue L.honest → NoneHalted (result ∷ [])
-            → IsExplainedStep L.model (marks «step» result) stripe.old stripe.new }
-        ensures above { IsFalse (is_astray self.old stripe.old)
-            → ValueAbove self.old.front result }
-        ensures counted { IsFalse (is_astray self.old stripe.old)
-            → self.new ≡ part_after result self.old }
+    fn has_block(&self, stripe: &Stripe<L>, block: u64) -> bool
+        ensures own { IsTrue result
+            ↔ (IsFalse (is_astray self.now stripe.now) × (block < stripe.now.place.blocks)) }
+        ensures room { IsTrue result → self.now.count < 2 ^ 64 - 1 }
     {
-        if self.is_astray(stripe) {
-            return Answer::Refused(Refusal::Astray, handed_in(step));
-        }
-        let answer = stripe.step(step);
-        self.note(&answer);
-        answer
+        !self.is_astray(stripe) && block < stripe.blocks()
     }
 
-    /// Reads a block of the stripe into `into`, and counts the value: the step `Step::Read`, whose
-    /// answer need not carry the block.
-    ///
-    /// Refused as `Astray` before anything else where the stripe is not the part's or the part can
-    /// count no more; then nothing changes. A leg that failed leaves any bytes in `into`; any other
-    /// refusal leaves it as it was.
+    /// Whether the stripe is the part's own and has this leg.
+    #[inline(always)]
+    fn has_leg(&self, stripe: &Stripe<L>, leg: u8) -> bool
+        ensures own { IsTrue result
+            ↔ (IsFalse (is_astray self.now stripe.now) × (leg < length stripe.now.legs)) }
+    {
+        !self.is_astray(stripe) && (leg as usize) < stripe.legs()
+    }
+}
+
+/// The stripe's steps, through the part, which counts a value and a finished write.
+///
+/// Each is refused as `Astray` before anything else where the stripe is not the part's, has no such
+/// block or leg, or the part can count no more. Then nothing changes.
+impl<L: LegPart> Part<L> {
+    /// Begins a write of this block, or of a part of it. Where it does not begin its data come
+    /// back.
+    #[inline(always)]
+    pub fn begin(
+        &mut self,
+        stripe: &mut Stripe<L>,
+        block: u64,
+        data: Data,
+    ) -> Result<Beginning, (Refusal, Data)>
+        ensures step { AsksStripe (leg_type L.model L.honest) (step.Begin block «data»)
+            (answer_of_begin result) self.old (stripe.old, stripe.new) }
+        ensures acts { IsTrue L.honest → IsExplainedStep L.model
+            (marks {L = L} (step.Begin block «data») (answer_of_begin result))
+            stripe.old stripe.new }
+        ensures counted { self.new ≡ part_after {L = L} (answer_of_begin result) self.old }
+        ensures handed_back { HandsBack «data» result }
+    {
+        stripe.sound();
+        if !self.has_block(stripe, block) || !data.fits_block() {
+            return Err((Refusal::Astray, data));
+        }
+        stripe.begin(block, data)
+    }
+
+    /// Pushes a write to a leg.
+    #[inline(always)]
+    pub fn push(&mut self, stripe: &mut Stripe<L>, ticket: u64, leg: u8) -> Result<Reach, Refusal>
+        ensures step { AsksStripe (leg_type L.model L.honest) (step.Push ticket leg)
+            (answer_of_push result) self.old (stripe.old, stripe.new) }
+        ensures acts { IsTrue L.honest → NoneHalted {L = L} (answer_of_push result ∷ [])
+            → IsExplainedStep L.model (marks {L = L} (step.Push ticket leg) (answer_of_push result))
+            stripe.old stripe.new }
+        ensures counted { self.new ≡ part_after {L = L} (answer_of_push result) self.old }
+    {
+        stripe.sound();
+        if !self.has_leg(stripe, leg) {
+            return Err(Refusal::Astray);
+        }
+        stripe.push(ticket, leg)
+    }
+
+    /// Claims a finished write, and counts it.
+    #[inline(always)]
+    pub fn claim(&mut self, stripe: &mut Stripe<L>, ticket: u64) -> Result<Written<L>, Refusal>
+        ensures step { AsksStripe (leg_type L.model L.honest) (step.Claim ticket)
+            (answer_of_claim result) self.old (stripe.old, stripe.new) }
+        ensures acts { IsTrue L.honest → IsExplainedStep L.model
+            (marks {L = L} (step.Claim ticket) (answer_of_claim result)) stripe.old stripe.new }
+        ensures counted { self.new ≡ part_after {L = L} (answer_of_claim result) self.old }
+    {
+        stripe.sound();
+        if self.is_astray(stripe) {
+            return Err(Refusal::Astray);
+        }
+        let claimed = stripe.claim(ticket);
+        if let Ok(written) = &claimed {
+            self.take(written.number());
+        }
+        claimed
+    }
+
+    /// Reads a block into `into`, and counts the value.
     #[inline(always)]
     pub fn read(
         &mut self,
@@ -156,23 +188,16 @@ impl<L: LegPart> Part<L> {
         block: u64,
         into: &mut Block,
     ) -> Result<Reading<L>, Refusal>
-        requires { MayBeAsked L.model stripe.old (step.Read block) }
-        ensures astray { IsTrue (is_astray self.old stripe.old)
-            → (answer_of result into.new ≡ astray (step.Read block))
-            × (stripe.new ≡ stripe.old) × (self.new ≡ self.old) }
-        ensures step { IsFalse (is_astray self.old stripe.old)
-            → StepOf (leg_type L.model L.honest) (step.Read block) (answer_of result into.new)
-            stripe.old stripe.new }
-        ensures acts { IsFalse (is_astray self.old stripe.old) → IsTrue L.honest
-            → IsExplainedStep L.model (marks (step.Read block) (answer_of result into.new))
-            stripe.old stripe.new }
-        ensures above { IsFalse (is_astray self.old stripe.old)
-            → ValueAbove self.old.front (answer_of result into.new) }
-        ensures counted { IsFalse (is_astray self.old stripe.old)
-            → self.new ≡ part_after (answer_of result into.new) self.old }
+        ensures step { AsksStripe (leg_type L.model L.honest) (step.Read block)
+            (answer_of_read result into.new) self.old (stripe.old, stripe.new) }
+        ensures acts { IsTrue L.honest → IsExplainedStep L.model
+            (marks (step.Read block) (answer_of_read result into.new)) stripe.old stripe.new }
+        ensures counted { self.new ≡ part_after (answer_of_read result into.new) self.old }
+        ensures above { ValueAbove self.old.front (answer_of_read result into.new) }
         ensures target { LeavesTarget result into.old into.new }
     {
-        if self.is_astray(stripe) {
+        stripe.sound();
+        if !self.has_block(stripe, block) {
             return Err(Refusal::Astray);
         }
         let read = stripe.read(block, into);
@@ -180,5 +205,35 @@ impl<L: LegPart> Part<L> {
             self.take(receipt.number());
         }
         read
+    }
+
+    /// Syncs a leg.
+    pub fn sync(&mut self, stripe: &mut Stripe<L>, leg: u8) -> Result<Syncing, Refusal>
+        ensures step { AsksStripe (leg_type L.model L.honest) (step.Sync leg)
+            (answer_of_sync result) self.old (stripe.old, stripe.new) }
+        ensures acts { IsTrue L.honest → IsExplainedStep L.model
+            (marks {L = L} (step.Sync leg) (answer_of_sync result)) stripe.old stripe.new }
+        ensures counted { self.new ≡ part_after {L = L} (answer_of_sync result) self.old }
+    {
+        stripe.sound();
+        if !self.has_leg(stripe, leg) {
+            return Err(Refusal::Astray);
+        }
+        stripe.sync(leg)
+    }
+
+    /// Does a step of the copy to a leg.
+    pub fn copy(&mut self, stripe: &mut Stripe<L>, leg: u8) -> Result<Copying, Refusal>
+        ensures step { AsksStripe (leg_type L.model L.honest) (step.Copy leg)
+            (answer_of_copy result) self.old (stripe.old, stripe.new) }
+        ensures acts { IsTrue L.honest → IsExplainedStep L.model
+            (marks {L = L} (step.Copy leg) (answer_of_copy result)) stripe.old stripe.new }
+        ensures counted { self.new ≡ part_after {L = L} (answer_of_copy result) self.old }
+    {
+        stripe.sound();
+        if !self.has_leg(stripe, leg) {
+            return Err(Refusal::Astray);
+        }
+        stripe.copy(leg)
     }
 }

@@ -1,13 +1,61 @@
 //! The part of a pass in one stripe: what it counts, and when it refuses a step.
-use crate::asking::{Ask, Summary, may_ask, step_of, summary_of};
+use crate::asking::{Ask, Summary, fill_block};
 use crate::opening::{ONE_LEG, open_fused};
+use nm_fanout::Data;
 use nm_leg::FuseLeg;
 use nm_part::Part;
 use nm_replay::Block;
-use nm_stripe::{Reading, Refusal, Step, Stripe};
+use nm_stripe::{Beginning, Reach, Reading, Refusal, Stripe};
 use std::alloc::Global;
 use std::process::Abort;
 use std::test::Fail;
+
+/// Begins a write through the part, and tells what came of it.
+fn begin(
+    part: &mut Part<FuseLeg>,
+    stripe: &mut Stripe<FuseLeg>,
+    block: u64,
+    data: Data,
+) -> Summary {
+    match part.begin(stripe, block, data) {
+        Ok(Beginning::Begun(ticket)) => Summary::Begun(ticket),
+        Ok(Beginning::LegLost(leg, _)) => Summary::LegLost(leg),
+        Err((refusal, _)) => Summary::Refused(refusal),
+    }
+}
+
+/// Pushes a write through the part, and tells what came of it.
+fn push(part: &mut Part<FuseLeg>, stripe: &mut Stripe<FuseLeg>, ticket: u64, leg: u8) -> Summary {
+    match part.push(stripe, ticket, leg) {
+        Ok(Reach::Pushed(owed)) => Summary::Pushed(owed),
+        Ok(Reach::Complete(number)) => Summary::Complete(number),
+        Ok(Reach::LegLost(leg)) => Summary::LegLost(leg),
+        Ok(Reach::Halted) => Summary::Halted,
+        Err(refusal) => Summary::Refused(refusal),
+    }
+}
+
+/// Claims a write through the part, and tells what came of it.
+fn claim(part: &mut Part<FuseLeg>, stripe: &mut Stripe<FuseLeg>, ticket: u64) -> Summary {
+    match part.claim(stripe, ticket) {
+        Ok(written) => Summary::Written(written.number()),
+        Err(refusal) => Summary::Refused(refusal),
+    }
+}
+
+/// Reads a block through the part, and tells what came of it, with the target's last byte.
+fn read_into(
+    part: &mut Part<FuseLeg>,
+    stripe: &mut Stripe<FuseLeg>,
+    block: u64,
+    into: &mut Block,
+) -> Summary {
+    match part.read(stripe, block, into) {
+        Ok(Reading::Value(receipt)) => Summary::Value(receipt.number(), into.0[511]),
+        Ok(Reading::LegLost(leg)) => Summary::LegLost(leg),
+        Err(refusal) => Summary::Refused(refusal),
+    }
+}
 
 /// Does one step through the part, and compares the answer.
 fn compare_step(
@@ -18,10 +66,14 @@ fn compare_step(
     row: (Ask, Summary),
 ) -> Result<(), Fail> {
     let (ask, want) = row;
-    let step = step_of(alloc, &mut Vec::new(alloc), ask)?;
-    may_ask(rt, stripe, &step);
-    let answer = part.step(stripe, step);
-    assert_eq!(rt; summary_of(&answer), want, "at {ask:?}");
+    let told = match ask {
+        Ask::Begin(block, byte) => begin(part, stripe, block, fill_block(alloc, byte)?),
+        Ask::Push(ticket, leg) => push(part, stripe, ticket, leg),
+        Ask::Claim(ticket) => claim(part, stripe, ticket),
+        Ask::Read(block) => read_into(part, stripe, block, &mut Block([0x11; 512])),
+        _ => return Err(Fail::new("no step of a part")),
+    };
+    assert_eq!(rt; told, want, "at {ask:?}");
     Ok(())
 }
 
@@ -57,28 +109,13 @@ fn a_part_counts_values_and_finished_writes(rt: HostRuntime) -> Result<(), Fail>
     counts(&rt, rt.alloc(), &mut part, &mut stripe)
 }
 
-/// Reads the first block through the part, and tells what came of it, with the target's last byte.
-fn read_into(
-    rt: &impl Abort,
-    part: &mut Part<FuseLeg>,
-    stripe: &mut Stripe<FuseLeg>,
-    into: &mut Block,
-) -> Summary {
-    may_ask(rt, stripe, &Step::Read(0));
-    match part.read(stripe, 0, into) {
-        Ok(Reading::Value(receipt)) => Summary::Value(receipt.number(), into.0[511]),
-        Ok(Reading::LegLost(leg)) => Summary::LegLost(leg),
-        Err(refusal) => Summary::Refused(refusal),
-    }
-}
-
 #[test]
-fn a_part_reads_into_a_block_what_the_step_answers(rt: HostRuntime) -> Result<(), Fail> {
+fn a_part_reads_what_was_written(rt: HostRuntime) -> Result<(), Fail> {
     let mut stripe = open_fused(&rt, rt.alloc(), ONE_LEG)?;
     let mut part = Part::of(&stripe);
     counts(&rt, rt.alloc(), &mut part, &mut stripe)?;
     let mut into = Block([0x11; 512]);
-    let told = read_into(&rt, &mut part, &mut stripe, &mut into);
+    let told = read_into(&mut part, &mut stripe, 0, &mut into);
     assert_eq!(rt; told, Summary::Value(2, 0xaa));
     assert!(rt; into == Block([0xaa; 512]));
     assert_eq!(rt; (part.front(), part.count()), (3, 3));
@@ -102,5 +139,17 @@ fn a_part_is_astray_in_a_stripe_that_is_behind_it(rt: HostRuntime) -> Result<(),
     compare_step(&rt, rt.alloc(), &mut part, &mut own, value)?;
     is_astray(&rt, rt.alloc(), &mut part)?;
     assert_eq!(rt; (part.front(), part.count()), (1, 1));
+    Ok(())
+}
+
+#[test]
+fn a_step_on_a_block_or_a_leg_that_is_not_there_is_astray(rt: HostRuntime) -> Result<(), Fail> {
+    let mut stripe = open_fused(&rt, rt.alloc(), ONE_LEG)?;
+    let mut part = Part::of(&stripe);
+    let blocks = stripe.blocks();
+    for ask in [Ask::Begin(blocks, 0xaa), Ask::Read(blocks), Ask::Push(0, 1)] {
+        let astray = (ask, Summary::Refused(Refusal::Astray));
+        compare_step(&rt, rt.alloc(), &mut part, &mut stripe, astray)?;
+    }
     Ok(())
 }

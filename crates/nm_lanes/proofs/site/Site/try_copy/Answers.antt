@@ -6,4 +6,4 @@ use Rattle.nm_lanes.proofs.site.Site.try_copy.Goals as goal
 
 pub returns-in-Some-clause-err : goal.returns-in-Some-clause-err
 returns-in-Some-clause-err g c =
-    stops-refused g.D.Lane.follows _ _ _ _ c.in-Refused.refusal c.in-Some.kind Nobodys c.in-Refused.ensures.follows (search rules) (search rules)
+    stops-refused g.D.Lane.follows _ _ _ _ c.in-Err.refusal c.in-Some.kind Nobodys c.in-Err.ensures.follows (search rules) (search rules)

@@ -6,10 +6,10 @@ use Rattle.nm_lanes.specs.declared.cause_kind.CauseKind.TheVariants as cause
 use Rattle.nm_lanes.proofs.LaneLemmas.{stops-one, stops-refused}
 use Rattle.nm_lanes.proofs.site.Site.try_push.Goals as goal
 
-pub returns-in-Halted-clause-err : goal.returns-in-Halted-clause-err
-returns-in-Halted-clause-err g c =
-    stops-one g.D.Lane.follows _ _ _ _ (EndsSo Nobodys cause.Halted) c.in-Halted.ensures.follows (search rules)
+pub returns-in-Ok-Halted-clause-err : goal.returns-in-Ok-Halted-clause-err
+returns-in-Ok-Halted-clause-err g c =
+    stops-one g.D.Lane.follows _ _ _ _ (EndsSo Nobodys cause.Halted) c.in-Ok-Halted.ensures.follows (search rules)
 
 pub returns-in-Some-clause-err : goal.returns-in-Some-clause-err
 returns-in-Some-clause-err g c =
-    stops-refused g.D.Lane.follows _ _ _ _ c.in-Refused.refusal c.in-Some.kind Nobodys c.in-Refused.ensures.follows (search rules) (search rules)
+    stops-refused g.D.Lane.follows _ _ _ _ c.in-Err.refusal c.in-Some.kind Nobodys c.in-Err.ensures.follows (search rules) (search rules)

@@ -1,0 +1,19 @@
+-- A sync that is not astray is the stripe's, answered as its step would be.
+use Rattle.std.proofs.Common.{rules, sym, subst, List}
+use Rattle.nm_leg.specs.Leg.{leg_type}
+use Rattle.nm_replay.specs.Events.{Event}
+use Rattle.nm_rules.specs.Acts.{IsExplainedStep}
+use Rattle.nm_part.specs.Asking.{GoesOn}
+use Rattle.nm_part.proofs.AskLemmas.{sync-counts, sync-marks, sync-step}
+use Rattle.nm_part.proofs.part.Part.sync.Goals as goal
+
+pub returns-clause-step : goal.returns-clause-step
+returns-clause-step g c =
+    GoesOn (search rules) (sync-step (leg_type g.L.LegPart.model g.L.LegPart.honest) c.args.stripe.now c.sync.new.self c.args.leg c.sync.result c.sync.ensures.ok c.sync.ensures.refused)
+
+pub returns-clause-acts : goal.returns-clause-acts
+returns-clause-acts g c =
+    λ honest. subst (λ (marked : List Event). IsExplainedStep g.L.LegPart.model marked c.args.stripe.now c.sync.new.self) (sym (sync-marks g.row.L.Denot c.args.leg c.sync.result)) (c.sync.ensures.acts honest)
+
+pub returns-clause-counted : goal.returns-clause-counted
+returns-clause-counted g c = sync-counts g.row.L.Denot c.args.self.now c.sync.result
