@@ -1,1 +1,2 @@
+mod Evenness
 mod Pushing

@@ -1,5 +1,5 @@
 -- What a session's calls do to a mirror, through a pass.
-use Rattle.std.specs.Prelude.{◌≡◌, ℕ, List, [], ◌∷◌, ◌++◌, length, Ok, Err, refl}
+use Rattle.std.specs.Prelude.{◌≡◌, ◌≤◌, ◌+◌, ◌*◌, ℕ, List, [], ◌∷◌, ◌++◌, length, Ok, Err, refl}
 use Rattle.std.proofs.Common.{◌∙◌}
 use Rattle.nm_geometry.specs.declared.byte_range.ByteRange.{ByteRange}
 use Rattle.nm_geometry.specs.declared.piece.Piece.{Piece}
@@ -11,18 +11,41 @@ use Rattle.nm_lanes.specs.Flushes.{HasFlushed, HasFlushedSome, IsStripeOf, Touch
 use Rattle.nm_lanes.specs.Reads.{HasRead, HasReadSome}
 use Rattle.nm_lanes.specs.Writes.{HasWritten, HasWrittenSome}
 use Rattle.nm_mirror.specs.Counting.{Follows}
+use Rattle.nm_mirror.specs.declared.pass.Pass.{Pass}
 use Rattle.nm_part.specs.PartState.{PartState}
+use Rattle.nm_server.specs.declared.mirror_call.MirrorCall.{MirrorCall}
+use Rattle.nm_server.specs.declared.mirror_call.MirrorCall.TheVariants as mirror
 use Rattle.nm_session.specs.declared.target_fault.TargetFault.TheVariants.{Memory, Io}
 use Rattle.nm_session.specs.Target.{Answer, TargetCall}
 use Rattle.nm_session.specs.Target.{Reads, Writes, Zeroes, Flushes, Syncs}
 
+-- a call with its answer, and with the bytes that its buffer then holds, which a read found
+abbrev pub answered : MirrorCall → (bytes : List ℕ) → Answer → TargetCall
+answered (mirror.Read offset) bytes answer = Reads offset bytes answer
+answered (mirror.Write offset payload) bytes answer = Writes offset payload answer
+answered (mirror.Zero offset count) bytes answer = Zeroes offset count answer
+answered mirror.Flush bytes answer = Flushes answer
+answered (mirror.Sync offset count) bytes answer = Syncs offset count answer
+
+-- where the bytes of a call end, which fill a buffer of so many bytes where it reads them
+abbrev pub end_of : MirrorCall → (room : ℕ) → ℕ
+end_of (mirror.Read offset) room = offset + room
+end_of (mirror.Write offset payload) room = offset + length payload
+end_of (mirror.Zero offset count) room = offset + count
+end_of mirror.Flush room = 0
+end_of (mirror.Sync offset count) room = offset + count
+
+-- the bytes of the call lie in the export
+abbrev pub IsInside : Geometry → MirrorCall → (room : ℕ) → Type 0
+IsInside shape call room = end_of call room ≤ 512 * shape.blocks
+
+-- there is a part for each stripe of the shape
+abbrev pub IsEven : Geometry → List PartState → Type 0
+IsEven shape parts = length parts ≡ shape.stripes
+
 -- the parts of a pass before a call, and after it
 abbrev pub Parts : Type 0
 Parts = List PartState × List PartState
-
--- the pass has a part for each stripe of the shape
-abbrev pub IsEven : Geometry → Parts → Type 0
-IsEven shape parts = length parts.0 ≡ shape.stripes
 
 -- so many bytes from the offset on
 abbrev pub range_at : (offset length : ℕ) → ByteRange
@@ -59,7 +82,7 @@ Sync L shape Synced (Err Memory) parts = ⊥
 Sync L shape Synced (Err Io) parts =
     (cause : Cause) × HasFlushedSome {L = L} Follows shape.legs Synced parts cause
 
--- what a call does, answered so, where the pass has a part for each stripe
+-- what a call does, answered so, through a pass that has a part for each stripe
 abbrev pub Acts : (L : Type 0) → Geometry → TargetCall → Parts → Type 0
 Acts L shape (Reads offset bytes answer) =
     Read L shape (pieces_of (range_at offset (length bytes))) bytes answer
@@ -71,42 +94,30 @@ Acts L shape (Flushes answer) = Sync L shape (IsStripeOf shape) answer
 Acts L shape (Syncs offset count answer) =
     Sync L shape (Touches shape (range_at offset count)) answer
 
--- what a call was answered
-abbrev pub answer_of : TargetCall → Answer
-answer_of (Reads offset bytes answer) = answer
-answer_of (Writes offset bytes answer) = answer
-answer_of (Zeroes offset count answer) = answer
-answer_of (Flushes answer) = answer
-answer_of (Syncs offset count answer) = answer
-
--- one call; through a pass that has not a part for each stripe it fails, and does nothing
-pub record CallsMirror (L : Type 0) (shape : Geometry) (call : TargetCall) (parts : Parts)
-    : Type 0 where
-  pub acts : IsEven shape parts → Acts L shape call parts
-  pub refused : ¬ IsEven shape parts → (answer_of call ≡ Err Io) × (parts.1 ≡ parts.0)
-
 -- calls one after the other
 abbrev pub LeadMirror : (L : Type 0) → Geometry → List PartState → List TargetCall
     → List PartState → Type 0
 LeadMirror L shape old [] new = new ≡ old
 LeadMirror L shape old (call ∷ calls) new =
-    (mid : List PartState) × CallsMirror L shape call (old, mid) × LeadMirror L shape mid calls new
+    (mid : List PartState) × Acts L shape call (old, mid) × LeadMirror L shape mid calls new
 
--- how a target's mirror lies in its stripes, and the parts of its pass
-pub record Way : Type 0 where
+-- how a mirror's blocks lie in its stripes, and the parts of a pass through it
+pub record PassState : Type 0 where
   pub shape : Geometry
   pub parts : List PartState
 
-abbrev pub way : Geometry → List PartState → Way
-way shape parts = record { shape = shape; parts = parts }
+-- this pass through a mirror of this shape
+abbrev pub state_of : {L : Type 0} → Geometry → Pass L → PassState
+state_of shape pass = record { shape = shape; parts = pass.parts.items }
 
 -- the calls lead from one to the other, and the shape stays
-pub record Leads (L : Type 0) (old : Way) (calls : List TargetCall) (new : Way) : Type 0 where
+pub record Leads (L : Type 0) (old : PassState) (calls : List TargetCall) (new : PassState)
+    : Type 0 where
   pub shape : new.shape ≡ old.shape
   pub calls_lead : LeadMirror L old.shape old.parts calls new.parts
 
 -- no call leads from one to itself
-pub leads-nowhere : (L : Type 0) (old : Way) → Leads L old [] old
+pub leads-nowhere : (L : Type 0) (old : PassState) → Leads L old [] old
 leads-nowhere L old = record { shape = refl; calls_lead = refl }
 
 lead-on : (L : Type 0) (shape : Geometry) (old mid new : List PartState)
@@ -117,7 +128,7 @@ lead-on L shape old mid new (call ∷ first) second before after =
     (before.0, before.1, lead-on L shape before.0 mid new first second before.2 after)
 
 -- calls that follow one another are one list
-pub leads-on : (L : Type 0) (old mid new : Way) (first second : List TargetCall)
+pub leads-on : (L : Type 0) (old mid new : PassState) (first second : List TargetCall)
     → Leads L old first mid → Leads L mid second new → Leads L old (first ++ second) new
 leads-on L old mid new first second before after = record {
   shape = after.shape ∙ before.shape;

@@ -1,11 +1,11 @@
 //! The calls of the mirror that the program serves.
-ghost use Rattle.std.specs.Prelude.{◌≡◌, ◌+◌, ◌*◌, ◌≤◌, length, IsTrue, ◌↔◌};
-ghost use Rattle.nm_server.specs.Calls.{CallsMirror};
-ghost use Rattle.nm_session.specs.Target.{Reads, Writes, Zeroes, Flushes, Syncs};
+ghost use Rattle.std.specs.Prelude.{length};
+ghost use Rattle.nm_server.specs.Calls.{Acts, IsEven, IsInside, answered};
 
 use crate::leg_files::{FileMirror, Leg};
+use crate::mirror_call::MirrorCall;
 use crate::mirror_calls::MirrorCalls;
-use bytes::Bytes;
+use nm_geometry::Shape;
 use nm_lanes::{Gate, WriteFault};
 use nm_leg::LegPart;
 use nm_mirror::{Mirror, Pass};
@@ -30,144 +30,58 @@ impl<'a, R: Threads + Wait + Sync + Copy> MirrorCalls<Leg> for FileCalls<'a, R> 
 
     ghost shape = { λ calls. calls.mirror.now.shape };
 
-    fn read(&self, pass: &mut Pass<Leg>, offset: u64, into: &mut [u8]) -> Result<(), TargetFault> {
-        read_through(self.rt, self.mirror, pass, offset, into)
+    fn layout(&self) -> &Shape {
+        self.mirror.shape()
     }
 
-    fn write(&self, pass: &mut Pass<Leg>, offset: u64, payload: Bytes) -> Result<(), TargetFault> {
-        write_through(self.rt, self.alloc, self.mirror, pass, offset, payload)
-    }
-
-    fn zero(&self, pass: &mut Pass<Leg>, offset: u64, count: u64) -> Result<(), TargetFault> {
-        zero_through(self.rt, self.mirror, pass, offset, count)
-    }
-
-    fn flush(&self, pass: &mut Pass<Leg>) -> Result<(), TargetFault> {
-        flush_through(self.rt, self.mirror, pass)
-    }
-
-    fn sync_touched(
+    fn call_through(
         &self,
         pass: &mut Pass<Leg>,
-        offset: u64,
-        count: u64,
+        call: MirrorCall,
+        into: &mut [u8],
     ) -> Result<(), TargetFault> {
-        sync_through(self.rt, self.mirror, pass, offset, count)
+        call_mirror(self.rt, self.alloc, self.mirror, pass, call, into)
     }
 }
 
-// Whether the pass has a part for each stripe of the mirror.
-fn is_even<L: LegPart, G: Gate + Drop>(mirror: &Mirror<L, G>, pass: &Pass<L>) -> bool
-    ensures { IsTrue result ↔ length pass.now.parts.items ≡ mirror.now.shape.stripes }
-{
-    pass.stripes() == mirror.shape().stripes as usize
-}
-
-/// Reads the bytes from `offset` on into all of `into`, through the pass, unless it is of another
-/// shape. A fault of the mirror is an I/O fault.
-pub fn read_through<R: Threads + Wait + Sync, L: LegPart + Send, G: Gate + Drop + Sync>(
-    rt: &R,
-    mirror: &Mirror<L, G>,
-    pass: &mut Pass<L>,
-    offset: u64,
-    into: &mut [u8],
-) -> Result<(), TargetFault>
-    requires { offset + length into.old ≤ 512 * mirror.now.shape.blocks }
-    ensures { CallsMirror L mirror.now.shape (Reads offset into.new result)
-        (pass.old.parts.items, pass.new.parts.items) }
-{
-    if !is_even(mirror, pass) {
-        return Err(TargetFault::Io);
-    }
-    match mirror.read_at(rt, pass, offset, into) {
-        Ok(()) => Ok(()),
-        Err(_) => Err(TargetFault::Io),
-    }
-}
-
-/// Writes the payload to the bytes from `offset` on, through the pass, unless it is of another
-/// shape. Refused memory is told as such, a fault of the mirror as an I/O fault.
-pub fn write_through<R: Threads + Wait + Sync, L: LegPart + Send, G: Gate + Drop + Sync>(
+/// Makes this call of the mirror through the pass, a read's into the buffer. Refused memory is told
+/// as such, and a fault of the mirror as an I/O fault.
+pub fn call_mirror<R: Threads + Wait + Sync, L: LegPart + Send, G: Gate + Drop + Sync>(
     rt: &R,
     alloc: Global,
     mirror: &Mirror<L, G>,
     pass: &mut Pass<L>,
-    offset: u64,
-    payload: Bytes,
+    call: MirrorCall,
+    into: &mut [u8],
 ) -> Result<(), TargetFault>
-    requires { offset + length payload ≤ 512 * mirror.now.shape.blocks }
-    ensures { CallsMirror L mirror.now.shape (Writes offset payload result)
+    requires even { IsEven mirror.now.shape pass.old.parts.items }
+    requires inside { IsInside mirror.now.shape call (length into.old) }
+    ensures { Acts L mirror.now.shape (answered call into.new result)
         (pass.old.parts.items, pass.new.parts.items) }
 {
-    if !is_even(mirror, pass) {
-        return Err(TargetFault::Io);
-    }
-    match mirror.write_at(rt, alloc, pass, offset, payload) {
-        Ok(()) => Ok(()),
-        Err(WriteFault::Memory) => Err(TargetFault::Memory),
-        Err(WriteFault::Io(_)) => Err(TargetFault::Io),
-    }
-}
-
-/// Writes zeroes to so many bytes from `offset` on, through the pass, unless it is of another
-/// shape. A fault of the mirror is an I/O fault.
-pub fn zero_through<R: Threads + Wait + Sync, L: LegPart + Send, G: Gate + Drop + Sync>(
-    rt: &R,
-    mirror: &Mirror<L, G>,
-    pass: &mut Pass<L>,
-    offset: u64,
-    count: u64,
-) -> Result<(), TargetFault>
-    requires { offset + count ≤ 512 * mirror.now.shape.blocks }
-    ensures { CallsMirror L mirror.now.shape (Zeroes offset count result)
-        (pass.old.parts.items, pass.new.parts.items) }
-{
-    if !is_even(mirror, pass) {
-        return Err(TargetFault::Io);
-    }
-    match mirror.zero_at(rt, pass, offset, count) {
-        Ok(()) => Ok(()),
-        Err(_) => Err(TargetFault::Io),
-    }
-}
-
-/// Syncs every stripe, through the pass, unless it is of another shape. A fault of the mirror is an
-/// I/O fault.
-pub fn flush_through<R: Threads + Wait + Sync, L: LegPart + Send, G: Gate + Drop + Sync>(
-    rt: &R,
-    mirror: &Mirror<L, G>,
-    pass: &mut Pass<L>,
-) -> Result<(), TargetFault>
-    ensures { CallsMirror L mirror.now.shape (Flushes result)
-        (pass.old.parts.items, pass.new.parts.items) }
-{
-    if !is_even(mirror, pass) {
-        return Err(TargetFault::Io);
-    }
-    match mirror.flush(rt, pass) {
-        Ok(()) => Ok(()),
-        Err(_) => Err(TargetFault::Io),
-    }
-}
-
-/// Syncs the stripes of so many bytes from `offset` on, through the pass, unless it is of another
-/// shape. A fault of the mirror is an I/O fault.
-pub fn sync_through<R: Threads + Wait + Sync, L: LegPart + Send, G: Gate + Drop + Sync>(
-    rt: &R,
-    mirror: &Mirror<L, G>,
-    pass: &mut Pass<L>,
-    offset: u64,
-    count: u64,
-) -> Result<(), TargetFault>
-    requires { offset + count ≤ 512 * mirror.now.shape.blocks }
-    ensures { CallsMirror L mirror.now.shape (Syncs offset count result)
-        (pass.old.parts.items, pass.new.parts.items) }
-{
-    if !is_even(mirror, pass) {
-        return Err(TargetFault::Io);
-    }
-    match mirror.sync_touched(rt, pass, offset, count) {
-        Ok(()) => Ok(()),
-        Err(_) => Err(TargetFault::Io),
+    match call {
+        MirrorCall::Read(offset) => match mirror.read_at(rt, pass, offset, into) {
+            Ok(()) => Ok(()),
+            Err(_) => Err(TargetFault::Io),
+        },
+        MirrorCall::Write(offset, payload) => {
+            match mirror.write_at(rt, alloc, pass, offset, payload) {
+                Ok(()) => Ok(()),
+                Err(WriteFault::Memory) => Err(TargetFault::Memory),
+                Err(WriteFault::Io(_)) => Err(TargetFault::Io),
+            }
+        }
+        MirrorCall::Zero(offset, count) => match mirror.zero_at(rt, pass, offset, count) {
+            Ok(()) => Ok(()),
+            Err(_) => Err(TargetFault::Io),
+        },
+        MirrorCall::Flush => match mirror.flush(rt, pass) {
+            Ok(()) => Ok(()),
+            Err(_) => Err(TargetFault::Io),
+        },
+        MirrorCall::Sync(offset, count) => match mirror.sync_touched(rt, pass, offset, count) {
+            Ok(()) => Ok(()),
+            Err(_) => Err(TargetFault::Io),
+        },
     }
 }

@@ -17,6 +17,7 @@ mod file_calls;
 mod hang_up;
 mod leg_files;
 mod log_lines;
+mod mirror_call;
 mod mirror_calls;
 mod mirror_target;
 mod needs;
@@ -33,9 +34,8 @@ mod timed_stream;
 
 pub use crate::answering::control;
 pub use crate::ending::Quit;
-pub use crate::file_calls::{
-    FileCalls, flush_through, read_through, sync_through, write_through, zero_through,
-};
+pub use crate::file_calls::{FileCalls, call_mirror};
+pub use crate::mirror_call::MirrorCall;
 pub use crate::mirror_calls::{MirrorCalls, ReadyMirror};
 pub use crate::mirror_target::MirrorTarget;
 pub use crate::program::{refuse_words, start};

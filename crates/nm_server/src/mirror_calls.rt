@@ -1,56 +1,38 @@
 //! The calls of a mirror, lent to the targets of a session.
-ghost use Rattle.std.specs.Prelude.{◌≡◌, ◌+◌, ◌*◌, ◌≤◌, length};
+ghost use Rattle.std.specs.Prelude.{◌≡◌, length};
 ghost use Rattle.nm_geometry.specs.Geometry.{Geometry};
-ghost use Rattle.nm_server.specs.Calls.{CallsMirror};
-ghost use Rattle.nm_session.specs.Target.{Reads, Writes, Zeroes, Flushes, Syncs};
+ghost use Rattle.nm_server.specs.Calls.{Acts, IsEven, IsInside, answered};
 
-use bytes::Bytes;
+use crate::mirror_call::MirrorCall;
+use nm_geometry::Shape;
 use nm_mirror::Pass;
 use nm_session::TargetFault;
 use std::marker::{Model, PhantomData};
 use std::sync::Mutex;
 
-/// The calls of a mirror, in bytes, each through a pass. Through a pass of another shape they fail,
-/// and do nothing.
+/// The calls of a mirror, each through a pass of its shape.
 pub trait MirrorCalls<L> {
-    /// What a call asks for: that it may start threads.
+    /// What a call needs: that it may start threads.
     ghost ready: { Self → Type 0 };
 
     /// How the blocks of the mirror lie in its stripes.
     ghost shape: { Self → Geometry };
 
-    /// Reads the bytes from `offset` on into all of `into`.
-    fn read(&self, pass: &mut Pass<L>, offset: u64, into: &mut [u8]) -> Result<(), TargetFault>
-        requires ready { ready self.now }
-        requires inside { offset + length into.old ≤ 512 * (shape self.now).blocks }
-        ensures { CallsMirror L (shape self.now) (Reads offset into.new result)
-            (pass.old.parts.items, pass.new.parts.items) };
+    /// How the blocks of the mirror lie in its stripes.
+    fn layout(&self) -> &Shape
+        ensures { result.now ≡ shape self.now };
 
-    /// Writes the payload to the bytes from `offset` on.
-    fn write(&self, pass: &mut Pass<L>, offset: u64, payload: Bytes) -> Result<(), TargetFault>
+    /// Makes this call, a read's into the buffer. Any other call leaves the buffer alone.
+    fn call_through(
+        &self,
+        pass: &mut Pass<L>,
+        call: MirrorCall,
+        into: &mut [u8],
+    ) -> Result<(), TargetFault>
         requires ready { ready self.now }
-        requires inside { offset + length payload ≤ 512 * (shape self.now).blocks }
-        ensures { CallsMirror L (shape self.now) (Writes offset payload result)
-            (pass.old.parts.items, pass.new.parts.items) };
-
-    /// Writes zeroes to so many bytes from `offset` on.
-    fn zero(&self, pass: &mut Pass<L>, offset: u64, count: u64) -> Result<(), TargetFault>
-        requires ready { ready self.now }
-        requires inside { offset + count ≤ 512 * (shape self.now).blocks }
-        ensures { CallsMirror L (shape self.now) (Zeroes offset count result)
-            (pass.old.parts.items, pass.new.parts.items) };
-
-    /// Makes durable all that was written before.
-    fn flush(&self, pass: &mut Pass<L>) -> Result<(), TargetFault>
-        requires ready { ready self.now }
-        ensures { CallsMirror L (shape self.now) (Flushes result)
-            (pass.old.parts.items, pass.new.parts.items) };
-
-    /// Makes durable what was written before to so many bytes from `offset` on.
-    fn sync_touched(&self, pass: &mut Pass<L>, offset: u64, count: u64) -> Result<(), TargetFault>
-        requires ready { ready self.now }
-        requires inside { offset + count ≤ 512 * (shape self.now).blocks }
-        ensures { CallsMirror L (shape self.now) (Syncs offset count result)
+        requires even { IsEven (shape self.now) pass.old.parts.items }
+        requires inside { IsInside (shape self.now) call (length into.old) }
+        ensures { Acts L (shape self.now) (answered call into.new result)
             (pass.old.parts.items, pass.new.parts.items) };
 }
 
@@ -91,5 +73,12 @@ impl<L, C: MirrorCalls<L> + Drop> ReadyMirror<L, C> {
         ensures shape { C.shape result.now ≡ self.now }
     {
         &self.calls
+    }
+
+    /// How the blocks of the mirror lie in its stripes.
+    pub fn layout(&self) -> &Shape
+        ensures { result.now ≡ self.now }
+    {
+        self.calls.layout()
     }
 }

@@ -1,53 +1,95 @@
 //! What a session's requests act on: a mirror, through a pass.
-ghost use Rattle.std.specs.Prelude.{◌*◌};
-ghost use Rattle.nm_server.specs.Calls.{Leads, way, leads-nowhere, leads-on};
+ghost use Rattle.std.specs.Prelude.{◌≡◌, ◌*◌, ◌↔◌, [], ◌∷◌, length, IsSome, IfSome};
+ghost use Rattle.nm_server.specs.Calls.{IsEven, IsInside, Leads, answered, leads-nowhere};
+ghost use Rattle.nm_server.specs.Calls.{leads-on, state_of};
 
+use crate::mirror_call::MirrorCall;
 use crate::mirror_calls::{MirrorCalls, ReadyMirror};
 use bytes::Bytes;
+use nm_geometry::Shape;
 use nm_mirror::Pass;
 use nm_session::{Target, TargetFault};
 
-/// A mirror as a session's target.
+/// A mirror as a session's target, through a pass that has a part for each of its stripes.
 #[derive(Drop)]
 pub struct MirrorTarget<'a, L, C: MirrorCalls<L> + Drop, H> {
-    pub mirror: &'a ReadyMirror<L, C>,
-    pub pass: &'a mut Pass<L>,
-    /// Dropped with the target, once its session asks for nothing more.
-    pub hang_up: H,
+    mirror: &'a ReadyMirror<L, C>,
+    pass: &'a mut Pass<L>,
+    // Dropped with the target, once its session asks for nothing more.
+    hang_up: H,
+    ghost even: { IsEven mirror.now pass.now.parts.items },
+}
+
+impl<'a, L, C: MirrorCalls<L> + Drop, H: Drop> MirrorTarget<'a, L, C, H> {
+    /// The mirror through this pass; none where the pass is of another shape. `hang_up` is dropped
+    /// with the target.
+    pub fn new(
+        mirror: &'a ReadyMirror<L, C>,
+        pass: &'a mut Pass<L>,
+        hang_up: H,
+    ) -> Option<MirrorTarget<'a, L, C, H>>
+        ensures some { IsSome result ↔ IsEven mirror.now pass.old.parts.items }
+        ensures mirror { IfSome result (λ target. target.mirror.now ≡ mirror.now) }
+        ensures pass { IfSome result (λ target. target.pass.now ≡ pass.old) }
+    {
+        if pass.stripes() != mirror.layout().stripes as usize {
+            return None;
+        }
+        Some(MirrorTarget {
+            mirror,
+            pass,
+            hang_up,
+        })
+    }
+}
+
+impl<'a, L, C: MirrorCalls<L> + Drop, H> MirrorTarget<'a, L, C, H> {
+    /// How the mirror's blocks lie in its stripes.
+    pub fn layout(&self) -> &Shape
+        ensures { result.now ≡ self.now.mirror.now }
+    {
+        self.mirror.layout()
+    }
+
+    // Makes this call of the mirror, a read's into the buffer.
+    fn call(&mut self, call: MirrorCall, into: &mut [u8]) -> Result<(), TargetFault>
+        requires inside { IsInside self.old.mirror.now call (length into.old) }
+        ensures { Leads L (state_of self.old.mirror.now self.old.pass.now)
+            (answered call into.new result ∷ [])
+            (state_of self.new.mirror.now self.new.pass.now) }
+    {
+        self.mirror.calls().call_through(self.pass, call, into)
+    }
 }
 
 impl<'a, L, C: MirrorCalls<L> + Drop, H> Target for MirrorTarget<'a, L, C, H> {
     ghost size = { λ target. 512 * target.mirror.now.blocks };
 
-    ghost follows = { λ old calls new. Leads L
-        (way old.mirror.now old.pass.now.parts.items) calls
-        (way new.mirror.now new.pass.now.parts.items) };
+    ghost follows = { λ old calls new. Leads L (state_of old.mirror.now old.pass.now) calls
+        (state_of new.mirror.now new.pass.now) };
 
-    ghost stays = { λ target. leads-nowhere L
-        (way target.mirror.now target.pass.now.parts.items) };
+    ghost stays = { λ target. leads-nowhere L (state_of target.mirror.now target.pass.now) };
 
-    ghost joins = { λ from between to first second before after. leads-on L
-        (way from.mirror.now from.pass.now.parts.items)
-        (way between.mirror.now between.pass.now.parts.items)
-        (way to.mirror.now to.pass.now.parts.items) first second before after };
+    ghost joins = { λ from between to. leads-on L (state_of from.mirror.now from.pass.now)
+        (state_of between.mirror.now between.pass.now) (state_of to.mirror.now to.pass.now) };
 
     fn read(&mut self, offset: u64, into: &mut [u8]) -> Result<(), TargetFault> {
-        self.mirror.calls().read(self.pass, offset, into)
+        self.call(MirrorCall::Read(offset), into)
     }
 
     fn write(&mut self, offset: u64, payload: Bytes) -> Result<(), TargetFault> {
-        self.mirror.calls().write(self.pass, offset, payload)
+        self.call(MirrorCall::Write(offset, payload), &mut [])
     }
 
     fn zero(&mut self, offset: u64, length: u64) -> Result<(), TargetFault> {
-        self.mirror.calls().zero(self.pass, offset, length)
+        self.call(MirrorCall::Zero(offset, length), &mut [])
     }
 
     fn flush(&mut self) -> Result<(), TargetFault> {
-        self.mirror.calls().flush(self.pass)
+        self.call(MirrorCall::Flush, &mut [])
     }
 
     fn sync_touched(&mut self, offset: u64, length: u64) -> Result<(), TargetFault> {
-        self.mirror.calls().sync_touched(self.pass, offset, length)
+        self.call(MirrorCall::Sync(offset, length), &mut [])
     }
 }

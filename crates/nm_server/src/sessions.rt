@@ -1,7 +1,8 @@
 //! Sessions over TCP: who listens, who serves.
 ghost use Rattle.std.specs.Prelude.{◌≡◌, ◌*◌, ◌≤◌, ◌^◌, ◌↔◌, [], length, map, true, All};
-ghost use Rattle.std.specs.Prelude.{IsSome, IfSome, IfOk};
+ghost use Rattle.std.specs.Prelude.{IsSome, IfSome, IfOk, IfErr};
 ghost use Rattle.nm_server.specs.Handshake.{HasGreeted};
+ghost use Rattle.nm_session.specs.declared.serve_fault.ServeFault.TheVariants.{Memory};
 ghost use Rattle.nm_wire.specs.Export.{size_of};
 
 use crate::client_reader::ClientReader;
@@ -120,6 +121,8 @@ fn shake_hands<R: Wait + Clock>(
 
 // The mirror as a target through each of the passes. The first of them that ends, once the session
 // asks for nothing more, ends the read under way.
+//
+// A pass of another shape, which the mirror itself never makes, is told as memory that is refused.
 fn targets_of<'a, L, C: MirrorCalls<L> + Drop>(
     alloc: Global,
     mirror: &'a ReadyMirror<L, C>,
@@ -130,13 +133,12 @@ fn targets_of<'a, L, C: MirrorCalls<L> + Drop>(
         All (λ target. target.mirror.now ≡ mirror.now) targets.items) }
     ensures passes { IfOk result (λ targets.
         map (λ target. target.pass.now) targets.items ≡ passes.old) }
+    ensures memory { IfErr result (λ fault. fault ≡ Memory) }
 {
     let mut targets = Vec::new(alloc);
     'passes: for pass in passes.iter_mut() {
-        let target = MirrorTarget {
-            mirror,
-            pass,
-            hang_up: HangUp { stream },
+        let Some(target) = MirrorTarget::new(mirror, pass, HangUp { stream }) else {
+            return Err(ServeFault::Memory);
         };
         if targets.push(target).is_err() {
             return Err(ServeFault::Memory);

@@ -3,16 +3,12 @@
 
 ghost use Rattle.std.specs.Prelude.{◌*◌, ◌≤◌, All, IsTrue};
 
-use bytes::Bytes;
 use nm_geometry::Shape;
 use nm_lanes::{Gate, Place};
 use nm_leg::MemLeg;
 use nm_mirror::{Mirror, Pass, Start, open_stripes};
 use nm_replies::ReplyWriter;
-use nm_server::{
-    MirrorCalls, MirrorTarget, ReadyMirror, flush_through, read_through, sync_through,
-    write_through, zero_through,
-};
+use nm_server::{MirrorCall, MirrorCalls, MirrorTarget, ReadyMirror, call_mirror};
 use nm_session::{CutReader, CutWriter, End, ServeFault, Served, TargetFault};
 use nm_stripe::Policy;
 use nm_wire::{Export, Memory};
@@ -79,39 +75,17 @@ impl<'a, R: Threads + Wait + Sync + Copy> MirrorCalls<MemLeg> for MemoryCalls<'a
 
     ghost shape = { λ calls. calls.mirror.now.shape };
 
-    fn read(
+    fn layout(&self) -> &Shape {
+        self.mirror.shape()
+    }
+
+    fn call_through(
         &self,
         pass: &mut Pass<MemLeg>,
-        offset: u64,
+        call: MirrorCall,
         into: &mut [u8],
     ) -> Result<(), TargetFault> {
-        read_through(self.rt, self.mirror, pass, offset, into)
-    }
-
-    fn write(
-        &self,
-        pass: &mut Pass<MemLeg>,
-        offset: u64,
-        payload: Bytes,
-    ) -> Result<(), TargetFault> {
-        write_through(self.rt, self.alloc, self.mirror, pass, offset, payload)
-    }
-
-    fn zero(&self, pass: &mut Pass<MemLeg>, offset: u64, count: u64) -> Result<(), TargetFault> {
-        zero_through(self.rt, self.mirror, pass, offset, count)
-    }
-
-    fn flush(&self, pass: &mut Pass<MemLeg>) -> Result<(), TargetFault> {
-        flush_through(self.rt, self.mirror, pass)
-    }
-
-    fn sync_touched(
-        &self,
-        pass: &mut Pass<MemLeg>,
-        offset: u64,
-        count: u64,
-    ) -> Result<(), TargetFault> {
-        sync_through(self.rt, self.mirror, pass, offset, count)
+        call_mirror(self.rt, self.alloc, self.mirror, pass, call, into)
     }
 }
 
@@ -166,10 +140,8 @@ where
 {
     let mut targets = Vec::new(alloc);
     for pass in passes.iter_mut() {
-        let target = MirrorTarget {
-            mirror,
-            pass,
-            hang_up: Nothing,
+        let Some(target) = MirrorTarget::new(mirror, pass, Nothing) else {
+            return Err(Memory);
         };
         if targets.push(target).is_err() {
             return Err(Memory);
@@ -185,7 +157,9 @@ where
     ensures { IsTrue result
         → All (λ target. 512 * blocks ≤ 512 * target.mirror.now.blocks) targets.now }
 {
-    targets.iter().all(|target| blocks <= target.mirror.calls().mirror.shape().blocks)
+    targets
+        .iter()
+        .all(|target| blocks <= target.layout().blocks)
 }
 
 /// Serves a session over 1 to 16 targets that have the export's blocks.

@@ -1,5 +1,5 @@
 -- The target that was pushed is this mirror through the next pass.
-use Rattle.std.proofs.Common.{arith, ◌≡◌, ◌<◌, length, true, not, is_ok, refl, ap, ◌∙◌}
+use Rattle.std.proofs.Common.{arith, ◌≡◌, ◌<◌, length, true, not, is_ok, ap, ◌∙◌}
 use Rattle.nm_server.proofs.Pushing.{has-one-more, one-more, all-more}
 use Rattle.nm_server.proofs.sessions.targets_of.Goals as goal
 
@@ -12,8 +12,9 @@ passes-preserved g c =
     let inside : c.passes.pass-index < length c.args.passes.now = omega arith in
     record {
       mirrors = all-more c.passes.targets.items c.push.new.self.items _
-          (λ target. target.mirror.now ≡ c.args.mirror.now) pushed c.passes.invariant.mirrors refl;
+          (λ target. target.mirror.now ≡ c.args.mirror.now) pushed c.passes.invariant.mirrors
+          c.in-Some.ensures.mirror;
       passes = one-more c.passes.targets.items c.push.new.self.items _
           (λ target. target.pass.now) c.args.passes.now c.passes.pass-index
-          pushed inside c.passes.invariant.passes c.passes-item.is;
+          pushed inside c.passes.invariant.passes (rw c.in-Some.ensures.pass c.passes-item.is);
     }
