@@ -23,16 +23,12 @@ pub record EntryNames : Type 0 where
   pub count : ℕ
 
 -- the records of the run that began with this ticket
-abbrev pub of_run : (Record → ℕ) → ℕ → List Record → List Record
-of_run run ticket records = filter (λ r. run r == ticket) records
+abbrev pub of_run : ℕ → List Record → List Record
+of_run ticket records = filter (λ r. r.run == ticket) records
 
 -- the first of them
-abbrev pub find_run : (Record → ℕ) → ℕ → List Record → Option Record
-find_run run ticket records = find (λ r. run r == ticket) records
-
--- how many runs there are
-abbrev pub runs_in : (Record → ℕ) → List Record → ℕ
-runs_in run records = count_by (λ r. run r == r.ticket) records
+abbrev pub find_run : ℕ → List Record → Option Record
+find_run ticket records = find (λ r. r.run == ticket) records
 
 -- no so many numbers below 2^63 are left, but for those of the writes that have no entry yet
 abbrev pub is_exhausted_by : {L : Type 0} → ℕ → StripeState L → Bool
