@@ -15,6 +15,8 @@ pub const LEGS: usize = 8;
 pub struct Record {
     /// The write's ticket. Tickets rise in the order in which writes begin.
     pub ticket: u64,
+    /// The ticket of its run's first block.
+    pub run: u64,
     /// The block that is written.
     pub block: u64,
     /// The block's new bytes.
