@@ -61,7 +61,7 @@ may_begin stripe block none =
     record {
       runs = when_off stripe.stopped Stopped rows.0;
       not_settling = when_off stripe.settling Settling rows.1.0;
-      free = map_off (λ (r : Record). Busy r.ticket) (busy_on block stripe.records) rows.1.1.0;
+      free = map_off (λ (r : Record). Busy r.run) (busy_on block stripe.records) rows.1.1.0;
       not_copied_now = not_copied block stripe rows.1.1.1.0;
       few = λ is. below 256 (runs_in stripe.records) (when_off (is_full stripe) Full rows.1.1.1.1.0);
       below = below (2 ^ 63) (next_number stripe + unlanded stripe.records) (when_off (is_exhausted stripe) Exhausted rows.1.1.1.1.1.0);

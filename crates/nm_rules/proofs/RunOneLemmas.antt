@@ -21,7 +21,7 @@ not_least a b low = grind (arith, nat_tests)
 pub one-begins : {L : Type 0} (s : StripeState L) (block : ℕ) → begin_run_cause s block 1 ≡ None → begin_cause s block ≡ None
 one-begins s block none =
     let m = (may_begin_run s block 1 none).may in
-    let busy : Option Refusal → Option Refusal = λ rest. option_or (option_map (λ (r : Record). Busy r.ticket) (busy_on block s.records)) rest in
+    let busy : Option Refusal → Option Refusal = λ rest. option_or (option_map (λ (r : Record). Busy r.run) (busy_on block s.records)) rest in
     let room_left : is_full s ≡ false = not_least 256 (runs_in s.records) (m.few refl) in
     let numbers : is_exhausted s ≡ false = not_least (2 ^ 63) (next_number s + unlanded s.records) (omega (arith, m.below)) in
     let last : Option Refusal = option_or (when (is_exhausted s) Exhausted) None in
@@ -29,7 +29,7 @@ one-begins s block none =
     let copying : Option Refusal = option_or (copying_on block s) full in
     ap (λ (b : Bool). option_or (when b Stopped) (option_or (when s.settling Settling) (busy copying))) m.runs
     ∙ ap (λ (b : Bool). option_or (when b Settling) (busy copying)) m.not_settling
-    ∙ ap (λ (o : Option Record). option_or (option_map (λ (r : Record). Busy r.ticket) o) copying) (m.free block (omega arith) (omega arith))
+    ∙ ap (λ (o : Option Record). option_or (option_map (λ (r : Record). Busy r.run) o) copying) (m.free block (omega arith) (omega arith))
     ∙ ap (λ (b : Bool). option_or (cond b (option_map (λ (c : CopyPlace). Copying c.leg) s.copy) None) full) (m.not_copied_now block (omega arith) (omega arith))
     ∙ ap (λ (b : Bool). option_or (when b Full) last) room_left
     ∙ ap (λ (b : Bool). option_or (when b Exhausted) None) numbers
