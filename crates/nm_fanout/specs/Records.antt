@@ -90,6 +90,11 @@ landings next (r ∷ rs) =
 abbrev pub without : ℕ → List Record → List Record
 without ticket list = filter (λ r. not (r.ticket == ticket)) list
 
+-- the records but each of these, which go one after the other
+abbrev pub without_each : List Record → List Record → List Record
+without_each [] list = list
+without_each (r ∷ rs) list = without_each rs (without r.ticket list)
+
 -- the records after a write has begun
 abbrev pub with_new : Record → List Record → List Record
 with_new r list = list ++ r ∷ []
