@@ -22,7 +22,8 @@ use Rattle.nm_rules.specs.RunClaim.{ClaimsRun}
 use Rattle.nm_rules.specs.RunCopy.{CopiesReadRun, CopiesWriteRun, LosesInCopyRun, after_copy_write_run, next_blocks}
 use Rattle.nm_rules.specs.RunPush.{CallsToPushRun, HaltsInPushRun, LosesInPushRun, PushesRun, after_push_run, land_each, reach_each, run_landed, run_lands, run_reached, written_by}
 use Rattle.nm_rules.specs.RunRead.{FindsRun}
-use Rattle.nm_rules.specs.Runs.{AreOwed, EntryNames, of_run, without_each}
+use Rattle.nm_rules.specs.Runs.{AreOwed, EntryNames, of_run}
+use Rattle.nm_fanout.specs.Records.{without_each}
 use Rattle.nm_rules.specs.State.{Chunk, StripeState, leg_state, next_number, table, with_table}
 use Rattle.nm_rules.proofs.CopyLemmas.{may_copy, ready-on}
 use Rattle.nm_rules.proofs.DurableLegLemmas.{calls-durable_after, calls-durable_before, calls-durable_other}

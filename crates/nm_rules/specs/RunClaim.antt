@@ -4,10 +4,11 @@ use Rattle.std.specs.Option.{option_and_then}
 use Rattle.nm_replay.specs.Events.{Event, RepliesWrite}
 use Rattle.nm_fanout.specs.declared.write_record.Record.{Record}
 use Rattle.nm_fanout.specs.Record.{is_under_way}
+use Rattle.nm_fanout.specs.Records.{without_each}
 use Rattle.nm_rules.specs.declared.refusal.Refusal.{Refusal}
 use Rattle.nm_rules.specs.declared.refusal.Refusal.TheVariants.{Stopped, NoTicket, NotYet}
 use Rattle.nm_rules.specs.Cause.{when, first_cause}
-use Rattle.nm_rules.specs.Runs.{AreFinished, EntryNames, find_run, of_run, without_each}
+use Rattle.nm_rules.specs.Runs.{AreFinished, EntryNames, find_run, of_run}
 use Rattle.nm_rules.specs.State.{StripeState}
 
 -- the conditions for a refusal of a claim, in the order in which they are tested

@@ -4,7 +4,7 @@ use Rattle.std.specs.Prelude.{◌≡◌, ℕ, ◌+◌, ◌%◌, ◌<◌, ◌≤�
 use Rattle.std.specs.Prelude.{List, [], ◌∷◌, count_by, filter, find, nat_lt, Option, Some}
 use Rattle.nm_fanout.specs.declared.write_record.Record.{Record}
 use Rattle.nm_fanout.specs.Record.{is_under_way, owes}
-use Rattle.nm_fanout.specs.Records.{find_record, unlanded, without}
+use Rattle.nm_fanout.specs.Records.{find_record, unlanded}
 use Rattle.nm_rules.specs.declared.at.At.{At}
 use Rattle.nm_rules.specs.State.{StripeState, next_number}
 
@@ -49,8 +49,3 @@ AreFinished ticket block number (r ∷ rs) records =
     (r.ticket ≡ ticket) × (r.block ≡ block) × (find_record r.ticket records ≡ Some r)
     × (is_under_way r ≡ false) × (r.entry ≡ Some number)
     × AreFinished (ticket + 1) (block + 1) (number + 1) rs records
-
--- the records but these
-abbrev pub without_each : List Record → List Record → List Record
-without_each [] records = records
-without_each (r ∷ rs) records = without_each rs (without r.ticket records)
