@@ -11,7 +11,7 @@ cut_for piece bytes = if piece.len == 512 then Cut bytes else Part piece.from by
 
 -- zeroes: a whole block of them, or a part
 abbrev pub zero_for : Piece → Data
-zero_for piece = if piece.len == 512 then Zero else ZeroPart piece.from piece.len
+zero_for piece = if piece.len == 512 then Zero 1 else ZeroPart piece.from piece.len
 
 -- the payload, cut where the pieces end
 abbrev pub cuts_for : List Piece → List ℕ → List PieceWrite

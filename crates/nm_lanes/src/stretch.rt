@@ -15,7 +15,7 @@ fn zero_for(piece: Piece) -> Data
     ensures zeroes { result ≡ zero_for piece }
 {
     if piece.len as usize == BLOCK_BYTES {
-        Data::Zero
+        Data::Zero(1)
     } else {
         Data::ZeroPart {
             from: piece.from,
@@ -91,7 +91,7 @@ impl Stretch {
             };
         }
         let piece = cuts[at as usize].piece;
-        let bytes = mem::replace(&mut cuts[at as usize].bytes, Data::Zero);
+        let bytes = mem::replace(&mut cuts[at as usize].bytes, Data::Zero(1));
         PieceWrite { piece, bytes }
     }
 }

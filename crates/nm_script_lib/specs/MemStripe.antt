@@ -145,7 +145,7 @@ IsInside m State = Unit {0}
 -- names, a replace a new leg.
 abbrev pub IsAsked : MirrorLine → StripeStep → MachineStep FuseLeg → Type 0
 IsAsked m (Begin block fill) asked = asked ≡ BeginStep block (Cut (filled_block fill))
-IsAsked m (Zero block) asked = asked ≡ BeginStep block Zeroes
+IsAsked m (Zero block) asked = asked ≡ BeginStep block (Zeroes 1)
 IsAsked m (Patch block start len fill) asked =
     asked ≡ BeginStep block (Part start (replicate len fill))
 IsAsked m (Push ticket leg) asked = asked ≡ PushStep ticket leg

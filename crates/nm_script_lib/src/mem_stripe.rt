@@ -184,7 +184,7 @@ fn step_for(alloc: Global, mirror: &MirrorLine, step: StripeStep) -> Result<Step
             let bytes = Bytes::copy_from_slice(alloc, &filled_block(fill))?;
             Ok(Step::Begin(block, Data::Cut(bytes)))
         }
-        StripeStep::Zero { block } => Ok(Step::Begin(block, Data::Zero)),
+        StripeStep::Zero { block } => Ok(Step::Begin(block, Data::Zero(1))),
         StripeStep::Patch {
             block,
             from,

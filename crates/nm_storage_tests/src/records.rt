@@ -56,7 +56,7 @@ fn claim(rt: &impl Abort, records: &mut Records, place: usize, number: u64) -> u
 
 /// The write of block 3 under ticket 7 has reached each of its legs.
 fn owes_none(rt: &impl Abort, records: &Records) {
-    assert_eq!(rt; records.busy_on(3), None);
+    assert_eq!(rt; records.busy_among(3, 1), None);
     assert_eq!(rt; records.next_owed(7), None);
     assert_eq!(rt; records.first_owed(), None);
 }
@@ -98,7 +98,7 @@ fn begin_256(rt: &impl Abort, alloc: Global) -> Result<Records, Fail> {
     assert_eq!(rt; records.find(0), None);
     for count in 0..256 {
         assert!(rt; !records.is_full());
-        records.begin(2 * count, count, Data::Zero, &Block::ZERO, leg_0());
+        records.begin(2 * count, count, Data::Zero(1), &Block::ZERO, leg_0());
     }
     Ok(records)
 }

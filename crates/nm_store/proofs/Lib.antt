@@ -2,6 +2,7 @@ pub mod ClaimLemmas
 pub mod ComparingLemmas
 pub mod CopyLemmas
 pub mod CountLemmas
+pub mod RunCountLemmas
 pub mod FailoverLemmas
 pub mod LosingLemmas
 pub mod OpeningLemmas

@@ -44,7 +44,7 @@ fn finish_without(regions: &mut Regions, records: &Records, leg: u8)
     for place in 0..records.len() {
         let record = records.at(place);
         if owes_only(record, leg) {
-            regions.finish(record.block);
+            regions.finish(record.block, 1);
         }
     }
 }

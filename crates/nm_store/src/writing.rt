@@ -30,7 +30,7 @@ fn write_kind(ticket: u64, data: &RecordData) -> Kind
     ensures { result ≡ write_kind ticket (span_of «data».now) }
 {
     match data {
-        RecordData::Cut(_) | RecordData::Zero => Kind::Write(ticket),
+        RecordData::Cut(_) | RecordData::Zero(_) => Kind::Write(ticket),
         RecordData::Merged { from, len, .. } => Kind::Patch(ticket, *from, *len),
     }
 }
@@ -78,7 +78,7 @@ impl<L: LegPart> Store<L> {
         let _whole = block_len(base);
         let ticket = self.tickets;
         let owed = self.regions.targets(block);
-        self.regions.begin(block);
+        self.regions.begin(block, 1);
         self.records.begin(ticket, block, data, base, owed);
         self.tickets += 1;
         ticket
@@ -126,7 +126,7 @@ impl<L: LegPart> Store<L> {
         if self.records.at(place).is_under_way() {
             return;
         }
-        self.regions.finish(block);
+        self.regions.finish(block, 1);
     }
 
     /// The write at this place takes effect, under the next number.

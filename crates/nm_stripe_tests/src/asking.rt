@@ -49,7 +49,7 @@ pub enum Summary {
 /// 512 bytes of one value.
 pub fn fill_block(alloc: Global, byte: u8) -> Result<Data, AllocError> {
     if byte == 0 {
-        return Ok(Data::Zero);
+        return Ok(Data::Zero(1));
     }
     let mut buffer = BytesMut::new(alloc);
     buffer.extend_from_slice(&[byte; 512])?;
