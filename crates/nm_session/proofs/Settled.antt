@@ -3,7 +3,7 @@ use Rattle.std.proofs.Common.{◌≡◌, ℕ, zero, suc, ◌+◌, List, ◌++◌
 use Rattle.std.specs.Prelude.{◌<◌, [], ◌∷◌, All, IfOk, IfSome}
 use Rattle.std.proofs.Common.{arith}
 use Rattle.std.proofs.lemmas.List.Elements.{All-append, All-nil}
-use Rattle.nm_session.specs.declared.held.Held.{Held}
+use Rattle.nm_session.specs.declared.outstanding.Outstanding.{Outstanding}
 use Rattle.nm_requests.specs.declared.request.Request.{Request}
 use Rattle.nm_requests.specs.declared.task.Task.{Task}
 use Rattle.nm_requests.specs.declared.task.Task.TheVariants.{Read, Write, Zero, Flush, Nothing, Disconnect}
@@ -103,25 +103,25 @@ goes_on (Ok Disconnect) e = cc
 goes_on (Err code) e = cc
 
 -- every request that is kept was read
-later : (xs : List Held) (count : ℕ) → All (λ held. held.index < count) xs
+later : (xs : List Outstanding) (count : ℕ) → All (λ held. held.index < count) xs
     → All (λ held. held.index < count + 1) xs
 later xs count all k d below = omega (arith, all k d below)
 
-one : (held : Held) (count : ℕ) → held.index ≡ count
+one : (held : Outstanding) (count : ℕ) → held.index ≡ count
     → All (λ h. h.index < count + 1) (held ∷ [])
 one held count is zero d below = omega (arith, is)
 one held count is (suc k) d below = absurd (omega arith)
 
-joined : (xs ys : List Held) (count : ℕ) → All (λ held. held.index < count) xs
+joined : (xs ys : List Outstanding) (count : ℕ) → All (λ held. held.index < count) xs
     → All (λ held. held.index < count + 1) ys
     → All (λ held. held.index < count + 1) (xs ++ ys)
 joined xs ys count all more =
     All-append (λ held. held.index < count + 1) xs ys (later xs count all) more
 
-none : (count : ℕ) → All (λ (held : Held). held.index < count + 1) []
+none : (count : ℕ) → All (λ (held : Outstanding). held.index < count + 1) []
 none count = All-nil (λ held. held.index < count + 1)
 
-pub known_after : (xs : List Held) (request : Request) (judged : Result Task ℕ) (count : ℕ)
+pub known_after : (xs : List Outstanding) (request : Request) (judged : Result Task ℕ) (count : ℕ)
     → request.index ≡ count → All (λ held. held.index < count) xs
     → All (λ held. held.index < count + 1) (xs ++ held_for request judged)
 known_after xs request (Ok (Read offset n)) count is all =

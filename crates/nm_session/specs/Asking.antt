@@ -9,7 +9,7 @@ use Rattle.nm_requests.specs.First.{message_of}
 use Rattle.nm_requests.specs.Judging.{IsFirst, LiesInside, table}
 use Rattle.nm_requests.specs.Stream.{StartsWith, EndsAs}
 use Rattle.nm_session.specs.declared.ended_by.EndedBy.TheVariants as by
-use Rattle.nm_session.specs.declared.held.Held.{Held}
+use Rattle.nm_session.specs.declared.outstanding.Outstanding.{Outstanding}
 use Rattle.nm_session.specs.declared.next.Next.{Next}
 use Rattle.nm_session.specs.declared.next.Next.TheVariants as next
 use Rattle.nm_session.specs.declared.outcome.Outcome.{Outcome}
@@ -19,7 +19,7 @@ use Rattle.nm_session.specs.Outcome.{Fits, says, reply_frame}
 use Rattle.nm_session.specs.Session.{Session, IsReading}
 
 -- what is kept of a request that has a task for a target
-abbrev pub held_for : Request → Result Task ℕ → List Held
+abbrev pub held_for : Request → Result Task ℕ → List Outstanding
 held_for request (Ok task.Nothing) = []
 held_for request (Ok task.Disconnect) = []
 held_for request (Ok task) =
@@ -69,16 +69,16 @@ pub record Stops (old : Session) (fault : Fault) (new : Session) : Type 0 where
   pub new_is : new ≡ record old { stage = stage.Ended by.Protocol }
 
 -- the outcome is one that the task of the request with this index can have
-abbrev pub FitsAt : ℕ → Outcome → List Held → Type 0
+abbrev pub FitsAt : ℕ → Outcome → List Outstanding → Type 0
 FitsAt index outcome outstanding =
     All (λ held. held.index ≡ index → Fits held.task outcome) outstanding
 
 -- an outstanding request is answered with this outcome of its task
 pub record Answers (old : Session) (index : ℕ) (outcome : Outcome) (new : Session)
     : Type 0 where
-  pub before : List Held
-  pub held : Held
-  pub after : List Held
+  pub before : List Outstanding
+  pub held : Outstanding
+  pub after : List Outstanding
   pub found : old.outstanding ≡ before ++ held ∷ after
   pub index_is : held.index ≡ index
   pub fits : Fits held.task outcome

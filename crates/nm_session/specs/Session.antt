@@ -3,7 +3,7 @@ use Rattle.std.specs.Prelude.{◌≡◌, ◌≢◌, ℕ, ◌<◌, All, List, [],
 use Rattle.nm_wire.specs.declared.export.Export.{Export}
 use Rattle.nm_haggle.specs.Haggling.{Haggling, initial_state, greeting_bytes}
 use Rattle.nm_session.specs.declared.ended_by.EndedBy.{EndedBy}
-use Rattle.nm_session.specs.declared.held.Held.{Held}
+use Rattle.nm_session.specs.declared.outstanding.Outstanding.{Outstanding}
 use Rattle.nm_session.specs.declared.phase.Phase.{Phase}
 use Rattle.nm_session.specs.declared.phase.Phase.TheVariants as phase
 use Rattle.nm_session.specs.declared.stage.Stage.{Stage}
@@ -18,7 +18,7 @@ pub record Session : Type 0 where
   pub haggling : Haggling
   pub rest : List ℕ
   pub count : ℕ
-  pub outstanding : List Held
+  pub outstanding : List Outstanding
   pub out : List ℕ
 
 -- a new session over an export: the greeting waits to go out
@@ -55,12 +55,12 @@ ended_by stage.Serving = None
 ended_by (stage.Ended by) = Some by
 
 -- how far a session is, once nothing more is read
-abbrev pub ended_phase : List Held → Phase
+abbrev pub ended_phase : List Outstanding → Phase
 ended_phase [] = phase.Closed
 ended_phase (held ∷ others) = phase.Draining
 
 -- how far a session is, by its stage and the requests that are not answered
-abbrev pub phase_at : Stage → List Held → Phase
+abbrev pub phase_at : Stage → List Outstanding → Phase
 phase_at stage.Haggling outstanding = phase.Haggling
 phase_at stage.Serving outstanding = phase.Serving
 phase_at (stage.Ended by) outstanding = ended_phase outstanding

@@ -8,16 +8,16 @@ ghost use Rattle.nm_session.specs.Session as session;
 ghost use Rattle.nm_session.specs.Feeding.{Feeds, Responds, IsEnded};
 ghost use Rattle.nm_session.specs.Asking.{Answers, FitsAt};
 ghost use Rattle.nm_session.specs.Reading.{Reads, ReadsOn, RepliesItself, Tells};
-ghost use Rattle.nm_session.specs.declared.held.Held.{Held};
+ghost use Rattle.nm_session.specs.declared.outstanding.Outstanding.{Outstanding};
 ghost use Rattle.nm_session.specs.declared.stage.Stage.TheVariants as stage;
 
+use crate::dispatch::{dispatch, is_fit, is_same, put_outcome, stage_after};
 use crate::ended_by::EndedBy;
-use crate::held::Held;
 use crate::next::Next;
 use crate::outcome::Outcome;
+use crate::outstanding::Outstanding;
 use crate::phase::Phase;
 use crate::refused::Refused;
-use crate::settling::{is_fit, is_same, put_outcome, settle, stage_after};
 use crate::stage::Stage;
 use nm_haggle::Haggle;
 use nm_requests::{Fault, RequestReader, Task, judge};
@@ -36,7 +36,7 @@ pub struct SessionCore {
     stage: Stage,
     haggle: Haggle,
     reader: RequestReader,
-    outstanding: Vec<Held>,
+    outstanding: Vec<Outstanding>,
     out: Vec<u8>,
 }
 
@@ -159,7 +159,7 @@ impl SessionCore {
             Ok(Some(request)) => {
                 let judged = judge(&request, self.haggle.export());
                 self.stage = stage_after(&judged);
-                Ok(settle(request, judged, &mut self.outstanding, &mut self.out))
+                Ok(dispatch(request, judged, &mut self.outstanding, &mut self.out))
             }
             Err(Fault::Memory) => Err(Refused::Memory),
             Err(Fault::Magic) => {
@@ -297,16 +297,16 @@ fn closed_by(aborted: bool) -> EndedBy
 }
 
 // Where the outstanding request with this index stands.
-fn find(outstanding: &[Held], index: u64) -> Option<usize>
+fn find(outstanding: &[Outstanding], index: u64) -> Option<usize>
     ensures some { IfSome result (λ at. (at < length outstanding.now)
-        × ((other : Held) → (slice_index_or outstanding.now at other).index ≡ index)) }
+        × ((other : Outstanding) → (slice_index_or outstanding.now at other).index ≡ index)) }
     ensures none { IfNone result (All (λ held. held.index ≢ index) outstanding.now) }
 {
     outstanding.iter().position(|held| held.index == index)
 }
 
 // Room for so many outstanding requests, and the greeting.
-fn make_room(alloc: Global, limit: usize) -> Result<(Vec<Held>, Vec<u8>), AllocError>
+fn make_room(alloc: Global, limit: usize) -> Result<(Vec<Outstanding>, Vec<u8>), AllocError>
     ensures held { IfOk result (λ room. room.0.items ≡ []) }
     ensures capacity { IfOk result (λ room. vec_capacity room.0 ≡ limit) }
     ensures out { IfOk result (λ room. room.1.items ≡ greeting_bytes) }

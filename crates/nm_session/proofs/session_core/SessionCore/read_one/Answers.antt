@@ -11,9 +11,9 @@ invariant_of-self-in-Ok-Some c =
     record {
       haggles = λ e. absurd (goes_on c.judge-judged.result (sym c.stage_after-self-inside.ensures ∙ e));
       going = λ _. handed.fault;
-      few = omega (arith, c.settle.ensures.one, c.self.invariant.few, c.len.ensures, c.if-len-self.false);
-      room = omega (arith, c.settle.ensures.capacity, c.self.invariant.room);
-      known = rw (c.settle.ensures.outstanding, handed.count)
+      few = omega (arith, c.dispatch.ensures.one, c.self.invariant.few, c.len.ensures, c.if-len-self.false);
+      room = omega (arith, c.dispatch.ensures.capacity, c.self.invariant.room);
+      known = rw (c.dispatch.ensures.outstanding, handed.count)
           (known_after c.self.inside.outstanding.items c.in-Ok-Some.request
           c.judge-judged.result c.self.inside.reader.count index c.self.invariant.known);
     }
@@ -36,6 +36,6 @@ returns-in-Ok-Some-clause-tells c =
       stage = c.stage_after-self-inside.ensures;
       haggling = refl;
       count = handed.count;
-      outstanding = c.settle.ensures.outstanding;
-      out = c.settle.ensures.out ∙ ap (λ (xs : List ℕ). xs ++ own_reply c.in-Ok-Some.request c.judge-judged.result) c.reserve.ensures.items;
-    })) c.settle.ensures.next)
+      outstanding = c.dispatch.ensures.outstanding;
+      out = c.dispatch.ensures.out ∙ ap (λ (xs : List ℕ). xs ++ own_reply c.in-Ok-Some.request c.judge-judged.result) c.reserve.ensures.items;
+    })) c.dispatch.ensures.next)

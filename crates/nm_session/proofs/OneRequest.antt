@@ -1,4 +1,4 @@
--- What a turn reads, calls for and answers is a move.
+-- What one request reads, calls for and answers is a move.
 use Rattle.std.proofs.Common.{◌≡◌, ℕ, zero, suc, ◌+◌, ◌<◌, ◌≤◌, List, [], ◌∷◌, ◌++◌, length, Option, Some, None, Result, Ok, Err, refl, ◌⊎◌, sym, ap, ◌∙◌, subst, append-nil, All, arith, inl, inr}
 use Rattle.std.proofs.lemmas.List.Elements.{All-nil, All-cons, All-same}
 use Rattle.nm_wire.specs.Export.{size_of}
@@ -8,7 +8,7 @@ use Rattle.nm_requests.specs.declared.task.Task.{Task}
 use Rattle.nm_requests.specs.declared.task.Task.TheVariants as task
 use Rattle.nm_requests.specs.Judging.{LiesInside}
 use Rattle.nm_requests.specs.Stream.{most_requests}
-use Rattle.nm_session.specs.declared.held.Held.{Held}
+use Rattle.nm_session.specs.declared.outstanding.Outstanding.{Outstanding}
 use Rattle.nm_session.specs.declared.next.Next.TheVariants as next
 use Rattle.nm_session.specs.Session.{Session}
 use Rattle.nm_session.specs.Feeding.{IsEnded}
@@ -21,10 +21,10 @@ use Rattle.nm_session.specs.Event.{Event, Asked, Answered, Stopped, Runs, fed_by
 use Rattle.nm_session.specs.Target.{TargetCall}
 use Rattle.nm_session.specs.Calling.{IsCallable, AreCallsOf, Calls}
 use Rattle.nm_session.specs.CalledValue.{CalledValue}
-use Rattle.nm_session.specs.Moving.{Moment, moment, Waiting, InTurn, waiting_for, Moves}
-use Rattle.nm_session.specs.Turning.{IsIdle, Turns, TurnsOff, AnswersSo}
-use Rattle.nm_session.specs.declared.turn.Turn.{Turn}
-use Rattle.nm_session.specs.declared.turn.Turn.TheVariants as turn
+use Rattle.nm_session.specs.Moving.{SessionState, state, Waiting, InTurn, waiting_for, Moves}
+use Rattle.nm_session.specs.Batch.{IsIdle, Serves, RunsOut, AnswersSo}
+use Rattle.nm_session.specs.declared.stop.Stop.{Stop}
+use Rattle.nm_session.specs.declared.stop.Stop.TheVariants as stop
 use Rattle.nm_session.proofs.Motion.{IsPath, moves_on, moves_nowhere, breaks_on}
 
 -- nobody waits where the core replies itself
@@ -68,13 +68,13 @@ callable request export (task.Zero offset count fua) index payload size inside f
 
 -- what is outstanding once a task was issued to an idle core
 pub record IsOutstanding (core : Session) (index : ℕ) (task : Task) : Type 0 where
-  pub held : Held
+  pub held : Outstanding
   pub alone : core.outstanding ≡ held ∷ []
   pub index_is : held.index ≡ index
   pub task_is : held.task ≡ task
 
 -- a list of one thing has no other one in it
-one_alone : (one other : Held) (before after : List Held) → one ∷ [] ≡ before ++ other ∷ after
+one_alone : (one other : Outstanding) (before after : List Outstanding) → one ∷ [] ≡ before ++ other ∷ after
     → (other ≡ one) × (before ++ after ≡ [])
 one_alone one other [] after same = (cc, cc)
 one_alone one other (x ∷ []) after same = absurd (cc)
@@ -82,12 +82,12 @@ one_alone one other (x ∷ y ∷ before) after same = absurd (cc)
 
 -- what is found of an index is what is outstanding of it
 pub found_alone : (core : Session) (index : ℕ) (task : Task) → IsOutstanding core index task
-    → (before after : List Held) (held : Held) → core.outstanding ≡ before ++ held ∷ after
+    → (before after : List Outstanding) (held : Outstanding) → core.outstanding ≡ before ++ held ∷ after
     → (held.task ≡ task) × (held.index ≡ index) × (before ++ after ≡ [])
 found_alone core index task out before after held found =
     let same = one_alone out.held held before after (sym out.alone ∙ found) in (
-      ap (λ (h : Held). h.task) same.0 ∙ out.task_is,
-      ap (λ (h : Held). h.index) same.0 ∙ out.index_is,
+      ap (λ (h : Outstanding). h.task) same.0 ∙ out.task_is,
+      ap (λ (h : Outstanding). h.index) same.0 ∙ out.index_is,
       same.1,
     )
 
@@ -95,7 +95,7 @@ found_alone core index task out before after held found =
 pub each_outstanding : (core : Session) (index : ℕ) (task : Task) → IsOutstanding core index task
     → All (λ held. held.index ≡ index → held.task ≡ task) core.outstanding
 each_outstanding core index task out =
-    let HasTask : Held → Type 0 = λ held. held.index ≡ index → held.task ≡ task in
+    let HasTask : Outstanding → Type 0 = λ held. held.index ≡ index → held.task ≡ task in
     All-same HasTask core.outstanding (out.held ∷ []) out.alone
     (All-cons HasTask out.held [] (λ same. out.task_is) (All-nil HasTask))
 
@@ -109,7 +109,7 @@ idle_after_reply start old new idle replies =
         limit = ap (λ (s : Session). s.limit) asks.new_is ∙ idle.limit;
         export = ap (λ (s : Session). s.haggling.export) asks.new_is ∙ idle.export;
         outstanding = ap (λ (s : Session). s.outstanding) asks.new_is
-            ∙ ap (λ (held : List Held). old.outstanding ++ held) none
+            ∙ ap (λ (held : List Outstanding). old.outstanding ++ held) none
             ∙ append-nil old.outstanding ∙ idle.outstanding;
       },
       omega (arith, ap (λ (s : Session). s.count) asks.new_is),
@@ -123,8 +123,8 @@ issued_alone start old new index task payload idle issues =
     record {
       held = record { index = issues.request.index; task = task; cookie = issues.request.cookie };
       alone = ap (λ (s : Session). s.outstanding) issues.asks.new_is
-          ∙ ap (λ (held : List Held). old.outstanding ++ held) is.held
-          ∙ ap (λ (held : List Held). held ++ record { index = issues.request.index; task = task; cookie = issues.request.cookie } ∷ []) idle.outstanding;
+          ∙ ap (λ (held : List Outstanding). old.outstanding ++ held) is.held
+          ∙ ap (λ (held : List Outstanding). held ++ record { index = issues.request.index; task = task; cookie = issues.request.cookie } ∷ []) idle.outstanding;
       index_is = is.index_is;
       task_is = refl;
     }
@@ -134,7 +134,7 @@ module _ {T : Type 0} (follows : T → List TargetCall → T → Type 0) (path :
   inside : (old new : Session) (from to : T) (input output : Option (List ℕ)) (events : List Event)
       (calls : List TargetCall) → Runs old events new → InTurn None events calls None
       → follows from calls to → fed_bytes events ≡ [] → taken_bytes events ≡ []
-      → Moves follows (moment old from input output) (moment new to input output)
+      → Moves follows (state old from input output) (state new to input output)
   inside old new from to input output events calls runs in_turn leads none_fed none_taken = record {
     events = events;
     calls = calls;
@@ -147,7 +147,7 @@ module _ {T : Type 0} (follows : T → List TargetCall → T → Type 0) (path :
 
   -- a request that the core replies to itself is a move
   one_reply : (old new : Session) (target : T) (input output : Option (List ℕ)) → RepliesItself old new
-      → Moves follows (moment old target input output) (moment new target input output)
+      → Moves follows (state old target input output) (state new target input output)
   one_reply old new target input output replies =
       let none = (nobody_waits replies.request replies.judged replies.no_target).0 in
       inside old new target target input output (Asked replies.request replies.judged ∷ []) []
@@ -158,13 +158,13 @@ module _ {T : Type 0} (follows : T → List TargetCall → T → Type 0) (path :
   -- what the core replies to itself is a move, after which it is idle
   pub record RepliesOn (old new : Session) : Type 0 where
     pub moves : (target : T) (input output : Option (List ℕ))
-        → Moves follows (moment old target input output) (moment new target input output)
+        → Moves follows (state old target input output) (state new target input output)
     pub idle : IsIdle old new
     pub count : old.count ≤ new.count
 
   replies_on : (times : ℕ) (old new : Session) → IsIdle old old → RepliesTimes times old new → RepliesOn old new
   replies_on zero old new idle same = subst (λ (s : Session). RepliesOn old s) (sym same) (record {
-    moves = λ target input output. moves_nowhere follows path (moment old target input output);
+    moves = λ target input output. moves_nowhere follows path (state old target input output);
     idle = idle;
     count = omega arith;
   })
@@ -172,8 +172,8 @@ module _ {T : Type 0} (follows : T → List TargetCall → T → Type 0) (path :
       let before = replies_on times old replies.0 idle replies.1 in
       let last = idle_after_reply old replies.0 new before.idle replies.2 in
       record {
-        moves = λ target input output. moves_on follows path (moment old target input output)
-            (moment replies.0 target input output) (moment new target input output)
+        moves = λ target input output. moves_on follows path (state old target input output)
+            (state replies.0 target input output) (state new target input output)
             (before.moves target input output)
             (one_reply replies.0 new target input output replies.2);
         idle = last.0;
@@ -181,44 +181,44 @@ module _ {T : Type 0} (follows : T → List TargetCall → T → Type 0) (path :
       }
 
   -- nothing is there to be read
-  pub turn_starves : (old new : Session) (target : T) (input output : Option (List ℕ)) → IsIdle old old
+  pub one_starves : (old new : Session) (target : T) (input output : Option (List ℕ)) → IsIdle old old
       → Reads old next.Starved new
-      → Turns follows turn.Starved (moment old target input output) (moment new target input output)
-  turn_starves old new target input output idle reads =
+      → Serves follows stop.Starved (state old target input output) (state new target input output)
+  one_starves old new target input output idle reads =
       let before = replies_on reads.reads_on.times old reads.mid idle reads.reads_on.each in
-      subst (λ (s : Session). Turns follows turn.Starved (moment old target input output) (moment s target input output))
+      subst (λ (s : Session). Serves follows stop.Starved (state old target input output) (state s target input output))
       (sym reads.tells.unchanged)
       (record { moves = before.moves target input output; idle = before.idle; stops = reads.tells.unfinished })
 
   -- an idle core is not held back
-  pub turn_is_not_full : (old new : Session) → IsIdle old old → Reads old next.Full new → ⊥
-  turn_is_not_full old new idle reads =
+  pub one_is_not_full : (old new : Session) → IsIdle old old → Reads old next.Full new → ⊥
+  one_is_not_full old new idle reads =
       let before = replies_on reads.reads_on.times old reads.mid idle reads.reads_on.each in
-      let none : length reads.mid.outstanding ≡ 0 = ap (λ (held : List Held). length held) before.idle.outstanding in
+      let none : length reads.mid.outstanding ≡ 0 = ap (λ (held : List Outstanding). length held) before.idle.outstanding in
       omega (arith, none, before.idle.limit, reads.tells.full.full)
 
   -- nothing more is read
-  pub turn_ends : (old new : Session) (target : T) (input output : Option (List ℕ)) → IsIdle old old
+  pub one_ends : (old new : Session) (target : T) (input output : Option (List ℕ)) → IsIdle old old
       → Reads old next.Ended new
-      → Turns follows turn.Ended (moment old target input output) (moment new target input output)
-  turn_ends old new target input output idle reads =
+      → Serves follows stop.Ended (state old target input output) (state new target input output)
+  one_ends old new target input output idle reads =
       let before = replies_on reads.reads_on.times old reads.mid idle reads.reads_on.each in
       ends_by reads.mid before reads.tells
     where
       joined : (mid : Session) → RepliesOn old mid → (event : Event) → Runs mid (event ∷ []) new
           → InTurn None (event ∷ []) [] None → fed_bytes (event ∷ []) ≡ [] → taken_bytes (event ∷ []) ≡ []
-          → Moves follows (moment old target input output) (moment new target input output)
+          → Moves follows (state old target input output) (state new target input output)
       joined mid before event runs in_turn none_fed none_taken =
-          moves_on follows path (moment old target input output) (moment mid target input output)
-          (moment new target input output) (before.moves target input output)
+          moves_on follows path (state old target input output) (state mid target input output)
+          (state new target input output) (before.moves target input output)
           (inside mid new target target input output (event ∷ []) [] runs in_turn (path.stays target)
           none_fed none_taken)
 
       ends_by : (mid : Session) → RepliesOn old mid
           → StaysEnded mid new ⊎ (Disconnects mid new ⊎ Breaks mid new)
-          → Turns follows turn.Ended (moment old target input output) (moment new target input output)
+          → Serves follows stop.Ended (state old target input output) (state new target input output)
       ends_by mid before (inl stays) =
-          subst (λ (s : Session). Turns follows turn.Ended (moment old target input output) (moment s target input output))
+          subst (λ (s : Session). Serves follows stop.Ended (state old target input output) (state s target input output))
           (sym stays.unchanged)
           (record { moves = before.moves target input output; idle = before.idle; stops = stays.ended })
       ends_by mid before (inr (inl leaves)) = record {
@@ -243,10 +243,10 @@ module _ {T : Type 0} (follows : T → List TargetCall → T → Type 0) (path :
       }
 
   -- a read for which there was no memory: some requests that the core replied to itself
-  pub turn_unread : (old new : Session) (target : T) (input output : Option (List ℕ)) → IsIdle old old
+  pub one_unread : (old new : Session) (target : T) (input output : Option (List ℕ)) → IsIdle old old
       → ReadsOn old new
-      → TurnsOff follows (moment old target input output) (moment new target input output)
-  turn_unread old new target input output idle reads =
+      → RunsOut follows (state old target input output) (state new target input output)
+  one_unread old new target input output idle reads =
       let moves = (replies_on reads.times old new idle reads.each).moves target input output in
       record {
         events = moves.events;
@@ -292,16 +292,16 @@ module _ {T : Type 0} (follows : T → List TargetCall → T → Type 0) (path :
   calls_of_waiting request t payload calls outcome same are = subst (λ (p : List ℕ). AreCallsOf t p calls outcome) (sym same) are
 
   -- its answer was refused
-  pub turn_unanswered : (old asked : Session) (from to : T) (input output : Option (List ℕ))
+  pub one_unanswered : (old asked : Session) (from to : T) (input output : Option (List ℕ))
       (called : CalledValue) → IsIdle old old → IsCalled old asked from to called
-      → TurnsOff follows (moment old from input output) (moment asked to input output)
-  turn_unanswered old asked from to input output called idle is =
+      → RunsOut follows (state old from input output) (state asked to input output)
+  one_unanswered old asked from to input output called idle is =
       let before = replies_on is.reads.reads_on.times old is.reads.mid idle is.reads.reads_on.each in
       let issues = is.reads.tells in
       let waits = (is_issued issues.request called.task called.task called.index is.payload issues.is_next).0 in
       let mid = is.reads.mid in
-      breaks_on follows path (moment old from input output) (moment mid from input output)
-      (moment asked to input output) fault.Memory (before.moves from input output)
+      breaks_on follows path (state old from input output) (state mid from input output)
+      (state asked to input output) fault.Memory (before.moves from input output)
       (record {
         events = Asked issues.request (Ok called.task) ∷ [];
         calls = is.calls.calls;
@@ -323,11 +323,11 @@ module _ {T : Type 0} (follows : T → List TargetCall → T → Type 0) (path :
       })
 
   -- it was answered
-  pub turn_answers : (old asked new : Session) (from to : T) (input output : Option (List ℕ))
+  pub one_answers : (old asked new : Session) (from to : T) (input output : Option (List ℕ))
       (called : CalledValue) → IsIdle old old → IsCalled old asked from to called
       → AnswersSo asked called new
-      → Turns follows turn.Answered (moment old from input output) (moment new to input output)
-  turn_answers old asked new from to input output called idle is answers =
+      → Serves follows stop.Answered (state old from input output) (state new to input output)
+  one_answers old asked new from to input output called idle is answers =
       let before = replies_on is.reads.reads_on.times old is.reads.mid idle is.reads.reads_on.each in
       let issues = is.reads.tells in
       let waits = (is_issued issues.request called.task called.task called.index is.payload issues.is_next).0 in
@@ -338,8 +338,8 @@ module _ {T : Type 0} (follows : T → List TargetCall → T → Type 0) (path :
       let new_is = answers.answers.new_is in
       let asked_is = issues.asks.new_is in
       record {
-        moves = moves_on follows path (moment old from input output) (moment mid from input output)
-            (moment new to input output) (before.moves from input output)
+        moves = moves_on follows path (state old from input output) (state mid from input output)
+            (state new to input output) (before.moves from input output)
             (inside mid new from to input output
             (Asked issues.request (Ok called.task) ∷ Answered called.index answers.outcome ∷ []) is.calls.calls
             (asked, issues.asks, (new, answers.answers, refl))
@@ -376,20 +376,20 @@ module _ {T : Type 0} (follows : T → List TargetCall → T → Type 0) (path :
       (subst (λ (e : Export). size_of e ≤ size) (sym before.idle.export) large) issues.is_next
 
   -- a request that is answered was read
-  pub turn_rises : (old asked new : Session) (from to : T) (called : CalledValue) → IsIdle old old
+  pub one_rises : (old asked new : Session) (from to : T) (called : CalledValue) → IsIdle old old
       → IsCalled old asked from to called → AnswersSo asked called new
       → (old.count < new.count) × (new.count ≤ most_requests)
-  turn_rises old asked new from to called idle is answers =
+  one_rises old asked new from to called idle is answers =
       let before = replies_on is.reads.reads_on.times old is.reads.mid idle is.reads.reads_on.each in
       let asks = is.reads.tells.asks in
       let after : new.count ≡ is.reads.mid.count + 1 =
       ap (λ (s : Session). s.count) answers.answers.new_is ∙ ap (λ (s : Session). s.count) asks.new_is in
       (omega (arith, before.count, after), omega (arith, after, asks.first.few))
 
-  -- one turn after the other
-  pub turns_on : (t : Turn) (a b c : Moment T) → Turns follows turn.Answered a b → Turns follows t b c
-      → Turns follows t a c
-  turns_on t a b c first second = record {
+  -- one request after the other
+  pub serves_on : (t : Stop) (a b c : SessionState T) → Serves follows stop.Answered a b → Serves follows t b c
+      → Serves follows t a c
+  serves_on t a b c first second = record {
     moves = moves_on follows path a b c first.moves second.moves;
     idle = record {
       limit = second.idle.limit;

@@ -1,6 +1,6 @@
 // What became of the next request.
 #[derive(Clone, Copy, Debug)]
-pub(crate) enum Turn {
+pub(crate) enum Stop {
     // It was answered.
     Answered,
     // No whole request is there.

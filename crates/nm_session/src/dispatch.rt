@@ -7,9 +7,9 @@ ghost use Rattle.nm_replies.specs.Answer.{frame_of};
 ghost use Rattle.nm_session.specs.Outcome.{says, reply_frame, Fits};
 
 use crate::ended_by::EndedBy;
-use crate::held::Held;
 use crate::next::Next;
 use crate::outcome::Outcome;
+use crate::outstanding::Outstanding;
 use crate::stage::Stage;
 use nm_replies::put_frame;
 use nm_requests::{Request, Task};
@@ -27,10 +27,10 @@ pub(crate) fn stage_after(judged: &Result<Task, u32>) -> Stage
 
 // Keeps a request that has a task for a target, and replies to one that has none. There is room
 // for either.
-pub(crate) fn settle(
+pub(crate) fn dispatch(
     request: Request,
     judged: Result<Task, u32>,
-    outstanding: &mut Vec<Held>,
+    outstanding: &mut Vec<Outstanding>,
     out: &mut Vec<u8>,
 ) -> Option<Next>
     requires free { vec_len outstanding.old < vec_capacity outstanding.old }
@@ -48,7 +48,7 @@ pub(crate) fn settle(
         }
         Ok(Task::Disconnect) => Some(Next::Ended),
         Ok(task) => {
-            outstanding.push_reserved(Held {
+            outstanding.push_reserved(Outstanding {
                 index: request.index,
                 task,
                 cookie: request.cookie,

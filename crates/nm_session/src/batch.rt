@@ -1,16 +1,16 @@
 //! One request: read, called for, and answered.
 ghost use Rattle.std.specs.Prelude.{◌≡◌, ◌≤◌, [], ℕ, List, Option, All, IfOk, IfErr, OnOk, OnErr};
 ghost use Rattle.nm_wire.specs.Export.{size_of};
-ghost use Rattle.nm_session.specs.Moving.{moment};
-ghost use Rattle.nm_session.specs.Turning.{Turns, TurnsOff, Rises, AnswersSo};
+ghost use Rattle.nm_session.specs.Moving.{state};
+ghost use Rattle.nm_session.specs.Batch.{Serves, RunsOut, Rises, AnswersSo};
 
 use crate::called::Called;
 use crate::calling::call;
 use crate::next::Next;
 use crate::refused::Refused;
 use crate::session_core::SessionCore;
+use crate::stop::Stop;
 use crate::target::Target;
-use crate::turn::Turn;
 use std::alloc::Global;
 
 // How many bytes of replies gather before they are sent.
@@ -18,60 +18,60 @@ const GATHERED: usize = 1024 * 1024;
 
 // Reads the next request that asks for calls, calls the target for it, and answers it. The requests
 // before it are those that the core answers itself.
-pub(crate) fn turn<T: Target>(
+pub(crate) fn serve_one<T: Target>(
     alloc: Global,
     core: &mut SessionCore,
     target: &mut T,
-) -> Result<Turn, Refused>
+) -> Result<Stop, Refused>
     requires idle { core.old.outstanding ≡ [] }
     requires limit { core.old.limit ≡ 1 }
     requires size { size_of core.old.haggling.export ≤ T.size target.old }
-    ensures ok { IfOk result (λ turn. (input output : Option (List ℕ))
-        → Turns T.follows turn (moment core.old target.old input output)
-        (moment core.new target.new input output)) }
-    ensures rises { IfOk result (λ turn. Rises turn core.old core.new) }
+    ensures ok { IfOk result (λ stop. (input output : Option (List ℕ))
+        → Serves T.follows stop (state core.old target.old input output)
+        (state core.new target.new input output)) }
+    ensures rises { IfOk result (λ stop. Rises stop core.old core.new) }
     ensures err { OnErr result ((input output : Option (List ℕ))
-        → TurnsOff T.follows (moment core.old target.old input output)
-        (moment core.new target.new input output)) }
+        → RunsOut T.follows (state core.old target.old input output)
+        (state core.new target.new input output)) }
     ensures size { T.size target.new ≡ T.size target.old }
 {
     match core.next(alloc)? {
         Next::Issue(index, task, payload) => {
             let called = call(alloc, target, index, task, payload);
             answer(alloc, core, called)?;
-            Ok(Turn::Answered)
+            Ok(Stop::Answered)
         }
-        Next::Starved => Ok(Turn::Starved),
+        Next::Starved => Ok(Stop::Starved),
         Next::Full => unreachable!(),
-        Next::Ended => Ok(Turn::Ended),
+        Next::Ended => Ok(Stop::Ended),
     }
 }
 
-// Takes turns until no whole request is there, nothing more is read, or about 1 MiB of replies has
+// Serves requests until no whole one is there, nothing more is read, or about 1 MiB of replies has
 // gathered, whatever the client asks for.
-pub(crate) fn gather<T: Target>(
+pub(crate) fn serve_batch<T: Target>(
     alloc: Global,
     core: &mut SessionCore,
     target: &mut T,
-) -> Result<Turn, Refused>
+) -> Result<Stop, Refused>
     requires idle { core.old.outstanding ≡ [] }
     requires limit { core.old.limit ≡ 1 }
     requires size { size_of core.old.haggling.export ≤ T.size target.old }
-    ensures ok { IfOk result (λ turn. (input output : Option (List ℕ))
-        → Turns T.follows turn (moment core.old target.old input output)
-        (moment core.new target.new input output)) }
+    ensures ok { IfOk result (λ stop. (input output : Option (List ℕ))
+        → Serves T.follows stop (state core.old target.old input output)
+        (state core.new target.new input output)) }
     ensures err { OnErr result ((input output : Option (List ℕ))
-        → TurnsOff T.follows (moment core.old target.old input output)
-        (moment core.new target.new input output)) }
+        → RunsOut T.follows (state core.old target.old input output)
+        (state core.new target.new input output)) }
     ensures size { T.size target.new ≡ T.size target.old }
 {
-    'turns: while core.waiting() < GATHERED {
-        match turn(alloc, core, target)? {
-            Turn::Answered => (),
+    'requests: while core.waiting() < GATHERED {
+        match serve_one(alloc, core, target)? {
+            Stop::Answered => (),
             stop => return Ok(stop),
         }
     }
-    Ok(Turn::Answered)
+    Ok(Stop::Answered)
 }
 
 // Answers the request that was called for. Refused, it changes nothing.

@@ -1,11 +1,11 @@
 //! A session's first part: the haggling over its export.
 ghost use Rattle.std.specs.Prelude.{◌≡◌, ◌<◌, [], length, IfOk, IfErr};
 ghost use Rattle.nm_replies.specs.Sending.{device_of};
-ghost use Rattle.nm_session.specs.Moving.{moment, BreaksOff};
-ghost use Rattle.nm_session.specs.Serving.{no_target, ShakesHands};
+ghost use Rattle.nm_session.specs.Moving.{state, BreaksOff};
+ghost use Rattle.nm_session.specs.Serving.{no_target, Negotiates};
 
 use crate::end::End;
-use crate::moving_bytes::{feed_piece, send_out};
+use crate::io::{feed_piece, send_out};
 use crate::phase::Phase;
 use crate::serve_fault::ServeFault;
 use crate::served::Served;
@@ -16,7 +16,7 @@ use std::io::{Read, Write};
 use std::sync::Wait;
 
 // Haggles until transmission begins or the session ends, and sends all that is to go out.
-pub(crate) fn shake_hands<R: Wait, I: Read, O: Write>(
+pub(crate) fn negotiate<R: Wait, I: Read, O: Write>(
     rt: &R,
     alloc: Global,
     core: &mut SessionCore,
@@ -27,12 +27,12 @@ pub(crate) fn shake_hands<R: Wait, I: Read, O: Write>(
     requires idle { core.old.outstanding ≡ [] }
     requires limit { core.old.limit ≡ 1 }
     requires room { 0 < length room.old }
-    ensures ok { IfOk result (λ served. ShakesHands served
-        (moment core.old tt (I.remaining reader.old) (O.contents (device_of sender.old)))
-        (moment core.new tt (I.remaining reader.new) (O.contents (device_of sender.new)))) }
+    ensures ok { IfOk result (λ served. Negotiates served
+        (state core.old tt (I.remaining reader.old) (O.contents (device_of sender.old)))
+        (state core.new tt (I.remaining reader.new) (O.contents (device_of sender.new)))) }
     ensures err { IfErr result (λ fault. BreaksOff no_target
-        (moment core.old tt (I.remaining reader.old) (O.contents (device_of sender.old)))
-        (moment core.new tt (I.remaining reader.new) (O.contents (device_of sender.new))) fault) }
+        (state core.old tt (I.remaining reader.old) (O.contents (device_of sender.old)))
+        (state core.new tt (I.remaining reader.new) (O.contents (device_of sender.new))) fault) }
 {
     'pieces: for _ in rt.forever() {
         if let Err(fault) = send_out(core, sender) {

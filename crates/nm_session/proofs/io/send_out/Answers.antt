@@ -2,7 +2,7 @@
 use Rattle.std.proofs.Common.{◌≡◌, ◌<◌, ℕ, List, Err, length, take, refl, ap, ◌∙◌, subst}
 use Rattle.std.specs.Io.KnownBytes.{Appends}
 use Rattle.nm_replies.specs.Sending.{device_of}
-use Rattle.nm_session.proofs.moving_bytes.send_out.Goals as goal
+use Rattle.nm_session.proofs.io.send_out.Goals as goal
 
 pub returns-in-Err-Device-clause-err : goal.returns-in-Err-Device-clause-err
 returns-in-Err-Device-clause-err g c =

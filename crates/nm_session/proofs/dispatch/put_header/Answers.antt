@@ -1,6 +1,6 @@
 use Rattle.std.proofs.Common.{arith}
 use Rattle.nm_session.proofs.Frames.{length-header}
-use Rattle.nm_session.proofs.settling.put_header.Goals as goal
+use Rattle.nm_session.proofs.dispatch.put_header.Goals as goal
 
 pub unwrap-requires : goal.unwrap-requires
 unwrap-requires c =

@@ -1,7 +1,7 @@
 //! A session's bytes: from its reader to its core, and from its core to its writer.
 ghost use Rattle.std.specs.Prelude.{◌<◌, length, IfOk, IfErr, OnOk};
 ghost use Rattle.nm_replies.specs.Sending.{device_of};
-ghost use Rattle.nm_session.specs.MovingBytes.{FeedsPiece, FeedsNone, SendsOut, SendsPart};
+ghost use Rattle.nm_session.specs.Io.{FeedsPiece, FeedsNone, SendsOut, SendsPart};
 
 use crate::serve_fault::ServeFault;
 use crate::session_core::SessionCore;

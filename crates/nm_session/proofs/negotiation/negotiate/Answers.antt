@@ -1,10 +1,10 @@
 -- Each way through the loop goes on from the moves so far as the lemmas of `Pieces` say.
 use Rattle.std.proofs.Common.{inl}
 use Rattle.nm_replies.specs.Sending.{device_of}
-use Rattle.nm_session.specs.Moving.{moment}
+use Rattle.nm_session.specs.Moving.{state}
 use Rattle.nm_session.specs.Serving.{no_target}
 use Rattle.nm_session.proofs.Pieces.{no_target_path, sent_on, sent_breaks, fed_on, fed_breaks, input_over, core_over, hands_of, haggling_stage, serving_stage}
-use Rattle.nm_session.proofs.handshake.shake_hands.Goals as goal
+use Rattle.nm_session.proofs.negotiation.negotiate.Goals as goal
 
 pub returns-in-Err-clause-err : goal.returns-in-Err-clause-err
 returns-in-Err-clause-err g c =
@@ -14,12 +14,12 @@ returns-in-Err-clause-err g c =
 pub pieces-preserved : goal.pieces-preserved
 pieces-preserved g c =
     let sent = sent_on no_target no_target_path
-    (moment c.args.core.now tt (g.I.Read.remaining c.args.reader.now) (g.O.Write.contents (device_of c.args.sender.now)))
+    (state c.args.core.now tt (g.I.Read.remaining c.args.reader.now) (g.O.Write.contents (device_of c.args.sender.now)))
     c.pieces.core c.send_out.new.core tt (g.I.Read.remaining c.pieces.reader)
     (g.O.Write.contents (device_of c.pieces.sender)) (g.O.Write.contents (device_of c.send_out.new.sender))
     c.pieces.invariant.moves c.pieces.invariant.idle c.in_default.ensures.ok in
     let fed = fed_on no_target no_target_path
-    (moment c.args.core.now tt (g.I.Read.remaining c.args.reader.now) (g.O.Write.contents (device_of c.args.sender.now)))
+    (state c.args.core.now tt (g.I.Read.remaining c.args.reader.now) (g.O.Write.contents (device_of c.args.sender.now)))
     c.send_out.new.core c.feed_piece.new.core tt (g.I.Read.remaining c.pieces.reader)
     (g.I.Read.remaining c.feed_piece.new.reader) (g.O.Write.contents (device_of c.send_out.new.sender))
     sent (rw c.in-Ok-true.field-0-test at c.in-Ok-true.ensures.ok) in
@@ -28,12 +28,12 @@ pieces-preserved g c =
 pub returns-in-Ok-false-clause-ok : goal.returns-in-Ok-false-clause-ok
 returns-in-Ok-false-clause-ok g c =
     let sent = sent_on no_target no_target_path
-    (moment c.args.core.now tt (g.I.Read.remaining c.args.reader.now) (g.O.Write.contents (device_of c.args.sender.now)))
+    (state c.args.core.now tt (g.I.Read.remaining c.args.reader.now) (g.O.Write.contents (device_of c.args.sender.now)))
     c.pieces.core c.send_out.new.core tt (g.I.Read.remaining c.pieces.reader)
     (g.O.Write.contents (device_of c.pieces.sender)) (g.O.Write.contents (device_of c.send_out.new.sender))
     c.pieces.invariant.moves c.pieces.invariant.idle c.in_default.ensures.ok in
     hands_of c.report.result _ _ (input_over no_target no_target_path
-    (moment c.args.core.now tt (g.I.Read.remaining c.args.reader.now) (g.O.Write.contents (device_of c.args.sender.now)))
+    (state c.args.core.now tt (g.I.Read.remaining c.args.reader.now) (g.O.Write.contents (device_of c.args.sender.now)))
     c.send_out.new.core c.feed_piece.new.core tt (g.I.Read.remaining c.pieces.reader)
     (g.I.Read.remaining c.feed_piece.new.reader) (g.O.Write.contents (device_of c.send_out.new.sender))
     c.report.result sent
@@ -43,12 +43,12 @@ returns-in-Ok-false-clause-ok g c =
 pub returns-in-Err-feed_piece-clause-err : goal.returns-in-Err-feed_piece-clause-err
 returns-in-Err-feed_piece-clause-err g c =
     let sent = sent_on no_target no_target_path
-    (moment c.args.core.now tt (g.I.Read.remaining c.args.reader.now) (g.O.Write.contents (device_of c.args.sender.now)))
+    (state c.args.core.now tt (g.I.Read.remaining c.args.reader.now) (g.O.Write.contents (device_of c.args.sender.now)))
     c.pieces.core c.send_out.new.core tt (g.I.Read.remaining c.pieces.reader)
     (g.O.Write.contents (device_of c.pieces.sender)) (g.O.Write.contents (device_of c.send_out.new.sender))
     c.pieces.invariant.moves c.pieces.invariant.idle c.in_default.ensures.ok in
     fed_breaks no_target no_target_path
-    (moment c.args.core.now tt (g.I.Read.remaining c.args.reader.now) (g.O.Write.contents (device_of c.args.sender.now)))
+    (state c.args.core.now tt (g.I.Read.remaining c.args.reader.now) (g.O.Write.contents (device_of c.args.sender.now)))
     c.send_out.new.core c.feed_piece.new.core tt (g.I.Read.remaining c.pieces.reader)
     (g.I.Read.remaining c.feed_piece.new.reader) (g.O.Write.contents (device_of c.send_out.new.sender))
     c.in-Err-feed_piece.fault sent c.in-Err-feed_piece.ensures.err
@@ -56,7 +56,7 @@ returns-in-Err-feed_piece-clause-err g c =
 pub returns-in-Serving-clause-ok : goal.returns-in-Serving-clause-ok
 returns-in-Serving-clause-ok g c =
     let sent = sent_on no_target no_target_path
-    (moment c.args.core.now tt (g.I.Read.remaining c.args.reader.now) (g.O.Write.contents (device_of c.args.sender.now)))
+    (state c.args.core.now tt (g.I.Read.remaining c.args.reader.now) (g.O.Write.contents (device_of c.args.sender.now)))
     c.pieces.core c.send_out.new.core tt (g.I.Read.remaining c.pieces.reader)
     (g.O.Write.contents (device_of c.pieces.sender)) (g.O.Write.contents (device_of c.send_out.new.sender))
     c.pieces.invariant.moves c.pieces.invariant.idle c.in_default.ensures.ok in
@@ -70,11 +70,11 @@ returns-in-Serving-clause-ok g c =
 pub returns-in_default-phase-clause-ok : goal.returns-in_default-phase-clause-ok
 returns-in_default-phase-clause-ok g c =
     let sent = sent_on no_target no_target_path
-    (moment c.args.core.now tt (g.I.Read.remaining c.args.reader.now) (g.O.Write.contents (device_of c.args.sender.now)))
+    (state c.args.core.now tt (g.I.Read.remaining c.args.reader.now) (g.O.Write.contents (device_of c.args.sender.now)))
     c.pieces.core c.send_out.new.core tt (g.I.Read.remaining c.pieces.reader)
     (g.O.Write.contents (device_of c.pieces.sender)) (g.O.Write.contents (device_of c.send_out.new.sender))
     c.pieces.invariant.moves c.pieces.invariant.idle c.in_default.ensures.ok in
     hands_of c.report-in_default-phase.result _ _ (core_over no_target no_target_path
-    (moment c.args.core.now tt (g.I.Read.remaining c.args.reader.now) (g.O.Write.contents (device_of c.args.sender.now)))
-    (moment c.send_out.new.core tt (g.I.Read.remaining c.pieces.reader) (g.O.Write.contents (device_of c.send_out.new.sender)))
+    (state c.args.core.now tt (g.I.Read.remaining c.args.reader.now) (g.O.Write.contents (device_of c.args.sender.now)))
+    (state c.send_out.new.core tt (g.I.Read.remaining c.pieces.reader) (g.O.Write.contents (device_of c.send_out.new.sender)))
     c.end.result c.report-in_default-phase.result sent c.end.ensures c.report-in_default-phase.ensures)

@@ -2,12 +2,12 @@
 use Rattle.std.specs.Prelude.{◌≡◌, ◌<◌, ◌≤◌, ◌⊎◌, List, [], None}
 use Rattle.nm_requests.specs.Stream.{EndsAs, most_requests}
 use Rattle.nm_session.specs.declared.stage.Stage.TheVariants as stage
-use Rattle.nm_session.specs.declared.turn.Turn.{Turn}
-use Rattle.nm_session.specs.declared.turn.Turn.TheVariants as turn
+use Rattle.nm_session.specs.declared.stop.Stop.{Stop}
+use Rattle.nm_session.specs.declared.stop.Stop.TheVariants as stop
 use Rattle.nm_session.specs.Session.{Session, IsReading}
 use Rattle.nm_session.specs.Feeding.{IsEnded}
 use Rattle.nm_session.specs.Target.{TargetCall}
-use Rattle.nm_session.specs.Moving.{Moment, Moves, BreaksOff}
+use Rattle.nm_session.specs.Moving.{SessionState, Moves, BreaksOff}
 use Rattle.nm_session.specs.declared.outcome.Outcome.{Outcome}
 use Rattle.nm_session.specs.declared.serve_fault.ServeFault.TheVariants as fault
 use Rattle.nm_session.specs.Asking.{Answers}
@@ -24,29 +24,29 @@ pub record IsIdle (old new : Session) : Type 0 where
 abbrev pub IsStarved : Session → Type 0
 IsStarved core = (core.stage ≡ stage.Haggling) ⊎ (IsReading core × EndsAs core.count core.rest None)
 
--- where a turn stops: after an answer anywhere
-abbrev pub StopsAt : Turn → Session → Type 0
-StopsAt turn.Answered core = Unit {0}
-StopsAt turn.Starved core = IsStarved core
-StopsAt turn.Ended core = IsEnded core.stage
+-- where serving stops: after an answer anywhere
+abbrev pub StopsAt : Stop → Session → Type 0
+StopsAt stop.Answered core = Unit {0}
+StopsAt stop.Starved core = IsStarved core
+StopsAt stop.Ended core = IsEnded core.stage
 
--- turns lead from one moment to another
-pub record Turns {T : Type 0} (follows : T → List TargetCall → T → Type 0) (turn : Turn)
-    (from to : Moment T) : Type 0 where
+-- requests that are served lead from one moment to another
+pub record Serves {T : Type 0} (follows : T → List TargetCall → T → Type 0) (stop : Stop)
+    (from to : SessionState T) : Type 0 where
   pub moves : Moves follows from to
   pub idle : IsIdle from.core to.core
-  pub stops : StopsAt turn to.core
+  pub stops : StopsAt stop to.core
 
--- a turn that answers a request reads it
-abbrev pub Rises : Turn → Session → Session → Type 0
-Rises turn.Answered old new = (old.count < new.count) × (new.count ≤ most_requests)
-Rises turn.Starved old new = Unit {0}
-Rises turn.Ended old new = Unit {0}
+-- a request that is answered is read
+abbrev pub Rises : Stop → Session → Session → Type 0
+Rises stop.Answered old new = (old.count < new.count) × (new.count ≤ most_requests)
+Rises stop.Starved old new = Unit {0}
+Rises stop.Ended old new = Unit {0}
 
--- a turn for which there is no memory
-abbrev pub TurnsOff : {T : Type 0} → (T → List TargetCall → T → Type 0) → Moment T → Moment T
-    → Type 0
-TurnsOff follows from to = BreaksOff follows from to fault.Memory
+-- a request for which there is no memory
+abbrev pub RunsOut : {T : Type 0} → (T → List TargetCall → T → Type 0) → SessionState T
+    → SessionState T → Type 0
+RunsOut follows from to = BreaksOff follows from to fault.Memory
 
 -- the request is answered with what came of its task
 pub record AnswersSo (old : Session) (called : CalledValue) (new : Session) : Type 0 where

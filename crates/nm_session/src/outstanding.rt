@@ -2,7 +2,7 @@ use nm_requests::Task;
 
 /// A request that was issued and is not answered yet.
 #[derive(Clone, Copy, Debug)]
-pub(crate) struct Held {
+pub(crate) struct Outstanding {
     /// How many requests were read before it.
     pub(crate) index: u64,
     /// What it asks for.
