@@ -9,6 +9,6 @@ abbrev pub untold : Wires
 untold = wires None None
 
 -- true where requests follow, false where the session has ended
-abbrev pub HasGreeted : Bool → (from to : Session) → Type 0
-HasGreeted true from to = Greets None from to untold untold
-HasGreeted false from to = (served : Served) × Greets (Some served) from to untold untold
+abbrev pub HasNegotiated : Bool → (from to : Session) → Type 0
+HasNegotiated true from to = Greets None from to untold untold
+HasNegotiated false from to = (served : Served) × Greets (Some served) from to untold untold

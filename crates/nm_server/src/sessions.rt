@@ -1,7 +1,7 @@
 //! Sessions over TCP: who listens, who serves.
 ghost use Rattle.std.specs.Prelude.{◌≡◌, ◌*◌, ◌≤◌, ◌^◌, ◌↔◌, [], length, map, true, All};
 ghost use Rattle.std.specs.Prelude.{IsSome, IfSome, IfOk, IfErr};
-ghost use Rattle.nm_server.specs.Handshake.{HasGreeted};
+ghost use Rattle.nm_server.specs.Handshake.{HasNegotiated};
 ghost use Rattle.nm_session.specs.declared.serve_fault.ServeFault.TheVariants.{Memory};
 ghost use Rattle.nm_wire.specs.Export.{size_of};
 
@@ -85,16 +85,16 @@ fn export_of(alloc: Global, named: &ExportName<'_>, blocks: u64) -> Option<Expor
     })
 }
 
-// Haggles with a client within its time, and tells whether requests follow. After it no limit
+// Negotiates with a client within its time, and tells whether requests follow. After it no limit
 // stands.
-fn shake_hands<R: Wait + Clock>(
+fn negotiate<R: Wait + Clock>(
     rt: &R,
     alloc: Global,
     stream: &TcpStream,
     core: &mut SessionCore,
 ) -> Result<bool, ServeFault>
     requires idle { core.old.outstanding ≡ [] }
-    ensures greeted { IfOk result (λ goes_on. HasGreeted goes_on core.old core.new) }
+    ensures greeted { IfOk result (λ goes_on. HasNegotiated goes_on core.old core.new) }
     ensures export { IfOk result (λ goes_on. goes_on ≡ true
         → core.new.haggling.export ≡ core.old.haggling.export) }
 {
@@ -186,7 +186,7 @@ fn serve_client<R: Threads + Wait + Sync + Copy + Clock>(
     let Ok(mut core) = SessionCore::new(alloc, export, AT_ONCE) else {
         return Err(ServeFault::Memory);
     };
-    if !shake_hands(rt, alloc, stream, &mut core)? {
+    if !negotiate(rt, alloc, stream, &mut core)? {
         return Ok(());
     }
     let ready = ReadyMirror::new(FileCalls { rt, alloc, mirror });
