@@ -4,5 +4,6 @@ pub mod Results
 pub mod Hearing
 pub mod Moving
 pub mod Reading
+pub mod ReadBy
 pub mod Serving
 pub mod Working

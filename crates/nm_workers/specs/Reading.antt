@@ -3,7 +3,7 @@ use Rattle.std.specs.Prelude.{◌≡◌, ℕ, Bool, true, false, List, [], ◌�
 use Rattle.std.specs.Io.KnownBytes.{Consumes, IsAtEnd}
 use Rattle.nm_mailbox.specs.declared.message.Piece.{Piece}
 use Rattle.nm_mailbox.specs.declared.message.Piece.TheVariants.{Bytes, Ended, Failed}
-use Rattle.nm_mailbox.specs.Ends.{pieces_by}
+use Rattle.nm_mailbox.specs.Ends.{pieces_by, IsSameEnd}
 use Rattle.nm_workers.specs.declared.reader.Reader.{Reader}
 use Rattle.nm_workers.specs.Pieces.{bytes_of}
 
@@ -50,3 +50,8 @@ abbrev pub ReadsFurther : {I M : Type 0} → (I → Option (List ℕ)) → (old 
 ReadsFurther remaining old new = (input : Option (List ℕ))
     → Goes old.is_open input (remaining old.source) (pieces_by old.pieces)
     → Goes new.is_open input (remaining new.source) (pieces_by new.pieces)
+
+-- the same, and it was sent to the same mailbox
+abbrev pub ReadsMore : {I M : Type 0} → (I → Option (List ℕ)) → (old new : Reader I M) → Type 0
+ReadsMore remaining old new =
+    ReadsFurther remaining old new × IsSameEnd new.pieces old.pieces

@@ -11,16 +11,15 @@ pub use spin_wait::{BusyPoll, SpinToken};
 
 mod dispatcher;
 mod greeting;
-mod inline;
 mod job;
 mod messages;
 mod permits;
-mod phases;
 mod pool;
 mod read_buffer;
+mod read_by;
 mod reader;
+mod requests;
 mod round;
 mod session;
 mod spin_wait;
-mod threaded;
 mod worker;
