@@ -77,7 +77,7 @@ lose_leg() {
 attach_leg() {
     [ "$legs" -ge 2 ] || return 0
     "$ctl" attach 1 > "$room/told" || fail "leg 1 is not attached: $(cat "$room/told")"
-    grep -q '^attach 1: joining [1-9][0-9]* left [1-9]' "$room/told" ||
+    grep -q '^leg 1 is being copied in ' "$room/told" ||
         fail "leg 1 has missed nothing: $(cat "$room/told")"
 }
 

@@ -96,7 +96,7 @@ class Server:
     """A running nbdmirror over leg files that it makes where they are not there: as many as `legs` says, in a folder
     of its own or those of `folders`, or `files`."""
 
-    def __init__(self, legs=1, size=8 * MIB, options=(), address_space=None, one_arena=False,
+    def __init__(self, legs=1, size=8 * MIB, options=(), address_space=None, stack=None, one_arena=False,
                  folders=None, files=None, program=PROGRAM):
         self.room = tempfile.mkdtemp(prefix="nbdmirror-")
         self.program = program
@@ -107,7 +107,7 @@ class Server:
                     file.truncate(size)
         self.size = size
         self.options = list(options)
-        self.address_space = address_space
+        self.bounds = {resource.RLIMIT_AS: address_space, resource.RLIMIT_STACK: stack}
         self.one_arena = one_arena
         self.process = None
 
@@ -151,14 +151,16 @@ class Server:
                  "--control", f"127.0.0.1:{self.control_port}", *self.options, *options, *self.files]
 
         def bound():
-            resource.setrlimit(resource.RLIMIT_AS, (self.address_space,) * 2)
+            for limit, most in self.bounds.items():
+                if most:
+                    resource.setrlimit(limit, (most, most))
 
         # One arena, so that address space is what is used, and not what threads set aside.
         own = {**os.environ, "MALLOC_ARENA_MAX": "1"} if self.one_arena else None
 
         with open(f"{self.room}/out", "wb") as out, open(f"{self.room}/err", "wb") as err:
             self.process = subprocess.Popen(words, stdin=subprocess.DEVNULL, stdout=out, stderr=err,
-                                            preexec_fn=bound if self.address_space else None, env=own)
+                                            preexec_fn=bound if any(self.bounds.values()) else None, env=own)
         end = time.monotonic() + 60 * PATIENCE
         while time.monotonic() < end and self.process.poll() is None:
             if "control on" in self.printed():
@@ -249,6 +251,10 @@ class Server:
             time.sleep(0.05)
         raise AssertionError(f"the server does not come to rest: {self.used()}")
 
+    def bound_address_space(self, most):
+        """Bounds the address space of the server that runs: what it read of its bounds at its start is more."""
+        resource.prlimit(self.process.pid, resource.RLIMIT_AS, (most, most))
+
     def address_space_used(self):
         """The address space in bytes."""
         with open(f"/proc/{self.process.pid}/statm", encoding="ascii") as file:
@@ -269,6 +275,51 @@ class Server:
         """All legs' files must hold the same bytes."""
         for other in self.files[1:]:
             assert subprocess.run(["cmp", self.files[0], other], check=False).returncode == 0
+
+
+def need_strace():
+    """Leaves with the status of a script that cannot run where there is no strace that may trace here."""
+    why = None
+    if not shutil.which("strace"):
+        why = "strace is not installed"
+    elif subprocess.run(["strace", "-o", "/dev/null", "true"], capture_output=True, check=False).returncode:
+        why = "strace may not trace here"
+    if why:
+        print(f"  {why}", file=sys.stderr)
+        sys.exit(77)
+
+
+class Traced:
+    """While it stands, the server's calls of these names are written down."""
+
+    def __init__(self, server, names):
+        self.pid = server.process.pid
+        self.log = f"{server.room}/strace"
+        self.process = subprocess.Popen(
+            ["strace", "-f", "-qq", "-e", f"trace={names}", "-o", self.log, "-p", str(self.pid)],
+            stdin=subprocess.DEVNULL, stderr=subprocess.DEVNULL)
+
+    def __enter__(self):
+        wait_until(self.is_attached, 30, "strace attaches")
+        return self
+
+    def __exit__(self, *_):
+        self.process.send_signal(signal.SIGINT)
+        self.process.wait()
+
+    def is_attached(self):
+        """Whether all of the server's threads are traced."""
+        assert self.process.poll() is None, "strace does not attach"
+        text = subprocess.run(f"cat /proc/{self.pid}/task/*/status", shell=True, capture_output=True, text=True,
+                              check=False).stdout
+        tracers = [line.split()[1] for line in text.splitlines() if line.startswith("TracerPid")]
+        return bool(tracers) and all(it == str(self.process.pid) for it in tracers)
+
+    def calls(self):
+        """The text of each call so far, from its name on. One that is cut in two counts where it begins."""
+        with open(self.log, encoding="utf-8", errors="replace") as file:
+            begun = [line.split(maxsplit=1)[1] for line in file if "(" in line and "resumed>" not in line]
+        return [line.split("<")[0].strip() for line in begun]
 
 
 def request(kind, offset, length, payload=b"", cookie=7, flags=0):

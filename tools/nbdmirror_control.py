@@ -145,6 +145,24 @@ def legs_in(stripes, state):
     return found
 
 
+def count_of_legs(stripes):
+    """How many legs the mirror has, as far as its stripes tell."""
+    return max((len(stripe.get("legs", [])) for stripe in stripes), default=0)
+
+
+def legs_of(stripes):
+    """Each leg in the whole mirror: the worst of its states, in how many stripes it is in sync, and how many blocks it
+    lacks in all, which is None where a stripe does not tell it."""
+    found = []
+    is_told = all("legs" in stripe for stripe in stripes)
+    states = {state: legs_in(stripes, state) for state in ("out", "join", "in")}
+    for leg in range(count_of_legs(stripes)):
+        state = next(state for state, legs in states.items() if leg in legs)
+        left = sum(states["join"].get(leg, [])) if is_told and state != "out" else None
+        found.append({"leg": leg, "state": state, "in_sync": len(states["in"].get(leg, [])), "left": left})
+    return found
+
+
 def masters(stripes):
     """The legs that are in sync in every stripe. A stripe that stopped has none, and of a busy one none is known."""
     common = None

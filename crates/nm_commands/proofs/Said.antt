@@ -1,14 +1,21 @@
 -- What the getters of matches give is what the rows of the command line have.
-use Rattle.std.proofs.Common.{◌≡◌, ◌∙◌, ℕ, List, Option, None, Some, IfSome, Bool, true, false, option_map, refl, ap, sym, codes, inl, inr, Result, Ok, Err, IsErrAnd, IfErr}
+use Rattle.std.proofs.Common.{◌≡◌, ◌∙◌, ℕ, List, Option, None, Some, IfSome, Bool, true, false, option_map, refl, ap, sym, codes, [], inl, inr, Result, Ok, Err, IsErrAnd, IfErr}
 use Rattle.std.specs.Borrow.{Bor}
-use Rattle.clap.specs.Words.{App, HasKind, Row, Text, fault_of, is_simple, is_simple_and_free, first_of, one_of, all_of, first_value, one_text, matched_of, raw_values, rows_of}
+use Rattle.clap.specs.Words.{App, HasKind, Row, Text, fault_of, kind_of, matches_of, is_simple, is_simple_and_free, first_of, one_of, all_of, first_value, one_text, matched_of, raw_values, rows_of}
 use Rattle.clap.specs.declared.parser.matches.Found.{Found}
-use Rattle.clap.proofs.WalkLemmas.{first_value-rows, one_text-rows, raw_values-rows}
+use Rattle.clap.proofs.WalkLemmas.{find_row, first_value-rows, one_text-rows, raw_values-rows}
 use Rattle.clap.proofs.OnLiterals.{clap_on_literals}
+use Rattle.clap.specs.Facts.{Entry}
+use Rattle.clap.specs.Walk.{row_of}
+use Rattle.clap.specs.declared.parser.matches.MatchedArg.{MatchedArg}
+use Rattle.std.specs.List.{find}
+use Rattle.std.specs.Prelude.{option_and_then}
+use Rattle.std.specs.Str.{bytes_eq}
 use Rattle.nm_commands.specs.CommandLine.{nbdmirror}
 use Rattle.clap.specs.declared.error.Error.{Error}
+use Rattle.clap.specs.declared.error.kind.ErrorKind.TheVariants.{ArgumentConflict}
 use Rattle.nm_commands.specs.CommandLine.{ArePolicies, AreStarts}
-use Rattle.nm_commands.specs.Settings.{IsNumber, IsRefusal, HasFlag, NamesMaster}
+use Rattle.nm_commands.specs.Settings.{IsNumber, IsRefusal, HasFlag, HasNumber, NamesTwo, source_of}
 
 pub simple : (policies starts : Bor (List (Bor Text))) →
     is_simple (nbdmirror policies starts) ≡ true
@@ -25,13 +32,27 @@ pub said_fault : (policies starts : Bor (List (Bor Text))) (app : App) (words : 
     ArePolicies policies → AreStarts starts → app ≡ nbdmirror policies starts →
     HasKind (fault_of app words) e → IsRefusal words e
 said_fault policies starts app words e known known_starts same (inl memory) = inl memory
-said_fault policies starts app words e known known_starts same (inr among) = inr (record {
+said_fault policies starts app words e known known_starts same (inr among) = inr (inl (record {
   policies = policies;
   known = known;
   starts = starts;
   known_starts = known_starts;
   among = rw (← ap (λ (a : App). fault_of a words) same) among;
-})
+}))
+
+pub said_two : (policies starts : Bor (List (Bor Text))) (words : List Text) (e : Error) →
+    ArePolicies policies → AreStarts starts → fault_of (nbdmirror policies starts) words ≡ [] →
+    NamesTwo (matches_of (nbdmirror policies starts) words) → kind_of e ≡ ArgumentConflict →
+    IsRefusal words e
+said_two policies starts words e known known_starts faultless two is = inr (inr (record {
+  policies = policies;
+  known = known;
+  starts = starts;
+  known_starts = known_starts;
+  faultless = faultless;
+  two = two;
+  kind = is;
+}))
 
 pub said_text : (f : Found) (rows : List Row) (id text : Text) → rows_of f ≡ rows →
     first_value f id ≡ Some text → first_of id rows ≡ Some text
@@ -50,12 +71,28 @@ said_number f rows id n e h = record {
   value = h.value;
 }
 
-pub said_master : (f : Found) (rows : List Row) (master : Option ℕ) → rows_of f ≡ rows →
-    IfSome master (λ leg. IsNumber (one_text f (codes "master")) leg) →
-    (master ≡ None → first_value f (codes "master") ≡ None) → NamesMaster rows master
-said_master f rows (Some leg) e some none = said_number f rows (codes "master") leg e some
-said_master f rows None e some none =
-    sym (first_value-rows f (codes "master") ∙ ap (first_of (codes "master")) e) ∙ none refl
+pub said_number_if_any : (f : Found) (rows : List Row) (id : Text) (number : Option ℕ) →
+    rows_of f ≡ rows → IfSome number (λ n. IsNumber (one_text f id) n) →
+    (number ≡ None → first_value f id ≡ None) → HasNumber rows id number
+said_number_if_any f rows id (Some n) e some none = said_number f rows id n e some
+said_number_if_any f rows id None e some none =
+    sym (first_value-rows f id ∙ ap (first_of id) e) ∙ none refl
+
+-- the entry has this id
+abbrev has_id : Text → Entry → Bool
+has_id id entry = bytes_eq entry.0.now id
+
+-- where a value comes from, by the entry and by its row
+pub source-rows : (f : Found) (id : Text) →
+    option_and_then (λ (a : MatchedArg). a.source) (matched_of f id) ≡ source_of id (rows_of f)
+source-rows f id = go (find (has_id id) f.entries.items)
+    ∙ ap (option_and_then (λ (r : Row). r.source)) (sym (find_row f.entries.items id))
+  where
+    go : (o : Option Entry) →
+        option_and_then (λ (a : MatchedArg). a.source) (option_map (λ e. e.1) o)
+        ≡ option_and_then (λ (r : Row). r.source) (option_map row_of o)
+    go None = refl
+    go (Some e) = refl
 
 pub said_flag : (f : Found) (rows : List Row) (id : Text) (flag : Bool) → rows_of f ≡ rows →
     ((one_text f id ≡ Some (codes "true")) → flag ≡ true) →

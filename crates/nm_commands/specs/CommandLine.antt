@@ -1,7 +1,8 @@
 -- The command line of nbdmirror, as clap is told of it.
-use Rattle.std.specs.Prelude.{◌≡◌, ℤ, List, [], ◌∷◌, Some, true, codes, pos, map, ◌^◌, ◌-◌}
+use Rattle.std.specs.Prelude.{◌≡◌, ℕ, ℤ, List, [], ◌∷◌, Some, true, codes, pos, map, ◌^◌, ◌-◌}
 use Rattle.std.specs.Borrow.{Bor}
 use Rattle.clap.specs.Words.{App, Rule, Text, new_app, new_rule, with_rule}
+use Rattle.clap.specs.Simple.{on_top}
 use Rattle.clap.specs.declared.builder.value_parser.ValueParser.{ValueParser}
 use Rattle.clap.specs.declared.builder.value_parser.ValueParser.TheVariants as vp
 use Rattle.clap.specs.declared.builder.action.ArgAction.TheVariants.{SetTrue}
@@ -32,6 +33,10 @@ bare_number_rule id least most = record (new_rule id) {
 abbrev pub flag_rule : Text → Rule
 flag_rule id = record (new_rule id) { long = Some id; action = Some SetTrue }
 
+-- The same option, by this letter too.
+abbrev pub lettered : ℕ → Rule → Rule
+lettered letter rule = record rule { short = Some letter }
+
 -- One or more words that are no options.
 abbrev pub words_rule : Text → Rule
 words_rule id = record (new_rule id) {
@@ -49,10 +54,16 @@ ArePolicies names =
 abbrev pub AreStarts : Bor (List (Bor Text)) → Type 0
 AreStarts names = map (λ name. name.now) names.now ≡ codes "compare" ∷ codes "full" ∷ []
 
--- The program, with the options that say where clients and control connect, and to what.
+-- The program, which tells its version.
+abbrev pub program : App
+program = on_top (λ shape. record shape { has_version = true }) (new_app (codes "nbdmirror"))
+
+-- The program, with the options that say where clients and control connect, and to what. `p` is
+-- 112.
 abbrev pub base_command : App
-base_command = with_rule (with_rule (with_rule (new_app (codes "nbdmirror"))
+base_command = with_rule (with_rule (with_rule (with_rule program
     (option_rule (codes "listen") (codes "127.0.0.1:10809")))
+    (lettered 112 (bare_number_rule (codes "port") (pos 0) (pos 65535))))
     (option_rule (codes "control") (codes "127.0.0.1:10810")))
     (option_rule (codes "name") (codes "disk"))
 
@@ -64,11 +75,11 @@ mirror_command policies starts = with_rule (with_rule (with_rule (with_rule base
     (bare_number_rule (codes "master") (pos 0) (pos 7)))
     (parsed_rule (codes "start") (codes "compare") (vp.Names starts))
 
--- The command line, with its options' defaults and ranges.
+-- The command line, with its options' defaults and ranges. `r` is 114.
 abbrev pub nbdmirror : (policies starts : Bor (List (Bor Text))) → App
 nbdmirror policies starts =
     with_rule (with_rule (with_rule (with_rule (mirror_command policies starts)
     (number_rule (codes "sessions") (codes "16") (pos 1) (pos 64)))
-    (flag_rule (codes "read-only")))
+    (lettered 114 (flag_rule (codes "read-only"))))
     (flag_rule (codes "force-in-use")))
     (words_rule (codes "leg"))

@@ -1,12 +1,15 @@
 -- What the words of a command line ask for.
-use Rattle.std.specs.Prelude.{◌≡◌, ◌⊎◌, ℕ, Bool, true, false, List, [], map, Option, None, Some}
-use Rattle.std.specs.Prelude.{codes}
+use Rattle.std.specs.Prelude.{◌≡◌, ◌⊎◌, ℕ, Bool, true, false, List, [], map, Option, None}
+use Rattle.std.specs.Prelude.{Some, codes, find, option_and_then}
+use Rattle.std.specs.Str.{bytes_eq}
 use Rattle.std.specs.Borrow.{Bor}
 use Rattle.std.specs.Str.Parse.{IsNumeral, digits_value, without_leading_plus}
 use Rattle.clap.specs.Words.{IsAmong, Row, Text, all_of, fault_of, first_of, kind_of, matches_of}
 use Rattle.clap.specs.Words.{one_of}
 use Rattle.clap.specs.declared.error.Error.{Error}
-use Rattle.clap.specs.declared.error.kind.ErrorKind.TheVariants.{OutOfMemory}
+use Rattle.clap.specs.declared.error.kind.ErrorKind.TheVariants.{ArgumentConflict, OutOfMemory}
+use Rattle.clap.specs.declared.parser.matches.ValueSource.{ValueSource}
+use Rattle.clap.specs.declared.parser.matches.ValueSource.TheVariants.{CommandLine}
 use Rattle.nm_choice.specs.declared.policy.Policy.{Policy}
 use Rattle.nm_choice.specs.declared.policy.Policy.TheVariants.{RoundRobin, Striped}
 use Rattle.nm_commands.specs.declared.start.Start.{Start}
@@ -31,24 +34,37 @@ pub record IsNumber (found : Option Text) (number : ℕ) : Type 0 where
   pub numeral : IsNumeral 10 (without_leading_plus text)
   pub value : digits_value 10 (without_leading_plus text) ≡ number
 
--- The master is the leg that the rows name, and none where they name none.
-abbrev pub NamesMaster : List Row → Option ℕ → Type 0
-NamesMaster rows (Some leg) = IsNumber (one_of (codes "master") rows) leg
-NamesMaster rows None = first_of (codes "master") rows ≡ None
+-- The number is the one that the rows have for this id, and none where they have none.
+abbrev pub HasNumber : List Row → Text → Option ℕ → Type 0
+HasNumber rows id (Some number) = IsNumber (one_of id rows) number
+HasNumber rows id None = first_of id rows ≡ None
 
 -- The flag is set where the rows have it as true.
 abbrev pub HasFlag : List Row → Text → Bool → Type 0
 HasFlag rows id flag = (one_of id rows ≡ Some (codes "true") → flag ≡ true)
     × (one_of id rows ≡ Some (codes "false") → flag ≡ false)
 
+-- Where the value of this id comes from, where it has one.
+abbrev pub source_of : Text → List Row → Option ValueSource
+source_of id rows = option_and_then (λ row. row.source) (find (λ row. bytes_eq row.id id) rows)
+
+-- The words themselves have this option: its value is not the default.
+abbrev pub IsNamed : Text → List Row → Type 0
+IsNamed id rows = source_of id rows ≡ Some CommandLine
+
+-- The words have both an address and a port for clients.
+abbrev pub NamesTwo : List Row → Type 0
+NamesTwo rows = IsNamed (codes "listen") rows × IsNamed (codes "port") rows
+
 -- The settings are the values that the rows have.
 pub record HasSettings (rows : List Row) (s : Settings) : Type 0 where
   pub listen : first_of (codes "listen") rows ≡ Some s.listen.now
+  pub port : HasNumber rows (codes "port") s.port
   pub control : first_of (codes "control") rows ≡ Some s.control.now
   pub name : first_of (codes "name") rows ≡ Some s.name.now
   pub stripes : IsNumber (one_of (codes "stripes") rows) s.stripes
   pub policy : first_of (codes "policy") rows ≡ Some (policy_text s.policy)
-  pub master : NamesMaster rows s.master
+  pub master : HasNumber rows (codes "master") s.master
   pub start : first_of (codes "start") rows ≡ Some (start_text s.start)
   pub sessions : IsNumber (one_of (codes "sessions") rows) s.sessions
   pub read_only : HasFlag rows (codes "read-only") s.read_only
@@ -56,13 +72,14 @@ pub record HasSettings (rows : List Row) (s : Settings) : Type 0 where
   pub legs : all_of (codes "leg") rows ≡ Some (map (λ leg. leg.now) s.legs.items)
 
 -- The settings are those that the words of a command line ask for, with the defaults for the rest.
--- Such words have no fault.
+-- Such words have no fault, and not both an address and a port for clients.
 pub record AsksFor (words : List Text) (s : Settings) : Type 0 where
   pub policies : Bor (List (Bor Text))
   pub known : ArePolicies policies
   pub starts : Bor (List (Bor Text))
   pub known_starts : AreStarts starts
   pub faultless : fault_of (nbdmirror policies starts) words ≡ []
+  pub one_place : NamesTwo (matches_of (nbdmirror policies starts) words) → ⊥
   pub settings : HasSettings (matches_of (nbdmirror policies starts) words) s
 
 -- The words have a fault, and the error is of its kind.
@@ -73,6 +90,17 @@ pub record IsFault (words : List Text) (error : Error) : Type 0 where
   pub known_starts : AreStarts starts
   pub among : IsAmong (kind_of error) (fault_of (nbdmirror policies starts) words)
 
+-- The words have no fault but this one: both an address and a port for clients. So the error says.
+pub record AreTwo (words : List Text) (error : Error) : Type 0 where
+  pub policies : Bor (List (Bor Text))
+  pub known : ArePolicies policies
+  pub starts : Bor (List (Bor Text))
+  pub known_starts : AreStarts starts
+  pub faultless : fault_of (nbdmirror policies starts) words ≡ []
+  pub two : NamesTwo (matches_of (nbdmirror policies starts) words)
+  pub kind : kind_of error ≡ ArgumentConflict
+
 -- The error says that there is no memory, or what is wrong with the words.
 abbrev pub IsRefusal : List Text → Error → Type 0
-IsRefusal words error = (kind_of error ≡ OutOfMemory) ⊎ IsFault words error
+IsRefusal words error =
+    (kind_of error ≡ OutOfMemory) ⊎ (IsFault words error ⊎ AreTwo words error)

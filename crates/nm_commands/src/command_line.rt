@@ -1,140 +1,41 @@
 //! The command line of `nbdmirror`.
 ghost use Rattle.std.specs.Prelude.{◌≡◌, ◌≤◌, ◌^◌, ◌<◌, ℕ, List, IfErr, IfOk, Ok};
-ghost use Rattle.std.specs.Prelude.{map, length, codes, false, option_map, None, Some, IfSome};
-ghost use Rattle.clap.specs.declared.builder.value_parser.ValueParser.TheVariants.{Names};
-ghost use Rattle.clap.specs.Words.{app_of, kind_of, rule_of, first_value, found_of, one_text};
+ghost use Rattle.std.specs.Prelude.{map, length, codes, option_map, None, Some, IfSome};
+ghost use Rattle.std.specs.Prelude.{IsTrue, ◌↔◌};
+ghost use Rattle.clap.specs.Words.{app_of, kind_of, first_value, found_of, one_text};
 ghost use Rattle.clap.specs.Words.{matched_of, raw_values, rows_of};
 ghost use Rattle.clap.specs.declared.error.kind.ErrorKind.TheVariants.{OutOfMemory};
-ghost use Rattle.nm_commands.specs.CommandLine.{ArePolicies, AreStarts, bare_number_rule};
-ghost use Rattle.nm_commands.specs.CommandLine.{base_command};
-ghost use Rattle.nm_commands.specs.CommandLine.{mirror_command};
-ghost use Rattle.nm_commands.specs.CommandLine.{flag_rule, nbdmirror, number_rule};
-ghost use Rattle.nm_commands.specs.CommandLine.{option_rule, parsed_rule, words_rule};
+ghost use Rattle.nm_commands.specs.CommandLine.{ArePolicies, AreStarts, base_command};
+ghost use Rattle.nm_commands.specs.CommandLine.{mirror_command, nbdmirror};
 ghost use Rattle.nm_commands.specs.Settings.{AsksFor, HasSettings, IsNumber, IsRefusal};
+ghost use Rattle.nm_commands.specs.Settings.{IsNamed, NamesTwo};
 ghost use Rattle.nm_commands.specs.Settings.{policy_text, start_text};
 
+use crate::options::{
+    bare_number_option, flag, lettered_flag, number_option, option, policy_option, port_option,
+    start_option, words,
+};
 use crate::server_settings::Settings;
 use crate::start::Start;
-use clap::builder::ValueParser;
-use clap::{Arg, ArgAction, ArgMatches, Command, Error};
+use clap::error::ErrorKind;
+use clap::parser::ValueSource;
+use clap::{ArgMatches, Command, Error};
 use nm_choice::Policy;
 use std::alloc::{AllocError, Global};
 use std::convert::AsStr;
 
-// An option with one value.
-fn option<'a>(
-    alloc: Global,
-    id: &'a str,
-    default: &'a str,
-    value: &'a str,
-    help: &'a str,
-) -> Arg<'a>
-    ensures rule { rule_of result ≡ option_rule id.entry.now default.entry.now }
-    ensures own { result.global ≡ false }
-{
-    Arg::new(alloc, id)
-        .long(id)
-        .value_name(value)
-        .default_value(default)
-        .help(help)
-}
-
-// An option whose value is a number in a range.
-fn number_option<'a>(
-    alloc: Global,
-    id: &'a str,
-    default: &'a str,
-    least: i64,
-    most: i64,
-    help: &'a str,
-) -> Arg<'a>
-    ensures rule { rule_of result ≡ number_rule id.entry.now default.entry.now least most }
-    ensures own { result.global ≡ false }
-{
-    option(alloc, id, default, "N", help).value_parser(ValueParser::Signed(least, most))
-}
-
-// An option without a default, whose value is a number in a range.
-fn bare_number_option<'a>(
-    alloc: Global,
-    id: &'a str,
-    least: i64,
-    most: i64,
-    help: &'a str,
-) -> Arg<'a>
-    ensures rule { rule_of result ≡ bare_number_rule id.entry.now least most }
-    ensures own { result.global ≡ false }
-{
-    Arg::new(alloc, id)
-        .long(id)
-        .value_name("N")
-        .value_parser(ValueParser::Signed(least, most))
-        .help(help)
-}
-
-// The option that names the policy.
-fn policy_option<'a>(alloc: Global) -> Arg<'a>
-    ensures rule { (policies : _) × ArePolicies policies × (rule_of result
-        ≡ parsed_rule (codes "policy") (codes "round-robin") (Names policies)) }
-    ensures own { result.global ≡ false }
-{
-    let policies = ["round-robin", "striped"].as_slice();
-    option(
-        alloc,
-        "policy",
-        "round-robin",
-        "POLICY",
-        "which leg a read takes",
-    )
-    .value_parser(ValueParser::Names(policies))
-}
-
-// The option that says how the mirror starts.
-fn start_option<'a>(alloc: Global) -> Arg<'a>
-    ensures rule { (starts : _) × AreStarts starts × (rule_of result
-        ≡ parsed_rule (codes "start") (codes "compare") (Names starts)) }
-    ensures own { result.global ≡ false }
-{
-    let starts = ["compare", "full"].as_slice();
-    option(
-        alloc,
-        "start",
-        "compare",
-        "START",
-        "copy what differs from the master, or all",
-    )
-    .value_parser(ValueParser::Names(starts))
-}
-
-// An option without a value.
-fn flag<'a>(alloc: Global, id: &'a str, help: &'a str) -> Arg<'a>
-    ensures rule { rule_of result ≡ flag_rule id.entry.now }
-    ensures own { result.global ≡ false }
-{
-    Arg::new(alloc, id)
-        .long(id)
-        .action(ArgAction::SetTrue)
-        .help(help)
-}
-
-// One word or more that are no options.
-fn words<'a>(alloc: Global, id: &'a str, help: &'a str) -> Arg<'a>
-    ensures rule { rule_of result ≡ words_rule id.entry.now }
-    ensures own { result.global ≡ false }
-{
-    Arg::new(alloc, id)
-        .value_name("LEG")
-        .num_args(1..)
-        .required(true)
-        .help(help)
-}
+/// What is wrong with words that name both an address and a port for clients.
+const ADDRESS_AND_PORT: &str =
+    "the argument '--listen <ADDRESS>' cannot be used with '--port <PORT>'";
 
 // The program, and the options that say where clients and control connect, and to what.
 fn base_command<'a>(alloc: Global) -> Result<Command<'a>, Error>
     ensures ok { IfOk result (λ command. app_of command ≡ base_command) }
     ensures memory { IfErr result (λ error. kind_of error ≡ OutOfMemory) }
 {
-    let program = Command::new(alloc, "nbdmirror").bin_name("nbdmirror")?;
+    let program = Command::new(alloc, "nbdmirror")
+        .version("0.1.0")
+        .bin_name("nbdmirror")?;
     let listen = option(
         alloc,
         "listen",
@@ -142,7 +43,9 @@ fn base_command<'a>(alloc: Global) -> Result<Command<'a>, Error>
         "ADDRESS",
         "where clients connect",
     );
-    let with_listen = program.arg(listen)?;
+    let with_address = program.arg(listen)?;
+    let port = port_option(alloc);
+    let with_listen = with_address.arg(port)?;
     let control = option(
         alloc,
         "control",
@@ -189,7 +92,7 @@ fn command_line<'a>(alloc: Global) -> Result<Command<'a>, Error>
     let program = mirror_command(alloc)?;
     let sessions = number_option(alloc, "sessions", "16", 1, 64, "how many clients at once");
     let with_sessions = program.arg(sessions)?;
-    let read_only = flag(alloc, "read-only", "refuse writes");
+    let read_only = lettered_flag(alloc, "read-only", 'r', "refuse writes");
     let with_read_only = with_sessions.arg(read_only)?;
     let force_in_use = flag(
         alloc,
@@ -226,6 +129,37 @@ fn number(matches: &ArgMatches<'_>, id: &str) -> Result<u8, Error>
         Some(number) => Ok(number),
         None => Err(Error::from(AllocError)),
     }
+}
+
+// The port of 127.0.0.1 for clients, if one is named.
+fn port(matches: &ArgMatches<'_>) -> Result<Option<u16>, Error>
+    ensures some { IfOk result (λ port. IfSome port (λ number.
+        IsNumber (one_text (found_of matches.now) (codes "port")) number)) }
+    ensures none { IfOk result (λ port. port ≡ None
+        → first_value (found_of matches.now) (codes "port") ≡ None) }
+    ensures memory { IfErr result (λ error. kind_of error ≡ OutOfMemory) }
+{
+    match matches.get_str("port") {
+        None => return Ok(None),
+        Some(_) => match matches.get_one::<u16>("port") {
+            Some(port) => Ok(Some(port)),
+            None => Err(Error::from(AllocError)),
+        },
+    }
+}
+
+// Whether the words themselves have this option.
+fn is_named(matches: &ArgMatches<'_>, id: &str) -> bool
+    ensures { IsTrue result ↔ IsNamed id.now (rows_of (found_of matches.now)) }
+{
+    matches.value_source(id) == Some(ValueSource::CommandLine)
+}
+
+// Whether the words have both an address and a port for clients.
+fn names_two(matches: &ArgMatches<'_>) -> bool
+    ensures { IsTrue result ↔ NamesTwo (rows_of (found_of matches.now)) }
+{
+    is_named(matches, "listen") && is_named(matches, "port")
 }
 
 // The policy.
@@ -293,6 +227,7 @@ fn settings_of<'a>(alloc: Global, matches: &ArgMatches<'a>) -> Result<Settings<'
     ensures memory { IfErr result (λ error. kind_of error ≡ OutOfMemory) }
 {
     let listen = text(matches, "listen")?;
+    let port = port(matches)?;
     let control = text(matches, "control")?;
     let name = text(matches, "name")?;
     let stripes = number(matches, "stripes")?;
@@ -305,6 +240,7 @@ fn settings_of<'a>(alloc: Global, matches: &ArgMatches<'a>) -> Result<Settings<'
     let legs = legs_of(alloc, matches)?;
     Ok(Settings {
         listen,
+        port,
         control,
         name,
         stripes,
@@ -321,15 +257,20 @@ fn settings_of<'a>(alloc: Global, matches: &ArgMatches<'a>) -> Result<Settings<'
 /// Reads a command line, whose first word is the program's name.
 ///
 /// Each option has the value that the words give it, or its default, and there is at least one leg.
-/// Words that clap finds nothing wrong with are refused only where there is no memory. Where the
-/// words are no command line, or ask for help, the error has the text to show.
+/// Words that clap finds nothing wrong with are refused only where there is no memory, or where
+/// they name both an address and a port for clients. Where the words are no command line, or ask
+/// for help or the version, the error has the text to show.
 pub fn settings<'a, S: AsStr>(alloc: Global, words: &'a [S]) -> Result<Settings<'a>, Error>
     ensures asked { IfOk result (λ settings. AsksFor (map S.text words.entry.now) settings) }
     ensures some_leg { IfOk result (λ settings. 0 < length settings.legs.items) }
     ensures refused { IfErr result (IsRefusal (map S.text words.entry.now)) }
 {
-    let command = command_line(alloc)?;
-    let matches = command.try_get_matches_from(words)?;
+    let mut command = command_line(alloc)?;
+    let matches = command.try_get_matches_from_mut(words)?;
+    if names_two(&matches) {
+        let error = command.error(ErrorKind::ArgumentConflict, ADDRESS_AND_PORT)?;
+        return Err(error);
+    }
     let settings = settings_of(alloc, &matches)?;
     Ok(settings)
 }

@@ -7,6 +7,7 @@
 mod command_line;
 mod control_command;
 mod line_room;
+mod options;
 mod server_settings;
 mod start;
 

@@ -6,6 +6,8 @@ use nm_choice::Policy;
 pub struct Settings<'a> {
     /// Where sessions are taken: an address and a port.
     pub listen: &'a str,
+    /// The port of 127.0.0.1 where they are taken in its place, where one was named.
+    pub port: Option<u16>,
     /// Where the control port is: an address and a port.
     pub control: &'a str,
     /// The export's name.

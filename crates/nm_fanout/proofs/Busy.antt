@@ -5,16 +5,17 @@ use Rattle.std.proofs.lemmas.Bool.Decides.{eqb_tells}
 use Rattle.std.proofs.lemmas.List.Folds.{find-append}
 use Rattle.nm_fanout.specs.declared.write_record.Record.{Record}
 use Rattle.nm_fanout.specs.Record.{is_under_way}
-use Rattle.nm_fanout.specs.Records.{busy_on, is_among, with_new}
+use Rattle.nm_fanout.specs.Records.{busy_on, with_new}
+use Rattle.nm_fanout.specs.Runs.{meets}
 use Rattle.nm_fanout.proofs.Owed.{tells}
 
 -- whether the record is the one that a block is busy with
 abbrev pub holds : ℕ → Record → Bool
 holds b r = (r.block == b) && is_under_way r
 
--- or one of these blocks
+-- or one of these blocks, for a run
 abbrev pub holds_among : ℕ → ℕ → Record → Bool
-holds_among first count r = is_among first count r.block && is_under_way r
+holds_among first count r = meets first count r
 
 holds-other : (b : ℕ) (r : Record) → r.block ≢ b → holds b r ≡ false
 holds-other b r ne = let other : (r.block == b) ≡ false = ne_eqb r.block b ne in rw other refl

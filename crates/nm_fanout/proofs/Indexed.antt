@@ -1,6 +1,5 @@
 -- The tickets and the blocks stand beside the records, through every change at a place.
-use Rattle.std.proofs.Common.{◌≡◌, ℕ, ◌+◌, ◌-◌, ◌<◌, ◌≤◌, zero, suc, Bool, true, false, cond, List, [], ◌∷◌, ◌++◌, length, get_or, set, drop, map, Option, None, Some, not, Bor, Result, Ok, Err, refl, sym, ap, ◌∙◌, arith, inl, inr}
-use mir.Val.{bool_byte}
+use Rattle.std.proofs.Common.{◌≡◌, ℕ, ◌+◌, ◌-◌, ◌<◌, ◌≤◌, zero, suc, Bool, true, false, cond, List, [], ◌∷◌, ◌++◌, length, get_or, set, drop, map, Option, None, Some, not, Bor, Result, Ok, Err, refl, sym, ap, ◌∙◌, arith, inl, inr, nat_lt, ◌&&◌}
 use Rattle.std.specs.Option.{IsSome, is_some, option_copied, option_map}
 use Rattle.std.specs.Result.{result_ok}
 use Rattle.std.specs.List.{find, position, position_or_len, remove, slice_get}
@@ -14,17 +13,18 @@ use Rattle.std.proofs.lemmas.List.{get_or_default}
 use Rattle.std.proofs.lemmas.List.Sums.{position_or_len_is}
 use Rattle.std.proofs.lemmas.Option.{slice_get-get_or}
 use Rattle.nm_fanout.specs.declared.write_record.Record.{Record}
-use Rattle.nm_fanout.specs.Record.{IsWhole, is_under_way, without_leg, with_entry}
-use Rattle.nm_fanout.specs.Records.{AllBelow, Ascends, AreInOrder, IsAt, find_record, busy_among, any_under_way, unlanded, changed, landed, left_by}
+use Rattle.nm_fanout.specs.Record.{IsRun, is_under_way, waiting, without_leg, with_entry}
+use Rattle.nm_fanout.specs.RecordData.{blocks_in}
+use Rattle.nm_fanout.specs.Records.{Ascends, IsAt, find_record, any_under_way, changed, left_by}
+use Rattle.nm_fanout.specs.Runs.{AllEndBy, meets, run_busy_among}
 use Rattle.nm_fanout.specs.Stored.{AreIndexed}
 use Rattle.nm_fanout.proofs.Owed.{tells}
-use Rattle.nm_fanout.proofs.InOrder.{AreInOrder-with_new}
-use Rattle.nm_fanout.proofs.Landing.{waits, unlanded-with_new, unlanded-numbered}
-use Rattle.nm_fanout.proofs.Leaving.{mapped_to, mapped-step, length-mapped_to, AreInOrder-left_by, unlanded-left_by}
+use Rattle.nm_fanout.proofs.RunOrder.{SameRun, ascends-runs, run-at, runs-left_by, runs-push, runs-remove, runs-set, without_leg-run, with_entry-run}
+use Rattle.nm_fanout.proofs.Waiting.{waiting-None, waiting-Some, waiting-at, waiting-left_by, waiting-push, waiting-remove, waiting-set}
+use Rattle.nm_fanout.proofs.Leaving.{mapped_to, mapped-step, length-mapped_to}
 use Rattle.nm_fanout.proofs.Busy.{holds_among}
-use Rattle.nm_fanout.proofs.Places.{FindsPlace, IsAt-own, set-at, tickets-rise as record_tickets-rise, no-place}
+use Rattle.nm_fanout.proofs.Places.{FindsPlace, set-at, tickets-rise as record_tickets-rise, no-place}
 use Rattle.nm_fanout.proofs.Tickets.{find_record-at}
-use Rattle.nm_fanout.proofs.Counted.{found-own, reached-counted, numbered-counted, claimed-counted}
 
 -- a record stands at each place
 pub some-at : (rs : List Record) (i : ℕ) → i < length rs
@@ -77,16 +77,15 @@ fields-left_by f leg keeps [] = refl
 fields-left_by f leg keeps (r ∷ rs) = rw (keeps r) (ap (λ (l : List ℕ). f r ∷ l)
     (fields-left_by f leg keeps rs))
 
--- a record is changed at its place: what follows where it keeps its ticket and its block
+-- a record is changed at its place: what follows where it is one of the same run
 changed-at : (rs new : List Record) (tickets blocks : List ℕ) (n m i : ℕ) (x y : Record)
-    → AreIndexed rs tickets blocks n → slice_get rs i ≡ Some x → new ≡ set rs i y
-    → y.ticket ≡ x.ticket → y.block ≡ x.block
-    → AreInOrder (set rs i y) × (m ≡ unlanded (set rs i y)) → AreIndexed new tickets blocks m
-changed-at rs new tickets blocks n m i x y h there is ticket block counted = rw is (record {
-  in_order = counted.0;
-  tickets_of = h.tickets_of ∙ sym (fields-set (λ r. r.ticket) rs i x y there ticket);
-  blocks_of = h.blocks_of ∙ sym (fields-set (λ r. r.block) rs i x y there block);
-  counted = counted.1;
+    → AreIndexed rs tickets blocks n → slice_get rs i ≡ Some x → new ≡ set rs i y → SameRun x y
+    → m + waiting x ≡ n + waiting y → AreIndexed new tickets blocks m
+changed-at rs new tickets blocks n m i x y h there is same count = rw is (record {
+  in_order = runs-set rs i x y h.in_order there same;
+  tickets_of = h.tickets_of ∙ sym (fields-set (λ r. r.ticket) rs i x y there same.ticket);
+  blocks_of = h.blocks_of ∙ sym (fields-set (λ r. r.block) rs i x y there same.block);
+  counted = omega (arith, h.counted, count, waiting-set rs i x y there);
 })
 
 -- what a change at a place does, as a list's own contract says
@@ -99,17 +98,17 @@ change-at f t i rs new h lt changes at =
     let x = some-at rs i lt in changes x.0 x.1 ∙ set-at f t i rs x.0 h at x.2
 
 -- a write begins
-pub begun-indexed : (rs new : List Record) (tickets blocks : List ℕ) (n : ℕ) (r : Record)
+pub begun-indexed : (rs new : List Record) (tickets blocks : List ℕ) (n count : ℕ) (r : Record)
     → AreIndexed rs tickets blocks n → new ≡ rs ++ r ∷ [] → length rs < 256
-    → AllBelow r.ticket rs → IsWhole r → r.entry ≡ None
-    → AreIndexed new (tickets ++ r.ticket ∷ []) (blocks ++ r.block ∷ []) (n + 1)
-begun-indexed rs new tickets blocks n r h is few next whole none = rw is (record {
-  in_order = AreInOrder-with_new r rs few next whole h.in_order;
+    → AllEndBy r.ticket rs → IsRun r → r.entry ≡ None → count ≡ blocks_in r.data
+    → AreIndexed new (tickets ++ r.ticket ∷ []) (blocks ++ r.block ∷ []) (n + count)
+begun-indexed rs new tickets blocks n count r h is few next whole none all = rw is (record {
+  in_order = runs-push rs r few next whole h.in_order;
   tickets_of = ap (λ (l : List ℕ). l ++ r.ticket ∷ []) h.tickets_of
       ∙ fields-push (λ x. x.ticket) rs r;
   blocks_of = ap (λ (l : List ℕ). l ++ r.block ∷ []) h.blocks_of
       ∙ fields-push (λ x. x.block) rs r;
-  counted = ap (λ m. m + 1) h.counted ∙ sym (unlanded-with_new r rs none);
+  counted = omega (arith, h.counted, all, waiting-None r none, waiting-push rs r);
 })
 
 -- the write at a place reached a leg
@@ -118,17 +117,19 @@ pub reached-indexed : (rs new : List Record) (tickets blocks : List ℕ) (n i le
     → AreIndexed new tickets blocks n
 reached-indexed rs new tickets blocks n i leg h lt changes =
     let x = some-at rs i lt in
-    changed-at rs new tickets blocks n n i x.0 (without_leg leg x.0) h x.1 (changes x.0 x.1) refl
-    refl (reached-counted n leg i rs x.0 (h.in_order, h.counted) lt x.2)
+    changed-at rs new tickets blocks n n i x.0 (without_leg leg x.0) h x.1 (changes x.0 x.1)
+    (without_leg-run leg x.0) refl
 
 -- the write at a place got a number
 pub landed-indexed : (rs new : List Record) (tickets blocks : List ℕ) (n m i number : ℕ)
     (x : Record) → AreIndexed rs tickets blocks n → slice_get rs i ≡ Some x
-    → ChangesAt (with_entry number) i rs new → m ≡ n - waits x → AreIndexed new tickets blocks m
+    → ChangesAt (with_entry number) i rs new → m ≡ n - waiting x
+    → AreIndexed new tickets blocks m
 landed-indexed rs new tickets blocks n m i number x h there changes less =
-    let read = read-there rs i x there in
-    changed-at rs new tickets blocks n m i x (with_entry number x) h there (changes x there) refl
-    refl (numbered-counted n m number i rs x (h.in_order, h.counted) read.0 read.1 less)
+    let counted : m + waiting x ≡ n + waiting (with_entry number x) = omega
+    (arith, less, h.counted, waiting-at rs i x there, waiting-Some (with_entry number x) refl) in
+    changed-at rs new tickets blocks n m i x (with_entry number x) h there (changes x there)
+    (with_entry-run number x) counted
 
 -- the landed write at a place is taken away
 pub claimed-indexed : (rs new : List Record) (tickets blocks : List ℕ) (n i : ℕ) (x : Record)
@@ -136,24 +137,24 @@ pub claimed-indexed : (rs new : List Record) (tickets blocks : List ℕ) (n i : 
     → IsSome x.entry → AreIndexed new (remove tickets i) (remove blocks i) n
 claimed-indexed rs new tickets blocks n i x h there is landed =
     let read = read-there rs i x there in
-    let counted = claimed-counted n i rs x (h.in_order, h.counted) read.0 read.1 landed in
     rw is (record {
-      in_order = counted.0;
+      in_order = runs-remove rs i read.0 h.in_order;
       tickets_of = ap (λ (l : List ℕ). remove l i) h.tickets_of
           ∙ fields-remove (λ r. r.ticket) rs i read.0;
       blocks_of = ap (λ (l : List ℕ). remove l i) h.blocks_of
           ∙ fields-remove (λ r. r.block) rs i read.0;
-      counted = counted.1;
+      counted = omega
+          (arith, h.counted, waiting-remove rs i x there, waiting-Some x landed);
     })
 
 -- a leg leaves
 pub left-indexed : (rs new : List Record) (tickets blocks : List ℕ) (n leg : ℕ)
     → AreIndexed rs tickets blocks n → new ≡ left_by leg rs → AreIndexed new tickets blocks n
 left-indexed rs new tickets blocks n leg h is = rw is (record {
-  in_order = AreInOrder-left_by leg rs h.in_order;
+  in_order = runs-left_by leg rs h.in_order;
   tickets_of = h.tickets_of ∙ sym (fields-left_by (λ r. r.ticket) leg (λ r. refl) rs);
   blocks_of = h.blocks_of ∙ sym (fields-left_by (λ r. r.block) leg (λ r. refl) rs);
-  counted = h.counted ∙ sym (unlanded-left_by leg rs);
+  counted = h.counted ∙ sym (waiting-left_by leg rs);
 })
 
 places-rise : (rs : List Record) (i j : ℕ) (x y : Record) → Ascends rs → i ≤ j
@@ -300,15 +301,10 @@ left-step leg rs now new n so_far lt changes =
     changes x.0 x.1 ∙ mapped-step (without_leg leg) rs now n x.0 (without_leg leg x.0) so_far lt x.2
     (ap (without_leg leg) x.2)
 
--- a record without an entry is counted
+-- the blocks of a run without an entry are counted
 pub waits-counted : (rs : List Record) (tickets blocks : List ℕ) (n i : ℕ) (x : Record)
-    → AreIndexed rs tickets blocks n → slice_get rs i ≡ Some x → waits x ≤ n
-waits-counted rs tickets blocks n i x h there =
-    let read = read-there rs i x there in
-    let own = IsAt-own i rs x h.in_order.ascending read.0 in
-    let found = found-own i rs x read.0 read.1 own in
-    let left = unlanded-numbered (get_or rs i x).ticket 0 rs x h.in_order.ascending found in
-    omega (arith, left, h.counted)
+    → AreIndexed rs tickets blocks n → slice_get rs i ≡ Some x → waiting x ≤ n
+waits-counted rs tickets blocks n i x h there = omega (arith, waiting-at rs i x there, h.counted)
 
 -- what stands at a place is what an indexed list's ticket there says
 pub ticket-read : (rs : List Record) (tickets blocks : List ℕ) (n i : ℕ) (ticket : ℕ) (x : Record)
@@ -329,7 +325,7 @@ pub busy-hit : (first count i ticket : ℕ) (rs : List Record) (tickets blocks :
     → AreIndexed rs tickets blocks n → i < length rs
     → ((x : Record) → slice_get rs i ≡ Some x → true ≡ holds_among first count x)
     → ticket ≡ get_or tickets i ticket
-    → option_map (λ r. r.ticket) (busy_among first count (drop i rs)) ≡ Some ticket
+    → option_map (λ r. r.ticket) (run_busy_among first count (drop i rs)) ≡ Some ticket
 busy-hit first count i ticket rs tickets blocks n h lt passes read =
     let x = some-at rs i lt in
     ap (λ (o : Option Record). option_map (λ r. r.ticket) o)
@@ -341,10 +337,33 @@ pub some-copied : {T : Type 0} (o : Option (Bor T)) → is_some o ≡ is_some (o
 some-copied None = refl
 some-copied (Some b) = refl
 
-abbrev number : Bool → ℕ
-number b = cond b 1 0
+-- what stands at a place is what an indexed list's block there says
+pub block-read : (rs : List Record) (tickets blocks : List ℕ) (n i block : ℕ) (x : Record)
+    → AreIndexed rs tickets blocks n → slice_get rs i ≡ Some x
+    → block ≡ get_or blocks i block → block ≡ x.block
+block-read rs tickets blocks n i block x h there read = read
+    ∙ ap (λ (l : List ℕ). get_or l i block) h.blocks_of
+    ∙ field-at (λ r. r.block) rs i block x there
 
--- a test as a number
-pub waits-byte : (x : Record) (b : Bool) → is_some x.entry ≡ not b → bool_byte b ≡ waits x
-waits-byte x true test = sym (ap (λ (v : Bool). number (not v)) test)
-waits-byte x false test = sym (ap (λ (v : Bool). number (not v)) test)
+-- each run has a block
+pub some-blocks : (rs : List Record) (tickets blocks : List ℕ) (n i : ℕ) (x : Record)
+    → AreIndexed rs tickets blocks n → slice_get rs i ≡ Some x → 0 < blocks_in x.data
+some-blocks rs tickets blocks n i x h there = (run-at rs i x h.in_order.runs there).filled.some
+
+-- a run meets a range that begins before it does exactly where the range reaches it
+pub meets-later : (first count block : ℕ) (r : Record) → block ≡ r.block → 0 < blocks_in r.data
+    → first ≤ block → block - first < count → is_under_way r ≡ meets first count r
+meets-later first count block r is some from reach =
+    let front : nat_lt first (r.block + blocks_in r.data) ≡ true = grind (arith, nat_tests) in
+    let back : nat_lt r.block (first + count) ≡ true = grind (arith, nat_tests) in
+    sym (ap (λ (f : Bool). (f && nat_lt r.block (first + count)) && is_under_way r) front
+    ∙ ap (λ (k : Bool). (true && k) && is_under_way r) back)
+
+pub meets-not : (first count block : ℕ) (r : Record) → block ≡ r.block → 0 < blocks_in r.data
+    → first ≤ block → count ≤ block - first → nat_lt (block - first) count ≡ meets first count r
+meets-not first count block r is some from short =
+    let front : nat_lt first (r.block + blocks_in r.data) ≡ true = grind (arith, nat_tests) in
+    let back : nat_lt r.block (first + count) ≡ false = grind (arith, nat_tests) in
+    let none : nat_lt (block - first) count ≡ false = grind (arith, nat_tests) in
+    none ∙ sym (ap (λ (f : Bool). (f && nat_lt r.block (first + count)) && is_under_way r) front
+    ∙ ap (λ (k : Bool). (true && k) && is_under_way r) back)

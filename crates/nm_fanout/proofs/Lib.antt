@@ -7,7 +7,13 @@ pub mod Owed
 pub mod Busy
 pub mod Writers
 pub mod Landing
-pub mod Counted
+pub mod Waiting
+pub mod RunOrder
+pub mod Laying
+pub mod Flat
+pub mod FlatSteps
+pub mod FlatClaims
+pub mod KeepLemmas
 pub mod Members
 pub mod Leaving
 pub mod LandedAll

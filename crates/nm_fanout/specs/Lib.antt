@@ -3,4 +3,5 @@ pub mod Laying
 pub mod Record
 pub mod RecordData
 pub mod Records
+pub mod Runs
 pub mod Stored

@@ -90,6 +90,11 @@ landings next (r ∷ rs) =
 abbrev pub without : ℕ → List Record → List Record
 without ticket list = filter (λ r. not (r.ticket == ticket)) list
 
+-- the records but each of these, which go one after the other
+abbrev pub without_each : List Record → List Record → List Record
+without_each [] list = list
+without_each (r ∷ rs) list = without_each rs (without r.ticket list)
+
 -- the records after a write has begun
 abbrev pub with_new : Record → List Record → List Record
 with_new r list = list ++ r ∷ []
@@ -114,9 +119,18 @@ abbrev pub AllWhole : List Record → Type 0
 AllWhole [] = Unit {0}
 AllWhole (r ∷ rs) = IsWhole r × AllWhole rs
 
--- at most 256 whole records, by rising ticket
+-- one for the first record of a run, and none for another
+abbrev pub run_begins : Record → ℕ
+run_begins r = if r.run == r.ticket then 1 else 0
+
+-- how many runs there are
+abbrev pub runs_in : List Record → ℕ
+runs_in [] = 0
+runs_in (r ∷ rs) = run_begins r + runs_in rs
+
+-- whole records of at most 256 runs, by rising ticket
 pub record AreInOrder (list : List Record) : Type 0 where
-  pub few : length list ≤ 256
+  pub few : runs_in list ≤ 256
   pub ascending : Ascends list
   pub whole : AllWhole list
 

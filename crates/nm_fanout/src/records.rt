@@ -1,14 +1,14 @@
-ghost use Rattle.std.specs.Prelude.{◌≡◌, ℕ, ◌+◌, ◌-◌, ◌<◌, ◌≤◌, ◌↔◌, ◌&&◌, [], length, find};
+ghost use Rattle.std.specs.Prelude.{◌≡◌, ℕ, ◌+◌, ◌-◌, ◌*◌, ◌<◌, ◌≤◌, ◌↔◌, [], length, find};
 ghost use Rattle.std.specs.Prelude.{slice_get, IsTrue, IsSome, IfSome, IfNone, Some, None, IfOk};
 ghost use Rattle.std.specs.Option.{option_map, option_copied};
 ghost use Rattle.nm_fanout.specs.declared.write_record.Record.{Record};
-ghost use Rattle.nm_fanout.specs.Data.{FitsBlock};
+ghost use Rattle.nm_fanout.specs.Data.{FitsBlocks};
 ghost use Rattle.nm_fanout.specs.Laying.{data_over};
 ghost use Rattle.nm_fanout.specs.Record.{begun, is_under_way};
-ghost use Rattle.nm_fanout.specs.Records.{AreInOrder, AllBelow, IsAt, find_record, busy_on};
-ghost use Rattle.nm_fanout.specs.Records.{is_among, busy_among, any_under_way, entry_at, unlanded};
+ghost use Rattle.nm_fanout.specs.Records.{IsAt, find_record, any_under_way, entry_at};
 ghost use Rattle.nm_fanout.specs.Records.{first_unlanded, next_owed, first_owed, reached, landed};
 ghost use Rattle.nm_fanout.specs.Records.{left_by, without, with_new};
+ghost use Rattle.nm_fanout.specs.Runs.{AreRuns, AllEndBy, meets, run_busy_among, unlanded_blocks};
 
 use crate::block_data::Data;
 use crate::record_list::{MOST_RECORDS, RecordList};
@@ -18,15 +18,15 @@ use nm_replay::{Block, Memory};
 use std::alloc::Global;
 use std::marker::Model;
 
-/// The records of writes, by rising ticket.
+/// The records of the writes of runs, by rising ticket.
 #[derive(Drop)]
 pub struct Records {
     list: RecordList,
     /// The ticket of each record, at its place. A search reads these and `blocks` alone.
     tickets: Vec<u64>,
-    /// The block of each record, at its place.
+    /// The first block of each record, at its place.
     blocks: Vec<u64>,
-    /// How many of them have no entry yet.
+    /// How many of their blocks have no entry yet.
     without_entry: u64,
     /// A block for each record that has none of its own.
     spare: SpareBlocks,
@@ -64,7 +64,7 @@ impl Records {
     /// another crate's type.
     #[inline(always)]
     pub fn is_sound(&self)
-        ensures in_order { AreInOrder self.now }
+        ensures in_order { AreRuns self.now }
     {
         let _len = self.list.len();
     }
@@ -72,7 +72,7 @@ impl Records {
     /// How many records there are.
     pub fn len(&self) -> usize
         ensures len { result ≡ length self.now }
-        ensures in_order { AreInOrder self.now }
+        ensures in_order { AreRuns self.now }
     {
         self.list.len()
     }
@@ -87,7 +87,7 @@ impl Records {
     /// Whether no more record may be begun.
     pub fn is_full(&self) -> bool
         ensures full { IsTrue result ↔ (256 ≤ length self.now) }
-        ensures in_order { AreInOrder self.now }
+        ensures in_order { AreRuns self.now }
     {
         self.len() >= MOST_RECORDS
     }
@@ -97,7 +97,7 @@ impl Records {
     pub fn find(&self, ticket: u64) -> Option<usize>
         ensures found { IfSome result (λ place. IsAt ticket place self.now) }
         ensures absent { IfNone result (find_record ticket self.now ≡ None) }
-        ensures in_order { AreInOrder self.now }
+        ensures in_order { AreRuns self.now }
     {
         self.tickets.binary_search(&ticket).ok()
     }
@@ -106,7 +106,7 @@ impl Records {
     pub fn at(&self, place: usize) -> &Record
         requires within { place < length self.now }
         ensures found { slice_get self.now place ≡ Some result.now }
-        ensures in_order { AreInOrder self.now }
+        ensures in_order { AreRuns self.now }
     {
         self.list.at(place)
     }
@@ -114,24 +114,16 @@ impl Records {
     /// The record of this ticket, lent.
     pub fn get(&self, ticket: u64) -> Option<&Record>
         ensures found { option_copied result ≡ find_record ticket self.now }
-        ensures in_order { AreInOrder self.now }
+        ensures in_order { AreRuns self.now }
     {
         let place = self.find(ticket)?;
         Some(self.at(place))
     }
 
-    /// The ticket of the record under way on this block.
-    pub fn busy_on(&self, block: u64) -> Option<u64>
-        ensures busy { result ≡ option_map (λ r. r.ticket) (busy_on block self.now) }
-        ensures in_order { AreInOrder self.now }
-    {
-        self.busy_among(block, 1)
-    }
-
-    /// The lowest ticket under way on one of so many blocks, from the first on.
+    /// The lowest run under way on one of so many blocks, from the first on, by its first ticket.
     pub fn busy_among(&self, first: u64, count: u64) -> Option<u64>
-        ensures busy { result ≡ option_map (λ r. r.ticket) (busy_among first count self.now) }
-        ensures in_order { AreInOrder self.now }
+        ensures busy { result ≡ option_map (λ r. r.ticket) (run_busy_among first count self.now) }
+        ensures in_order { AreRuns self.now }
     {
         for place in 0..self.blocks.len() {
             if self.is_busy_at(place, first, count) {
@@ -148,11 +140,11 @@ impl Records {
         self.first_under_way().is_some()
     }
 
-    /// How many of the writes have no entry yet.
+    /// How many of the writes' blocks have no entry yet.
     pub fn unlanded_count(&self) -> u64
-        ensures count { result ≡ unlanded self.now }
-        ensures most { result ≤ length self.now }
-        ensures in_order { AreInOrder self.now }
+        ensures count { result ≡ unlanded_blocks self.now }
+        ensures most { result ≤ 128 * length self.now }
+        ensures in_order { AreRuns self.now }
     {
         self.without_entry
     }
@@ -162,7 +154,7 @@ impl Records {
     pub fn first_unlanded(&self) -> Option<usize>
         ensures place { result ≡ first_unlanded self.now }
         ensures within { IfSome result (λ place. place < length self.now) }
-        ensures in_order { AreInOrder self.now }
+        ensures in_order { AreRuns self.now }
     {
         for place in 0..self.list.len() {
             if self.list.at(place).entry.is_none() {
@@ -188,23 +180,25 @@ impl Records {
         Some((record.ticket, leg))
     }
 
-    /// Begins a write: adds its record, with these legs owed and no entry. The ticket is above all
-    /// earlier ones.
+    /// Begins a write of a run from this block on: adds its record, with these legs owed and no
+    /// entry. Its blocks take the tickets from this one on, which is above all earlier ones.
     ///
     /// A part is laid over `base`, what the block holds; whole data leave `base` unread.
     ///
-    /// `is_full` tells whether one more record is allowed, and `Data::fits_block` whether the data
+    /// `is_full` tells whether one more record is allowed, and `Data::fits_run` whether the data
     /// fit.
     pub fn begin(&mut self, ticket: u64, block: u64, data: Data, base: &Block, owed: [bool; LEGS])
         requires few { length self.old < 256 }
-        requires next { AllBelow ticket self.old }
-        requires fits { FitsBlock «data» }
-        ensures { self.new ≡ with_new (begun ticket block (data_over «data» base.now) owed)
+        requires next { AllEndBy ticket self.old }
+        requires fits { FitsBlocks «data» }
+        ensures { self.new ≡ with_new (begun ticket ticket block (data_over «data» base.now) owed)
             self.old }
     {
         let data = self.spare.keep(data, base);
+        self.without_entry += data.blocks();
         self.list.push(Record {
             ticket,
+            run: ticket,
             block,
             data,
             owed,
@@ -212,7 +206,6 @@ impl Records {
         });
         self.tickets.push_reserved(ticket);
         self.blocks.push_reserved(block);
-        self.without_entry += 1;
     }
 
     /// Records that the write at this place has reached the leg. Where the leg is not owed, nothing
@@ -232,18 +225,18 @@ impl Records {
         self.list.leave(leg);
     }
 
-    /// Gives the write at this place the number of its entry.
+    /// Gives the write at this place the number of its first entry.
     pub fn land_at(&mut self, place: usize, number: u64)
         requires within { place < length self.old }
         ensures { (ticket : ℕ) → IsAt ticket place self.old
             → self.new ≡ landed ticket number self.old }
     {
-        self.without_entry -= self.list.at(place).entry.is_none() as u64;
+        self.without_entry -= self.list.at(place).waiting();
         self.list.land_at(place, number);
     }
 
-    /// Removes the record of the landed write at this place, and gives its entry's number. The
-    /// others keep their order.
+    /// Removes the record of the landed write at this place, and gives its first entry's number.
+    /// The others keep their order.
     pub fn claim_at(&mut self, place: usize) -> u64
         requires landed { IsSome (entry_at place self.old) }
         ensures number { entry_at place self.old ≡ Some result }
@@ -260,11 +253,14 @@ impl Records {
     /// Whether the record at this place is under way on one of so many blocks, from the first on.
     fn is_busy_at(&self, place: usize, first: u64, count: u64) -> bool
         requires { place < length self.now }
-        ensures { (r : Record) → slice_get self.now place ≡ Some r
-            → result ≡ is_among first count r.block && is_under_way r }
+        ensures { (r : Record) → slice_get self.now place ≡ Some r → result ≡ meets first count r }
     {
         let block = self.blocks[place];
-        first <= block && block - first < count && self.list.at(place).is_under_way()
+        let run = self.list.at(place);
+        if block < first {
+            return first - block < run.blocks() && run.is_under_way();
+        }
+        block - first < count && run.is_under_way()
     }
 
     /// The record of the lowest ticket under way.

@@ -1,31 +1,53 @@
 ghost use Rattle.std.specs.Prelude.{◌≡◌, ◌<◌, ◌≤◌, length, position, IfSome};
 ghost use Rattle.nm_fanout.specs.Record.{owes, owed_count, is_under_way, lowest_owed, without_leg};
-ghost use Rattle.nm_fanout.specs.Record.{with_entry};
+ghost use Rattle.nm_fanout.specs.Record.{waiting, with_entry};
+ghost use Rattle.nm_fanout.specs.RecordData.{blocks_in};
 
 use crate::record_data::RecordData;
 
 /// How many legs a record has places for.
 pub const LEGS: usize = 8;
 
-/// The record of one write, from its beginning until it is claimed.
+/// The record of the write of one run, from its beginning until it is claimed.
 ///
-/// It is under way while it owes a leg, and finished once it owes none. It lands, and so gets its
-/// entry's number, as it reaches the master.
+/// It is under way while it owes a leg, and finished once it owes none. It lands, and so gets the
+/// numbers of its entries, as it reaches the master. Tickets, blocks and entries of a run's blocks
+/// follow one another from the first on.
 #[derive(Drop)]
 pub struct Record {
-    /// The write's ticket. Tickets rise in the order in which writes begin.
+    /// The first ticket. Tickets rise in the order in which writes begin.
     pub ticket: u64,
-    /// The block that is written.
+    /// The run that the record belongs to, by its first ticket.
+    pub run: u64,
+    /// The first block that is written.
     pub block: u64,
-    /// The block's new bytes.
+    /// The new bytes of the blocks.
     pub data: RecordData,
     /// For each leg, by its number, whether the write has still to reach it.
     pub owed: [bool; LEGS],
-    /// The number of the write's entry, once the write has taken effect.
+    /// The number of the first entry, once the write has taken effect.
     pub entry: Option<u64>,
 }
 
 impl Record {
+    /// How many blocks the run has.
+    pub fn blocks(&self) -> u64
+        ensures { result ≡ blocks_in self.now.data }
+    {
+        self.data.blocks()
+    }
+
+    /// How many of its blocks have no entry yet: all of them, or none.
+    pub fn waiting(&self) -> u64
+        ensures { result ≡ waiting self.now }
+    {
+        if self.entry.is_none() {
+            self.blocks()
+        } else {
+            0
+        }
+    }
+
     /// Whether the write has still to reach this leg. No leg above the last place is owed.
     pub fn owes(&self, leg: u8) -> bool
         ensures { result ≡ owes leg self.now }

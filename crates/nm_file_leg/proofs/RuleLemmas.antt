@@ -1,12 +1,20 @@
 -- What a leg knows of its medium, through writes and syncs.
-use Rattle.std.proofs.Common.{◌≡◌, ⊎_elim, ℕ, ◌+◌, ◌-◌, ◌≤◌, Bool, true, false, IsTrue, List, ap, sym, ◌∙◌, subst, arith, Result, Ok}
-use Rattle.std.proofs.lemmas.Bool.{cases_lt}
+use Rattle.std.proofs.Common.{◌≡◌, ⊎_elim, ℕ, ◌+◌, ◌-◌, ◌<◌, ◌≤◌, Bool, true, false, IsTrue, List, ap, sym, ◌∙◌, subst, arith, nat_le, Result, Ok}
+use Rattle.std.proofs.lemmas.Bool.{cases_lt, leb-true}
 use Rattle.nm_leg.specs.Leg.{blocks_in}
 use Rattle.nm_geometry.specs.Geometry.{Geometry, stripe_blocks}
 use Rattle.nm_file_leg.specs.Medium.{Held, window, Kept, SyncsMedium}
 use Rattle.nm_file_leg.specs.Blocks.{first_byte, bytes_at}
-use Rattle.nm_file_leg.specs.Runs.{run_places, WritesRun}
+use Rattle.nm_file_leg.specs.Runs.{run_places, KeepsRun, WritesRun}
 use Rattle.nm_file_leg.specs.FileLeg.{OwnsBlocks, FileRules}
+
+-- where every block was written since the last sync that failed, a run is kept
+pub keeps-run : (honest : Bool) (s : ℕ) (p : Geometry) (r at : ℕ) (dirty : Bool) (bytes : List ℕ) (held : Held) (all : ℕ)
+    → all ≡ stripe_blocks s p → at + blocks_in bytes ≤ stripe_blocks s p → FileRules honest held s p r dirty
+    → IsTrue honest → IsTrue (nat_le all r) → KeepsRun held (run_places s p at) (blocks_in bytes)
+keeps-run honest s p r at dirty bytes held all is inside rules is_honest full i low =
+    let most : all ≤ r = leb-true all r full in
+    rules.kept is_honest (at + i) (omega (arith, low, inside, is, most))
 
 -- any write leaves what was kept, and the leg is no longer known to be durable
 pub rules-write : (honest succeeded : Bool) (s : ℕ) (p : Geometry) (r : ℕ) (dirty : Bool) (places : ℕ → ℕ) (bytes : List ℕ) (old new : Held)

@@ -7,7 +7,7 @@ use Rattle.nm_leg.specs.Leg.{blocks_in}
 use Rattle.nm_geometry.specs.Geometry.{Geometry, IsGeometry}
 use Rattle.nm_file_leg.specs.Medium.{Held, Owns, Kept, Apart, window, ReadsMedium, WritesMedium}
 use Rattle.nm_file_leg.specs.Blocks.{first_byte}
-use Rattle.nm_file_leg.specs.Runs.{run_places, bytes_of, OwnsRun, IsApart, ReadsRun, WritesRun}
+use Rattle.nm_file_leg.specs.Runs.{run_places, bytes_of, OwnsRun, KeepsRun, IsApart, ReadsRun, WritesRun}
 use Rattle.nm_file_leg.proofs.WindowLemmas.{window-inside}
 use Rattle.nm_file_leg.proofs.PlaceLemmas.{blocks-apart}
 
@@ -23,6 +23,14 @@ module _ (places : ℕ → ℕ) (first n : ℕ) (follow : Follow places first n)
       let low : i < n = omega (arith, above, below) in
       let place : places i ≡ first + 512 * i = follow i low in
       owns i low at (omega (arith, place, above)) (omega (arith, place, above))
+
+  -- their bytes are kept if each block is
+  pub keeps-all : (held : Held) → KeepsRun held places n → Kept held first (512 * n)
+  keeps-all held keeps at above below =
+      let i : ℕ = (at - first) / 512 in
+      let low : i < n = omega (arith, above, below) in
+      let place : places i ≡ first + 512 * i = follow i low in
+      keeps i low at (omega (arith, place, above)) (omega (arith, place, above))
 
   -- a block of them, where all their bytes are known
   one-of : (i : ℕ) (bytes held : List ℕ) → i < n → window first (512 * n) held ≡ bytes → window (places i) 512 held ≡ bytes_of i bytes

@@ -1,14 +1,14 @@
 -- One call more for a run: what it adds to the first bytes of the run.
-use Rattle.std.proofs.Common.{◌≡◌, ℕ, ◌+◌, ◌-◌, ◌*◌, ◌/◌, ◌%◌, ◌<◌, ◌≤◌, Bool, true, false, List, ◌++◌, length, length-append, take, drop, ap, sym, ◌∙◌, subst, arith, min, Result, Ok}
+use Rattle.std.proofs.Common.{◌≡◌, ℕ, ◌+◌, ◌-◌, ◌*◌, ◌/◌, ◌%◌, ◌<◌, ◌≤◌, Bool, true, false, IsTrue, List, ◌++◌, length, length-append, take, drop, ap, sym, ◌∙◌, subst, arith, min, Result, Ok}
 use Rattle.std.proofs.lemmas.List.{length-take-le, length-drop, take_at, take-append-drop, append_assoc}
 use Rattle.std.proofs.lemmas.Nat.{mod_below}
 use Rattle.nm_leg.specs.Leg.{blocks_in}
 use Rattle.nm_geometry.specs.Geometry.{Geometry, IsGeometry}
-use Rattle.nm_file_leg.specs.Medium.{Held, ReadsMedium, WritesMedium}
+use Rattle.nm_file_leg.specs.Medium.{Held, Kept, ReadsMedium, WritesMedium}
 use Rattle.nm_file_leg.specs.Blocks.{first_byte}
-use Rattle.nm_file_leg.specs.Runs.{run_places, ReadsRun, WritesRun}
+use Rattle.nm_file_leg.specs.Runs.{run_places, KeepsRun, ReadsRun, WritesRun}
 use Rattle.nm_file_leg.proofs.PlaceLemmas.{place-follows}
-use Rattle.nm_file_leg.proofs.RunLemmas.{Follow, reads-stretch, reads-join, writes-stretch, writes-torn, writes-join, writes-longer}
+use Rattle.nm_file_leg.proofs.RunLemmas.{Follow, keeps-all, reads-stretch, reads-join, writes-stretch, writes-torn, writes-join, writes-longer}
 
 -- one call is for some whole blocks of one region
 pub record IsCall (at done many region : ℕ) (bytes : List ℕ) : Type 0 where
@@ -47,6 +47,18 @@ module _ (honest : Bool) (s : ℕ) (p : Geometry) (at done many : ℕ) (whole : 
   -- the places of the call, by the bytes before it
   before : (front : List ℕ) → length front ≡ done → at + done / 512 ≡ at + blocks_in front
   before front long = omega (arith, long)
+
+  -- where the whole run was kept, the bytes of the call are still
+  pub keeps-step : (old mid : Held) (bytes : List ℕ) → done + many ≤ length bytes → WritesRun honest true (run_places s p at) (take done bytes) old mid
+      → IsTrue honest → KeepsRun old (run_places s p at) (blocks_in bytes) → Kept mid (first_byte s p (at + done / 512)) many
+  keeps-step old mid bytes inside so_far is_honest keeps =
+      let from : ℕ = at + done / 512 in
+      let follows : Follow (run_places s p from) (first_byte s p from) (many / 512) = λ i low. place-follows s p from i (omega (arith, low, short)) in
+      let part : KeepsRun old (run_places s p from) (many / 512) =
+      λ i low. subst (λ (k : ℕ). Kept old (first_byte s p k) 512) (let e : at + (done / 512 + i) ≡ at + done / 512 + i = omega arith in e)
+      (keeps (done / 512 + i) (omega (arith, low, inside, whole, blocks))) in
+      subst (λ (n : ℕ). Kept mid (first_byte s p from) n) (sym blocks)
+      (so_far.kept_others is_honest _ _ (keeps-all (run_places s p from) (first_byte s p from) (many / 512) follows old part))
 
   pub reads-step : {E : Type 0} (result : Result ℕ E) (old mid new : Held) (into part rest : List ℕ) → done ≤ length into → length part ≡ many → result ≡ Ok many
       → ReadsRun honest true (run_places s p at) old mid (take done into) → ReadsMedium honest result (first_byte s p (at + done / 512)) mid new part

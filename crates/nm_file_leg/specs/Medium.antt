@@ -7,7 +7,7 @@
 --   * A failed sync fails the next sync of every user: whoever's it is, it is told to each user
 --     that has written since the last sync that succeeded.
 use Rattle.std.specs.Prelude.{◌≡◌, ℕ, ◌+◌, ◌/◌, ◌<◌, ◌≤◌, ◌⊎◌, Bool, IsTrue, IsFalse}
-use Rattle.std.specs.Prelude.{List, length, take, Result, IfOk, OnOk}
+use Rattle.std.specs.Prelude.{List, length, take, replicate, Result, IfOk, OnOk}
 unfoldable pub use Rattle.nm_leg.specs.Bytes.{spliced, window}
 
 -- Whether the byte at a place is the user's own, the bytes as reads find them, the same bytes as a
@@ -77,3 +77,9 @@ pub record SyncsMedium {E : Type 0} (honest : Bool) (result : Result (Unit {0}) 
 -- The length of the medium.
 abbrev pub TellsLength : {E : Type 0} → Bool → Result ℕ E → Held → Type 0
 TellsLength honest result held = IsTrue honest → IfOk result (λ n. n ≡ length held.contents)
+
+-- A hole: own bytes that were found to be zeroes. Of what is durable it says nothing: a sync that
+-- succeeds makes them durable, as it does the other bytes that are kept.
+abbrev pub FindsHole : (honest found : Bool) → (at many : ℕ) → Held → Type 0
+FindsHole honest found at many held = IsTrue honest → IsTrue found → Owns held at many
+    → window at many held.contents ≡ replicate many 0

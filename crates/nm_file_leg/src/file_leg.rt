@@ -131,7 +131,15 @@ impl<M: Medium> LegPart for FileLeg<M> {
             return Err(count_fault(&mut self.faults));
         }
         self.dirty = true;
-        if !write_run(&mut self.medium, &self.shape, self.stripe, at, bytes) {
+        let keeps_holes = self.rewritten_below >= self.shape.stripe_blocks(self.stripe);
+        if !write_run(
+            &mut self.medium,
+            &self.shape,
+            self.stripe,
+            at,
+            bytes,
+            keeps_holes,
+        ) {
             return Err(count_fault(&mut self.faults));
         }
         let end = at + (bytes.len() / BLOCK_BYTES) as u64;

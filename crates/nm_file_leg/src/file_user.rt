@@ -46,4 +46,8 @@ impl<F: BackingFile> Medium for FileUser<F> {
     fn len(&self) -> io::Result<u64> {
         self.file.file().count_bytes()
     }
+
+    fn is_hole(&self, at: u64, many: usize) -> bool {
+        self.file.file().has_hole(at, many)
+    }
 }

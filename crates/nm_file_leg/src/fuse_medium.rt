@@ -85,4 +85,8 @@ impl<M: Medium> Medium for FuseMedium<M> {
     fn len(&self) -> io::Result<u64> {
         self.medium.len()
     }
+
+    fn is_hole(&self, at: u64, many: usize) -> bool {
+        self.medium.is_hole(at, many)
+    }
 }

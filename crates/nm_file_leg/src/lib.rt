@@ -29,3 +29,4 @@ mod runs;
 mod shared_file;
 mod splice;
 mod sync_counts;
+mod zeroes;

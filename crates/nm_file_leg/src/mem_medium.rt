@@ -1,9 +1,12 @@
-ghost use Rattle.std.specs.Prelude.{◌≡◌, ◌-◌, true, length, min, Ok, IsOk};
+ghost use Rattle.std.specs.Prelude.{◌≡◌, ◌+◌, ◌-◌, ◌≤◌, true, length, replicate, min, Ok};
+ghost use Rattle.std.specs.Prelude.{IsOk, IsTrue};
 ghost use Rattle.nm_file_leg.specs.Media.{of_mem};
 ghost use Rattle.nm_file_leg.specs.Medium.{ReadsMedium, WritesMedium, SyncsMedium, TellsLength};
+ghost use Rattle.nm_file_leg.specs.Medium.{FindsHole, window};
 
 use crate::Medium;
 use crate::splice::splice;
+use crate::zeroes::are_zeroes;
 use std::io;
 
 /// An honest medium in memory.
@@ -80,5 +83,17 @@ impl Medium for MemMedium {
         ensures known { result ≡ Ok (length self.now.bytes.items) }
     {
         Ok(self.bytes.len() as u64)
+    }
+
+    fn is_hole(&self, at: u64, many: usize) -> bool
+        ensures finds { FindsHole true result at many (of_mem self.now) }
+        ensures all { at + many ≤ length self.now.bytes.items
+            → window at many self.now.bytes.items ≡ replicate many 0 → IsTrue result }
+    {
+        if at > self.bytes.len() as u64 {
+            return false;
+        }
+        let from = at as usize;
+        many <= self.bytes.len() - from && are_zeroes(&self.bytes[from..from + many])
     }
 }

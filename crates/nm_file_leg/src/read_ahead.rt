@@ -165,4 +165,8 @@ impl<M: Medium> Medium for ReadAhead<M> {
         }
         size
     }
+
+    fn is_hole(&self, at: u64, many: usize) -> bool {
+        self.medium.is_hole(at, many)
+    }
 }

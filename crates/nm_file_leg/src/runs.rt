@@ -1,13 +1,16 @@
 //! Runs of a stripe's blocks in a medium, by one call for each region that they lie in.
-ghost use Rattle.std.specs.Prelude.{◌≡◌, ◌*◌, ◌-◌, ◌%◌, ◌<◌, min};
-ghost use Rattle.nm_leg.specs.Leg.{IsRun};
+ghost use Rattle.std.specs.Prelude.{◌≡◌, ◌*◌, ◌-◌, ◌%◌, ◌<◌, min, length, IsTrue};
+ghost use Rattle.nm_leg.specs.Leg.{IsRun, blocks_in};
 ghost use Rattle.nm_geometry.specs.Geometry.{IsGeometry, stripe_blocks};
 ghost use Rattle.nm_file_leg.specs.Blocks.{first_byte};
-ghost use Rattle.nm_file_leg.specs.Runs.{ReadsRun, WritesRun, run_places};
+ghost use Rattle.nm_file_leg.specs.Medium.{Kept, WritesMedium};
+ghost use Rattle.nm_file_leg.specs.Runs.{ReadsRun, WritesRun, KeepsRun, run_places};
 
 use crate::Medium;
+use crate::zeroes::are_zeroes;
 use nm_geometry::Shape;
 use nm_replay::BLOCK_BYTES;
+use std::io;
 
 /// Where a block of the stripe begins in the medium.
 fn first_byte(shape: &Shape, stripe: u32, block: u64) -> u64
@@ -55,17 +58,41 @@ pub(crate) fn read_run<M: Medium>(
     true
 }
 
-/// Writes a run of blocks, and says whether it wrote all of it.
+/// Writes bytes that follow one another. Where `keeps_holes` is given, zeroes are not written into
+/// a hole of the medium: they stand there.
+fn write_stretch<M: Medium>(
+    medium: &mut M,
+    first: u64,
+    part: &[u8],
+    keeps_holes: bool,
+) -> io::Result<usize>
+    requires { IsTrue M.honest → IsTrue keeps_holes
+        → Kept (M.held medium.old) first (length part.now) }
+    ensures { WritesMedium M.honest result first part.now (M.held medium.old)
+        (M.held medium.new) }
+{
+    if keeps_holes && are_zeroes(part) && medium.is_hole(first, part.len()) {
+        return Ok(part.len());
+    }
+    medium.write_at(first, part)
+}
+
+/// Writes a run of blocks, and says whether all of it stands in the medium. Where `keeps_holes` is
+/// given, zeroes are not written into the medium's holes, so that a sparse medium stays sparse;
+/// then no sync that failed may have lost a block of the run.
 pub(crate) fn write_run<M: Medium>(
     medium: &mut M,
     shape: &Shape,
     stripe: u32,
     at: u64,
     bytes: &[u8],
+    keeps_holes: bool,
 ) -> bool
     requires shape { IsGeometry shape.now }
     requires stripe { stripe < shape.now.stripes }
     requires run { IsRun at (stripe_blocks stripe shape.now) bytes.now }
+    requires kept { IsTrue M.honest → IsTrue keeps_holes
+        → KeepsRun (M.held medium.old) (run_places stripe shape.now at) (blocks_in bytes.now) }
     ensures { WritesRun M.honest result (run_places stripe shape.now at) bytes.now
         (M.held medium.old) (M.held medium.new) }
 {
@@ -74,7 +101,7 @@ pub(crate) fn write_run<M: Medium>(
         let block = at + (done / BLOCK_BYTES) as u64;
         let first = first_byte(shape, stripe, block);
         let many = bytes_in_region(shape, block, bytes.len() - done);
-        match medium.write_at(first, &bytes[done..done + many]) {
+        match write_stretch(medium, first, &bytes[done..done + many], keeps_holes) {
             Ok(written) if written == many => done += many,
             _ => return false,
         }

@@ -1,13 +1,13 @@
 -- Own steps that leave no write unclaimed.
 use Rattle.std.proofs.Common.{◌≡◌, ℕ, List, [], ◌∷◌, ◌++◌, subst}
-use Rattle.nm_geometry.specs.declared.piece.Piece.{Piece}
+use Rattle.nm_lanes.specs.declared.run.Run.{Run}
 use Rattle.nm_geometry.specs.Geometry.{Geometry}
 use Rattle.nm_stripe.specs.Flush.{SyncsLeg}
 use Rattle.nm_stripe.specs.declared.answer.Answer.{Answer}
 use Rattle.nm_stripe.specs.declared.answer.Answer.TheVariants.{Begun}
 use Rattle.nm_stripe.specs.declared.step.Step.{Step}
 use Rattle.nm_stripe.specs.declared.step.Step.TheVariants.{Begin, Push, Claim, Read, Fail, Attach, Replace, Copy, Promote, Sync}
-use Rattle.nm_lanes.specs.declared.piece_write.PieceWrite.{PieceWrite}
+use Rattle.nm_lanes.specs.declared.run_write.RunWrite.{RunWrite}
 use Rattle.nm_lanes.specs.Done.{Done}
 use Rattle.nm_lanes.specs.Ends.{EndsClaimed}
 use Rattle.nm_lanes.specs.Lists.{steps_in}
@@ -27,15 +27,15 @@ module _ {L : Type 0} where
   pub not-begun : (Is : Answer L → Type 0) (answer : Answer L) → ((ticket : ℕ) → Is (Begun ticket) → ⊥) → Is answer → (ticket : ℕ) → answer ≡ Begun ticket → ⊥
   not-begun Is answer none a ticket is = none ticket (subst (λ (told : Answer L). Is told) is a)
 
-  -- reads of all pieces
-  pub reads-claimed : (shape : Geometry) (pieces : List Piece) (stripe : ℕ) (own : List (Done L)) → ReadsEach shape pieces (steps_in stripe own) → EndsClaimed own
-  reads-claimed shape pieces stripe [] a = tt
-  reads-claimed shape (x ∷ pieces) stripe (d ∷ []) a = not-begun (λ told. IsValue told) d.answer (λ ticket none. none) a.0.value
-  reads-claimed shape (x ∷ pieces) stripe (d ∷ (e ∷ own)) a = reads-claimed shape pieces stripe (e ∷ own) a.1
+  -- reads of all runs
+  pub reads-claimed : (shape : Geometry) (runs : List Run) (stripe : ℕ) (own : List (Done L)) → ReadsEach shape runs (steps_in stripe own) → EndsClaimed own
+  reads-claimed shape runs stripe [] a = tt
+  reads-claimed shape (x ∷ runs) stripe (d ∷ []) a = not-begun (λ told. IsValue told) d.answer (λ ticket none. none) a.0.value
+  reads-claimed shape (x ∷ runs) stripe (d ∷ (e ∷ own)) a = reads-claimed shape runs stripe (e ∷ own) a.1
   reads-claimed shape [] stripe (d ∷ own) a = absurd a
 
-  -- writes of all pieces
-  pub writes-claimed : (shape : Geometry) (writes : List PieceWrite) (stripe : ℕ) (own : List (Done L)) → WritesEach shape writes (steps_in stripe own) → EndsClaimed own
+  -- writes of all runs
+  pub writes-claimed : (shape : Geometry) (writes : List RunWrite) (stripe : ℕ) (own : List (Done L)) → WritesEach shape writes (steps_in stripe own) → EndsClaimed own
   writes-claimed shape writes stripe [] a = tt
   writes-claimed shape (x ∷ writes) stripe (b ∷ (e ∷ [])) a = not-begun (λ told. IsWritten told) e.answer (λ ticket none. none) a.0.written
   writes-claimed shape (x ∷ writes) stripe (b ∷ (e ∷ (d ∷ own))) a = writes-claimed shape writes stripe (d ∷ own) a.1
@@ -47,7 +47,7 @@ module _ {L : Type 0} where
   no-sync leg (Begin block bytes) ticket a = a
   no-sync leg (Push number other) ticket a = a
   no-sync leg (Claim number) ticket a = a
-  no-sync leg (Read block) ticket a = a
+  no-sync leg (Read block room) ticket a = a
   no-sync leg (Fail other) ticket a = a
   no-sync leg (Attach other) ticket a = a
   no-sync leg (Replace other new) ticket a = a

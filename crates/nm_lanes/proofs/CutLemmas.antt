@@ -1,59 +1,36 @@
--- A payload, cut at one piece more at a time.
-use Rattle.std.proofs.Common.{◌≡◌, ℕ, ◌+◌, ◌-◌, ◌/◌, ◌≤◌, ◌<◌, ◌==◌, inl, inr, false, List, [], ◌∷◌, ◌++◌, length, min, take, drop, refl, sym, ap, ◌∙◌, arith, pos_of_ne-zero}
+-- A payload, cut at one run more at a time.
+use Rattle.std.proofs.Common.{◌≡◌, ℕ, ◌+◌, ◌-◌, ◌/◌, ◌≤◌, ◌<◌, ◌==◌, inl, inr, false, List, ◌++◌, length, refl, ap, ◌∙◌, arith, pos_of_ne-zero}
 use Rattle.std.proofs.lemmas.Bool.Decides.{eqb_tells}
-use Rattle.std.proofs.lemmas.List.{length-drop}
-use Rattle.nm_fanout.specs.declared.block_data.Data.{Data}
-use Rattle.nm_geometry.specs.declared.piece.Piece.{Piece}
 use Rattle.nm_geometry.specs.declared.byte_range.ByteRange.{ByteRange}
 use Rattle.nm_geometry.specs.Geometry.{Geometry}
-use Rattle.nm_geometry.specs.Pieces.{LiesInside, end_of, touched, piece_at, pieces_from, bytes_before}
-use Rattle.nm_lanes.specs.declared.piece_write.PieceWrite.{PieceWrite}
-use Rattle.nm_lanes.specs.Cuts.{cut_for, cuts_for}
-use Rattle.nm_lanes.proofs.PieceLemmas.{touched-inside, done-before, done-behind, pieces-one}
+use Rattle.nm_geometry.specs.Pieces.{LiesInside, end_of, touched}
+use Rattle.nm_lanes.specs.declared.run_write.RunWrite.{RunWrite}
+use Rattle.nm_lanes.specs.declared.stretch.Stretch.{Stretch}
+use Rattle.nm_lanes.specs.Cuts.{cuts_for}
+use Rattle.nm_lanes.specs.Stretches.{block_of, bytes_in, bytes_of, rest_of, runs_in_stretch}
 
--- what is left of the payload after these pieces
-abbrev pub drop_pieces : List Piece → List ℕ → List ℕ
-drop_pieces [] payload = payload
-drop_pieces (piece ∷ pieces) payload = drop_pieces pieces (drop piece.len payload)
+-- the bytes of blocks that follow one another
+pub bytes-add : (block n m : ℕ) (range : ByteRange) → range.offset / 512 ≤ block → bytes_in block (n + m) range ≡ bytes_in block n range + bytes_in (block + n) m range
+bytes-add block n m range from = omega (arith, from)
 
-cuts-push : (pieces : List Piece) (piece : Piece) (payload : List ℕ)
-    → cuts_for (pieces ++ piece ∷ []) payload ≡ cuts_for pieces payload ++ record { piece = piece; bytes = cut_for piece (take piece.len (drop_pieces pieces payload)) } ∷ []
-cuts-push [] piece payload = refl
-cuts-push (p ∷ pieces) piece payload =
-    ap (λ (writes : List PieceWrite). record { piece = p; bytes = cut_for p (take p.len payload) } ∷ writes) (cuts-push pieces piece (drop p.len payload))
+-- the bytes of a stretch: of its first pieces, and of the others
+pub stretch-bytes : (stretch : Stretch) (n m : ℕ) → bytes_of stretch (n + m) ≡ bytes_of stretch n + bytes_in (block_of stretch + n) m stretch.range
+stretch-bytes stretch n m = bytes-add (block_of stretch) n m stretch.range (omega arith)
 
-drop-push : (pieces : List Piece) (piece : Piece) (payload : List ℕ) → drop_pieces (pieces ++ piece ∷ []) payload ≡ drop piece.len (drop_pieces pieces payload)
-drop-push [] piece payload = refl
-drop-push (p ∷ pieces) piece payload = drop-push pieces piece (drop p.len payload)
+pub rest-bytes : (stretch : Stretch) (n : ℕ) → n ≤ stretch.count → bytes_of stretch stretch.count ≡ bytes_of stretch n + bytes_of (rest_of n stretch) (stretch.count - n)
+rest-bytes stretch n le =
+    let all : stretch.count ≡ n + (stretch.count - n) = omega (arith, le) in
+    let next : block_of stretch + n ≡ block_of (rest_of n stretch) = omega arith in
+    ap (λ k. bytes_of stretch k) all ∙ stretch-bytes stretch n (stretch.count - n) ∙ ap (λ b. bytes_of stretch n + bytes_in b (stretch.count - n) stretch.range) next
 
--- so many pieces are cut
-pub record HasCut (range : ByteRange) (payload : List ℕ) (number : ℕ) (writes : List PieceWrite) (rest : List ℕ) : Type 0 where
-  pub writes_are : writes ≡ cuts_for (pieces_from (range.offset / 512) number range) payload
-  pub rest_is : rest ≡ drop_pieces (pieces_from (range.offset / 512) number range) payload
-  pub left : length rest + min (bytes_before number range) range.length ≡ range.length
+-- the bytes of the first pieces are some of the stretch's
+pub bytes-fit : (stretch : Stretch) (n : ℕ) → n ≤ stretch.count → bytes_of stretch n ≤ bytes_of stretch stretch.count
+bytes-fit stretch n le = let all = rest-bytes stretch n le in omega (arith, all)
 
-pub cut-more : (range : ByteRange) (payload : List ℕ) (number : ℕ) (writes : List PieceWrite) (rest : List ℕ) → number < touched range → HasCut range payload number writes rest
-    → HasCut range payload (number + 1) (writes ++ record { piece = piece_at number range; bytes = cut_for (piece_at number range) (take (piece_at number range).len rest) } ∷ []) (drop (piece_at number range).len rest)
-cut-more range payload number writes rest inside a =
-    let ps = pieces_from (range.offset / 512) number range in
-    let piece = piece_at number range in
-    let met = touched-inside range number inside in
-    let before = done-before range number met in
-    let behind = done-behind range number met in
-    let left = a.left in
-    let long = length-drop piece.len rest in
-    record {
-      writes_are = ap (λ (bytes : List ℕ). writes ++ record { piece = piece; bytes = cut_for piece (take piece.len bytes) } ∷ []) a.rest_is
-          ∙ ap (λ (ws : List PieceWrite). ws ++ record { piece = piece; bytes = cut_for piece (take piece.len (drop_pieces ps payload)) } ∷ []) a.writes_are
-          ∙ sym (cuts-push ps piece payload) ∙ ap (λ (qs : List Piece). cuts_for qs payload) (sym (pieces-one number range));
-      rest_is = ap (λ (bytes : List ℕ). drop piece.len bytes) a.rest_is ∙ sym (drop-push ps piece payload) ∙ ap (λ (qs : List Piece). drop_pieces qs payload) (sym (pieces-one number range));
-      left = omega (arith, before, behind, left, long);
-    }
-
-pub cut-next : (range : ByteRange) (payload : List ℕ) (number : ℕ) (writes items : List PieceWrite) (rest cut behind : List ℕ) (piece : Piece) (bytes : Data) → number < touched range → HasCut range payload number writes rest
-    → piece ≡ piece_at number range → cut ≡ take piece.len rest → behind ≡ drop piece.len rest → bytes ≡ cut_for piece cut → items ≡ writes ++ record { piece = piece; bytes = bytes } ∷ [] → HasCut range payload (number + 1) items behind
-cut-next range payload number writes items rest cut behind piece bytes inside a is_piece is_cut is_behind is_bytes is_items =
-    rw (is_items, is_bytes, is_cut, is_behind, is_piece) (cut-more range payload number writes rest inside a)
+-- the first runs of a stretch are cut, and these bytes are left for the others
+pub record HasCut (shape : Geometry) (stretch left : Stretch) (payload : List ℕ) (writes : List RunWrite) (rest : List ℕ) : Type 0 where
+  pub cut : writes ++ cuts_for (runs_in_stretch shape left) rest ≡ cuts_for (runs_in_stretch shape stretch) payload
+  pub long : length rest ≡ bytes_of left left.count
 
 pub touched-fits : (shape : Geometry) (range : ByteRange) → LiesInside range shape → range.offset / 512 + touched range ≤ shape.blocks
 touched-fits shape range inside = elim (eqb_tells range.length 0) [

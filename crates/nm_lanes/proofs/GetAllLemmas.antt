@@ -3,32 +3,33 @@ use Rattle.std.proofs.Common.{◌≡◌, inl, ℕ, ◌+◌, ◌-◌, ◌≤◌, 
 use borrow.Rule.Slice.PartMut.{put_mid}
 use Rattle.std.proofs.Math.Seq.{take-append-add}
 use Rattle.std.proofs.lemmas.List.{length-append, take-append-le}
-use Rattle.nm_geometry.specs.declared.piece.Piece.{Piece}
+use Rattle.nm_lanes.specs.declared.run.Run.{Run}
 use Rattle.nm_geometry.specs.Geometry.{Geometry}
 use Rattle.nm_lanes.specs.declared.cause.Cause.{Cause}
 use Rattle.nm_lanes.specs.declared.stretch.Stretch.{Stretch}
 use Rattle.nm_lanes.specs.Done.{Done}
 use Rattle.nm_lanes.specs.Ends.{EachLane, LaneDid, LaneTries}
-use Rattle.nm_lanes.specs.Gets.{pieces_in_stretch, bytes_of, IsReadStretch, ReadsNext}
+use Rattle.nm_lanes.specs.Gets.{IsReadStretch, ReadsNext}
+use Rattle.nm_lanes.specs.Stretches.{runs_in_stretch, bytes_of, first_of, rest_of}
 use Rattle.nm_lanes.specs.Lists.{MirrorStep, steps_in, stripe_list}
-use Rattle.nm_lanes.specs.Puts.{first_of, rest_of}
-use Rattle.nm_lanes.specs.Reads.{HasRead, HasReadSome, ReadsEach, ReadsSomeIn, PieceIn, pieces_in}
+use Rattle.nm_lanes.specs.Reads.{HasRead, HasReadSome, ReadsEach, ReadsSomeIn, RunIn, runs_in}
 use Rattle.nm_lanes.specs.Rounds.{EndedLanes}
 use Rattle.nm_lanes.proofs.ClaimedLemmas.{reads-claimed}
 use Rattle.nm_lanes.proofs.EachLemmas.{each-append, each-map, each-same}
-use Rattle.nm_lanes.proofs.GetListLemmas.{pieces_in-append, some-right, some-append, each-in, lies-left, lies-right}
-use Rattle.nm_lanes.proofs.GetStretchLemmas.{pieces-cut, rest-read}
+use Rattle.nm_lanes.proofs.GetListLemmas.{runs_in-append, some-right, some-append, each-in, lies-left, lies-right}
+use Rattle.nm_lanes.proofs.GetStretchLemmas.{rest-read}
 use Rattle.nm_lanes.proofs.GetRoundLemmas.{read-append}
 use Rattle.nm_lanes.proofs.LiftLemmas.{in-append, does-none}
+use Rattle.nm_lanes.proofs.StretchLemmas.{parts}
 use Rattle.nm_lanes.proofs.ShareLemmas.{own-list, tries-share, each-behind, tries-behind}
 
 module _ {L D : Type 0} (follows : D → List (Done L) → D → Type 0) (stays : (lane : D) → follows lane [] lane) where
   -- a lane that was left alone
-  rests : (shape : Geometry) (pieces : List Piece) (cause : Cause) (stripe : ℕ) (lane : D) → (stripe ≡ cause.stripe → ⊥) → LaneTries follows (λ own. ReadsSomeIn shape pieces stripe own) cause stripe lane lane
-  rests shape pieces cause stripe lane other = record { own = []; share = tt; did = inl (tt, record { list = []; leads = stays lane; own_is = refl }); ends = λ same. absurd (other same) }
+  rests : (shape : Geometry) (runs : List Run) (cause : Cause) (stripe : ℕ) (lane : D) → (stripe ≡ cause.stripe → ⊥) → LaneTries follows (λ own. ReadsSomeIn shape runs stripe own) cause stripe lane lane
+  rests shape runs cause stripe lane other = record { own = []; share = tt; did = inl (tt, record { list = []; leads = stays lane; own_is = refl }); ends = λ same. absurd (other same) }
 
-  -- the call ended in a round, after which other pieces are left
-  pub round-ended : (shape : Geometry) (now later : List Piece) (cause : Cause) (first : ℕ) (before xs us after : List D) → length before ≡ first → PieceIn shape now cause.stripe
+  -- the call ended in a round, after which other runs are left
+  pub round-ended : (shape : Geometry) (now later : List Run) (cause : Cause) (first : ℕ) (before xs us after : List D) → length before ≡ first → RunIn shape now cause.stripe
       → EndedLanes follows (λ stripe own. ReadsSomeIn shape now stripe own) first (xs, us) cause → HasReadSome follows shape (now ++ later) (before ++ (xs ++ after), before ++ (us ++ after)) cause
   round-ended shape now later cause first before xs us after at lies a =
       let Tries : ℕ → D → D → Type 0 = λ stripe old new. LaneTries follows (λ own. ReadsSomeIn shape (now ++ later) stripe own) cause stripe old new in
@@ -43,25 +44,25 @@ module _ {L D : Type 0} (follows : D → List (Done L) → D → Type 0) (stays 
               (each-append Tries (0 + length before) xs us after after
               (subst (λ (n : ℕ). EachLane Tries n xs us) here (each-map (λ stripe old new. LaneTries follows (λ own. ReadsSomeIn shape now stripe own) cause stripe old new) Tries first xs us
               (λ stripe old new from below tries. tries-share follows (λ own. ReadsSomeIn shape now stripe own) (λ own. ReadsSomeIn shape (now ++ later) stripe own) cause stripe old new
-              (λ own some. rw (pieces_in-append shape stripe now later) (some-right shape (pieces_in shape stripe now) (pieces_in shape stripe later) (steps_in stripe own) some)) tries) a.each))
+              (λ own some. rw (runs_in-append shape stripe now later) (some-right shape (runs_in shape stripe now) (runs_in shape stripe later) (steps_in stripe own) some)) tries) a.each))
               (each-same Tries (0 + length before + length xs) after (λ stripe lane from below. rests shape (now ++ later) cause stripe lane (λ is. omega (arith, is, from, a.upto, at)))));
         };
       }
 
 module _ {L D : Type 0} (follows : D → List (Done L) → D → Type 0)
     (joins : (first mid last : D) (before after : List (Done L)) → follows first before mid → follows mid after last → follows first (before ++ after) last) where
-  -- all pieces of a stripe in some rounds, and some of those in a later one
-  both-some : (shape : Geometry) (first rest : List Piece) (stripe : ℕ) (done more : List (Done L)) → ReadsEach shape (pieces_in shape stripe first) (steps_in stripe done) → ReadsSomeIn shape rest stripe more → ReadsSomeIn shape (first ++ rest) stripe (done ++ more)
+  -- all runs of a stripe in some rounds, and some of those in a later one
+  both-some : (shape : Geometry) (first rest : List Run) (stripe : ℕ) (done more : List (Done L)) → ReadsEach shape (runs_in shape stripe first) (steps_in stripe done) → ReadsSomeIn shape rest stripe more → ReadsSomeIn shape (first ++ rest) stripe (done ++ more)
   both-some shape first rest stripe done more a b =
-      rw (pieces_in-append shape stripe first rest, in-append stripe done more) (some-append shape (pieces_in shape stripe first) (pieces_in shape stripe rest) (steps_in stripe done) (steps_in stripe more) a b)
+      rw (runs_in-append shape stripe first rest, in-append stripe done more) (some-append shape (runs_in shape stripe first) (runs_in shape stripe rest) (steps_in stripe done) (steps_in stripe more) a b)
 
   -- reads of all lanes are reads of each
-  lane-read : (shape : Geometry) (pieces : List Piece) (olds mids : List D) (target : List ℕ) (stripe : ℕ) (old mid : D) → (a : HasRead follows shape pieces (olds, mids) target) → slice_get olds stripe ≡ Some old → slice_get mids stripe ≡ Some mid
-      → LaneDid follows (λ own. ReadsEach shape (pieces_in shape stripe pieces) (steps_in stripe own)) old mid
-  lane-read shape pieces olds mids target stripe old mid a was is = record {
+  lane-read : (shape : Geometry) (runs : List Run) (olds mids : List D) (target : List ℕ) (stripe : ℕ) (old mid : D) → (a : HasRead follows shape runs (olds, mids) target) → slice_get olds stripe ≡ Some old → slice_get mids stripe ≡ Some mid
+      → LaneDid follows (λ own. ReadsEach shape (runs_in shape stripe runs) (steps_in stripe own)) old mid
+  lane-read shape runs olds mids target stripe old mid a was is = record {
     own = stripe_list stripe a.own;
-    all = each-in shape stripe pieces a.own a.each;
-    claimed = reads-claimed shape (pieces_in shape stripe pieces) stripe (stripe_list stripe a.own) (each-in shape stripe pieces a.own a.each);
+    all = each-in shape stripe runs a.own a.each;
+    claimed = reads-claimed shape (runs_in shape stripe runs) stripe (stripe_list stripe a.own) (each-in shape stripe runs a.own a.each);
     does = record {
       list = stripe_list stripe a.does.list;
       leads = a.does.leads.each stripe old mid was is;
@@ -70,46 +71,46 @@ module _ {L D : Type 0} (follows : D → List (Done L) → D → Type 0)
   }
 
   -- rounds that went through, and one that ended the call
-  read-ended : (shape : Geometry) (first rest : List Piece) (target : List ℕ) (cause : Cause) (old mid new : List D) → HasRead follows shape first (old, mid) target → HasReadSome follows shape rest (mid, new) cause → HasReadSome follows shape (first ++ rest) (old, new) cause
+  read-ended : (shape : Geometry) (first rest : List Run) (target : List ℕ) (cause : Cause) (old mid new : List D) → HasRead follows shape first (old, mid) target → HasReadSome follows shape rest (mid, new) cause → HasReadSome follows shape (first ++ rest) (old, new) cause
   read-ended shape first rest target cause old mid new a b = record {
     stripe = lies-right shape first rest cause.stripe b.stripe;
     tried = record {
       inside = rw (← a.does.leads.as_many) b.tried.inside;
-      each = each-behind follows (λ stripe before after. LaneDid follows (λ own. ReadsEach shape (pieces_in shape stripe first) (steps_in stripe own)) before after)
+      each = each-behind follows (λ stripe before after. LaneDid follows (λ own. ReadsEach shape (runs_in shape stripe first) (steps_in stripe own)) before after)
           (λ stripe before after. LaneTries follows (λ own. ReadsSomeIn shape rest stripe own) cause stripe before after) (λ stripe before after. LaneTries follows (λ own. ReadsSomeIn shape (first ++ rest) stripe own) cause stripe before after) 0 old mid new
-          (λ stripe before between after did tries. tries-behind follows joins (λ own. ReadsEach shape (pieces_in shape stripe first) (steps_in stripe own)) (λ own. ReadsSomeIn shape rest stripe own) (λ own. ReadsSomeIn shape (first ++ rest) stripe own) cause stripe before between after
+          (λ stripe before between after did tries. tries-behind follows joins (λ own. ReadsEach shape (runs_in shape stripe first) (steps_in stripe own)) (λ own. ReadsSomeIn shape rest stripe own) (λ own. ReadsSomeIn shape (first ++ rest) stripe own) cause stripe before between after
           (λ done more all some. both-some shape first rest stripe done more all some) did tries) a.does.leads.as_many
           (λ number before after was is. let e : 0 + number ≡ number = omega arith in rw e (lane-read shape first old mid target number before after a was is)) b.tried.each;
     };
   }
 
 -- so many rounds are done: these bytes were found, and so many are still to be
-pub record GetAllSoFar {L D : Type 0} (follows : D → List (Done L) → D → Type 0) (shape : Geometry) (all : List Piece) (left : Stretch) (found : List ℕ) (more : ℕ) (old lanes : List D) : Type 0 where
-  pub done : List Piece
-  pub all_are : all ≡ done ++ pieces_in_stretch left
+pub record GetAllSoFar {L D : Type 0} (follows : D → List (Done L) → D → Type 0) (shape : Geometry) (all : List Run) (left : Stretch) (found : List ℕ) (more : ℕ) (old lanes : List D) : Type 0 where
+  pub done : List Run
+  pub all_are : all ≡ done ++ runs_in_stretch shape left
   pub read : HasRead follows shape done (old, lanes) found
   pub rest : IsReadStretch shape left more
 
 module _ {L D : Type 0} (follows : D → List (Done L) → D → Type 0)
     (joins : (first mid last : D) (before after : List (Done L)) → follows first before mid → follows mid after last → follows first (before ++ after) last) where
-  pub all-more : (shape : Geometry) (all : List Piece) (left : Stretch) (found next both : List ℕ) (more after : ℕ) (old mid new : List D) (done : ℕ) → both ≡ found ++ take (bytes_of left done) next → more ≡ bytes_of left done + after
+  pub all-more : (shape : Geometry) (all : List Run) (left : Stretch) (found next both : List ℕ) (more after : ℕ) (old mid new : List D) (done : ℕ) → both ≡ found ++ take (bytes_of left done) next → more ≡ bytes_of left done + after
       → GetAllSoFar follows shape all left found more old mid → ReadsNext follows shape left (mid, new) next done → GetAllSoFar follows shape all (rest_of done left) both after old new
   all-more shape all left found next both more after old mid new done is long a b =
       let now = take (bytes_of left done) next in
       record {
-        done = a.done ++ pieces_in_stretch (first_of done left);
-        all_are = a.all_are ∙ ap (λ (ps : List Piece). a.done ++ ps) (pieces-cut left done b.most) ∙ sym (append_assoc a.done (pieces_in_stretch (first_of done left)) (pieces_in_stretch (rest_of done left)));
-        read = subst (λ (bs : List ℕ). HasRead follows shape (a.done ++ pieces_in_stretch (first_of done left)) (old, new) bs) (sym is) (read-append follows joins shape a.done (pieces_in_stretch (first_of done left)) old mid new found now a.read b.read);
+        done = a.done ++ runs_in_stretch shape (first_of done left);
+        all_are = a.all_are ∙ ap (λ (ps : List Run). a.done ++ ps) (parts shape left done b.most b.ends) ∙ sym (append_assoc a.done (runs_in_stretch shape (first_of done left)) (runs_in_stretch shape (rest_of done left)));
+        read = subst (λ (bs : List ℕ). HasRead follows shape (a.done ++ runs_in_stretch shape (first_of done left)) (old, new) bs) (sym is) (read-append follows joins shape a.done (runs_in_stretch shape (first_of done left)) old mid new found now a.read b.read);
         rest = rest-read shape left done more (bytes_of left done) after b.most refl long a.rest;
       }
 
-  pub all-ended : (shape : Geometry) (all : List Piece) (left : Stretch) (found : List ℕ) (more : ℕ) (old mid new : List D) (cause : Cause) → GetAllSoFar follows shape all left found more old mid
-      → HasReadSome follows shape (pieces_in_stretch left) (mid, new) cause → HasReadSome follows shape all (old, new) cause
+  pub all-ended : (shape : Geometry) (all : List Run) (left : Stretch) (found : List ℕ) (more : ℕ) (old mid new : List D) (cause : Cause) → GetAllSoFar follows shape all left found more old mid
+      → HasReadSome follows shape (runs_in_stretch shape left) (mid, new) cause → HasReadSome follows shape all (old, new) cause
   all-ended shape all left found more old mid new cause a b =
-      subst (λ (ps : List Piece). HasReadSome follows shape ps (old, new) cause) (sym a.all_are) (read-ended follows joins shape a.done (pieces_in_stretch left) found cause old mid new a.read b)
+      subst (λ (ps : List Run). HasReadSome follows shape ps (old, new) cause) (sym a.all_are) (read-ended follows joins shape a.done (runs_in_stretch shape left) found cause old mid new a.read b)
 
 module _ {L D : Type 0} (follows : D → List (Done L) → D → Type 0) (stays : (lane : D) → follows lane [] lane) where
-  pub all-begins : (shape : Geometry) (stretch : Stretch) (target : ℕ) (old : List D) → IsReadStretch shape stretch target → GetAllSoFar follows shape (pieces_in_stretch stretch) stretch [] target old old
+  pub all-begins : (shape : Geometry) (stretch : Stretch) (target : ℕ) (old : List D) → IsReadStretch shape stretch target → GetAllSoFar follows shape (runs_in_stretch shape stretch) stretch [] target old old
   all-begins shape stretch target old a = record { done = []; all_are = refl; read = record { own = []; does = does-none follows stays old; each = tt; filled = refl }; rest = a }
 
 -- what stands in a target up to a byte of what was put after its first bytes

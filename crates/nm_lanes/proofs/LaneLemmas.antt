@@ -40,7 +40,7 @@ claims-more : {L : Type 0} (ours theirs : ℕ → Type 0) → ((ticket : ℕ) �
 claims-more ours theirs more (Claim ticket) h = more ticket h
 claims-more ours theirs more (Begin block bytes) h = absurd h
 claims-more ours theirs more (Push ticket leg) h = absurd h
-claims-more ours theirs more (Read block) h = absurd h
+claims-more ours theirs more (Read block room) h = absurd h
 claims-more ours theirs more (Fail leg) h = absurd h
 claims-more ours theirs more (Attach leg) h = absurd h
 claims-more ours theirs more (Replace leg part) h = absurd h

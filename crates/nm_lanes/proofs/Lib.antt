@@ -9,12 +9,15 @@ pub mod SpanLemmas
 pub mod SyncLemmas
 pub mod TouchLemmas
 pub mod TurnLemmas
+pub mod RunLemmas
+pub mod FirstRunLemmas
 pub mod CutLemmas
 pub mod WriteLemmas
 pub mod ShareLemmas
 pub mod PutListLemmas
 pub mod StretchLemmas
-pub mod RunLemmas
+pub mod LawLemmas
+pub mod RegionLemmas
 pub mod PutLaneLemmas
 pub mod PutRoundLemmas
 pub mod PutAllLemmas

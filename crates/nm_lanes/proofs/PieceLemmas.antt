@@ -1,8 +1,8 @@
--- The pieces of a range, one more at a time.
-use Rattle.std.proofs.Common.{◌≡◌, ℕ, zero, suc, ◌+◌, ◌-◌, ◌*◌, ◌/◌, ◌<◌, ◌==◌, inl, inr, false, [], ◌∷◌, ◌++◌, min, refl, ap, arith, pos_of_ne-zero}
+-- The pieces of a range.
+use Rattle.std.proofs.Common.{◌≡◌, ℕ, zero, suc, ◌+◌, ◌-◌, ◌*◌, ◌/◌, ◌<◌, ◌==◌, inl, inr, false, ◌∷◌, ◌++◌, refl, ap, arith, pos_of_ne-zero}
 use Rattle.std.proofs.lemmas.Bool.Decides.{eqb_tells}
 use Rattle.nm_geometry.specs.declared.byte_range.ByteRange.{ByteRange}
-use Rattle.nm_geometry.specs.Pieces.{end_of, touched, piece_in, piece_at, pieces_from, bytes_before}
+use Rattle.nm_geometry.specs.Pieces.{end_of, touched, piece_in, pieces_from}
 
 -- the first byte of the range, and some byte before its end, stand in the touched block
 pub record Inside (range : ByteRange) (number : ℕ) : Type 0 where
@@ -20,21 +20,10 @@ touched-inside range number lt = elim (eqb_tells range.length 0) [
   | inr some ↦ inside-of range number some.0 (pos_of_ne-zero some.1) lt
 ]
 
--- where a piece begins, the bytes before it end; where it ends, those before the next one, or the
--- range
-pub done-before : (range : ByteRange) (number : ℕ) → Inside range number → min (bytes_before number range) range.length ≡ bytes_before number range
-done-before range number h = omega (arith, h.some, h.goes_on)
-
-pub done-behind : (range : ByteRange) (number : ℕ) → Inside range number → min (bytes_before (number + 1) range) range.length ≡ bytes_before number range + (piece_at number range).len
-done-behind range number h = omega (arith, h.some, h.goes_on)
-
--- one piece more
+-- the pieces of some blocks, and of those after them
 pub pieces-add : (block n m : ℕ) (range : ByteRange) → pieces_from block (n + m) range ≡ pieces_from block n range ++ pieces_from (block + n) m range
 pieces-add block zero m range = let a : 0 + m ≡ m = omega arith in let b : block + 0 ≡ block = omega arith in rw (a, b) refl
 pieces-add block (suc n) m range =
     let a : suc n + m ≡ suc (n + m) = omega arith in
     let b : block + suc n ≡ block + 1 + n = omega arith in
     rw (a, b) (ap (λ ps. piece_in block range ∷ ps) (pieces-add (block + 1) n m range))
-
-pub pieces-one : (number : ℕ) (range : ByteRange) → pieces_from (range.offset / 512) (number + 1) range ≡ pieces_from (range.offset / 512) number range ++ piece_at number range ∷ []
-pieces-one number range = pieces-add (range.offset / 512) number 1 range

@@ -1,14 +1,16 @@
 -- Rounds of writes, one after the other.
-use Rattle.std.proofs.Common.{◌≡◌, inl, ℕ, ◌+◌, Some, List, [], ◌++◌, length, drop, slice_get, refl, sym, ap, ◌∙◌, subst, append_assoc, arith}
+use Rattle.std.proofs.Common.{◌≡◌, inl, ℕ, ◌+◌, Some, List, [], ◌++◌, length, slice_get, refl, sym, ap, ◌∙◌, subst, append_assoc, append-nil, arith}
 use Rattle.std.proofs.lemmas.List.{length-append}
 use Rattle.nm_geometry.specs.Geometry.{Geometry}
 use Rattle.nm_lanes.specs.declared.cause.Cause.{Cause}
 use Rattle.nm_lanes.specs.declared.stretch.Stretch.{Stretch}
-use Rattle.nm_lanes.specs.declared.piece_write.PieceWrite.{PieceWrite}
+use Rattle.nm_lanes.specs.declared.run_write.RunWrite.{RunWrite}
 use Rattle.nm_lanes.specs.Done.{Done}
 use Rattle.nm_lanes.specs.Ends.{EachLane, LaneDid, LaneTries}
 use Rattle.nm_lanes.specs.Lists.{MirrorStep, steps_in, stripe_list}
-use Rattle.nm_lanes.specs.Puts.{filling, cuts_of, rest_of, IsStretch, PutsNext}
+use Rattle.nm_lanes.specs.Fillings.{cuts_after, filling, IsStretch}
+use Rattle.nm_lanes.specs.Puts.{PutsNext}
+use Rattle.nm_lanes.specs.Stretches.{rest_of}
 use Rattle.nm_lanes.specs.Rounds.{EndedLanes}
 use Rattle.nm_lanes.specs.Writes.{HasWritten, HasWrittenSome, WritesEach, WritesSomeIn, writes_in, LiesIn}
 use Rattle.nm_lanes.proofs.ClaimedLemmas.{writes-claimed}
@@ -16,15 +18,16 @@ use Rattle.nm_lanes.proofs.EachLemmas.{each-append, each-map, each-same}
 use Rattle.nm_lanes.proofs.LiftLemmas.{in-append, does-none}
 use Rattle.nm_lanes.proofs.PutListLemmas.{writes_in-append, some-right, some-append, each-in, lies-left, lies-right}
 use Rattle.nm_lanes.proofs.PutRoundLemmas.{written-append}
+use Rattle.nm_lanes.proofs.StretchLemmas.{filling-none}
 use Rattle.nm_lanes.proofs.ShareLemmas.{own-list, tries-share, each-behind, tries-behind}
 
 module _ {L D : Type 0} (follows : D → List (Done L) → D → Type 0) (stays : (lane : D) → follows lane [] lane) where
   -- a lane that was left alone
-  rests : (shape : Geometry) (writes : List PieceWrite) (cause : Cause) (stripe : ℕ) (lane : D) → (stripe ≡ cause.stripe → ⊥) → LaneTries follows (λ own. WritesSomeIn shape writes stripe own) cause stripe lane lane
+  rests : (shape : Geometry) (writes : List RunWrite) (cause : Cause) (stripe : ℕ) (lane : D) → (stripe ≡ cause.stripe → ⊥) → LaneTries follows (λ own. WritesSomeIn shape writes stripe own) cause stripe lane lane
   rests shape writes cause stripe lane other = record { own = []; share = tt; did = inl (tt, record { list = []; leads = stays lane; own_is = refl }); ends = λ same. absurd (other same) }
 
-  -- the call ended in a round, after which other pieces are left
-  pub round-ended : (shape : Geometry) (now later : List PieceWrite) (cause : Cause) (first : ℕ) (before xs us after : List D) → length before ≡ first → LiesIn shape now cause.stripe
+  -- the call ended in a round, after which other runs are left
+  pub round-ended : (shape : Geometry) (now later : List RunWrite) (cause : Cause) (first : ℕ) (before xs us after : List D) → length before ≡ first → LiesIn shape now cause.stripe
       → EndedLanes follows (λ stripe own. WritesSomeIn shape now stripe own) first (xs, us) cause → HasWrittenSome follows shape (now ++ later) (before ++ (xs ++ after), before ++ (us ++ after)) cause
   round-ended shape now later cause first before xs us after at lies a =
       let Tries : ℕ → D → D → Type 0 = λ stripe old new. LaneTries follows (λ own. WritesSomeIn shape (now ++ later) stripe own) cause stripe old new in
@@ -46,13 +49,13 @@ module _ {L D : Type 0} (follows : D → List (Done L) → D → Type 0) (stays 
 
 module _ {L D : Type 0} (follows : D → List (Done L) → D → Type 0)
     (joins : (first mid last : D) (before after : List (Done L)) → follows first before mid → follows mid after last → follows first (before ++ after) last) where
-  -- all pieces of a stripe in some rounds, and some of those in a later one
-  both-some : (shape : Geometry) (first rest : List PieceWrite) (stripe : ℕ) (done more : List (Done L)) → WritesEach shape (writes_in shape stripe first) (steps_in stripe done) → WritesSomeIn shape rest stripe more → WritesSomeIn shape (first ++ rest) stripe (done ++ more)
+  -- all runs of a stripe in some rounds, and some of those in a later one
+  both-some : (shape : Geometry) (first rest : List RunWrite) (stripe : ℕ) (done more : List (Done L)) → WritesEach shape (writes_in shape stripe first) (steps_in stripe done) → WritesSomeIn shape rest stripe more → WritesSomeIn shape (first ++ rest) stripe (done ++ more)
   both-some shape first rest stripe done more a b =
       rw (writes_in-append shape stripe first rest, in-append stripe done more) (some-append shape (writes_in shape stripe first) (writes_in shape stripe rest) (steps_in stripe done) (steps_in stripe more) a b)
 
   -- writes of all lanes are writes of each
-  lane-wrote : (shape : Geometry) (writes : List PieceWrite) (olds mids : List D) (stripe : ℕ) (old mid : D) → (a : HasWritten follows shape writes (olds, mids)) → slice_get olds stripe ≡ Some old → slice_get mids stripe ≡ Some mid
+  lane-wrote : (shape : Geometry) (writes : List RunWrite) (olds mids : List D) (stripe : ℕ) (old mid : D) → (a : HasWritten follows shape writes (olds, mids)) → slice_get olds stripe ≡ Some old → slice_get mids stripe ≡ Some mid
       → LaneDid follows (λ own. WritesEach shape (writes_in shape stripe writes) (steps_in stripe own)) old mid
   lane-wrote shape writes olds mids stripe old mid a was is = record {
     own = stripe_list stripe a.own;
@@ -66,7 +69,7 @@ module _ {L D : Type 0} (follows : D → List (Done L) → D → Type 0)
   }
 
   -- rounds that went through, and one that ended the call
-  pub written-ended : (shape : Geometry) (first rest : List PieceWrite) (cause : Cause) (old mid new : List D) → HasWritten follows shape first (old, mid) → HasWrittenSome follows shape rest (mid, new) cause → HasWrittenSome follows shape (first ++ rest) (old, new) cause
+  pub written-ended : (shape : Geometry) (first rest : List RunWrite) (cause : Cause) (old mid new : List D) → HasWritten follows shape first (old, mid) → HasWrittenSome follows shape rest (mid, new) cause → HasWrittenSome follows shape (first ++ rest) (old, new) cause
   written-ended shape first rest cause old mid new a b = record {
     stripe = lies-right shape first rest cause.stripe b.stripe;
     tried = record {
@@ -80,28 +83,35 @@ module _ {L D : Type 0} (follows : D → List (Done L) → D → Type 0)
   }
 
 -- so many rounds are done
-pub record PutAllSoFar {L D : Type 0} (follows : D → List (Done L) → D → Type 0) (shape : Geometry) (all : List PieceWrite) (left : Stretch) (cuts : List PieceWrite) (old lanes : List D) : Type 0 where
-  pub done : List PieceWrite
-  pub all_are : all ≡ done ++ filling left cuts
+pub record PutAllSoFar {L D : Type 0} (follows : D → List (Done L) → D → Type 0) (shape : Geometry) (all : List RunWrite) (left : Stretch) (cuts : List RunWrite) (old lanes : List D) : Type 0 where
+  pub done : List RunWrite
+  pub all_are : all ≡ done ++ filling shape left cuts
   pub written : HasWritten follows shape done (old, lanes)
   pub rest : IsStretch shape left cuts
 
 module _ {L D : Type 0} (follows : D → List (Done L) → D → Type 0)
     (joins : (first mid last : D) (before after : List (Done L)) → follows first before mid → follows mid after last → follows first (before ++ after) last) where
-  pub all-more : (shape : Geometry) (all : List PieceWrite) (left : Stretch) (cuts next : List PieceWrite) (old mid new : List D) (done : ℕ) → PutAllSoFar follows shape all left cuts old mid
-      → PutsNext follows shape left (cuts, next) (mid, new) done → PutAllSoFar follows shape all (rest_of done left) (drop (cuts_of left done) next) old new
+  pub all-more : (shape : Geometry) (all : List RunWrite) (left : Stretch) (cuts next : List RunWrite) (old mid new : List D) (done : ℕ) → PutAllSoFar follows shape all left cuts old mid
+      → PutsNext follows shape left (cuts, next) (mid, new) done → PutAllSoFar follows shape all (rest_of done left) (cuts_after shape left done next) old new
   all-more shape all left cuts next old mid new done a b = record {
     done = a.done ++ b.now;
-    all_are = a.all_are ∙ ap (λ (ws : List PieceWrite). a.done ++ ws) b.split ∙ sym (append_assoc a.done b.now (filling (rest_of done left) (drop (cuts_of left done) next)));
+    all_are = a.all_are ∙ ap (λ (ws : List RunWrite). a.done ++ ws) b.split ∙ sym (append_assoc a.done b.now (filling shape (rest_of done left) (cuts_after shape left done next)));
     written = written-append follows joins shape a.done b.now old mid new a.written b.written;
     rest = b.rest;
   }
 
-  pub all-ended : (shape : Geometry) (all : List PieceWrite) (left : Stretch) (cuts : List PieceWrite) (old mid new : List D) (cause : Cause) → PutAllSoFar follows shape all left cuts old mid
-      → HasWrittenSome follows shape (filling left cuts) (mid, new) cause → HasWrittenSome follows shape all (old, new) cause
+  pub all-ended : (shape : Geometry) (all : List RunWrite) (left : Stretch) (cuts : List RunWrite) (old mid new : List D) (cause : Cause) → PutAllSoFar follows shape all left cuts old mid
+      → HasWrittenSome follows shape (filling shape left cuts) (mid, new) cause → HasWrittenSome follows shape all (old, new) cause
   all-ended shape all left cuts old mid new cause a b =
-      subst (λ (ws : List PieceWrite). HasWrittenSome follows shape ws (old, new) cause) (sym a.all_are) (written-ended follows joins shape a.done (filling left cuts) cause old mid new a.written b)
+      subst (λ (ws : List RunWrite). HasWrittenSome follows shape ws (old, new) cause) (sym a.all_are) (written-ended follows joins shape a.done (filling shape left cuts) cause old mid new a.written b)
 
 module _ {L D : Type 0} (follows : D → List (Done L) → D → Type 0) (stays : (lane : D) → follows lane [] lane) where
-  pub all-begins : (shape : Geometry) (stretch : Stretch) (cuts : List PieceWrite) (old : List D) → IsStretch shape stretch cuts → PutAllSoFar follows shape (filling stretch cuts) stretch cuts old old
+  pub all-begins : (shape : Geometry) (stretch : Stretch) (cuts : List RunWrite) (old : List D) → IsStretch shape stretch cuts → PutAllSoFar follows shape (filling shape stretch cuts) stretch cuts old old
   all-begins shape stretch cuts old a = record { done = []; all_are = refl; written = record { own = []; does = does-none follows stays old; each = tt }; rest = a }
+
+-- no round is left
+module _ {L D : Type 0} (follows : D → List (Done L) → D → Type 0) where
+  pub all-done : (shape : Geometry) (all : List RunWrite) (left : Stretch) (cuts : List RunWrite) (old new : List D) → left.count ≡ 0 → PutAllSoFar follows shape all left cuts old new → HasWritten follows shape all (old, new)
+  all-done shape all left cuts old new none a =
+      let all_are : all ≡ a.done = a.all_are ∙ ap (λ (ws : List RunWrite). a.done ++ ws) (filling-none shape left cuts none a.rest) ∙ append-nil a.done in
+      subst (λ (ws : List RunWrite). HasWritten follows shape ws (old, new)) (sym all_are) a.written

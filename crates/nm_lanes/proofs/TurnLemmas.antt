@@ -4,7 +4,7 @@ use Rattle.nm_rules.specs.declared.refusal.Refusal.{Refusal}
 use Rattle.nm_rules.specs.declared.refusal.Refusal.TheVariants as refusal
 use Rattle.nm_stripe.specs.declared.answer.Answer.{Answer}
 use Rattle.nm_stripe.specs.declared.step.Step.{Step}
-use Rattle.nm_stripe.specs.declared.step.Step.TheVariants.{Sync}
+use Rattle.nm_stripe.specs.declared.step.Step.TheVariants.{Read, Sync}
 use Rattle.nm_stripe.specs.declared.sync.Syncing.{Syncing}
 use Rattle.nm_stripe.specs.declared.sync.Syncing.TheVariants as syncing
 use Rattle.nm_stripe.specs.Flush.{SyncsLeg}
@@ -12,7 +12,7 @@ use Rattle.nm_lanes.specs.Answers.{answer_of_sync, lost_with_nothing, refused_wi
 use Rattle.nm_lanes.specs.Done.{Done, done_as}
 use Rattle.nm_lanes.specs.Own.{end_of, finds_out, helps}
 use Rattle.nm_lanes.specs.Lane.{LaneDoes}
-use Rattle.nm_lanes.specs.Steps.{Completes}
+use Rattle.nm_lanes.specs.Steps.{Completes, CompletesRead}
 use Rattle.nm_lanes.proofs.LaneLemmas.{does-own, does-does}
 
 -- a refused sync only helps, unless it found the leg out
@@ -24,6 +24,12 @@ pub does-completes : {L D : Type 0} (follows : D → List (Done L) → D → Typ
     (joins : (first mid last : D) (before after : List (Done L)) → follows first before mid → follows mid after last → follows first (before ++ after) last)
     (old mid new : D) (step : Step L) (IsAnswer : Answer L → Type 0) → LaneDoes follows old mid [] → Completes follows mid new step IsAnswer → Completes follows old new step IsAnswer
 does-completes follows joins old mid new step IsAnswer a b = record { answer = b.answer; does = does-does follows joins old mid new [] (done_as step b.answer ∷ []) a b.does; is_answer = b.is_answer }
+
+-- the same of a read
+pub does-reads : {L D : Type 0} (follows : D → List (Done L) → D → Type 0)
+    (joins : (first mid last : D) (before after : List (Done L)) → follows first before mid → follows mid after last → follows first (before ++ after) last)
+    (old mid new : D) (block count : ℕ) (IsAnswer : Answer L → Type 0) → LaneDoes follows old mid [] → CompletesRead follows mid new block count IsAnswer → CompletesRead follows old new block count IsAnswer
+does-reads follows joins old mid new block count IsAnswer a b = record { room = b.room; long = b.long; completes = does-completes follows joins old mid new (Read block b.room) IsAnswer a b.completes }
 
 module _ {L D : Type 0} (follows : D → List (Done L) → D → Type 0) (old new : D) (leg : ℕ) where
   -- a sync that was done, or lost its leg

@@ -2,7 +2,7 @@
 use Rattle.std.proofs.Common.{◌≡◌, inr, ℕ, is_none, Some, None, List, [], ◌∷◌, ◌++◌, refl, ap}
 use Rattle.nm_fanout.specs.declared.block_data.Data.{Data}
 use Rattle.nm_rules.specs.declared.refusal.Refusal.{Refusal}
-use Rattle.nm_rules.specs.Receipt.{EntryName}
+use Rattle.nm_rules.specs.Runs.{EntryNames}
 use Rattle.nm_stripe.specs.declared.answer.Answer.TheVariants.{Begun, Written}
 use Rattle.nm_stripe.specs.declared.step.Step.TheVariants.{Begin, Claim}
 use Rattle.nm_lanes.specs.declared.cause_kind.CauseKind.{CauseKind}
@@ -15,7 +15,7 @@ use Rattle.nm_lanes.proofs.LaneLemmas.{does-own, does-does, does-stops, does-hel
 
 module _ {L D : Type 0} (follows : D → List (Done L) → D → Type 0) where
   -- a claim that was answered
-  pub claim-done : (old new : D) (ticket : ℕ) (written : EntryName) → follows old (done_as (Claim ticket) (Written written) ∷ []) new → Completes follows old new (Claim ticket) IsWritten
+  pub claim-done : (old new : D) (ticket : ℕ) (written : EntryNames) → follows old (done_as (Claim ticket) (Written written) ∷ []) new → Completes follows old new (Claim ticket) IsWritten
   claim-done old new ticket written leads = record { answer = Written written; does = does-own follows old new (Claim ticket) (Written written) leads refl; is_answer = tt }
 
   -- a claim that was refused by an end of the call

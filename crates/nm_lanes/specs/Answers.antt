@@ -1,9 +1,8 @@
 -- The answer that each step of a lane stands for, where it came to this.
-use Rattle.std.specs.Prelude.{Result, Ok, Err, ◌≡◌, ℕ}
+use Rattle.std.specs.Prelude.{Result, Ok, Err, ◌≡◌, ℕ, List}
 use Rattle.nm_fanout.specs.declared.block_data.Data.{Data}
-use Rattle.nm_replay.specs.declared.block.Block.{Block}
 use Rattle.nm_rules.specs.declared.refusal.Refusal.{Refusal}
-use Rattle.nm_rules.specs.Receipt.{EntryName}
+use Rattle.nm_rules.specs.Runs.{EntryNames}
 use Rattle.nm_stripe.specs.declared.answer.Answer.{Answer}
 use Rattle.nm_stripe.specs.declared.answer.Answer.TheVariants as answer
 use Rattle.nm_stripe.specs.declared.answer.Handed.TheVariants as handed
@@ -47,16 +46,16 @@ answer_of_push (Ok reach.Halted) = answer.Halted
 answer_of_push (Err refusal) = refused_with_nothing refusal
 
 -- a claim
-abbrev pub answer_of_claim : {L : Type 0} → Result EntryName Refusal → Answer L
+abbrev pub answer_of_claim : {L : Type 0} → Result EntryNames Refusal → Answer L
 answer_of_claim (Ok written) = answer.Written written
 answer_of_claim (Err refusal) = refused_with_nothing refusal
 
--- a read that left these bytes in its target
-abbrev pub answer_of_read : {L : Type 0} → Result (Reading L) Refusal → Block → Answer L
+-- a read that left these bytes in its room, which is handed back where it found nothing
+abbrev pub answer_of_read : {L : Type 0} → Result (Reading L) Refusal → List ℕ → Answer L
 answer_of_read (Ok (reading.Value receipt)) bytes =
-    answer.Value (record { entry = receipt; bytes = bytes })
-answer_of_read (Ok (reading.LegLost leg)) bytes = lost_with_nothing leg
-answer_of_read (Err refusal) bytes = refused_with_nothing refusal
+    answer.Value (record { names = receipt; bytes = bytes })
+answer_of_read (Ok (reading.LegLost leg)) bytes = answer.LegLost leg (handed.Room bytes)
+answer_of_read (Err refusal) bytes = answer.Refused refusal (handed.Room bytes)
 
 -- a sync
 abbrev pub answer_of_sync : {L : Type 0} → Result Syncing Refusal → Answer L

@@ -1,27 +1,31 @@
--- What a write puts into the pieces of a range.
-use Rattle.std.specs.Prelude.{ℕ, ◌==◌, if◌then◌else◌, List, [], ◌∷◌, take, drop}
+-- What a write puts into the runs of a range.
+use Rattle.std.specs.Prelude.{ℕ, ◌/◌, if◌then◌else◌, List, [], ◌∷◌, take, drop, map}
 use Rattle.nm_fanout.specs.declared.block_data.Data.{Data}
 use Rattle.nm_fanout.specs.declared.block_data.Data.TheVariants.{Cut, Zero, Part, ZeroPart}
-use Rattle.nm_geometry.specs.declared.piece.Piece.{Piece}
-use Rattle.nm_lanes.specs.declared.piece_write.PieceWrite.{PieceWrite}
+use Rattle.nm_lanes.specs.declared.run.Run.{Run}
+use Rattle.nm_lanes.specs.declared.run_write.RunWrite.{RunWrite}
+use Rattle.nm_lanes.specs.Runs.{is_whole}
 
--- these bytes: a whole block's as a cut, others as a part
-abbrev pub cut_for : Piece → List ℕ → Data
-cut_for piece bytes = if piece.len == 512 then Cut bytes else Part piece.from bytes
+-- these bytes: those of whole blocks as a cut, others as a part
+abbrev pub cut_for : Run → List ℕ → Data
+cut_for run bytes = if is_whole run then Cut bytes else Part run.from bytes
 
--- zeroes: a whole block of them, or a part
-abbrev pub zero_for : Piece → Data
-zero_for piece = if piece.len == 512 then Zero else ZeroPart piece.from piece.len
+-- zeroes: whole blocks of them, or a part
+abbrev pub zero_for : Run → Data
+zero_for run = if is_whole run then Zero (run.len / 512) else ZeroPart run.from run.len
 
--- the payload, cut where the pieces end
-abbrev pub cuts_for : List Piece → List ℕ → List PieceWrite
+-- the payload, cut where the runs end
+abbrev pub cuts_for : List Run → List ℕ → List RunWrite
 cuts_for [] payload = []
-cuts_for (piece ∷ pieces) payload =
-    record { piece = piece; bytes = cut_for piece (take piece.len payload) }
-    ∷ cuts_for pieces (drop piece.len payload)
+cuts_for (run ∷ runs) payload =
+    record { run = run; bytes = cut_for run (take run.len payload) }
+    ∷ cuts_for runs (drop run.len payload)
 
--- zeroes for each piece
-abbrev pub zeroes_for : List Piece → List PieceWrite
+-- zeroes for each run
+abbrev pub zeroes_for : List Run → List RunWrite
 zeroes_for [] = []
-zeroes_for (piece ∷ pieces) =
-    record { piece = piece; bytes = zero_for piece } ∷ zeroes_for pieces
+zeroes_for (run ∷ runs) = record { run = run; bytes = zero_for run } ∷ zeroes_for runs
+
+-- the runs of some writes
+abbrev pub runs_written : List RunWrite → List Run
+runs_written writes = map (λ write. write.run) writes

@@ -9,8 +9,12 @@ pub mod Lists
 pub mod Ends
 pub mod Rounds
 pub mod Halves
+pub mod Runs
+pub mod Stretches
 pub mod Reads
 pub mod Cuts
+pub mod Fillings
+pub mod RegionRanges
 pub mod WriteFault
 pub mod Writes
 pub mod Puts
@@ -23,3 +27,4 @@ pub mod Explained
 pub mod Whole
 pub mod Interleavings
 pub mod Laws
+pub mod RunLaws

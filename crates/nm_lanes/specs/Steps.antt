@@ -1,11 +1,11 @@
 -- What a call does on a lane for one step of its own, however often it is tried.
-use Rattle.std.specs.Prelude.{Result, Ok, Err, ◌≡◌, ◌⊎◌, ℕ, Bool, true, false, List, [], ◌∷◌, Some}
-use Rattle.std.specs.Prelude.{None}
+use Rattle.std.specs.Prelude.{Result, Ok, Err, ◌≡◌, ◌⊎◌, ℕ, ◌*◌, Bool, true, false, List, [], ◌∷◌}
+use Rattle.std.specs.Prelude.{Some, None, length}
 use Rattle.nm_rules.specs.declared.refusal.Refusal.{Refusal}
 use Rattle.nm_stripe.specs.declared.answer.Answer.{Answer}
 use Rattle.nm_stripe.specs.declared.answer.Answer.TheVariants.{Begun, Written}
 use Rattle.nm_stripe.specs.declared.step.Step.{Step}
-use Rattle.nm_stripe.specs.declared.step.Step.TheVariants.{Begin, Claim}
+use Rattle.nm_stripe.specs.declared.step.Step.TheVariants.{Begin, Claim, Read}
 use Rattle.nm_fanout.specs.declared.block_data.Data.{Data}
 use Rattle.nm_lanes.specs.declared.cause_kind.CauseKind.{CauseKind}
 use Rattle.nm_lanes.specs.Done.{Done, done_as}
@@ -42,6 +42,20 @@ abbrev pub Turns : {L D : Type 0} → (D → List (Done L) → D → Type 0) →
     → Step L → (Answer L → Type 0) → Bool → Type 0
 Turns follows lanes step IsAnswer true = Completes follows lanes.0 lanes.1 step IsAnswer
 Turns follows lanes step IsAnswer false = LaneDoes follows lanes.0 lanes.1 []
+
+-- a read of so many blocks from this one on was done once, with an answer of this kind
+pub record CompletesRead {L D : Type 0} (follows : D → List (Done L) → D → Type 0) (old new : D)
+    (block count : ℕ) (IsAnswer : Answer L → Type 0) : Type 0 where
+  pub room : List ℕ
+  pub long : length room ≡ 512 * count
+  pub completes : Completes follows old new (Read block room) IsAnswer
+
+-- such a read was done once, or nothing was done but such as helps
+abbrev pub ReadTurns : {L D : Type 0} → (D → List (Done L) → D → Type 0) → D × D
+    → ℕ → ℕ → (Answer L → Type 0) → Bool → Type 0
+ReadTurns follows lanes block count IsAnswer true =
+    CompletesRead follows lanes.0 lanes.1 block count IsAnswer
+ReadTurns follows lanes block count IsAnswer false = LaneDoes follows lanes.0 lanes.1 []
 
 -- a write began, and nothing else was done but such as helps
 abbrev pub LaneBegins : {L D : Type 0} → (D → List (Done L) → D → Type 0) → D × D

@@ -7,7 +7,7 @@ use crate::call_kind::CallKind;
 use crate::gate::Gate;
 use crate::halves::Order;
 use crate::lane::Lane;
-use crate::run::{Run, are_worth_it};
+use crate::region_range::{RegionRange, are_worth_it};
 use crate::site::Site;
 use nm_geometry::{ByteRange, Shape};
 use nm_leg::LegPart;
@@ -108,8 +108,8 @@ impl<R: Wait, G: Gate, K> Call<'_, R, G, K> {
     /// lower one first, or the upper one where another call is in the first stripe of the lower.
     pub(crate) fn order_of<L: LegPart, D: Lane<L, K>>(
         &self,
-        low: Run,
-        high: Run,
+        low: RegionRange,
+        high: RegionRange,
         front: &[D],
     ) -> Order
         requires some { 0 < length front.now }

@@ -1,14 +1,15 @@
-//! Reads of pieces in rounds: those of up to 8 stripes side by side.
+//! Reads of runs in rounds: those of up to 8 stripes side by side.
 ghost use Rattle.std.specs.Prelude.{◌≡◌, ◌+◌, ◌≤◌, ◌<◌, ◌++◌, ◌^◌, length, IfErr, IfOk, OnOk};
 ghost use Rattle.std.specs.Thread.{IsSend, IsSync};
 ghost use Rattle.nm_geometry.specs.Pieces.{end_of};
 ghost use Rattle.nm_lanes.specs.Ends.{LaneDid, LaneTries};
-ghost use Rattle.nm_lanes.specs.Gets.{bytes_of, pieces_in_stretch, IsReadStretch, ReadsInto};
+ghost use Rattle.nm_lanes.specs.Gets.{IsReadStretch, ReadsInto};
 ghost use Rattle.nm_lanes.specs.Gets.{ReadsLanes};
 ghost use Rattle.nm_lanes.specs.Gets.{ReadsNext};
 ghost use Rattle.nm_lanes.specs.Lists.{steps_in};
-ghost use Rattle.nm_lanes.specs.Puts.{block_of, IsRun};
+ghost use Rattle.nm_lanes.specs.RegionRanges.{IsRegionRange};
 ghost use Rattle.nm_lanes.specs.Reads.{HasRead, HasReadSome, ReadsSome};
+ghost use Rattle.nm_lanes.specs.Stretches.{block_of, bytes_of, runs_in_stretch};
 
 use crate::call::{Call, within_bounds};
 use crate::cause::Cause;
@@ -16,11 +17,12 @@ use crate::cause_kind::CauseKind;
 use crate::gate::Gate;
 use crate::halves::do_both;
 use crate::lane::Lane;
-use crate::run::{Run, first_in_stripe, halves, next_run};
+use crate::region_range::{RegionRange, first_in_stripe, halves, next_round};
+use crate::run::first_run;
 use crate::stretch::Stretch;
 use nm_geometry::Shape;
 use nm_leg::LegPart;
-use nm_replay::{BLOCK_BYTES, Block};
+use nm_replay::BLOCK_BYTES;
 use std::marker::{Send, Sync};
 use std::sync::Wait;
 use std::thread::Threads;
@@ -39,62 +41,66 @@ fn bytes_of(shape: &Shape, stretch: Stretch, count: u64) -> usize
     upto.saturating_sub(skipped) as usize
 }
 
-/// Reads one piece of a stripe after the other.
+/// Reads one run of a stripe after the other.
 fn get_lane<L: LegPart, K, D: Lane<L, K>, R: Wait, G: Gate>(
     call: &Call<'_, R, G, K>,
-    run: Run,
+    regions: RegionRange,
     lane: &mut D,
     into: &mut [u8],
 ) -> Result<(), CauseKind>
     requires locks { length call.now.locks.now ≡ call.now.shape.now.stripes }
-    requires stretch { IsReadStretch call.now.shape.now run.stretch (length into.old) }
-    requires run { IsRun call.now.shape.now 1 run }
+    requires stretch { IsReadStretch call.now.shape.now regions.stretch (length into.old) }
+    requires regions { IsRegionRange call.now.shape.now 1 regions }
     ensures ok { OnOk result (LaneDid D.follows (λ own. ReadsInto call.now.shape.now
-        (pieces_in_stretch run.stretch) into.new (steps_in run.stripe own)) lane.old lane.new) }
-    ensures err { IfErr result (λ kind. LaneTries D.follows (λ own. ReadsSome
-        call.now.shape.now (pieces_in_stretch run.stretch) (steps_in run.stripe own))
-        (record { stripe = run.stripe; kind = kind }) run.stripe lane.old lane.new) }
+        (runs_in_stretch call.now.shape.now regions.stretch) into.new
+        (steps_in regions.stripe own)) lane.old lane.new) }
+    ensures err { IfErr result (λ kind. LaneTries D.follows (λ own. ReadsSome call.now.shape.now
+        (runs_in_stretch call.now.shape.now regions.stretch) (steps_in regions.stripe own))
+        (record { stripe = regions.stripe; kind = kind }) regions.stripe lane.old lane.new) }
 {
     let shape = call.shape;
     within_bounds(shape);
-    let first = first_in_stripe(shape, run);
-    let mut spare = Block::ZERO;
-    for at in 0..run.stretch.count {
-        let piece = run.stretch.range.piece(run.stretch.first + at);
-        let block = first + at;
-        let site = call.site(run.stripe, Some(block));
-        let from = bytes_of(shape, run.stretch, at);
-        let to = from + piece.len as usize;
-        site.read_one(lane, block, piece.from, &mut into[from..to], &mut spare)?;
+    let mut left = regions.stretch;
+    let mut block = first_in_stripe(shape, regions);
+    let mut from = 0;
+    while left.count > 0 {
+        let (run, blocks) = first_run(shape, left);
+        let to = from + run.len as usize;
+        let site = call.site(regions.stripe, Some(block));
+        site.read_one(lane, block, run, &mut into[from..to])?;
+        block += blocks;
+        left = left.rest_of(blocks);
+        from = to;
     }
     Ok(())
 }
 
-/// Reads the pieces of this stripe, whose lane stands alone.
+/// Reads the runs of this stripe, whose lane stands alone.
 fn get_one<L: LegPart, K, D: Lane<L, K>, R: Wait, G: Gate>(
     call: &Call<'_, R, G, K>,
-    run: Run,
+    regions: RegionRange,
     lanes: &mut [D],
     into: &mut [u8],
 ) -> Result<(), Cause>
     requires one { length lanes.old ≡ 1 }
     requires locks { length call.now.locks.now ≡ call.now.shape.now.stripes }
-    requires stretch { IsReadStretch call.now.shape.now run.stretch (length into.old) }
-    requires run { IsRun call.now.shape.now (length lanes.old) run }
-    ensures reads { ReadsLanes D.follows call.now.shape.now (pieces_in_stretch run.stretch)
-        run.stripe (lanes.old, lanes.new) into.new result }
+    requires stretch { IsReadStretch call.now.shape.now regions.stretch (length into.old) }
+    requires regions { IsRegionRange call.now.shape.now (length lanes.old) regions }
+    ensures reads { ReadsLanes D.follows call.now.shape.now
+        (runs_in_stretch call.now.shape.now regions.stretch)
+        regions.stripe (lanes.old, lanes.new) into.new result }
 {
     within_bounds(call.shape);
-    match get_lane(call, run, &mut lanes[0], into) {
+    match get_lane(call, regions, &mut lanes[0], into) {
         Ok(()) => Ok(()),
         Err(kind) => Err(Cause {
-            stripe: run.stripe,
+            stripe: regions.stripe,
             kind,
         }),
     }
 }
 
-/// Reads the pieces of the stripes of these lanes.
+/// Reads the runs of the stripes of these lanes.
 #[cycle(get)]
 fn get_round<
     L: LegPart + Send,
@@ -102,22 +108,28 @@ fn get_round<
     D: Lane<L, K> + Send,
     R: Threads + Wait + Sync,
     G: Gate + Sync,
->(call: &Call<'_, R, G, K>, run: Run, lanes: &mut [D], into: &mut [u8]) -> Result<(), Cause>
+>(
+    call: &Call<'_, R, G, K>,
+    regions: RegionRange,
+    lanes: &mut [D],
+    into: &mut [u8],
+) -> Result<(), Cause>
     requires some { 0 < length lanes.old }
     requires locks { length call.now.locks.now ≡ call.now.shape.now.stripes }
-    requires stretch { IsReadStretch call.now.shape.now run.stretch (length into.old) }
-    requires run { IsRun call.now.shape.now (length lanes.old) run }
-    ensures reads { ReadsLanes D.follows call.now.shape.now (pieces_in_stretch run.stretch)
-        run.stripe (lanes.old, lanes.new) into.new result }
+    requires stretch { IsReadStretch call.now.shape.now regions.stretch (length into.old) }
+    requires regions { IsRegionRange call.now.shape.now (length lanes.old) regions }
+    ensures reads { ReadsLanes D.follows call.now.shape.now
+        (runs_in_stretch call.now.shape.now regions.stretch)
+        regions.stripe (lanes.old, lanes.new) into.new result }
 {
     if lanes.len() == 1 {
-        return get_one(call, run, lanes, into);
+        return get_one(call, regions, lanes, into);
     }
     let shape = call.shape;
     let half = lanes.len() / 2;
-    let (low, high) = halves(shape, run, lanes.len(), half);
+    let (low, high) = halves(shape, regions, lanes.len(), half);
     let (front, back) = lanes.split_at_mut(half);
-    let (own, rest) = into.split_at_mut(bytes_of(shape, run.stretch, low.stretch.count));
+    let (own, rest) = into.split_at_mut(bytes_of(shape, regions.stretch, low.stretch.count));
     get_halves(call, low, front, own, high, back, rest)
 }
 
@@ -131,22 +143,23 @@ fn get_halves<
     G: Gate + Sync,
 >(
     call: &Call<'_, R, G, K>,
-    low: Run,
+    low: RegionRange,
     front: &mut [D],
     own: &mut [u8],
-    high: Run,
+    high: RegionRange,
     back: &mut [D],
     rest: &mut [u8],
 ) -> Result<(), Cause>
     requires locks { length call.now.locks.now ≡ call.now.shape.now.stripes }
     requires some { (0 < length front.old) × (0 < length back.old) }
     requires low { IsReadStretch call.now.shape.now low.stretch (length own.old)
-        × IsRun call.now.shape.now (length front.old) low }
+        × IsRegionRange call.now.shape.now (length front.old) low }
     requires high { IsReadStretch call.now.shape.now high.stretch (length rest.old)
-        × IsRun call.now.shape.now (length back.old) high }
+        × IsRegionRange call.now.shape.now (length back.old) high }
     requires next { high.stripe ≡ low.stripe + length front.old }
     ensures reads { ReadsLanes D.follows call.now.shape.now
-        (pieces_in_stretch low.stretch ++ pieces_in_stretch high.stretch) low.stripe
+        (runs_in_stretch call.now.shape.now low.stretch
+        ++ runs_in_stretch call.now.shape.now high.stretch) low.stripe
         (front.old ++ back.old, front.new ++ back.new) (own.new ++ rest.new) result }
 {
     within_bounds(call.shape);
@@ -156,8 +169,9 @@ fn get_halves<
             × (0 < length front.now)
             × (length call.now.locks.now ≡ call.now.shape.now.stripes)
             × IsReadStretch call.now.shape.now low.stretch (length own.now)
-            × IsRun call.now.shape.now (length front.now) low }
-        ensures { ReadsLanes D.follows call.entry.now.shape.now (pieces_in_stretch low.stretch)
+            × IsRegionRange call.now.shape.now (length front.now) low }
+        ensures { ReadsLanes D.follows call.entry.now.shape.now
+            (runs_in_stretch call.entry.now.shape.now low.stretch)
             low.stripe (front.entry.now, front.exit.now) own.exit.now result }
     { get_round(call, low, front, own) };
     let mut upper = || -> Result<(), Cause>
@@ -165,14 +179,16 @@ fn get_halves<
             × (0 < length back.now)
             × (length call.now.locks.now ≡ call.now.shape.now.stripes)
             × IsReadStretch call.now.shape.now high.stretch (length rest.now)
-            × IsRun call.now.shape.now (length back.now) high }
-        ensures { ReadsLanes D.follows call.entry.now.shape.now (pieces_in_stretch high.stretch)
+            × IsRegionRange call.now.shape.now (length back.now) high }
+        ensures { ReadsLanes D.follows call.entry.now.shape.now
+            (runs_in_stretch call.entry.now.shape.now high.stretch)
             high.stripe (back.entry.now, back.exit.now) rest.exit.now result }
     { get_round(call, high, back, rest) };
     do_both(call.rt, order, &mut lower, &mut upper)
 }
 
-/// Reads the pieces of the next round into the front of the target, and tells how many they are.
+/// Reads the runs of the next round into the front of the target, and tells how many blocks they
+/// have.
 fn get_next<
     L: LegPart + Send,
     K: Sync,
@@ -192,20 +208,20 @@ fn get_next<
     ensures ok { IfOk result (ReadsNext D.follows call.now.shape.now stretch
         (lanes.old, lanes.new) into.new) }
     ensures err { IfErr result (HasReadSome D.follows call.now.shape.now
-        (pieces_in_stretch stretch) (lanes.old, lanes.new)) }
+        (runs_in_stretch call.now.shape.now stretch) (lanes.old, lanes.new)) }
 {
-    let (run, stripes) = next_run(call.shape, stretch);
-    let done = run.stretch.count;
-    let (_, rest) = lanes.split_at_mut(run.stripe as usize);
+    let (regions, stripes) = next_round(call.shape, stretch);
+    let done = regions.stretch.count;
+    let (_, rest) = lanes.split_at_mut(regions.stripe as usize);
     let (round, _) = rest.split_at_mut(stripes as usize);
     let (own, _) = into.split_at_mut(bytes_of(call.shape, stretch, done));
-    match get_round(call, run, round, own) {
+    match get_round(call, regions, round, own) {
         Ok(()) => Ok(done),
         Err(cause) => Err(cause),
     }
 }
 
-/// Reads all pieces of a stretch, in rounds. After a round in which a stripe could not go on comes
+/// Reads all runs of a stretch, in rounds. After a round in which a stripe could not go on comes
 /// no other.
 pub(crate) fn get_all<
     L: LegPart + Send,
@@ -218,9 +234,9 @@ pub(crate) fn get_all<
     requires lanes { length lanes.old ≡ call.now.shape.now.stripes }
     requires stretch { IsReadStretch call.now.shape.now stretch (length into.old) }
     ensures ok { OnOk result (HasRead D.follows call.now.shape.now
-        (pieces_in_stretch stretch) (lanes.old, lanes.new) into.new) }
+        (runs_in_stretch call.now.shape.now stretch) (lanes.old, lanes.new) into.new) }
     ensures err { IfErr result (HasReadSome D.follows call.now.shape.now
-        (pieces_in_stretch stretch) (lanes.old, lanes.new)) }
+        (runs_in_stretch call.now.shape.now stretch) (lanes.old, lanes.new)) }
 {
     let mut left = stretch;
     let mut taken = 0;

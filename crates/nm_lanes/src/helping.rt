@@ -11,6 +11,7 @@ use crate::lane::Lane;
 use crate::site::Site;
 use nm_leg::LegPart;
 use nm_rules::Refusal;
+use nm_stripe::Copying;
 use std::sync::Wait;
 
 impl<R: Wait, G: Gate, K> Site<'_, R, G, K> {
@@ -30,6 +31,30 @@ impl<R: Wait, G: Gate, K> Site<'_, R, G, K> {
         Ok(())
     }
 
+    /// Does a step of the copy to a leg; where a write is in its way, pushes that one: without it
+    /// the copy would not come further, and who waits for it would turn for ever. Another refusal
+    /// that does not end the call is harmless.
+    fn help_copy<L: LegPart, D: Lane<L, K>>(&self, lane: &mut D, leg: u8) -> Result<(), CauseKind>
+        ensures ok { OnOk result (LaneDoes D.follows lane.old lane.new []) }
+        ensures err { IfErr result (λ kind.
+            LaneStops D.follows lane.old lane.new [] (EndsSo Nobodys kind)) }
+    {
+        match self.copy(lane, leg) {
+            Ok(Copying::Copied(_)) => Ok(()),
+            Ok(Copying::Nothing) => Ok(()),
+            Ok(Copying::LegLost(_)) => Ok(()),
+            Err(refusal) => {
+                if let Some(kind) = end_of(refusal) {
+                    return Err(kind);
+                }
+                if let Hindrance::Write(ticket) = Hindrance::of(refusal) {
+                    self.help_write(lane, ticket)?;
+                }
+                Ok(())
+            }
+        }
+    }
+
     /// Goes on after a step that was refused so: where the refusal does not end the call, helps on
     /// what stood in the way.
     pub(crate) fn go_on<L: LegPart, D: Lane<L, K>>(
@@ -46,7 +71,7 @@ impl<R: Wait, G: Gate, K> Site<'_, R, G, K> {
         }
         match Hindrance::of(refusal) {
             Hindrance::Write(ticket) => self.help_write(lane, ticket)?,
-            Hindrance::Copy(leg) => self.try_copy(lane, leg)?,
+            Hindrance::Copy(leg) => self.help_copy(lane, leg)?,
             Hindrance::Nothing => {}
         }
         Ok(())

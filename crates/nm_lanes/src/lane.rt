@@ -7,7 +7,6 @@ ghost use Rattle.nm_lanes.specs.Done.{Done, done_as};
 
 use nm_fanout::Data;
 use nm_leg::LegPart;
-use nm_replay::Block;
 use nm_rules::Refusal;
 use nm_stripe::{Beginning, Copying, Reach, Reading, Syncing, Written};
 use std::sync::Wait;
@@ -17,13 +16,13 @@ use std::sync::Wait;
 ///
 /// `K` is the lock. Between two calls no lock is held, and others may do steps of their own on the
 /// stripe; so what a lane knows is the list of its own steps with their answers. A step that the
-/// stripe may not be asked for, whose block or leg is not there, is refused as `Astray`.
+/// stripe may not be asked for, whose run of blocks or leg is not there, is refused as `Astray`.
 pub trait Lane<L: LegPart, K> {
     /// These steps, answered so, lead from one state of the lane to another.
     ghost follows: { Self → List (Done L) → Self → Type 0 };
 
-    /// Begins a write of this block, or of a part of it. Where it does not begin its data come
-    /// back.
+    /// Begins a write of a run from this block on, or of a part of the block. Where it does not
+    /// begin its data come back.
     fn begin<R: Wait>(
         &mut self,
         rt: &R,
@@ -45,16 +44,17 @@ pub trait Lane<L: LegPart, K> {
         ensures follows { follows self.old
             (done_as (step.Claim ticket) (answer_of_claim result) ∷ []) self.new };
 
-    /// Reads a block into `into`. `LeavesTarget` says where `into` is as it was.
+    /// Reads a run from this block on into `into`, as many blocks as it has room for.
+    /// `LeavesTarget` says where `into` is as it was.
     fn read<R: Wait>(
         &mut self,
         rt: &R,
         lock: &K,
         block: u64,
-        into: &mut Block,
+        into: &mut [u8],
     ) -> Result<Reading<L>, Refusal>
         ensures follows { follows self.old
-            (done_as (step.Read block) (answer_of_read result into.new) ∷ []) self.new }
+            (done_as (step.Read block into.old) (answer_of_read result into.new) ∷ []) self.new }
         ensures target { LeavesTarget result into.old into.new };
 
     /// Syncs a leg.

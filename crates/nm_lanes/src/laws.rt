@@ -1,6 +1,9 @@
-//! Laws of a mirror's stripes together. Each function does nothing: its contract is the law.
+//! Laws of a mirror's stripes together, and of its runs. Each function does nothing: its contract
+//! is the law.
 ghost use Rattle.nm_lanes.specs.Laws.{ActsInterleave, ArraysMakeOne, MirrorActs};
 ghost use Rattle.nm_lanes.specs.Laws.{OneArrayAlone, StripesJoin};
+ghost use Rattle.nm_lanes.specs.RunLaws.{BlocksMakeOneRun, RegionsAreOfOneRun};
+ghost use Rattle.nm_lanes.specs.RunLaws.{RunsEndWithRegions, RunsFitSteps};
 
 use nm_leg::LegPart;
 
@@ -25,4 +28,17 @@ pub fn stripes_join<L: LegPart>()
 /// promises, those of the mirror's steps act once on the mirror's array.
 pub fn mirror_acts<L: LegPart>()
     ensures { MirrorActs L.model }
+{}
+
+/// A request of whole blocks that one run may have is one step in one stripe: where a region has at
+/// most 128 blocks, as the server's have, each request of whole blocks of one region.
+pub fn one_region_is_one_step()
+    ensures one { BlocksMakeOneRun }
+    ensures region { RegionsAreOfOneRun }
+{}
+
+/// A run has at most 128 blocks, of one region; and it ends where its region does.
+pub fn runs_lie_in_regions()
+    ensures fit { RunsFitSteps }
+    ensures ends { RunsEndWithRegions }
 {}

@@ -10,11 +10,11 @@ pub struct Place {
     pub call: CallKind,
     /// The stripe's number.
     pub stripe: u32,
-    /// The block that the call is at, by its number in the stripe; none where the call reads and
-    /// writes no block.
+    /// The first block of the run that the call is at, by its number in the stripe; none where the
+    /// call reads and writes no block.
     pub block: Option<u64>,
     /// What kind of step was done.
     pub step: StepKind,
-    /// The number of the entry that the step was given, as the answer of a read or a claim.
+    /// The number of the first entry that the step was given, as the answer of a read or a claim.
     pub number: Option<u64>,
 }

@@ -1,7 +1,8 @@
 //! The read of a range.
 ghost use Rattle.std.specs.Prelude.{◌≡◌, length, IfErr, OnOk};
-ghost use Rattle.nm_geometry.specs.Pieces.{LiesInside, pieces_of};
+ghost use Rattle.nm_geometry.specs.Pieces.{LiesInside};
 ghost use Rattle.nm_lanes.specs.Reads.{HasRead, HasReadSome};
+ghost use Rattle.nm_lanes.specs.Runs.{runs_of_range};
 
 use crate::call::{Call, begin, end, range_inside};
 use crate::call_kind::CallKind;
@@ -16,10 +17,10 @@ use std::marker::{Send, Sync};
 use std::sync::Wait;
 use std::thread::Threads;
 
-/// Reads the bytes of the export from `offset` on into all of `into`: each block that they touch
-/// once, in order, up to 8 stripes side by side.
+/// Reads the bytes of the export from `offset` on into all of `into`: each run of blocks that they
+/// touch once, in order, up to 8 stripes side by side. Whole blocks are read right into it.
 ///
-/// On an error, in each stripe the first of its blocks were read, and what stands in `into` is not
+/// On an error, in each stripe the first of its runs were read, and what stands in `into` is not
 /// told.
 pub fn read_by<
     L: LegPart + Send,
@@ -41,10 +42,12 @@ pub fn read_by<
     requires lanes { length lanes.old ≡ shape.now.stripes }
     requires inside { LiesInside (record { offset = offset; length = length into.old }) shape.now }
     ensures ok { OnOk result (HasRead D.follows shape.now
-        (pieces_of (record { offset = offset; length = length into.old }))
+        (runs_of_range shape.now
+        (record { offset = offset; length = length into.old }))
         (lanes.old, lanes.new) into.new) }
     ensures err { IfErr result (HasReadSome D.follows shape.now
-        (pieces_of (record { offset = offset; length = length into.old }))
+        (runs_of_range shape.now
+        (record { offset = offset; length = length into.old }))
         (lanes.old, lanes.new)) }
 {
     let call = Call {

@@ -1,91 +1,80 @@
-//! Runs of regions in stripes that follow one another, each in a stripe of its own.
-ghost use Rattle.std.specs.Prelude.{◌≡◌, ℕ, ◌+◌, ◌≤◌, ◌<◌};
-ghost use Rattle.nm_geometry.specs.Geometry.{IsGeometry, block_in_stripe};
-ghost use Rattle.nm_lanes.specs.Puts.{block_of, first_of, lower, upper, IsRun};
+//! Runs: what one step of a call writes or reads.
+ghost use Rattle.std.specs.Prelude.{◌≡◌, ◌+◌, ◌≤◌, ◌<◌, ◌^◌, length};
+ghost use Rattle.nm_geometry.specs.Pieces.{end_of, touched};
+ghost use Rattle.nm_lanes.specs.Runs.{is_whole};
+ghost use Rattle.nm_lanes.specs.Stretches.{block_of, runs_in_stretch, IsFirstRun};
 
 use crate::call::within_bounds;
-use crate::rounds::MOST_AT_ONCE;
 use crate::stretch::Stretch;
+use nm_fanout::MOST_RUN;
 use nm_geometry::Shape;
+use nm_replay::BLOCK_BYTES;
 
-/// Pieces of regions that follow one another, of stripes that follow one another.
+/// Bytes of the export that one step writes or reads: whole blocks that follow one another in one
+/// region, 128 at most, or a part of one block.
 #[derive(Clone, Copy)]
 pub(crate) struct Run {
-    /// The pieces.
-    pub(crate) stretch: Stretch,
-    /// The first of the regions, and its stripe.
-    pub(crate) region: u64,
-    pub(crate) stripe: u32,
+    /// The first block, in the export.
+    pub(crate) block: u64,
+    /// The first of the bytes, counted in that block.
+    pub(crate) from: u16,
+    /// How many bytes there are.
+    pub(crate) len: u32,
 }
 
-/// The pieces of the next round, and in how many stripes they lie: those up to the next region of
-/// the first stripe, of 8 regions at most.
-pub(crate) fn next_run(shape: &Shape, stretch: Stretch) -> (Run, u32)
+impl Run {
+    /// Whether the run has whole blocks.
+    pub(crate) fn is_whole(self) -> bool
+        ensures { result ≡ is_whole self }
+    {
+        self.len as usize % BLOCK_BYTES == 0
+    }
+}
+
+/// The first run of a stretch, and how many blocks it has: up to the end of the region, of a group
+/// of 128 blocks, or of the whole blocks.
+pub(crate) fn first_run(shape: &Shape, stretch: Stretch) -> (Run, u64)
+    requires end { end_of stretch.range < 2 ^ 64 }
+    requires inside { stretch.first + stretch.count ≤ touched stretch.range }
     requires some { 0 < stretch.count }
-    requires blocks { block_of stretch + stretch.count ≤ shape.now.blocks }
-    ensures run { IsRun shape.now result.1 result.0 }
-    ensures stretch { result.0.stretch ≡ first_of result.0.stretch.count stretch }
-    ensures most { result.0.stretch.count ≤ stretch.count }
-    ensures lanes { (0 < result.1) × (result.0.stripe + result.1 ≤ shape.now.stripes) }
+    ensures { IsFirstRun shape.now stretch result.0 result.1 }
 {
     within_bounds(shape);
     let block = stretch.block();
-    let end = block + stretch.count;
-    let region = block / shape.region;
-    let stripe = (region % shape.stripes as u64) as u32;
-    let last = (end - 1) / shape.region;
-    let lanes = (last - region + 1)
-        .min((shape.stripes - stripe) as u64)
-        .min(MOST_AT_ONCE as u64);
-    let count = ((region + lanes) * shape.region).min(end) - block;
+    let piece = stretch.range.piece(stretch.first);
+    if !piece.is_whole() {
+        let run = Run {
+            block,
+            from: piece.from,
+            len: piece.len as u32,
+        };
+        return (run, 1);
+    }
+    let inside = block % shape.region;
+    let in_group = MOST_RUN as u64 - inside % MOST_RUN as u64;
+    let in_region = shape.region - inside;
+    let whole = (stretch.range.offset + stretch.range.length) / BLOCK_BYTES as u64 - block;
+    let blocks = in_group.min(in_region).min(whole).min(stretch.count);
     let run = Run {
-        stretch: stretch.first_of(count),
-        region,
-        stripe,
+        block,
+        from: 0,
+        len: blocks as u32 * BLOCK_BYTES as u32,
     };
-    (run, lanes as u32)
+    (run, blocks)
 }
 
-/// The number, in its stripe, of the first block of a run in one stripe. The others follow it there
-/// as they do in the export, so they need no division.
-pub(crate) fn first_in_stripe(shape: &Shape, run: Run) -> u64
-    requires run { IsRun shape.now 1 run }
-    requires blocks { block_of run.stretch + run.stretch.count ≤ shape.now.blocks }
-    ensures follow { (at : ℕ) → at < run.stretch.count
-        → result + at ≡ block_in_stripe (block_of run.stretch + at) shape.now }
-    ensures most { result ≤ block_of run.stretch }
+/// How many runs a stretch has.
+pub(crate) fn count_runs(shape: &Shape, stretch: Stretch) -> usize
+    requires end { end_of stretch.range < 2 ^ 64 }
+    requires inside { stretch.first + stretch.count ≤ touched stretch.range }
+    ensures runs { result ≡ length (runs_in_stretch shape.now stretch) }
 {
-    within_bounds(shape);
-    shape.block_in_stripe(run.stretch.block())
-}
-
-/// The pieces of the first so many regions of a run, and the others.
-pub(crate) fn halves(shape: &Shape, run: Run, lanes: usize, half: usize) -> (Run, Run)
-    requires run { IsRun shape.now lanes run }
-    requires blocks { block_of run.stretch + run.stretch.count ≤ shape.now.blocks }
-    requires half { (0 < half) × (half < lanes) }
-    ensures lower { result.0 ≡ lower shape.now half run }
-    ensures upper { result.1 ≡ upper shape.now half run }
-    ensures shape { IsGeometry shape.now }
-{
-    within_bounds(shape);
-    let next = run.region + half as u64;
-    let count = next * shape.region - run.stretch.block();
-    let low = Run {
-        stretch: run.stretch.first_of(count),
-        ..run
-    };
-    let high = Run {
-        stretch: run.stretch.rest_of(count),
-        region: next,
-        stripe: run.stripe + half as u32,
-    };
-    (low, high)
-}
-
-/// Whether these halves of a run are worth a thread: each has a region's blocks, or more, since a
-/// thread costs more than a few blocks.
-pub(crate) fn are_worth_it(shape: &Shape, low: Run, high: Run) -> bool {
-    let least = shape.region;
-    low.stretch.count >= least && high.stretch.count >= least
+    let mut left = stretch;
+    let mut runs = 0;
+    while left.count > 0 {
+        let (_, blocks) = first_run(shape, left);
+        left = left.rest_of(blocks);
+        runs += 1;
+    }
+    runs
 }

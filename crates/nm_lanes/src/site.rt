@@ -18,7 +18,6 @@ use crate::place::Place;
 use crate::step_kind::StepKind;
 use nm_fanout::Data;
 use nm_leg::LegPart;
-use nm_replay::Block;
 use nm_rules::Refusal;
 use nm_stripe::{Beginning, Copying, Reach, Reading, Syncing, Written};
 use std::sync::Wait;
@@ -35,7 +34,7 @@ pub(crate) struct Site<'a, R, G, K> {
     pub(crate) block: Option<u64>,
 }
 
-/// The number of the entry that a claim was given.
+/// The number of the first entry that a claim was given.
 fn number_claimed<L>(claimed: &Result<Written<L>, Refusal>) -> Option<u64>
     ensures { result ≡ number_claimed claimed.now }
 {
@@ -45,7 +44,7 @@ fn number_claimed<L>(claimed: &Result<Written<L>, Refusal>) -> Option<u64>
     }
 }
 
-/// The number of the entry that a read was given.
+/// The number of the first entry that a read was given.
 fn number_read<L>(read: &Result<Reading<L>, Refusal>) -> Option<u64>
     ensures { result ≡ number_read read.now }
 {
@@ -57,7 +56,7 @@ fn number_read<L>(read: &Result<Reading<L>, Refusal>) -> Option<u64>
 
 /// Each step, and then the gate.
 impl<R: Wait, G: Gate, K> Site<'_, R, G, K> {
-    /// Tells the gate of a step that was done, and of the entry that it was given.
+    /// Tells the gate of a step that was done, and of the first entry that it was given.
     fn pass_gate(&self, step: StepKind, number: Option<u64>) {
         self.gate.between(&Place {
             pass: self.pass,
@@ -114,15 +113,15 @@ impl<R: Wait, G: Gate, K> Site<'_, R, G, K> {
         claimed
     }
 
-    /// Reads a block.
+    /// Reads a run.
     pub(crate) fn read<L: LegPart, D: Lane<L, K>>(
         &self,
         lane: &mut D,
         block: u64,
-        into: &mut Block,
+        into: &mut [u8],
     ) -> Result<Reading<L>, Refusal>
         ensures follows { D.follows lane.old
-            (done_as (step.Read block) (answer_of_read result into.new) ∷ []) lane.new }
+            (done_as (step.Read block into.old) (answer_of_read result into.new) ∷ []) lane.new }
     {
         let read = lane.read(self.rt, self.lock, block, into);
         self.pass_gate(StepKind::Read, number_read(&read));
@@ -144,7 +143,11 @@ impl<R: Wait, G: Gate, K> Site<'_, R, G, K> {
     }
 
     /// Does a step of the copy to a leg.
-    fn copy<L: LegPart, D: Lane<L, K>>(&self, lane: &mut D, leg: u8) -> Result<Copying, Refusal>
+    pub(crate) fn copy<L: LegPart, D: Lane<L, K>>(
+        &self,
+        lane: &mut D,
+        leg: u8,
+    ) -> Result<Copying, Refusal>
         ensures follows { D.follows lane.old
             (done_as (step.Copy leg) (answer_of_copy result) ∷ []) lane.new }
     {
@@ -173,27 +176,6 @@ impl<R: Wait, G: Gate, K> Site<'_, R, G, K> {
             Err(refusal) => match end_of(refusal) {
                 Some(kind) => Err(kind),
                 None => Ok(false),
-            },
-        }
-    }
-
-    /// Does a step of the copy to a leg. A refusal that does not end the call is harmless.
-    pub(crate) fn try_copy<L: LegPart, D: Lane<L, K>>(
-        &self,
-        lane: &mut D,
-        leg: u8,
-    ) -> Result<(), CauseKind>
-        ensures ok { OnOk result (LaneDoes D.follows lane.old lane.new []) }
-        ensures err { IfErr result (λ kind.
-            LaneStops D.follows lane.old lane.new [] (EndsSo Nobodys kind)) }
-    {
-        match self.copy(lane, leg) {
-            Ok(Copying::Copied(_)) => Ok(()),
-            Ok(Copying::Nothing) => Ok(()),
-            Ok(Copying::LegLost(_)) => Ok(()),
-            Err(refusal) => match end_of(refusal) {
-                Some(kind) => Err(kind),
-                None => Ok(()),
             },
         }
     }

@@ -7,7 +7,7 @@ pub enum StepKind {
     Push,
     /// A finished write is claimed.
     Claim,
-    /// A block is read.
+    /// A run of blocks is read.
     Read,
     /// A leg is taken out.
     Fail,

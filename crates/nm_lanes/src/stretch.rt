@@ -1,25 +1,28 @@
-//! Pieces of a range, and what is to be put into them.
-ghost use Rattle.std.specs.Prelude.{◌≡◌, ◌<◌, ◌≤◌, ◌+◌, ◌^◌, ◌∷◌, length, drop};
+//! Pieces of a range, and what is to be put into their runs.
+ghost use Rattle.std.specs.Prelude.{◌≡◌, ◌<◌, ◌≤◌, ◌+◌, ◌^◌, drop};
 ghost use Rattle.nm_geometry.specs.Pieces.{end_of, touched};
 ghost use Rattle.nm_lanes.specs.Cuts.{zero_for};
-ghost use Rattle.nm_lanes.specs.Puts.{block_of, cuts_of, filling, first_of, rest_of};
+ghost use Rattle.nm_lanes.specs.Fillings.{cuts_of, IsStretch, TakesRun};
+ghost use Rattle.nm_lanes.specs.Stretches.{block_of, first_of, rest_of};
 
-use crate::piece_write::PieceWrite;
+use crate::run::{Run, count_runs, first_run};
+use crate::run_write::RunWrite;
 use nm_fanout::Data;
-use nm_geometry::{ByteRange, Piece};
+use nm_geometry::{ByteRange, Shape};
 use nm_replay::BLOCK_BYTES;
 use std::mem;
 
-/// Zeroes for this piece.
-fn zero_for(piece: Piece) -> Data
-    ensures zeroes { result ≡ zero_for piece }
+/// Zeroes for this run.
+fn zero_for(run: Run) -> Data
+    requires { run.len ≤ 65536 }
+    ensures zeroes { result ≡ zero_for run }
 {
-    if piece.len as usize == BLOCK_BYTES {
-        Data::Zero
+    if run.is_whole() {
+        Data::Zero((run.len as usize / BLOCK_BYTES) as u16)
     } else {
         Data::ZeroPart {
-            from: piece.from,
-            len: piece.len,
+            from: run.from,
+            len: run.len as u16,
         }
     }
 }
@@ -65,33 +68,33 @@ impl Stretch {
         }
     }
 
-    /// How many cuts so many of the pieces have.
-    pub(crate) fn cuts_of(self, count: u64) -> usize
-        ensures { result ≡ cuts_of self count }
-    {
-        if self.uncut { 0 } else { count as usize }
-    }
-
-    /// What is to be put into the piece of this number, counted in the stretch. A cut is taken
-    /// away.
-    pub(crate) fn take(self, at: u64, cuts: &mut [PieceWrite]) -> PieceWrite
+    /// How many cuts the stretch has: one for each of its runs.
+    pub(crate) fn cuts_of(self, shape: &Shape) -> usize
         requires end { end_of self.range < 2 ^ 64 }
         requires inside { self.first + self.count ≤ touched self.range }
-        requires at { at < self.count }
-        requires long { length (filling self cuts.old) ≡ self.count }
-        ensures taken { drop at (filling self cuts.old)
-            ≡ result ∷ drop (at + 1) (filling self cuts.new) }
-        ensures long { length (filling self cuts.new) ≡ self.count }
+        ensures { result ≡ cuts_of shape.now self }
     {
         if self.uncut {
-            let piece = self.range.piece(self.first + at);
-            return PieceWrite {
-                piece,
-                bytes: zero_for(piece),
-            };
+            return 0;
         }
-        let piece = cuts[at as usize].piece;
-        let bytes = mem::replace(&mut cuts[at as usize].bytes, Data::Zero);
-        PieceWrite { piece, bytes }
+        count_runs(shape, self)
+    }
+
+    /// What is to be put into the first run, and how many blocks that one has. A cut is taken away:
+    /// the one of this number.
+    pub(crate) fn take(self, shape: &Shape, number: usize, cuts: &mut [RunWrite]) -> (RunWrite, u64)
+        requires stretch { IsStretch shape.now self (drop number cuts.old) }
+        requires some { 0 < self.count }
+        ensures { TakesRun shape.now self (drop number cuts.old) (drop (number + 1) cuts.new)
+            result.0 result.1 }
+    {
+        let (run, blocks) = first_run(shape, self);
+        if self.uncut {
+            let bytes = zero_for(run);
+            return (RunWrite { run, bytes }, blocks);
+        }
+        let bytes = Data::Zero(1);
+        let write = mem::replace(&mut cuts[number], RunWrite { run, bytes });
+        (write, blocks)
     }
 }

@@ -1,16 +1,19 @@
 //! One try of a step, and what helps after it.
-ghost use Rattle.std.specs.Prelude.{◌≡◌, ◌+◌, ◌≤◌, [], length, take, drop, IfOk, IfErr, OnOk};
+ghost use Rattle.std.specs.Prelude.{◌≡◌, ◌+◌, ◌/◌, ◌%◌, ◌≤◌, [], length, take, drop};
+ghost use Rattle.std.specs.Prelude.{IfOk, IfErr, OnOk};
 ghost use Rattle.nm_stripe.specs.declared.step.Step.TheVariants as step;
 ghost use Rattle.nm_stripe.specs.Flush.{SyncsLeg};
 ghost use Rattle.nm_lanes.specs.Lane.{LaneStops};
 ghost use Rattle.nm_lanes.specs.Own.{EndsSo};
 ghost use Rattle.nm_lanes.specs.Reads.{IsValue, value_bytes};
-ghost use Rattle.nm_lanes.specs.Steps.{Completes, Turns, Nobodys};
+ghost use Rattle.nm_lanes.specs.Runs.{run_blocks, IsRun};
+ghost use Rattle.nm_lanes.specs.Steps.{Completes, CompletesRead, Nobodys, ReadTurns, Turns};
 
 use crate::cause_kind::CauseKind;
 use crate::gate::Gate;
 use crate::hindrance::finds_out;
 use crate::lane::Lane;
+use crate::run::Run;
 use crate::site::Site;
 use nm_leg::LegPart;
 use nm_replay::Block;
@@ -18,24 +21,47 @@ use nm_stripe::Reading;
 use std::sync::Wait;
 
 impl<R: Wait, G: Gate, K> Site<'_, R, G, K> {
-    /// One try of a read of a block into the spare one: true where it was found, and what it holds
+    /// One try of a read of whole blocks right into the target: true where they were found.
+    fn read_whole<L: LegPart, D: Lane<L, K>>(
+        &self,
+        lane: &mut D,
+        block: u64,
+        into: &mut [u8],
+    ) -> Result<bool, CauseKind>
+        requires { length into.old % 512 ≡ 0 }
+        ensures ok { IfOk result (ReadTurns D.follows (lane.old, lane.new) block
+            (length into.old / 512) (λ told. IsValue told × (into.new ≡ value_bytes told))) }
+        ensures err { IfErr result (λ kind.
+            LaneStops D.follows lane.old lane.new [] (EndsSo Nobodys kind)) }
+    {
+        match self.read(lane, block, into) {
+            Ok(Reading::Value(_)) => Ok(true),
+            Ok(Reading::LegLost(_)) => Ok(false),
+            Err(refusal) => {
+                self.go_on(lane, refusal)?;
+                Ok(false)
+            }
+        }
+    }
+
+    /// One try of a read of a block into a spare one: true where it was found, and what it holds
     /// from one place on was put into the target.
-    fn read_turn<L: LegPart, D: Lane<L, K>>(
+    fn read_part<L: LegPart, D: Lane<L, K>>(
         &self,
         lane: &mut D,
         block: u64,
         from: u16,
         into: &mut [u8],
-        spare: &mut Block,
     ) -> Result<bool, CauseKind>
         requires { from + length into.old ≤ 512 }
-        ensures ok { IfOk result (Turns D.follows (lane.old, lane.new) (step.Read block) (λ told.
+        ensures ok { IfOk result (ReadTurns D.follows (lane.old, lane.new) block 1 (λ told.
             IsValue told
             × (into.new ≡ take (length into.old) (drop from (value_bytes told))))) }
         ensures err { IfErr result (λ kind.
             LaneStops D.follows lane.old lane.new [] (EndsSo Nobodys kind)) }
     {
-        match self.read(lane, block, spare) {
+        let mut spare = Block::ZERO;
+        match self.read(lane, block, &mut spare.0) {
             Ok(Reading::Value(_)) => {
                 let from = from as usize;
                 into.copy_from_slice(&spare.0[from..from + into.len()]);
@@ -49,24 +75,46 @@ impl<R: Wait, G: Gate, K> Site<'_, R, G, K> {
         }
     }
 
-    /// Reads a block into the spare one, and puts what it holds from one place on into the target.
+    /// One try of a read of a run into the target: true where it was found.
+    fn read_turn<L: LegPart, D: Lane<L, K>>(
+        &self,
+        lane: &mut D,
+        block: u64,
+        run: Run,
+        into: &mut [u8],
+    ) -> Result<bool, CauseKind>
+        requires run { IsRun run }
+        requires long { length into.old ≡ run.len }
+        ensures ok { IfOk result (ReadTurns D.follows (lane.old, lane.new) block (run_blocks run)
+            (λ told. IsValue told
+            × (into.new ≡ take run.len (drop run.from (value_bytes told))))) }
+        ensures err { IfErr result (λ kind.
+            LaneStops D.follows lane.old lane.new [] (EndsSo Nobodys kind)) }
+    {
+        if run.is_whole() {
+            return self.read_whole(lane, block, into);
+        }
+        self.read_part(lane, block, run.from, into)
+    }
+
+    /// Reads a run into the target: whole blocks go right into it.
     pub(crate) fn read_one<L: LegPart, D: Lane<L, K>>(
         &self,
         lane: &mut D,
         block: u64,
-        from: u16,
+        run: Run,
         into: &mut [u8],
-        spare: &mut Block,
     ) -> Result<(), CauseKind>
-        requires { from + length into.old ≤ 512 }
-        ensures ok { OnOk result (Completes D.follows lane.old lane.new (step.Read block) (λ told.
-            IsValue told
-            × (into.new ≡ take (length into.old) (drop from (value_bytes told))))) }
+        requires run { IsRun run }
+        requires long { length into.old ≡ run.len }
+        ensures ok { OnOk result (CompletesRead D.follows lane.old lane.new block (run_blocks run)
+            (λ told. IsValue told
+            × (into.new ≡ take run.len (drop run.from (value_bytes told))))) }
         ensures err { IfErr result (λ kind.
             LaneStops D.follows lane.old lane.new [] (EndsSo Nobodys kind)) }
     {
         for _ in self.rt.forever() {
-            if self.read_turn(lane, block, from, into, spare)? {
+            if self.read_turn(lane, block, run, into)? {
                 return Ok(());
             }
         }

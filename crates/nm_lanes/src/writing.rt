@@ -1,7 +1,8 @@
 //! The write of a range.
 ghost use Rattle.std.specs.Prelude.{◌≡◌, length, IfErr, IsOk, OnOk};
-ghost use Rattle.nm_geometry.specs.Pieces.{LiesInside, pieces_of};
+ghost use Rattle.nm_geometry.specs.Pieces.{LiesInside};
 ghost use Rattle.nm_lanes.specs.Cuts.{cuts_for};
+ghost use Rattle.nm_lanes.specs.Runs.{runs_of_range};
 ghost use Rattle.nm_lanes.specs.Writes.{FailsWriting, HasWritten};
 
 use crate::call::{Call, begin, end, range_inside};
@@ -20,17 +21,18 @@ use std::marker::{Send, Sync};
 use std::sync::Wait;
 use std::thread::Threads;
 
-/// Writes all of the payload to the bytes of the export from `offset` on: each block that they
-/// touch once, in order, up to 8 stripes side by side.
+/// Writes all of the payload to the bytes of the export from `offset` on: each run of blocks that
+/// they touch once, in order, up to 8 stripes side by side.
 ///
-/// The payload is cut where blocks end before the first step is done. A block that they fill is
-/// written whole; of another the rest stays. A payload without bytes does no step, and succeeds.
+/// The payload is cut where runs end before the first step is done. Blocks that they fill are
+/// written whole, in runs of up to 128 blocks of one region; of another block the rest stays. A
+/// payload without bytes does no step, and succeeds.
 ///
 /// # Errors
 ///
 /// `WriteFault::Memory` where the cuts are refused their memory, and no step was done.
 /// `WriteFault::Io` where a stripe could not go on: the others of its round run to their end, and
-/// no further round begins. In each stripe the first of its blocks were written, and the next one's
+/// no further round begins. In each stripe the first of its runs were written, and the next one's
 /// write may have begun.
 pub fn write_by<
     L: LegPart + Send,
@@ -53,11 +55,13 @@ pub fn write_by<
     requires lanes { length lanes.old ≡ shape.now.stripes }
     requires inside { LiesInside (record { offset = offset; length = length payload }) shape.now }
     ensures ok { OnOk result (HasWritten D.follows shape.now
-        (cuts_for (pieces_of (record { offset = offset; length = length payload })) payload)
+        (cuts_for (runs_of_range shape.now
+        (record { offset = offset; length = length payload })) payload)
         (lanes.old, lanes.new)) }
     ensures nothing { length payload ≡ 0 → IsOk result }
     ensures err { IfErr result (FailsWriting D.follows shape.now
-        (cuts_for (pieces_of (record { offset = offset; length = length payload })) payload)
+        (cuts_for (runs_of_range shape.now
+        (record { offset = offset; length = length payload })) payload)
         (lanes.old, lanes.new)) }
 {
     if payload.is_empty() {
@@ -65,7 +69,13 @@ pub fn write_by<
     }
     let len = payload.len() as u64;
     let range = range_inside(shape, offset, len);
-    let Ok(mut writes) = cut_up(alloc, range, payload) else {
+    let stretch = Stretch {
+        range,
+        first: 0,
+        count: range.pieces(),
+        uncut: false,
+    };
+    let Ok(mut writes) = cut_up(alloc, shape, stretch, payload) else {
         return Err(WriteFault::Memory);
     };
     let call = Call {
@@ -76,12 +86,6 @@ pub fn write_by<
         pass,
         kind: CallKind::Write,
         starts_threads: begin(shape, locks, lanes, len),
-    };
-    let stretch = Stretch {
-        range,
-        first: 0,
-        count: range.pieces(),
-        uncut: false,
     };
     let written = put_all(&call, stretch, lanes, writes.as_mut_slice());
     end(shape, locks, lanes, len);

@@ -1,4 +1,4 @@
-//! The write of one block: its begin, its pushes and its claim.
+//! The write of one run: its begin, its pushes and its claim.
 ghost use Rattle.std.specs.Prelude.{[], IfOk, IfErr, OnOk};
 ghost use Rattle.nm_stripe.specs.declared.step.Step.TheVariants as step;
 ghost use Rattle.nm_lanes.specs.Lane.{LaneDoes, LaneStops};
@@ -121,7 +121,7 @@ impl<R: Wait, G: Gate, K> Site<'_, R, G, K> {
         unreachable!()
     }
 
-    /// Writes a block on so many legs.
+    /// Writes a run on so many legs.
     pub(crate) fn write_one<L: LegPart, D: Lane<L, K>>(
         &self,
         lane: &mut D,

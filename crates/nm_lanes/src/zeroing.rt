@@ -1,7 +1,8 @@
 //! The write of zeroes to a range.
 ghost use Rattle.std.specs.Prelude.{◌≡◌, length, IfErr, OnOk};
-ghost use Rattle.nm_geometry.specs.Pieces.{LiesInside, pieces_of};
+ghost use Rattle.nm_geometry.specs.Pieces.{LiesInside};
 ghost use Rattle.nm_lanes.specs.Cuts.{zeroes_for};
+ghost use Rattle.nm_lanes.specs.Runs.{runs_of_range};
 ghost use Rattle.nm_lanes.specs.Writes.{HasWritten, HasWrittenSome};
 
 use crate::call::{Call, begin, end, range_inside};
@@ -17,10 +18,10 @@ use std::marker::{Send, Sync};
 use std::sync::Wait;
 use std::thread::Threads;
 
-/// Writes zeroes to so many bytes of the export from `offset` on: to each block that they touch
-/// once, in order, up to 8 stripes side by side.
+/// Writes zeroes to so many bytes of the export from `offset` on: to each run of blocks that they
+/// touch once, in order, up to 8 stripes side by side.
 ///
-/// It takes no memory. On an error the first blocks of each stripe were written, and the next one's
+/// It takes no memory. On an error the first runs of each stripe were written, and the next one's
 /// write may have begun.
 pub fn zero_by<
     L: LegPart + Send,
@@ -42,10 +43,12 @@ pub fn zero_by<
     requires lanes { length lanes.old ≡ shape.now.stripes }
     requires inside { LiesInside (record { offset = offset; length = len }) shape.now }
     ensures ok { OnOk result (HasWritten D.follows shape.now
-        (zeroes_for (pieces_of (record { offset = offset; length = len })))
+        (zeroes_for (runs_of_range shape.now
+        (record { offset = offset; length = len })))
         (lanes.old, lanes.new)) }
     ensures err { IfErr result (HasWrittenSome D.follows shape.now
-        (zeroes_for (pieces_of (record { offset = offset; length = len })))
+        (zeroes_for (runs_of_range shape.now
+        (record { offset = offset; length = len })))
         (lanes.old, lanes.new)) }
 {
     let call = Call {

@@ -1,8 +1,9 @@
 //! What a client does through its pass.
 ghost use Rattle.std.specs.Prelude.{◌≡◌, ◌*◌, ◌%◌, length, IfErr, OnOk};
-ghost use Rattle.nm_geometry.specs.Pieces.{LiesInside, pieces_of};
+ghost use Rattle.nm_geometry.specs.Pieces.{LiesInside};
 ghost use Rattle.nm_lanes.specs.Flushes.{HasFlushed, HasFlushedSome, IsStripeOf, Touches};
 ghost use Rattle.nm_lanes.specs.Reads.{HasRead, HasReadSome};
+ghost use Rattle.nm_lanes.specs.Runs.{runs_of_range};
 ghost use Rattle.nm_mirror.specs.Counting.{Follows};
 
 use crate::mirror::Mirror;
@@ -31,10 +32,12 @@ impl<L: LegPart + Send, G: Gate + Drop + Sync> Mirror<L, G> {
         requires inside { LiesInside (record { offset = offset; length = length into.old })
             self.now.shape }
         ensures ok { OnOk result (HasRead {L = L} Follows self.now.shape
-            (pieces_of (record { offset = offset; length = length into.old }))
+            (runs_of_range self.now.shape
+            (record { offset = offset; length = length into.old }))
             (pass.old.parts.items, pass.new.parts.items) into.new) }
         ensures err { IfErr result (HasReadSome {L = L} Follows self.now.shape
-            (pieces_of (record { offset = offset; length = length into.old }))
+            (runs_of_range self.now.shape
+            (record { offset = offset; length = length into.old }))
             (pass.old.parts.items, pass.new.parts.items)) }
     {
         read_by(
@@ -62,10 +65,12 @@ impl<L: LegPart + Send, G: Gate + Drop + Sync> Mirror<L, G> {
         requires inside { LiesInside (record { offset = 512 * from; length = length into.old })
             self.now.shape }
         ensures ok { OnOk result (HasRead {L = L} Follows self.now.shape
-            (pieces_of (record { offset = 512 * from; length = length into.old }))
+            (runs_of_range self.now.shape
+            (record { offset = 512 * from; length = length into.old }))
             (pass.old.parts.items, pass.new.parts.items) into.new) }
         ensures err { IfErr result (HasReadSome {L = L} Follows self.now.shape
-            (pieces_of (record { offset = 512 * from; length = length into.old }))
+            (runs_of_range self.now.shape
+            (record { offset = 512 * from; length = length into.old }))
             (pass.old.parts.items, pass.new.parts.items)) }
     {
         // It tells that the export's bytes can be counted.

@@ -13,7 +13,6 @@ use nm_fanout::Data;
 use nm_lanes::Lane;
 use nm_leg::LegPart;
 use nm_part::Part;
-use nm_replay::Block;
 use nm_stripe::{Beginning, Copying, Reach, Reading, Refusal, Stripe, Syncing, Written};
 use std::marker::Model;
 use std::sync::Wait;
@@ -103,10 +102,10 @@ impl<L: LegPart> Lane<L, Lock<L>> for PartLane<L> {
         rt: &R,
         lock: &Lock<L>,
         block: u64,
-        into: &mut Block,
+        into: &mut [u8],
     ) -> Result<Reading<L>, Refusal>
         ensures follows { self.new ≡ part_after_all
-            (done_as (step.Read block) (answer_of_read result into.new) ∷ []) self.old }
+            (done_as (step.Read block into.old) (answer_of_read result into.new) ∷ []) self.old }
         ensures target { LeavesTarget result into.old into.new }
     {
         self.part.read(&mut lock.hold(rt), block, into)

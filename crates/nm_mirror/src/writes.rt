@@ -1,7 +1,8 @@
 //! What a client writes through its pass.
 ghost use Rattle.std.specs.Prelude.{◌≡◌, ◌*◌, ◌%◌, length, IfErr, IsOk, OnOk};
-ghost use Rattle.nm_geometry.specs.Pieces.{LiesInside, pieces_of};
+ghost use Rattle.nm_geometry.specs.Pieces.{LiesInside};
 ghost use Rattle.nm_lanes.specs.Cuts.{cuts_for, zeroes_for};
+ghost use Rattle.nm_lanes.specs.Runs.{runs_of_range};
 ghost use Rattle.nm_lanes.specs.Writes.{HasWritten, HasWrittenSome, FailsWriting};
 ghost use Rattle.nm_mirror.specs.Counting.{Follows};
 
@@ -39,11 +40,13 @@ impl<L: LegPart + Send, G: Gate + Drop + Sync> Mirror<L, G> {
         requires inside { LiesInside (record { offset = offset; length = length payload })
             self.now.shape }
         ensures ok { OnOk result (HasWritten {L = L} Follows self.now.shape
-            (cuts_for (pieces_of (record { offset = offset; length = length payload })) payload)
+            (cuts_for (runs_of_range self.now.shape
+            (record { offset = offset; length = length payload })) payload)
             (pass.old.parts.items, pass.new.parts.items)) }
         ensures nothing { length payload ≡ 0 → IsOk result }
         ensures err { IfErr result (FailsWriting {L = L} Follows self.now.shape
-            (cuts_for (pieces_of (record { offset = offset; length = length payload })) payload)
+            (cuts_for (runs_of_range self.now.shape
+            (record { offset = offset; length = length payload })) payload)
             (pass.old.parts.items, pass.new.parts.items)) }
     {
         write_by(
@@ -73,11 +76,13 @@ impl<L: LegPart + Send, G: Gate + Drop + Sync> Mirror<L, G> {
         requires inside { LiesInside (record { offset = 512 * from; length = length payload })
             self.now.shape }
         ensures ok { OnOk result (HasWritten {L = L} Follows self.now.shape
-            (cuts_for (pieces_of (record { offset = 512 * from; length = length payload }))
+            (cuts_for (runs_of_range self.now.shape
+            (record { offset = 512 * from; length = length payload }))
             payload) (pass.old.parts.items, pass.new.parts.items)) }
         ensures nothing { length payload ≡ 0 → IsOk result }
         ensures err { IfErr result (FailsWriting {L = L} Follows self.now.shape
-            (cuts_for (pieces_of (record { offset = 512 * from; length = length payload }))
+            (cuts_for (runs_of_range self.now.shape
+            (record { offset = 512 * from; length = length payload }))
             payload) (pass.old.parts.items, pass.new.parts.items)) }
     {
         // It tells that the export's bytes can be counted.
@@ -100,10 +105,12 @@ impl<L: LegPart + Send, G: Gate + Drop + Sync> Mirror<L, G> {
         requires pass { length pass.old.parts.items ≡ self.now.shape.stripes }
         requires inside { LiesInside (record { offset = offset; length = len }) self.now.shape }
         ensures ok { OnOk result (HasWritten {L = L} Follows self.now.shape
-            (zeroes_for (pieces_of (record { offset = offset; length = len })))
+            (zeroes_for (runs_of_range self.now.shape
+            (record { offset = offset; length = len })))
             (pass.old.parts.items, pass.new.parts.items)) }
         ensures err { IfErr result (HasWrittenSome {L = L} Follows self.now.shape
-            (zeroes_for (pieces_of (record { offset = offset; length = len })))
+            (zeroes_for (runs_of_range self.now.shape
+            (record { offset = offset; length = len })))
             (pass.old.parts.items, pass.new.parts.items)) }
     {
         zero_by(
@@ -130,10 +137,12 @@ impl<L: LegPart + Send, G: Gate + Drop + Sync> Mirror<L, G> {
         requires inside { LiesInside (record { offset = 512 * from; length = 512 * count })
             self.now.shape }
         ensures ok { OnOk result (HasWritten {L = L} Follows self.now.shape
-            (zeroes_for (pieces_of (record { offset = 512 * from; length = 512 * count })))
+            (zeroes_for (runs_of_range self.now.shape
+            (record { offset = 512 * from; length = 512 * count })))
             (pass.old.parts.items, pass.new.parts.items)) }
         ensures err { IfErr result (HasWrittenSome {L = L} Follows self.now.shape
-            (zeroes_for (pieces_of (record { offset = 512 * from; length = 512 * count })))
+            (zeroes_for (runs_of_range self.now.shape
+            (record { offset = 512 * from; length = 512 * count })))
             (pass.old.parts.items, pass.new.parts.items)) }
     {
         // It tells that the export's bytes can be counted.

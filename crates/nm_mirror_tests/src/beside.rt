@@ -165,7 +165,7 @@ fn wait_until_held<R: Clock>(rt: &R, told: &Told) {
 }
 
 /// Reads by two calls, of which the first is held in stripe 2. The second goes through stripes 0
-/// and 1, and each of its four blocks in stripe 0 looks in vain for a call of stripe 1's leg.
+/// and 1, and its run in stripe 0 looks in vain for a call of stripe 1's leg.
 fn reads_beside<'a, R: Threads + Wait + Clock + Sync + Abort, G: Gate + Drop + Sync>(
     rt: &R,
     alloc: Global,
@@ -186,7 +186,7 @@ fn reads_beside<'a, R: Threads + Wait + Clock + Sync + Abort, G: Gate + Drop + S
     );
     assert!(rt; held && read);
     assert!(rt; told.waits.load(Ordering::SeqCst) < LOOKS as u64);
-    assert_eq!(rt; told.looks.load(Ordering::SeqCst), 4 * FEW_LOOKS as u64);
+    assert_eq!(rt; told.looks.load(Ordering::SeqCst), FEW_LOOKS as u64);
     Ok(())
 }
 

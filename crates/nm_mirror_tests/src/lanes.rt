@@ -69,7 +69,7 @@ pub fn want_lanes<R: Abort>(rt: &R, on: &Lanes, offset: u64, len: u64)
 }
 
 /// Writes so many bytes of one value.
-fn write<R: Threads + Wait + Sync + Abort, G: Gate + Sync>(
+pub fn write<R: Threads + Wait + Sync + Abort, G: Gate + Sync>(
     rt: &R,
     alloc: Global,
     on: &mut Lanes,
@@ -103,7 +103,7 @@ fn check_notes<R: Abort>(rt: &R, on: &Lanes, stripe: usize, want: &[Note]) {
     }
 }
 
-/// The three steps of a write of this block under this ticket.
+/// The three steps of a write of a run from this block on under this ticket.
 fn notes_of_write(block: u64, ticket: u64) -> [Note; 3] {
     [
         done(StepKind::Begin, block),
@@ -112,25 +112,54 @@ fn notes_of_write(block: u64, ticket: u64) -> [Note; 3] {
     ]
 }
 
-/// The steps of so many writes, one after the other, from this block and from ticket 0 on.
-fn notes_of_writes(alloc: Global, from: u64, count: u64) -> Result<Vec<Note>, Fail> {
+/// The steps of writes, one after the other, from these blocks on and under these tickets.
+fn notes_of_writes(alloc: Global, writes: &[(u64, u64)]) -> Result<Vec<Note>, Fail> {
     let mut notes = Vec::new(alloc);
-    for ticket in 0..count {
-        notes.extend_from_slice(&notes_of_write(from.wrapping_add(ticket), ticket))?;
+    for (block, ticket) in writes {
+        notes.extend_from_slice(&notes_of_write(*block, *ticket))?;
     }
     Ok(notes)
 }
 
-// From the middle of block 3 to that of block 8: stripe 0 has blocks 3 and 8, stripe 1 has those
-// between.
+// From the middle of block 3 to that of block 8: stripe 0 has blocks 3 and 8, each a run of its own,
+// stripe 1 has those between, which are one run.
 #[test]
-fn a_write_claims_each_block_before_the_next_begins(rt: HostRuntime) -> Result<(), Fail> {
+fn a_write_claims_each_run_before_the_next_begins(rt: HostRuntime) -> Result<(), Fail> {
     let alloc = rt.alloc();
     let mut on = open_lanes(&rt, alloc, shape(11, 4, 2, 2, 2)?)?;
     let written = write(&rt, alloc, &mut on, &NoGate, 3 * 512 + 256, 5 * 512)?;
     assert!(rt; written.is_ok());
-    check_notes(&rt, &on, 0, &notes_of_writes(alloc, 3, 2)?);
-    check_notes(&rt, &on, 1, &notes_of_writes(alloc, 0, 4)?);
+    check_notes(&rt, &on, 0, &notes_of_writes(alloc, &[(3, 0), (4, 1)])?);
+    check_notes(&rt, &on, 1, &notes_of_writes(alloc, &[(0, 0)])?);
+    Ok(())
+}
+
+// From the middle of block 4 to that of block 7: a part, two whole blocks, and a part.
+#[test]
+fn whole_blocks_between_two_parts_are_one_run(rt: HostRuntime) -> Result<(), Fail> {
+    let alloc = rt.alloc();
+    let mut on = open_lanes(&rt, alloc, shape(11, 4, 2, 2, 2)?)?;
+    let written = write(&rt, alloc, &mut on, &NoGate, 4 * 512 + 256, 3 * 512)?;
+    assert!(rt; written.is_ok());
+    check_notes(&rt, &on, 0, &[]);
+    check_notes(
+        &rt,
+        &on,
+        1,
+        &notes_of_writes(alloc, &[(0, 0), (1, 1), (3, 3)])?,
+    );
+    Ok(())
+}
+
+// A region of 300 blocks, from its third block on.
+#[test]
+fn a_run_has_at_most_128_blocks(rt: HostRuntime) -> Result<(), Fail> {
+    let alloc = rt.alloc();
+    let mut on = open_lanes(&rt, alloc, shape(300, 300, 2, 1, 2)?)?;
+    let written = write(&rt, alloc, &mut on, &NoGate, 2 * 512, 298 * 512)?;
+    assert!(rt; written.is_ok());
+    let want = notes_of_writes(alloc, &[(2, 0), (128, 126), (256, 254)])?;
+    check_notes(&rt, &on, 0, &want);
     Ok(())
 }
 

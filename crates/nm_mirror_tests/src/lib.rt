@@ -10,6 +10,8 @@ mod edges;
 #[cfg(test)]
 mod gates;
 #[cfg(test)]
+mod helping;
+#[cfg(test)]
 mod lanes;
 #[cfg(test)]
 mod legs;

@@ -11,7 +11,6 @@ use nm_fanout::Data;
 use nm_lanes::{Lane, StepKind};
 use nm_leg::FuseLeg;
 use nm_part::Part;
-use nm_replay::Block;
 use nm_stripe::{Beginning, Copying, Reach, Reading, Refusal, Stripe, Syncing, Written};
 use std::alloc::Global;
 use std::marker::Model;
@@ -146,10 +145,10 @@ impl Lane<FuseLeg, Door> for NoteLane {
         rt: &R,
         lock: &Door,
         block: u64,
-        into: &mut Block,
+        into: &mut [u8],
     ) -> Result<Reading<FuseLeg>, Refusal>
         ensures follows { self.new ≡ part_after_all {L = FuseLeg}
-            (done_as (step.Read block) (answer_of_read result into.new) ∷ []) self.old }
+            (done_as (step.Read block into.old) (answer_of_read result into.new) ∷ []) self.old }
         ensures target { LeavesTarget result into.old into.new }
     {
         let told = self.part.read(&mut lock.lock(rt), block, into);

@@ -119,11 +119,11 @@ fn a_flush_of_stripes_without_writes_starts_no_thread(rt: HostRuntime) -> Result
     Ok(())
 }
 
-/// What the second stripe's steps tell the first stripe's leg: how many entries they were given,
+/// What the second stripe's steps tell the first stripe's leg: how many of them were given entries,
 /// and how often the leg's calls looked.
 #[derive(Drop)]
 struct Told {
-    entries: AtomicU64,
+    steps: AtomicU64,
     looks: AtomicU64,
 }
 
@@ -131,7 +131,7 @@ impl Told {
     /// Nothing is held yet.
     fn new() -> Self {
         Told {
-            entries: AtomicU64::new(REGION),
+            steps: AtomicU64::new(STEPS),
             looks: AtomicU64::new(0),
         }
     }
@@ -140,16 +140,19 @@ impl Told {
 /// How many blocks a region has.
 const REGION: u64 = 4;
 
-/// Counts the reads and finished writes of the second stripe.
+/// How many steps read or claim a whole region.
+const STEPS: u64 = 1;
+
+/// Counts the reads and finished writes of the second stripe, by steps.
 #[derive(Drop)]
-struct CountEntries<'a> {
+struct CountSteps<'a> {
     told: &'a Told,
 }
 
-impl Gate for CountEntries<'_> {
+impl Gate for CountSteps<'_> {
     fn between(&self, place: &Place) {
         if place.stripe == 1 && place.number.is_some() {
-            self.told.entries.fetch_add(1, Ordering::SeqCst);
+            self.told.steps.fetch_add(1, Ordering::SeqCst);
         }
     }
 }
@@ -165,7 +168,7 @@ struct UntilDone<'a, R: Clock + Sync> {
 
 impl<R: Clock + Sync> Hold for UntilDone<'_, R> {
     fn is_held(&self) -> bool {
-        if !self.is_first || self.told.entries.load(Ordering::SeqCst) >= REGION {
+        if !self.is_first || self.told.steps.load(Ordering::SeqCst) >= STEPS {
             return false;
         }
         if self.told.looks.fetch_add(1, Ordering::SeqCst) >= LOOKS as u64 {
@@ -177,7 +180,7 @@ impl<R: Clock + Sync> Hold for UntilDone<'_, R> {
 }
 
 /// A mirror of two regions in two stripes, whose legs hold.
-type Holding<'a> = Mirror<HoldLeg<MemLeg, UntilDone<'a, HostRuntime>>, CountEntries<'a>>;
+type Holding<'a> = Mirror<HoldLeg<MemLeg, UntilDone<'a, HostRuntime>>, CountSteps<'a>>;
 
 /// The mirror, which holds once nothing is told.
 fn mirror_that_counts<'a>(
@@ -196,7 +199,7 @@ fn mirror_that_counts<'a>(
         alloc,
         shape(2 * REGION, REGION, 2, 2, 1)?,
         legs,
-        CountEntries { told },
+        CountSteps { told },
     )
 }
 
@@ -207,10 +210,10 @@ fn gate_two_pieces(rt: HostRuntime) -> Result<(), Fail> {
     let told = Told::new();
     let mirror = mirror_that_counts(&rt, alloc, &told)?;
     let mut pass = pass_of(&rt, alloc, &mirror)?;
-    told.entries.store(0, Ordering::SeqCst);
+    told.steps.store(0, Ordering::SeqCst);
     let payload = fill_bytes(alloc, 8 * 512, 7)?;
     assert!(rt; write_at(&rt, alloc, &mirror, &mut pass, 0, payload).is_ok());
-    assert_eq!(rt; told.entries.load(Ordering::SeqCst), REGION);
+    assert_eq!(rt; told.steps.load(Ordering::SeqCst), STEPS);
     assert!(rt; told.looks.load(Ordering::SeqCst) < LOOKS as u64);
     Ok(())
 }
@@ -225,12 +228,12 @@ fn a_read_is_at_work_in_two_stripes_at_once(rt: HostRuntime) -> Result<(), Fail>
     let mut into = Vec::new(alloc);
     into.resize(8 * 512, 255)?;
     assert!(rt; read_at(&rt, &mirror, &mut pass, 0, &mut into).is_ok());
-    told.entries.store(0, Ordering::SeqCst);
+    told.steps.store(0, Ordering::SeqCst);
     assert!(rt; read_at(&rt, &mirror, &mut pass, 0, &mut into).is_ok());
     for byte in into.iter() {
         assert_eq!(rt; *byte, 0);
     }
-    assert_eq!(rt; told.entries.load(Ordering::SeqCst), REGION);
+    assert_eq!(rt; told.steps.load(Ordering::SeqCst), STEPS);
     assert!(rt; told.looks.load(Ordering::SeqCst) < LOOKS as u64);
     Ok(())
 }
@@ -265,7 +268,7 @@ fn a_read_begins_in_the_stripe_that_nobody_has(rt: HostRuntime) -> Result<(), Fa
     let mirror = mirror_that_counts(&rt, alloc, &told)?;
     let mut holder = pass_of(&rt, alloc, &mirror)?;
     let mut reader = pass_of(&rt, alloc, &mirror)?;
-    told.entries.store(0, Ordering::SeqCst);
+    told.steps.store(0, Ordering::SeqCst);
     let (mut first, mut others) = ([255; 512], [255; 7 * 512]);
     let (held, read) = join(
         &rt,
@@ -276,7 +279,7 @@ fn a_read_begins_in_the_stripe_that_nobody_has(rt: HostRuntime) -> Result<(), Fa
         },
     );
     assert!(rt; held && read);
-    assert_eq!(rt; told.entries.load(Ordering::SeqCst), REGION);
+    assert_eq!(rt; told.steps.load(Ordering::SeqCst), STEPS);
     assert!(rt; told.looks.load(Ordering::SeqCst) > 0);
     assert!(rt; told.looks.load(Ordering::SeqCst) < LOOKS as u64);
     Ok(())

@@ -1,13 +1,12 @@
 -- What a stripe's method promises is what its step promises of the answer that it stands for.
-use Rattle.std.proofs.Common.{◌≡◌, ℕ, [], ◌∷◌, Some, Result, Ok, Err, IfOk, IfErr, OnErr, length, min, refl, ap, sym, subst}
+use Rattle.std.proofs.Common.{◌≡◌, ℕ, List, [], ◌∷◌, Some, Result, Ok, Err, IfOk, IfErr, OnErr, length, min, refl, ap, sym, subst}
 use Rattle.nm_fanout.specs.declared.block_data.Data.{Data}
 use Rattle.nm_leg.specs.Leg.{Leg, LegType}
-use Rattle.nm_replay.specs.declared.block.Block.{Block}
-use Rattle.nm_replay.specs.Events.{RepliesWrite}
 use Rattle.nm_rules.specs.declared.refusal.Refusal.{Refusal}
 use Rattle.nm_rules.specs.Acts.{IsExplainedStep}
-use Rattle.nm_rules.specs.Push.{push_cause}
-use Rattle.nm_rules.specs.Receipt.{EntryName}
+use Rattle.nm_rules.specs.RunClaim.{replies_of}
+use Rattle.nm_rules.specs.RunPush.{push_run_cause}
+use Rattle.nm_rules.specs.Runs.{EntryNames}
 use Rattle.nm_rules.specs.State.{StripeState}
 use Rattle.nm_rules.proofs.ActsLemmas.{explained-stays}
 use Rattle.nm_stripe.specs.declared.answer.Handed.TheVariants as handed
@@ -39,7 +38,7 @@ module _ {L : Type 0} (type : LegType L) (old new : StripeState L) where
   begin-step block bytes (Ok (beginning.LegLost leg own)) ok refused back = (ok.0, ap (λ given. handed.Data given) ok.1)
   begin-step block bytes (Err given) ok refused back = (refused, ap (λ given. handed.Data given) back)
 
-  pub push-step : (ticket leg : ℕ) (result : Result Reach Refusal) → IfOk result (Reaches type old new ticket leg) → IfErr result (λ refusal. push_cause old ticket leg ≡ Some refusal) → OnErr result (new ≡ old)
+  pub push-step : (ticket leg : ℕ) (result : Result Reach Refusal) → IfOk result (Reaches type old new ticket leg) → IfErr result (λ refusal. push_run_cause old ticket leg ≡ Some refusal) → OnErr result (new ≡ old)
       → StepOf type (Push ticket leg) (answer_of_push result) old new
   push-step ticket leg (Ok (reach.Pushed count)) ok cause stays = ok
   push-step ticket leg (Ok (reach.Complete number)) ok cause stays = ok
@@ -47,10 +46,11 @@ module _ {L : Type 0} (type : LegType L) (old new : StripeState L) where
   push-step ticket leg (Ok reach.Halted) ok cause stays = ok
   push-step ticket leg (Err refusal) ok cause stays = (cause, refl, stays)
 
-  pub read-step : (block : ℕ) (bytes : Block) (result : Result (Reading L) Refusal) → IfOk result (Reads type old new block bytes) → IfErr result (RefusesRead type old new block) → StepOf type (Read block) (answer_of_read result bytes) old new
-  read-step block bytes (Ok (reading.Value receipt)) ok refused = ok
-  read-step block bytes (Ok (reading.LegLost leg)) ok refused = (ok.0, ok, refl)
-  read-step block bytes (Err refusal) ok refused = (refused, refl)
+  pub read-step : (block : ℕ) (room bytes : List ℕ) (result : Result (Reading L) Refusal) → length bytes ≡ length room → IfOk result (Reads type old new block bytes) → IfErr result (RefusesRead type old new block room bytes)
+      → StepOf type (Read block room) (answer_of_read result bytes) old new
+  read-step block room bytes (Ok (reading.Value receipt)) long ok refused = (ok, long)
+  read-step block room bytes (Ok (reading.LegLost leg)) long ok refused = (bytes, ok, (refl, long))
+  read-step block room bytes (Err refusal) long ok refused = (bytes, refused, (refl, long))
 
   pub sync-step : (leg : ℕ) (result : Result Syncing Refusal) → IfOk result (Syncs type old new leg) → IfErr result (RefusesSync type old new leg) → StepOf type (Sync leg) (answer_of_sync result) old new
   sync-step leg (Ok syncing.Synced) ok refused = ok
@@ -82,7 +82,7 @@ module _ {L : Type 0} (model : L → Leg) (old new : StripeState L) where
   push-acts ticket leg (Ok reach.Halted) running ok kept stays = absurd running
   push-acts ticket leg (Err refusal) running ok kept stays = unchanged kept stays
 
-  pub claim-acts : (ticket : ℕ) (result : Result EntryName Refusal) → IfOk result (λ written. IsExplainedStep model (RepliesWrite ticket written.number ∷ []) old new) → length old.kept ≡ min 1024 old.total → OnErr result (new ≡ old)
+  pub claim-acts : (ticket : ℕ) (result : Result EntryNames Refusal) → IfOk result (λ written. IsExplainedStep model (replies_of ticket written.number written.count) old new) → length old.kept ≡ min 1024 old.total → OnErr result (new ≡ old)
       → IsExplainedStep model (marks {L = L} (Claim ticket) (answer_of_claim result)) old new
   claim-acts ticket (Ok written) ok kept stays = ok
   claim-acts ticket (Err refusal) ok kept stays = unchanged kept stays

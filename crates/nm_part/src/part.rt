@@ -1,6 +1,8 @@
-ghost use Rattle.std.specs.Prelude.{◌≡◌, ◌<◌, ◌-◌, ◌^◌, [], ◌∷◌, ◌↔◌, length, IsTrue, IsFalse};
+ghost use Rattle.std.specs.Prelude.{◌≡◌, ◌<◌, ◌≤◌, ◌+◌, ◌^◌, [], ◌∷◌, ◌↔◌, length};
+ghost use Rattle.std.specs.Prelude.{IsTrue, IsFalse};
 ghost use Rattle.nm_leg.specs.Leg.{leg_type};
 ghost use Rattle.nm_rules.specs.Acts.{IsExplainedStep};
+ghost use Rattle.nm_rules.specs.Runs.{FitsRun};
 ghost use Rattle.nm_stripe.specs.declared.step.Step.TheVariants as step;
 ghost use Rattle.nm_stripe.specs.Read.{LeavesTarget};
 ghost use Rattle.nm_stripe.specs.Run.{NoneHalted, marks};
@@ -9,10 +11,10 @@ ghost use Rattle.nm_lanes.specs.Answers.{answer_of_push, answer_of_read, answer_
 ghost use Rattle.nm_part.specs.Asking.{AsksStripe};
 ghost use Rattle.nm_part.specs.Parts.{ValueAbove, given, is_astray, part_after, part_of};
 
-use nm_fanout::Data;
+use nm_fanout::{Data, MOST_RUN};
 use nm_leg::LegPart;
-use nm_replay::Block;
-use nm_rules::Refusal;
+use nm_replay::BLOCK_BYTES;
+use nm_rules::{At, Refusal};
 use nm_stripe::{Beginning, Copying, Reach, Reading, Stripe, Syncing, Written};
 use std::marker::{Model, PhantomData};
 
@@ -58,16 +60,30 @@ impl<L> Part<L> {
         self.count
     }
 
-    /// Takes note of the entry of this number.
+    /// Takes note of so many entries, from this number on.
     #[inline(always)]
-    fn take(&mut self, number: u64)
-        requires room { self.old.count < 2 ^ 64 - 1 }
-        requires below { number < 2 ^ 63 }
-        ensures { self.new ≡ given number self.old }
+    fn take(&mut self, number: u64, count: u64)
+        requires room { self.old.count + count < 2 ^ 64 }
+        requires below { number + count < 2 ^ 64 }
+        ensures { self.new ≡ given number count self.old }
     {
-        self.count += 1;
-        self.front = self.front.max(number + 1);
+        self.count += count;
+        self.front = self.front.max(number + count);
     }
+}
+
+/// Whether so many blocks from this one on are a run of a stripe in this place.
+#[inline(always)]
+fn fits_run(place: At, block: u64, count: u64) -> bool
+    ensures { IsTrue result ↔ FitsRun place block count }
+{
+    let At { blocks, region, .. } = place;
+    0 < count
+        && count <= MOST_RUN as u64
+        && block < blocks
+        && count <= blocks - block
+        && 0 < region
+        && count <= region - block % region
 }
 
 impl<L: LegPart> Part<L> {
@@ -83,25 +99,25 @@ impl<L: LegPart> Part<L> {
         }
     }
 
-    /// Whether the stripe is not the part's, or the part can count no more.
+    /// Whether the stripe is not the part's, or the part has no room to count a run's entries.
     #[inline(always)]
     fn is_astray(&self, stripe: &Stripe<L>) -> bool
         ensures astray { result ≡ is_astray self.now stripe.now }
-        ensures room { IsFalse result → self.now.count < 2 ^ 64 - 1 }
+        ensures room { IsFalse result → self.now.count + 128 < 2 ^ 64 }
     {
         stripe.number() != self.stripe
             || stripe.next_number() < self.front
-            || self.count == u64::MAX
+            || self.count > u64::MAX - MOST_RUN as u64
     }
 
-    /// Whether the stripe is the part's own and has this block.
+    /// Whether the stripe is the part's own and has this run of blocks.
     #[inline(always)]
-    fn has_block(&self, stripe: &Stripe<L>, block: u64) -> bool
+    fn has_run(&self, stripe: &Stripe<L>, block: u64, count: u64) -> bool
         ensures own { IsTrue result
-            ↔ (IsFalse (is_astray self.now stripe.now) × (block < stripe.now.place.blocks)) }
-        ensures room { IsTrue result → self.now.count < 2 ^ 64 - 1 }
+            ↔ (IsFalse (is_astray self.now stripe.now) × FitsRun stripe.now.place block count) }
+        ensures room { IsTrue result → self.now.count + 128 < 2 ^ 64 }
     {
-        !self.is_astray(stripe) && block < stripe.blocks()
+        !self.is_astray(stripe) && fits_run(stripe.place(), block, count)
     }
 
     /// Whether the stripe is the part's own and has this leg.
@@ -114,13 +130,13 @@ impl<L: LegPart> Part<L> {
     }
 }
 
-/// The stripe's steps, through the part, which counts a value and a finished write.
+/// The stripe's steps, through the part, which counts the entries of a read and of a finished write.
 ///
 /// Each is refused as `Astray` before anything else where the stripe is not the part's, has no such
-/// block or leg, or the part can count no more. Then nothing changes.
+/// run of blocks or leg, or the part has no room to count a run's entries. Then nothing changes.
 impl<L: LegPart> Part<L> {
-    /// Begins a write of this block, or of a part of it. Where it does not begin its data come
-    /// back.
+    /// Begins a write of a run from this block on, or of a part of the block. Where it does not
+    /// begin its data come back.
     #[inline(always)]
     pub fn begin(
         &mut self,
@@ -137,7 +153,7 @@ impl<L: LegPart> Part<L> {
         ensures handed_back { HandsBack «data» result }
     {
         stripe.sound();
-        if !self.has_block(stripe, block) || !data.fits_block() {
+        if !data.fits_run() || !self.has_run(stripe, block, data.blocks()) {
             return Err((Refusal::Astray, data));
         }
         stripe.begin(block, data)
@@ -160,7 +176,7 @@ impl<L: LegPart> Part<L> {
         stripe.push(ticket, leg)
     }
 
-    /// Claims a finished write, and counts it.
+    /// Claims a finished write, and counts its entries.
     #[inline(always)]
     pub fn claim(&mut self, stripe: &mut Stripe<L>, ticket: u64) -> Result<Written<L>, Refusal>
         ensures step { AsksStripe (leg_type L.model L.honest) (step.Claim ticket)
@@ -175,34 +191,37 @@ impl<L: LegPart> Part<L> {
         }
         let claimed = stripe.claim(ticket);
         if let Ok(written) = &claimed {
-            self.take(written.number());
+            self.take(written.number(), written.count());
         }
         claimed
     }
 
-    /// Reads a block into `into`, and counts the value.
+    /// Reads a run from this block on into `into`, as many blocks as it has room for, and counts
+    /// its entries.
     #[inline(always)]
     pub fn read(
         &mut self,
         stripe: &mut Stripe<L>,
         block: u64,
-        into: &mut Block,
+        into: &mut [u8],
     ) -> Result<Reading<L>, Refusal>
-        ensures step { AsksStripe (leg_type L.model L.honest) (step.Read block)
+        ensures step { AsksStripe (leg_type L.model L.honest) (step.Read block into.old)
             (answer_of_read result into.new) self.old (stripe.old, stripe.new) }
         ensures acts { IsTrue L.honest → IsExplainedStep L.model
-            (marks (step.Read block) (answer_of_read result into.new)) stripe.old stripe.new }
+            (marks {L = L} (step.Read block into.old) (answer_of_read result into.new))
+            stripe.old stripe.new }
         ensures counted { self.new ≡ part_after (answer_of_read result into.new) self.old }
         ensures above { ValueAbove self.old.front (answer_of_read result into.new) }
         ensures target { LeavesTarget result into.old into.new }
     {
         stripe.sound();
-        if !self.has_block(stripe, block) {
+        let count = into.len() / BLOCK_BYTES;
+        if into.len() != count * BLOCK_BYTES || !self.has_run(stripe, block, count as u64) {
             return Err(Refusal::Astray);
         }
         let read = stripe.read(block, into);
         if let Ok(Reading::Value(receipt)) = &read {
-            self.take(receipt.number());
+            self.take(receipt.number(), receipt.count());
         }
         read
     }

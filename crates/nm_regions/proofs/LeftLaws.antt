@@ -81,6 +81,6 @@ finish-keeps t copy h opened done =
     omega (arith, new, left-is t copy opened, parts, is.within, rest-is t copy opened)
 
 pub begin-keeps : BeginKeepsLeft
-begin-keeps t leg block within attached =
+begin-keeps t leg block count within attached =
     ap (λ (l : LegRegions). blocks_behind t.region t.blocks l.behind - copied leg t.copy)
     (leg-kept (region_of block t) leg t within attached)

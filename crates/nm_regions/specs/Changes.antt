@@ -20,19 +20,28 @@ opened blocks region in_sync = record {
 abbrev pub with_leg : (LegRegions → LegRegions) → ℕ → RegionTable → RegionTable
 with_leg f leg t = record t { legs = slice_set t.legs leg (f (leg_at leg t)) }
 
--- one more write is under way in the block's region, which falls behind on each leg that is out
-abbrev pub begun : ℕ → RegionTable → RegionTable
-begun block t =
+-- so many more writes are under way in the block's region, which falls behind on each leg that is
+-- out
+abbrev pub begun_run : ℕ → ℕ → RegionTable → RegionTable
+begun_run block count t =
     let region = region_of block t in record t {
       legs = map (marked_if_out region) t.legs;
-      writes = slice_set t.writes region (writes_in region t + 1);
+      writes = slice_set t.writes region (writes_in region t + count);
     }
 
--- one write fewer is under way in the block's region
-abbrev pub finished : ℕ → RegionTable → RegionTable
-finished block t =
+-- one more write is under way there
+abbrev pub begun : ℕ → RegionTable → RegionTable
+begun block t = begun_run block 1 t
+
+-- so many writes fewer are under way in the block's region
+abbrev pub finished_run : ℕ → ℕ → RegionTable → RegionTable
+finished_run block count t =
     let region = region_of block t in
-    record t { writes = slice_set t.writes region (writes_in region t - 1) }
+    record t { writes = slice_set t.writes region (writes_in region t - count) }
+
+-- one write fewer is under way there
+abbrev pub finished : ℕ → RegionTable → RegionTable
+finished block t = finished_run block 1 t
 
 -- the copy, unless it is of this leg
 abbrev pub copy_but_of : ℕ → Option CopyPlace → Option CopyPlace

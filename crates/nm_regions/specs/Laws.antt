@@ -4,7 +4,7 @@ use Rattle.std.specs.Prelude.{length}
 use Rattle.nm_regions.specs.declared.copy_place.CopyPlace.{CopyPlace}
 use Rattle.nm_regions.specs.LegFlags.{is_behind}
 use Rattle.nm_regions.specs.Table.{RegionTable, leg_at, is_out, is_quiet, left, copy_rest}
-use Rattle.nm_regions.specs.Changes.{begun, gone_out, attached, replaced, copy_opened}
+use Rattle.nm_regions.specs.Changes.{begun_run, gone_out, attached, replaced, copy_opened}
 use Rattle.nm_regions.specs.Changes.{advanced, region_finished}
 use Rattle.nm_regions.specs.Sound.{IsRegionTable}
 
@@ -27,11 +27,11 @@ FinishKeepsLeft =
     (t : RegionTable) (copy : CopyPlace) → IsRegionTable t → t.copy ≡ Some copy
     → copy_rest t ≡ 0 → left copy.leg (region_finished t) ≡ left copy.leg t
 
--- what is left of a leg that is not out stays as a write begins
+-- what is left of a leg that is not out stays as a run begins
 abbrev pub BeginKeepsLeft : Type 0
 BeginKeepsLeft =
-    (t : RegionTable) (leg block : ℕ) → leg < length t.legs → IsFalse (is_out leg t)
-    → left leg (begun block t) ≡ left leg t
+    (t : RegionTable) (leg block count : ℕ) → leg < length t.legs → IsFalse (is_out leg t)
+    → left leg (begun_run block count t) ≡ left leg t
 
 -- a leg that goes out is behind where it was, and where a write is under way
 abbrev pub GoOutMarksDirty : Type 0

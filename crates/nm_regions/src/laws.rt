@@ -14,7 +14,7 @@ pub fn a_region_keeps_left()
     ensures finished { FinishKeepsLeft }
 {}
 
-/// What is left of a leg that is not out stays as a write begins.
+/// What is left of a leg that is not out stays as a run begins.
 pub fn begin_keeps_left()
     ensures { BeginKeepsLeft }
 {}

@@ -1,13 +1,13 @@
-ghost use Rattle.std.specs.Prelude.{◌≡◌, ◌-◌, ◌*◌, ◌<◌, ◌≤◌, ◌^◌, if◌then◌else◌, length, map};
+ghost use Rattle.std.specs.Prelude.{◌≡◌, ◌+◌, ◌-◌, ◌*◌, ◌<◌, ◌≤◌, ◌^◌, if◌then◌else◌, length, map};
 ghost use Rattle.std.specs.Prelude.{replicate, Some, None, IsTrue, IsFalse, IsSome, IfOk};
 ghost use Rattle.nm_regions.specs.LegFlags.{opened_leg, is_behind};
 ghost use Rattle.nm_regions.specs.Table.{region_of, length_of, writes_in, is_quiet, state, is_out};
 ghost use Rattle.nm_regions.specs.Table.{leg_at, has_region, is_current_at, is_current, targets};
 ghost use Rattle.nm_regions.specs.Table.{blocks_behind, copied, left, lowest_behind, has_behind};
 ghost use Rattle.nm_regions.specs.Table.{copy_rest};
-ghost use Rattle.nm_regions.specs.Changes.{opened, begun, finished, gone_out, all_marked, marked};
-ghost use Rattle.nm_regions.specs.Changes.{all_set_aside, attached, replaced, copy_opened};
-ghost use Rattle.nm_regions.specs.Changes.{advanced, region_finished};
+ghost use Rattle.nm_regions.specs.Changes.{opened, begun_run, finished_run, gone_out, marked};
+ghost use Rattle.nm_regions.specs.Changes.{all_marked, all_set_aside, attached, replaced};
+ghost use Rattle.nm_regions.specs.Changes.{copy_opened, advanced, region_finished};
 ghost use Rattle.nm_regions.specs.Sound.{AreSizes, IsRegionTable};
 
 use crate::copy_place::{CopyPlace, blocks_copied, copies, copy_but_of, has_copied, move_on};
@@ -267,26 +267,27 @@ impl Regions {
         self.copy
     }
 
-    /// A write on the block has begun: one more is under way in its region, which falls behind on
-    /// each leg that is out.
-    pub fn begin(&mut self, block: u64)
+    /// Writes on so many blocks of one region, from this one on, have begun: so many more are under
+    /// way in the region, which falls behind on each leg that is out.
+    pub fn begin(&mut self, block: u64, count: u16)
         requires block { block < self.old.blocks }
-        requires few { writes_in (region_of block self.old) self.old < 65535 }
-        ensures { self.new ≡ begun block self.old }
+        requires few { writes_in (region_of block self.old) self.old + count ≤ 65535 }
+        ensures { self.new ≡ begun_run block count self.old }
     {
         let region = self.region_of(block) as usize;
-        self.writes[region] += 1;
+        self.writes[region] += count;
         mark_where_out(&mut self.legs, region);
     }
 
-    /// A write on the block has finished: one fewer is under way in its region.
-    pub fn finish(&mut self, block: u64)
+    /// Writes on so many blocks of one region, from this one on, have finished: so many fewer are
+    /// under way in the region.
+    pub fn finish(&mut self, block: u64, count: u16)
         requires block { block < self.old.blocks }
-        requires some { 0 < writes_in (region_of block self.old) self.old }
-        ensures { self.new ≡ finished block self.old }
+        requires some { count ≤ writes_in (region_of block self.old) self.old }
+        ensures { self.new ≡ finished_run block count self.old }
     {
         let region = self.region_of(block) as usize;
-        self.writes[region] -= 1;
+        self.writes[region] -= count;
     }
 
     /// The leg goes out. It falls behind in each region with a write under way, beside those that

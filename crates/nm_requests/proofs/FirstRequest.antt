@@ -24,6 +24,11 @@ starts_length before bytes message after starts =
       length-message_bytes message starts.valid,
     )
 
+pub nothing_starts : (before : ℕ) (message : Message) (after : List ℕ)
+    → StartsWith before [] message after → ⊥
+nothing_starts before message after starts =
+    absurd (omega (arith, starts_length before [] message after starts))
+
 -- its header is the one that the bytes begin with
 starts_head : (before : ℕ) (bytes : List ℕ) (message : Message) (after : List ℕ)
     (head : RequestHead) (rest : List ℕ)

@@ -4,7 +4,7 @@ use Rattle.nm_wire.specs.declared.request_head.RequestHead.{RequestHead}
 use Rattle.nm_wire.specs.Layout.{FitsRequestHead, request_head_bytes}
 use Rattle.nm_wire.specs.Sizes.{max_payload}
 use Rattle.nm_requests.specs.declared.request.Request.{Request}
-use Rattle.nm_requests.specs.Message.{Message, payload_length}
+use Rattle.nm_requests.specs.Message.{Message, payload_length, read_length}
 use Rattle.nm_requests.specs.Stream.{StartsWith, most_requests}
 
 -- a request's message, without its number and where it lies in memory
@@ -27,6 +27,13 @@ pub record HasWhole (before : ℕ) (bytes : List ℕ) (head : RequestHead) : Typ
   pub short : payload_length head ≤ max_payload
   pub payload : 28 + payload_length head ≤ length bytes
   pub few : before < most_requests
+
+-- the bytes begin with the header of a READ of so many bytes
+pub record BeginsRead (bytes : List ℕ) (length : ℕ) : Type 0 where
+  pub head : RequestHead
+  pub whole : bytes ≡ request_head_bytes head ++ drop 28 bytes
+  pub fits : FitsRequestHead head
+  pub length_is : read_length head ≡ length
 
 -- the first request is a WRITE with a payload, which has to be cut out
 pub record HasPayload (before : ℕ) (bytes : List ℕ) : Type 0 where

@@ -113,11 +113,12 @@ pub record AreBytesOf (request : Request) (export : Export) (offset length : ℕ
   pub some : 0 < length
   pub inside : offset + length ≤ size_of export
 
--- the task's bytes are the request's; no READ is longer than 32 MiB, and only a WRITE writes, so
--- that its payload fills the bytes
+-- the task's bytes are the request's; no READ is longer than 32 MiB, only a READ reads, and only a
+-- WRITE writes, so that its payload fills the bytes
 abbrev pub LiesInside : Request → Export → Task → Type 0
 LiesInside request export (task.Read offset length) =
-    AreBytesOf request export offset length × (length ≤ max_payload)
+    AreBytesOf request export offset length
+    × ((length ≤ max_payload) × (is_read request ≡ true))
 LiesInside request export (task.Write offset length _) =
     AreBytesOf request export offset length × (is_write request ≡ true)
 LiesInside request export (task.Zero offset length _) = AreBytesOf request export offset length

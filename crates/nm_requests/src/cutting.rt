@@ -1,9 +1,9 @@
-ghost use Rattle.std.specs.Prelude.{◌≡◌, ℕ, List, [], ◌+◌, ◌≤◌, ◌++◌, length, take, drop, None};
+ghost use Rattle.std.specs.Prelude.{◌≡◌, ℕ, List, [], ◌+◌, ◌<◌, ◌≤◌, ◌++◌, length, take, drop, None};
 ghost use Rattle.std.specs.Prelude.{Some, IfSome, IfNone, IfOk, IfErr, OnErr, IsOk};
 ghost use Rattle.nm_wire.specs.Sizes.{max_payload};
-ghost use Rattle.nm_requests.specs.Message.{Message, payload_length};
+ghost use Rattle.nm_requests.specs.Message.{Message, payload_length, read_length};
 ghost use Rattle.nm_requests.specs.Stream.{StartsWith, EndsAs, most_requests};
-ghost use Rattle.nm_requests.specs.First.{HasWhole, HasPayload, message_of};
+ghost use Rattle.nm_requests.specs.First.{HasWhole, HasPayload, BeginsRead, message_of};
 
 use crate::blocks::leave_long_block;
 use crate::fault::Fault;
@@ -86,6 +86,29 @@ pub(crate) fn missing_len(bytes: &[u8]) -> usize
         return 0;
     }
     (RequestHead::BYTES + length as usize).saturating_sub(bytes.len())
+}
+
+// How many bytes the first request asks to read, where it is a READ whose header is there.
+pub(crate) fn first_read_len(bytes: &[u8]) -> u32
+    ensures first { (before : ℕ) (message : Message) (after : List ℕ)
+        → StartsWith before bytes.now message after → result ≡ read_length message.head }
+    ensures begins { 0 < result → BeginsRead bytes.now result }
+{
+    let Ok(head) = RequestHead::get(bytes) else {
+        return 0;
+    };
+    read_len(&head)
+}
+
+// How many bytes the header asks to read.
+fn read_len(head: &RequestHead) -> u32
+    ensures { result ≡ read_length head.now }
+{
+    if head.kind == Command::Read.number() {
+        head.length
+    } else {
+        0
+    }
 }
 
 // How many bytes follow the header.

@@ -1,9 +1,11 @@
 ghost use Rattle.std.specs.Prelude.{◌≡◌, ◌+◌, ◌<◌, ◌≤◌, length, None, IfSome, IfNone, IfOk, OnOk};
-ghost use Rattle.std.specs.Prelude.{OnErr};
-ghost use Rattle.nm_requests.specs.First.{HasPayload, message_of};
+ghost use Rattle.std.specs.Prelude.{OnErr, List, ℕ};
+ghost use Rattle.nm_requests.specs.First.{HasPayload, BeginsRead, message_of};
+ghost use Rattle.nm_requests.specs.Message.{Message, read_length};
+ghost use Rattle.nm_requests.specs.Stream.{StartsWith};
 
 use crate::blocks::append;
-use crate::cutting::cut_first;
+use crate::cutting::{cut_first, first_read_len};
 use crate::fault::Fault;
 use crate::request::Request;
 use bytes::BytesMut;
@@ -103,6 +105,20 @@ impl RequestReader {
             append(buffer, piece)?;
         }
         Ok(())
+    }
+
+    /// How many bytes the next request asks to read: 0 where it is no READ, or its header has not
+    /// come.
+    pub fn read_length(&self) -> u32
+        ensures first { (message : Message) (after : List ℕ)
+            → StartsWith self.now.count self.now.rest message after
+            → result ≡ read_length message.head }
+        ensures begins { 0 < result → BeginsRead self.now.rest result }
+    {
+        match &self.buffer {
+            Some(buffer) => first_read_len(buffer.as_slice()),
+            None => 0,
+        }
     }
 
     /// The next request, if all of it has come. Its payload shares the receive buffer's memory or,

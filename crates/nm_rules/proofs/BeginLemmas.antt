@@ -15,7 +15,7 @@ use Rattle.nm_fanout.specs.Laying.{data_over}
 use Rattle.nm_fanout.specs.RecordData.{FillsBlock, LiesInside, span_of}
 use Rattle.nm_fanout.proofs.DataLemmas.{FillsBlock-data_over, LiesInside-data_over}
 use Rattle.nm_fanout.specs.Record.{owes, begun}
-use Rattle.nm_fanout.specs.Records.{find_record, busy_on, unlanded, with_new}
+use Rattle.nm_fanout.specs.Records.{find_record, busy_on, unlanded, with_new, runs_in}
 use Rattle.nm_leg.specs.Leg.{LegType}
 use Rattle.nm_replay.specs.WriteLives.{NotBegun, Begun, WriteLives}
 use Rattle.nm_replay.specs.Array.{Put}
@@ -47,23 +47,23 @@ use Rattle.nm_rules.proofs.StateLemmas.{in_sync_attached, joining_attached, mast
 use Rattle.nm_rules.proofs.LowLemmas.{low-with_new}
 
 -- a write may begin on the block
-pub record MayBegin {L : Type 0} (stripe : StripeState L) (block : ℕ) : Type 0 where
+pub record MayBegin {L : Type 0} (stripe : StripeState L) (run block : ℕ) : Type 0 where
   pub runs : stripe.stopped ≡ false
   pub not_settling : stripe.settling ≡ false
   pub free : busy_on block stripe.records ≡ None
   pub not_copied_now : is_copied_now block stripe ≡ false
-  pub few : length stripe.records < 256
+  pub few : run ≡ stripe.tickets → runs_in stripe.records < 256
   pub below : next_number stripe + unlanded stripe.records < 2 ^ 63
 
-pub may_begin : {L : Type 0} (stripe : StripeState L) (block : ℕ) → begin_cause stripe block ≡ None → MayBegin stripe block
+pub may_begin : {L : Type 0} (stripe : StripeState L) (block : ℕ) → begin_cause stripe block ≡ None → MayBegin stripe stripe.tickets block
 may_begin stripe block none =
     let rows = none_holds (begin_rows stripe block) none in
     record {
       runs = when_off stripe.stopped Stopped rows.0;
       not_settling = when_off stripe.settling Settling rows.1.0;
-      free = map_off (λ (r : Record). Busy r.ticket) (busy_on block stripe.records) rows.1.1.0;
+      free = map_off (λ (r : Record). Busy r.run) (busy_on block stripe.records) rows.1.1.0;
       not_copied_now = not_copied block stripe rows.1.1.1.0;
-      few = below 256 (length stripe.records) (when_off (is_full stripe) Full rows.1.1.1.1.0);
+      few = λ is. below 256 (runs_in stripe.records) (when_off (is_full stripe) Full rows.1.1.1.1.0);
       below = below (2 ^ 63) (next_number stripe + unlanded stripe.records) (when_off (is_exhausted stripe) Exhausted rows.1.1.1.1.1.0);
     }
 
@@ -72,13 +72,13 @@ unclear : (now was : Bool) → (now ≡ true → was ≡ true) → was ≡ false
 unclear true was back not_was = absurd (let is = back refl in let clash : true ≡ false = sym is ∙ not_was in cc)
 unclear false was back not_was = refl
 
-module _ {L : Type 0} (type : LegType L) (old : StripeState L) (block : ℕ) (bytes : RecordData) where
+module _ {L : Type 0} (type : LegType L) (old : StripeState L) (run block : ℕ) (bytes : RecordData) where
   -- the new write's record
   abbrev pub new_record : Record
-  new_record = begun old.tickets block bytes (targets block (table old))
+  new_record = begun run old.tickets block bytes (targets block (table old))
 
   abbrev begun_state : StripeState L
-  begun_state = after_begin old block bytes
+  begun_state = after_begin old run block bytes
 
   abbrev region : ℕ
   region = block / old.place.region
@@ -120,7 +120,7 @@ module _ {L : Type 0} (type : LegType L) (old : StripeState L) (block : ℕ) (by
     in_sync = λ leg is. ap (λ (l : LegRegions). leg_flags.has_behind l) (begin-attached leg (in_sync_attached type.model old k leg is)) ∙ k.in_sync leg is;
   }
 
-  begin-records : HasLegs type.model old → HasRecords old → MayBegin old block → block < old.place.blocks → FillsBlock bytes → LiesInside (span_of bytes) → HasRecords begun_state
+  begin-records : HasLegs type.model old → HasRecords old → MayBegin old run block → block < old.place.blocks → FillsBlock bytes → LiesInside (span_of bytes) → HasRecords begun_state
   begin-records has_legs k may inside fills lies = record {
     in_order = AreInOrder-with_new new_record old.records may.few k.tickets (record { filled = fills; inside = lies; places = refl }) k.in_order;
     tickets = AllBelow-with_new new_record old.records k.tickets;
@@ -147,7 +147,7 @@ module _ {L : Type 0} (type : LegType L) (old : StripeState L) (block : ℕ) (by
       let other : has_copied leg region (place_of block (table old)) old.copy ≡ false = not_copying type.model old has_legs chunk leg region (place_of block (table old)) out in
       rw (behind, other) refl
 
-  begin-writes : HasLegs type.model old → HasRecords old → HasChunk old.copy old.chunk old → HasWrites old → MayBegin old block → block < old.place.blocks → HasWrites begun_state
+  begin-writes : HasLegs type.model old → HasRecords old → HasChunk old.copy old.chunk old → HasWrites old → MayBegin old run block → block < old.place.blocks → HasWrites begun_state
   begin-writes has_legs records chunk k may inside = record {
     owed = λ t r leg at owes_leg. begin-current leg r.block ∙ ⊎_elim
         (λ new. subst (λ (x : Record). is_current leg x.block old ≡ true) (sym new.1) (owes_current (table old) block leg (subst (λ (x : Record). owes leg x ≡ true) new.1 owes_leg)))
@@ -173,7 +173,7 @@ module _ {L : Type 0} (type : LegType L) (old : StripeState L) (block : ℕ) (by
       (λ c h is. record { long = is.long; some = is.some; most = is.most; more = is.more; read_first = is.read_first })
       k
 
-  begin-numbers : HasNumbers old → MayBegin old block → HasNumbers begun_state
+  begin-numbers : HasNumbers old → MayBegin old run block → HasNumbers begun_state
   begin-numbers k may = record {
     start = k.start;
     starts = k.starts;
@@ -219,7 +219,7 @@ module _ {L : Type 0} (type : LegType L) (old : StripeState L) (block : ℕ) (by
         };
   }
 
-  pub begin-keeps : Keeps type old → MayBegin old block → block < old.place.blocks → FillsBlock bytes → LiesInside (span_of bytes) → (IsTrue type.honest → RecordFits new_record (stripe_array type.model old)) → Keeps type begun_state
+  pub begin-keeps : Keeps type old → MayBegin old run block → block < old.place.blocks → FillsBlock bytes → LiesInside (span_of bytes) → (IsTrue type.honest → RecordFits new_record (stripe_array type.model old)) → Keeps type begun_state
   begin-keeps k may inside fills lies fits = record {
     legs = begin-legs k.legs;
     records = begin-records k.legs k.records may inside fills lies;
@@ -285,7 +285,7 @@ module _ {L : Type 0} (type : LegType L) (old new : StripeState L) (block : ℕ)
     mid-keeps : Keeps type mid
     mid-keeps = called-keeps type old new.legs mid-same k
 
-    may : MayBegin mid block
+    may : MayBegin mid mid.tickets block
     may = may_begin mid block b.no_cause
 
     -- the base is what the array has at the block
@@ -303,15 +303,15 @@ module _ {L : Type 0} (type : LegType L) (old new : StripeState L) (block : ℕ)
     begun-keeps : block < old.place.blocks → FitsBlock bytes → Keeps type new
     begun-keeps inside fits =
         subst (λ s. Keeps type s) (sym b.after)
-        (begin-keeps type mid block (data_over bytes b.base) mid-keeps may inside (FillsBlock-data_over bytes b.base b.filled fits) (LiesInside-data_over bytes b.base fits)
+        (begin-keeps type mid mid.tickets block (data_over bytes b.base) mid-keeps may inside (FillsBlock-data_over bytes b.base b.filled fits) (LiesInside-data_over bytes b.base fits)
         (λ is_honest. fits-over old.tickets block bytes b.base (stripe_array type.model mid) b.filled fits (base-inside inside) (base-at is_honest)))
 
     -- and is explained by the begin of its write
     begun-acts : FitsBlock bytes → IsTrue type.honest → Acts type.model old new (BeginsWrite ticket block (put_of_data bytes) ∷ [])
     begun-acts fits is_honest =
-        let begin : Event = BeginsWrite old.tickets block (put_by (new_record type mid block (data_over bytes b.base))) in
+        let begin : Event = BeginsWrite old.tickets block (put_by (new_record type mid mid.tickets block (data_over bytes b.base))) in
         let acts : Acts type.model old new (begin ∷ []) = subst (λ s. Acts type.model old s (begin ∷ [])) (sym b.after)
-        (acts-append type.model old mid (after_begin mid block (data_over bytes b.base)) [] (begin ∷ []) (called-acts type old new.legs mid-same is_honest k) (begin-acts type mid block (data_over bytes b.base) mid-keeps)) in
+        (acts-append type.model old mid (after_begin mid mid.tickets block (data_over bytes b.base)) [] (begin ∷ []) (called-acts type old new.legs mid-same is_honest k) (begin-acts type mid mid.tickets block (data_over bytes b.base) mid-keeps)) in
         let put = put-over bytes b.base b.filled fits in
         subst (λ (t : ℕ). Acts type.model old new (BeginsWrite t block (put_of_data bytes) ∷ [])) (sym b.next)
         (subst (λ (p : Put). Acts type.model old new (BeginsWrite old.tickets block p ∷ [])) put acts)

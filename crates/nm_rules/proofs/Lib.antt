@@ -65,6 +65,7 @@ pub mod RunCopiedSteps
 pub mod RunCopyLemmas
 pub mod RunCopySteps
 pub mod RunFlushedLemmas
+pub mod RunFlatLemmas
 pub mod RunFormLemmas
 pub mod RunJoiningLemmas
 pub mod RunLegLemmas

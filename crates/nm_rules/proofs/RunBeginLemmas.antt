@@ -7,16 +7,17 @@ use Rattle.nm_replay.specs.Events.{BeginsWrite, Event, marks_of}
 use Rattle.nm_fanout.specs.declared.record_data.RecordData.{RecordData}
 use Rattle.nm_fanout.specs.declared.write_record.Record.{Record}
 use Rattle.nm_fanout.specs.Record.{is_under_way}
-use Rattle.nm_fanout.specs.Records.{busy_among, busy_on, is_among, unlanded}
+use Rattle.nm_fanout.specs.Records.{busy_among, busy_on, is_among, runs_in, unlanded}
 use Rattle.nm_leg.specs.Leg.{LegType}
 use Rattle.nm_regions.specs.declared.copy_place.CopyPlace.{CopyPlace}
-use Rattle.nm_rules.specs.declared.refusal.Refusal.TheVariants.{Busy, Copying, Exhausted, Settling, Stopped}
+use Rattle.nm_rules.specs.declared.refusal.Refusal.TheVariants.{Busy, Copying, Exhausted, Full, Settling, Stopped}
 use Rattle.nm_rules.specs.Acts.{Acts, IsExplainedStep}
+use Rattle.nm_rules.specs.Begin.{is_full}
 use Rattle.nm_rules.specs.Invariant.{Keeps}
 use Rattle.nm_rules.specs.RunBegin.{BeginsRun, after_begin_run, begin_run_cause, begin_run_rows, begins_of, meets_copy, puts_of}
 use Rattle.nm_rules.specs.Runs.{is_exhausted_by}
 use Rattle.nm_rules.specs.State.{Chunk, StripeState, next_number}
-use Rattle.nm_rules.proofs.CauseLemmas.{map_off, none_holds, when_off}
+use Rattle.nm_rules.proofs.CauseLemmas.{below, map_off, none_holds, when_off}
 use Rattle.nm_rules.proofs.RecordLemmas.{same}
 use Rattle.nm_rules.proofs.RunBeginSteps.{MayBeginRun, RunDone, begin_each, run-begun}
 use Rattle.nm_rules.proofs.RunBegunLemmas.{run-begun_so}
@@ -58,13 +59,13 @@ at_most a b h = grind (arith, nat_tests)
 
 -- a run may begin, and meets no copy
 pub record MayBegin {L : Type 0} (stripe : StripeState L) (block count : ℕ) : Type 0 where
-  pub may : MayBeginRun stripe block count
+  pub may : MayBeginRun stripe.tickets stripe block count
   pub apart : meets_copy stripe.place.region stripe.copy stripe.chunk block count ≡ false
 
-pub may_begin_run : {L : Type 0} (run : Record → ℕ) (stripe : StripeState L) (block count : ℕ) → length stripe.records + count ≤ 256 → begin_run_cause run stripe block count ≡ None → MayBegin stripe block count
-may_begin_run run stripe block count room none =
-    let rows = none_holds (begin_run_rows run stripe block count) none in
-    let free = map_off (λ (r : Record). Busy (run r)) (busy_among block count stripe.records) rows.1.1.0 in
+pub may_begin_run : {L : Type 0} (stripe : StripeState L) (block count : ℕ) → begin_run_cause stripe block count ≡ None → MayBegin stripe block count
+may_begin_run stripe block count none =
+    let rows = none_holds (begin_run_rows stripe block count) none in
+    let free = map_off (λ (r : Record). Busy r.run) (busy_among block count stripe.records) rows.1.1.0 in
     let apart = apart-of stripe.place.region block count stripe.copy stripe.chunk rows.1.1.1.0 in
     record {
       may = record {
@@ -72,7 +73,8 @@ may_begin_run run stripe block count room none =
         not_settling = when_off stripe.settling Settling rows.1.0;
         free = λ b low high. free-among block count b stripe.records low high free;
         not_copied_now = λ b low high. run-apart stripe.place.region stripe.copy stripe.chunk block count b apart low high;
-        few = room;
+        low = omega arith;
+        few = λ is. below 256 (runs_in stripe.records) (when_off (is_full stripe) Full rows.1.1.1.1.0);
         below = at_most (2 ^ 63) (next_number stripe + unlanded stripe.records + count) (when_off (is_exhausted_by count stripe) Exhausted rows.1.1.1.1.1.0);
       };
       apart = apart;
@@ -80,21 +82,21 @@ may_begin_run run stripe block count room none =
 
 -- a begin of at least one block is one of each
 each-begun : {L : Type 0} (type : LegType L) (ds : List RecordData) (old : StripeState L) (block : ℕ) → 0 < length ds → meets_copy old.place.region old.copy old.chunk block (length ds) ≡ false → block % old.place.region + length ds ≤ old.place.region
-    → begin_each old block ds ≡ after_begin_run old block ds
+    → begin_each old.tickets old block ds ≡ after_begin_run old block ds
 each-begun type [] old block some apart short = absurd (let e : ⊥ = omega (arith, some) in e)
-each-begun type (d ∷ ds) old block some apart short = run-begun_so type ds d old block apart short
+each-begun type (d ∷ ds) old block some apart short = run-begun_so type old.tickets ds d old block apart short
 
 marks-begins : (ticket block : ℕ) (puts : List Put) → marks_of (begins_of ticket block puts) ≡ begins_of ticket block puts
 marks-begins ticket block [] = refl
 marks-begins ticket block (put ∷ puts) = ap (λ (es : List Event). BeginsWrite ticket block put ∷ es) (marks-begins (ticket + 1) (block + 1) puts)
 
-module _ {L : Type 0} (type : LegType L) (run : Record → ℕ) (old new : StripeState L) (block : ℕ) (ds : List RecordData) (ticket : ℕ) (k : Keeps type old) (room : length old.records + length ds ≤ 256) (b : BeginsRun run old new block ds ticket) where
+module _ {L : Type 0} (type : LegType L) (old new : StripeState L) (block : ℕ) (ds : List RecordData) (ticket : ℕ) (k : Keeps type old) (b : BeginsRun old new block ds ticket) where
   begins : RunDone type old new (begins_of ticket block (puts_of ds))
   begins =
-      let may = may_begin_run run old block (length ds) room b.no_cause in
+      let may = may_begin_run old block (length ds) b.no_cause in
       subst (λ (t : ℕ). RunDone type old new (begins_of t block (puts_of ds))) (sym b.next)
       (subst (λ (s : StripeState L). RunDone type old s (begins_of old.tickets block (puts_of ds))) (each-begun type ds old block b.fits.some may.apart b.fits.one_region ∙ sym b.after)
-      (run-begun type ds old block k may.may b.fits.inside b.whole))
+      (run-begun type old.tickets ds old block k may.may b.fits.inside b.whole))
 
   -- a begin of a run keeps what every stripe keeps
   pub begins_run-keeps : Keeps type new

@@ -50,9 +50,9 @@ marks-replies : (ticket number count : ℕ) → marks_of (replies_of ticket numb
 marks-replies ticket number zero = refl
 marks-replies ticket number (suc count) = ap (λ (es : List Event). RepliesWrite ticket number ∷ es) (marks-replies (ticket + 1) (number + 1) count)
 
-module _ {L : Type 0} (type : LegType L) (run : Record → ℕ) (old new : StripeState L) (ticket : ℕ) (answer : EntryNames) (k : Keeps type old) (c : ClaimsRun run old new ticket answer) where
+module _ {L : Type 0} (type : LegType L) (old new : StripeState L) (ticket : ℕ) (answer : EntryNames) (k : Keeps type old) (c : ClaimsRun old new ticket answer) where
   abbrev all : List Record
-  all = of_run run ticket old.records
+  all = of_run ticket old.records
 
   claimed : RunDone type old new (replies_of ticket answer.number answer.count)
   claimed =

@@ -22,7 +22,8 @@ use Rattle.nm_rules.specs.RunClaim.{ClaimsRun}
 use Rattle.nm_rules.specs.RunCopy.{CopiesReadRun, CopiesWriteRun, LosesInCopyRun, after_copy_write_run, next_blocks}
 use Rattle.nm_rules.specs.RunPush.{CallsToPushRun, HaltsInPushRun, LosesInPushRun, PushesRun, after_push_run, land_each, reach_each, run_landed, run_lands, run_reached, written_by}
 use Rattle.nm_rules.specs.RunRead.{FindsRun}
-use Rattle.nm_rules.specs.Runs.{AreOwed, EntryNames, of_run, without_each}
+use Rattle.nm_rules.specs.Runs.{AreOwed, EntryNames, of_run}
+use Rattle.nm_fanout.specs.Records.{without_each}
 use Rattle.nm_rules.specs.State.{Chunk, StripeState, leg_state, next_number, table, with_table}
 use Rattle.nm_rules.proofs.CopyLemmas.{may_copy, ready-on}
 use Rattle.nm_rules.proofs.DurableLegLemmas.{calls-durable_after, calls-durable_before, calls-durable_other}
@@ -62,12 +63,12 @@ free-claimed b [] records free = free
 free-claimed b (r ∷ rs) records free = free-claimed b rs (without r.ticket records) (busy_on-without_none r.ticket b records free)
 
 -- nor as others begin
-free-begun : (b ticket block : ℕ) (owed : List Bool) (ds : List RecordData) → IsOutside block (length ds) b → busy_on b (begun_each ticket block owed ds) ≡ None
-free-begun b ticket block owed [] out = refl
-free-begun b ticket block owed (d ∷ ds) out =
+free-begun : (b run ticket block : ℕ) (owed : List Bool) (ds : List RecordData) → IsOutside block (length ds) b → busy_on b (begun_each run ticket block owed ds) ≡ None
+free-begun b run ticket block owed [] out = refl
+free-begun b run ticket block owed (d ∷ ds) out =
     let rest : IsOutside (block + 1) (length ds) b = ⊎_elim (λ low. inl (omega (arith, low))) (λ high. inr (omega (arith, high))) out in
     let other : block ≢ b = ⊎_elim (λ low. λ e. omega (arith, low, e)) (λ high. λ e. omega (arith, high, e)) out in
-    busy-other b (begun ticket block d owed) (begun_each (ticket + 1) (block + 1) owed ds) other (free-begun b (ticket + 1) (block + 1) owed ds rest)
+    busy-other b (begun run ticket block d owed) (begun_each run (ticket + 1) (block + 1) owed ds) other (free-begun b run (ticket + 1) (block + 1) owed ds rest)
 
 -- a step leaves the block free, the master and the states
 record Parts {L : Type 0} (b : ℕ) (old new : StripeState L) : Type 0 where
@@ -95,16 +96,16 @@ module _ {L : Type 0} (type : LegType L) (old new : StripeState L) (b : ℕ) (wa
   parts-of_new is parts = subst (λ (s : StripeState L). Parts b old s) (sym is) parts
 
   -- a step that calls no leg
-  pub claims_run-durable : (run : Record → ℕ) (ticket : ℕ) (answer : EntryNames) → ClaimsRun run old new ticket answer → KeepsDurable type.model b old new
-  claims_run-durable run ticket answer c =
-      no-call type old new b was_free (ap (λ (s : StripeState L). busy_on b s.records) c.after ∙ free-claimed b (of_run run ticket old.records) old.records was_free)
+  pub claims_run-durable : (ticket : ℕ) (answer : EntryNames) → ClaimsRun old new ticket answer → KeepsDurable type.model b old new
+  claims_run-durable ticket answer c =
+      no-call type old new b was_free (ap (λ (s : StripeState L). busy_on b s.records) c.after ∙ free-claimed b (of_run ticket old.records) old.records was_free)
       (ap (λ (s : StripeState L). s.master) c.after) (ap (λ (s : StripeState L). s.states) c.after) (ap (λ (s : StripeState L). s.legs) c.after)
 
-  pub begins_run-durable : (run : Record → ℕ) (block : ℕ) (ds : List RecordData) (ticket : ℕ) → IsOutside block (length ds) b → BeginsRun run old new block ds ticket → KeepsDurable type.model b old new
-  begins_run-durable run block ds ticket out c =
+  pub begins_run-durable : (block : ℕ) (ds : List RecordData) (ticket : ℕ) → IsOutside block (length ds) b → BeginsRun old new block ds ticket → KeepsDurable type.model b old new
+  begins_run-durable block ds ticket out c =
       no-call type old new b was_free
       (ap (λ (s : StripeState L). busy_on b s.records) c.after
-      ∙ busy-append b old.records (begun_each old.tickets block (targets block (table old)) ds) was_free (free-begun b old.tickets block (targets block (table old)) ds out))
+      ∙ busy-append b old.records (begun_each old.tickets old.tickets block (targets block (table old)) ds) was_free (free-begun b old.tickets old.tickets block (targets block (table old)) ds out))
       (ap (λ (s : StripeState L). s.master) c.after) (ap (λ (s : StripeState L). s.states) c.after) (ap (λ (s : StripeState L). s.legs) c.after)
 
   module _ (is_honest : IsTrue type.honest) where
@@ -128,22 +129,22 @@ module _ {L : Type 0} (type : LegType L) (old new : StripeState L) (b : ℕ) (wa
         (one_or_two j leg))
 
     -- a push, whether its call went well or not, writes none but blocks that are busy
-    push-out : (run : Record → ℕ) (succeeded : Bool) (ticket leg : ℕ) (c : CallsToPushRun type run succeeded old new.legs ticket leg) → IsOutside c.block (length (written_by (of_run run ticket old.records))) b
-    push-out run succeeded ticket leg c =
-        subst (λ (n : ℕ). IsOutside c.block n b) (sym (length-written_by (of_run run ticket old.records))) (run-outside (of_run run ticket old.records) old.records ticket c.block leg b c.are was_free)
+    push-out : (succeeded : Bool) (ticket leg : ℕ) (c : CallsToPushRun type succeeded old new.legs ticket leg) → IsOutside c.block (length (written_by (of_run ticket old.records))) b
+    push-out succeeded ticket leg c =
+        subst (λ (n : ℕ). IsOutside c.block n b) (sym (length-written_by (of_run ticket old.records))) (run-outside (of_run ticket old.records) old.records ticket c.block leg b c.are was_free)
 
-    push-called : (run : Record → ℕ) (succeeded : Bool) (ticket leg : ℕ) → CallsToPushRun type run succeeded old new.legs ticket leg → Parts b old new → KeepsDurable type.model b old new
-    push-called run succeeded ticket leg c parts =
+    push-called : (succeeded : Bool) (ticket leg : ℕ) → CallsToPushRun type succeeded old new.legs ticket leg → Parts b old new → KeepsDurable type.model b old new
+    push-called succeeded ticket leg c parts =
         let w = c.writes in
-        let out = push-out run succeeded ticket leg c in
+        let out = push-out succeeded ticket leg c in
         called-same leg w.before w.after w.change (w.writes.others is_honest b out) (w.writes.durable_others is_honest b out) parts
 
-    pub pushes_run-durable : (run : Record → ℕ) (ticket leg : ℕ) → PushesRun type run old new ticket leg → KeepsDurable type.model b old new
-    pushes_run-durable run ticket leg p = push-called run true ticket leg p.called (parts-of_new p.after (push-parts b old new.legs (of_run run ticket old.records) leg was_free))
+    pub pushes_run-durable : (ticket leg : ℕ) → PushesRun type old new ticket leg → KeepsDurable type.model b old new
+    pushes_run-durable ticket leg p = push-called true ticket leg p.called (parts-of_new p.after (push-parts b old new.legs (of_run ticket old.records) leg was_free))
 
     -- also where the stripe stops
-    pub halts_run-durable : (run : Record → ℕ) (ticket leg : ℕ) → HaltsInPushRun type run old new ticket leg → KeepsDurable type.model b old new
-    halts_run-durable run ticket leg h = push-called run false ticket leg h.called (parts-of_new h.after (record { free = was_free; master = refl; states = refl }))
+    pub halts_run-durable : (ticket leg : ℕ) → HaltsInPushRun type old new ticket leg → KeepsDurable type.model b old new
+    halts_run-durable ticket leg h = push-called false ticket leg h.called (parts-of_new h.after (record { free = was_free; master = refl; states = refl }))
 
     -- a read
     pub finds_run-durable : (block : ℕ) (bs : List Block) (names : EntryNames) → FindsRun type old new block bs names → KeepsDurable type.model b old new
@@ -176,10 +177,10 @@ module _ {L : Type 0} (type : LegType L) (old new : StripeState L) (b : ℕ) (wa
 
     -- a leg that goes out, as the call of a run failed
     module _ (kn : Keeps type new) (is_honest : IsTrue type.honest) (inside : b < old.place.blocks) where
-      pub loses_in_push_run-durable : (run : Record → ℕ) (ticket leg : ℕ) → LosesInPushRun type run old new ticket leg → KeepsDurable type.model b old new
-      loses_in_push_run-durable run ticket leg l =
+      pub loses_in_push_run-durable : (ticket leg : ℕ) → LosesInPushRun type old new ticket leg → KeepsDurable type.model b old new
+      loses_in_push_run-durable ticket leg l =
           let w = l.called.writes in
-          called-durable type old new b was_free k kn is_honest inside leg w.before w.after w.change (may_push_run run old ticket leg l.called.no_cause).runs
+          called-durable type old new b was_free k kn is_honest inside leg w.before w.after w.change (may_push_run old ticket leg l.called.no_cause).runs
           (parts-of type old new b was_free k kn is_honest inside leg new.legs l.after)
 
       pub loses_in_copy_run-durable : (leg gone most : ℕ) → LosesInCopyRun type old new leg gone most → KeepsDurable type.model b old new

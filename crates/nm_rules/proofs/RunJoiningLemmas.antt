@@ -59,24 +59,24 @@ copied-place {L} old legs chunk count =
 
 module _ {L : Type 0} (type : LegType L) (old new : StripeState L) where
   -- the shape stays
-  pub begins_run-shape : (run : Record → ℕ) (block : ℕ) (ds : List RecordData) (ticket : ℕ) → BeginsRun run old new block ds ticket → SameShape old new
-  begins_run-shape run block ds ticket b = record { place = ap (λ (s : StripeState L). s.place) b.after; legs = ap (λ (s : StripeState L). length s.legs) b.after }
+  pub begins_run-shape : (block : ℕ) (ds : List RecordData) (ticket : ℕ) → BeginsRun old new block ds ticket → SameShape old new
+  begins_run-shape block ds ticket b = record { place = ap (λ (s : StripeState L). s.place) b.after; legs = ap (λ (s : StripeState L). length s.legs) b.after }
 
-  pub claims_run-shape : (run : Record → ℕ) (ticket : ℕ) (answer : EntryNames) → ClaimsRun run old new ticket answer → SameShape old new
-  claims_run-shape run ticket answer c = record { place = ap (λ (s : StripeState L). s.place) c.after; legs = ap (λ (s : StripeState L). length s.legs) c.after }
+  pub claims_run-shape : (ticket : ℕ) (answer : EntryNames) → ClaimsRun old new ticket answer → SameShape old new
+  claims_run-shape ticket answer c = record { place = ap (λ (s : StripeState L). s.place) c.after; legs = ap (λ (s : StripeState L). length s.legs) c.after }
 
-  pub pushes_run-shape : (run : Record → ℕ) (ticket leg : ℕ) → PushesRun type run old new ticket leg → SameShape old new
-  pushes_run-shape run ticket leg p =
+  pub pushes_run-shape : (ticket leg : ℕ) → PushesRun type old new ticket leg → SameShape old new
+  pushes_run-shape ticket leg p =
       let w = p.called.writes in
-      record { place = ap (λ (s : StripeState L). s.place) p.after ∙ push-place old new.legs (of_run run ticket old.records) leg; legs = calls-length type.model old.legs new.legs leg w.before w.after w.change }
+      record { place = ap (λ (s : StripeState L). s.place) p.after ∙ push-place old new.legs (of_run ticket old.records) leg; legs = calls-length type.model old.legs new.legs leg w.before w.after w.change }
 
-  pub halts_run-shape : (run : Record → ℕ) (ticket leg : ℕ) → HaltsInPushRun type run old new ticket leg → SameShape old new
-  halts_run-shape run ticket leg h =
+  pub halts_run-shape : (ticket leg : ℕ) → HaltsInPushRun type old new ticket leg → SameShape old new
+  halts_run-shape ticket leg h =
       let w = h.called.writes in
       record { place = ap (λ (s : StripeState L). s.place) h.after; legs = calls-length type.model old.legs new.legs leg w.before w.after w.change }
 
-  pub loses_in_push_run-shape : (run : Record → ℕ) (ticket leg : ℕ) → LosesInPushRun type run old new ticket leg → SameShape old new
-  loses_in_push_run-shape run ticket leg l =
+  pub loses_in_push_run-shape : (ticket leg : ℕ) → LosesInPushRun type old new ticket leg → SameShape old new
+  loses_in_push_run-shape ticket leg l =
       let w = l.called.writes in
       lost-shape type old new leg (calls-length type.model old.legs new.legs leg w.before w.after w.change) l.after
 
@@ -103,24 +103,24 @@ module _ {L : Type 0} (type : LegType L) (old new : StripeState L) where
 
   -- what is left to copy to the leg j stays
   module _ (j : ℕ) where
-    pub begins_run-work : (run : Record → ℕ) (block : ℕ) (ds : List RecordData) (ticket : ℕ) → Keeps type old → leg_state j old ≡ Joining → BeginsRun run old new block ds ticket → KeepsWork j old new
-    begins_run-work run block ds ticket k joins b =
+    pub begins_run-work : (block : ℕ) (ds : List RecordData) (ticket : ℕ) → Keeps type old → leg_state j old ≡ Joining → BeginsRun old new block ds ticket → KeepsWork j old new
+    begins_run-work block ds ticket k joins b =
         let region : ℕ = region_of block (table old) in
         let same_flag : get_or (map (marked_if_out region) old.flags) j no_leg ≡ leg_at j (table old) =
         mark-leg region j old.flags ∙ mark-stays region (leg_at j (table old)) (joining_attached type.model old k.legs j joins) in
         subst (λ (s : StripeState L). KeepsWork j old s) (sym b.after) (parts-work j old (after_begin_run old block ds) refl (ap (λ (l : LegRegions). l.behind) same_flag) refl refl refl)
 
-    pub claims_run-work : (run : Record → ℕ) (ticket : ℕ) (answer : EntryNames) → ClaimsRun run old new ticket answer → KeepsWork j old new
-    claims_run-work run ticket answer c = same-parts j old new c.after refl refl refl refl
+    pub claims_run-work : (ticket : ℕ) (answer : EntryNames) → ClaimsRun old new ticket answer → KeepsWork j old new
+    claims_run-work ticket answer c = same-parts j old new c.after refl refl refl refl
 
-    pub pushes_run-work : (run : Record → ℕ) (ticket leg : ℕ) → PushesRun type run old new ticket leg → KeepsWork j old new
-    pushes_run-work run ticket leg p = subst (λ (s : StripeState L). KeepsWork j old s) (sym p.after) (push-work j old new.legs (of_run run ticket old.records) leg)
+    pub pushes_run-work : (ticket leg : ℕ) → PushesRun type old new ticket leg → KeepsWork j old new
+    pushes_run-work ticket leg p = subst (λ (s : StripeState L). KeepsWork j old s) (sym p.after) (push-work j old new.legs (of_run ticket old.records) leg)
 
-    pub halts_run-work : (run : Record → ℕ) (ticket leg : ℕ) → HaltsInPushRun type run old new ticket leg → KeepsWork j old new
-    halts_run-work run ticket leg h = same-parts j old new h.after refl refl refl refl
+    pub halts_run-work : (ticket leg : ℕ) → HaltsInPushRun type old new ticket leg → KeepsWork j old new
+    halts_run-work ticket leg h = same-parts j old new h.after refl refl refl refl
 
-    pub loses_in_push_run-work : (run : Record → ℕ) (ticket leg : ℕ) → leg_state j new ≡ Joining → LosesInPushRun type run old new ticket leg → KeepsWork j old new
-    loses_in_push_run-work run ticket leg joins l = lost-step j old new new.legs leg joins l.after
+    pub loses_in_push_run-work : (ticket leg : ℕ) → leg_state j new ≡ Joining → LosesInPushRun type old new ticket leg → KeepsWork j old new
+    loses_in_push_run-work ticket leg joins l = lost-step j old new new.legs leg joins l.after
 
     pub finds_run-work : (block : ℕ) (bs : List Block) (names : EntryNames) → FindsRun type old new block bs names → KeepsWork j old new
     finds_run-work block bs names f = same-parts j old new f.after refl refl refl refl

@@ -32,26 +32,26 @@ use Rattle.nm_rules.proofs.RunPushSteps.{RunReached, after_each, length-written_
 use Rattle.nm_rules.proofs.StateLemmas.{attached_inside}
 
 -- the record that is found first is the first of its run
-found-of : (run : Record → ℕ) (ticket : ℕ) (rs : List Record) (r : Record) → find_run run ticket rs ≡ Some r → (more : List Record) × (of_run run ticket rs ≡ r ∷ more)
-found-of run ticket [] r found = cc
-found-of run ticket (q ∷ rs) r found =
-    (elim (run q == ticket) as (λ b. cond b (Some q) (find_run run ticket rs) ≡ Some r → (more : List Record) × (cond b (q ∷ of_run run ticket rs) (of_run run ticket rs) ≡ r ∷ more)) [
-      | true ↦ λ is. (of_run run ticket rs, ap (λ (x : Record). x ∷ of_run run ticket rs) (same_Some q r is))
-      | false ↦ λ is. found-of run ticket rs r is
+found-of : (ticket : ℕ) (rs : List Record) (r : Record) → find_run ticket rs ≡ Some r → (more : List Record) × (of_run ticket rs ≡ r ∷ more)
+found-of ticket [] r found = cc
+found-of ticket (q ∷ rs) r found =
+    (elim (q.run == ticket) as (λ b. cond b (Some q) (find_run ticket rs) ≡ Some r → (more : List Record) × (cond b (q ∷ of_run ticket rs) (of_run ticket rs) ≡ r ∷ more)) [
+      | true ↦ λ is. (of_run ticket rs, ap (λ (x : Record). x ∷ of_run ticket rs) (same_Some q r is))
+      | false ↦ λ is. found-of ticket rs r is
     ]) found
 
 -- the run of this ticket may be pushed
-pub record MayPushRun {L : Type 0} (run : Record → ℕ) (stripe : StripeState L) (ticket : ℕ) : Type 0 where
+pub record MayPushRun {L : Type 0} (stripe : StripeState L) (ticket : ℕ) : Type 0 where
   pub runs : stripe.stopped ≡ false
   pub first : Record
   pub more : List Record
-  pub all : of_run run ticket stripe.records ≡ first ∷ more
+  pub all : of_run ticket stripe.records ≡ first ∷ more
 
-pub may_push_run : {L : Type 0} (run : Record → ℕ) (stripe : StripeState L) (ticket leg : ℕ) → push_run_cause run stripe ticket leg ≡ None → MayPushRun run stripe ticket
-may_push_run run stripe ticket leg none =
-    let rows = none_holds (push_run_rows run stripe ticket leg) none in
-    let at = is_there (find_run run ticket stripe.records) (when_off (is_none (find_run run ticket stripe.records)) NoTicket rows.1.0) in
-    let found = found-of run ticket stripe.records at.0 at.1 in
+pub may_push_run : {L : Type 0} (stripe : StripeState L) (ticket leg : ℕ) → push_run_cause stripe ticket leg ≡ None → MayPushRun stripe ticket
+may_push_run stripe ticket leg none =
+    let rows = none_holds (push_run_rows stripe ticket leg) none in
+    let at = is_there (find_run ticket stripe.records) (when_off (is_none (find_run ticket stripe.records)) NoTicket rows.1.0) in
+    let found = found-of ticket stripe.records at.0 at.1 in
     record { runs = when_off stripe.stopped Stopped rows.0; first = at.0; more = found.0; all = found.1 }
 
 some-none : (e : Option ℕ) → is_none e ≡ not (is_some e)
@@ -84,15 +84,15 @@ module _ {L : Type 0} (type : LegType L) (old : StripeState L) (leg : ℕ) (k : 
         | false ↦ λ all. ap (λ (b : Bool). cond b (run_landed old legs (r ∷ rs) leg) (run_reached old legs (r ∷ rs) leg)) all.0 ∙ sym (run-stays legs leg rs r old all)
       ]) (all-land (r ∷ rs) ticket block are)
 
-module _ {L : Type 0} (type : LegType L) (run : Record → ℕ) (old new : StripeState L) (ticket leg : ℕ) (k : Keeps type old) where
+module _ {L : Type 0} (type : LegType L) (old new : StripeState L) (ticket leg : ℕ) (k : Keeps type old) where
   abbrev all : List Record
-  all = of_run run ticket old.records
+  all = of_run ticket old.records
 
   -- a push of a run that reached its leg
-  module _ (p : PushesRun type run old new ticket leg) where
+  module _ (p : PushesRun type old new ticket leg) where
     reaches : RunReached type.honest (seen type.model old) (seen type.model new)
     reaches =
-        let may = may_push_run run old ticket leg p.called.no_cause in
+        let may = may_push_run old ticket leg p.called.no_cause in
         let rs : List Record = may.first ∷ may.more in
         let are : AreOwed ticket p.called.block leg rs old.records = subst (λ (qs : List Record). AreOwed ticket p.called.block leg qs old.records) may.all p.called.are in
         let writes : WritesRunAt type true leg p.called.block (written_by rs) old.legs new.legs = subst (λ (qs : List Record). WritesRunAt type true leg p.called.block (written_by qs) old.legs new.legs) may.all p.called.writes in
@@ -122,10 +122,10 @@ module _ {L : Type 0} (type : LegType L) (run : Record → ℕ) (old new : Strip
       subst (λ (n : ℕ). is_behind (n / old.place.region) (dirty_and_out (table old).writes (leg_at leg (table old))) ≡ true) is (dirty r.ticket r are.2 (owes-under_way leg r are.3)))
       (cases_lt block b)
 
-  module _ (p : LosesInPushRun type run old new ticket leg) where
+  module _ (p : LosesInPushRun type old new ticket leg) where
     lost-all : Loses type old new.legs leg
     lost-all =
-        let may = may_push_run run old ticket leg p.called.no_cause in
+        let may = may_push_run old ticket leg p.called.no_cause in
         let first : AreOwed ticket p.called.block leg (may.first ∷ may.more) old.records = subst (λ (qs : List Record). AreOwed ticket p.called.block leg qs old.records) may.all p.called.are in
         let attached : is_out (leg_state leg old) ≡ false = current_attached type old k leg may.first.block (k.writes.owed may.first.ticket may.first leg first.2 first.3) in
         let marks = dirty-marks type.model old leg k.legs k.records (attached_inside type.model old k.legs leg attached) in
@@ -146,7 +146,7 @@ module _ {L : Type 0} (type : LegType L) (run : Record → ℕ) (old new : Strip
     push_run_lost-acts is_honest = subst (λ (s : StripeState L). IsExplainedStep type.model [] old s) (sym p.after) (lost-acts type old new.legs leg lost-all is_honest)
 
   -- a push of a run whose leg failed, the last one in sync
-  pub halts_run-keeps : HaltsInPushRun type run old new ticket leg → Keeps type new
+  pub halts_run-keeps : HaltsInPushRun type old new ticket leg → Keeps type new
   halts_run-keeps h =
       let w = h.called.writes in
       subst (λ (s : StripeState L). Keeps type s) (sym h.after)

@@ -16,13 +16,10 @@ use Rattle.nm_regions.specs.Table.{region_of, targets}
 use Rattle.nm_rules.specs.declared.refusal.Refusal.{Refusal}
 use Rattle.nm_rules.specs.declared.refusal.Refusal.TheVariants.{Busy, Copying, Settling, Full}
 use Rattle.nm_rules.specs.declared.refusal.Refusal.TheVariants.{Stopped, Exhausted}
+use Rattle.nm_rules.specs.Begin.{is_full}
 use Rattle.nm_rules.specs.Cause.{when, first_cause}
-use Rattle.nm_rules.specs.Runs.{FitsRun, is_exhausted_by, runs_in}
+use Rattle.nm_rules.specs.Runs.{FitsRun, is_exhausted_by}
 use Rattle.nm_rules.specs.State.{Chunk, StripeState, copy_start, table}
-
--- there are as many runs as there may be
-abbrev pub is_full_of_runs : {L : Type 0} → (Record → ℕ) → StripeState L → Bool
-is_full_of_runs run stripe = nat_le 256 (runs_in run stripe.records)
 
 -- how many blocks an open chunk has; none where none is open
 abbrev pub chunk_length : Option Chunk → ℕ
@@ -44,21 +41,21 @@ copying_run first count stripe =
     then option_map (λ c. Copying c.leg) stripe.copy else None
 
 -- the conditions for a refusal of a begin on so many blocks, in the order in which they are tested
-abbrev pub begin_run_rows : {L : Type 0} → (Record → ℕ) → StripeState L → ℕ → ℕ
+abbrev pub begin_run_rows : {L : Type 0} → StripeState L → ℕ → ℕ
     → List (Option Refusal)
-begin_run_rows run stripe first count =
+begin_run_rows stripe first count =
     when stripe.stopped Stopped
     ∷ when stripe.settling Settling
-    ∷ option_map (λ r. Busy (run r)) (busy_among first count stripe.records)
+    ∷ option_map (λ r. Busy r.run) (busy_among first count stripe.records)
     ∷ copying_run first count stripe
-    ∷ when (is_full_of_runs run stripe) Full
+    ∷ when (is_full stripe) Full
     ∷ when (is_exhausted_by count stripe) Exhausted
     ∷ []
 
 -- why a run of so many blocks may not begin
-abbrev pub begin_run_cause : {L : Type 0} → (Record → ℕ) → StripeState L → ℕ → ℕ
+abbrev pub begin_run_cause : {L : Type 0} → StripeState L → ℕ → ℕ
     → Option Refusal
-begin_run_cause run stripe first count = first_cause (begin_run_rows run stripe first count)
+begin_run_cause stripe first count = first_cause (begin_run_rows stripe first count)
 
 -- each of the data fills a block whole
 abbrev pub AreWhole : List RecordData → Type 0
@@ -66,10 +63,10 @@ AreWhole [] = Unit {0}
 AreWhole (d ∷ ds) = FillsBlock d × (span_of d ≡ Entire) × AreWhole ds
 
 -- the records of the blocks of a run that begins: they owe the same legs
-abbrev pub begun_each : ℕ → ℕ → List Bool → List RecordData → List Record
-begun_each ticket block owed [] = []
-begun_each ticket block owed (d ∷ ds) =
-    begun ticket block d owed ∷ begun_each (ticket + 1) (block + 1) owed ds
+abbrev pub begun_each : ℕ → ℕ → ℕ → List Bool → List RecordData → List Record
+begun_each run ticket block owed [] = []
+begun_each run ticket block owed (d ∷ ds) =
+    begun run ticket block d owed ∷ begun_each run (ticket + 1) (block + 1) owed ds
 
 -- what each of the data puts into its block
 abbrev pub puts_of : List RecordData → List Put
@@ -86,14 +83,15 @@ begins_of ticket block (put ∷ puts) =
 abbrev pub after_begin_run : {L : Type 0} → StripeState L → ℕ → List RecordData → StripeState L
 after_begin_run old block ds = record old {
   flags = map (marked_if_out (region_of block (table old))) old.flags;
-  records = old.records ++ begun_each old.tickets block (targets block (table old)) ds;
+  records = old.records
+      ++ begun_each old.tickets old.tickets block (targets block (table old)) ds;
   tickets = old.tickets + length ds;
 }
 
 -- a begin of a run of these data from this block on, under this ticket; no leg is called
-pub record BeginsRun {L : Type 0} (run : Record → ℕ) (old new : StripeState L) (block : ℕ)
+pub record BeginsRun {L : Type 0} (old new : StripeState L) (block : ℕ)
     (ds : List RecordData) (ticket : ℕ) : Type 0 where
-  pub no_cause : begin_run_cause run old block (length ds) ≡ None
+  pub no_cause : begin_run_cause old block (length ds) ≡ None
   pub fits : FitsRun old.place block (length ds)
   pub whole : AreWhole ds
   pub next : ticket ≡ old.tickets

@@ -21,17 +21,17 @@ use Rattle.nm_rules.specs.Runs.{AreOwed, find_run, of_run}
 use Rattle.nm_rules.specs.State.{StripeState, is_last, next_number}
 
 -- the conditions for a refusal of a push, in the order in which they are tested
-abbrev pub push_run_rows : {L : Type 0} → (Record → ℕ) → StripeState L → ℕ → ℕ
+abbrev pub push_run_rows : {L : Type 0} → StripeState L → ℕ → ℕ
     → List (Option Refusal)
-push_run_rows run stripe ticket leg =
+push_run_rows stripe ticket leg =
     when stripe.stopped Stopped
-    ∷ when (is_none (find_run run ticket stripe.records)) NoTicket
-    ∷ option_and_then (λ r. when (not (owes leg r)) NotOwed) (find_run run ticket stripe.records)
+    ∷ when (is_none (find_run ticket stripe.records)) NoTicket
+    ∷ option_and_then (λ r. when (not (owes leg r)) NotOwed) (find_run ticket stripe.records)
     ∷ []
 
 -- why the run of this ticket may not be pushed to this leg
-abbrev pub push_run_cause : {L : Type 0} → (Record → ℕ) → StripeState L → ℕ → ℕ → Option Refusal
-push_run_cause run stripe ticket leg = first_cause (push_run_rows run stripe ticket leg)
+abbrev pub push_run_cause : {L : Type 0} → StripeState L → ℕ → ℕ → Option Refusal
+push_run_cause stripe ticket leg = first_cause (push_run_rows stripe ticket leg)
 
 -- the blocks that the records of a run leave
 abbrev pub written_by : List Record → List Block
@@ -89,30 +89,30 @@ after_push_run old legs rs leg =
 
 -- the run of this ticket may be pushed to the leg, whose one call went well or not: its records are
 -- all those that name the ticket as their run
-pub record CallsToPushRun {L : Type 0} (type : LegType L) (run : Record → ℕ) (succeeded : Bool)
+pub record CallsToPushRun {L : Type 0} (type : LegType L) (succeeded : Bool)
     (old : StripeState L) (legs : List L) (ticket leg : ℕ) : Type 0 where
-  pub no_cause : push_run_cause run old ticket leg ≡ None
+  pub no_cause : push_run_cause old ticket leg ≡ None
   pub block : ℕ
-  pub are : AreOwed ticket block leg (of_run run ticket old.records) old.records
+  pub are : AreOwed ticket block leg (of_run ticket old.records) old.records
   pub writes : WritesRunAt type succeeded leg block
-      (written_by (of_run run ticket old.records)) old.legs legs
+      (written_by (of_run ticket old.records)) old.legs legs
 
 -- a push whose leg wrote all blocks
-pub record PushesRun {L : Type 0} (type : LegType L) (run : Record → ℕ) (old new : StripeState L)
+pub record PushesRun {L : Type 0} (type : LegType L) (old new : StripeState L)
     (ticket leg : ℕ) : Type 0 where
-  pub called : CallsToPushRun type run true old new.legs ticket leg
-  pub after : new ≡ after_push_run old new.legs (of_run run ticket old.records) leg
+  pub called : CallsToPushRun type true old new.legs ticket leg
+  pub after : new ≡ after_push_run old new.legs (of_run ticket old.records) leg
 
 -- a push whose leg failed, and has gone out; the records stay
-pub record LosesInPushRun {L : Type 0} (type : LegType L) (run : Record → ℕ)
+pub record LosesInPushRun {L : Type 0} (type : LegType L)
     (old new : StripeState L) (ticket leg : ℕ) : Type 0 where
-  pub called : CallsToPushRun type run false old new.legs ticket leg
+  pub called : CallsToPushRun type false old new.legs ticket leg
   pub not_last : is_last leg old ≡ false
   pub after : new ≡ lost leg (record old { legs = new.legs })
 
 -- a push whose leg failed, the last one in sync: the stripe stops, and the records stay as they are
-pub record HaltsInPushRun {L : Type 0} (type : LegType L) (run : Record → ℕ)
+pub record HaltsInPushRun {L : Type 0} (type : LegType L)
     (old new : StripeState L) (ticket leg : ℕ) : Type 0 where
-  pub called : CallsToPushRun type run false old new.legs ticket leg
+  pub called : CallsToPushRun type false old new.legs ticket leg
   pub last : is_last leg old ≡ true
   pub after : new ≡ record old { legs = new.legs; stopped = true }

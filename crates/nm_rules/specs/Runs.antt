@@ -4,7 +4,7 @@ use Rattle.std.specs.Prelude.{◌≡◌, ℕ, ◌+◌, ◌%◌, ◌<◌, ◌≤�
 use Rattle.std.specs.Prelude.{List, [], ◌∷◌, count_by, filter, find, nat_lt, Option, Some}
 use Rattle.nm_fanout.specs.declared.write_record.Record.{Record}
 use Rattle.nm_fanout.specs.Record.{is_under_way, owes}
-use Rattle.nm_fanout.specs.Records.{find_record, unlanded, without}
+use Rattle.nm_fanout.specs.Records.{find_record, unlanded}
 use Rattle.nm_rules.specs.declared.at.At.{At}
 use Rattle.nm_rules.specs.State.{StripeState, next_number}
 
@@ -23,16 +23,12 @@ pub record EntryNames : Type 0 where
   pub count : ℕ
 
 -- the records of the run that began with this ticket
-abbrev pub of_run : (Record → ℕ) → ℕ → List Record → List Record
-of_run run ticket records = filter (λ r. run r == ticket) records
+abbrev pub of_run : ℕ → List Record → List Record
+of_run ticket records = filter (λ r. r.run == ticket) records
 
 -- the first of them
-abbrev pub find_run : (Record → ℕ) → ℕ → List Record → Option Record
-find_run run ticket records = find (λ r. run r == ticket) records
-
--- how many runs there are
-abbrev pub runs_in : (Record → ℕ) → List Record → ℕ
-runs_in run records = count_by (λ r. run r == r.ticket) records
+abbrev pub find_run : ℕ → List Record → Option Record
+find_run ticket records = find (λ r. r.run == ticket) records
 
 -- no so many numbers below 2^63 are left, but for those of the writes that have no entry yet
 abbrev pub is_exhausted_by : {L : Type 0} → ℕ → StripeState L → Bool
@@ -53,8 +49,3 @@ AreFinished ticket block number (r ∷ rs) records =
     (r.ticket ≡ ticket) × (r.block ≡ block) × (find_record r.ticket records ≡ Some r)
     × (is_under_way r ≡ false) × (r.entry ≡ Some number)
     × AreFinished (ticket + 1) (block + 1) (number + 1) rs records
-
--- the records but these
-abbrev pub without_each : List Record → List Record → List Record
-without_each [] records = records
-without_each (r ∷ rs) records = without_each rs (without r.ticket records)

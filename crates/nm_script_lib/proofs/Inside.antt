@@ -1,7 +1,9 @@
 -- The steps of a script name blocks and legs of its stripe, before and after each step.
-use Rattle.std.proofs.Common.{◌≡◌, ℕ, ◌<◌, ◌≤◌, zero, suc, List, [], ◌∷◌, length, take, replicate, get_or, Option, Some, None, refl, sym, ap, subst, ◌∙◌, arith}
+use Rattle.std.proofs.Common.{◌≡◌, ℕ, ◌+◌, ◌*◌, ◌/◌, ◌%◌, ◌<◌, ◌≤◌, zero, suc, min, List, [], ◌∷◌, length, take, replicate, get_or, Option, Some, None, refl, sym, ap, subst, ◌∙◌, arith}
 use Rattle.std.specs.List.{AllByRecursion, AllZip}
+use Rattle.std.proofs.Math.Nat.{mod-lt}
 use Rattle.std.proofs.lemmas.List.{length-replicate, take-replicate}
+use Rattle.nm_rules.specs.Runs.{FitsRun}
 use Rattle.nm_fanout.specs.declared.block_data.Data.{Data}
 use Rattle.nm_fanout.specs.declared.block_data.Data.TheVariants.{Part}
 use Rattle.nm_leg.specs.TestLegs.{of_fuse}
@@ -17,10 +19,10 @@ use Rattle.nm_script_lib.specs.declared.mirror_line.MirrorLine.{MirrorLine}
 use Rattle.nm_script_lib.specs.declared.step.Step.{Step}
 use Rattle.nm_script_lib.specs.declared.step.Step.TheVariants.{Ask}
 use Rattle.nm_script_lib.specs.declared.step.StripeStep.{StripeStep}
-use Rattle.nm_script_lib.specs.declared.step.StripeStep.TheVariants.{Begin, Zero, Patch, Push, Claim, Read, Fail, Attach, Replace, Copy, Promote, Sync}
+use Rattle.nm_script_lib.specs.declared.step.StripeStep.TheVariants.{Begin, Zero, Patch, Push, Claim, Read, Run, Get, Fail, Attach, Replace, Copy, Promote, Sync}
 use Rattle.nm_script_lib.specs.Forms.{IsLine}
-use Rattle.nm_script_lib.specs.Grammar.{IsStepLine, IsOpening, IsScript, load_form, start_form, mirror_form, step_form, patch_args, leg_form, look_form}
-use Rattle.nm_script_lib.specs.MemStripe.{MemStripe, InRange, FitsLoad, FitOpening, HasCall, IsNew, IsOpened, HasShape, IsInside, IsAsked, IsFilled, filled_block, fuse_legs}
+use Rattle.nm_script_lib.specs.Grammar.{IsStepLine, IsOpening, IsScript, load_form, start_form, mirror_form, step_form, patch_args, run_args, get_args, run_form, leg_form, look_form, most_run}
+use Rattle.nm_script_lib.specs.MemStripe.{MemStripe, InRange, FitsLoad, FitOpening, HasCall, IsNew, IsOpened, HasShape, IsInside, IsAsked, IsFilled, filled, filled_block, fuse_legs, place_of}
 use Rattle.nm_script_lib.proofs.FormLaws.{Always, line_always}
 use Rattle.nm_script_lib.proofs.Legs.{new_lengths, filled_length}
 use Rattle.nm_script_lib.proofs.Loaded.{compared_shape}
@@ -33,9 +35,11 @@ at_place P (x ∷ xs) zero d h all = all.0
 at_place P (x ∷ xs) (suc k) d h all = at_place P xs k d (omega arith) all.1
 
 -- a new stripe has the mirror's shape
-pub new_shape : (m : MirrorLine) (stripe : MemStripe) → IsNew m stripe → HasShape m stripe
-new_shape m stripe is = record {
-  blocks = ap (λ (s : MemStripe). s.place.blocks) is.state;
+pub new_shape : (m : MirrorLine) (stripe : MemStripe) → InRange m → IsNew m stripe →
+    HasShape m stripe
+new_shape m stripe range is = record {
+  region = omega (arith, range.region.0);
+  place = ap (λ (s : MemStripe). s.place) is.state;
   legs = is.legs.count;
   each = new_lengths m stripe.legs is.legs;
 }
@@ -43,7 +47,7 @@ new_shape m stripe is = record {
 -- and so has each stripe that a script opens
 pub opened_shape : (m : MirrorLine) (loads : List Load) (master : Option ℕ) (stripe : MemStripe) →
     InRange m → FitOpening m loads master → IsOpened m loads master stripe → HasShape m stripe
-opened_shape m loads None stripe range fits is = new_shape m stripe is
+opened_shape m loads None stripe range fits is = new_shape m stripe range is
 opened_shape m loads (Some master) stripe range fits is =
     compared_shape m loads is.0 master stripe range is.1 fits.1 is.2
 
@@ -70,26 +74,81 @@ cut_filled start len fill whole bytes few is cut =
     ap (λ (xs : List ℕ). let made : Data = Part start xs in made)
     (cut ∙ (ap (λ xs. take len xs) is ∙ take-replicate len 512 fill few))
 
+-- a block is a run of one
+one_fits : (m : MirrorLine) (block : ℕ) → 0 < m.region → block < m.blocks →
+    FitsRun (place_of m) block 1
+one_fits m block some low = record {
+  some = omega arith;
+  most = omega arith;
+  inside = omega (arith, low);
+  one_region = omega (arith, mod-lt block some);
+}
+
+-- the bytes of so many blocks are theirs
+filled_count : (count fill : ℕ) → length (filled count fill) / 512 ≡ count
+unfolding filled
+filled_count count fill = ap (λ n. n / 512) (length-replicate (512 * count) fill) ∙ omega arith
+
+filled_length_is : (count fill : ℕ) → length (filled count fill) ≡ 512 * count
+unfolding filled
+filled_length_is count fill = length-replicate (512 * count) fill
+
+filled_whole : (count fill : ℕ) →
+    length (filled count fill) ≡ 512 * (length (filled count fill) / 512)
+filled_whole count fill = filled_length_is count fill
+    ∙ ap (λ n. 512 * n) (sym (filled_count count fill))
+
+-- so they are room for a read of them
+room_fits : (m : MirrorLine) (block count : ℕ) → FitsRun (place_of m) block count →
+    FitsRun (place_of m) block (length (filled count 0) / 512)
+room_fits m block count fits =
+    subst (λ (n : ℕ). FitsRun (place_of m) block n) (sym (filled_count count 0)) fits
+
 -- what a step inside the mirror asks of the stripe may be asked
 pub may_ask : (m : MirrorLine) (step : StripeStep) (asked : MachineStep FuseLeg) (stripe : MemStripe) →
     HasShape m stripe → IsInside m (Ask step) → IsAsked m step asked →
     MayBeAsked of_fuse stripe asked
 may_ask m (Begin block fill) asked stripe has inside is =
-    rw (is, has.blocks) (inside, fills_block fill)
-may_ask m (Zero block) asked stripe has inside is = rw (is, has.blocks) (inside, tt)
+    let one : length (filled_block fill) / 512 ≡ 1 = ap (λ n. n / 512) (fills_block fill) in
+    rw (is, has.place) (
+      subst (λ (n : ℕ). FitsRun (place_of m) block n) (sym one) (one_fits m block has.region inside),
+      record {
+        some = omega (arith, one);
+        most = omega (arith, one);
+        whole = fills_block fill ∙ ap (λ n. 512 * n) (sym one);
+      },
+    )
+may_ask m (Zero block) asked stripe has inside is =
+    rw (is, has.place) (one_fits m block has.region inside, (omega arith, omega arith))
 may_ask m (Patch block start len fill) asked stripe has inside is =
     let size : length (replicate len fill) ≡ len = length-replicate len fill in
-    rw (is, has.blocks) (inside.0, (omega (arith, inside.1, size), omega (arith, inside.2, size)))
+    rw (is, has.place) (
+      one_fits m block has.region inside.0,
+      (omega (arith, inside.1, size), omega (arith, inside.2, size)),
+    )
 may_ask m (Push ticket leg) asked stripe has inside is = rw (is, has.legs) inside
 may_ask m (Claim ticket) asked stripe has inside is = rw is tt
-may_ask m (Read block) asked stripe has inside is = rw (is, has.blocks) inside
+may_ask m (Read block) asked stripe has inside is =
+    rw (is, has.place)
+    (room_fits m block 1 (one_fits m block has.region inside), filled_whole 1 0)
+may_ask m (Run block count fill) asked stripe has inside is =
+    rw (is, has.place) (
+      subst (λ (n : ℕ). FitsRun (place_of m) block n) (sym (filled_count count fill)) inside,
+      record {
+        some = omega (arith, inside.some, filled_count count fill);
+        most = omega (arith, inside.most, filled_count count fill);
+        whole = filled_whole count fill;
+      },
+    )
+may_ask m (Get block count) asked stripe has inside is =
+    rw (is, has.place) (room_fits m block count inside, filled_whole count 0)
 may_ask m (Fail leg) asked stripe has inside is = rw (is, has.legs) inside
 may_ask m (Attach leg) asked stripe has inside is = rw (is, has.legs) inside
 may_ask m (Copy leg) asked stripe has inside is = rw (is, has.legs) inside
 may_ask m (Promote leg) asked stripe has inside is = rw (is, has.legs) inside
 may_ask m (Sync leg) asked stripe has inside is = rw (is, has.legs) inside
 may_ask m (Replace leg fill) asked stripe has inside is =
-    rw (is.2, has.legs, has.blocks) (inside, filled_length m.blocks fill is.0 is.1)
+    rw (is.2, has.legs, has.place) (inside, filled_length m.blocks fill is.0 is.1)
 
 pub replacement_asked : (m : MirrorLine) (step : StripeStep) (leg fill : ℕ) (part : FuseLeg) →
     step ≡ Replace leg fill → IsFilled m.blocks fill part →
@@ -104,9 +163,10 @@ pub keeps_shape : (m : MirrorLine) (asked : MachineStep FuseLeg) (answer : Answe
 keeps_shape m asked answer old new has may is =
     let shape = step-shape fuse_legs asked answer old new is in
     record {
-      blocks = ap (λ at. at.blocks) shape.place ∙ has.blocks;
+      region = has.region;
+      place = shape.place ∙ has.place;
       legs = shape.legs ∙ has.legs;
-      each = step_lengths m.blocks asked answer old new has.blocks may is has.each;
+      each = step_lengths m.blocks asked answer old new (ap (λ at. at.blocks) has.place) may is has.each;
     }
 
 -- each step that a line can say is inside the mirror
@@ -134,6 +194,29 @@ patch_fits : (m : MirrorLine) → Always (IsInside m) (patch_args m)
 unfolding patch_args
 patch_fits m = λ block low start small len within fill byte. (low, omega (arith, within.0), omega (arith, within.1, small))
 
+-- a run that ends with its region does not leave it
+run_fits : (m : MirrorLine) (block count : ℕ) → block < m.blocks → 1 ≤ count
+    → count ≤ most_run m block → FitsRun (place_of m) block count
+run_fits m block count low some most = record {
+  some = omega (arith, some);
+  most = omega (arith, most);
+  inside = omega (arith, most, low);
+  one_region = omega (arith, most, some);
+}
+
+run_args_fit : (m : MirrorLine) → Always (IsInside m) (run_args m)
+unfolding run_args
+run_args_fit m =
+    λ block low count within fill byte. run_fits m block count low within.0 within.1
+
+get_args_fit : (m : MirrorLine) → Always (IsInside m) (get_args m)
+unfolding get_args
+get_args_fit m = λ block low count within. run_fits m block count low within.0 within.1
+
+run_steps_fit : (m : MirrorLine) → Always (IsInside m) (run_form m)
+unfolding run_form
+run_steps_fit m = (run_args_fit m, (get_args_fit m, leg_steps_fit m))
+
 steps_fit : (m : MirrorLine) → Always (IsInside m) (step_form m)
 unfolding step_form
 steps_fit m = (
@@ -144,7 +227,7 @@ steps_fit m = (
       patch_fits m,
       (
         (λ ticket any leg small. small),
-        ((λ ticket any. tt), ((λ block small. small), leg_steps_fit m)),
+        ((λ ticket any. tt), ((λ block small. small), run_steps_fit m)),
       ),
     ),
   ),

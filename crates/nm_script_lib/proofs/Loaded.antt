@@ -155,7 +155,8 @@ compared_shape m loads legs master stripe range are inside opens =
     (starts fuse_legs (place_of m) legs master m.first m.policy (omega (arith, inside, are.count)))
     opens.compares in
     subst (λ (s : MemStripe). HasShape m s) (sym opens.opens) (record {
-      blocks = ap (λ (s : MemStripe). s.place.blocks) stage.rest;
+      region = omega (arith, range.region.0);
+      place = ap (λ (s : MemStripe). s.place) stage.rest;
       legs = stage.count ∙ are.count;
       each = λ place leg found.
           let within = slice_get_within opens.end.legs place leg found in

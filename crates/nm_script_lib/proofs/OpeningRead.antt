@@ -6,7 +6,7 @@ use Rattle.nm_script_lib.specs.declared.load.Load.{Load}
 use Rattle.nm_script_lib.specs.declared.mirror_line.MirrorLine.{MirrorLine}
 use Rattle.nm_script_lib.specs.declared.step.Step.{Step}
 use Rattle.nm_script_lib.specs.Forms.{Form, Keyword, NoForm, IsLine}
-use Rattle.nm_script_lib.specs.Grammar.{IsStepLine, IsOpening, load_form, start_form, step_form, leg_form, look_form, has_content}
+use Rattle.nm_script_lib.specs.Grammar.{IsStepLine, IsOpening, load_form, start_form, step_form, run_form, leg_form, look_form, has_content}
 use Rattle.nm_script_lib.specs.Reading.{pieces, is_word, read, read_line, if_at_end, ◌>>=◌}
 use Rattle.nm_script_lib.specs.ScriptReading.{Opened, opening_from}
 use Rattle.nm_script_lib.proofs.FormLaws.{same_word, line_complete}
@@ -47,11 +47,11 @@ start_no_load m line master is =
     (line_complete (start_form m) line master is)
 
 loads_nothing : (m : MirrorLine) (ws : List (List ℕ)) → read (step_form m) (codes "load" ∷ ws) ≡ None
-unfolding step_form leg_form look_form
+unfolding step_form run_form leg_form look_form
 loads_nothing m ws = refl
 
 starts_nothing : (m : MirrorLine) (ws : List (List ℕ)) → read (step_form m) (codes "start" ∷ ws) ≡ None
-unfolding step_form leg_form look_form
+unfolding step_form run_form leg_form look_form
 starts_nothing m ws = refl
 
 step_no_load : (m : MirrorLine) (line : List ℕ) (s : Step) → IsStepLine m line s →

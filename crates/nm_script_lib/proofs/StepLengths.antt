@@ -6,6 +6,7 @@ use Rattle.std.proofs.lemmas.Option.{same_Some}
 use Rattle.nm_replay.proofs.Arrays.{slice_get-set_same, slice_get-set_other}
 use Rattle.nm_replay.specs.declared.block.Block.{Block}
 use Rattle.nm_fanout.specs.declared.block_data.Data.{Data}
+use Rattle.nm_fanout.specs.declared.block_data.Data.TheVariants.{Cut, Zero, Part, ZeroPart}
 use Rattle.nm_fanout.specs.Data.{is_part}
 use Rattle.nm_leg.specs.LegCalls.{EachHas}
 use Rattle.nm_leg.specs.TestLegs.{of_fuse}
@@ -17,7 +18,7 @@ use Rattle.nm_stripe.specs.declared.answer.Answer.{Answer}
 use Rattle.nm_stripe.specs.declared.answer.Answer.TheVariants.{Begun, Pushed, Complete, Halted, Written, Value, Failed, MasterChanged, Joining, Copied, Nothing, InSync, Synced, LegLost, Refused}
 use Rattle.nm_stripe.specs.declared.step.Step.{Step as MachineStep}
 use Rattle.nm_stripe.specs.declared.step.Step.TheVariants.{Begin, Push, Claim, Read, Fail, Attach, Replace, Copy, Promote, Sync}
-use Rattle.nm_stripe.specs.Begin.{RefusesBegin, ForCause as BeginCause, ForFault as BeginFault}
+use Rattle.nm_stripe.specs.Begin.{BeginsWith, RefusesBegin, ForCause as BeginCause, ForFault as BeginFault}
 use Rattle.nm_stripe.specs.Copy.{RefusesCopy, ForCause as CopyCause, ForFault as CopyFault}
 use Rattle.nm_stripe.specs.Read.{RefusesRead, ForCause as ReadCause, ForFault as ReadFault}
 use Rattle.nm_stripe.specs.Sync.{RefusesSync, ForCause as SyncCause, ForFault as SyncFault}
@@ -63,9 +64,15 @@ begin_long : (blocks : ℕ) (part : Bool) (old : MemStripe) (legs : List FuseLeg
 begin_long blocks false old legs block base stays long = subst (λ (ls : List FuseLeg). EachHas of_fuse ls blocks) (sym stays) long
 begin_long blocks true old legs block base reads long = reads.change.lengths blocks long
 
-read_refused : (blocks : ℕ) (old new : MemStripe) (block : ℕ) (given : Refusal) → RefusesRead fuse_legs old new block given → Long blocks old → Long blocks new
-read_refused blocks old new block given (ReadCause cause is) long = same blocks old new is long
-read_refused blocks old new block given (ReadFault is found fails) long = fails.called.reads.change.lengths blocks long
+begins_long : (blocks : ℕ) (old new : MemStripe) (block : ℕ) (bytes : Data) (ticket : ℕ) → BeginsWith fuse_legs old new block bytes ticket → Long blocks old → Long blocks new
+begins_long blocks old new block (Cut cut) ticket is long = same_legs blocks old new (ap (λ (s : MemStripe). s.legs) is.after) long
+begins_long blocks old new block (Zero count) ticket is long = same_legs blocks old new (ap (λ (s : MemStripe). s.legs) is.after) long
+begins_long blocks old new block (Part start bytes) ticket is long = begin_long blocks true old new.legs block is.base is.reads long
+begins_long blocks old new block (ZeroPart start len) ticket is long = begin_long blocks true old new.legs block is.base is.reads long
+
+read_refused : (blocks : ℕ) (old new : MemStripe) (block : ℕ) (was left : List ℕ) (given : Refusal) → RefusesRead fuse_legs old new block was left given → Long blocks old → Long blocks new
+read_refused blocks old new block was left given (ReadCause cause is stays) long = same blocks old new is long
+read_refused blocks old new block was left given (ReadFault is fails) long = fails.called.reads.change.lengths blocks long
 
 copy_refused : (blocks : ℕ) (old new : MemStripe) (leg : ℕ) (given : Refusal) → RefusesCopy fuse_legs old new leg given → Long blocks old → Long blocks new
 copy_refused blocks old new leg given (CopyCause cause is) long = same blocks old new is long
@@ -78,7 +85,7 @@ sync_refused blocks old new leg given (SyncFault is fails) long = fails.called.s
 pub step_lengths : (blocks : ℕ) (step : MachineStep FuseLeg) (answer : Answer FuseLeg)
     (old new : MemStripe) → old.place.blocks ≡ blocks → MayBeAsked of_fuse old step →
     StepOf fuse_legs step answer old new → Long blocks old → Long blocks new
-step_lengths blocks (Begin block bytes) (Begun ticket) old new size may is long = begin_long blocks (is_part bytes) old new.legs block is.base is.reads long
+step_lengths blocks (Begin block bytes) (Begun ticket) old new size may is long = begins_long blocks old new block bytes ticket is long
 step_lengths blocks (Begin block bytes) (LegLost gone handed) old new size may is long = is.0.called.reads.change.lengths blocks long
 step_lengths blocks (Begin block bytes) (Refused cause handed) old new size may is long = begin_refused blocks old new block bytes cause is.0 long
 step_lengths blocks (Push ticket leg) (Pushed count) old new size may is long = is.0.called.writes.change.lengths blocks long
@@ -88,9 +95,9 @@ step_lengths blocks (Push ticket leg) Halted old new size may is long = is.calle
 step_lengths blocks (Push ticket leg) (Refused cause handed) old new size may is long = same blocks old new is.2 long
 step_lengths blocks (Claim ticket) (Written written) old new size may is long = same_legs blocks old new (ap (λ (s : MemStripe). s.legs) is.after) long
 step_lengths blocks (Claim ticket) (Refused cause handed) old new size may is long = same blocks old new is.2 long
-step_lengths blocks (Read block) (Value value) old new size may is long = is.called.reads.change.lengths blocks long
-step_lengths blocks (Read block) (LegLost gone handed) old new size may is long = is.1.1.called.reads.change.lengths blocks long
-step_lengths blocks (Read block) (Refused cause handed) old new size may is long = read_refused blocks old new block cause is.0 long
+step_lengths blocks (Read block room) (Value value) old new size may is long = is.0.called.reads.change.lengths blocks long
+step_lengths blocks (Read block room) (LegLost gone handed) old new size may is long = is.1.called.reads.change.lengths blocks long
+step_lengths blocks (Read block room) (Refused cause handed) old new size may is long = read_refused blocks old new block room is.0 cause is.1 long
 step_lengths blocks (Fail leg) Failed old new size may is long = same_legs blocks old new (ap (λ (s : MemStripe). s.legs) is.0.after ∙ lost_legs leg old) long
 step_lengths blocks (Fail leg) (MasterChanged master) old new size may is long = same_legs blocks old new (ap (λ (s : MemStripe). s.legs) is.0.after ∙ lost_legs leg old) long
 step_lengths blocks (Fail leg) (Refused cause handed) old new size may is long = same blocks old new is.2 long

@@ -1,5 +1,6 @@
 -- The script language: which bytes are a script, and what it says.
-use Rattle.std.specs.Prelude.{◌≡◌, ℕ, ◌^◌, ◌-◌, Bool, false, List, [], ◌∷◌, ◌==◌, not, IsUtf8}
+use Rattle.std.specs.Prelude.{◌≡◌, ℕ, ◌^◌, ◌-◌, ◌%◌, Bool, false, List, [], ◌∷◌, ◌==◌, not, min}
+use Rattle.std.specs.Prelude.{IsUtf8}
 use Rattle.std.specs.Prelude.{codes, filter, ◌++◌, Option, None, Some}
 use Rattle.std.specs.List.{AllZip, AllByRecursion}
 use Rattle.nm_script_lib.specs.declared.load.Load.{Load}
@@ -9,6 +10,7 @@ use Rattle.nm_script_lib.specs.declared.step.Step.TheVariants.{Ask, Fuse, Peek, 
 use Rattle.nm_script_lib.specs.declared.step.StripeStep.TheVariants.{Begin, Zero, Patch, Push}
 use Rattle.nm_script_lib.specs.declared.step.StripeStep.TheVariants.{Claim, Read, Fail, Attach}
 use Rattle.nm_script_lib.specs.declared.step.StripeStep.TheVariants.{Replace, Copy, Promote, Sync}
+use Rattle.nm_script_lib.specs.declared.step.StripeStep.TheVariants.{Run, Get}
 use Rattle.nm_script_lib.specs.Forms.{Number, Below, Within, Byte, Form, Makes, Then, ThenPolicy}
 use Rattle.nm_script_lib.specs.Forms.{NoForm, one, two, keywords, IsLine, AreSeparated}
 
@@ -39,6 +41,31 @@ leg_form m = keywords (
     (codes "sync", one (Below m.legs) (λ leg. Ask (Sync leg))) ∷ [])
     (look_form m)
 
+-- How many blocks a run may have that begins with this block: up to the end of its region and of
+-- the mirror, and 128 at most.
+abbrev pub most_run : MirrorLine → ℕ → ℕ
+most_run m block = min 128 (min (m.region - block % m.region) (m.blocks - block))
+
+-- The arguments of a write of a run: its first block, how many it has, and the byte that all are.
+unfoldable pub run_args : MirrorLine → Form Step
+run_args m =
+    Then (Below m.blocks) (λ block.
+    Then (Within 1 (most_run m block)) (λ count.
+    Then Byte (λ fill. Makes (Ask (Run block count fill)))))
+
+-- The arguments of a read of a run: its first block, and how many it has.
+unfoldable pub get_args : MirrorLine → Form Step
+get_args m =
+    Then (Below m.blocks) (λ block.
+    Then (Within 1 (most_run m block)) (λ count. Makes (Ask (Get block count))))
+
+-- The steps on runs of several blocks, and those above.
+unfoldable pub run_form : MirrorLine → Form Step
+run_form m = keywords (
+    (codes "run", run_args m) ∷
+    (codes "get", get_args m) ∷ [])
+    (leg_form m)
+
 -- All steps on such a mirror: those that write and read blocks, and those above.
 unfoldable pub step_form : MirrorLine → Form Step
 step_form m = keywords (
@@ -48,7 +75,7 @@ step_form m = keywords (
     (codes "push", two Number (Below m.legs) (λ ticket leg. Ask (Push ticket leg))) ∷
     (codes "claim", one Number (λ ticket. Ask (Claim ticket))) ∷
     (codes "read", one (Below m.blocks) (λ block. Ask (Read block))) ∷ [])
-    (leg_form m)
+    (run_form m)
 
 -- The arguments of the mirror line: LEGS BLOCKS REGION CHUNK POLICY FIRST, each in its range.
 abbrev pub mirror_args : Form MirrorLine

@@ -1,6 +1,6 @@
 -- The stripe that a script runs: legs in memory, each with a fuse, of zero bytes and all in sync,
 -- or loaded and compared.
-use Rattle.std.specs.Prelude.{◌≡◌, true, ℕ, ◌+◌, ◌<◌, ◌≤◌, ◌^◌, ◌-◌, ◌==◌, List, [], ◌∷◌}
+use Rattle.std.specs.Prelude.{◌≡◌, true, ℕ, ◌+◌, ◌*◌, ◌<◌, ◌≤◌, ◌^◌, ◌-◌, ◌==◌, List, [], ◌∷◌}
 use Rattle.std.specs.Prelude.{if◌then◌else◌, length, replicate, slice_get, slice_set}
 use Rattle.std.specs.Prelude.{Option, None, Some}
 use Rattle.std.specs.List.{AllByRecursion}
@@ -11,6 +11,7 @@ use Rattle.nm_leg.specs.LegCalls.{EachHas}
 use Rattle.nm_leg.specs.TestLegs.{of_fuse}
 use Rattle.nm_leg.specs.declared.fuse_leg.FuseLeg.{FuseLeg}
 use Rattle.nm_rules.specs.declared.at.At.{At}
+use Rattle.nm_rules.specs.Runs.{FitsRun}
 use Rattle.nm_stripe.specs.declared.step.Step.{Step as MachineStep}
 use Rattle.nm_stripe.specs.declared.step.Step.TheVariants.{Begin as BeginStep, Push as PushStep}
 use Rattle.nm_stripe.specs.declared.step.Step.TheVariants.{Claim as ClaimStep, Read as ReadStep}
@@ -29,6 +30,7 @@ use Rattle.nm_script_lib.specs.declared.step.StripeStep.{StripeStep}
 use Rattle.nm_script_lib.specs.declared.step.StripeStep.TheVariants.{Begin, Zero, Patch, Push}
 use Rattle.nm_script_lib.specs.declared.step.StripeStep.TheVariants.{Claim, Read, Fail, Attach}
 use Rattle.nm_script_lib.specs.declared.step.StripeStep.TheVariants.{Replace, Copy, Promote, Sync}
+use Rattle.nm_script_lib.specs.declared.step.StripeStep.TheVariants.{Run, Get}
 
 -- The type of a script's legs: all of them are honest.
 abbrev pub fuse_legs : LegType FuseLeg
@@ -116,13 +118,16 @@ abbrev pub FitOpening : MirrorLine → List Load → Option ℕ → Type 0
 FitOpening m loads None = AllByRecursion (FitsLoad m) loads
 FitOpening m loads (Some master) = AllByRecursion (FitsLoad m) loads × (master < m.legs)
 
--- The stripe has the mirror's blocks and legs. Every step keeps it so.
+-- The stripe has the mirror's place, whose regions have blocks, and its legs. Every step keeps it
+-- so.
 pub record HasShape (m : MirrorLine) (stripe : MemStripe) : Type 0 where
-  pub blocks : stripe.place.blocks ≡ m.blocks
+  pub region : 0 < m.region
+  pub place : stripe.place ≡ place_of m
   pub legs : length stripe.legs ≡ m.legs
   pub each : EachHas of_fuse stripe.legs m.blocks
 
--- The step names blocks and legs that the mirror has, and bytes that a block has.
+-- The step names blocks and legs that the mirror has, bytes that a block has, and runs that lie in
+-- one region.
 abbrev pub IsInside : MirrorLine → Step → Type 0
 IsInside m (Ask (Begin block fill)) = block < m.blocks
 IsInside m (Ask (Zero block)) = block < m.blocks
@@ -131,6 +136,8 @@ IsInside m (Ask (Patch block start len fill)) =
 IsInside m (Ask (Push ticket leg)) = leg < m.legs
 IsInside m (Ask (Claim ticket)) = Unit {0}
 IsInside m (Ask (Read block)) = block < m.blocks
+IsInside m (Ask (Run block count fill)) = FitsRun (place_of m) block count
+IsInside m (Ask (Get block count)) = FitsRun (place_of m) block count
 IsInside m (Ask (Fail leg)) = leg < m.legs
 IsInside m (Ask (Attach leg)) = leg < m.legs
 IsInside m (Ask (Replace leg fill)) = leg < m.legs
@@ -141,16 +148,22 @@ IsInside m (Fuse leg call) = (leg < m.legs) × (0 < call)
 IsInside m (Peek leg block) = (leg < m.legs) × (block < m.blocks)
 IsInside m State = Unit {0}
 
--- What a step of a script asks of the stripe. A begin hands in 512 bytes, a patch as many as it
--- names, a replace a new leg.
+-- The bytes of so many blocks, all of them this one.
+unfoldable pub filled : ℕ → ℕ → List ℕ
+filled count fill = replicate (512 * count) fill
+
+-- What a step of a script asks of the stripe. A begin hands in the bytes of its blocks, a patch as
+-- many as it names, a read room for those of its blocks, a replace a new leg.
 abbrev pub IsAsked : MirrorLine → StripeStep → MachineStep FuseLeg → Type 0
 IsAsked m (Begin block fill) asked = asked ≡ BeginStep block (Cut (filled_block fill))
-IsAsked m (Zero block) asked = asked ≡ BeginStep block Zeroes
+IsAsked m (Run block count fill) asked = asked ≡ BeginStep block (Cut (filled count fill))
+IsAsked m (Zero block) asked = asked ≡ BeginStep block (Zeroes 1)
 IsAsked m (Patch block start len fill) asked =
     asked ≡ BeginStep block (Part start (replicate len fill))
 IsAsked m (Push ticket leg) asked = asked ≡ PushStep ticket leg
 IsAsked m (Claim ticket) asked = asked ≡ ClaimStep ticket
-IsAsked m (Read block) asked = asked ≡ ReadStep block
+IsAsked m (Read block) asked = asked ≡ ReadStep block (filled 1 0)
+IsAsked m (Get block count) asked = asked ≡ ReadStep block (filled count 0)
 IsAsked m (Fail leg) asked = asked ≡ FailStep leg
 IsAsked m (Attach leg) asked = asked ≡ AttachStep leg
 IsAsked m (Copy leg) asked = asked ≡ CopyStep leg

@@ -1,6 +1,6 @@
 -- The lines that are printed.
 use Rattle.std.specs.Prelude.{ℕ, List, [], ◌∷◌, ◌++◌, ◌==◌, Bool, true, false, if◌then◌else◌}
-use Rattle.std.specs.Prelude.{length, slice_index, codes, decimal}
+use Rattle.std.specs.Prelude.{length, slice_index_or, codes, decimal}
 use Rattle.std.specs.List.{flat_map, list_all}
 use Rattle.nm_replay.specs.declared.block.Block.{Block}
 use Rattle.nm_leg.specs.declared.fuse_leg.FuseLeg.{FuseLeg}
@@ -22,13 +22,13 @@ use Rattle.nm_script_lib.specs.Forms.{hex_byte}
 abbrev pub ended_line : List ℕ → List ℕ
 ended_line words = words ++ (10 ∷ [])
 
--- The byte that all of a block's bytes are, if there is one.
+-- The byte that all of these bytes are, if there is one.
 abbrev pub fill_of : List ℕ → Fill
 fill_of bytes =
-    if list_all (λ byte. byte == slice_index bytes 0) bytes
-    then Same (slice_index bytes 0) else Mixed
+    let first = slice_index_or bytes 0 0 in
+    if list_all (λ byte. byte == first) bytes then Same first else Mixed
 
--- A block's bytes: two digits where all are the same, else a word.
+-- The bytes of a block, or of several: two digits where all are the same, else a word.
 abbrev pub fill_text : Fill → List ℕ
 fill_text (Same byte) = hex_byte byte
 fill_text Mixed = codes "mixed"
@@ -41,7 +41,7 @@ answer_text (Complete number) = codes "complete " ++ decimal number
 answer_text Halted = codes "halted"
 answer_text (Written written) = codes "written " ++ decimal written.number
 answer_text (Value value) =
-    codes "value " ++ decimal value.entry.number ++ codes " " ++ fill_text (fill_of value.bytes.0)
+    codes "value " ++ decimal value.names.number ++ codes " " ++ fill_text (fill_of value.bytes)
 answer_text Failed = codes "failed"
 answer_text (MasterChanged master) = codes "master " ++ decimal master
 answer_text (Joining blocks) = codes "joining " ++ decimal blocks

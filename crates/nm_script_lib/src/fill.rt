@@ -2,9 +2,7 @@ ghost use Rattle.std.specs.Prelude.{◌≡◌, ◌==◌};
 ghost use Rattle.std.specs.List.{list_all};
 ghost use Rattle.nm_script_lib.specs.Printing.{fill_of};
 
-use nm_replay::Block;
-
-/// What a block holds, as it is printed.
+/// What some bytes are, as it is printed.
 #[derive(Clone, Copy, Debug, PartialEq, Eq)]
 pub enum Fill {
     /// Each byte is this one.
@@ -20,12 +18,12 @@ fn are_all(bytes: &[u8], byte: u8) -> bool
     bytes.iter().all(|b| *b == byte)
 }
 
-/// The byte that a block is filled with, if there is one.
-pub fn fill_of(block: &Block) -> Fill
-    ensures { result ≡ fill_of block.now.0 }
+/// The byte that all of these bytes are, if there is one.
+pub fn fill_of(bytes: &[u8]) -> Fill
+    ensures { result ≡ fill_of bytes.now }
 {
-    let first = block.0[0];
-    if are_all(&block.0, first) {
+    let first = bytes.first().copied().unwrap_or(0);
+    if are_all(bytes, first) {
         Fill::Same(first)
     } else {
         Fill::Mixed

@@ -3,14 +3,16 @@
 ghost use Rattle.std.specs.Prelude.{◌≡◌, ℕ, ◌<◌, ◌≤◌, ◌-◌, ◌^◌, true, length, replicate, Some};
 ghost use Rattle.std.specs.Prelude.{IfOk, IfErr, OnOk};
 ghost use Rattle.std.specs.List.{AllByRecursion};
-ghost use Rattle.nm_fanout.specs.declared.block_data.Data.TheVariants.{Part};
+ghost use Rattle.nm_fanout.specs.declared.block_data.Data.TheVariants.{Cut, Part};
 ghost use Rattle.nm_leg.specs.LegCalls.{HasRun, WritesLegAt};
 ghost use Rattle.nm_leg.specs.TestLegs.{of_fuse};
 ghost use Rattle.nm_script_lib.specs.declared.step.Step.TheVariants.{Ask};
 ghost use Rattle.nm_script_lib.specs.MemStripe.{InRange, AreNewLegs, AreLoadedLegs, IsNew};
 ghost use Rattle.nm_script_lib.specs.MemStripe.{IsOpened, FitsLoad, FitOpening, place_of, HasCall};
 ghost use Rattle.nm_script_lib.specs.MemStripe.{HasShape, IsInside, IsAsked, filled_block};
-ghost use Rattle.nm_script_lib.specs.MemStripe.{fuse_legs};
+ghost use Rattle.nm_script_lib.specs.MemStripe.{filled, fuse_legs};
+ghost use Rattle.nm_stripe.specs.declared.step.Step.TheVariants.{Begin as BeginStep};
+ghost use Rattle.nm_stripe.specs.declared.step.Step.TheVariants.{Read as ReadStep};
 ghost use Rattle.nm_script_lib.specs.declared.run_error.RunError.TheVariants.{Memory};
 ghost use Rattle.nm_script_lib.specs.Runs.{Answers};
 
@@ -23,7 +25,8 @@ use crate::step::StripeStep;
 use bytes::Bytes;
 use nm_fanout::Data;
 use nm_leg::{FuseLeg, LegFault, write_leg_at};
-use nm_stripe::{Answer, At, Step, Stripe};
+use nm_replay::BLOCK_BYTES;
+use nm_stripe::{Answer, At, Room, Step, Stripe};
 use std::alloc::Global;
 
 /// The mirror's legs, of zero blocks.
@@ -173,6 +176,39 @@ fn patch(alloc: Global, from: u16, len: u16, fill: u8) -> Result<Data, RunError>
     Ok(Data::Part { from, bytes })
 }
 
+/// The bytes of so many blocks, all of them this one.
+#[tactic(auto, unfolding(crate::specs::MemStripe::filled))]
+fn filled(alloc: Global, count: u64, fill: u8) -> Result<Vec<u8>, RunError>
+    requires { count ≤ 128 }
+    ensures bytes { IfOk result (λ bytes. bytes.items ≡ filled count fill) }
+    ensures cause { IfErr result (λ e. e ≡ Memory) }
+{
+    let mut bytes = Vec::new(alloc);
+    bytes.resize(BLOCK_BYTES * count as usize, fill)?;
+    Ok(bytes)
+}
+
+/// A begin of a run of so many blocks, whose bytes are all this one.
+fn begin_run(alloc: Global, block: u64, count: u64, fill: u8) -> Result<Step<FuseLeg>, RunError>
+    requires { count ≤ 128 }
+    ensures step { IfOk result (λ step. step ≡ BeginStep block (Cut (filled count fill))) }
+    ensures cause { IfErr result (λ e. e ≡ Memory) }
+{
+    let bytes = filled(alloc, count, fill)?;
+    let cut = Bytes::copy_from_slice(alloc, &bytes)?;
+    Ok(Step::Begin(block, Data::Cut(cut)))
+}
+
+/// A read of a run of so many blocks, with room for their bytes.
+fn read_run(alloc: Global, block: u64, count: u64) -> Result<Step<FuseLeg>, RunError>
+    requires { count ≤ 128 }
+    ensures step { IfOk result (λ step. step ≡ ReadStep block (filled count 0)) }
+    ensures cause { IfErr result (λ e. e ≡ Memory) }
+{
+    let bytes = filled(alloc, count, 0)?;
+    Ok(Step::Read(block, Room::new(bytes)))
+}
+
 /// What a step of a script asks of the stripe.
 fn step_for(alloc: Global, mirror: &MirrorLine, step: StripeStep) -> Result<Step<FuseLeg>, RunError>
     requires { IsInside mirror.now (Ask step) }
@@ -184,7 +220,7 @@ fn step_for(alloc: Global, mirror: &MirrorLine, step: StripeStep) -> Result<Step
             let bytes = Bytes::copy_from_slice(alloc, &filled_block(fill))?;
             Ok(Step::Begin(block, Data::Cut(bytes)))
         }
-        StripeStep::Zero { block } => Ok(Step::Begin(block, Data::Zero)),
+        StripeStep::Zero { block } => Ok(Step::Begin(block, Data::Zero(1))),
         StripeStep::Patch {
             block,
             from,
@@ -193,7 +229,9 @@ fn step_for(alloc: Global, mirror: &MirrorLine, step: StripeStep) -> Result<Step
         } => Ok(Step::Begin(block, patch(alloc, from, len, fill)?)),
         StripeStep::Push { ticket, leg } => Ok(Step::Push(ticket, leg)),
         StripeStep::Claim { ticket } => Ok(Step::Claim(ticket)),
-        StripeStep::Read { block } => Ok(Step::Read(block)),
+        StripeStep::Read { block } => read_run(alloc, block, 1),
+        StripeStep::Run { block, count, fill } => begin_run(alloc, block, count, fill),
+        StripeStep::Get { block, count } => read_run(alloc, block, count),
         StripeStep::Fail { leg } => Ok(Step::Fail(leg)),
         StripeStep::Attach { leg } => Ok(Step::Attach(leg)),
         StripeStep::Copy { leg } => Ok(Step::Copy(leg)),

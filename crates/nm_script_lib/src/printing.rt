@@ -139,7 +139,7 @@ pub fn put_holds(text: &mut Vec<u8>, block: &Block) -> Result<(), AllocError>
     ensures { OnOk result (text.new.items ≡ text.old.items ++ ended_line (holds_text block.now)) }
 {
     put(text, b"holds ")?;
-    put_fill(text, fill_of(block))?;
+    put_fill(text, fill_of(&block.0))?;
     put(text, b"\n")
 }
 
@@ -191,7 +191,7 @@ pub fn put_entry(text: &mut Vec<u8>, entry: &Entry) -> Result<(), AllocError>
     put_number(text, entry.seq)?;
     put_kind(text, entry.kind)?;
     put_place(text, entry.kind, entry.block)?;
-    put_fill(text, fill_of(&entry.bytes))?;
+    put_fill(text, fill_of(&entry.bytes.0))?;
     put(text, b"\n")
 }
 

@@ -1,5 +1,6 @@
 ghost use Rattle.std.specs.Prelude.{◌≡◌, ℕ, ◌<◌, ◌∷◌, List, Option};
-ghost use Rattle.nm_script_lib.specs.Grammar.{step_form, patch_args, leg_form, look_form};
+ghost use Rattle.nm_script_lib.specs.Grammar.{step_form, patch_args, run_args, get_args};
+ghost use Rattle.nm_script_lib.specs.Grammar.{leg_form, look_form, most_run, run_form};
 ghost use Rattle.nm_script_lib.specs.Reading.{Gives, read, read_line, rest_words};
 
 use crate::mirror_line::MirrorLine;
@@ -49,6 +50,17 @@ pub enum StripeStep {
     /// `read B`: block B is read.
     Read {
         block: u64,
+    },
+    /// `run B N HH`: a write of bytes HH to N blocks from block B on begins.
+    Run {
+        block: u64,
+        count: u64,
+        fill: u8,
+    },
+    /// `get B N`: N blocks from block B on are read.
+    Get {
+        block: u64,
+        count: u64,
     },
     /// `fail L`: leg L goes out.
     Fail {
@@ -146,6 +158,56 @@ fn patch_of(mirror: &MirrorLine, words: &mut Words<'_>) -> Option<Step>
     }))
 }
 
+/// How many blocks a run may have that begins with this block.
+fn most_run(mirror: &MirrorLine, block: u64) -> u64
+    requires { block < mirror.now.blocks }
+    ensures { result ≡ most_run mirror.now block }
+{
+    if mirror.region == 0 {
+        return 0;
+    }
+    let region = mirror.region - block % mirror.region;
+    region.min(mirror.blocks - block).min(128)
+}
+
+/// The next words, as the arguments of a write of a run.
+#[tactic(auto, unfolding(crate::specs::Grammar::run_args))]
+fn run_of(mirror: &MirrorLine, words: &mut Words<'_>) -> Option<Step>
+    ensures { Gives result (rest_words words.new)
+        (read (run_args mirror.now) (rest_words words.old)) }
+{
+    let block = words.below(mirror.blocks)?;
+    let count = words.within(1, most_run(mirror, block))?;
+    let fill = words.byte()?;
+    Some(Step::Ask(StripeStep::Run { block, count, fill }))
+}
+
+/// The next words, as the arguments of a read of a run.
+#[tactic(auto, unfolding(crate::specs::Grammar::get_args))]
+fn get_of(mirror: &MirrorLine, words: &mut Words<'_>) -> Option<Step>
+    ensures { Gives result (rest_words words.new)
+        (read (get_args mirror.now) (rest_words words.old)) }
+{
+    let block = words.below(mirror.blocks)?;
+    let count = words.within(1, most_run(mirror, block))?;
+    Some(Step::Ask(StripeStep::Get { block, count }))
+}
+
+/// The step that this word begins, of those on runs and of `leg_step_of`'s.
+#[tactic(auto, unfolding(crate::specs::Grammar::run_form))]
+fn run_step_of(mirror: &MirrorLine, word: &[u8], words: &mut Words<'_>) -> Option<Step>
+    ensures { Gives result (rest_words words.new)
+        (read (run_form mirror.now) (word.now ∷ rest_words words.old)) }
+{
+    if is_word(word, b"run") {
+        run_of(mirror, words)
+    } else if is_word(word, b"get") {
+        get_of(mirror, words)
+    } else {
+        leg_step_of(mirror, word, words)
+    }
+}
+
 /// The step that this word begins, with its arguments.
 #[tactic(auto, unfolding(crate::specs::Grammar::step_form))]
 fn any_step_of(mirror: &MirrorLine, word: &[u8], words: &mut Words<'_>) -> Option<Step>
@@ -172,7 +234,7 @@ fn any_step_of(mirror: &MirrorLine, word: &[u8], words: &mut Words<'_>) -> Optio
         let block = words.below(mirror.blocks)?;
         StripeStep::Read { block }
     } else {
-        return leg_step_of(mirror, word, words);
+        return run_step_of(mirror, word, words);
     }))
 }
 

@@ -2,13 +2,12 @@
 use Rattle.std.specs.Prelude.{◌≡◌, ◌≤◌, ◌+◌, ◌*◌, ℕ, List, [], ◌∷◌, ◌++◌, length, Ok, Err, refl}
 use Rattle.std.proofs.Common.{◌∙◌}
 use Rattle.nm_geometry.specs.declared.byte_range.ByteRange.{ByteRange}
-use Rattle.nm_geometry.specs.declared.piece.Piece.{Piece}
 use Rattle.nm_geometry.specs.Geometry.{Geometry}
-use Rattle.nm_geometry.specs.Pieces.{pieces_of}
 use Rattle.nm_lanes.specs.declared.cause.Cause.{Cause}
 use Rattle.nm_lanes.specs.Cuts.{cuts_for, zeroes_for}
 use Rattle.nm_lanes.specs.Flushes.{HasFlushed, HasFlushedSome, IsStripeOf, Touches}
 use Rattle.nm_lanes.specs.Reads.{HasRead, HasReadSome}
+use Rattle.nm_lanes.specs.Runs.{runs_of_range}
 use Rattle.nm_lanes.specs.Writes.{HasWritten, HasWrittenSome}
 use Rattle.nm_mirror.specs.Counting.{Follows}
 use Rattle.nm_mirror.specs.declared.pass.Pass.{Pass}
@@ -51,28 +50,33 @@ Parts = List PartState × List PartState
 abbrev pub range_at : (offset length : ℕ) → ByteRange
 range_at offset length = record { offset = offset; length = length }
 
--- a read of these pieces: all of them and these bytes found; or some, and then a step ended it
-abbrev pub Read : (L : Type 0) → Geometry → List Piece → List ℕ → Answer → Parts → Type 0
-Read L shape pieces bytes (Ok done) parts = HasRead {L = L} Follows shape pieces parts bytes
-Read L shape pieces bytes (Err Memory) parts = ⊥
-Read L shape pieces bytes (Err Io) parts =
-    (cause : Cause) × HasReadSome {L = L} Follows shape pieces parts cause
-
--- a write of these bytes to the pieces: all of it; nothing, out of memory; or some, and then a step
+-- a read of the runs of this range: all of them and these bytes found; or some, and then a step
 -- ended it
-abbrev pub Write : (L : Type 0) → Geometry → List Piece → List ℕ → Answer → Parts → Type 0
-Write L shape pieces bytes (Ok done) parts =
-    HasWritten {L = L} Follows shape (cuts_for pieces bytes) parts
-Write L shape pieces bytes (Err Memory) parts = parts.1 ≡ parts.0
-Write L shape pieces bytes (Err Io) parts =
-    (cause : Cause) × HasWrittenSome {L = L} Follows shape (cuts_for pieces bytes) parts cause
+abbrev pub Read : (L : Type 0) → Geometry → ByteRange → List ℕ → Answer → Parts → Type 0
+Read L shape range bytes (Ok done) parts =
+    HasRead {L = L} Follows shape (runs_of_range shape range) parts bytes
+Read L shape range bytes (Err Memory) parts = ⊥
+Read L shape range bytes (Err Io) parts =
+    (cause : Cause) × HasReadSome {L = L} Follows shape (runs_of_range shape range) parts cause
 
--- zeroes written to the pieces, which takes no memory
-abbrev pub Zero : (L : Type 0) → Geometry → List Piece → Answer → Parts → Type 0
-Zero L shape pieces (Ok done) parts = HasWritten {L = L} Follows shape (zeroes_for pieces) parts
-Zero L shape pieces (Err Memory) parts = ⊥
-Zero L shape pieces (Err Io) parts =
-    (cause : Cause) × HasWrittenSome {L = L} Follows shape (zeroes_for pieces) parts cause
+-- a write of these bytes to the runs of this range: all of it; nothing, out of memory; or some, and
+-- then a step ended it
+abbrev pub Write : (L : Type 0) → Geometry → ByteRange → List ℕ → Answer → Parts → Type 0
+Write L shape range bytes (Ok done) parts =
+    HasWritten {L = L} Follows shape (cuts_for (runs_of_range shape range) bytes) parts
+Write L shape range bytes (Err Memory) parts = parts.1 ≡ parts.0
+Write L shape range bytes (Err Io) parts =
+    (cause : Cause)
+    × HasWrittenSome {L = L} Follows shape (cuts_for (runs_of_range shape range) bytes) parts cause
+
+-- zeroes written to the runs of this range, which takes no memory
+abbrev pub Zero : (L : Type 0) → Geometry → ByteRange → Answer → Parts → Type 0
+Zero L shape range (Ok done) parts =
+    HasWritten {L = L} Follows shape (zeroes_for (runs_of_range shape range)) parts
+Zero L shape range (Err Memory) parts = ⊥
+Zero L shape range (Err Io) parts =
+    (cause : Cause)
+    × HasWrittenSome {L = L} Follows shape (zeroes_for (runs_of_range shape range)) parts cause
 
 -- a sync, which takes no memory: each leg was synced in each of these stripes; or in some of them,
 -- and then a step ended it
@@ -85,11 +89,11 @@ Sync L shape Synced (Err Io) parts =
 -- what a call does, answered so, through a pass that has a part for each stripe
 abbrev pub Acts : (L : Type 0) → Geometry → TargetCall → Parts → Type 0
 Acts L shape (Reads offset bytes answer) =
-    Read L shape (pieces_of (range_at offset (length bytes))) bytes answer
+    Read L shape (range_at offset (length bytes)) bytes answer
 Acts L shape (Writes offset bytes answer) =
-    Write L shape (pieces_of (range_at offset (length bytes))) bytes answer
+    Write L shape (range_at offset (length bytes)) bytes answer
 Acts L shape (Zeroes offset count answer) =
-    Zero L shape (pieces_of (range_at offset count)) answer
+    Zero L shape (range_at offset count) answer
 Acts L shape (Flushes answer) = Sync L shape (IsStripeOf shape) answer
 Acts L shape (Syncs offset count answer) =
     Sync L shape (Touches shape (range_at offset count)) answer

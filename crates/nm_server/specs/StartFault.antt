@@ -1,5 +1,8 @@
 -- The exit statuses of the server.
 use Rattle.std.specs.Prelude.{ℕ}
+use Rattle.clap.specs.declared.error.kind.ErrorKind.{ErrorKind}
+use Rattle.clap.specs.declared.error.kind.ErrorKind.TheVariants.{DisplayHelp, DisplayVersion}
+use Rattle.clap.specs.declared.error.kind.ErrorKind.TheVariants.{OutOfMemory}
 use Rattle.nm_server.specs.declared.start_fault.StartFault.{StartFault}
 use Rattle.nm_server.specs.declared.start_fault.StartFault.TheVariants as fault
 
@@ -12,13 +15,20 @@ status_of (fault.SmallStack needed) = 3
 status_of fault.TooManyLegs = 3
 status_of (fault.NoMaster leg) = 3
 status_of fault.BadName = 3
-status_of (fault.CannotOpen leg) = 3
+status_of (fault.CannotOpen leg why) = 3
 status_of (fault.InUse leg) = 3
-status_of (fault.BadLength leg) = 3
-status_of (fault.OtherLength leg) = 3
-status_of (fault.OverFileLimit leg) = 3
+status_of (fault.BadLength leg bytes) = 3
+status_of (fault.OtherLength leg bytes first) = 3
+status_of (fault.OverFileLimit leg bytes limit) = 3
 status_of (fault.CannotRead leg) = 3
-status_of (fault.CannotListen address) = 4
+status_of (fault.CannotListen address error) = 4
 status_of fault.Memory = 5
 status_of fault.CannotClose = 6
 status_of fault.LegsDiffer = 7
+
+-- the exit status where the words of the command line are none, or ask for the help or the version
+abbrev pub status_of_words : ErrorKind → ℕ
+status_of_words DisplayHelp = 0
+status_of_words DisplayVersion = 0
+status_of_words OutOfMemory = 5
+status_of_words other = 2

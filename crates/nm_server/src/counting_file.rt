@@ -51,4 +51,8 @@ impl Medium for CountingFile {
     fn len(&self) -> io::Result<u64> {
         self.file.len()
     }
+
+    fn is_hole(&self, at: u64, many: usize) -> bool {
+        self.file.is_hole(at, many)
+    }
 }

@@ -5,14 +5,15 @@ ghost use Rattle.nm_geometry.specs.Geometry.{IsGeometry};
 ghost use Rattle.nm_server.specs.Files.{laid_over};
 
 use crate::counting_file::{BytesRead, CountingFile};
+use crate::reason::Unopened;
 use crate::start_fault::StartFault;
 use nm_file_leg::{FileLeg, FileUser, ReadAhead, SharedFile};
 use nm_geometry::{MOST_STRIPES, Shape};
 use nm_lanes::NoGate;
 use nm_mirror::Mirror;
-use nm_system::{Limits, is_below, is_in_use};
+use nm_system::{Limits, is_in_use};
 use std::alloc::{AllocError, Global};
-use std::fs::{File, OpenOptions};
+use std::fs::{File, OpenOptions, TryLockError};
 use std::io::{Seek, SeekFrom};
 use std::marker::Model;
 use std::rt::Files;
@@ -60,22 +61,31 @@ impl Model for LegFiles {
 }
 
 // Opens a leg's file for reading and writing, and locks it.
-fn open_locked<R: Files<File = File>>(rt: &R, name: &str) -> Option<File> {
-    let file = OpenOptions::new()
-        .read(true)
-        .write(true)
-        .open(rt, name)
-        .ok()?;
-    file.try_lock().ok()?;
-    Some(file)
+fn open_locked<R: Files<File = File>>(rt: &R, name: &str) -> Result<File, Unopened> {
+    let opened = OpenOptions::new().read(true).write(true).open(rt, name);
+    let file = match opened {
+        Ok(file) => file,
+        Err(error) => return Err(Unopened::by(error)),
+    };
+    match file.try_lock() {
+        Ok(()) => Ok(file),
+        Err(TryLockError::WouldBlock) => Err(Unopened::Locked),
+        Err(TryLockError::Error(error)) => Err(Unopened::System(error)),
+    }
 }
 
-// How many blocks a leg's file has, where it has whole blocks and no more than an export may have.
-fn blocks_of(file: &File) -> Option<u64>
+// How many bytes a leg's file has, where it has a length.
+fn bytes_of(file: &File) -> Option<u64> {
+    let mut file = file;
+    file.seek(SeekFrom::End(0)).ok()
+}
+
+// How many blocks so many bytes are, where they are whole blocks and no more than an export may
+// have.
+fn blocks_of(bytes: Option<u64>) -> Option<u64>
     ensures { IfSome result (λ blocks. blocks ≤ 2 ^ 31) }
 {
-    let mut file = file;
-    let bytes = file.seek(SeekFrom::End(0)).ok()?;
+    let bytes = bytes?;
     let blocks = bytes / BLOCK_BYTES;
     let is_whole = bytes % BLOCK_BYTES == 0;
     if is_whole && 0 < blocks && blocks <= MOST_BLOCKS {
@@ -88,6 +98,39 @@ fn blocks_of(file: &File) -> Option<u64>
 // Whether it is a file that grows as it is written, and no device.
 fn is_regular(file: &File) -> bool {
     matches!(file.metadata(), Ok(metadata) if metadata.is_file())
+}
+
+// How many blocks leg 0 has, which is this leg, or one from before.
+fn blocks_of_leg_0(number: usize, own: u64, before: u64) -> u64
+    requires own { own ≤ 2 ^ 31 }
+    requires before { before ≤ 2 ^ 31 }
+    ensures { result ≤ 2 ^ 31 }
+{
+    if number == 0 { own } else { before }
+}
+
+// Refuses a leg of so many blocks where leg 0 has another length, or files may not be so long.
+fn check_length<'a>(
+    file: &File,
+    number: usize,
+    own: u64,
+    blocks: u64,
+    limits: &Limits,
+) -> Result<(), StartFault<'a>>
+    requires own { own ≤ 2 ^ 31 }
+    requires blocks { blocks ≤ 2 ^ 31 }
+    ensures { IfOk result (λ _. own ≡ blocks) }
+{
+    let bytes = own * BLOCK_BYTES;
+    if own != blocks {
+        return Err(StartFault::OtherLength(number, bytes, blocks * BLOCK_BYTES));
+    }
+    match limits.file_bytes {
+        Some(limit) if limit < bytes && is_regular(file) => {
+            Err(StartFault::OverFileLimit(number, bytes, limit))
+        }
+        _ => Ok(()),
+    }
 }
 
 // A leg's file for the stripes, of which there are at most so many.
@@ -111,23 +154,19 @@ impl LegFiles {
         let mut files = Vec::new(alloc);
         let mut blocks = 0u64;
         for number in 0..names.len() {
-            let Some(file) = open_locked(rt, names[number]) else {
-                return Err(StartFault::CannotOpen(number));
+            let file = match open_locked(rt, names[number]) {
+                Ok(file) => file,
+                Err(why) => return Err(StartFault::CannotOpen(number, why)),
             };
             if !force_in_use && is_in_use(rt, alloc, &file)? {
                 return Err(StartFault::InUse(number));
             }
-            let Some(own) = blocks_of(&file) else {
-                return Err(StartFault::BadLength(number));
+            let bytes = bytes_of(&file);
+            let Some(own) = blocks_of(bytes) else {
+                return Err(StartFault::BadLength(number, bytes));
             };
-            if number == 0 {
-                blocks = own;
-            } else if own != blocks {
-                return Err(StartFault::OtherLength(number));
-            }
-            if is_regular(&file) && is_below(limits.file_bytes, own * BLOCK_BYTES) {
-                return Err(StartFault::OverFileLimit(number));
-            }
+            blocks = blocks_of_leg_0(number, own, blocks);
+            check_length(&file, number, own, blocks, limits)?;
             let Ok(shared) = share(alloc, file) else {
                 return Err(StartFault::Memory);
             };
@@ -186,7 +225,7 @@ fn stripe_leg<'a>(
     };
     match FileLeg::new(medium, shape, stripe) {
         Ok(leg) => Ok(leg),
-        Err(_) => Err(StartFault::CannotOpen(number)),
+        Err(_) => Err(StartFault::CannotOpen(number, Unopened::Cut)),
     }
 }
 

@@ -4,6 +4,7 @@
 //! safe is proved.
 #![tactic(auto)]
 
+mod address;
 mod alike;
 mod answering;
 mod client_reader;
@@ -23,6 +24,7 @@ mod mirror_target;
 mod needs;
 mod program;
 mod progress;
+mod reason;
 mod resync;
 mod serving;
 mod session_places;
@@ -32,6 +34,7 @@ mod starting;
 mod thread_trial;
 mod timed_stream;
 
+pub use crate::address::Address;
 pub use crate::answering::control;
 pub use crate::ending::Quit;
 pub use crate::file_calls::{FileCalls, call_mirror};
@@ -39,4 +42,5 @@ pub use crate::mirror_call::MirrorCall;
 pub use crate::mirror_calls::{MirrorCalls, ReadyMirror};
 pub use crate::mirror_target::MirrorTarget;
 pub use crate::program::{refuse_words, start};
+pub use crate::reason::Unopened;
 pub use crate::start_fault::StartFault;

@@ -1,5 +1,6 @@
 //! What the server needs of the system, so that it is told at the start where it is too little.
 ghost use Rattle.std.specs.Prelude.{◌≡◌, ◌+◌};
+ghost use Rattle.nm_server.specs.Replies.{reply_bytes};
 
 use crate::start_fault::StartFault;
 use nm_system::{Limits, is_below};
@@ -16,6 +17,21 @@ fn files_needed(legs: u8, sessions: u8) -> u64
     ensures { result ≡ legs + sessions + 16 }
 {
     u64::from(legs) + u64::from(sessions) + OTHER_FILES
+}
+
+/// How many bytes the replies of all sessions carry at most.
+const MOST_REPLY_BYTES: u64 = 4 << 30;
+
+/// How many bytes the replies to what is outstanding in each of so many sessions may carry: its part
+/// of 4 GiB, or of half of the address space where that is less.
+pub fn reply_bytes_of(limits: &Limits, sessions: u8) -> u64
+    ensures { result ≡ reply_bytes limits.now.address_space sessions }
+{
+    let all = match limits.address_space {
+        Some(most) => (most / 2).min(MOST_REPLY_BYTES),
+        None => MOST_REPLY_BYTES,
+    };
+    all / u64::from(sessions.max(1))
 }
 
 /// Refuses limits under which a thread would run out of its stack.

@@ -1,12 +1,15 @@
 //! The whole program: from its command line to its exit status.
 ghost use Rattle.std.specs.Prelude.{◌≡◌};
-ghost use Rattle.nm_server.specs.StartFault.{status_of};
+ghost use Rattle.clap.specs.Values.{kind_of};
+ghost use Rattle.nm_server.specs.StartFault.{status_of, status_of_words};
 
+use crate::address::Address;
 use crate::counting_file::BytesRead;
 use crate::leg_files::{FileMirror, Leg, LegFiles, stripe_legs};
 use crate::log_lines::LogLines;
-use crate::needs::{check_files, check_stack};
+use crate::needs::{check_files, check_stack, reply_bytes_of};
 use crate::progress::{Comparison, tell_progress};
+use crate::reason::tell_reason;
 use crate::serving::serve_and_copy;
 use crate::sessions::{AT_ONCE, ExportName};
 use crate::start_fault::StartFault;
@@ -116,11 +119,13 @@ where
 // A listening socket.
 fn listen<'a, R: Net<Listener = TcpListener, Stream = TcpStream>>(
     rt: &R,
-    address: &'a str,
+    alloc: Global,
+    address: Address<'a>,
 ) -> Result<TcpListener, StartFault<'a>> {
-    match TcpListener::bind(rt, address) {
+    let text = format!(in alloc; "{address}")?;
+    match TcpListener::bind(rt, text.as_str()) {
         Ok(listener) => Ok(listener),
-        Err(_) => Err(StartFault::CannotListen(address)),
+        Err(error) => Err(StartFault::CannotListen(address, error)),
     }
 }
 
@@ -144,7 +149,7 @@ fn passes_of<'a, R: Wait>(
 }
 
 // Tells where a socket listens, with the port that it got where any was asked for.
-fn tell_address<O: Write>(out: &mut O, words: &str, listener: &TcpListener, asked: &str) {
+fn tell_address<O: Write>(out: &mut O, words: &str, listener: &TcpListener, asked: Address<'_>) {
     let _ = match listener.local_addr() {
         Ok(address) => writeln!(out, "{words} {address}"),
         Err(_) => writeln!(out, "{words} {asked}"),
@@ -205,8 +210,10 @@ where
         alloc,
         settings.sessions as usize + AT_ONCE + OTHER_THREADS,
     )?;
-    let clients = listen(rt, settings.listen)?;
-    let control = listen(rt, settings.control)?;
+    let client_port = Address::of_clients(settings);
+    let control_port = Address::Named(settings.control);
+    let clients = listen(rt, alloc, client_port)?;
+    let control = listen(rt, alloc, control_port)?;
     if !is_loopback(&control) {
         let port = settings.control;
         lines.warn(
@@ -216,8 +223,8 @@ where
             ),
         );
     }
-    tell_address(out, "listening on", &clients, settings.listen);
-    tell_address(out, "control on", &control, settings.control);
+    tell_address(out, "listening on", &clients, client_port);
+    tell_address(out, "control on", &control, control_port);
     serve_and_copy(
         rt,
         alloc,
@@ -225,6 +232,7 @@ where
         (&clients, &control),
         &mirror,
         passes.as_mut_slice(),
+        reply_bytes_of(&limits, settings.sessions) as usize,
         lines,
     )?;
     close(alloc, mirror, passes, out)
@@ -244,14 +252,25 @@ fn tell_fault<E: Write>(fault: &StartFault<'_>, err: &mut E) -> u8
     fault.status()
 }
 
-// Tells why the words are no command line.
-fn tell_refusal<E: Write>(error: &Error, err: &mut E) -> u8 {
-    if matches!(error.kind(), ErrorKind::OutOfMemory) {
-        return tell_fault(&StartFault::Memory, err);
+// Writes what clap says, and returns the exit status. What cannot be written is lost.
+fn tell_text<W: Write>(error: &Error, to: &mut W, status: u8) -> u8
+    ensures { result ≡ status }
+{
+    let _ = write!(to, "{error}");
+    let _ = to.flush();
+    status
+}
+
+// Tells why the words are no command line, or what they ask for: the help and the version are no
+// error.
+fn tell_words<O: Write, E: Write>(error: &Error, out: &mut O, err: &mut E) -> u8
+    ensures { result ≡ status_of_words (kind_of error.now) }
+{
+    match error.kind() {
+        ErrorKind::OutOfMemory => tell_fault(&StartFault::Memory, err),
+        ErrorKind::DisplayHelp | ErrorKind::DisplayVersion => tell_text(error, out, 0),
+        _ => tell_text(error, err, 2),
     }
-    let _ = write!(err, "{error}");
-    let _ = err.flush();
-    2
 }
 
 /// Tells why the words of the command line could not be had, and returns the exit status.
@@ -265,7 +284,8 @@ pub fn refuse_words<E: Write>(error: &io::Error, err: &mut E) -> u8 {
 /// Runs the server that these words ask for, the first of them the program's name, and returns the
 /// exit status.
 ///
-/// 0 after a `quit`. Otherwise `err` says why: status 2 for words that are no command line, 3 for
+/// 0 after a `quit`, or where the words ask for the help or the version, which `out` has then.
+/// Otherwise `err` says why: status 2 for words that are no command line, 3 for
 /// settings or legs that do not fit, 4 where it cannot listen, 5 out of memory, 6 where what the
 /// stripes have had is not what the sessions counted, 7 where no master is named and the legs differ.
 pub fn start<R, S: AsStr, O: Write, E: Write>(
@@ -289,7 +309,7 @@ where
 {
     let settings = match settings(alloc, words) {
         Ok(settings) => settings,
-        Err(error) => return tell_refusal(&error, err),
+        Err(error) => return tell_words(&error, out, err),
     };
     let Ok(lines) = LogLines::start(rt, alloc) else {
         return tell_fault(&StartFault::Memory, err);
@@ -298,6 +318,9 @@ where
     lines.close(rt);
     match ended {
         Ok(()) => 0,
-        Err(fault) => tell_fault(&fault, err),
+        Err(fault) => {
+            let _ = tell_reason(alloc, &fault, &settings.legs, err);
+            tell_fault(&fault, err)
+        }
     }
 }

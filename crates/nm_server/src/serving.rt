@@ -52,7 +52,7 @@ where
 }
 
 /// Serves until the last session has ended, while one thread copies legs and others serve the
-/// control port.
+/// control port. The replies to what is outstanding in a session carry at most so many bytes.
 pub fn serve_and_copy<'a, R>(
     rt: &R,
     alloc: Global,
@@ -60,13 +60,14 @@ pub fn serve_and_copy<'a, R>(
     listeners: (&TcpListener, &TcpListener),
     mirror: &FileMirror,
     passes: &mut [Pass<Leg>],
+    reply_bytes: usize,
     lines: &LogLines,
 ) -> Result<(), StartFault<'a>>
 where
     R: Threads + Wait + Sync + Copy + Clock + Net<Listener = TcpListener, Stream = TcpStream>,
 {
     let (Ok(places), Ok(control_places)) = (
-        SessionPlaces::new(alloc, passes.len() / AT_ONCE),
+        SessionPlaces::new(alloc, passes.len() / AT_ONCE, reply_bytes),
         ControlPlaces::new(alloc),
     ) else {
         return Err(StartFault::Memory);

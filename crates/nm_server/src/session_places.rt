@@ -30,6 +30,7 @@ struct Waiting {
 pub struct SessionPlaces {
     alloc: Global,
     count: usize,
+    reply_bytes: usize,
     waiting: Mutex<Waiting>,
     changed: Condvar,
     is_over: AtomicBool,
@@ -37,8 +38,8 @@ pub struct SessionPlaces {
 }
 
 impl SessionPlaces {
-    /// So many places, all free.
-    pub fn new(alloc: Global, count: usize) -> Result<SessionPlaces, Memory> {
+    /// So many places, all free. The replies to what is outstanding in each may carry so many bytes.
+    pub fn new(alloc: Global, count: usize, reply_bytes: usize) -> Result<SessionPlaces, Memory> {
         let (mut streams, mut served) = (Vec::new(alloc), Vec::new(alloc));
         if streams.reserve(count).is_err() {
             return Err(Memory);
@@ -51,6 +52,7 @@ impl SessionPlaces {
         Ok(SessionPlaces {
             alloc,
             count,
+            reply_bytes,
             waiting: Mutex::new(Waiting {
                 streams,
                 served,
@@ -71,6 +73,11 @@ impl SessionPlaces {
     /// How many places there are.
     pub fn count(&self) -> usize {
         self.count
+    }
+
+    /// How many bytes the replies to what is outstanding in a session may carry.
+    pub fn reply_bytes(&self) -> usize {
+        self.reply_bytes
     }
 
     /// Set once the server closes what is left of its clients.

@@ -20,7 +20,7 @@ use nm_leg::LegPart;
 use nm_mirror::Pass;
 use nm_replies::ReplyWriter;
 use nm_service::Refusals;
-use nm_session::{ServeFault, SessionCore};
+use nm_session::{Limit, ServeFault, SessionCore};
 use nm_wire::{Export, Name};
 use nm_workers::{SpinToken, greet, transmit};
 use std::alloc::Global;
@@ -183,7 +183,11 @@ fn serve_client<R: Threads + Wait + Sync + Copy + Clock>(
     let Some(export) = export_of(alloc, named, mirror.shape().blocks) else {
         return Err(ServeFault::Memory);
     };
-    let Ok(mut core) = SessionCore::new(alloc, export, AT_ONCE) else {
+    let limit = Limit {
+        requests: AT_ONCE,
+        bytes: places.reply_bytes(),
+    };
+    let Ok(mut core) = SessionCore::new(alloc, export, limit) else {
         return Err(ServeFault::Memory);
     };
     if !shake_hands(rt, alloc, stream, &mut core)? {

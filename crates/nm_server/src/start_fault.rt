@@ -2,7 +2,10 @@ ghost use Rattle.std.specs.Prelude.{◌≡◌};
 ghost use Rattle.nm_server.specs.StartFault.{status_of};
 ghost use Rattle.nm_server.specs.declared.start_fault.StartFault.TheVariants.{Memory};
 
+use crate::address::Address;
+use crate::reason::Unopened;
 use std::alloc::AllocError;
+use std::io;
 use thiserror::Error;
 
 /// Why the server does not start, or does not end well.
@@ -31,19 +34,19 @@ pub enum StartFault<'a> {
     BadName,
     /// This leg's file cannot be opened for reading and writing, or is in use.
     #[error("nbdmirror: leg {0}: cannot open")]
-    CannotOpen(usize),
+    CannotOpen(usize, Unopened),
     /// The system has this leg in use.
     #[error("nbdmirror: leg {0}: is in use")]
     InUse(usize),
-    /// This leg's length is no positive multiple of 512, or is more than 2^40 bytes.
+    /// This leg's length, if it has one, is no positive multiple of 512, or is more than 2^40 bytes.
     #[error("nbdmirror: leg {0}: bad length")]
-    BadLength(usize),
-    /// This leg is longer or shorter than leg 0.
+    BadLength(usize, Option<u64>),
+    /// This leg is so many bytes long, and leg 0 has another length.
     #[error("nbdmirror: leg {0}: length differs from leg 0")]
-    OtherLength(usize),
-    /// This leg's file is longer than the process may write files.
+    OtherLength(usize, u64, u64),
+    /// This leg's file is so many bytes long, and the process may write shorter files alone.
     #[error("nbdmirror: leg {0}: is longer than the file size limit")]
-    OverFileLimit(usize),
+    OverFileLimit(usize, u64, u64),
     /// This leg, the master, cannot be read.
     #[error("nbdmirror: leg {0}: cannot read")]
     CannotRead(u8),
@@ -52,7 +55,7 @@ pub enum StartFault<'a> {
     LegsDiffer,
     /// No socket listens at this address.
     #[error("nbdmirror: cannot listen on {0}")]
-    CannotListen(&'a str),
+    CannotListen(Address<'a>, io::Error),
     /// Out of memory, or out of threads.
     #[error("nbdmirror: no memory")]
     Memory,
@@ -74,13 +77,13 @@ impl StartFault<'_> {
             | StartFault::TooManyLegs
             | StartFault::NoMaster(_)
             | StartFault::BadName
-            | StartFault::CannotOpen(_)
+            | StartFault::CannotOpen(_, _)
             | StartFault::InUse(_)
-            | StartFault::BadLength(_)
-            | StartFault::OtherLength(_)
-            | StartFault::OverFileLimit(_)
+            | StartFault::BadLength(_, _)
+            | StartFault::OtherLength(_, _, _)
+            | StartFault::OverFileLimit(_, _, _)
             | StartFault::CannotRead(_) => 3,
-            StartFault::CannotListen(_) => 4,
+            StartFault::CannotListen(_, _) => 4,
             StartFault::Memory => 5,
             StartFault::CannotClose => 6,
             StartFault::LegsDiffer => 7,

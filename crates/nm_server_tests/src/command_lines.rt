@@ -16,6 +16,7 @@ type Refused = (&'static [&'static str], ErrorKind);
 #[derive(Clone, Copy, Debug, PartialEq)]
 struct Asked {
     listen: &'static str,
+    port: Option<u16>,
     control: &'static str,
     name: &'static str,
     numbers: [Option<u8>; 3],
@@ -29,6 +30,7 @@ struct Asked {
 /// What a command line of one leg asks for.
 const PLAIN: Asked = Asked {
     listen: "127.0.0.1:10809",
+    port: None,
     control: "127.0.0.1:10810",
     name: "disk",
     numbers: [Some(16), None, Some(16)],
@@ -39,8 +41,46 @@ const PLAIN: Asked = Asked {
     legs: 1,
 };
 
-static TAKEN: [Taken; 19] = [
+static TAKEN: [Taken; 25] = [
     (&["a"], PLAIN),
+    (
+        &["-p", "0", "a"],
+        Asked {
+            port: Some(0),
+            ..PLAIN
+        },
+    ),
+    (
+        &["-p65535", "a"],
+        Asked {
+            port: Some(65535),
+            ..PLAIN
+        },
+    ),
+    (
+        &["a", "--port=80", "--control", "c"],
+        Asked {
+            port: Some(80),
+            control: "c",
+            ..PLAIN
+        },
+    ),
+    (
+        &["-r", "a"],
+        Asked {
+            read_only: true,
+            ..PLAIN
+        },
+    ),
+    (
+        &["a", "-rp", "7"],
+        Asked {
+            read_only: true,
+            port: Some(7),
+            ..PLAIN
+        },
+    ),
+    (&["a", "--", "-p"], Asked { legs: 2, ..PLAIN }),
     (
         &["--master", "0", "a"],
         Asked {
@@ -136,12 +176,31 @@ static TAKEN: [Taken; 19] = [
     ),
 ];
 
-static REFUSED: [Refused; 17] = [
+static REFUSED: [Refused; 27] = [
     (&[], ErrorKind::MissingRequiredArgument),
     (&["--read-only"], ErrorKind::MissingRequiredArgument),
     (&["--help"], ErrorKind::DisplayHelp),
     (&["-h"], ErrorKind::DisplayHelp),
-    (&["--version", "a"], ErrorKind::UnknownArgument),
+    (&["--version", "a"], ErrorKind::DisplayVersion),
+    (&["-V"], ErrorKind::DisplayVersion),
+    (&["a", "-x"], ErrorKind::UnknownArgument),
+    (&["-p", "65536", "a"], ErrorKind::ValueValidation),
+    (&["-p", "x", "a"], ErrorKind::ValueValidation),
+    (&["a", "-p"], ErrorKind::InvalidValue),
+    (&["-p", "1", "-p", "2", "a"], ErrorKind::ArgumentConflict),
+    (
+        &["-p", "1", "--listen", "127.0.0.1:1", "a"],
+        ErrorKind::ArgumentConflict,
+    ),
+    (
+        &["--listen=127.0.0.1:10809", "a", "--port", "10809"],
+        ErrorKind::ArgumentConflict,
+    ),
+    (
+        &["-p", "1", "--listen", "::", "--stripes", "0", "a"],
+        ErrorKind::ValueValidation,
+    ),
+    (&["-r", "-r", "a"], ErrorKind::ArgumentConflict),
     (&["--nope", "a"], ErrorKind::UnknownArgument),
     (&["--stripes", "0", "a"], ErrorKind::ValueValidation),
     (&["--stripes", "65", "a"], ErrorKind::ValueValidation),
@@ -170,6 +229,7 @@ fn line(alloc: Global, words: &[&'static str]) -> Result<Vec<&'static str>, Fail
 /// Whether the settings are these.
 fn is_asked(settings: &Settings<'_>, asked: Asked) -> bool {
     settings.listen == asked.listen
+        && settings.port == asked.port
         && settings.control == asked.control
         && settings.name == asked.name
         && [

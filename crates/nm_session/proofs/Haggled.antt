@@ -12,6 +12,7 @@ use Rattle.nm_requests.specs.Message.{Message}
 use Rattle.nm_requests.specs.Stream.{Begins}
 use Rattle.nm_wire.specs.declared.export.Export.{Export}
 use Rattle.nm_session.specs.declared.held.Held.{Held}
+use Rattle.nm_session.specs.declared.limit.Limit.{Limit}
 use Rattle.nm_session.specs.declared.stage.Stage.TheVariants as stage
 use Rattle.nm_session.specs.Event.{Event, Fed, Asked, Stopped, Answered, Took, Runs, fed_bytes, taken_bytes, messages}
 use Rattle.nm_session.specs.Feeding.{stage_then, request_bytes}
@@ -21,7 +22,7 @@ use Rattle.nm_session.proofs.Fed.{response_of}
 use Rattle.nm_session.proofs.Transmission.{served, over, take_more, nothing_asked, nothing_judged, nothing_last}
 
 -- a session that haggles: these bytes wait
-abbrev pub state_of : ℕ → Haggling → List ℕ → Session
+abbrev pub state_of : Limit → Haggling → List ℕ → Session
 state_of limit haggling waiting = record {
   limit = limit;
   stage = stage.Haggling;
@@ -38,14 +39,14 @@ Asks export text replied haggling =
     HagglesFrom (initial_state export) text (response_of replied (length text) next.More) haggling
 
 -- what is said of a session in which this text was answered with these bytes, while others wait
-pub record Whole (export : Export) (text replied waiting : List ℕ) (events : List Event)
+pub record Whole (export : Export) (limit : Limit) (text replied waiting : List ℕ) (events : List Event)
     (new : Session) : Type 0 where
   pub more : List ℕ
   pub end : End
   pub haggles : Haggles export (text ++ fed_bytes events) (replied ++ more) end
   pub out_is : taken_bytes events ++ new.out ≡ waiting ++ (more ++ replies [] events)
   pub are_read : AreRead end (text ++ fed_bytes events) (messages events)
-  pub are_judged : AreJudged export 0 events
+  pub are_judged : AreJudged export limit 0 events
   pub last : LastIsDisconnect events
 
 pub initial : (export : Export) → Asks export [] [] (initial_state export)
@@ -135,7 +136,7 @@ nothing_answered [] after held e = cc
 nothing_answered (x ∷ before) after held e = cc
 
 -- the session after the haggling responded to a piece
-abbrev pub responded : ℕ → Next → Haggling → ℕ → List ℕ → List ℕ → Session
+abbrev pub responded : Limit → Next → Haggling → ℕ → List ℕ → List ℕ → Session
 responded limit shown haggling used piece out = record {
   limit = limit;
   stage = stage_then shown;
@@ -147,10 +148,10 @@ responded limit shown haggling used piece out = record {
 }
 
 -- the haggling goes on with the piece
-goes_further : (export : Export) (text replied waiting piece out : List ℕ) (events : List Event)
-    (new : Session) → Whole export (text ++ piece) (replied ++ out) (waiting ++ out) events new
-    → Whole export text replied waiting (Fed piece ∷ events) new
-goes_further export text replied waiting piece out events new whole = record {
+goes_further : (export : Export) (limit : Limit) (text replied waiting piece out : List ℕ) (events : List Event)
+    (new : Session) → Whole export limit (text ++ piece) (replied ++ out) (waiting ++ out) events new
+    → Whole export limit text replied waiting (Fed piece ∷ events) new
+goes_further export limit text replied waiting piece out events new whole = record {
   more = out ++ whole.more;
   end = whole.end;
   haggles =
@@ -168,12 +169,12 @@ goes_further export text replied waiting piece out events new whole = record {
 }
 
 -- transmission begins with the piece
-transmits : GoesOn → EndsThere → (export : Export) (limit : ℕ) (old mid : Haggling)
+transmits : GoesOn → EndsThere → (export : Export) (limit : Limit) (old mid : Haggling)
     (text replied waiting piece out : List ℕ) (used : ℕ) (events : List Event) (new : Session)
     → Asks export text replied old
     → HagglesFrom old piece (response_of out used next.Transmit) mid
     → Runs (responded limit next.Transmit mid used piece (waiting ++ out)) events new
-    → Whole export text replied waiting (Fed piece ∷ events) new
+    → Whole export limit text replied waiting (Fed piece ∷ events) new
 transmits goes_on ends_there export limit old mid text replied waiting piece out used events new
     so_far from runs =
     let after = served events [] (responded limit next.Transmit mid used piece (waiting ++ out)) new
@@ -189,17 +190,17 @@ transmits goes_on ends_there export limit old mid text replied waiting piece out
       out_is = after.out ∙ append_assoc waiting out (replies [] events);
       are_read = read_after text piece (fed_bytes events) after.rest used (messages events) within
           after.begins;
-      are_judged = subst (λ (e : Export). AreJudged e 0 events) same after.judged;
+      are_judged = subst (λ (e : Export). AreJudged e limit 0 events) same after.judged;
       last = after.last;
     }
 
 -- the session closes with the piece
-closes : GoesOn → EndsThere → (export : Export) (limit : ℕ) (old mid : Haggling)
+closes : GoesOn → EndsThere → (export : Export) (limit : Limit) (old mid : Haggling)
     (text replied waiting piece out : List ℕ) (used : ℕ) (aborted : Bool) (events : List Event)
     (new : Session) → Asks export text replied old
     → HagglesFrom old piece (response_of out used (next.Close aborted)) mid
     → Runs (responded limit (next.Close aborted) mid used piece (waiting ++ out)) events new
-    → Whole export text replied waiting (Fed piece ∷ events) new
+    → Whole export limit text replied waiting (Fed piece ∷ events) new
 closes goes_on ends_there export limit old mid text replied waiting piece out used aborted events new
     so_far from runs =
     let after = over events [] (responded limit (next.Close aborted) mid used piece (waiting ++ out))
@@ -212,29 +213,29 @@ closes goes_on ends_there export limit old mid text replied waiting piece out us
           (next.Close aborted) (fed_bytes events) not_more so_far from;
       out_is = after.out ∙ append_assoc waiting out (replies [] events);
       are_read = nothing_asked events after.nothing;
-      are_judged = nothing_judged export 0 events after.nothing;
+      are_judged = nothing_judged export limit 0 events after.nothing;
       last = nothing_last events after.nothing;
     }
 
 -- from any state of the haggling on
 FromHere : List Event → Type 0
 FromHere events =
-    (export : Export) (limit : ℕ) (haggling : Haggling) (text replied waiting : List ℕ)
+    (export : Export) (limit : Limit) (haggling : Haggling) (text replied waiting : List ℕ)
     (new : Session) → Asks export text replied haggling
     → Runs (state_of limit haggling waiting) events new
-    → Whole export text replied waiting events new
+    → Whole export limit text replied waiting events new
 
 -- by what the piece is answered with
 fed_on : GoesOn → EndsThere → (events : List Event) → FromHere events → (shown : Next)
-    (export : Export) (limit : ℕ) (old mid : Haggling)
+    (export : Export) (limit : Limit) (old mid : Haggling)
     (text replied waiting piece out : List ℕ) (used : ℕ) (new : Session)
     → Asks export text replied old → HagglesFrom old piece (response_of out used shown) mid
     → Runs (responded limit shown mid used piece (waiting ++ out)) events new
-    → Whole export text replied waiting (Fed piece ∷ events) new
+    → Whole export limit text replied waiting (Fed piece ∷ events) new
 unfolding FromHere
 fed_on goes_on ends_there events later next.More export limit old mid text replied waiting piece out
     used new so_far from runs =
-    goes_further export text replied waiting piece out events new
+    goes_further export limit text replied waiting piece out events new
     (later export limit mid (text ++ piece) (replied ++ out) (waiting ++ out) new
     (asks_more goes_on export text replied old mid piece out used so_far from) runs)
 fed_on goes_on ends_there events later next.Transmit export limit old mid text replied waiting piece
@@ -249,9 +250,9 @@ fed_on goes_on ends_there events later (next.Close aborted) export limit old mid
 not_serving : stage.Haggling ≡ stage.Serving → ⊥
 not_serving e = cc
 
-stays : (export : Export) (limit : ℕ) (haggling : Haggling) (text replied waiting : List ℕ)
+stays : (export : Export) (limit : Limit) (haggling : Haggling) (text replied waiting : List ℕ)
     (new : Session) → Asks export text replied haggling → new ≡ state_of limit haggling waiting
-    → Whole export text replied waiting [] new
+    → Whole export limit text replied waiting [] new
 stays export limit haggling text replied waiting new so_far runs = record {
   more = [];
   end = haggle.More;
@@ -268,10 +269,10 @@ stays export limit haggling text replied waiting new so_far runs = record {
   last = tt;
 }
 
-taken_on : (export : Export) (text replied waiting bytes : List ℕ) (events : List Event)
-    (new : Session) → bytes ≡ waiting → Whole export text replied [] events new
-    → Whole export text replied waiting (Took bytes ∷ events) new
-taken_on export text replied waiting bytes events new is whole = record {
+taken_on : (export : Export) (limit : Limit) (text replied waiting bytes : List ℕ) (events : List Event)
+    (new : Session) → bytes ≡ waiting → Whole export limit text replied [] events new
+    → Whole export limit text replied waiting (Took bytes ∷ events) new
+taken_on export limit text replied waiting bytes events new is whole = record {
   more = whole.more;
   end = whole.end;
   haggles = whole.haggles;
@@ -281,10 +282,10 @@ taken_on export text replied waiting bytes events new is whole = record {
   last = whole.last;
 }
 
-pub haggled : GoesOn → EndsThere → (events : List Event) → (export : Export) (limit : ℕ)
+pub haggled : GoesOn → EndsThere → (events : List Event) → (export : Export) (limit : Limit)
     (haggling : Haggling) (text replied waiting : List ℕ) (new : Session)
     → Asks export text replied haggling → Runs (state_of limit haggling waiting) events new
-    → Whole export text replied waiting events new
+    → Whole export limit text replied waiting events new
 unfolding FromHere
 haggled goes_on ends_there [] export limit haggling text replied waiting new so_far runs =
     stays export limit haggling text replied waiting new so_far runs
@@ -304,6 +305,6 @@ haggled goes_on ends_there (Answered index outcome ∷ events) export limit hagg
     absurd (nothing_answered runs.1.before runs.1.after runs.1.held runs.1.found)
 haggled goes_on ends_there (Took bytes ∷ events) export limit haggling text replied waiting new
     so_far runs =
-    taken_on export text replied waiting bytes events new runs.1.bytes_are
+    taken_on export limit text replied waiting bytes events new runs.1.bytes_are
     (haggled goes_on ends_there events export limit haggling text replied [] new so_far
     (subst (λ (s : Session). Runs s events new) runs.1.new_is runs.2))

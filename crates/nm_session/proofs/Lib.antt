@@ -1,5 +1,6 @@
 pub mod Frames
 pub mod Sessions
+pub mod Room
 pub mod Settled
 pub mod Fed
 pub mod Answered

@@ -1,5 +1,5 @@
 -- What a turn reads, calls for and answers is a move.
-use Rattle.std.proofs.Common.{◌≡◌, ℕ, zero, suc, ◌+◌, ◌<◌, ◌≤◌, List, [], ◌∷◌, ◌++◌, length, Option, Some, None, Result, Ok, Err, refl, ◌⊎◌, sym, ap, ◌∙◌, subst, append-nil, All, arith, inl, inr}
+use Rattle.std.proofs.Common.{◌≡◌, ℕ, zero, suc, ◌+◌, ◌<◌, ◌≤◌, List, [], ◌∷◌, ◌++◌, length, Option, Some, None, Result, Ok, Err, refl, ◌⊎◌, ⊎_elim, sym, ap, ◌∙◌, subst, append-nil, All, arith, inl, inr}
 use Rattle.std.proofs.lemmas.List.Elements.{All-nil, All-cons, All-same}
 use Rattle.nm_wire.specs.Export.{size_of}
 use Rattle.nm_wire.specs.declared.export.Export.{Export}
@@ -10,7 +10,7 @@ use Rattle.nm_requests.specs.Judging.{LiesInside}
 use Rattle.nm_requests.specs.Stream.{most_requests}
 use Rattle.nm_session.specs.declared.held.Held.{Held}
 use Rattle.nm_session.specs.declared.next.Next.TheVariants as next
-use Rattle.nm_session.specs.Session.{Session}
+use Rattle.nm_session.specs.Session.{Session, bytes_asked}
 use Rattle.nm_session.specs.Feeding.{IsEnded}
 use Rattle.nm_session.specs.declared.serve_fault.ServeFault.TheVariants as fault
 use Rattle.nm_session.specs.Asking.{held_for, next_after}
@@ -106,7 +106,7 @@ idle_after_reply start old new idle replies =
     let asks = replies.asks in
     let none = (nobody_waits replies.request replies.judged replies.no_target).1 in (
       record {
-        limit = ap (λ (s : Session). s.limit) asks.new_is ∙ idle.limit;
+        limit = ap (λ (s : Session). s.limit.requests) asks.new_is ∙ idle.limit;
         export = ap (λ (s : Session). s.haggling.export) asks.new_is ∙ idle.export;
         outstanding = ap (λ (s : Session). s.outstanding) asks.new_is
             ∙ ap (λ (held : List Held). old.outstanding ++ held) none
@@ -195,7 +195,9 @@ module _ {T : Type 0} (follows : T → List TargetCall → T → Type 0) (path :
   turn_is_not_full old new idle reads =
       let before = replies_on reads.reads_on.times old reads.mid idle reads.reads_on.each in
       let none : length reads.mid.outstanding ≡ 0 = ap (λ (held : List Held). length held) before.idle.outstanding in
-      omega (arith, none, before.idle.limit, reads.tells.full.full)
+      let asked : bytes_asked reads.mid.outstanding ≡ 0 = ap bytes_asked before.idle.outstanding in
+      ⊎_elim (λ many. omega (arith, none, before.idle.limit, many))
+      (λ lacks. omega (arith, asked, lacks.alone, lacks.more)) reads.tells.full.full
 
   -- nothing more is read
   pub turn_ends : (old new : Session) (target : T) (input output : Option (List ℕ)) → IsIdle old old
@@ -225,7 +227,7 @@ module _ {T : Type 0} (follows : T → List TargetCall → T → Type 0) (path :
         moves = joined mid before (Asked leaves.request (Ok task.Disconnect)) (new, leaves.asks, refl)
             (refl, refl) refl refl;
         idle = record {
-          limit = ap (λ (s : Session). s.limit) leaves.asks.new_is ∙ before.idle.limit;
+          limit = ap (λ (s : Session). s.limit.requests) leaves.asks.new_is ∙ before.idle.limit;
           export = ap (λ (s : Session). s.haggling.export) leaves.asks.new_is ∙ before.idle.export;
           outstanding = ap (λ (s : Session). s.outstanding) leaves.asks.new_is
               ∙ append-nil mid.outstanding ∙ before.idle.outstanding;
@@ -235,7 +237,7 @@ module _ {T : Type 0} (follows : T → List TargetCall → T → Type 0) (path :
       ends_by mid before (inr (inr breaks)) = record {
         moves = joined mid before (Stopped breaks.fault) (new, breaks.stops, refl) (refl, refl) refl refl;
         idle = record {
-          limit = ap (λ (s : Session). s.limit) breaks.stops.new_is ∙ before.idle.limit;
+          limit = ap (λ (s : Session). s.limit.requests) breaks.stops.new_is ∙ before.idle.limit;
           export = ap (λ (s : Session). s.haggling.export) breaks.stops.new_is ∙ before.idle.export;
           outstanding = ap (λ (s : Session). s.outstanding) breaks.stops.new_is ∙ before.idle.outstanding;
         };
@@ -357,7 +359,7 @@ module _ {T : Type 0} (follows : T → List TargetCall → T → Type 0) (path :
             ))
             is.calls.leads refl refl);
         idle = record {
-          limit = ap (λ (s : Session). s.limit) new_is ∙ ap (λ (s : Session). s.limit) asked_is ∙ before.idle.limit;
+          limit = ap (λ (s : Session). s.limit.requests) new_is ∙ ap (λ (s : Session). s.limit.requests) asked_is ∙ before.idle.limit;
           export = ap (λ (s : Session). s.haggling.export) new_is
               ∙ ap (λ (s : Session). s.haggling.export) asked_is ∙ before.idle.export;
           outstanding = ap (λ (s : Session). s.outstanding) new_is ∙ alone.2;

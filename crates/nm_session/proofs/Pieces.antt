@@ -25,7 +25,7 @@ use Rattle.nm_session.proofs.Motion.{IsPath, moves_on, breaks_on}
 -- an idle core stays idle as its bytes are taken
 pub idle_after_send : (start old new : Session) (bytes : List ℕ) → IsIdle start old → Takes old bytes new → IsIdle start new
 idle_after_send start old new bytes idle takes = record {
-  limit = ap (λ (s : Session). s.limit) takes.new_is ∙ idle.limit;
+  limit = ap (λ (s : Session). s.limit.requests) takes.new_is ∙ idle.limit;
   export = ap (λ (s : Session). s.haggling.export) takes.new_is ∙ idle.export;
   outstanding = ap (λ (s : Session). s.outstanding) takes.new_is ∙ idle.outstanding;
 }
@@ -33,12 +33,12 @@ idle_after_send start old new bytes idle takes = record {
 -- and as a piece is fed, by its stage
 fed_at : (at : Stage) (start old new : Session) (piece : List ℕ) → IsIdle start old → FeedsAt at old piece new → IsIdle start new
 fed_at stage.Haggling start old new piece idle feeds = record {
-  limit = ap (λ (s : Session). s.limit) feeds.new_is ∙ idle.limit;
+  limit = ap (λ (s : Session). s.limit.requests) feeds.new_is ∙ idle.limit;
   export = ap (λ (s : Session). s.haggling.export) feeds.new_is ∙ feeds.from.export_is ∙ idle.export;
   outstanding = ap (λ (s : Session). s.outstanding) feeds.new_is ∙ idle.outstanding;
 }
 fed_at stage.Serving start old new piece idle feeds = record {
-  limit = ap (λ (s : Session). s.limit) feeds ∙ idle.limit;
+  limit = ap (λ (s : Session). s.limit.requests) feeds ∙ idle.limit;
   export = ap (λ (s : Session). s.haggling.export) feeds ∙ idle.export;
   outstanding = ap (λ (s : Session). s.outstanding) feeds ∙ idle.outstanding;
 }

@@ -1,6 +1,6 @@
 -- A request that was read and settled is asked, and what comes next is what was answered.
 use Rattle.std.proofs.Common.{◌≡◌, ℕ, zero, suc, ◌+◌, List, ◌++◌, length, Option, Result, Ok, Err, refl, sym, ◌∙◌, subst, inl, inr}
-use Rattle.std.specs.Prelude.{◌<◌, [], ◌∷◌, All, IfOk, IfSome}
+use Rattle.std.specs.Prelude.{◌<◌, ◌≤◌, [], ◌∷◌, All, IfOk, IfSome}
 use Rattle.std.proofs.Common.{arith}
 use Rattle.std.proofs.lemmas.List.Elements.{All-append, All-nil}
 use Rattle.nm_session.specs.declared.held.Held.{Held}
@@ -8,13 +8,13 @@ use Rattle.nm_requests.specs.declared.request.Request.{Request}
 use Rattle.nm_requests.specs.declared.task.Task.{Task}
 use Rattle.nm_requests.specs.declared.task.Task.TheVariants.{Read, Write, Zero, Flush, Nothing, Disconnect}
 use Rattle.nm_requests.specs.First.{message_of}
-use Rattle.nm_requests.specs.Judging.{IsFirst, LiesInside, table}
+use Rattle.nm_requests.specs.Judging.{LiesInside}
 use Rattle.nm_requests.specs.Stream.{StartsWith}
 use Rattle.nm_wire.specs.declared.export.Export.{Export}
 use Rattle.nm_session.specs.declared.next.Next.{Next}
 use Rattle.nm_session.specs.declared.stage.Stage.TheVariants as stage
-use Rattle.nm_session.specs.Session.{Session, IsReading}
-use Rattle.nm_session.specs.Asking.{Asks, held_for, own_reply, stage_after, next_after}
+use Rattle.nm_session.specs.Session.{Session, IsReading, bytes_asked}
+use Rattle.nm_session.specs.Asking.{Asks, IsJudged, held_for, own_reply, stage_after, next_after}
 use Rattle.nm_session.specs.Reading.{Tells}
 use Rattle.nm_session.proofs.Sessions.{same_session}
 
@@ -24,8 +24,9 @@ pub record IsFound (old : Session) (rest : List ℕ) (request : Request) (judged
   pub reading : IsReading old
   pub index_is : request.index ≡ old.count
   pub first : StartsWith old.count old.rest (message_of request) rest
-  pub is_judged : IsFirst (table request old.haggling.export) judged
+  pub is_judged : IsJudged old.haggling.export old.limit request judged
   pub inside : IfOk judged (LiesInside request old.haggling.export)
+  pub within : bytes_asked (old.outstanding ++ held_for request judged) ≤ old.limit.bytes
 
 -- what was done with it
 pub record IsSettled (old new : Session) (request : Request) (judged : Result Task ℕ)
@@ -46,6 +47,7 @@ asked old new request judged found settled = record {
   first = found.first;
   is_judged = found.is_judged;
   inside = found.inside;
+  within = found.within;
   new_is = same_session new (record old {
     stage = stage_after judged;
     rest = new.rest;

@@ -6,17 +6,17 @@ use Rattle.nm_requests.specs.declared.request.Request.{Request}
 use Rattle.nm_requests.specs.declared.task.Task.{Task}
 use Rattle.nm_requests.specs.declared.task.Task.TheVariants.{Read, Write, Zero, Flush, Nothing, Disconnect}
 use Rattle.nm_requests.specs.First.{message_of}
-use Rattle.nm_requests.specs.Judging.{IsFirst, table}
 use Rattle.nm_wire.specs.declared.export.Export.{Export}
 use Rattle.nm_requests.specs.Message.{Message, message_bytes}
 use Rattle.nm_requests.specs.Stream.{Begins, StartsWith, most_requests}
 use Rattle.nm_session.specs.declared.ended_by.EndedBy.{EndedBy}
 use Rattle.nm_session.specs.declared.ended_by.EndedBy.TheVariants as by
 use Rattle.nm_session.specs.declared.held.Held.{Held}
+use Rattle.nm_session.specs.declared.limit.Limit.{Limit}
 use Rattle.nm_session.specs.declared.outcome.Outcome.{Outcome}
 use Rattle.nm_session.specs.declared.stage.Stage.{Stage}
 use Rattle.nm_session.specs.declared.stage.Stage.TheVariants as stage
-use Rattle.nm_session.specs.Asking.{held_for, own_reply, stage_after}
+use Rattle.nm_session.specs.Asking.{IsJudged, held_for, own_reply, stage_after}
 use Rattle.nm_session.specs.Event.{Event, Fed, Asked, Stopped, Answered, Took, Runs, fed_bytes, taken_bytes, messages}
 use Rattle.nm_session.specs.Feeding.{FeedsAt}
 use Rattle.nm_session.specs.Outcome.{says, reply_frame}
@@ -96,7 +96,7 @@ pub record Served (before : List Request) (old : Session) (events : List Event) 
   pub out : Out before old events new
   pub rest : List ℕ
   pub begins : Begins old.count (old.rest ++ fed_bytes events) (messages events) rest
-  pub judged : AreJudged old.haggling.export old.count events
+  pub judged : AreJudged old.haggling.export old.limit old.count events
   pub last : LastIsDisconnect events
 
 nothing_fed : (events : List Event) → IsNothingRead events → fed_bytes events ≡ []
@@ -115,14 +115,14 @@ nothing_asked (Stopped fault ∷ events) none = absurd none
 nothing_asked (Answered index outcome ∷ events) none = nothing_asked events none
 nothing_asked (Took bytes ∷ events) none = nothing_asked events none
 
-pub nothing_judged : (export : Export) (n : ℕ) (events : List Event) → IsNothingRead events
-    → AreJudged export n events
-nothing_judged export n [] none = tt
-nothing_judged export n (Fed piece ∷ events) none = absurd none
-nothing_judged export n (Asked request judged ∷ events) none = absurd none
-nothing_judged export n (Stopped fault ∷ events) none = absurd none
-nothing_judged export n (Answered index outcome ∷ events) none = nothing_judged export n events none
-nothing_judged export n (Took bytes ∷ events) none = nothing_judged export n events none
+pub nothing_judged : (export : Export) (limit : Limit) (n : ℕ) (events : List Event) → IsNothingRead events
+    → AreJudged export limit n events
+nothing_judged export limit n [] none = tt
+nothing_judged export limit n (Fed piece ∷ events) none = absurd none
+nothing_judged export limit n (Asked request judged ∷ events) none = absurd none
+nothing_judged export limit n (Stopped fault ∷ events) none = absurd none
+nothing_judged export limit n (Answered index outcome ∷ events) none = nothing_judged export limit n events none
+nothing_judged export limit n (Took bytes ∷ events) none = nothing_judged export limit n events none
 
 pub nothing_last : (events : List Event) → IsNothingRead events → LastIsDisconnect events
 nothing_last [] none = tt
@@ -202,7 +202,7 @@ asked_state old request judged rest = record old {
 served_on : (before : List Request) (old new : Session) (request : Request)
     (judged : Result Task ℕ) (rest : List ℕ) (events : List Event)
     → request.index ≡ old.count → StartsWith old.count old.rest (message_of request) rest
-    → IsFirst (table request old.haggling.export) judged → stage_after judged ≡ stage.Serving
+    → IsJudged old.haggling.export old.limit request judged → stage_after judged ≡ stage.Serving
     → Served (request ∷ before) (asked_state old request judged rest) events new
     → Served before old (Asked request judged ∷ events) new
 served_on before old new request judged rest events index first is_judged e more = record {
@@ -218,7 +218,7 @@ served_on before old new request judged rest events index first is_judged e more
 served_end : (before : List Request) (old new : Session) (request : Request)
     (judged : Result Task ℕ) (rest : List ℕ) (events : List Event)
     → request.index ≡ old.count → StartsWith old.count old.rest (message_of request) rest
-    → IsFirst (table request old.haggling.export) judged → judged ≡ Ok Disconnect
+    → IsJudged old.haggling.export old.limit request judged → judged ≡ Ok Disconnect
     → Over (request ∷ before) (asked_state old request judged rest) events new
     → Served before old (Asked request judged ∷ events) new
 served_end before old new request judged rest events index first is_judged e more = record {
@@ -231,7 +231,7 @@ served_end before old new request judged rest events index first is_judged e mor
   judged = (
     index,
     is_judged,
-    nothing_judged old.haggling.export (old.count + 1) events more.nothing,
+    nothing_judged old.haggling.export old.limit (old.count + 1) events more.nothing,
   );
   last = last_disconnect request judged events e more.nothing;
 }
@@ -280,7 +280,7 @@ served (Stopped fault ∷ events) before old new serving few known runs =
       out = more.out;
       rest = old.rest;
       begins = nothing_begins old.count old.rest events few more.nothing;
-      judged = nothing_judged old.haggling.export old.count events more.nothing;
+      judged = nothing_judged old.haggling.export old.limit old.count events more.nothing;
       last = nothing_last events more.nothing;
     }
 served (Answered index outcome ∷ events) before old new serving few known runs =

@@ -7,7 +7,7 @@ use Rattle.nm_session.specs.declared.serve_fault.ServeFault.TheVariants as fault
 use Rattle.nm_session.specs.declared.served.Served.{Served}
 use Rattle.nm_session.specs.declared.stage.Stage.{Stage}
 use Rattle.nm_session.specs.declared.stage.Stage.TheVariants as stage
-use Rattle.nm_session.specs.Session.{Session, session_of}
+use Rattle.nm_session.specs.Session.{Session, session_of, so_many}
 use Rattle.nm_session.specs.Feeding.{FeedsAt}
 use Rattle.nm_session.specs.Event.{Event, Fed, Asked, Stopped, Answered, Took, Runs, taken_bytes, messages}
 use Rattle.nm_session.specs.Text.{GoesOut}
@@ -110,40 +110,40 @@ module _ {T : Type 0} (follows : T → List TargetCall → T → Type 0) (path :
 
   -- a session that came to its end
   pub whole : SoFar → (export : Export) (core : Session) (from to : T) (input unread output written : Option (List ℕ))
-      (served : Served) → Transmits follows served (moment (session_of export 1) from input output) (moment core to unread written)
-      → IsServed follows served (moment (session_of export 1) from input output) (λ core. moment core to unread written)
+      (served : Served) → Transmits follows served (moment (session_of export (so_many 1)) from input output) (moment core to unread written)
+      → IsServed follows served (moment (session_of export (so_many 1)) from input output) (λ core. moment core to unread written)
   whole so_far export core from to input unread output written served transmits = record {
     core = core;
     transmits = transmits;
     requests = transmits.ends.requests
-        ∙ omega (arith, counted (session_of export 1) core transmits.moves.events transmits.moves.runs);
-    goes_out = subst (GoesOut export transmits.moves.events)
+        ∙ omega (arith, counted (session_of export (so_many 1)) core transmits.moves.events transmits.moves.runs);
+    goes_out = subst (GoesOut export (so_many 1) transmits.moves.events)
         (ap (λ (rest : List ℕ). taken_bytes transmits.moves.events ++ rest) transmits.sent
         ∙ append-nil (taken_bytes transmits.moves.events))
-        (so_far export 1 transmits.moves.events core transmits.moves.runs);
+        (so_far export (so_many 1) transmits.moves.events core transmits.moves.runs);
   }
 
   -- a session that broke off
   pub broken : SoFar → (export : Export) (core : Session) (from to : T) (input unread output written : Option (List ℕ))
-      (found : ServeFault) → BreaksOff follows (moment (session_of export 1) from input output) (moment core to unread written) found
-      → IsBrokenOff follows found (moment (session_of export 1) from input output) (λ core. moment core to unread written)
+      (found : ServeFault) → BreaksOff follows (moment (session_of export (so_many 1)) from input output) (moment core to unread written) found
+      → IsBrokenOff follows found (moment (session_of export (so_many 1)) from input output) (λ core. moment core to unread written)
   broken so_far export core from to input unread output written found breaks =
       let rest = unwritten_of found (taken_bytes breaks.events) breaks.written breaks.unfed breaks.cause in
       record {
         core = core;
         breaks = breaks;
         unwritten = rest.0 ++ core.out;
-        goes_out = subst (GoesOut export breaks.events)
+        goes_out = subst (GoesOut export (so_many 1) breaks.events)
             (ap (λ (front : List ℕ). front ++ core.out) rest.1
             ∙ append_assoc breaks.written rest.0 core.out)
-            (so_far export 1 breaks.events core breaks.runs);
+            (so_far export (so_many 1) breaks.events core breaks.runs);
       }
 
   -- a session that broke off before its first byte
   pub broken_at_once : SoFar → (export : Export) (target : T) (input output : Option (List ℕ))
-      → IsBrokenOff follows fault.Memory (moment (session_of export 1) target input output) (λ core. moment core target input output)
+      → IsBrokenOff follows fault.Memory (moment (session_of export (so_many 1)) target input output) (λ core. moment core target input output)
   broken_at_once so_far export target input output =
-      broken so_far export (session_of export 1) target target input input output output fault.Memory (record {
+      broken so_far export (session_of export (so_many 1)) target target input input output output fault.Memory (record {
         events = [];
         calls = [];
         waiting = None;

@@ -1,5 +1,5 @@
 -- What reading and answering a request does to a session.
-use Rattle.std.specs.Prelude.{◌≡◌, ℕ, ◌+◌, List, [], ◌∷◌, ◌++◌, All}
+use Rattle.std.specs.Prelude.{◌≡◌, ℕ, ◌+◌, ◌≤◌, List, [], ◌∷◌, ◌++◌, All, nat_lt, if◌then◌else◌}
 use Rattle.std.specs.Prelude.{Option, Some, None, Result, Ok, Err, IfOk}
 use Rattle.nm_requests.specs.declared.fault.Fault.{Fault}
 use Rattle.nm_requests.specs.declared.request.Request.{Request}
@@ -8,15 +8,34 @@ use Rattle.nm_requests.specs.declared.task.Task.TheVariants as task
 use Rattle.nm_requests.specs.First.{message_of}
 use Rattle.nm_requests.specs.Judging.{IsFirst, LiesInside, table}
 use Rattle.nm_requests.specs.Stream.{StartsWith, EndsAs}
+use Rattle.nm_wire.specs.declared.export.Export.{Export}
 use Rattle.nm_session.specs.declared.ended_by.EndedBy.TheVariants as by
 use Rattle.nm_session.specs.declared.held.Held.{Held}
+use Rattle.nm_session.specs.declared.limit.Limit.{Limit}
 use Rattle.nm_session.specs.declared.next.Next.{Next}
 use Rattle.nm_session.specs.declared.next.Next.TheVariants as next
 use Rattle.nm_session.specs.declared.outcome.Outcome.{Outcome}
 use Rattle.nm_session.specs.declared.stage.Stage.{Stage}
 use Rattle.nm_session.specs.declared.stage.Stage.TheVariants as stage
 use Rattle.nm_session.specs.Outcome.{Fits, says, reply_frame}
-use Rattle.nm_session.specs.Session.{Session, IsReading}
+use Rattle.nm_session.specs.Session.{Session, IsReading, bytes_asked}
+
+-- the error value of memory that is short ("Error values")
+abbrev pub no_memory : ℕ
+no_memory = 12
+
+-- what was judged, but a READ whose bytes are more than replies may carry is refused
+abbrev pub refuse_long : ℕ → Result Task ℕ → Result Task ℕ
+refuse_long most (Ok (task.Read offset length)) =
+    if nat_lt most length then Err no_memory else Ok (task.Read offset length)
+refuse_long most judged = judged
+
+-- the request is judged by the table, and then by how many bytes its reply may carry
+pub record IsJudged (export : Export) (limit : Limit) (request : Request) (judged : Result Task ℕ)
+    : Type 0 where
+  pub by_table : Result Task ℕ
+  pub is_first : IsFirst (table request export) by_table
+  pub judged_is : judged ≡ refuse_long limit.bytes by_table
 
 -- what is kept of a request that has a task for a target
 abbrev pub held_for : Request → Result Task ℕ → List Held
@@ -46,14 +65,16 @@ next_after request (Ok task.Disconnect) = Some next.Ended
 next_after request (Ok task) = Some (next.Issue request.index task request.payload)
 next_after request (Err code) = None
 
--- the first request that is unread is read, and judged so
+-- the first request that is unread is read, and judged so; the replies to all that are outstanding
+-- then carry no more bytes than may be
 pub record Asks (old : Session) (request : Request) (judged : Result Task ℕ) (new : Session)
     : Type 0 where
   pub reading : IsReading old
   pub index_is : request.index ≡ old.count
   pub first : StartsWith old.count old.rest (message_of request) new.rest
-  pub is_judged : IsFirst (table request old.haggling.export) judged
+  pub is_judged : IsJudged old.haggling.export old.limit request judged
   pub inside : IfOk judged (LiesInside request old.haggling.export)
+  pub within : bytes_asked (old.outstanding ++ held_for request judged) ≤ old.limit.bytes
   pub new_is : new ≡ record old {
     stage = stage_after judged;
     rest = new.rest;

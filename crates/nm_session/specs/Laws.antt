@@ -1,6 +1,7 @@
 -- What the definitions say of whole sessions.
 use Rattle.std.specs.Prelude.{ℕ, List, [], ◌∷◌, ◌++◌}
 use Rattle.nm_wire.specs.declared.export.Export.{Export}
+use Rattle.nm_session.specs.declared.limit.Limit.{Limit}
 use Rattle.nm_session.specs.declared.outcome.Outcome.{Outcome}
 use Rattle.nm_session.specs.declared.next.Next.{Next}
 use Rattle.nm_session.specs.Event.{Event, Asked, Stopped, Answered, Runs, taken_bytes}
@@ -12,14 +13,14 @@ use Rattle.nm_session.specs.Text.{GoesOut}
 -- out
 abbrev pub SoFar : Type 0
 SoFar =
-    (export : Export) (limit : ℕ) (events : List Event) (new : Session)
+    (export : Export) (limit : Limit) (events : List Event) (new : Session)
     → Runs (session_of export limit) events new
-    → GoesOut export events (taken_bytes events ++ new.out)
+    → GoesOut export limit events (taken_bytes events ++ new.out)
 
 -- no request is answered twice
 abbrev pub AnsweredOnce : Type 0
 AnsweredOnce =
-    (export : Export) (limit index : ℕ) (before between after : List Event)
+    (export : Export) (limit : Limit) (index : ℕ) (before between after : List Event)
     (outcome other : Outcome) (new : Session)
     → Runs (session_of export limit)
     (before ++ Answered index outcome ∷ (between ++ Answered index other ∷ after)) new → ⊥

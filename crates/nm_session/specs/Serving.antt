@@ -72,7 +72,7 @@ pub record IsServed {T : Type 0} (follows : T → List TargetCall → T → Type
   pub core : Session
   pub transmits : Transmits follows served from (to core)
   pub requests : served.requests ≡ length (messages transmits.moves.events)
-  pub goes_out : GoesOut from.core.haggling.export transmits.moves.events
+  pub goes_out : GoesOut from.core.haggling.export from.core.limit transmits.moves.events
       (taken_bytes transmits.moves.events)
 
 -- a session that a fault broke off: what was written is a beginning of what goes out
@@ -81,4 +81,5 @@ pub record IsBrokenOff {T : Type 0} (follows : T → List TargetCall → T → T
   pub core : Session
   pub breaks : BreaksOff follows from (to core) fault
   pub unwritten : List ℕ
-  pub goes_out : GoesOut from.core.haggling.export breaks.events (breaks.written ++ unwritten)
+  pub goes_out : GoesOut from.core.haggling.export from.core.limit breaks.events
+      (breaks.written ++ unwritten)

@@ -4,11 +4,11 @@ use Rattle.nm_haggle.specs.Haggling.{Haggles, End, greeting_bytes}
 use Rattle.nm_haggle.specs.Haggling as haggle
 use Rattle.nm_requests.specs.declared.request.Request.{Request}
 use Rattle.nm_requests.specs.declared.task.Task.TheVariants.{Disconnect}
-use Rattle.nm_requests.specs.Judging.{IsFirst, table}
 use Rattle.nm_requests.specs.Message.{Message}
 use Rattle.nm_requests.specs.Stream.{Begins}
 use Rattle.nm_wire.specs.declared.export.Export.{Export}
-use Rattle.nm_session.specs.Asking.{own_reply}
+use Rattle.nm_session.specs.declared.limit.Limit.{Limit}
+use Rattle.nm_session.specs.Asking.{IsJudged, own_reply}
 use Rattle.nm_session.specs.Event.{Event, Fed, Asked, Stopped, Answered, fed_bytes, messages}
 use Rattle.nm_session.specs.Outcome.{says, reply_frame}
 
@@ -28,13 +28,13 @@ replies before (Answered index outcome ∷ events) =
     reply_frame (cookie_of index before) (says outcome) ++ replies before events
 replies before (_ ∷ events) = replies before events
 
--- the requests are numbered from this number on, and each is judged by the table
-abbrev pub AreJudged : Export → ℕ → List Event → Type 0
-AreJudged export count [] = Unit {0}
-AreJudged export count (Asked request judged ∷ events) =
-    (request.index ≡ count) × IsFirst (table request export) judged
-    × AreJudged export (count + 1) events
-AreJudged export count (_ ∷ events) = AreJudged export count events
+-- the requests are numbered from this number on, and each is judged so
+abbrev pub AreJudged : Export → Limit → ℕ → List Event → Type 0
+AreJudged export limit count [] = Unit {0}
+AreJudged export limit count (Asked request judged ∷ events) =
+    (request.index ≡ count) × IsJudged export limit request judged
+    × AreJudged export limit (count + 1) events
+AreJudged export limit count (_ ∷ events) = AreJudged export limit count events
 
 -- nothing is fed and nothing is read
 abbrev pub IsNothingRead : List Event → Type 0
@@ -60,11 +60,12 @@ AreRead (haggle.Close used aborted) text requests = requests ≡ []
 
 -- these bytes go out: the greeting, what all the fed bytes are answered with in the haggling, and
 -- the replies to the requests, which are the first of those that were fed
-pub record GoesOut (export : Export) (events : List Event) (out : List ℕ) : Type 0 where
+pub record GoesOut (export : Export) (limit : Limit) (events : List Event) (out : List ℕ)
+    : Type 0 where
   pub haggled : List ℕ
   pub end : End
   pub haggles : Haggles export (fed_bytes events) haggled end
   pub out_is : out ≡ greeting_bytes ++ (haggled ++ replies [] events)
   pub are_read : AreRead end (fed_bytes events) (messages events)
-  pub are_judged : AreJudged export 0 events
+  pub are_judged : AreJudged export limit 0 events
   pub last : LastIsDisconnect events

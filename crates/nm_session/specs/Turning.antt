@@ -16,7 +16,7 @@ use Rattle.nm_session.specs.Outcome.{says}
 
 -- one request at a time is served, of the same export as before, and none is outstanding
 pub record IsIdle (old new : Session) : Type 0 where
-  pub limit : new.limit ≡ 1
+  pub limit : new.limit.requests ≡ 1
   pub export : new.haggling.export ≡ old.haggling.export
   pub outstanding : new.outstanding ≡ []
 

@@ -1,22 +1,30 @@
 ghost use Rattle.std.specs.Prelude.{◌≡◌, ◌≤◌, [], IfOk, IfErr};
 ghost use Rattle.nm_replies.specs.Sending.{device_of};
 ghost use Rattle.nm_wire.specs.Export.{size_of};
-ghost use Rattle.nm_session.specs.Session.{session_of};
+ghost use Rattle.nm_session.specs.Session.{session_of, so_many};
 ghost use Rattle.nm_session.specs.Moving.{moment, BreaksOff};
 ghost use Rattle.nm_session.specs.Serving.{no_target, ShakesHands, Transmits};
 
 use crate::handshake::shake_hands;
+use crate::limit::Limit;
 use crate::rounds::serve_requests;
 use crate::serve_fault::ServeFault;
 use crate::served::Served;
 use crate::session_core::SessionCore;
 use crate::target::Target;
 use nm_replies::ReplyWriter;
+use nm_wire::sizes::MAX_PAYLOAD;
 use nm_wire::{Export, Memory};
 use std::alloc::Global;
 use std::io::{Read, Write};
 use std::marker::Model;
 use std::sync::Wait;
+
+// One request at a time, whatever its length.
+const ONE: Limit = Limit {
+    requests: 1,
+    bytes: MAX_PAYLOAD as usize,
+};
 
 // How many bytes a read has room for.
 const ROOM: usize = 128 * 1024;
@@ -43,9 +51,9 @@ impl Model for Connection {
 impl Connection {
     /// A session over this export, before its first byte.
     pub fn new(alloc: Global, export: Export) -> Result<Connection, Memory>
-        ensures { IfOk result (λ connection. connection ≡ session_of export 1) }
+        ensures { IfOk result (λ connection. connection ≡ session_of export (so_many 1)) }
     {
-        let Ok(core) = SessionCore::new(alloc, export, 1) else {
+        let Ok(core) = SessionCore::new(alloc, export, ONE) else {
             return Err(Memory);
         };
         let room = vec![in alloc; 0; ROOM]?;
@@ -62,7 +70,7 @@ impl Connection {
         sender: &mut ReplyWriter<O>,
     ) -> Result<Option<Served>, ServeFault>
         requires idle { self.old.outstanding ≡ [] }
-        requires limit { self.old.limit ≡ 1 }
+        requires limit { self.old.limit.requests ≡ 1 }
         ensures ok { IfOk result (λ served. ShakesHands served
             (moment self.old tt (I.remaining reader.old) (O.contents (device_of sender.old)))
             (moment self.new tt (I.remaining reader.new) (O.contents (device_of sender.new)))) }
@@ -87,7 +95,7 @@ impl Connection {
         target: &mut T,
     ) -> Result<Served, ServeFault>
         requires idle { self.old.outstanding ≡ [] }
-        requires limit { self.old.limit ≡ 1 }
+        requires limit { self.old.limit.requests ≡ 1 }
         requires size { size_of self.old.haggling.export ≤ T.size target.old }
         ensures ok { IfOk result (λ served. Transmits T.follows served
             (moment self.old target.old (I.remaining reader.old)

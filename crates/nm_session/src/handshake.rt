@@ -25,7 +25,7 @@ pub(crate) fn shake_hands<R: Wait, I: Read, O: Write>(
     sender: &mut ReplyWriter<O>,
 ) -> Result<Option<Served>, ServeFault>
     requires idle { core.old.outstanding ≡ [] }
-    requires limit { core.old.limit ≡ 1 }
+    requires limit { core.old.limit.requests ≡ 1 }
     requires room { 0 < length room.old }
     ensures ok { IfOk result (λ served. ShakesHands served
         (moment core.old tt (I.remaining reader.old) (O.contents (device_of sender.old)))

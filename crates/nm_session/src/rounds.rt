@@ -29,7 +29,7 @@ pub(crate) fn serve_requests<R: Wait, I: Read, O: Write, T: Target>(
     target: &mut T,
 ) -> Result<Served, ServeFault>
     requires idle { core.old.outstanding ≡ [] }
-    requires limit { core.old.limit ≡ 1 }
+    requires limit { core.old.limit.requests ≡ 1 }
     requires size { size_of core.old.haggling.export ≤ T.size target.old }
     requires room { 0 < length room.old }
     ensures ok { IfOk result (λ served. Transmits T.follows served
@@ -61,7 +61,7 @@ fn serve_round<I: Read, O: Write, T: Target>(
     target: &mut T,
 ) -> Result<Option<Served>, ServeFault>
     requires idle { core.old.outstanding ≡ [] }
-    requires limit { core.old.limit ≡ 1 }
+    requires limit { core.old.limit.requests ≡ 1 }
     requires size { size_of core.old.haggling.export ≤ T.size target.old }
     requires room { 0 < length room.old }
     ensures ok { IfOk result (λ served. IsRound T.follows served

@@ -1,9 +1,10 @@
 ghost use Rattle.std.specs.Prelude.{◌≡◌, ◌≢◌, ◌↔◌, ◌<◌, ◌≤◌, ◌⊎◌, if◌then◌else◌, [], length, All};
 ghost use Rattle.std.specs.Prelude.{slice_index_or, vec_capacity};
-ghost use Rattle.std.specs.Prelude.{IfOk, IfErr, IfSome, IfNone, OnOk, OnErr, IsTrue};
+ghost use Rattle.std.specs.Prelude.{IfOk, IfErr, IfSome, IfNone, OnOk, OnErr, IsTrue, IsFalse};
 ghost use Rattle.nm_session.specs.declared.ended_by.EndedBy.TheVariants as by;
 ghost use Rattle.nm_haggle.specs.Haggling.{greeting_bytes};
-ghost use Rattle.nm_session.specs.Session.{session_of, phase_at, IsSettled};
+ghost use Rattle.nm_session.specs.Session.{session_of, phase_at, IsSettled, LacksRoom};
+ghost use Rattle.nm_session.specs.Session.{HasRoom};
 ghost use Rattle.nm_session.specs.Session as session;
 ghost use Rattle.nm_session.specs.Feeding.{Feeds, Responds, IsEnded};
 ghost use Rattle.nm_session.specs.Asking.{Answers, FitsAt};
@@ -13,14 +14,18 @@ ghost use Rattle.nm_session.specs.declared.stage.Stage.TheVariants as stage;
 
 use crate::ended_by::EndedBy;
 use crate::held::Held;
+use crate::limit::Limit;
 use crate::next::Next;
 use crate::outcome::Outcome;
 use crate::phase::Phase;
 use crate::refused::Refused;
-use crate::settling::{is_fit, is_same, put_outcome, settle, stage_after};
+use crate::settling::{
+    asked_by, is_fit, is_same, judge_within, put_outcome, reply_length, settle, stage_after,
+    sum_within,
+};
 use crate::stage::Stage;
 use nm_haggle::Haggle;
-use nm_requests::{Fault, RequestReader, Task, judge};
+use nm_requests::{Fault, RequestReader, Task};
 use nm_wire::{Export, SimpleReply};
 use std::alloc::{AllocError, Global};
 use std::marker::Model;
@@ -29,14 +34,18 @@ use std::mem;
 /// The server's side of one client's session: takes the client's bytes and the outcomes of its
 /// requests, hands requests out to be done, and gathers the bytes that go to the client.
 ///
-/// Up to 16 requests are outstanding at once, and they are answered in any order.
+/// Up to 16 requests are outstanding at once, and they are answered in any order. A request that was
+/// read is only taken where the replies to all that are outstanding then carry no more bytes than
+/// its limit says; a READ that is longer by itself is refused.
 #[derive(Debug, Drop)]
 pub struct SessionCore {
-    limit: usize,
+    limit: Limit,
     stage: Stage,
     haggle: Haggle,
     reader: RequestReader,
     outstanding: Vec<Held>,
+    // How many bytes the replies to the outstanding requests carry at most.
+    asked: usize,
     out: Vec<u8>,
 }
 
@@ -53,25 +62,26 @@ impl Model for SessionCore {
 }
 
 impl SessionCore {
-    /// A session over this export, of which at most `limit` requests, 1 to 16, are outstanding at
-    /// once. The greeting waits to go out. Refused for memory, the export comes back.
+    /// A session over this export, which has no more outstanding than this limit, with 1 to 16
+    /// requests. The greeting waits to go out. Refused for memory, the export comes back.
     pub fn new(
         alloc: Global,
         export: Export,
-        limit: usize,
+        limit: Limit,
     ) -> Result<SessionCore, (Refused, Export)>
-        requires some { 1 ≤ limit }
-        requires limit { limit ≤ 16 }
+        requires some { 1 ≤ limit.requests }
+        requires few { limit.requests ≤ 16 }
         ensures ok { IfOk result (λ core. core ≡ session_of export limit) }
         ensures err { IfErr result (λ e. e ≡ (Refused.Memory, export)) }
     {
-        match make_room(alloc, limit) {
+        match make_room(alloc, limit.requests) {
             Ok((outstanding, out)) => Ok(SessionCore {
                 limit,
                 stage: Stage::Haggling,
                 haggle: Haggle::new(export),
                 reader: RequestReader::new(),
                 outstanding,
+                asked: 0,
                 out,
             }),
             Err(_) => Err((Refused::Memory, export)),
@@ -149,7 +159,10 @@ impl SessionCore {
             Stage::Ended(_) => return Ok(Some(Next::Ended)),
             Stage::Serving => {}
         }
-        if self.outstanding.len() == self.limit {
+        if self.outstanding.len() == self.limit.requests {
+            return Ok(Some(Next::Full));
+        }
+        if self.lacks_room() {
             return Ok(Some(Next::Full));
         }
         // A request that was read cannot be put back, so there must be room for its reply.
@@ -157,7 +170,9 @@ impl SessionCore {
         match self.reader.next(alloc) {
             Ok(None) => Ok(Some(Next::Starved)),
             Ok(Some(request)) => {
-                let judged = judge(&request, self.haggle.export());
+                let judged = judge_within(&request, self.haggle.export(), self.limit);
+                let asked = sum_within(self.asked, asked_by(&judged), self.limit.bytes);
+                self.asked = asked;
                 self.stage = stage_after(&judged);
                 Ok(settle(request, judged, &mut self.outstanding, &mut self.out))
             }
@@ -171,6 +186,15 @@ impl SessionCore {
                 Ok(Some(Next::Ended))
             }
         }
+    }
+
+    // Whether the next request is a READ that has to wait for the replies to others.
+    fn lacks_room(&self) -> bool
+        ensures lacks { IsTrue result → LacksRoom self.now }
+        ensures fits { IsFalse result → HasRoom self.now }
+    {
+        let bytes = self.reader.read_length() as usize;
+        bytes <= self.limit.bytes && self.limit.bytes - bytes < self.asked
     }
 
     /// Whether the outcome is one that the task of the request with this index can have, if that
@@ -221,7 +245,8 @@ impl SessionCore {
         if put_outcome(&mut self.out, cookie, &outcome).is_err() {
             return Err((Refused::Memory, outcome));
         }
-        self.outstanding.remove(at);
+        let held = self.outstanding.remove(at);
+        self.asked -= reply_length(held.task);
         Ok(())
     }
 

@@ -24,7 +24,7 @@ pub(crate) fn turn<T: Target>(
     target: &mut T,
 ) -> Result<Turn, Refused>
     requires idle { core.old.outstanding ≡ [] }
-    requires limit { core.old.limit ≡ 1 }
+    requires limit { core.old.limit.requests ≡ 1 }
     requires size { size_of core.old.haggling.export ≤ T.size target.old }
     ensures ok { IfOk result (λ turn. (input output : Option (List ℕ))
         → Turns T.follows turn (moment core.old target.old input output)
@@ -55,7 +55,7 @@ pub(crate) fn gather<T: Target>(
     target: &mut T,
 ) -> Result<Turn, Refused>
     requires idle { core.old.outstanding ≡ [] }
-    requires limit { core.old.limit ≡ 1 }
+    requires limit { core.old.limit.requests ≡ 1 }
     requires size { size_of core.old.haggling.export ≤ T.size target.old }
     ensures ok { IfOk result (λ turn. (input output : Option (List ℕ))
         → Turns T.follows turn (moment core.old target.old input output)

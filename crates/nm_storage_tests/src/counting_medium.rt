@@ -1,4 +1,5 @@
-//! A medium for tests that counts the reads that are asked of it, and may fail to tell its length.
+//! A medium for tests that counts the reads and writes that are asked of it, and may fail to tell its
+//! length.
 ghost use Rattle.std.specs.Prelude.{false};
 ghost use Rattle.nm_file_leg.specs.Media.{unknown};
 
@@ -7,22 +8,25 @@ use std::cell::Cell;
 use std::io;
 use std::io::ErrorKind;
 
-/// A medium in memory that counts its reads, and tells its length only while it is to.
+/// A medium in memory that counts its reads and writes, and tells its length only while it is to.
+/// Zeroes are holes of it.
 #[derive(Drop)]
 pub struct CountingMedium {
     medium: MemMedium,
     reads: u64,
+    writes: u64,
     last_at: u64,
     last_bytes: usize,
     tells_length: Cell<bool>,
 }
 
 impl CountingMedium {
-    /// This medium, of which nothing was read yet.
+    /// This medium, of which nothing was read or written yet.
     pub fn new(medium: MemMedium) -> Self {
         CountingMedium {
             medium,
             reads: 0,
+            writes: 0,
             last_at: 0,
             last_bytes: 0,
             tells_length: Cell::new(true),
@@ -39,12 +43,17 @@ impl CountingMedium {
         self.reads
     }
 
-    /// The place of the last of them.
+    /// How many writes were asked for.
+    pub fn writes(&self) -> u64 {
+        self.writes
+    }
+
+    /// The place of the last read.
     pub fn last_at(&self) -> u64 {
         self.last_at
     }
 
-    /// How many bytes the last of them asked for.
+    /// How many bytes the last read asked for.
     pub fn last_bytes(&self) -> usize {
         self.last_bytes
     }
@@ -63,6 +72,7 @@ impl Medium for CountingMedium {
     }
 
     fn write_at(&mut self, at: u64, bytes: &[u8]) -> io::Result<usize> {
+        self.writes = self.writes.saturating_add(1);
         self.medium.write_at(at, bytes)
     }
 
@@ -75,5 +85,9 @@ impl Medium for CountingMedium {
             return Err(io::Error::from(ErrorKind::Other));
         }
         self.medium.len()
+    }
+
+    fn is_hole(&self, at: u64, many: usize) -> bool {
+        self.medium.is_hole(at, many)
     }
 }

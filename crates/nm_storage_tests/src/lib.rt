@@ -15,6 +15,8 @@ mod geometry;
 #[cfg(test)]
 mod histories;
 #[cfg(test)]
+mod holes;
+#[cfg(test)]
 mod legs;
 #[cfg(test)]
 mod media;

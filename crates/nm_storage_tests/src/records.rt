@@ -1,21 +1,11 @@
-//! The records of writes: one write from its beginning until it is claimed, and a full list.
-ghost use Rattle.std.specs.Prelude.{◌≡◌, length, IfOk};
+//! The records of writes: a run from its beginning until it is claimed, and many parts in turn.
 
-use bytes::{Bytes, BytesMut};
-use nm_fanout::{Data, LEGS, MOST_RECORDS, Records};
+use bytes::Bytes;
+use nm_fanout::{Data, LEGS, Records};
 use nm_replay::Block;
-use std::alloc::{AllocError, Global};
+use std::alloc::Global;
 use std::process::Abort;
 use std::test::Fail;
-
-/// A cut of a receive buffer: 512 bytes of one value.
-fn cut(alloc: Global, byte: u8) -> Result<Bytes, AllocError>
-    ensures { IfOk result (λ b. length b ≡ 512) }
-{
-    let mut buffer = BytesMut::new(alloc);
-    buffer.extend_from_slice(&[byte; 512])?;
-    buffer.freeze_to(512)
-}
 
 /// Of the eight legs the first alone is owed.
 fn leg_0() -> [bool; LEGS] {
@@ -27,10 +17,11 @@ fn legs_0_and_1() -> [bool; LEGS] {
     [true, true, false, false, false, false, false, false]
 }
 
-/// A write of block 3 under way, under ticket 7, that owes legs 0 and 1.
-fn begin_one(alloc: Global) -> Result<Records, Fail> {
+/// A write of blocks 3 and 4 under way, under tickets 7 and 8, that owes legs 0 and 1.
+fn begin_two(rt: &impl Abort, alloc: Global) -> Result<Records, Fail> {
     let mut records = Records::new(alloc)?;
-    let data = Data::Cut(cut(alloc, 0xaa)?);
+    let data = Data::Cut(Bytes::copy_from_slice(alloc, &[0xaa; 1024])?);
+    assert!(rt; data.fits_run());
     records.begin(7, 3, data, &Block::ZERO, legs_0_and_1());
     Ok(records)
 }
@@ -54,16 +45,25 @@ fn claim(rt: &impl Abort, records: &mut Records, place: usize, number: u64) -> u
     records.claim_at(place)
 }
 
-/// The write of block 3 under ticket 7 has reached each of its legs.
+/// The write under ticket 7 is of blocks 3 and 4.
+fn is_of_3_and_4(rt: &impl Abort, records: &Records) {
+    assert_eq!(rt; records.busy_among(2, 1), None);
+    assert_eq!(rt; records.busy_among(4, 1), Some(7));
+    assert_eq!(rt; records.busy_among(5, 1), None);
+    assert_eq!(rt; (records.find(8), records.unlanded_count()), (None, 2));
+}
+
+/// The write under ticket 7 has reached each of its legs.
 fn owes_none(rt: &impl Abort, records: &Records) {
-    assert_eq!(rt; records.busy_on(3), None);
+    assert_eq!(rt; records.busy_among(3, 2), None);
     assert_eq!(rt; records.next_owed(7), None);
     assert_eq!(rt; records.first_owed(), None);
 }
 
 #[test]
 fn a_write_reaches_its_legs(rt: HostRuntime) -> Result<(), Fail> {
-    let mut records = begin_one(rt.alloc())?;
+    let mut records = begin_two(&rt, rt.alloc())?;
+    is_of_3_and_4(&rt, &records);
     let place = records.find(7).ok_or("the place of ticket 7")?;
     reach(&rt, &mut records, place, 0);
     land(&rt, &mut records, place, 1);
@@ -89,34 +89,5 @@ fn a_claim_gives_the_block_of_a_part_back(rt: HostRuntime) -> Result<(), Fail> {
         assert_eq!(rt; records.at(place).entry, Some(count));
         assert_eq!(rt; records.claim_at(place), count);
     }
-    Ok(())
-}
-
-/// As many writes under way as a list has records of: their tickets are even.
-fn begin_256(rt: &impl Abort, alloc: Global) -> Result<Records, Fail> {
-    let mut records = Records::new(alloc)?;
-    assert_eq!(rt; records.find(0), None);
-    for count in 0..256 {
-        assert!(rt; !records.is_full());
-        records.begin(2 * count, count, Data::Zero, &Block::ZERO, leg_0());
-    }
-    Ok(records)
-}
-
-/// Finds each of those writes, and none beside it.
-fn find_256(rt: &impl Abort, records: &Records) {
-    for count in 0..256 {
-        assert_eq!(rt; records.find(2 * count), Some(count as usize));
-        assert_eq!(rt; records.find(2 * count + 1), None);
-    }
-}
-
-#[test]
-fn as_many_as_256_records_stand_and_each_is_found(rt: HostRuntime) -> Result<(), Fail> {
-    let records = begin_256(&rt, rt.alloc())?;
-    assert_eq!(rt; records.len(), MOST_RECORDS);
-    assert_eq!(rt; records.unlanded_count(), 256);
-    assert!(rt; records.is_full());
-    find_256(&rt, &records);
     Ok(())
 }

@@ -8,10 +8,10 @@ use std::test::Fail;
 fn come_back(rt: &impl Abort, alloc: Global) -> Result<Regions, AllocError> {
     let mut table = Regions::new(alloc, 10, 4, &[true, true])?;
     table.go_out(1);
-    table.begin(0);
-    table.finish(0);
-    table.begin(9);
-    table.finish(9);
+    table.begin(0, 1);
+    table.finish(0, 1);
+    table.begin(9, 1);
+    table.finish(9, 1);
     assert!(rt; table.is_out(1));
     table.attach(1);
     Ok(table)

@@ -24,6 +24,7 @@ struct TestFile {
     /// How often a sync yields before it looks whether it may end.
     holds: AtomicU64,
     is_held: AtomicBool,
+    is_sparse: AtomicBool,
 }
 
 impl TestFile {
@@ -33,6 +34,7 @@ impl TestFile {
             fails: AtomicBool::new(false),
             holds: AtomicU64::new(0),
             is_held: AtomicBool::new(false),
+            is_sparse: AtomicBool::new(false),
         }
     }
 
@@ -42,6 +44,11 @@ impl TestFile {
 
     fn set_fails(&self, fails: bool) {
         self.fails.store(fails, Ordering::SeqCst);
+    }
+
+    /// From now on it has a hole wherever one looks.
+    fn make_sparse(&self) {
+        self.is_sparse.store(true, Ordering::SeqCst);
     }
 
     /// Holds the syncs to come for so many turns.
@@ -90,6 +97,10 @@ impl BackingFile for TestFile {
 
     fn count_bytes(&self) -> io::Result<u64> {
         Ok(1 << 20)
+    }
+
+    fn has_hole(&self, _at: u64, _many: usize) -> bool {
+        self.is_sparse.load(Ordering::SeqCst)
     }
 }
 
@@ -264,5 +275,21 @@ fn each_stripe_writes_its_blocks_again_after_a_failed_sync(rt: HostRuntime) -> R
     second.write(1, &[2; 512])?;
     second.sync()?;
     assert_eq!(rt; file.file().syncs(), 3);
+    Ok(())
+}
+
+#[test]
+fn zeroes_in_a_hole_are_no_write_to_sync(rt: HostRuntime) -> Result<(), Fail> {
+    let (file, one, _two, _three) = three_users(rt.alloc())?;
+    let mut leg = FileLeg::new(one, &TWO, 0)?;
+    assert!(rt; leg.len() == 2);
+    leg.sync()?;
+    file.file().make_sparse();
+    leg.write(0, &[0; 2 * 512])?;
+    leg.sync()?;
+    assert_eq!(rt; file.file().syncs(), 1);
+    leg.write(0, &[1; 2 * 512])?;
+    leg.sync()?;
+    assert_eq!(rt; file.file().syncs(), 2);
     Ok(())
 }

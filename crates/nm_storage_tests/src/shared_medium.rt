@@ -100,6 +100,10 @@ impl Medium for SharedMedium {
     fn len(&self) -> io::Result<u64> {
         self.contents.len()
     }
+
+    fn is_hole(&self, at: u64, many: usize) -> bool {
+        self.contents.is_hole(at, many)
+    }
 }
 
 /// A leg on one user's share of an array.

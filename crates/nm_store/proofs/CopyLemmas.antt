@@ -118,7 +118,8 @@ copied-legs blocks t =
 pub legs-count : {X Z : Type 0} (legs : Vec X Z) (new : List X) → length legs.items ≡ length (with_items legs new).items
 legs-count legs new = sym legs.ok.0 ∙ (with_items legs new).ok.0
 
-stored : {X Z : Type 0} (legs : Vec X Z) (new : List X) → length new ≡ length legs.items → new ≡ (with_items legs new).items
+-- what a slice of a vector became is what the vector holds
+pub stored : {X Z : Type 0} (legs : Vec X Z) (new : List X) → length new ≡ length legs.items → new ≡ (with_items legs new).items
 stored legs new same = sym (with_items_is legs new (same ∙ sym legs.ok.0))
 
 -- a read and a write that failed, in the words of the state

@@ -1,11 +1,9 @@
 -- How many writes are under way in each region, after each change of the records.
-use Rattle.std.proofs.Common.{◌≡◌, ◌≢◌, ℕ, zero, suc, ◌+◌, ◌-◌, ◌<◌, ◌≤◌, ◌/◌, ◌==◌, ◌&&◌, Bool, true, false, cond, List, [], ◌∷◌, ◌++◌, Some, length, refl, ap, ◌∙◌, arith, get_or, slice_set, replicate}
-use Rattle.std.proofs.lemmas.List.Sums.{sum_by-append, sum_by-cons, sum_by_push}
+use Rattle.std.proofs.Common.{◌≡◌, ◌≢◌, ℕ, zero, suc, ◌+◌, ◌<◌, ◌≤◌, ◌/◌, ◌==◌, ◌&&◌, Bool, true, false, cond, List, [], ◌∷◌, length, refl, ap, ◌∙◌, arith, get_or, slice_set, replicate}
+use Rattle.std.proofs.lemmas.List.Sums.{sum_by-cons}
 use Rattle.std.proofs.lemmas.Bool.Decides.{nat_tests}
 use Rattle.nm_fanout.specs.declared.write_record.Record.{Record}
 use Rattle.nm_fanout.specs.Record.{is_under_way}
-use Rattle.nm_fanout.specs.Records.{Ascends, find_record, changed, with_new, without}
-use Rattle.nm_fanout.proofs.Parts.{parts}
 use Rattle.nm_rules.specs.State.{writes_in, writes_from}
 
 -- regions from this one on whose counts are alike
@@ -40,9 +38,6 @@ one-most : (b : Bool) → cond b 1 0 ≤ 1
 one-most true = omega arith
 one-most false = omega arith
 
-pub one-idle : (size region : ℕ) (r : Record) → is_under_way r ≡ false → one size region r ≡ 0
-one-idle size region r idle = rw idle refl
-
 pub one-here : (size region : ℕ) (r : Record) → is_under_way r ≡ true → r.block / size ≡ region → one size region r ≡ 1
 one-here size region r busy at =
     let same : (r.block / size == region) ≡ true = grind (arith, nat_tests, at) in
@@ -61,56 +56,6 @@ pub one-other : (size region : ℕ) (r : Record) → region ≢ r.block / size �
 one-other size region r ne =
     let differs : (r.block / size == region) ≡ false = grind (arith, nat_tests, ne) in
     none-of (is_under_way r) (r.block / size == region) differs
-
--- a write begins
-pub writes-begun : (size n : ℕ) (r : Record) (rs : List Record) → is_under_way r ≡ true → r.block / size < n
-    → writes_from size n 0 (with_new r rs) ≡ slice_set (writes_from size n 0 rs) (r.block / size) (get_or (writes_from size n 0 rs) (r.block / size) 0 + 1)
-writes-begun size n r rs busy inside =
-    let j = r.block / size in
-    let more : (m : ℕ) → writes_in size m (with_new r rs) ≡ writes_in size m rs + one size m r = λ m. sum_by_push (one size m) rs r in
-    let other : (m : ℕ) → m ≢ j → writes_in size m (with_new r rs) ≡ writes_in size m rs = λ m ne. omega (arith, more m, one-other size m r ne) in
-    let here : writes_in size j (with_new r rs) ≡ get_or (writes_from size n 0 rs) j 0 + 1 = omega (arith, more j, one-here size j r busy refl, get-one size n 0 j j rs (let e : j ≡ 0 + j = omega arith in e) inside) in
-    set-one size n 0 j j (with_new r rs) rs (let e : j ≡ 0 + j = omega arith in e) other ∙ ap (λ (c : ℕ). slice_set (writes_from size n 0 rs) j c) here
-
-writes_in-parts : (size region : ℕ) (older newer : List Record) (x : Record) → writes_in size region (older ++ x ∷ newer) ≡ writes_in size region older + (one size region x + writes_in size region newer)
-writes_in-parts size region older newer x =
-    sum_by-append (one size region) older (x ∷ newer) ∙ ap (λ n. writes_in size region older + n) (sum_by-cons (one size region) x newer)
-
--- a record is changed: only its own count moves
-pub writes_in-changed : (size region : ℕ) (f : Record → Record) (t : ℕ) (rs : List Record) (x : Record) → Ascends rs → find_record t rs ≡ Some x
-    → writes_in size region (changed f t rs) + one size region x ≡ writes_in size region rs + one size region (f x)
-writes_in-changed size region f t rs x h found =
-    let p = parts t rs x h found in
-    let a : writes_in size region (changed f t rs) ≡ writes_in size region p.older + (one size region (f x) + writes_in size region p.newer) = ap (λ (l : List Record). writes_in size region l) (p.change f) ∙ writes_in-parts size region p.older p.newer (f x) in
-    let b : writes_in size region rs ≡ writes_in size region p.older + (one size region x + writes_in size region p.newer) = ap (λ (l : List Record). writes_in size region l) p.whole ∙ writes_in-parts size region p.older p.newer x in
-    omega (arith, a, b)
-
--- a change that leaves each count
-pub writes-changed_same : (size n : ℕ) (f : Record → Record) (t : ℕ) (rs : List Record) (x : Record) → Ascends rs → find_record t rs ≡ Some x
-    → ((m : ℕ) → one size m (f x) ≡ one size m x) → writes_from size n 0 (changed f t rs) ≡ writes_from size n 0 rs
-writes-changed_same size n f t rs x h found same =
-    alike-from size n 0 (changed f t rs) rs (λ m low. omega (arith, writes_in-changed size m f t rs x h found, same m))
-
--- a change with which the write is finished
-pub writes-changed_idle : (size n : ℕ) (f : Record → Record) (t : ℕ) (rs : List Record) (x : Record) → Ascends rs → find_record t rs ≡ Some x
-    → is_under_way x ≡ true → is_under_way (f x) ≡ false → x.block / size < n
-    → writes_from size n 0 (changed f t rs) ≡ slice_set (writes_from size n 0 rs) (x.block / size) (get_or (writes_from size n 0 rs) (x.block / size) 0 - 1)
-writes-changed_idle size n f t rs x h found busy idle inside =
-    let j = x.block / size in
-    let all : (m : ℕ) → writes_in size m (changed f t rs) + one size m x ≡ writes_in size m rs = λ m. omega (arith, writes_in-changed size m f t rs x h found, one-idle size m (f x) idle) in
-    let other : (m : ℕ) → m ≢ j → writes_in size m (changed f t rs) ≡ writes_in size m rs = λ m ne. omega (arith, all m, one-other size m x ne) in
-    let here : writes_in size j (changed f t rs) ≡ get_or (writes_from size n 0 rs) j 0 - 1 = omega (arith, all j, one-here size j x busy refl, get-one size n 0 j j rs (let e : j ≡ 0 + j = omega arith in e) inside) in
-    set-one size n 0 j j (changed f t rs) rs (let e : j ≡ 0 + j = omega arith in e) other ∙ ap (λ (c : ℕ). slice_set (writes_from size n 0 rs) j c) here
-
--- a finished write's record is taken away
-pub writes-without : (size n t : ℕ) (rs : List Record) (x : Record) → Ascends rs → find_record t rs ≡ Some x → is_under_way x ≡ false
-    → writes_from size n 0 (without t rs) ≡ writes_from size n 0 rs
-writes-without size n t rs x h found idle =
-    let p = parts t rs x h found in
-    alike-from size n 0 (without t rs) rs (λ m low.
-    let a : writes_in size m (without t rs) ≡ writes_in size m p.older + writes_in size m p.newer = ap (λ (l : List Record). writes_in size m l) p.rest ∙ sum_by-append (one size m) p.older p.newer in
-    let b : writes_in size m rs ≡ writes_in size m p.older + (one size m x + writes_in size m p.newer) = ap (λ (l : List Record). writes_in size m l) p.whole ∙ writes_in-parts size m p.older p.newer x in
-    omega (arith, a, b, one-idle size m x idle))
 
 -- there are no more of them than records
 pub writes-few : (size region : ℕ) (rs : List Record) → writes_in size region rs ≤ length rs

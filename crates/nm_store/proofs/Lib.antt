@@ -1,3 +1,4 @@
+pub mod BeginningLemmas
 pub mod ClaimLemmas
 pub mod ComparingLemmas
 pub mod CopyLemmas
@@ -6,5 +7,12 @@ pub mod FailoverLemmas
 pub mod LosingLemmas
 pub mod OpeningLemmas
 pub mod ReachLemmas
-pub mod RecordLemmas
+pub mod ReadingLemmas
+pub mod RunAnyLemmas
+pub mod RunCountLemmas
+pub mod RunEntryLemmas
+pub mod RunFitLemmas
+pub mod RunNameLemmas
+pub mod RunPushedLemmas
+pub mod StoreLemmas
 pub mod TableLemmas

@@ -1,23 +1,19 @@
--- A leg leaves the writes one after the other: those that owe only it are finished, and their regions count
--- one write fewer.
-use Rattle.std.proofs.Common.{◌≡◌, ℕ, zero, suc, ◌+◌, ◌-◌, ◌<◌, ◌/◌, ◌==◌, ◌&&◌, not, Bool, true, false, cond, List, [], ◌∷◌, Some, length, refl, sym, ap, ◌∙◌, subst, arith, get_or, set, slice_get, slice_set, count_by, inl, inr}
+-- A leg leaves the runs one after the other: those that owe only it are finished, and their regions
+-- count their blocks no more.
+use Rattle.std.proofs.Common.{◌≡◌, ℕ, zero, suc, ◌+◌, ◌<◌, ◌≤◌, ◌%◌, ◌==◌, ◌&&◌, not, Bool, true, false, cond, List, [], ◌∷◌, Some, length, refl, sym, ap, ◌∙◌, arith, get_or, set, slice_get, count_by, inl, inr}
 use Rattle.std.specs.List.{list_any}
 use Rattle.std.proofs.lemmas.Bool.Decides.{nat_tests}
 use Rattle.std.proofs.lemmas.List.Sums.{sum_by-cons}
-use Rattle.std.proofs.lemmas.Option.{slice_get-get_or, same_Some}
 use Rattle.nm_fanout.specs.declared.write_record.Record.{Record}
-use Rattle.nm_fanout.specs.Record.{is_under_way, owed_count, owes, without_leg}
-use Rattle.nm_fanout.specs.Records.{AllAbove, Ascends, IsAt, find_record}
+use Rattle.nm_fanout.specs.Record.{IsRun, is_under_way, owed_count, owes, without_leg}
+use Rattle.nm_fanout.specs.RecordData.{blocks_in}
+use Rattle.nm_fanout.specs.Runs.{flat}
+use Rattle.nm_fanout.proofs.Indexed.{read-there}
+use Rattle.nm_fanout.proofs.Leaving.{mapped_to, mapped-step}
 use Rattle.nm_fanout.proofs.Owed.{tells, is_under_way-without_leg}
-use Rattle.nm_fanout.proofs.Leaving.{mapped_to, length-mapped_to, reached-mapped_to}
-use Rattle.nm_fanout.proofs.Places.{IsAt-own}
-use Rattle.nm_regions.specs.Changes.{finished}
-use Rattle.nm_regions.specs.Table.{RegionTable, region_of, regions_of, writes_in}
-use Rattle.nm_rules.specs.State.{writes_from}
-use Rattle.nm_rules.specs.State as state
-use Rattle.nm_rules.proofs.ChunkLemmas.{region_within}
+use Rattle.nm_regions.specs.Table.{RegionTable}
 use Rattle.nm_store.specs.Counting.{counting}
-use Rattle.nm_store.proofs.CountLemmas.{one, one-here, one-idle, get-one, writes_in-changed, writes-changed_idle, writes-changed_same}
+use Rattle.nm_store.proofs.ReachLemmas.{Changes, Finishes, counts-stay}
 
 -- how many legs are owed
 abbrev owed_in : List Bool → ℕ
@@ -80,85 +76,55 @@ goes-on leg r other =
       | inr w ↦ is_under_way-without_leg leg r w ∙ sym w
     ]
 
-above-mapped : (leg low n : ℕ) (rs : List Record) → AllAbove low rs → AllAbove low (mapped_to (without_leg leg) n rs)
-above-mapped leg low zero rs h = h
-above-mapped leg low (suc n) [] h = tt
-above-mapped leg low (suc n) (r ∷ rs) h = (h.0, above-mapped leg low n rs h.1)
-
-ascends-mapped : (leg n : ℕ) (rs : List Record) → Ascends rs → Ascends (mapped_to (without_leg leg) n rs)
-ascends-mapped leg zero rs h = h
-ascends-mapped leg (suc n) [] h = tt
-ascends-mapped leg (suc n) (r ∷ rs) h = (above-mapped leg r.ticket n rs h.0, ascends-mapped leg n rs h.1)
-
-mapped-at : (leg n : ℕ) (rs : List Record) → slice_get (mapped_to (without_leg leg) n rs) n ≡ slice_get rs n
+-- the run at the next place is as it was
+mapped-at : (leg n : ℕ) (rs : List Record)
+    → slice_get (mapped_to (without_leg leg) n rs) n ≡ slice_get rs n
 mapped-at leg zero rs = refl
 mapped-at leg (suc n) [] = refl
 mapped-at leg (suc n) (r ∷ rs) = mapped-at leg n rs
 
-slice_get-within : (n : ℕ) (rs : List Record) (r : Record) → slice_get rs n ≡ Some r → n < length rs
-slice_get-within n [] r there = absurd cc
-slice_get-within zero (x ∷ rs) r there = omega arith
-slice_get-within (suc n) (x ∷ rs) r there = omega (arith, slice_get-within n rs r there)
+-- and is then without the leg
+pub next-leaves : (leg n : ℕ) (rs : List Record) (x : Record) → n < length rs
+    → slice_get rs n ≡ Some x
+    → set (mapped_to (without_leg leg) n rs) n (without_leg leg x)
+    ≡ mapped_to (without_leg leg) (n + 1) rs
+next-leaves leg n rs x lt there =
+    let now : List Record = mapped_to (without_leg leg) n rs in
+    let read : x ≡ get_or now n x = (read-there now n x (mapped-at leg n rs ∙ there)).1 in
+    mapped-step (without_leg leg) rs now n x (without_leg leg x) refl lt read
+    (ap (λ (r : Record). without_leg leg r) read)
 
--- the record at the next place is as it was
-next-at : (leg n : ℕ) (rs : List Record) (r : Record) → Ascends rs → n < length rs → slice_get rs n ≡ Some r → IsAt r.ticket n (mapped_to (without_leg leg) n rs)
-next-at leg n rs r up lt there =
-    let now = mapped_to (without_leg leg) n rs in
-    let within : n < length now = omega (arith, lt, length-mapped_to (without_leg leg) n rs) in
-    let same : get_or now n r ≡ r = same_Some (get_or now n r) r (sym (slice_get-get_or now n r within) ∙ mapped-at leg n rs ∙ there) in
-    subst (λ (x : Record). IsAt x.ticket n now) same (IsAt-own n now r (ascends-mapped leg n rs up) within)
-
-next-found : (leg n : ℕ) (rs : List Record) (r : Record) → Ascends rs → n < length rs → slice_get rs n ≡ Some r → find_record r.ticket (mapped_to (without_leg leg) n rs) ≡ Some r
-next-found leg n rs r up lt there = (next-at leg n rs r up lt there).found ∙ mapped-at leg n rs ∙ there
-
--- a record at a place is found by its ticket
-pub found-at : (n : ℕ) (rs : List Record) (r : Record) → Ascends rs → slice_get rs n ≡ Some r → find_record r.ticket rs ≡ Some r
-found-at n rs r up there =
-    let lt : n < length rs = slice_get-within n rs r there in
-    let same : get_or rs n r ≡ r = same_Some (get_or rs n r) r (sym (slice_get-get_or rs n r lt) ∙ there) in
-    subst (λ (x : Record). find_record x.ticket rs ≡ slice_get rs n) same (IsAt-own n rs r up lt).found ∙ there
+changes : (leg n : ℕ) (rs : List Record) (x : Record) → slice_get rs n ≡ Some x
+    → Changes n (mapped_to (without_leg leg) n rs) x (without_leg leg x)
+changes leg n rs x there = record {
+  there = mapped-at leg n rs ∙ there;
+  block = refl;
+  bytes = refl;
+}
 
 -- it owes another leg, or none: nothing counts less
-pub goes-on-table : (leg n : ℕ) (rs : List Record) (r : Record) (t : RegionTable) → Ascends rs → n < length rs → slice_get rs n ≡ Some r
-    → (is_under_way r && not (is_under_way (without_leg leg r))) ≡ false
-    → counting (mapped_to (without_leg leg) n rs) t ≡ counting (mapped_to (without_leg leg) (n + 1) rs) t
-goes-on-table leg n rs r t up lt there other =
-    let now = mapped_to (without_leg leg) n rs in
-    let f : Record → Record = without_leg leg in
-    let same : (m : ℕ) → one t.region m (f r) ≡ one t.region m r = λ m. ap (λ (b : Bool). cond (b && (r.block / t.region == m)) 1 0) (goes-on leg r other) in
-    let next : List Record = mapped_to (without_leg leg) (n + 1) rs in
-    let counts : writes_from t.region (regions_of t.blocks t.region) 0 next ≡ writes_from t.region (regions_of t.blocks t.region) 0 now =
-    ap (λ (l : List Record). writes_from t.region (regions_of t.blocks t.region) 0 l) (sym (reached-mapped_to leg n r.ticket rs up (next-at leg n rs r up lt there)))
-    ∙ writes-changed_same t.region (regions_of t.blocks t.region) f r.ticket now r (ascends-mapped leg n rs up) (next-found leg n rs r up lt there) same in
-    ap (λ (ws : List ℕ). record t { writes = ws }) (sym counts)
+pub goes-on-table : (leg n : ℕ) (rs : List Record) (x : Record) (t : RegionTable)
+    → slice_get rs n ≡ Some x
+    → (is_under_way x && not (is_under_way (without_leg leg x))) ≡ false
+    → counting (flat (mapped_to (without_leg leg) n rs)) t
+    ≡ counting (flat (set (mapped_to (without_leg leg) n rs) n (without_leg leg x))) t
+goes-on-table leg n rs x t there other =
+    sym (counts-stay n (mapped_to (without_leg leg) n rs) x (without_leg leg x) t
+    (changes leg n rs x there) (goes-on leg x other))
 
--- it owes only this leg: its region counts one write fewer
-pub finished-table : (leg n : ℕ) (rs : List Record) (r : Record) (t : RegionTable) → Ascends rs → n < length rs → slice_get rs n ≡ Some r
-    → (is_under_way r && not (is_under_way (without_leg leg r))) ≡ true → r.block < t.blocks → 0 < t.region
-    → finished r.block (counting (mapped_to (without_leg leg) n rs) t) ≡ counting (mapped_to (without_leg leg) (n + 1) rs) t
-finished-table leg n rs r t up lt there only inside size =
-    let now = mapped_to (without_leg leg) n rs in
-    let regions = regions_of t.blocks t.region in
-    let f : Record → Record = without_leg leg in
-    let ends = both (is_under_way r) (is_under_way (f r)) only in
-    let within : r.block / t.region < regions = region_within r.block t.blocks t.region inside size in
-    let next : List Record = mapped_to (without_leg leg) (n + 1) rs in
-    let counts : writes_from t.region regions 0 next ≡ slice_set (writes_from t.region regions 0 now) (r.block / t.region) (get_or (writes_from t.region regions 0 now) (r.block / t.region) 0 - 1) =
-    ap (λ (l : List Record). writes_from t.region regions 0 l) (sym (reached-mapped_to leg n r.ticket rs up (next-at leg n rs r up lt there)))
-    ∙ writes-changed_idle t.region regions f r.ticket now r (ascends-mapped leg n rs up) (next-found leg n rs r up lt there) ends.0 ends.1 within in
-    ap (λ (ws : List ℕ). record t { writes = ws }) (sym counts)
-
--- and it counts one before
-pub finishes-some : (leg n : ℕ) (rs : List Record) (r : Record) (t : RegionTable) → Ascends rs → n < length rs → slice_get rs n ≡ Some r
-    → (is_under_way r && not (is_under_way (without_leg leg r))) ≡ true → r.block < t.blocks → 0 < t.region
-    → 0 < writes_in (region_of r.block t) (counting (mapped_to (without_leg leg) n rs) t)
-finishes-some leg n rs r t up lt there only inside size =
-    let now = mapped_to (without_leg leg) n rs in
-    let regions = regions_of t.blocks t.region in
-    let f : Record → Record = without_leg leg in
-    let j = r.block / t.region in
-    let ends = both (is_under_way r) (is_under_way (f r)) only in
-    let within : j < regions = region_within r.block t.blocks t.region inside size in
-    let at : get_or (writes_from t.region regions 0 now) j 0 ≡ state.writes_in t.region j now = get-one t.region regions 0 j j now (let e : j ≡ 0 + j = omega arith in e) within in
-    let fewer = writes_in-changed t.region j f r.ticket now r (ascends-mapped leg n rs up) (next-found leg n rs r up lt there) in
-    omega (arith, at, fewer, one-here t.region j r ends.0 refl, one-idle t.region j (f r) ends.1)
+-- it owes only this leg: its region counts its blocks no more
+pub leaves-only : (leg n : ℕ) (rs : List Record) (x : Record) (t : RegionTable) → IsRun x
+    → slice_get rs n ≡ Some x
+    → (x.block + blocks_in x.data ≤ t.blocks) × (x.block % t.region + blocks_in x.data ≤ t.region)
+    → (is_under_way x && not (is_under_way (without_leg leg x))) ≡ true
+    → Finishes n (mapped_to (without_leg leg) n rs) x (without_leg leg x) t.blocks t.region
+leaves-only leg n rs x t run there lies only =
+    let ends = both (is_under_way x) (is_under_way (without_leg leg x)) only in
+    record {
+      changes = changes leg n rs x there;
+      going = ends.0;
+      over = ends.1;
+      some = run.filled.some;
+      inside = lies.0;
+      one_region = lies.1;
+    }

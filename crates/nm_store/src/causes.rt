@@ -1,16 +1,18 @@
 //! Why each step is refused: the first condition that holds.
-ghost use Rattle.std.specs.Prelude.{◌≡◌, ◌+◌, ◌<◌, ◌≤◌, ◌^◌, length, max, IfOk, OnOk, IfErr, Some};
+ghost use Rattle.std.specs.Prelude.{◌≡◌, ◌+◌, ◌<◌, ◌≤◌, ◌^◌, length, max, Some};
 ghost use Rattle.std.specs.Prelude.{None};
 ghost use Rattle.std.specs.Option.{option_map};
-ghost use Rattle.nm_fanout.specs.Records.{IsAt, busy_on, unlanded};
+ghost use Rattle.nm_fanout.specs.Records.{busy_among, unlanded};
 ghost use Rattle.nm_regions.specs.declared.copy_place.CopyPlace.{CopyPlace};
 ghost use Rattle.nm_regions.specs.Table.{length_of};
 ghost use Rattle.nm_rules.specs.declared.refusal.Refusal.TheVariants.{Busy};
 ghost use Rattle.nm_rules.specs.State.{next_number, copy_start, table};
-ghost use Rattle.nm_rules.specs.Begin.{begin_cause, copying_on, is_full};
-ghost use Rattle.nm_rules.specs.Push.{push_cause};
-ghost use Rattle.nm_rules.specs.Claim.{claim_cause};
-ghost use Rattle.nm_rules.specs.Read.{read_cause};
+ghost use Rattle.nm_rules.specs.Begin.{is_full};
+ghost use Rattle.nm_rules.specs.RunBegin.{begin_run_cause, copying_run};
+ghost use Rattle.nm_rules.specs.RunPush.{push_run_cause};
+ghost use Rattle.nm_rules.specs.RunClaim.{claim_run_cause};
+ghost use Rattle.nm_rules.specs.RunRead.{read_run_cause};
+ghost use Rattle.nm_rules.specs.Runs.{FitsRun};
 ghost use Rattle.nm_rules.specs.Failing.{fail_cause};
 ghost use Rattle.nm_rules.specs.Attach.{attach_cause};
 ghost use Rattle.nm_rules.specs.Copy.{copy_cause};
@@ -24,11 +26,12 @@ use nm_regions::CopyPlace;
 use nm_rules::Refusal;
 
 impl<L: LegPart> Store<L> {
-    /// The refusal for a write under way on the block.
-    fn busy_on(&self, block: u64) -> Option<Refusal>
-        ensures { result ≡ option_map (λ r. Busy r.ticket) (busy_on block self.now.records) }
+    /// The refusal for a run under way on one of so many blocks.
+    fn busy_among(&self, first: u64, count: u64) -> Option<Refusal>
+        requires { 0 < count }
+        ensures { result ≡ option_map (λ r. Busy r.run) (busy_among first count self.now.records) }
     {
-        let ticket = self.records.busy_on(block)?;
+        let ticket = self.records.busy_among(first, count)?;
         Some(Refusal::Busy(ticket))
     }
 
@@ -43,35 +46,38 @@ impl<L: LegPart> Store<L> {
         copy.region * self.place.region + copy.cursor
     }
 
-    /// The refusal for an open chunk that the block lies in.
-    fn copying_on(&self, block: u64) -> Option<Refusal>
-        requires { (copy : CopyPlace) → self.now.copy ≡ Some copy
+    /// The refusal for an open copy whose chunk or cursor some of so many blocks meet.
+    fn copying_run(&self, first: u64, count: u64) -> Option<Refusal>
+        requires copy { (copy : CopyPlace) → self.now.copy ≡ Some copy
             → copy.cursor < length_of copy.region (table self.now) }
-        ensures { result ≡ copying_on block self.now }
+        requires inside { first + count ≤ self.now.place.blocks }
+        ensures { result ≡ copying_run first count self.now }
     {
         let copy = self.regions.copy()?;
         let start = self.block_of(copy);
-        if start <= block && block < start + self.buffer.length() {
+        if start < first + count && first < start + self.buffer.length() {
             Some(Refusal::Copying(copy.leg))
         } else {
             None
         }
     }
 
-    /// Whether there are as many records as there may be.
+    /// Whether there are as many runs as there may be.
     fn is_full(&self) -> bool
         ensures { result ≡ is_full self.now }
     {
+        self.records.is_sound();
         self.records.is_full()
     }
 
-    /// Why a write of this block may not begin.
-    pub fn begin_cause(&self, block: u64) -> Option<Refusal>
+    /// Why a write of so many blocks, from this one on, may not begin.
+    pub fn begin_cause(&self, block: u64, count: u64) -> Option<Refusal>
+        requires run { FitsRun self.now.place block count }
         requires copy { (copy : CopyPlace) → self.now.copy ≡ Some copy
             → copy.cursor < length_of copy.region (table self.now) }
         requires numbers { next_number self.now + unlanded self.now.records
             ≤ max (2 ^ 63) self.now.first }
-        ensures { result ≡ begin_cause self.now block }
+        ensures { result ≡ begin_run_cause self.now block count }
     {
         if self.stopped {
             return Some(Refusal::Stopped);
@@ -79,63 +85,61 @@ impl<L: LegPart> Store<L> {
         if self.settling {
             return Some(Refusal::Settling);
         }
-        if let Some(refusal) = self.busy_on(block) {
+        if let Some(refusal) = self.busy_among(block, count) {
             return Some(refusal);
         }
-        if let Some(refusal) = self.copying_on(block) {
+        if let Some(refusal) = self.copying_run(block, count) {
             return Some(refusal);
         }
         if self.is_full() {
             return Some(Refusal::Full);
         }
-        if self.is_exhausted() {
+        if self.is_exhausted_by(count) {
             return Some(Refusal::Exhausted);
         }
         None
     }
 
-    /// The place of the record that a push of this ticket to this leg would write.
-    pub fn record_to_push(&self, ticket: u64, leg: u8) -> Result<usize, Refusal>
-        ensures place { IfOk result (λ place. IsAt ticket place self.now.records) }
-        ensures no_cause { OnOk result (push_cause self.now ticket leg ≡ None) }
-        ensures cause { IfErr result (λ refusal. push_cause self.now ticket leg ≡ Some refusal) }
+    /// Why the run of this ticket may not be pushed to this leg.
+    pub fn push_cause(&self, ticket: u64, leg: u8) -> Option<Refusal>
+        ensures { result ≡ push_run_cause self.now ticket leg }
     {
         if self.stopped {
-            return Err(Refusal::Stopped);
+            return Some(Refusal::Stopped);
         }
-        let Some(place) = self.records.find(ticket) else {
-            return Err(Refusal::NoTicket);
+        let Some(run) = self.records.get(ticket) else {
+            return Some(Refusal::NoTicket);
         };
-        if self.records.at(place).owes(leg) {
-            Ok(place)
+        if run.owes(leg) {
+            None
         } else {
-            Err(Refusal::NotOwed)
+            Some(Refusal::NotOwed)
         }
     }
 
-    /// The place of the record that a claim of this ticket would take away.
-    pub fn record_to_claim(&self, ticket: u64) -> Result<usize, Refusal>
-        ensures place { IfOk result (λ place. IsAt ticket place self.now.records) }
-        ensures no_cause { OnOk result (claim_cause self.now ticket ≡ None) }
-        ensures cause { IfErr result (λ refusal. claim_cause self.now ticket ≡ Some refusal) }
+    /// Why the run of this ticket may not be claimed.
+    pub fn claim_cause(&self, ticket: u64) -> Option<Refusal>
+        ensures { result ≡ claim_run_cause self.now ticket }
     {
         if self.stopped {
-            return Err(Refusal::Stopped);
+            return Some(Refusal::Stopped);
         }
-        let Some(place) = self.records.find(ticket) else {
-            return Err(Refusal::NoTicket);
+        let Some(run) = self.records.get(ticket) else {
+            return Some(Refusal::NoTicket);
         };
-        if self.records.at(place).is_under_way() {
-            Err(Refusal::NotYet)
+        if run.is_under_way() {
+            Some(Refusal::NotYet)
         } else {
-            Ok(place)
+            None
         }
     }
 
-    /// Why no block may be read.
-    pub fn read_cause(&self) -> Option<Refusal>
-        requires { next_number self.now + unlanded self.now.records ≤ max (2 ^ 63) self.now.first }
-        ensures { result ≡ read_cause self.now }
+    /// Why so many blocks may not be read.
+    pub fn read_cause(&self, count: u64) -> Option<Refusal>
+        requires numbers { next_number self.now + unlanded self.now.records
+            ≤ max (2 ^ 63) self.now.first }
+        requires most { count ≤ 128 }
+        ensures { result ≡ read_run_cause self.now count }
     {
         if self.stopped {
             return Some(Refusal::Stopped);
@@ -143,7 +147,7 @@ impl<L: LegPart> Store<L> {
         if self.settling {
             return Some(Refusal::Settling);
         }
-        if self.is_exhausted() {
+        if self.is_exhausted_by(count) {
             return Some(Refusal::Exhausted);
         }
         None

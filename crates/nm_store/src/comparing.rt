@@ -1,6 +1,6 @@
 //! Opens a store by comparing each leg with the master, block by block.
 ghost use Rattle.std.specs.Prelude.{◌≡◌, ◌<◌, if◌then◌else◌, length, slice_set, true, None, IsTrue};
-ghost use Rattle.std.specs.Prelude.{IfOk, IfErr, OnOk, OnErr};
+ghost use Rattle.std.specs.Prelude.{IfOk, IfErr, OnOk, OnErr, is_ok};
 ghost use Rattle.nm_choice.specs.declared.leg_state.LegState.TheVariants.{InSync};
 ghost use Rattle.nm_leg.specs.Leg.{leg_type};
 ghost use Rattle.nm_leg.specs.LegCalls.{EachHas};
@@ -8,12 +8,15 @@ ghost use Rattle.nm_regions.specs.Changes.{all_set_aside, attached};
 ghost use Rattle.nm_regions.specs.Sound.{AreSizes};
 ghost use Rattle.nm_regions.specs.Table.{is_out};
 ghost use Rattle.nm_resync.specs.Chunk.{IsChunkSize};
+ghost use Rattle.nm_rules.specs.BlockCalls.{ReadsBlockAt};
 ghost use Rattle.nm_rules.specs.Comparing.{comparing, marked_at, dropped, compared, ComparesLeg};
 ghost use Rattle.nm_rules.specs.Comparing.{ComparesBlock, ComparesBlocks, FailsOnMaster};
 ghost use Rattle.nm_rules.specs.Comparing.{OpensCompared, FailsToOpen};
 ghost use Rattle.nm_rules.specs.State.{is_joining, leg_state, table};
+ghost use Rattle.nm_store.specs.BlockCalls.{HasBlock};
 ghost use Rattle.nm_store.specs.Comparing.{IsComparing, FailsAt};
 
+use crate::block_calls::read_block_at;
 use crate::store::Store;
 use nm_choice::{LegState, Policy};
 use nm_leg::{LegFault, LegPart};
@@ -70,6 +73,17 @@ impl<L: LegPart> Store<L> {
         self.states[leg as usize] = LegState::Out;
     }
 
+    /// Reads the block of a leg. A fault leaves any bytes in `into`. No more than the leg changes.
+    fn read_block(&mut self, leg: u8, block: u64, into: &mut Block) -> Result<(), LegFault>
+        requires leg { leg < length self.old.legs }
+        requires block { HasBlock L.model self.old.legs leg block }
+        ensures reads { ReadsBlockAt (leg_type L.model L.honest) (is_ok result) leg block
+            self.old.legs self.new.legs into.new }
+        ensures others { self.new ≡ record self.old { legs = self.new.legs } }
+    {
+        read_block_at(&mut self.legs, leg, block, into)
+    }
+
     /// Reads the block of a leg that joins, beside these bytes, which the master holds there. Where
     /// they differ the block's region is behind for the leg; where the read fails it is out.
     fn compare_leg(&mut self, leg: u8, block: u64, bytes: &Block)
@@ -82,7 +96,7 @@ impl<L: LegPart> Store<L> {
             return;
         }
         let mut found = Block::ZERO;
-        if self.read_leg(leg, block, &mut found).is_err() {
+        if self.read_block(leg, block, &mut found).is_err() {
             self.drop_out(leg);
             return;
         }
@@ -109,7 +123,7 @@ impl<L: LegPart> Store<L> {
             (FailsAt (leg_type L.model L.honest) block self.old self.new) }
     {
         let mut bytes = Block::ZERO;
-        self.read_leg(self.master(), block, &mut bytes)?;
+        self.read_block(self.master(), block, &mut bytes)?;
         for leg in 0..self.leg_count() {
             self.compare_leg(leg, block, &bytes);
         }

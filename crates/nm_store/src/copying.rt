@@ -64,7 +64,7 @@ impl<L: LegPart> Store<L> {
     /// The refusal for a write under way in the chunk that a copy at this place opens.
     fn busy_new_chunk(&self, copy: CopyPlace) -> Option<Refusal>
         requires within { copy.cursor < length_of copy.region (table self.now) }
-        ensures { result ≡ option_map (λ r. Busy r.ticket) (busy_new_chunk copy self.now) }
+        ensures { result ≡ option_map (λ r. Busy r.run) (busy_new_chunk copy self.now) }
     {
         let start = self.block_of(copy);
         let ticket = self.records.busy_among(start, self.new_length(copy))?;

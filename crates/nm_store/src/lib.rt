@@ -4,21 +4,28 @@
 //! `Store::open_compared` take all of its memory, and the second reads all blocks of its legs. Each
 //! other call changes it by one function of nm_rules, makes at most one call of a leg, and takes no
 //! memory. Which changes make up a step, and that they keep a stripe sound, is said above.
+//!
+//! A write and a read act on a run of blocks inside one region. A store has one record a run, and
+//! contracts see one record a block.
 #![tactic(auto)]
 
 pub use read_choice::ReadChoice;
+pub use standing::{Claimed, Standing};
 pub use store::Store;
 
+mod beginning;
 mod block_calls;
 mod causes;
 mod comparing;
 mod copying;
 mod failing_over;
 mod joining;
+mod landing;
 mod losing;
 mod opening;
 mod read_choice;
 mod reading;
+mod standing;
 mod store;
 mod syncing;
 mod writing;

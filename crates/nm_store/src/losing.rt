@@ -2,9 +2,10 @@
 ghost use Rattle.std.specs.Prelude.{◌≡◌, ◌+◌, ◌<◌, ◌≤◌, ◌^◌, ◌&&◌, true, not, length, max};
 ghost use Rattle.nm_fanout.specs.Record.{is_under_way, without_leg};
 ghost use Rattle.nm_fanout.specs.Records.{left_by, unlanded};
+ghost use Rattle.nm_fanout.specs.Runs.{flat};
 ghost use Rattle.nm_rules.specs.State.{next_number};
 ghost use Rattle.nm_rules.specs.Lost.{chunk_but_of, without_leg_of, lost, lost_all};
-ghost use Rattle.nm_store.specs.Counting.{LieInside, counting};
+ghost use Rattle.nm_store.specs.Counting.{LieInRegions, counting};
 
 use crate::store::Store;
 use nm_choice::LegState;
@@ -27,24 +28,23 @@ fn drop_chunk_of(buffer: &mut CopyBuffer, copy: Option<CopyPlace>, leg: u8)
     }
 }
 
-/// Whether the write has still to reach this leg and no other.
+/// Whether the run has still to reach this leg and no other.
 fn owes_only(record: &Record, leg: u8) -> bool
     ensures { result ≡ is_under_way record.now && not (is_under_way (without_leg leg record.now)) }
 {
     record.owes(leg) && record.owed_count() == 1
 }
 
-/// Counts each write that owes only this leg as finished.
+/// Counts no block any more of each run that owes only this leg.
 fn finish_without(regions: &mut Regions, records: &Records, leg: u8)
-    requires counted { regions.old ≡ counting records.now regions.old }
-    requires size { 0 < regions.old.region }
-    requires inside { LieInside regions.old.blocks records.now }
-    ensures { regions.new ≡ counting (left_by leg records.now) regions.old }
+    requires counted { regions.old ≡ counting (flat records.now) regions.old }
+    requires inside { LieInRegions regions.old.blocks regions.old.region records.now }
+    ensures { regions.new ≡ counting (flat (left_by leg records.now)) regions.old }
 {
     for place in 0..records.len() {
-        let record = records.at(place);
-        if owes_only(record, leg) {
-            regions.finish(record.block);
+        let run = records.at(place);
+        if owes_only(run, leg) {
+            regions.finish(run.block, run.blocks() as u16);
         }
     }
 }
@@ -54,7 +54,6 @@ impl<L: LegPart> Store<L> {
     /// behind.
     fn take_out(&mut self, leg: u8)
         requires leg { leg < length self.old.legs }
-        requires inside { LieInside self.old.place.blocks self.old.records }
         ensures { self.new ≡ without_leg_of leg self.old }
     {
         self.states[leg as usize] = LegState::Out;
@@ -69,7 +68,6 @@ impl<L: LegPart> Store<L> {
     /// is under way.
     pub fn lose(&mut self, leg: u8)
         requires leg { leg < length self.old.legs }
-        requires inside { LieInside self.old.place.blocks self.old.records }
         requires numbers { next_number self.old + unlanded self.old.records
             ≤ max (2 ^ 63) self.old.first }
         ensures { self.new ≡ lost leg self.old }
@@ -85,7 +83,6 @@ impl<L: LegPart> Store<L> {
     /// The leg goes out, and all of its regions are behind.
     pub fn lose_all(&mut self, leg: u8)
         requires leg { leg < length self.old.legs }
-        requires inside { LieInside self.old.place.blocks self.old.records }
         requires numbers { next_number self.old + unlanded self.old.records
             ≤ max (2 ^ 63) self.old.first }
         ensures { self.new ≡ lost_all leg self.old }

@@ -1,19 +1,21 @@
 //! Which leg a read takes, and the changes of a read: a leg is called, and the entry is kept.
-ghost use Rattle.std.specs.Prelude.{◌≡◌, ◌<◌, ◌^◌, [], length, is_ok, Some};
-ghost use Rattle.nm_leg.specs.Leg.{leg_type};
-ghost use Rattle.nm_rules.specs.BlockCalls.{ReadsBlockAt};
+ghost use Rattle.std.specs.Prelude.{◌≡◌, ◌+◌, ◌*◌, ◌<◌, ◌≤◌, ◌^◌, [], length, is_ok, Some};
+ghost use Rattle.nm_leg.specs.Leg.{blocks_in, blocks_of, leg_type};
+ghost use Rattle.nm_leg.specs.LegCalls.{HasRun};
+ghost use Rattle.nm_rules.specs.Kept.{kept_with};
+ghost use Rattle.nm_rules.specs.RunCalls.{ReadsRunAt};
+ghost use Rattle.nm_rules.specs.RunRead.{after_read_run, last_block, read_entries};
+ghost use Rattle.nm_rules.specs.Runs.{FitsRun};
 ghost use Rattle.nm_rules.specs.State.{next_number, is_quiet};
-ghost use Rattle.nm_rules.specs.Read.{after_read, current_legs, read_leg, true_from};
-ghost use Rattle.nm_store.specs.BlockCalls.{HasBlock};
+ghost use Rattle.nm_rules.specs.Read.{current_legs, read_leg, true_from, turn_after};
 
-use crate::block_calls::read_block_at;
 use crate::read_choice::ReadChoice;
 use crate::store::Store;
 use arrayvec::ArrayVec;
 use nm_choice::{next_turn, pick};
-use nm_leg::{LegFault, LegPart};
+use nm_leg::{LegFault, LegPart, read_leg_at};
 use nm_regions::LEGS;
-use nm_replay::{Block, Entry, Kind};
+use nm_replay::{BLOCK_BYTES, Block, Entry, Kept, Kind};
 
 /// Adds the numbers of the places that are true to an empty list, by rising number. The list is
 /// filled where it lies: a move right after stores of single bytes stalls the processor.
@@ -26,6 +28,30 @@ fn add_true_places(places: &[bool; LEGS], numbers: &mut ArrayVec<u8, LEGS>)
         if places[place] {
             numbers.push(place as u8);
         }
+    }
+}
+
+/// Keeps one entry for each block of the bytes: the numbers and blocks are those from these on.
+fn keep_blocks(kept: &mut Kept, number: u64, block: u64, bytes: &[u8])
+    requires total { kept.old.total + blocks_in bytes.now ≤ 2 ^ 63 }
+    requires numbers { number + blocks_in bytes.now ≤ 2 ^ 63 }
+    requires blocks { block + blocks_in bytes.now < 2 ^ 64 }
+    requires whole { length bytes.now ≡ 512 * blocks_in bytes.now }
+    ensures entries { kept.new.entries
+        ≡ kept_with (read_entries number block (blocks_of bytes.now)) kept.old.entries }
+    ensures total { kept.new.total ≡ kept.old.total + blocks_in bytes.now }
+{
+    let _total = kept.total();
+    for at in 0..bytes.len() / BLOCK_BYTES {
+        let from = at * BLOCK_BYTES;
+        let mut own = Block::ZERO;
+        own.0.copy_from_slice(&bytes[from..from + BLOCK_BYTES]);
+        kept.push(&Entry {
+            seq: number + at as u64,
+            kind: Kind::Read,
+            block: block + at as u64,
+            bytes: own,
+        });
     }
 }
 
@@ -46,33 +72,34 @@ impl<L: LegPart> Store<L> {
         ReadChoice { leg, quiet }
     }
 
-    /// Reads a block of a leg, of which a fault leaves any bytes. No more than the leg changes.
-    pub fn read_leg(&mut self, leg: u8, block: u64, into: &mut Block) -> Result<(), LegFault>
+    /// Reads a run of a leg, from this block on, in one call. A fault leaves any bytes in `into`.
+    /// No more than the leg changes.
+    pub fn read_leg(&mut self, leg: u8, block: u64, into: &mut [u8]) -> Result<(), LegFault>
         requires leg { leg < length self.old.legs }
-        requires block { HasBlock L.model self.old.legs leg block }
-        ensures reads { ReadsBlockAt (leg_type L.model L.honest) (is_ok result) leg block
-            self.old.legs self.new.legs into.new }
+        requires run { HasRun L.model self.old.legs leg block into.old }
+        ensures reads { ReadsRunAt (leg_type L.model L.honest) (is_ok result) leg block
+            (blocks_of into.new) self.old.legs self.new.legs }
+        ensures long { length into.new ≡ length into.old }
         ensures others { self.new ≡ record self.old { legs = self.new.legs } }
     {
-        read_block_at(&mut self.legs, leg, block, into)
+        read_leg_at(&mut self.legs, leg, block, into)
     }
 
-    /// Keeps the entry of a read that found these bytes, and gives its number. Where no write is
-    /// under way in the block's region, which `quiet` tells, the turn passes.
-    pub fn keep_read(&mut self, block: u64, bytes: &Block, quiet: bool) -> u64
-        requires quiet { quiet ≡ is_quiet block self.old }
-        requires numbers { next_number self.old < 2 ^ 63 }
+    /// Keeps the entries of a read that found these bytes, from this block on, and gives the number
+    /// of the first. Where no write is under way in the run's region, which `quiet` tells, the turn
+    /// passes.
+    pub fn keep_read(&mut self, block: u64, bytes: &[u8], quiet: bool) -> u64
+        requires whole { length bytes.now ≡ 512 * blocks_in bytes.now }
+        requires run { FitsRun self.old.place block (blocks_in bytes.now) }
+        requires quiet { quiet ≡ is_quiet (last_block block (blocks_in bytes.now)) self.old }
+        requires numbers { next_number self.old + blocks_in bytes.now ≤ 2 ^ 63 }
         requires turn { self.old.turn < 840 }
         ensures number { result ≡ next_number self.old }
-        ensures kept { self.new ≡ after_read self.old self.old.legs block bytes.now }
+        ensures kept { self.new ≡ after_read_run self.old self.old.legs block (blocks_of bytes.now)
+            (turn_after (last_block block (blocks_in bytes.now)) self.old) }
     {
         let number = self.first + self.kept.total();
-        self.kept.push(&Entry {
-            seq: number,
-            kind: Kind::Read,
-            block,
-            bytes: *bytes,
-        });
+        keep_blocks(&mut self.kept, number, block, bytes);
         if quiet {
             self.turn = next_turn(self.turn);
         }

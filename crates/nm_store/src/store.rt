@@ -1,7 +1,9 @@
 ghost use Rattle.std.specs.Prelude.{◌≡◌, ◌+◌, ◌-◌, ◌<◌, ◌≤◌, ◌^◌, [], length, max, slice_get, IsOk};
 ghost use Rattle.std.specs.Prelude.{IfOk, Some};
-ghost use Rattle.nm_fanout.specs.Records.{next_owed, first_owed, unlanded};
-ghost use Rattle.nm_rules.specs.State.{next_number, is_exhausted, leg_state, is_last, left};
+ghost use Rattle.nm_fanout.specs.Records.{first_owed, unlanded};
+ghost use Rattle.nm_rules.specs.Runs.{is_exhausted_by};
+ghost use Rattle.nm_rules.specs.State.{next_number, leg_state, is_last, left};
+ghost use Rattle.nm_store.specs.Owing.{run_owed};
 
 use nm_choice::{LegState, Policy};
 use nm_fanout::Records;
@@ -129,12 +131,15 @@ impl<L: LegPart> Store<L> {
         self.first + self.kept.total()
     }
 
-    /// Whether all numbers are in use, or will be by writes that have no entry yet.
-    pub fn is_exhausted(&self) -> bool
-        requires { next_number self.now + unlanded self.now.records ≤ max (2 ^ 63) self.now.first }
-        ensures { result ≡ is_exhausted self.now }
+    /// Whether no so many numbers are left, but for those of the writes that have no entry yet.
+    pub fn is_exhausted_by(&self, count: u64) -> bool
+        requires numbers { next_number self.now + unlanded self.now.records
+            ≤ max (2 ^ 63) self.now.first }
+        requires most { count ≤ 128 }
+        ensures { result ≡ is_exhausted_by count self.now }
     {
-        self.first + self.kept.total() + self.records.unlanded_count() >= NUMBERS
+        let taken = self.first + self.kept.total() + self.records.unlanded_count();
+        taken.saturating_add(count) > NUMBERS
     }
 
     /// Whether the leg is the only one in sync.
@@ -150,32 +155,40 @@ impl<L: LegPart> Store<L> {
         self.states[leg as usize].is_in_sync() && in_sync == 1
     }
 
-    /// The lowest leg that this ticket's write has still to reach.
+    /// The lowest leg that the run of this ticket has still to reach.
     pub fn next_owed(&self, ticket: u64) -> Option<u8>
-        ensures { result ≡ next_owed ticket self.now.records }
+        ensures { result ≡ run_owed ticket self.now.records }
     {
+        self.records.is_sound();
         self.records.next_owed(ticket)
     }
 
-    /// The lowest ticket under way, with the lowest leg that it has still to reach.
+    /// The lowest run under way, by its first ticket, with the lowest leg that it has still to
+    /// reach.
     pub fn first_owed(&self) -> Option<(u64, u8)>
         ensures { result ≡ first_owed self.now.records }
     {
+        self.records.is_sound();
         self.records.first_owed()
     }
 
-    /// How many writes have not been claimed.
+    /// How many blocks the writes have that have not been claimed.
     pub fn records_left(&self) -> u64
         ensures { result ≡ length self.now.records }
     {
-        self.records.len() as u64
+        let mut blocks = 0;
+        for place in 0..self.records.len() {
+            blocks += self.records.at(place).blocks();
+        }
+        blocks
     }
 
     /// How many of those have an entry.
     pub fn records_landed(&self) -> u64
         ensures { result ≡ length self.now.records - unlanded self.now.records }
     {
-        (self.records.len() as u64).saturating_sub(self.records.unlanded_count())
+        self.records_left()
+            .saturating_sub(self.records.unlanded_count())
     }
 
     /// How many entries the history has had.

@@ -6,21 +6,24 @@ use Rattle.nm_choice.specs.declared.leg_state.LegState.TheVariants as state
 use Rattle.nm_choice.specs.declared.leg_state.LegState.TheVariants.{Out}
 use Rattle.nm_fanout.specs.declared.block_data.Data.{Data}
 use Rattle.nm_fanout.specs.declared.write_record.Record.{Record}
-use Rattle.nm_leg.specs.Leg.{LegType}
+use Rattle.nm_leg.specs.Leg.{LegType, block_of, blocks_of}
 use Rattle.nm_rules.specs.declared.refusal.Refusal.{Refusal}
 use Rattle.nm_rules.specs.Attach.{attach_cause}
 use Rattle.nm_rules.specs.Copy.{CopiesRead, CopiesWrite, after_copy_write, chunk_copied}
 use Rattle.nm_rules.specs.Invariant.{Keeps}
 use Rattle.nm_rules.specs.Joining.{KeepsWork}
-use Rattle.nm_rules.specs.Lost.{lost, lost_all, settled}
-use Rattle.nm_rules.specs.Push.{after_landing, after_push, after_reach, lands_at}
+use Rattle.nm_rules.specs.Lost.{lost, lost_all}
+use Rattle.nm_rules.specs.RunPush.{after_push_run, run_landed, run_lands, run_reached}
+use Rattle.nm_rules.specs.Runs.{of_run}
 use Rattle.nm_rules.specs.State.{Chunk, StripeState, chunk_buffered, is_out, left, leg_state, table, with_table, work}
 use Rattle.nm_rules.proofs.AttachLemmas.{may_attach, set-other}
 use Rattle.nm_rules.proofs.ElectLemmas.{gone-other}
 use Rattle.nm_rules.proofs.JoiningEndLemmas.{nothing-behind, nothing-promotes, nothing-refused, nothing-left}
 use Rattle.nm_rules.proofs.JoiningLemmas.{fields-work, lost-parts}
-use Rattle.nm_rules.proofs.JoiningStepLemmas.{begins-work, loses_in_begin-work, fails_in_begin-work, pushes-work, loses_in_push-work, halts-work, claims-work, finds-work, loses_in_read-work, fails_in_read-work, goes_out-work, attaches-work, replaces-work}
+use Rattle.nm_rules.proofs.JoiningStepLemmas.{loses_in_begin-work, fails_in_begin-work, loses_in_read-work, fails_in_read-work, goes_out-work, attaches-work, replaces-work}
 use Rattle.nm_rules.proofs.JoiningStepLemmas.{copies_read-work, copies_write-work, loses_in_copy-work, fails_in_copy-work, promotes-work, loses_in_promote-work, synchronizes-work, loses_in_sync-work, fails_in_sync-work}
+use Rattle.nm_rules.proofs.RunJoiningLemmas.{claims_run-work, finds_run-work, halts_run-work, loses_in_push_run-work, pushes_run-work}
+use Rattle.nm_rules.proofs.RunReadLemmas.{fails_in_read_run-last, loses_in_read_run-last}
 use Rattle.nm_rules.proofs.WorkLemmas.{copies-read-work, copies-write-work}
 use Rattle.nm_stripe.specs.declared.answer.Answer.{Answer}
 use Rattle.nm_stripe.specs.declared.answer.Answer.TheVariants.{Begun, Pushed, Complete, Halted, Written, Value, Failed, MasterChanged, Joining, Copied, InSync, Synced, LegLost, Refused}
@@ -33,6 +36,7 @@ use Rattle.nm_stripe.specs.Copy.{RefusesCopy, ForCause as CopyCause, ForFault as
 use Rattle.nm_stripe.specs.Read.{RefusesRead, ForCause as ReadCause, ForFault as ReadFault}
 use Rattle.nm_stripe.specs.Run.{StepOf, AllAsked, Runs}
 use Rattle.nm_stripe.specs.Sync.{RefusesSync, ForCause as SyncCause, ForFault as SyncFault}
+use Rattle.nm_stripe.proofs.BegunLemmas.{begun-states, begun-work}
 use Rattle.nm_stripe.proofs.RunLemmas.{step-shape, all_asked-later}
 use Rattle.nm_stripe.proofs.StepLemmas.{step-keeps}
 
@@ -46,9 +50,9 @@ copied-is type s leg k none joins = record {
 }
 
 -- a push changes no leg's state, nor does a step of a copy
-push-states : {L : Type 0} (old : StripeState L) (legs : List L) (r : Record) (leg : ℕ) → (after_push old legs r leg).states ≡ old.states
-push-states old legs r leg =
-    elim (lands_at leg r old) as (λ b. (settled (cond b (after_landing old legs r leg) (after_reach old legs r leg))).states ≡ old.states) [ true ↦ refl | false ↦ refl ]
+push-states : {L : Type 0} (old : StripeState L) (legs : List L) (rs : List Record) (leg : ℕ) → (after_push_run old legs rs leg).states ≡ old.states
+push-states old legs rs leg =
+    elim (run_lands leg rs old) as (λ b. (cond b (run_landed old legs rs leg) (run_reached old legs rs leg)).states ≡ old.states) [ true ↦ refl | false ↦ refl ]
 
 written-states : {L : Type 0} (old : StripeState L) (legs : List L) (chunk : Chunk) → (after_copy_write old legs chunk).states ≡ old.states
 written-states old legs chunk =
@@ -97,9 +101,10 @@ module _ {L : Type 0} (type : LegType L) (old new : StripeState L) (j : ℕ) (jo
   begin-refused block bytes given (BeginCause cause is) = (same-states is, same-work is)
   begin-refused block bytes given (BeginFault is fails) = (ap (λ (s : StripeState L). leg_state j s) fails.after ∙ joined, fails_in_begin-work j old new type block bytes fails)
 
-  read-refused : (block : ℕ) (given : Refusal) → RefusesRead type old new block given → (leg_state j new ≡ state.Joining) × KeepsWork j old new
-  read-refused block given (ReadCause cause is) = (same-states is, same-work is)
-  read-refused block given (ReadFault is found fails) = (ap (λ (s : StripeState L). leg_state j s) fails.after ∙ joined, fails_in_read-work j old new type block found fails)
+  read-refused : (block : ℕ) (was bytes : List ℕ) (given : Refusal) → RefusesRead type old new block was bytes given → (leg_state j new ≡ state.Joining) × KeepsWork j old new
+  read-refused block was bytes given (ReadCause cause is stays) = (same-states is, same-work is)
+  read-refused block was bytes given (ReadFault is fails) =
+      (ap (λ (s : StripeState L). leg_state j s) fails.after ∙ joined, fails_in_read-work j old new type _ (block_of []) (fails_in_read_run-last type old new block (blocks_of bytes) fails))
 
   copy-refused : (leg : ℕ) (given : Refusal) → RefusesCopy type old new leg given → (leg_state j new ≡ state.Joining) × KeepsWork j old new
   copy-refused leg given (CopyCause cause is) = (same-states is, same-work is)
@@ -137,22 +142,22 @@ module _ {L : Type 0} (type : LegType L) (old new : StripeState L) (j : ℕ) (jo
   lost-quiet joins kept = (joins, uncounted (kept joins))
 
   pub steps-bound : (step : Step L) (answer : Answer L) → Keeps type old → StaysBehind j step answer → StepOf type step answer old new → (leg_state j new ≡ state.Joining) × (work j new + copies j step answer ≡ work j old)
-  steps-bound (Begin block bytes) (Begun ticket) k stays is = quiet (ap (λ (s : StripeState L). leg_state j s) is.after ∙ joined, begins-work j old new type block bytes ticket k joined is)
+  steps-bound (Begin block bytes) (Begun ticket) k stays is = quiet (still (begun-states type old new block ticket bytes is), begun-work type old new block ticket j bytes k joined is)
   steps-bound (Begin block bytes) (LegLost gone handed) k stays is =
       lost-quiet (still-lost new.legs old.master (λ e. stays (is.0.names ∙ e)) is.0.after) (λ joins. loses_in_begin-work j old new type block bytes gone joins is.0)
   steps-bound (Begin block bytes) (Refused cause handed) k stays is = quiet (begin-refused block bytes cause is.0)
-  steps-bound (Push ticket leg) (Pushed count) k stays is = quiet (still (ap (λ (s : StripeState L). s.states) is.0.after ∙ push-states old new.legs is.0.pushed leg), pushes-work j old new type ticket leg is.0)
-  steps-bound (Push ticket leg) (Complete number) k stays is = quiet (still (ap (λ (s : StripeState L). s.states) is.0.after ∙ push-states old new.legs is.0.pushed leg), pushes-work j old new type ticket leg is.0)
+  steps-bound (Push ticket leg) (Pushed count) k stays is = quiet (still (ap (λ (s : StripeState L). s.states) is.0.after ∙ push-states old new.legs (of_run ticket old.records) leg), pushes_run-work type old new j ticket leg is.0)
+  steps-bound (Push ticket leg) (Complete number) k stays is = quiet (still (ap (λ (s : StripeState L). s.states) is.0.after ∙ push-states old new.legs (of_run ticket old.records) leg), pushes_run-work type old new j ticket leg is.0)
   steps-bound (Push ticket leg) (LegLost gone handed) k stays is =
-      lost-quiet (still-lost new.legs leg (λ e. stays (is.0.0 ∙ e)) is.0.1.after) (λ joins. loses_in_push-work j old new type ticket leg joins is.0.1)
-  steps-bound (Push ticket leg) Halted k stays is = quiet (ap (λ (s : StripeState L). leg_state j s) is.after ∙ joined, halts-work j old new type ticket leg is)
+      lost-quiet (still-lost new.legs leg (λ e. stays (is.0.0 ∙ e)) is.0.1.after) (λ joins. loses_in_push_run-work type old new j ticket leg joins is.0.1)
+  steps-bound (Push ticket leg) Halted k stays is = quiet (ap (λ (s : StripeState L). leg_state j s) is.after ∙ joined, halts_run-work type old new j ticket leg is)
   steps-bound (Push ticket leg) (Refused cause handed) k stays is = quiet (same-states is.2, same-work is.2)
-  steps-bound (Claim ticket) (Written written) k stays is = quiet (ap (λ (s : StripeState L). leg_state j s) is.after ∙ joined, claims-work j old new ticket written is)
+  steps-bound (Claim ticket) (Written written) k stays is = quiet (ap (λ (s : StripeState L). leg_state j s) is.after ∙ joined, claims_run-work type old new j ticket written is)
   steps-bound (Claim ticket) (Refused cause handed) k stays is = quiet (same-states is.2, same-work is.2)
-  steps-bound (Read block) (Value value) k stays is = quiet (ap (λ (s : StripeState L). leg_state j s) is.after ∙ joined, finds-work j old new type block value.bytes value.entry is)
-  steps-bound (Read block) (LegLost gone handed) k stays is =
-      lost-quiet (still-lost new.legs gone stays is.1.1.after) (λ joins. loses_in_read-work j old new type block gone is.1.0 joins is.1.1)
-  steps-bound (Read block) (Refused cause handed) k stays is = quiet (read-refused block cause is.0)
+  steps-bound (Read block room) (Value value) k stays is = quiet (ap (λ (s : StripeState L). leg_state j s) is.0.after ∙ joined, finds_run-work type old new j block (blocks_of value.bytes) value.names is.0)
+  steps-bound (Read block room) (LegLost gone handed) k stays is =
+      lost-quiet (still-lost new.legs gone stays is.1.after) (λ joins. loses_in_read-work j old new type _ gone (block_of []) joins (loses_in_read_run-last type old new block (blocks_of is.0) gone is.1))
+  steps-bound (Read block room) (Refused cause handed) k stays is = quiet (read-refused block room is.0 cause is.1)
   steps-bound (Fail leg) Failed k stays is = lost-quiet (still-lost old.legs leg stays is.0.after) (λ joins. goes_out-work j old new leg joins is.0)
   steps-bound (Fail leg) (MasterChanged master) k stays is = lost-quiet (still-lost old.legs leg stays is.0.after) (λ joins. goes_out-work j old new leg joins is.0)
   steps-bound (Fail leg) (Refused cause handed) k stays is = quiet (same-states is.2, same-work is.2)

@@ -5,7 +5,7 @@ use Rattle.nm_choice.specs.declared.leg_state.LegState.TheVariants.{Out}
 use Rattle.nm_choice.specs.declared.leg_state.LegState.TheVariants as state
 use Rattle.nm_fanout.specs.declared.block_data.Data.{Data}
 use Rattle.nm_fanout.specs.Records.{busy_on}
-use Rattle.nm_leg.specs.Leg.{LegType}
+use Rattle.nm_leg.specs.Leg.{LegType, block_of, blocks_of}
 use Rattle.nm_rules.specs.declared.refusal.Refusal.{Refusal}
 use Rattle.nm_rules.specs.declared.refusal.Refusal.TheVariants.{AlreadyOut, Fault, Stopped}
 use Rattle.nm_rules.specs.Cause.{first_cause, when}
@@ -13,9 +13,11 @@ use Rattle.nm_rules.specs.Copy.{CopiesRead, CopiesWrite}
 use Rattle.nm_rules.specs.Flushed.{DurableAt, KeepsDurable}
 use Rattle.nm_rules.specs.Invariant.{Keeps}
 use Rattle.nm_rules.specs.State.{StripeState, is_out, leg_state}
-use Rattle.nm_rules.proofs.FlushedLemmas.{begins-durable, fails_in_begin-durable, claims-durable, pushes-durable, halts-durable, finds-durable, fails_in_read-durable, copies_read-durable, fails_in_copy-durable}
-use Rattle.nm_rules.proofs.FlushedLostLemmas.{loses_in_begin-durable, loses_in_push-durable, loses_in_read-durable, loses_in_copy-durable, loses_in_promote-durable, loses_in_sync-durable, goes_out-durable, loses_in_sync-makes, attaches-durable, replaces-durable}
+use Rattle.nm_rules.proofs.FlushedLemmas.{fails_in_begin-durable, fails_in_read-durable, copies_read-durable, fails_in_copy-durable}
+use Rattle.nm_rules.proofs.FlushedLostLemmas.{loses_in_begin-durable, loses_in_read-durable, loses_in_copy-durable, loses_in_promote-durable, loses_in_sync-durable, goes_out-durable, loses_in_sync-makes, attaches-durable, replaces-durable}
 use Rattle.nm_rules.proofs.FlushedSyncLemmas.{copies_write-durable, synchronizes-durable, synchronizes-makes, fails_in_sync-durable, promotes-durable, out-durable}
+use Rattle.nm_rules.proofs.RunFlushedLemmas.{claims_run-durable, finds_run-durable, halts_run-durable, loses_in_push_run-durable, pushes_run-durable}
+use Rattle.nm_rules.proofs.RunReadLemmas.{fails_in_read_run-last, loses_in_read_run-last}
 use Rattle.nm_rules.proofs.StateLemmas.{in_sync_inside}
 use Rattle.nm_stripe.specs.declared.answer.Answer.{Answer}
 use Rattle.nm_stripe.specs.declared.answer.Answer.TheVariants.{Begun, Pushed, Complete, Halted, Written, Value, Failed, MasterChanged, Joining, Copied, InSync, Synced, LegLost, Refused}
@@ -28,6 +30,7 @@ use Rattle.nm_stripe.specs.Flush.{Flushes, LeavesBlock, NoneBegins, SyncsLeg, Ha
 use Rattle.nm_stripe.specs.Read.{RefusesRead, ForCause as ReadCause, ForFault as ReadFault}
 use Rattle.nm_stripe.specs.Run.{StepOf, AllAsked, Runs}
 use Rattle.nm_stripe.specs.Sync.{RefusesSync, ForCause as SyncCause, ForFault as SyncFault}
+use Rattle.nm_stripe.proofs.BegunLemmas.{begun-durable}
 use Rattle.nm_stripe.proofs.RunLemmas.{step-shape, all_asked-later}
 use Rattle.nm_stripe.proofs.StepLemmas.{step-keeps}
 
@@ -52,9 +55,9 @@ module _ {L : Type 0} (type : LegType L) (old new : StripeState L) (b : ℕ) (wa
     begin-refused block bytes given (BeginCause cause is) = same is
     begin-refused block bytes given (BeginFault is fails) = fails_in_begin-durable type old new b was_free is_honest block bytes fails
 
-    read-refused : (block : ℕ) (given : Refusal) → RefusesRead type old new block given → KeepsDurable type.model b old new
-    read-refused block given (ReadCause cause is) = same is
-    read-refused block given (ReadFault is found fails) = fails_in_read-durable type old new b was_free is_honest block found fails
+    read-refused : (block : ℕ) (was bytes : List ℕ) (given : Refusal) → RefusesRead type old new block was bytes given → KeepsDurable type.model b old new
+    read-refused block was bytes given (ReadCause cause is stays) = same is
+    read-refused block was bytes given (ReadFault is fails) = fails_in_read-durable type old new b was_free is_honest _ (block_of []) (fails_in_read_run-last type old new block (blocks_of bytes) fails)
 
     copy-refused : (leg : ℕ) (given : Refusal) → RefusesCopy type old new leg given → KeepsDurable type.model b old new
     copy-refused leg given (CopyCause cause is) = same is
@@ -69,19 +72,19 @@ module _ {L : Type 0} (type : LegType L) (old new : StripeState L) (b : ℕ) (wa
 
     -- each step that begins no write of the block keeps what is durable of it
     pub step-durable : (step : Step L) (answer : Answer L) → LeavesBlock b step answer → StepOf type step answer old new → KeepsDurable type.model b old new
-    step-durable (Begin block bytes) (Begun ticket) leaves is = begins-durable type old new b was_free is_honest block bytes ticket leaves is
+    step-durable (Begin block bytes) (Begun ticket) leaves is = begun-durable type old new block ticket b was_free bytes is_honest leaves is
     step-durable (Begin block bytes) (LegLost gone handed) leaves is = loses_in_begin-durable type old new b was_free k kn is_honest inside block bytes gone is.0
     step-durable (Begin block bytes) (Refused cause handed) leaves is = begin-refused block bytes cause is.0
-    step-durable (Push ticket leg) (Pushed count) leaves is = pushes-durable type old new b was_free is_honest ticket leg is.0
-    step-durable (Push ticket leg) (Complete number) leaves is = pushes-durable type old new b was_free is_honest ticket leg is.0
-    step-durable (Push ticket leg) (LegLost gone handed) leaves is = loses_in_push-durable type old new b was_free k kn is_honest inside ticket leg is.0.1
-    step-durable (Push ticket leg) Halted leaves is = halts-durable type old new b was_free is_honest ticket leg is
+    step-durable (Push ticket leg) (Pushed count) leaves is = pushes_run-durable type old new b was_free is_honest ticket leg is.0
+    step-durable (Push ticket leg) (Complete number) leaves is = pushes_run-durable type old new b was_free is_honest ticket leg is.0
+    step-durable (Push ticket leg) (LegLost gone handed) leaves is = loses_in_push_run-durable type old new b was_free k kn is_honest inside ticket leg is.0.1
+    step-durable (Push ticket leg) Halted leaves is = halts_run-durable type old new b was_free is_honest ticket leg is
     step-durable (Push ticket leg) (Refused cause handed) leaves is = same is.2
-    step-durable (Claim ticket) (Written written) leaves is = claims-durable type old new b was_free ticket written is
+    step-durable (Claim ticket) (Written written) leaves is = claims_run-durable type old new b was_free ticket written is
     step-durable (Claim ticket) (Refused cause handed) leaves is = same is.2
-    step-durable (Read block) (Value value) leaves is = finds-durable type old new b was_free is_honest block value.bytes value.entry is
-    step-durable (Read block) (LegLost gone handed) leaves is = loses_in_read-durable type old new b was_free k kn is_honest inside block gone is.1.0 is.1.1
-    step-durable (Read block) (Refused cause handed) leaves is = read-refused block cause is.0
+    step-durable (Read block room) (Value value) leaves is = finds_run-durable type old new b was_free is_honest block (blocks_of value.bytes) value.names is.0
+    step-durable (Read block room) (LegLost gone handed) leaves is = loses_in_read-durable type old new b was_free k kn is_honest inside _ gone (block_of []) (loses_in_read_run-last type old new block (blocks_of is.0) gone is.1)
+    step-durable (Read block room) (Refused cause handed) leaves is = read-refused block room is.0 cause is.1
     step-durable (Fail leg) Failed leaves is = goes_out-durable type old new b was_free k kn is_honest inside leg is.0
     step-durable (Fail leg) (MasterChanged master) leaves is = goes_out-durable type old new b was_free k kn is_honest inside leg is.0
     step-durable (Fail leg) (Refused cause handed) leaves is = same is.2

@@ -1,4 +1,5 @@
 pub mod BeginLemmas
+pub mod BegunLemmas
 pub mod BoundLemmas
 pub mod ClaimLemmas
 pub mod CopyLemmas

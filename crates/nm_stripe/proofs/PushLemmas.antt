@@ -1,137 +1,135 @@
 -- A push, from what its calls say to what it keeps, does and answers.
-use Rattle.std.proofs.Common.{◌≡◌, ℕ, ◌<◌, Bool, true, false, cond, List, [], length, Option, Some, None, is_some, slice_get, IsTrue, refl, sym, ap, ◌∙◌, subst, arith}
+use Rattle.std.proofs.Common.{◌≡◌, ℕ, ◌+◌, ◌<◌, ◌==◌, Bool, true, false, cond, List, [], ◌∷◌, length, find, Option, Some, None, is_none, is_some, IsSome, refl, sym, ap, ◌∙◌, subst, arith}
 use Rattle.nm_fanout.specs.declared.write_record.Record.{Record}
-use Rattle.nm_fanout.specs.RecordData.{bytes_of}
-use Rattle.nm_fanout.specs.Record.{is_under_way}
-use Rattle.nm_fanout.specs.Records.{IsAt, reached}
-use Rattle.nm_fanout.proofs.Finding.{find_record-ticket}
-use Rattle.nm_fanout.proofs.InOrder.{AreInOrder-reached}
-use Rattle.nm_fanout.proofs.Places.{IsAt-reached, IsAt-landed}
+use Rattle.nm_fanout.specs.Record.{is_under_way, with_entry, without_leg}
+use Rattle.nm_fanout.specs.Records.{changed, find_record, landed, reached}
 use Rattle.nm_leg.specs.Leg.{Leg, LegType}
+use Rattle.nm_rules.specs.declared.refusal.Refusal.TheVariants.{NoTicket}
 use Rattle.nm_rules.specs.Acts.{IsExplainedStep}
-use Rattle.nm_rules.specs.BlockCalls.{WritesBlockAt}
 use Rattle.nm_rules.specs.Invariant.{Keeps}
-use Rattle.nm_rules.specs.Lost.{lost, settled}
-use Rattle.nm_rules.specs.Push.{push_cause, after_push, after_landing, after_reach, lands_at, CallsToPush, Pushes, LosesInPush, Halts}
+use Rattle.nm_rules.specs.Lost.{lost}
+use Rattle.nm_rules.specs.RunPush.{CallsToPushRun, HaltsInPushRun, LosesInPushRun, PushesRun, after_push_run, land_each, push_run_rows, reach_each, run_landed, run_lands, run_reached}
+use Rattle.nm_rules.specs.Runs.{AreOwed, find_run, of_run}
 use Rattle.nm_rules.specs.State.{StripeState, is_last, next_number}
+use Rattle.nm_rules.proofs.CauseLemmas.{is_there, none_holds, when_off}
 use Rattle.nm_rules.proofs.ClaimLemmas.{finished_landed}
-use Rattle.nm_rules.proofs.HaltLemmas.{halt-keeps}
 use Rattle.nm_rules.proofs.LegLemmas.{calls-length}
-use Rattle.nm_rules.proofs.LostStepLemmas.{push_lost-keeps, push_lost-acts}
-use Rattle.nm_rules.proofs.PushLemmas.{may_push}
-use Rattle.nm_rules.proofs.PushedLemmas.{pushes-keeps, pushes-explained}
+use Rattle.nm_rules.proofs.RunPushLemmas.{may_push_run, pushes_run-keeps}
 use Rattle.nm_stripe.specs.declared.push.Reach.{Reach}
 use Rattle.nm_stripe.specs.declared.push.Reach.TheVariants.{Pushed, Complete, LegLost, Halted}
 use Rattle.nm_stripe.specs.Push.{Reaches, IsReached, IsExplainedReach}
 use Rattle.nm_stripe.proofs.LostLemmas.{lost-after, lost-legs_after}
 
-module _ {L : Type 0} (type : LegType L) (succeeded : Bool) (old : StripeState L) (ticket leg place : ℕ) (legs : List L) where
-  -- what is known once a push has called its leg
-  pub record Called : Type 0 where
-    pub pushed : Record
-    pub at : IsAt ticket place old.records
-    pub here : slice_get old.records place ≡ Some pushed
-    pub called : CallsToPush type succeeded old legs ticket leg pushed
-
-  pub has-called : IsAt ticket place old.records → push_cause old ticket leg ≡ None
-      → ((r : Record) → slice_get old.records place ≡ Some r → WritesBlockAt type succeeded leg r.block (bytes_of r.data) old.legs legs) → Called
-  has-called at none writes =
-      let may = may_push old ticket leg none in
-      let here : slice_get old.records place ≡ Some may.pushed = sym at.found ∙ may.found in
-      record {
-        pushed = may.pushed;
-        at = at;
-        here = here;
-        called = record { no_cause = none; found = may.found; writes = writes may.pushed here };
-      }
-
--- the write at the place reaches the leg of a stripe of which no more than the legs changed
-pub reached-after : {L : Type 0} (old mid new : StripeState L) (place leg : ℕ) (r : Record) → mid ≡ record old { legs = mid.legs } → slice_get old.records place ≡ Some r
-    → ((q : Record) → slice_get mid.records place ≡ Some q → new ≡ after_push mid mid.legs q leg) → new ≡ after_push old mid.legs r leg
-reached-after old mid new place leg r others here reach =
-    reach r (ap (λ (s : StripeState _). slice_get s.records place) others ∙ here) ∙ ap (λ (m : StripeState _). after_push m mid.legs r leg) others
-
--- a leg that was there is there
-pub still-inside : {L : Type 0} (type : LegType L) (succeeded : Bool) (old : StripeState L) (ticket leg place : ℕ) (legs : List L) → Called type succeeded old ticket leg place legs → leg < length old.legs → leg < length legs
-still-inside type succeeded old ticket leg place legs c inside =
-    let w = c.called.writes in
+-- a leg that was there is there after its call
+pub still-inside : {L : Type 0} (type : LegType L) (succeeded : Bool) (old : StripeState L) (legs : List L) (ticket leg : ℕ) → CallsToPushRun type succeeded old legs ticket leg → leg < length old.legs → leg < length legs
+still-inside type succeeded old legs ticket leg c inside =
+    let w = c.writes in
     omega (arith, inside, calls-length type.model old.legs legs leg w.before w.after w.change)
 
+-- a record that is found by what no push changes is found after a change too
+some-first : {A : Type 0} (b c : Bool) (x y : A) (o p : Option A) → b ≡ c → is_some o ≡ is_some p → is_some (cond b (Some x) o) ≡ is_some (cond c (Some y) p)
+some-first true true x y o p same rest = refl
+some-first true false x y o p same rest = absurd (let e : ⊥ = cc in e)
+some-first false true x y o p same rest = absurd (let e : ⊥ = cc in e)
+some-first false false x y o p same rest = rest
+
+module _ (test : Record → Bool) (same_left : (leg : ℕ) (r : Record) → test (without_leg leg r) ≡ test r) (same_named : (number : ℕ) (r : Record) → test (with_entry number r) ≡ test r) where
+  some-changed : (f : Record → Record) → ((r : Record) → test (f r) ≡ test r) → (t : ℕ) (rs : List Record) → is_some (find test (changed f t rs)) ≡ is_some (find test rs)
+  some-changed f same t [] = refl
+  some-changed f same t (r ∷ rs) =
+      let own : test (cond (r.ticket == t) (f r) r) ≡ test r = elim (r.ticket == t) as (λ b. test (cond b (f r) r) ≡ test r) [ true ↦ same r | false ↦ refl ] in
+      some-first (test (cond (r.ticket == t) (f r) r)) (test r) (cond (r.ticket == t) (f r) r) r (find test (changed f t rs)) (find test rs) own (some-changed f same t rs)
+
+  some-reached : (leg : ℕ) (rs records : List Record) → is_some (find test (reach_each leg rs records)) ≡ is_some (find test records)
+  some-reached leg [] records = refl
+  some-reached leg (r ∷ rs) records = some-reached leg rs (reached r.ticket leg records) ∙ some-changed (without_leg leg) (same_left leg) r.ticket records
+
+  some-landed : (leg next : ℕ) (rs records : List Record) → is_some (find test (land_each leg next rs records)) ≡ is_some (find test records)
+  some-landed leg next [] records = refl
+  some-landed leg next (r ∷ rs) records =
+      some-landed leg (next + 1) rs (landed r.ticket next (reached r.ticket leg records))
+      ∙ some-changed (with_entry next) (same_named next) r.ticket (reached r.ticket leg records)
+      ∙ some-changed (without_leg leg) (same_left leg) r.ticket records
+
+  some-pushed : {L : Type 0} (old : StripeState L) (legs : List L) (rs : List Record) (leg : ℕ) → is_some (find test (after_push_run old legs rs leg).records) ≡ is_some (find test old.records)
+  some-pushed old legs rs leg =
+      elim (run_lands leg rs old) as (λ b. is_some (find test (cond b (run_landed old legs rs leg) (run_reached old legs rs leg)).records) ≡ is_some (find test old.records)) [
+        | true ↦ some-landed leg (next_number old) rs old.records
+        | false ↦ some-reached leg rs old.records
+      ]
+
+-- the run reaches the leg of a stripe of which no more than the legs changed
+same-after : {L : Type 0} (old : StripeState L) (legs : List L) (rs : List Record) (leg : ℕ) → after_push_run (record old { legs = legs }) legs rs leg ≡ after_push_run old legs rs leg
+same-after old legs [] leg = refl
+same-after old legs (r ∷ rs) leg = refl
+
+pub reached-after : {L : Type 0} (old mid new : StripeState L) (ticket leg : ℕ) → mid ≡ record old { legs = mid.legs } → new ≡ after_push_run mid mid.legs (of_run ticket mid.records) leg → new ≡ after_push_run old mid.legs (of_run ticket old.records) leg
+reached-after {L} old mid new ticket leg others after =
+    after ∙ ap (λ (m : StripeState L). after_push_run m mid.legs (of_run ticket m.records) leg) others ∙ same-after old mid.legs (of_run ticket old.records) leg
+
 -- a push leaves the legs that its call left
-pushed-legs : {L : Type 0} (old : StripeState L) (legs : List L) (r : Record) (leg : ℕ) → (after_push old legs r leg).legs ≡ legs
-pushed-legs old legs r leg = elim (lands_at leg r old) as (λ b. (settled (cond b (after_landing old legs r leg) (after_reach old legs r leg))).legs ≡ legs) [ true ↦ refl | false ↦ refl ]
+pushed-legs : {L : Type 0} (old : StripeState L) (legs : List L) (rs : List Record) (leg : ℕ) → (after_push_run old legs rs leg).legs ≡ legs
+pushed-legs old legs rs leg = elim (run_lands leg rs old) as (λ b. (cond b (run_landed old legs rs leg) (run_reached old legs rs leg)).legs ≡ legs) [ true ↦ refl | false ↦ refl ]
 
--- and each record at its place
-pushed-at : {L : Type 0} (type : LegType L) (old : StripeState L) (legs : List L) (r : Record) (leg place : ℕ) → Keeps type old → IsAt r.ticket place old.records → IsAt r.ticket place (after_push old legs r leg).records
-pushed-at type old legs r leg place k at =
-    let there = IsAt-reached r.ticket leg place old.records k.records.in_order.ascending at in
-    elim (lands_at leg r old) as (λ b. IsAt r.ticket place (settled (cond b (after_landing old legs r leg) (after_reach old legs r leg))).records) [
-      | true ↦ IsAt-landed r.ticket (next_number old) place (reached r.ticket leg old.records) (AreInOrder-reached r.ticket leg old.records k.records.in_order).ascending there
-      | false ↦ there
-    ]
-
-module _ {L : Type 0} (type : LegType L) (old new : StripeState L) (ticket leg place : ℕ) (legs : List L) (k : Keeps type old) where
-  -- a push whose leg wrote the block
-  module _ (c : Called type true old ticket leg place legs) (after : new ≡ after_push old legs c.pushed leg) where
-    pub pushes : Pushes type old new ticket leg
-    pushes =
-        let same : new.legs ≡ legs = ap (λ (s : StripeState L). s.legs) after ∙ pushed-legs old legs c.pushed leg in
-        record {
-          pushed = c.pushed;
-          called = subst (λ (ls : List L). CallsToPush type true old ls ticket leg c.pushed) (sym same) c.called;
-          after = after ∙ ap (λ (ls : List L). after_push old ls c.pushed leg) (sym same);
-        }
-
-    pub went-keeps : Keeps type new
-    went-keeps = pushes-keeps type old new ticket leg k pushes
-
-    pub went-explained : IsTrue type.honest → IsExplainedStep type.model [] old new
-    went-explained is_honest = pushes-explained type old new ticket leg is_honest k pushes
-
-    pub went-at : IsAt ticket place new.records
-    went-at =
-        let own : c.pushed.ticket ≡ ticket = find_record-ticket ticket old.records c.pushed c.called.found in
-        let at_own : IsAt c.pushed.ticket place old.records = subst (λ (t : ℕ). IsAt t place old.records) (sym own) c.at in
-        subst (λ (s : StripeState L). IsAt ticket place s.records) (sym after)
-        (subst (λ (t : ℕ). IsAt t place (after_push old legs c.pushed leg).records) own (pushed-at type old legs c.pushed leg place k at_own))
-
-    -- the write at the place has its entry once it is finished
-    pub went-landed : (r : Record) → slice_get new.records place ≡ Some r → is_under_way r ≡ false → is_some r.entry ≡ true
-    went-landed r here over = ap (λ (e : Option ℕ). is_some e) (finished_landed type new ticket r (went-at.found ∙ here) over went-keeps.records).1
-
-  -- a push whose leg failed, and has gone out
-  module _ (c : Called type false old ticket leg place legs) (not_last : is_last leg old ≡ false) (after : new ≡ lost leg (record old { legs = legs })) where
-    pub loses : LosesInPush type old new ticket leg
-    loses = record {
-      pushed = c.pushed;
-      called = subst (λ (ls : List L). CallsToPush type false old ls ticket leg c.pushed) (sym (lost-legs_after leg old new legs after)) c.called;
-      not_last = not_last;
-      after = lost-after leg old new legs after;
+-- a push whose leg wrote the blocks
+pub pushes : {L : Type 0} (type : LegType L) (old new : StripeState L) (legs : List L) (ticket leg : ℕ) → CallsToPushRun type true old legs ticket leg → new ≡ after_push_run old legs (of_run ticket old.records) leg → PushesRun type old new ticket leg
+pushes {L} type old new legs ticket leg c after =
+    let rs = of_run ticket old.records in
+    let same : new.legs ≡ legs = ap (λ (s : StripeState L). s.legs) after ∙ pushed-legs old legs rs leg in
+    record {
+      called = subst (λ (ls : List L). CallsToPushRun type true old ls ticket leg) (sym same) c;
+      after = after ∙ ap (λ (ls : List L). after_push_run old ls rs leg) (sym same);
     }
 
-    pub lost-keeps : Keeps type new
-    lost-keeps = push_lost-keeps type old new k ticket leg loses
+module _ {L : Type 0} (type : LegType L) (old new : StripeState L) (ticket leg : ℕ) (k : Keeps type old) (p : PushesRun type old new ticket leg) where
+  -- the run is still there
+  pub went-run : IsSome (find_run ticket new.records)
+  went-run =
+      let rows = none_holds (push_run_rows old ticket leg) p.called.no_cause in
+      let at = is_there (find_run ticket old.records) (when_off (is_none (find_run ticket old.records)) NoTicket rows.1.0) in
+      ap (λ (s : StripeState L). is_some (find_run ticket s.records)) p.after
+      ∙ some-pushed (λ (r : Record). r.run == ticket) (λ l r. refl) (λ n r. refl) old new.legs (of_run ticket old.records) leg
+      ∙ ap (λ (o : Option Record). is_some o) at.1
 
-    pub lost-explained : IsTrue type.honest → IsExplainedStep type.model [] old new
-    lost-explained is_honest = push_lost-acts type old new k ticket leg loses is_honest
+  -- and so is the record of its first block
+  pub went-record : IsSome (find_record ticket new.records)
+  went-record =
+      let may = may_push_run old ticket leg p.called.no_cause in
+      let are : AreOwed ticket p.called.block leg (may.first ∷ may.more) old.records = subst (λ (rs : List Record). AreOwed ticket p.called.block leg rs old.records) may.all p.called.are in
+      let was : find_record ticket old.records ≡ Some may.first = subst (λ (t : ℕ). find_record t old.records ≡ Some may.first) are.0 are.2 in
+      ap (λ (s : StripeState L). is_some (find_record ticket s.records)) p.after
+      ∙ some-pushed (λ (r : Record). r.ticket == ticket) (λ l r. refl) (λ n r. refl) old new.legs (of_run ticket old.records) leg
+      ∙ ap (λ (o : Option Record). is_some o) was
 
-  -- a push whose leg failed, the only one in sync
-  module _ (c : Called type false old ticket leg place legs) (last : is_last leg old ≡ true) (after : new ≡ record old { legs = legs; stopped = true }) where
-    pub halts : Halts type old new ticket leg
-    halts =
-        let same : new.legs ≡ legs = ap (λ (s : StripeState L). s.legs) after in
-        record {
-          pushed = c.pushed;
-          called = subst (λ (ls : List L). CallsToPush type false old ls ticket leg c.pushed) (sym same) c.called;
-          last = last;
-          after = after ∙ ap (λ (ls : List L). let s : StripeState L = record old { legs = ls; stopped = true } in s) (sym same);
-        }
+  -- it has its entry once it is finished
+  pub went-landed : (r : Record) → find_record ticket new.records ≡ Some r → is_under_way r ≡ false → IsSome r.entry
+  went-landed r found over = ap (λ (e : Option ℕ). is_some e) (finished_landed type new ticket r found over (pushes_run-keeps type old new ticket leg k p).records).1
 
-    pub halted-keeps : Keeps type new
-    halted-keeps = halt-keeps type old new k ticket leg halts
+-- a push whose leg failed, and has gone out
+pub loses : {L : Type 0} (type : LegType L) (old new : StripeState L) (legs : List L) (ticket leg : ℕ) → CallsToPushRun type false old legs ticket leg → is_last leg old ≡ false → new ≡ lost leg (record old { legs = legs }) → LosesInPushRun type old new ticket leg
+loses {L} type old new legs ticket leg c not_last after = record {
+  called = subst (λ (ls : List L). CallsToPushRun type false old ls ticket leg) (sym (lost-legs_after leg old new legs after)) c;
+  not_last = not_last;
+  after = lost-after leg old new legs after;
+}
+
+-- a push whose leg failed, the only one in sync
+pub halts : {L : Type 0} (type : LegType L) (old new : StripeState L) (legs : List L) (ticket leg : ℕ) → CallsToPushRun type false old legs ticket leg → is_last leg old ≡ true → new ≡ record old { legs = legs; stopped = true } → HaltsInPushRun type old new ticket leg
+halts {L} type old new legs ticket leg c last after =
+    let same : new.legs ≡ legs = ap (λ (s : StripeState L). s.legs) after in
+    record {
+      called = subst (λ (ls : List L). CallsToPushRun type false old ls ticket leg) (sym same) c;
+      last = last;
+      after = after ∙ ap (λ (ls : List L). let s : StripeState L = record old { legs = ls; stopped = true } in s) (sym same);
+    }
+
+-- where a run stands that has been pushed
+pub some-there : {A : Type 0} (o : Option A) → IsSome o → (x : A) × (o ≡ Some x)
+some-there None is = cc
+some-there (Some x) is = (x, refl)
 
 -- a push that reached its leg, with its answer
-pub reaches : {L : Type 0} (type : LegType L) (old new : StripeState L) (ticket leg : ℕ) (answer : Reach) → Pushes type old new ticket leg → IsReached new ticket answer → Reaches type old new ticket leg answer
+pub reaches : {L : Type 0} (type : LegType L) (old new : StripeState L) (ticket leg : ℕ) (answer : Reach) → PushesRun type old new ticket leg → IsReached new ticket answer → Reaches type old new ticket leg answer
 reaches type old new ticket leg (Pushed count) p is = (p, is)
 reaches type old new ticket leg (Complete number) p is = (p, is)
 reaches type old new ticket leg (LegLost gone) p is = absurd is

@@ -1,54 +1,102 @@
 -- A read, from what its calls say to what it keeps, does and answers.
-use Rattle.std.proofs.Common.{◌≡◌, ℕ, ◌<◌, Bool, true, false, List, length, sym, ap, ◌∙◌, subst, arith}
+use Rattle.std.proofs.Common.{◌≡◌, ℕ, ◌*◌, ◌/◌, ◌<◌, Bool, true, false, List, [], length, None, Some, IsTrue, sym, ap, ◌∙◌, subst, arith}
 use Rattle.nm_replay.specs.declared.block.Block.{Block}
-use Rattle.nm_leg.specs.Leg.{Leg, LegType}
+use Rattle.nm_leg.specs.Leg.{Leg, LegType, blocks_in, blocks_of, block_of}
+use Rattle.nm_leg.specs.LegCalls.{HasRun}
+use Rattle.nm_rules.specs.Acts.{IsExplainedStep}
 use Rattle.nm_rules.specs.Array.{contents_at}
-use Rattle.nm_rules.specs.Invariant.{HasLegs}
+use Rattle.nm_rules.specs.Invariant.{HasLegs, Keeps}
 use Rattle.nm_rules.specs.Lost.{lost}
-use Rattle.nm_rules.specs.Read.{after_read, CallsToRead, Finds, LosesInRead, FailsInRead}
-use Rattle.nm_rules.specs.Receipt.{EntryName}
+use Rattle.nm_rules.specs.Read.{read_leg, turn_after}
+use Rattle.nm_rules.specs.RunCalls.{ReadsRunAt}
+use Rattle.nm_rules.specs.RunRead.{CallsToReadRun, FailsInReadRun, FindsRun, LosesInReadRun, after_read_run, last_block, read_run_cause}
+use Rattle.nm_rules.specs.Runs.{EntryNames, FitsRun}
 use Rattle.nm_rules.specs.State.{StripeState, is_last, next_number}
+use Rattle.nm_rules.proofs.HaltLemmas.{read_fault-keeps}
 use Rattle.nm_rules.proofs.LegLemmas.{calls-length}
-use Rattle.nm_store.specs.BlockCalls.{HasBlock}
+use Rattle.nm_rules.proofs.LostStepLemmas.{read_lost-keeps, read_lost-acts}
+use Rattle.nm_rules.proofs.ReadLemmas.{fails_in_read-explained}
+use Rattle.nm_rules.proofs.RunCallLemmas.{length-blocks}
+use Rattle.nm_rules.proofs.RunReadLemmas.{fails_in_read_run-last, loses_in_read_run-last}
 use Rattle.nm_stripe.proofs.LostLemmas.{lost-after, lost-legs_after}
 
--- each leg has each block of the stripe
-pub has-block : {L : Type 0} (model : L → Leg) (s : StripeState L) (leg block : ℕ) → HasLegs model s → leg < length s.legs → block < s.place.blocks → HasBlock model s.legs leg block
-has-block model s leg block k inside within l at =
-    omega (arith, within, k.lengths leg inside, ap (λ o. length (contents_at model o)) at)
+-- each leg has each run of the stripe
+pub has-run : {L : Type 0} (model : L → Leg) (s : StripeState L) (leg block : ℕ) (bytes : List ℕ) → HasLegs model s → leg < length s.legs → FitsRun s.place block (blocks_in bytes) → length bytes ≡ 512 * blocks_in bytes → HasRun model s.legs leg block bytes
+has-run model s leg block bytes k inside fits whole l at =
+    let long : length (model l).contents ≡ s.place.blocks = sym (ap (λ o. length (contents_at model o)) at) ∙ k.lengths leg inside in
+    record {
+      some = omega (arith, whole, fits.some);
+      whole = whole;
+      inside = omega (arith, fits.inside, long);
+    }
 
 -- a leg that was there is there after its call
-pub read-inside : {L : Type 0} (type : LegType L) (succeeded : Bool) (old : StripeState L) (legs : List L) (block leg : ℕ) (bytes : Block) → CallsToRead type succeeded old legs block leg bytes → leg < length old.legs → leg < length legs
-read-inside type succeeded old legs block leg bytes c inside =
-    let r = c.reads in
-    omega (arith, inside, calls-length type.model old.legs legs leg r.before r.after r.change)
+pub read-inside : {L : Type 0} (type : LegType L) (succeeded : Bool) (old mid : List L) (block leg : ℕ) (found : List Block) → ReadsRunAt type succeeded leg block found old mid → leg < length old → leg < length mid
+read-inside type succeeded old mid block leg found r inside =
+    omega (arith, inside, calls-length type.model old mid leg r.before r.after r.change)
 
-module _ {L : Type 0} (type : LegType L) (old mid new : StripeState L) (block leg : ℕ) (bytes : Block) (others : mid ≡ record old { legs = mid.legs }) where
+module _ {L : Type 0} (type : LegType L) (old mid : StripeState L) (block leg : ℕ) (was is : List ℕ) (fits : FitsRun old.place block (blocks_in was)) (long : length is ≡ length was) (none : read_run_cause old (blocks_in was) ≡ None) (leg_is : read_leg (last_block block (blocks_in was)) old ≡ Some leg) (others : mid ≡ record old { legs = mid.legs }) where
+  as-many : blocks_in was ≡ length (blocks_of is)
+  as-many = sym (length-blocks is ∙ ap (λ (n : ℕ). n / 512) long)
+
+  called : (succeeded : Bool) → ReadsRunAt type succeeded leg block (blocks_of is) old.legs mid.legs → CallsToReadRun type succeeded old mid.legs block leg (blocks_of is)
+  called succeeded reads = record {
+    no_cause = subst (λ (n : ℕ). read_run_cause old n ≡ None) as-many none;
+    fits = subst (λ (n : ℕ). FitsRun old.place block n) as-many fits;
+    leg_is = subst (λ (n : ℕ). read_leg (last_block block n) old ≡ Some leg) as-many leg_is;
+    reads = reads;
+  }
+
   -- a read that found the bytes
-  pub finds : (receipt : EntryName) (stripe number : ℕ) → CallsToRead type true old mid.legs block leg bytes → new ≡ after_read mid mid.legs block bytes
-      → receipt ≡ record { stripe = stripe; block = block; number = number } → stripe ≡ new.place.stripe → number ≡ next_number mid → Finds type old new block bytes receipt
-  finds receipt stripe number called after names here next =
-      let is : new ≡ after_read old mid.legs block bytes = after ∙ ap (λ (m : StripeState L). after_read m mid.legs block bytes) others in
-      let same : new.legs ≡ mid.legs = ap (λ (s : StripeState L). s.legs) is in
-      let place : stripe ≡ old.place.stripe = here ∙ ap (λ (s : StripeState L). s.place.stripe) is in
+  pub finds : (new : StripeState L) (names : EntryNames) (stripe number : ℕ) → ReadsRunAt type true leg block (blocks_of is) old.legs mid.legs
+      → new ≡ after_read_run mid mid.legs block (blocks_of is) (turn_after (last_block block (blocks_in is)) mid)
+      → names ≡ record { stripe = stripe; block = block; number = number; count = blocks_in was } → stripe ≡ new.place.stripe → number ≡ next_number mid → FindsRun type old new block (blocks_of is) names
+  finds new names stripe number reads after named here next =
+      let found = blocks_of is in
+      let turn : ℕ → ℕ = λ n. turn_after (last_block block n) old in
+      let from : new ≡ after_read_run old mid.legs block found (turn (length found)) =
+      after ∙ ap (λ (m : StripeState L). after_read_run m mid.legs block found (turn_after (last_block block (blocks_in is)) m)) others
+      ∙ ap (λ (n : ℕ). after_read_run old mid.legs block found (turn n)) (sym (length-blocks is)) in
+      let same : new.legs ≡ mid.legs = ap (λ (s : StripeState L). s.legs) from in
+      let place : stripe ≡ old.place.stripe = here ∙ ap (λ (s : StripeState L). s.place.stripe) from in
       let numbered : number ≡ next_number old = next ∙ ap (λ (s : StripeState L). next_number s) others in
       record {
         leg = leg;
-        called = subst (λ (ls : List L). CallsToRead type true old ls block leg bytes) (sym same) called;
-        names = names ∙ ap (λ (n : ℕ). let e : EntryName = record { stripe = n; block = block; number = number } in e) place ∙ ap (λ (n : ℕ). let e : EntryName = record { stripe = old.place.stripe; block = block; number = n } in e) numbered;
-        after = is ∙ ap (λ (ls : List L). after_read old ls block bytes) (sym same);
+        called = subst (λ (ls : List L). CallsToReadRun type true old ls block leg found) (sym same) (called true reads);
+        named = named
+            ∙ ap (λ (n : ℕ). let e : EntryNames = record { stripe = n; block = block; number = number; count = blocks_in was } in e) place
+            ∙ ap (λ (n : ℕ). let e : EntryNames = record { stripe = old.place.stripe; block = block; number = n; count = blocks_in was } in e) numbered
+            ∙ ap (λ (n : ℕ). let e : EntryNames = record { stripe = old.place.stripe; block = block; number = next_number old; count = n } in e) as-many;
+        after = from ∙ ap (λ (ls : List L). after_read_run old ls block found (turn (length found))) (sym same);
       }
 
   -- a read whose leg failed, and has gone out
-  pub loses : CallsToRead type false old mid.legs block leg bytes → is_last leg old ≡ false → new ≡ lost leg mid → LosesInRead type old new block leg bytes
-  loses called not_last after =
-      let is : new ≡ lost leg (record old { legs = mid.legs }) = after ∙ ap (λ (m : StripeState L). lost leg m) others in
+  pub loses : (new : StripeState L) → ReadsRunAt type false leg block (blocks_of is) old.legs mid.legs → is_last leg old ≡ false → new ≡ lost leg mid → LosesInReadRun type old new block leg (blocks_of is)
+  loses new reads not_last after =
+      let from : new ≡ lost leg (record old { legs = mid.legs }) = after ∙ ap (λ (m : StripeState L). lost leg m) others in
       record {
-        called = subst (λ (ls : List L). CallsToRead type false old ls block leg bytes) (sym (lost-legs_after leg old new mid.legs is)) called;
+        called = subst (λ (ls : List L). CallsToReadRun type false old ls block leg (blocks_of is)) (sym (lost-legs_after leg old new mid.legs from)) (called false reads);
         not_last = not_last;
-        after = lost-after leg old new mid.legs is;
+        after = lost-after leg old new mid.legs from;
       }
 
--- a read whose leg failed, the only one in sync
-pub fails : {L : Type 0} (type : LegType L) (old mid : StripeState L) (block leg : ℕ) (bytes : Block) → mid ≡ record old { legs = mid.legs } → CallsToRead type false old mid.legs block leg bytes → is_last leg old ≡ true → FailsInRead type old mid block bytes
-fails type old mid block leg bytes others called last = record { leg = leg; called = called; last = last; after = others }
+  -- a read whose leg failed, the only one in sync
+  pub fails : ReadsRunAt type false leg block (blocks_of is) old.legs mid.legs → is_last leg old ≡ true → FailsInReadRun type old mid block (blocks_of is)
+  fails reads last = record { leg = leg; called = called false reads; last = last; after = others }
+
+-- what a failed read of a run keeps, and how it is explained: as one of its last block
+module _ {L : Type 0} (type : LegType L) (old new : StripeState L) (k : Keeps type old) (block : ℕ) (found : List Block) where
+  abbrev last : ℕ
+  last = last_block block (length found)
+
+  pub lost_read-keeps : (leg : ℕ) → LosesInReadRun type old new block leg found → Keeps type new
+  lost_read-keeps leg l = read_lost-keeps type old new k last leg (block_of []) (loses_in_read_run-last type old new block found leg l)
+
+  pub lost_read-acts : (leg : ℕ) → LosesInReadRun type old new block leg found → IsTrue type.honest → IsExplainedStep type.model [] old new
+  lost_read-acts leg l is_honest = read_lost-acts type old new k last leg (block_of []) (loses_in_read_run-last type old new block found leg l) is_honest
+
+  pub failed_read-keeps : FailsInReadRun type old new block found → Keeps type new
+  failed_read-keeps f = read_fault-keeps type old new k last (block_of []) (fails_in_read_run-last type old new block found f)
+
+  pub failed_read-acts : FailsInReadRun type old new block found → IsTrue type.honest → IsExplainedStep type.model [] old new
+  failed_read-acts f is_honest = fails_in_read-explained type old new last (block_of []) is_honest k (fails_in_read_run-last type old new block found f)

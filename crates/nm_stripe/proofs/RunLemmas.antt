@@ -2,7 +2,7 @@
 use Rattle.std.proofs.Common.{◌≡◌, ⊎_elim, ℕ, IsTrue, List, [], ◌∷◌, ◌++◌, refl, sym, ap, ◌∙◌, subst, append_assoc, append-nil}
 use Rattle.std.proofs.Common.{min, length, reverse}
 use Rattle.std.proofs.lemmas.List.{reverse-append}
-use Rattle.nm_leg.specs.Leg.{Leg, LegType}
+use Rattle.nm_leg.specs.Leg.{Leg, LegType, block_of, blocks_of}
 use Rattle.nm_replay.specs.Events.{Event, marks_of}
 use Rattle.nm_fanout.specs.declared.block_data.Data.{Data}
 use Rattle.nm_rules.specs.declared.refusal.Refusal.{Refusal}
@@ -10,7 +10,9 @@ use Rattle.nm_rules.specs.Acts.{Acts, IsExplainedStep}
 use Rattle.nm_rules.specs.Shape.{SameShape}
 use Rattle.nm_rules.specs.State.{StripeState}
 use Rattle.nm_rules.proofs.ActsLemmas.{acts-none, acts-append}
-use Rattle.nm_rules.proofs.ShapeLemmas.{begins-shape, loses_in_begin-shape, fails_in_begin-shape, pushes-shape, loses_in_push-shape, halts-shape, claims-shape, finds-shape, loses_in_read-shape, fails_in_read-shape, goes_out-shape, attaches-shape, replaces-shape}
+use Rattle.nm_rules.proofs.RunJoiningLemmas.{claims_run-shape, finds_run-shape, halts_run-shape, loses_in_push_run-shape, pushes_run-shape}
+use Rattle.nm_rules.proofs.RunReadLemmas.{fails_in_read_run-last, loses_in_read_run-last}
+use Rattle.nm_rules.proofs.ShapeLemmas.{loses_in_begin-shape, fails_in_begin-shape, loses_in_read-shape, fails_in_read-shape, goes_out-shape, attaches-shape, replaces-shape}
 use Rattle.nm_rules.proofs.ShapeLemmas.{copies_read-shape, copies_write-shape, loses_in_copy-shape, fails_in_copy-shape, promotes-shape, loses_in_promote-shape, synchronizes-shape, loses_in_sync-shape, fails_in_sync-shape}
 use Rattle.nm_stripe.specs.declared.answer.Answer.{Answer}
 use Rattle.nm_stripe.specs.declared.answer.Answer.TheVariants.{Begun, Pushed, Complete, Halted, Written, Value, Failed, MasterChanged, Joining, Copied, InSync, Synced, LegLost, Refused}
@@ -22,6 +24,7 @@ use Rattle.nm_stripe.specs.Copy.{RefusesCopy, ForCause as CopyCause, ForFault as
 use Rattle.nm_stripe.specs.Read.{RefusesRead, ForCause as ReadCause, ForFault as ReadFault}
 use Rattle.nm_stripe.specs.Sync.{RefusesSync, ForCause as SyncCause, ForFault as SyncFault}
 use Rattle.nm_stripe.specs.Run.{StepOf, MayBeAsked, AllAsked, Runs, marks, IsInterleaving, concat, NoneHalted, ActOnOneArray}
+use Rattle.nm_stripe.proofs.BegunLemmas.{begun-shape}
 
 -- one step more
 pub runs-push : {L : Type 0} (type : LegType L) (old mid new : StripeState L) (steps : List (Step L)) (answers : List (Answer L)) (step : Step L) (answer : Answer L)
@@ -110,9 +113,9 @@ begin-refused : {L : Type 0} (type : LegType L) (old new : StripeState L) (block
 begin-refused type old new block bytes given (BeginCause cause is) = same old new is
 begin-refused type old new block bytes given (BeginFault is fails) = fails_in_begin-shape type old new block bytes fails
 
-read-refused : {L : Type 0} (type : LegType L) (old new : StripeState L) (block : ℕ) (given : Refusal) → RefusesRead type old new block given → SameShape old new
-read-refused type old new block given (ReadCause cause is) = same old new is
-read-refused type old new block given (ReadFault is found fails) = fails_in_read-shape type old new block found fails
+read-refused : {L : Type 0} (type : LegType L) (old new : StripeState L) (block : ℕ) (was bytes : List ℕ) (given : Refusal) → RefusesRead type old new block was bytes given → SameShape old new
+read-refused type old new block was bytes given (ReadCause cause is stays) = same old new is
+read-refused type old new block was bytes given (ReadFault is fails) = fails_in_read-shape type old new _ (block_of []) (fails_in_read_run-last type old new block (blocks_of bytes) fails)
 
 copy-refused : {L : Type 0} (type : LegType L) (old new : StripeState L) (leg : ℕ) (given : Refusal) → RefusesCopy type old new leg given → SameShape old new
 copy-refused type old new leg given (CopyCause cause is) = same old new is
@@ -123,19 +126,19 @@ sync-refused type old new leg given (SyncCause cause is) = same old new is
 sync-refused type old new leg given (SyncFault is fails) = fails_in_sync-shape type old new leg fails
 
 pub step-shape : {L : Type 0} (type : LegType L) (step : Step L) (answer : Answer L) (old new : StripeState L) → StepOf type step answer old new → SameShape old new
-step-shape type (Begin block bytes) (Begun ticket) old new is = begins-shape type old new block bytes ticket is
+step-shape type (Begin block bytes) (Begun ticket) old new is = begun-shape type old new block ticket bytes is
 step-shape type (Begin block bytes) (LegLost gone handed) old new is = loses_in_begin-shape type old new block bytes gone is.0
 step-shape type (Begin block bytes) (Refused cause handed) old new is = begin-refused type old new block bytes cause is.0
-step-shape type (Push ticket leg) (Pushed count) old new is = pushes-shape type old new ticket leg is.0
-step-shape type (Push ticket leg) (Complete number) old new is = pushes-shape type old new ticket leg is.0
-step-shape type (Push ticket leg) (LegLost gone handed) old new is = loses_in_push-shape type old new ticket leg is.0.1
-step-shape type (Push ticket leg) Halted old new is = halts-shape type old new ticket leg is
+step-shape type (Push ticket leg) (Pushed count) old new is = pushes_run-shape type old new ticket leg is.0
+step-shape type (Push ticket leg) (Complete number) old new is = pushes_run-shape type old new ticket leg is.0
+step-shape type (Push ticket leg) (LegLost gone handed) old new is = loses_in_push_run-shape type old new ticket leg is.0.1
+step-shape type (Push ticket leg) Halted old new is = halts_run-shape type old new ticket leg is
 step-shape type (Push ticket leg) (Refused cause handed) old new is = same old new is.2
-step-shape type (Claim ticket) (Written written) old new is = claims-shape type old new ticket written is
+step-shape type (Claim ticket) (Written written) old new is = claims_run-shape type old new ticket written is
 step-shape type (Claim ticket) (Refused cause handed) old new is = same old new is.2
-step-shape type (Read block) (Value value) old new is = finds-shape type old new block value.bytes value.entry is
-step-shape type (Read block) (LegLost gone handed) old new is = loses_in_read-shape type old new block gone is.1.0 is.1.1
-step-shape type (Read block) (Refused cause handed) old new is = read-refused type old new block cause is.0
+step-shape type (Read block room) (Value value) old new is = finds_run-shape type old new block (blocks_of value.bytes) value.names is.0
+step-shape type (Read block room) (LegLost gone handed) old new is = loses_in_read-shape type old new _ gone (block_of []) (loses_in_read_run-last type old new block (blocks_of is.0) gone is.1)
+step-shape type (Read block room) (Refused cause handed) old new is = read-refused type old new block room is.0 cause is.1
 step-shape type (Fail leg) Failed old new is = goes_out-shape type old new leg is.0
 step-shape type (Fail leg) (MasterChanged master) old new is = goes_out-shape type old new leg is.0
 step-shape type (Fail leg) (Refused cause handed) old new is = same old new is.2
@@ -160,7 +163,7 @@ pub asked-later : {L : Type 0} (model : L → Leg) (step : Step L) (old new : St
 asked-later model (Begin block bytes) old new shape asked = (rw shape.place asked.0, asked.1)
 asked-later model (Push ticket leg) old new shape asked = rw shape.legs asked
 asked-later model (Claim ticket) old new shape asked = tt
-asked-later model (Read block) old new shape asked = rw shape.place asked
+asked-later model (Read block room) old new shape asked = (rw shape.place asked.0, asked.1)
 asked-later model (Fail leg) old new shape asked = rw shape.legs asked
 asked-later model (Attach leg) old new shape asked = rw shape.legs asked
 asked-later model (Replace leg part) old new shape asked = (rw shape.legs asked.0, rw shape.place asked.1)

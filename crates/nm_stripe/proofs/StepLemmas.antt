@@ -1,19 +1,18 @@
 -- Each step keeps what every stripe keeps, whatever it answers.
-use Rattle.std.proofs.Common.{◌≡◌, ℕ, ◌<◌, length, sym, subst}
-use Rattle.nm_leg.specs.Leg.{LegType}
+use Rattle.std.proofs.Common.{◌≡◌, ℕ, ◌<◌, List, length, sym, subst}
+use Rattle.nm_leg.specs.Leg.{LegType, blocks_of}
 use Rattle.nm_fanout.specs.declared.block_data.Data.{Data}
 use Rattle.nm_rules.specs.declared.refusal.Refusal.{Refusal}
 use Rattle.nm_rules.specs.Attach.{Attaches, Replaces}
 use Rattle.nm_rules.specs.Invariant.{Keeps}
 use Rattle.nm_rules.specs.State.{StripeState}
 use Rattle.nm_rules.proofs.AttachLemmas.{may_attach, attach-keeps}
-use Rattle.nm_rules.proofs.BeginLemmas.{begins-keeps}
-use Rattle.nm_rules.proofs.ClaimLemmas.{claims-keeps}
-use Rattle.nm_rules.proofs.HaltLemmas.{halt-keeps, begin_fault-keeps, read_fault-keeps, sync_fault-keeps, copy_fault-keeps}
-use Rattle.nm_rules.proofs.LostStepLemmas.{begin_lost-keeps, read_lost-keeps, push_lost-keeps, sync_lost-keeps, promote_lost-keeps, copy_lost-keeps, fail-keeps}
-use Rattle.nm_rules.proofs.PushedLemmas.{pushes-keeps}
-use Rattle.nm_rules.proofs.ReadLemmas.{finds-keeps}
+use Rattle.nm_rules.proofs.HaltLemmas.{begin_fault-keeps, sync_fault-keeps, copy_fault-keeps}
+use Rattle.nm_rules.proofs.LostStepLemmas.{begin_lost-keeps, sync_lost-keeps, promote_lost-keeps, copy_lost-keeps, fail-keeps}
 use Rattle.nm_rules.proofs.ReplaceLemmas.{replace-keeps}
+use Rattle.nm_rules.proofs.RunClaimLemmas.{claims_run-keeps}
+use Rattle.nm_rules.proofs.RunPushLemmas.{halts_run-keeps, push_run_lost-keeps, pushes_run-keeps}
+use Rattle.nm_rules.proofs.RunReadLemmas.{finds_run-keeps}
 use Rattle.nm_stripe.specs.declared.answer.Answer.{Answer}
 use Rattle.nm_stripe.specs.declared.answer.Answer.TheVariants.{Begun, Pushed, Complete, Halted, Written, Value, Failed, MasterChanged, Joining, Copied, InSync, Synced, LegLost, Refused}
 use Rattle.nm_stripe.specs.declared.answer.Answer.TheVariants.{Nothing as NothingLeft}
@@ -24,7 +23,9 @@ use Rattle.nm_stripe.specs.Copy.{RefusesCopy, ForCause as CopyCause, ForFault as
 use Rattle.nm_stripe.specs.Read.{RefusesRead, ForCause as ReadCause, ForFault as ReadFault}
 use Rattle.nm_stripe.specs.Sync.{RefusesSync, ForCause as SyncCause, ForFault as SyncFault}
 use Rattle.nm_stripe.specs.Run.{StepOf, MayBeAsked}
+use Rattle.nm_stripe.proofs.BeginLemmas.{begun-keeps}
 use Rattle.nm_stripe.proofs.CopyLemmas.{copied-keeps}
+use Rattle.nm_stripe.proofs.ReadLemmas.{failed_read-keeps, lost_read-keeps}
 use Rattle.nm_stripe.proofs.SyncLemmas.{synced-keeps, promoted-keeps}
 
 module _ {L : Type 0} (type : LegType L) (old new : StripeState L) (k : Keeps type old) where
@@ -36,9 +37,9 @@ module _ {L : Type 0} (type : LegType L) (old new : StripeState L) (k : Keeps ty
   begin-refused block bytes given (BeginCause cause is) = same is
   begin-refused block bytes given (BeginFault is fails) = begin_fault-keeps type old new k block bytes fails
 
-  read-refused : (block : ℕ) (given : Refusal) → RefusesRead type old new block given → Keeps type new
-  read-refused block given (ReadCause cause is) = same is
-  read-refused block given (ReadFault is found fails) = read_fault-keeps type old new k block found fails
+  read-refused : (block : ℕ) (was bytes : List ℕ) (given : Refusal) → RefusesRead type old new block was bytes given → Keeps type new
+  read-refused block was bytes given (ReadCause cause is stays) = same is
+  read-refused block was bytes given (ReadFault is fails) = failed_read-keeps type old new k block (blocks_of bytes) fails
 
   copy-refused : (leg : ℕ) (given : Refusal) → RefusesCopy type old new leg given → Keeps type new
   copy-refused leg given (CopyCause cause is) = same is
@@ -55,19 +56,19 @@ module _ {L : Type 0} (type : LegType L) (old new : StripeState L) (k : Keeps ty
   replaces leg part inside long r = subst (λ (s : StripeState L). Keeps type s) (sym r.after) (replace-keeps type old leg part inside k (may_attach old leg r.no_cause).out long)
 
 pub step-keeps : {L : Type 0} (type : LegType L) (step : Step L) (answer : Answer L) (old new : StripeState L) → Keeps type old → MayBeAsked type.model old step → StepOf type step answer old new → Keeps type new
-step-keeps type (Begin block bytes) (Begun ticket) old new k asked is = begins-keeps type old new block bytes ticket k is asked.0 asked.1
+step-keeps type (Begin block bytes) (Begun ticket) old new k asked is = begun-keeps type old new block bytes ticket k is asked.0 asked.1
 step-keeps type (Begin block bytes) (LegLost gone handed) old new k asked is = begin_lost-keeps type old new k block bytes gone is.0
 step-keeps type (Begin block bytes) (Refused cause handed) old new k asked is = begin-refused type old new k block bytes cause is.0
-step-keeps type (Push ticket leg) (Pushed count) old new k asked is = pushes-keeps type old new ticket leg k is.0
-step-keeps type (Push ticket leg) (Complete number) old new k asked is = pushes-keeps type old new ticket leg k is.0
-step-keeps type (Push ticket leg) (LegLost gone handed) old new k asked is = push_lost-keeps type old new k ticket leg is.0.1
-step-keeps type (Push ticket leg) Halted old new k asked is = halt-keeps type old new k ticket leg is
+step-keeps type (Push ticket leg) (Pushed count) old new k asked is = pushes_run-keeps type old new ticket leg k is.0
+step-keeps type (Push ticket leg) (Complete number) old new k asked is = pushes_run-keeps type old new ticket leg k is.0
+step-keeps type (Push ticket leg) (LegLost gone handed) old new k asked is = push_run_lost-keeps type old new ticket leg k is.0.1
+step-keeps type (Push ticket leg) Halted old new k asked is = halts_run-keeps type old new ticket leg k is
 step-keeps type (Push ticket leg) (Refused cause handed) old new k asked is = same type old new k is.2
-step-keeps type (Claim ticket) (Written written) old new k asked is = claims-keeps type old new ticket written k is
+step-keeps type (Claim ticket) (Written written) old new k asked is = claims_run-keeps type old new ticket written k is
 step-keeps type (Claim ticket) (Refused cause handed) old new k asked is = same type old new k is.2
-step-keeps type (Read block) (Value value) old new k asked is = finds-keeps type old new block value.bytes value.entry k is asked
-step-keeps type (Read block) (LegLost gone handed) old new k asked is = read_lost-keeps type old new k block gone is.1.0 is.1.1
-step-keeps type (Read block) (Refused cause handed) old new k asked is = read-refused type old new k block cause is.0
+step-keeps type (Read block room) (Value value) old new k asked is = finds_run-keeps type old new block (blocks_of value.bytes) value.names k is.0
+step-keeps type (Read block room) (LegLost gone handed) old new k asked is = lost_read-keeps type old new k block (blocks_of is.0) gone is.1
+step-keeps type (Read block room) (Refused cause handed) old new k asked is = read-refused type old new k block room is.0 cause is.1
 step-keeps type (Fail leg) Failed old new k asked is = fail-keeps type old new k leg is.0
 step-keeps type (Fail leg) (MasterChanged master) old new k asked is = fail-keeps type old new k leg is.0
 step-keeps type (Fail leg) (Refused cause handed) old new k asked is = same type old new k is.2

@@ -1,7 +1,8 @@
 -- What a flush makes durable.
-use Rattle.std.specs.Prelude.{◌≡◌, ◌≢◌, ◌⊎◌, ℕ, ◌<◌, List, ◌∷◌, None, length}
+use Rattle.std.specs.Prelude.{◌≡◌, ◌⊎◌, ℕ, ◌<◌, List, ◌∷◌, None, length}
+use Rattle.nm_fanout.specs.Data.{data_blocks}
 use Rattle.nm_fanout.specs.Records.{busy_on}
-use Rattle.nm_leg.specs.Leg.{Leg}
+use Rattle.nm_leg.specs.Leg.{IsOutside, Leg}
 use Rattle.nm_rules.specs.declared.refusal.Refusal.TheVariants.{AlreadyOut}
 use Rattle.nm_rules.specs.Flushed.{DurableAt}
 use Rattle.nm_rules.specs.State.{StripeState}
@@ -29,7 +30,7 @@ IsFlush legs steps answers = (leg : ℕ) → leg < legs → HasSynced leg steps 
 
 -- the step begins no write of this block
 abbrev pub LeavesBlock : {L : Type 0} → ℕ → Step L → Answer L → Type 0
-LeavesBlock block (Begin other bytes) (Begun ticket) = other ≢ block
+LeavesBlock block (Begin first bytes) (Begun ticket) = IsOutside first (data_blocks bytes) block
 LeavesBlock block step answer = Unit {0}
 
 -- none of the steps does

@@ -5,6 +5,7 @@ pub mod End
 pub mod Fail
 pub mod Flush
 pub mod Laws
+pub mod Names
 pub mod Opening
 pub mod Push
 pub mod Read

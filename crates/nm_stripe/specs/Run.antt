@@ -1,17 +1,18 @@
 -- A list of steps: which answers each may have, and that its operations act on one array.
-use Rattle.std.specs.Prelude.{◌≡◌, ◌<◌, List, [], ◌∷◌, ◌++◌, Some, length}
-use Rattle.nm_replay.specs.Events.{Event, BeginsRead, BeginsWrite, RepliesRead, RepliesWrite}
-use Rattle.nm_replay.specs.Events.{marks_of}
-use Rattle.nm_replay.specs.declared.block.Block.{Block}
-use Rattle.nm_fanout.specs.Data.{put_of_data, FitsBlock}
-use Rattle.nm_leg.specs.Leg.{Leg, LegType}
+use Rattle.std.specs.Prelude.{◌≡◌, ℕ, ◌*◌, ◌<◌, List, [], ◌∷◌, ◌++◌, Some, length}
+use Rattle.nm_replay.specs.Events.{Event, marks_of}
+use Rattle.nm_fanout.specs.Data.{FitsBlocks, data_blocks}
+use Rattle.nm_leg.specs.Leg.{Leg, LegType, blocks_in, blocks_of}
 use Rattle.nm_rules.specs.Acts.{Acts}
 use Rattle.nm_rules.specs.Attach.{Attaches, Replaces, attach_cause}
-use Rattle.nm_rules.specs.Begin.{Begins, LosesInBegin}
-use Rattle.nm_rules.specs.Claim.{Claims, claim_cause}
+use Rattle.nm_rules.specs.Begin.{LosesInBegin}
 use Rattle.nm_rules.specs.Failing.{fail_cause}
 use Rattle.nm_rules.specs.Promote.{promote_cause}
-use Rattle.nm_rules.specs.Push.{push_cause}
+use Rattle.nm_rules.specs.RunBegin.{begins_of}
+use Rattle.nm_rules.specs.RunClaim.{ClaimsRun, claim_run_cause, replies_of}
+use Rattle.nm_rules.specs.RunPush.{push_run_cause}
+use Rattle.nm_rules.specs.RunRead.{marks_of_reads}
+use Rattle.nm_rules.specs.Runs.{FitsRun}
 use Rattle.nm_rules.specs.State.{StripeState, left}
 use Rattle.nm_stripe.specs.declared.answer.Answer.{Answer}
 use Rattle.nm_stripe.specs.declared.answer.Answer.TheVariants.{Begun, Pushed, Complete, Halted}
@@ -19,7 +20,8 @@ use Rattle.nm_stripe.specs.declared.answer.Answer.TheVariants.{Written, Value, F
 use Rattle.nm_stripe.specs.declared.answer.Answer.TheVariants.{MasterChanged, Joining, Copied}
 use Rattle.nm_stripe.specs.declared.answer.Answer.TheVariants.{InSync, Synced, LegLost, Refused}
 use Rattle.nm_stripe.specs.declared.answer.Answer.TheVariants.{Nothing as NothingLeft}
-use Rattle.nm_stripe.specs.declared.answer.Handed.TheVariants.{Nothing, Data, Replacement}
+use Rattle.nm_stripe.specs.declared.answer.Handed.{Handed}
+use Rattle.nm_stripe.specs.declared.answer.Handed.TheVariants.{Nothing, Data, Replacement, Room}
 use Rattle.nm_stripe.specs.declared.copy.Copying.TheVariants as copying
 use Rattle.nm_stripe.specs.declared.fail.Failing.TheVariants as failing
 use Rattle.nm_stripe.specs.declared.push.Reach.TheVariants as reach
@@ -29,20 +31,22 @@ use Rattle.nm_stripe.specs.declared.step.Step.TheVariants.{Begin, Push, Claim, R
 use Rattle.nm_stripe.specs.declared.step.Step.TheVariants.{Replace, Copy, Promote, Sync}
 use Rattle.nm_stripe.specs.declared.sync.Promotion.TheVariants as promotion
 use Rattle.nm_stripe.specs.declared.sync.Syncing.TheVariants as syncing
-use Rattle.nm_stripe.specs.Begin.{RefusesBegin}
+use Rattle.nm_stripe.specs.Begin.{BeginsWith, RefusesBegin, puts_in}
 use Rattle.nm_stripe.specs.Copy.{Copies, RefusesCopy}
 use Rattle.nm_stripe.specs.Fail.{Fails}
 use Rattle.nm_stripe.specs.Push.{Reaches}
 use Rattle.nm_stripe.specs.Read.{Reads, RefusesRead}
 use Rattle.nm_stripe.specs.Sync.{EndsJoining, Syncs, RefusesSync}
 
--- a step that may be asked for: its block lies in the stripe, its leg is there, its data fit a
--- block, and a new leg is as long as the stripe
+-- a step that may be asked for: its blocks are a run of the stripe, its leg is there, its data and
+-- its room fit the blocks, and a new leg is as long as the stripe
 abbrev pub MayBeAsked : {L : Type 0} → (L → Leg) → StripeState L → Step L → Type 0
-MayBeAsked model stripe (Begin block bytes) = (block < stripe.place.blocks) × FitsBlock bytes
+MayBeAsked model stripe (Begin block bytes) =
+    FitsRun stripe.place block (data_blocks bytes) × FitsBlocks bytes
 MayBeAsked model stripe (Push ticket leg) = leg < length stripe.legs
 MayBeAsked model stripe (Claim ticket) = Unit {0}
-MayBeAsked model stripe (Read block) = block < stripe.place.blocks
+MayBeAsked model stripe (Read block room) =
+    FitsRun stripe.place block (blocks_in room) × (length room ≡ 512 * blocks_in room)
 MayBeAsked model stripe (Fail leg) = leg < length stripe.legs
 MayBeAsked model stripe (Attach leg) = leg < length stripe.legs
 MayBeAsked model stripe (Replace leg part) =
@@ -56,10 +60,15 @@ abbrev pub AllAsked : {L : Type 0} → (L → Leg) → StripeState L → List (S
 AllAsked model stripe [] = Unit {0}
 AllAsked model stripe (step ∷ steps) = MayBeAsked model stripe step × AllAsked model stripe steps
 
+-- the room is handed back with these bytes in it: as many as it had
+abbrev pub IsHanded : {L : Type 0} → Handed L → List ℕ → List ℕ → Type 0
+IsHanded handed room bytes = (handed ≡ Room bytes) × (length bytes ≡ length room)
+
 -- a step with its answer: these answers and no others
 abbrev pub StepOf : {L : Type 0} → LegType L → Step L → Answer L
     → StripeState L → StripeState L → Type 0
-StepOf type (Begin block bytes) (Begun ticket) old new = Begins type old new block bytes ticket
+StepOf type (Begin block bytes) (Begun ticket) old new =
+    BeginsWith type old new block bytes ticket
 StepOf type (Begin block bytes) (LegLost gone handed) old new =
     LosesInBegin type old new block bytes gone × (handed ≡ Data bytes)
 StepOf type (Begin block bytes) (Refused refusal handed) old new =
@@ -72,17 +81,19 @@ StepOf type (Push ticket leg) (LegLost gone handed) old new =
     Reaches type old new ticket leg (reach.LegLost gone) × (handed ≡ Nothing)
 StepOf type (Push ticket leg) Halted old new = Reaches type old new ticket leg reach.Halted
 StepOf type (Push ticket leg) (Refused refusal handed) old new =
-    (push_cause old ticket leg ≡ Some refusal) × (handed ≡ Nothing) × (new ≡ old)
-StepOf type (Claim ticket) (Written written) old new = Claims old new ticket written
+    (push_run_cause old ticket leg ≡ Some refusal) × (handed ≡ Nothing) × (new ≡ old)
+StepOf type (Claim ticket) (Written written) old new = ClaimsRun old new ticket written
 StepOf type (Claim ticket) (Refused refusal handed) old new =
-    (claim_cause old ticket ≡ Some refusal) × (handed ≡ Nothing) × (new ≡ old)
-StepOf type (Read block) (Value value) old new =
-    Reads type old new block value.bytes (reading.Value value.entry)
-StepOf type (Read block) (LegLost gone handed) old new =
-    (found : Block)
-    × Reads type old new block found (reading.LegLost gone) × (handed ≡ Nothing)
-StepOf type (Read block) (Refused refusal handed) old new =
-    RefusesRead type old new block refusal × (handed ≡ Nothing)
+    (claim_run_cause old ticket ≡ Some refusal) × (handed ≡ Nothing) × (new ≡ old)
+StepOf type (Read block room) (Value value) old new =
+    Reads type old new block value.bytes (reading.Value value.names)
+    × (length value.bytes ≡ length room)
+StepOf type (Read block room) (LegLost gone handed) old new =
+    (left : List ℕ)
+    × Reads type old new block left (reading.LegLost gone) × IsHanded handed room left
+StepOf type (Read block room) (Refused refusal handed) old new =
+    (left : List ℕ)
+    × RefusesRead type old new block room left refusal × IsHanded handed room left
 StepOf type (Fail leg) Failed old new = Fails old new leg failing.Failed
 StepOf type (Fail leg) (MasterChanged master) old new =
     Fails old new leg (failing.MasterChanged master)
@@ -124,11 +135,10 @@ Runs type old steps answers new = ⊥
 
 -- the begins and replies of a step with its answer
 abbrev pub marks : {L : Type 0} → Step L → Answer L → List Event
-marks (Begin block bytes) (Begun ticket) =
-    BeginsWrite ticket block (put_of_data bytes) ∷ []
-marks (Claim ticket) (Written written) = RepliesWrite ticket written.number ∷ []
-marks (Read block) (Value value) =
-    BeginsRead value.entry.number block ∷ RepliesRead value.entry.number value.bytes ∷ []
+marks (Begin block bytes) (Begun ticket) = begins_of ticket block (puts_in bytes)
+marks (Claim ticket) (Written written) = replies_of ticket written.number written.count
+marks (Read block room) (Value value) =
+    marks_of_reads value.names.number block (blocks_of value.bytes)
 marks step answer = []
 
 -- a list of events for each step, in the order of the steps: the step's begins and replies in

@@ -1,3 +1,4 @@
+use crate::room::Room;
 use crate::value::Value;
 use crate::written::Written;
 use nm_fanout::Data;
@@ -10,13 +11,13 @@ pub enum Answer<L> {
     Begun(u64),
     /// The write reached the leg, and still owes this many.
     Pushed(u64),
-    /// The write reached its last leg. Its entry has this number.
+    /// The write reached its last leg. Its first block's entry has this number.
     Complete(u64),
     /// The leg failed, the only one in sync, and the stripe has stopped.
     Halted,
     /// The write is done.
     Written(Written<L>),
-    /// The block's bytes, as they were read.
+    /// The blocks' bytes, as they were read.
     Value(Value<L>),
     /// The leg has gone out. It was not the master.
     Failed,
@@ -45,6 +46,8 @@ pub enum Handed<L> {
     Nothing,
     /// A write's data.
     Data(Data),
+    /// A read's room. Where a leg was called, it may have any bytes.
+    Room(Room),
     /// A leg.
     Replacement(L),
 }

@@ -45,7 +45,7 @@ impl<L> End<L> {
         self.total
     }
 
-    /// How many writes have not been claimed.
+    /// How many blocks the writes have that have not been claimed.
     pub fn left(&self) -> u64
         ensures { result ≡ self.now.left }
     {

@@ -1,11 +1,12 @@
 //! Pushes a write to a leg.
 ghost use Rattle.nm_leg.specs.Leg.{leg_type};
-ghost use Rattle.std.specs.Prelude.{◌≡◌, ℕ, ◌<◌, true, false, length, slice_get, is_some, IsTrue};
-ghost use Rattle.std.specs.Prelude.{IfOk, IfErr, OnErr, Some};
+ghost use Rattle.std.specs.Prelude.{◌≡◌, ◌<◌, false, length, IsTrue, IsSome, IfOk, IfErr, OnErr};
+ghost use Rattle.std.specs.Prelude.{Some};
 ghost use Rattle.nm_fanout.specs.declared.write_record.Record.{Record};
 ghost use Rattle.nm_fanout.specs.Record.{is_under_way};
-ghost use Rattle.nm_fanout.specs.Records.{IsAt};
-ghost use Rattle.nm_rules.specs.Push.{push_cause};
+ghost use Rattle.nm_fanout.specs.Records.{find_record};
+ghost use Rattle.nm_rules.specs.RunPush.{push_run_cause};
+ghost use Rattle.nm_rules.specs.Runs.{find_run};
 ghost use Rattle.nm_stripe.specs.Push.{Reaches, IsReached, IsExplainedReach};
 
 use crate::stripe::Stripe;
@@ -18,7 +19,7 @@ use nm_store::Store;
 pub enum Reach {
     /// The write reached the leg, and still owes this many.
     Pushed(u64),
-    /// The write reached its last leg. Its entry has this number.
+    /// The write reached its last leg. Its first block's entry has this number.
     Complete(u64),
     /// The leg failed, and has gone out. The write's record stays.
     LegLost(u8),
@@ -28,24 +29,24 @@ pub enum Reach {
 
 /// The answer of a push that reached its leg.
 #[inline(always)]
-fn reach_of<L: LegPart>(store: &Store<L>, place: usize) -> Reach
-    requires place { place < length store.now.records }
-    requires landed { (r : Record) → slice_get store.now.records place ≡ Some r
-        → is_under_way r ≡ false → is_some r.entry ≡ true }
-    ensures { (ticket : ℕ) → IsAt ticket place store.now.records
-        → IsReached store.now ticket result }
+fn reach_of<L: LegPart>(store: &Store<L>, ticket: u64) -> Reach
+    requires run { IsSome (find_run ticket store.now.records) }
+    requires record { IsSome (find_record ticket store.now.records) }
+    requires landed { (r : Record) → find_record ticket store.now.records ≡ Some r
+        → is_under_way r ≡ false → IsSome r.entry }
+    ensures { IsReached store.now ticket result }
 {
-    let record = store.record(place);
-    if record.is_under_way() {
-        Reach::Pushed(record.owed_count())
+    let standing = store.standing(ticket);
+    if standing.under_way {
+        Reach::Pushed(standing.owed)
     } else {
-        Reach::Complete(record.entry.unwrap())
+        Reach::Complete(standing.entry.unwrap())
     }
 }
 
 impl<L: LegPart> Stripe<L> {
-    /// Writes the record's data to a leg that still needs it. At the master the write takes effect,
-    /// under the next number.
+    /// Writes the data of the run that this ticket names to a leg that still needs them, in one
+    /// call. At the master its writes take effect, under the next numbers.
     ///
     /// A leg that fails goes out; the only leg in sync stops the stripe. Refused as `Stopped`,
     /// `NoTicket` or `NotOwed`, the first whose condition holds.
@@ -56,13 +57,16 @@ impl<L: LegPart> Stripe<L> {
             ticket leg) }
         ensures acts { IsTrue L.honest
             → IfOk result (IsExplainedReach L.model self.old self.new) }
-        ensures cause { IfErr result (λ refusal. push_cause self.old ticket leg ≡ Some refusal) }
+        ensures cause { IfErr result (λ refusal.
+            push_run_cause self.old ticket leg ≡ Some refusal) }
         ensures stays { OnErr result (self.new ≡ self.old) }
     {
-        let place = self.store.record_to_push(ticket, leg)?;
-        if self.store.write_leg(place, leg).is_ok() {
-            self.store.reach(place, leg);
-            return Ok(reach_of(&self.store, place));
+        if let Some(refusal) = self.store.push_cause(ticket, leg) {
+            return Err(refusal);
+        }
+        if self.store.write_leg(ticket, leg).is_ok() {
+            self.store.reach(ticket, leg);
+            return Ok(reach_of(&self.store, ticket));
         }
         if self.store.is_last(leg) {
             self.store.stop();

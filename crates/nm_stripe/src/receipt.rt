@@ -1,8 +1,10 @@
-ghost use Rattle.std.specs.Prelude.{◌≡◌, ◌<◌, ◌^◌};
+ghost use Rattle.std.specs.Prelude.{◌≡◌, ◌+◌, ◌<◌, ◌≤◌, ◌^◌};
+ghost use Rattle.nm_rules.specs.Runs.{EntryNames};
+ghost use Rattle.nm_stripe.specs.Names.{AreNamed};
 
 use std::marker::{Model, PhantomData};
 
-/// The receipt of a read into the caller's own block: the read's entry in the stripe's history.
+/// The receipt of a read into the caller's own bytes: the read's entries in the stripe's history.
 ///
 /// Only a `Stripe<L>` makes one, and nothing outside makes a `Value` or a `Written` of it.
 #[derive(Drop)]
@@ -10,29 +12,44 @@ pub struct Receipt<L> {
     stripe: u32,
     block: u64,
     number: u64,
+    count: u64,
     of: PhantomData<L>,
 }
 
 impl<L> Model for Receipt<L> {
-    ghost use Rattle.std.specs.Prelude.{◌<◌, ◌^◌};
-    ghost use Rattle.nm_rules.specs.Receipt.{EntryName};
+    ghost use Rattle.nm_rules.specs.Runs.{EntryNames};
+    ghost use Rattle.nm_stripe.specs.Names.{AreNamed};
 
-    ghost Value = { EntryName };
+    ghost Value = { EntryNames };
 
-    ghost view = { λ r. record { stripe = r.stripe; block = r.block; number = r.number } };
+    ghost view = { λ r. record {
+      stripe = r.stripe;
+      block = r.block;
+      number = r.number;
+      count = r.count;
+    } };
 
-    ghost invariant = { λ r. r.number < 2 ^ 63 };
+    ghost invariant = { λ r. AreNamed (record {
+      stripe = r.stripe;
+      block = r.block;
+      number = r.number;
+      count = r.count;
+    }) };
 }
 
 impl<L> Receipt<L> {
-    pub(crate) fn new(stripe: u32, block: u64, number: u64) -> Self
-        requires { number < 2 ^ 63 }
-        ensures { result ≡ record { stripe = stripe; block = block; number = number } }
+    pub(crate) fn new(stripe: u32, block: u64, number: u64, count: u64) -> Self
+        requires some { 0 < count }
+        requires most { count ≤ 128 }
+        requires below { number + count ≤ 2 ^ 63 }
+        ensures { result
+            ≡ record { stripe = stripe; block = block; number = number; count = count } }
     {
         Receipt {
             stripe,
             block,
             number,
+            count,
             of: PhantomData,
         }
     }
@@ -44,18 +61,29 @@ impl<L> Receipt<L> {
         self.stripe
     }
 
-    /// The block, by its number in the stripe.
+    /// The first block, by its number in the stripe.
     pub fn block(&self) -> u64
         ensures { result ≡ self.now.block }
     {
         self.block
     }
 
-    /// The number of the read's entry, which is below 2^63.
+    /// The number of the first block's entry. Each further block has the next number, and all are
+    /// below 2^63.
     pub fn number(&self) -> u64
         ensures number { result ≡ self.now.number }
         ensures below { result < 2 ^ 63 }
+        ensures last { result + self.now.count ≤ 2 ^ 63 }
     {
         self.number
+    }
+
+    /// How many blocks were read, each with its entry: at least one and at most 128.
+    pub fn count(&self) -> u64
+        ensures count { result ≡ self.now.count }
+        ensures some { 0 < result }
+        ensures most { result ≤ 128 }
+    {
+        self.count
     }
 }

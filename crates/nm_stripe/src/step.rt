@@ -1,8 +1,9 @@
 //! Does one step.
-ghost use Rattle.nm_leg.specs.Leg.{leg_type};
-ghost use Rattle.std.specs.Prelude.{◌≡◌, ◌<◌, [], ◌∷◌, length, IsTrue, Some};
-ghost use Rattle.nm_fanout.specs.Data.{FitsBlock};
+ghost use Rattle.nm_leg.specs.Leg.{blocks_in, leg_type};
+ghost use Rattle.std.specs.Prelude.{◌≡◌, ◌*◌, ◌<◌, [], ◌∷◌, length, IsTrue, Some};
+ghost use Rattle.nm_fanout.specs.Data.{FitsBlocks, data_blocks};
 ghost use Rattle.nm_rules.specs.Acts.{IsExplainedStep};
+ghost use Rattle.nm_rules.specs.Runs.{FitsRun};
 ghost use Rattle.nm_stripe.specs.Run.{MayBeAsked, StepOf, NoneHalted, marks};
 
 use crate::answer::{Answer, Handed};
@@ -11,26 +12,25 @@ use crate::copy::Copying;
 use crate::fail::Failing;
 use crate::push::Reach;
 use crate::read::Reading;
+use crate::room::Room;
 use crate::stripe::Stripe;
 use crate::sync::{Promotion, Syncing};
 use crate::value::Value;
 use nm_fanout::Data;
 use nm_leg::LegPart;
-use nm_replay::Block;
 use nm_rules::Refusal;
-use std::marker::PhantomData;
 
 /// One step of a stripe: one hold of its lock, with at most one call of a leg.
 #[derive(Drop)]
 pub enum Step<L> {
-    /// Begins a write of this block, or of a part of it.
+    /// Begins a write from this block on, or of a part of this block.
     Begin(u64, Data),
     /// Pushes the write of this ticket to this leg.
     Push(u64, u8),
     /// Claims the finished write of this ticket.
     Claim(u64),
-    /// Reads this block.
-    Read(u64),
+    /// Reads from this block on into this room, as many blocks as it has bytes for.
+    Read(u64, Room),
     /// Takes this leg out.
     Fail(u8),
     /// Lets this leg join again.
@@ -65,8 +65,8 @@ impl<L: LegPart> Stripe<L> {
     /// A begin. The data come back with every answer but `Begun`.
     #[inline(always)]
     fn step_begin(&mut self, block: u64, data: Data) -> Answer<L>
-        requires inside { block < self.old.place.blocks }
-        requires fits { FitsBlock «data» }
+        requires run { FitsRun self.old.place block (data_blocks «data») }
+        requires fits { FitsBlocks «data» }
         ensures step { StepOf (leg_type L.model L.honest) (Step.Begin block «data») result
             self.old self.new }
         ensures acts { IsTrue L.honest
@@ -80,26 +80,21 @@ impl<L: LegPart> Stripe<L> {
         }
     }
 
-    /// A read, whose answer carries the block.
+    /// A read. The room comes back with every answer.
     #[inline(always)]
-    fn step_read(&mut self, block: u64) -> Answer<L>
-        requires { block < self.old.place.blocks }
-        ensures step { StepOf (leg_type L.model L.honest) (Step.Read block) result
+    fn step_read(&mut self, block: u64, room: Room) -> Answer<L>
+        requires run { FitsRun self.old.place block (blocks_in room) }
+        requires whole { length room ≡ 512 * blocks_in room }
+        ensures step { StepOf (leg_type L.model L.honest) (Step.Read block room) result
             self.old self.new }
         ensures acts { IsTrue L.honest
-            → IsExplainedStep L.model (marks (Step.Read block) result) self.old self.new }
+            → IsExplainedStep L.model (marks (Step.Read block room) result) self.old self.new }
     {
-        let mut bytes = Block::ZERO;
-        match self.read(block, &mut bytes) {
-            Ok(Reading::Value(receipt)) => Answer::Value(Value {
-                stripe: receipt.stripe(),
-                block: receipt.block(),
-                number: receipt.number(),
-                bytes,
-                of: PhantomData,
-            }),
-            Ok(Reading::LegLost(leg)) => loss_answer(leg),
-            Err(refusal) => refusal_answer(refusal),
+        let mut room = room;
+        match self.read(block, &mut room.bytes) {
+            Ok(Reading::Value(receipt)) => Answer::Value(Value { receipt, room }),
+            Ok(Reading::LegLost(leg)) => Answer::LegLost(leg, Handed::Room(room)),
+            Err(refusal) => Answer::Refused(refusal, Handed::Room(room)),
         }
     }
 
@@ -185,8 +180,8 @@ impl<L: LegPart> Stripe<L> {
 
     /// Does one step, with at most one call of a leg. Each answer is one that the step may have,
     /// and the stripe is then as that answer says.
-    // Inlined, with all that stands between a lane and the steps: an answer has room for a block,
-    // and where a call's kind of step is known most of it is never made.
+    // Inlined, with all that stands between a lane and the steps: where a call's kind of step is
+    // known most of the answer is never made.
     #[inline(always)]
     pub fn step(&mut self, step: Step<L>) -> Answer<L>
         requires { MayBeAsked L.model self.old step }
@@ -202,7 +197,7 @@ impl<L: LegPart> Stripe<L> {
                 Ok(written) => Answer::Written(written),
                 Err(refusal) => refusal_answer(refusal),
             },
-            Step::Read(block) => self.step_read(block),
+            Step::Read(block, room) => self.step_read(block, room),
             Step::Fail(leg) => self.step_fail(leg),
             Step::Attach(leg) => match self.attach(leg) {
                 Ok(left) => Answer::Joining(left),

@@ -2,7 +2,7 @@ ghost use Rattle.nm_leg.specs.Leg.{leg_type};
 ghost use Rattle.std.specs.Prelude.{◌≡◌, ℕ, ◌<◌, ◌≤◌, [], length, slice_get, IsTrue, IsOk, IfOk};
 ghost use Rattle.std.specs.Prelude.{IfErr, Some};
 ghost use Rattle.nm_choice.specs.declared.leg_state.LegState.TheVariants.{Joining};
-ghost use Rattle.nm_fanout.specs.Records.{next_owed, first_owed};
+ghost use Rattle.nm_fanout.specs.Records.{first_owed};
 ghost use Rattle.nm_leg.specs.LegCalls.{EachHas};
 ghost use Rattle.nm_regions.specs.Sound.{AreSizes};
 ghost use Rattle.nm_resync.specs.Chunk.{IsChunkSize};
@@ -10,6 +10,7 @@ ghost use Rattle.nm_rules.specs.Invariant.{Keeps};
 ghost use Rattle.nm_rules.specs.Opening.{opened, HoldEqual};
 ghost use Rattle.nm_rules.specs.Sound.{IsSound};
 ghost use Rattle.nm_rules.specs.State.{next_number, leg_state, left};
+ghost use Rattle.nm_store.specs.Owing.{run_owed};
 ghost use Rattle.nm_stripe.specs.Bound.{IsCopied};
 ghost use Rattle.nm_stripe.specs.Opening.{NamesALeg};
 
@@ -168,14 +169,14 @@ impl<L: LegPart> Stripe<L> {
         self.store.next_number()
     }
 
-    /// The lowest leg that this ticket's write has still to reach.
+    /// The lowest leg that the write that this ticket names has still to reach.
     pub fn next_owed(&self, ticket: u64) -> Option<u8>
-        ensures { result ≡ next_owed ticket self.now.records }
+        ensures { result ≡ run_owed ticket self.now.records }
     {
         self.store.next_owed(ticket)
     }
 
-    /// The lowest ticket under way, with the lowest leg that it has still to reach.
+    /// The write under way with the lowest ticket, and the lowest leg that it has still to reach.
     pub fn first_owed(&self) -> Option<(u64, u8)>
         ensures { result ≡ first_owed self.now.records }
     {

@@ -1,62 +1,72 @@
-ghost use Rattle.std.specs.Prelude.{◌≡◌, ◌<◌, ◌^◌};
+ghost use Rattle.std.specs.Prelude.{◌≡◌, ◌+◌, ◌<◌, ◌≤◌, ◌^◌};
 
-use nm_replay::Block;
-use std::marker::{Model, PhantomData};
+use crate::receipt::Receipt;
+use crate::room::Room;
+use std::marker::Model;
 
-/// The answer of a read: the block's bytes, and the read's entry in the stripe's history.
+/// The answer of a read: the blocks' bytes, and the read's entries in the stripe's history.
 ///
 /// Only a `Stripe<L>` makes one, as it does the step `Step::Read`: the bytes are those that this
 /// read got from a leg that is current there, the master or another.
 #[derive(Drop)]
 pub struct Value<L> {
-    pub(crate) stripe: u32,
-    pub(crate) block: u64,
-    pub(crate) number: u64,
-    pub(crate) bytes: Block,
-    pub(crate) of: PhantomData<L>,
+    pub(crate) receipt: Receipt<L>,
+    pub(crate) room: Room,
 }
 
 impl<L> Model for Value<L> {
-    ghost use Rattle.std.specs.Prelude.{◌<◌, ◌^◌};
-    ghost use Rattle.nm_rules.specs.Receipt.{ReadBlock};
+    ghost use Rattle.nm_stripe.specs.Names.{ReadBytes};
 
-    ghost Value = { ReadBlock };
+    ghost Value = { ReadBytes };
 
-    ghost view = { λ v. record {
-      entry = record { stripe = v.stripe; block = v.block; number = v.number };
-      bytes = v.bytes;
-    } };
-
-    ghost invariant = { λ v. v.number < 2 ^ 63 };
+    ghost view = { λ v. record { names = v.receipt; bytes = v.room } };
 }
 
 impl<L> Value<L> {
     /// The stripe's number.
     pub fn stripe(&self) -> u32
-        ensures { result ≡ self.now.entry.stripe }
+        ensures { result ≡ self.now.names.stripe }
     {
-        self.stripe
+        self.receipt.stripe()
     }
 
-    /// The block, by its number in the stripe.
+    /// The first block, by its number in the stripe.
     pub fn block(&self) -> u64
-        ensures { result ≡ self.now.entry.block }
+        ensures { result ≡ self.now.names.block }
     {
-        self.block
+        self.receipt.block()
     }
 
-    /// The number of the read's entry, which is below 2^63.
+    /// The number of the first block's entry. Each further block has the next number, and all are
+    /// below 2^63.
     pub fn number(&self) -> u64
-        ensures number { result ≡ self.now.entry.number }
+        ensures number { result ≡ self.now.names.number }
         ensures below { result < 2 ^ 63 }
+        ensures last { result + self.now.names.count ≤ 2 ^ 63 }
     {
-        self.number
+        self.receipt.number()
     }
 
-    /// The block's bytes.
-    pub fn bytes(&self) -> &Block
+    /// How many blocks were read: at least one and at most 128.
+    pub fn count(&self) -> u64
+        ensures count { result ≡ self.now.names.count }
+        ensures some { 0 < result }
+        ensures most { result ≤ 128 }
+    {
+        self.receipt.count()
+    }
+
+    /// The blocks' bytes.
+    pub fn bytes(&self) -> &[u8]
         ensures { result.now ≡ self.now.bytes }
     {
-        &self.bytes
+        self.room.bytes()
+    }
+
+    /// The room that was handed in, with the blocks' bytes.
+    pub fn into_room(self) -> Room
+        ensures { result ≡ self.bytes }
+    {
+        self.room
     }
 }

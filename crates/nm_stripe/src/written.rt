@@ -1,8 +1,10 @@
-ghost use Rattle.std.specs.Prelude.{◌≡◌, ◌<◌, ◌^◌};
+ghost use Rattle.std.specs.Prelude.{◌≡◌, ◌+◌, ◌<◌, ◌≤◌, ◌^◌};
+ghost use Rattle.nm_rules.specs.Runs.{EntryNames};
+ghost use Rattle.nm_stripe.specs.Names.{AreNamed};
 
 use std::marker::{Model, PhantomData};
 
-/// The answer of a claim: a finished write's entry in the stripe's history.
+/// The answer of a claim: the entries of a finished write in the stripe's history.
 ///
 /// Only a `Stripe<L>` makes one, once the write has reached every leg that it owed.
 #[derive(Drop)]
@@ -10,29 +12,44 @@ pub struct Written<L> {
     stripe: u32,
     block: u64,
     number: u64,
+    count: u64,
     of: PhantomData<L>,
 }
 
 impl<L> Model for Written<L> {
-    ghost use Rattle.std.specs.Prelude.{◌<◌, ◌^◌};
-    ghost use Rattle.nm_rules.specs.Receipt.{EntryName};
+    ghost use Rattle.nm_rules.specs.Runs.{EntryNames};
+    ghost use Rattle.nm_stripe.specs.Names.{AreNamed};
 
-    ghost Value = { EntryName };
+    ghost Value = { EntryNames };
 
-    ghost view = { λ w. record { stripe = w.stripe; block = w.block; number = w.number } };
+    ghost view = { λ w. record {
+      stripe = w.stripe;
+      block = w.block;
+      number = w.number;
+      count = w.count;
+    } };
 
-    ghost invariant = { λ w. w.number < 2 ^ 63 };
+    ghost invariant = { λ w. AreNamed (record {
+      stripe = w.stripe;
+      block = w.block;
+      number = w.number;
+      count = w.count;
+    }) };
 }
 
 impl<L> Written<L> {
-    pub(crate) fn new(stripe: u32, block: u64, number: u64) -> Self
-        requires { number < 2 ^ 63 }
-        ensures { result ≡ record { stripe = stripe; block = block; number = number } }
+    pub(crate) fn new(stripe: u32, block: u64, number: u64, count: u64) -> Self
+        requires some { 0 < count }
+        requires most { count ≤ 128 }
+        requires below { number + count ≤ 2 ^ 63 }
+        ensures { result
+            ≡ record { stripe = stripe; block = block; number = number; count = count } }
     {
         Written {
             stripe,
             block,
             number,
+            count,
             of: PhantomData,
         }
     }
@@ -44,18 +61,29 @@ impl<L> Written<L> {
         self.stripe
     }
 
-    /// The block, by its number in the stripe.
+    /// The first block, by its number in the stripe.
     pub fn block(&self) -> u64
         ensures { result ≡ self.now.block }
     {
         self.block
     }
 
-    /// The number of the write's entry, which is below 2^63.
+    /// The number of the first block's entry. Each further block has the next number, and all are
+    /// below 2^63.
     pub fn number(&self) -> u64
         ensures number { result ≡ self.now.number }
         ensures below { result < 2 ^ 63 }
+        ensures last { result + self.now.count ≤ 2 ^ 63 }
     {
         self.number
+    }
+
+    /// How many blocks were written, each with its entry: at least one and at most 128.
+    pub fn count(&self) -> u64
+        ensures count { result ≡ self.now.count }
+        ensures some { 0 < result }
+        ensures most { result ≤ 128 }
+    {
+        self.count
     }
 }

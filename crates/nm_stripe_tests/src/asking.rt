@@ -1,10 +1,13 @@
 //! Lists of steps with the answers that they must have, a byte in place of each block.
+ghost use Rattle.std.specs.Prelude.{◌≡◌, ◌*◌, length};
+ghost use Rattle.nm_leg.specs.Leg.{blocks_in};
+ghost use Rattle.nm_rules.specs.Runs.{FitsRun};
 ghost use Rattle.nm_stripe.specs.Run.{MayBeAsked};
 
-use bytes::BytesMut;
+use bytes::{Bytes, BytesMut};
 use nm_fanout::Data;
 use nm_leg::LegPart;
-use nm_stripe::{Answer, Refusal, Step, Stripe};
+use nm_stripe::{Answer, At, Refusal, Room, Step, Stripe};
 use std::alloc::{AllocError, Global};
 use std::process::Abort;
 use std::test::Fail;
@@ -13,11 +16,15 @@ use std::test::Fail;
 #[derive(Clone, Copy, Debug)]
 pub enum Ask {
     Begin(u64, u8),
+    /// From this block on so many of this byte each.
+    Run(u64, u16, u8),
     /// So many bytes of this block from a place on: block, place, how many, byte.
     Patch(u64, u16, u16, u8),
     Push(u64, u8),
     Claim(u64),
     Read(u64),
+    /// From this block on so many.
+    Get(u64, u16),
     Fail(u8),
     Attach(u8),
     Replace(u8),
@@ -26,7 +33,7 @@ pub enum Ask {
     Sync(u8),
 }
 
-/// An answer, with a byte in place of a block.
+/// An answer, with a byte in place of blocks: the last one of them.
 #[derive(Clone, Copy, Debug, PartialEq, Eq)]
 pub enum Summary {
     Begun(u64),
@@ -46,14 +53,21 @@ pub enum Summary {
     Refused(Refusal),
 }
 
-/// 512 bytes of one value.
-pub fn fill_block(alloc: Global, byte: u8) -> Result<Data, AllocError> {
+/// So many blocks of one byte.
+pub fn fill_blocks(alloc: Global, count: u16, byte: u8) -> Result<Data, Fail> {
     if byte == 0 {
-        return Ok(Data::Zero);
+        return Ok(Data::Zero(count));
     }
-    let mut buffer = BytesMut::new(alloc);
-    buffer.extend_from_slice(&[byte; 512])?;
-    Ok(Data::Cut(buffer.freeze_to(512)?))
+    let mut bytes = Vec::new(alloc);
+    bytes.resize(512 * count as usize, byte)?;
+    Ok(Data::Cut(Bytes::copy_from_slice(alloc, &bytes)?))
+}
+
+/// The room for so many blocks.
+pub fn room(alloc: Global, count: u16) -> Result<Room, Fail> {
+    let mut bytes = Vec::new(alloc);
+    bytes.resize(512 * count as usize, 0x11)?;
+    Ok(Room::new(bytes))
 }
 
 /// At most 512 bytes of one value for a part of a block, from this place on.
@@ -70,11 +84,13 @@ pub fn part(alloc: Global, from: u16, len: u16, byte: u8) -> Result<Data, AllocE
 /// The step, whose leg that takes another's place is the last of `spare`.
 pub fn step_of<L: LegPart>(alloc: Global, spare: &mut Vec<L>, ask: Ask) -> Result<Step<L>, Fail> {
     Ok(match ask {
-        Ask::Begin(block, byte) => Step::Begin(block, fill_block(alloc, byte)?),
+        Ask::Begin(block, byte) => Step::Begin(block, fill_blocks(alloc, 1, byte)?),
+        Ask::Run(block, count, byte) => Step::Begin(block, fill_blocks(alloc, count, byte)?),
         Ask::Patch(block, from, len, byte) => Step::Begin(block, part(alloc, from, len, byte)?),
         Ask::Push(ticket, leg) => Step::Push(ticket, leg),
         Ask::Claim(ticket) => Step::Claim(ticket),
-        Ask::Read(block) => Step::Read(block),
+        Ask::Read(block) => Step::Read(block, room(alloc, 1)?),
+        Ask::Get(block, count) => Step::Read(block, room(alloc, count)?),
         Ask::Fail(leg) => Step::Fail(leg),
         Ask::Attach(leg) => Step::Attach(leg),
         Ask::Replace(leg) => Step::Replace(leg, spare.pop().ok_or("no spare leg")?),
@@ -84,16 +100,36 @@ pub fn step_of<L: LegPart>(alloc: Global, spare: &mut Vec<L>, ask: Ask) -> Resul
     })
 }
 
+/// Fails the test where so many blocks from this one on are no run.
+pub fn is_run(rt: &impl Abort, place: At, block: u64, count: u64)
+    ensures { FitsRun place block count }
+{
+    let At { blocks, region, .. } = place;
+    assert!(rt; 0 < count && count <= 128 && block < blocks && count <= blocks - block);
+    assert!(rt; 0 < region && count <= region - block % region);
+}
+
+/// Fails the test where this is no room for a run from this block on.
+pub fn has_room(rt: &impl Abort, place: At, block: u64, bytes: &[u8])
+    ensures run { FitsRun place block (blocks_in bytes.now) }
+    ensures whole { length bytes.now ≡ 512 * blocks_in bytes.now }
+{
+    let count = bytes.len() / 512;
+    assert!(rt; bytes.len() == 512 * count);
+    is_run(rt, place, block, count as u64);
+}
+
 /// Fails the test where the step may not be asked for.
 pub fn may_ask<L: LegPart>(rt: &impl Abort, stripe: &Stripe<L>, step: &Step<L>)
     ensures { MayBeAsked L.model stripe.now step.now }
 {
     match step {
         Step::Begin(block, data) => {
-            assert!(rt; *block < stripe.blocks() && data.fits_block());
+            is_run(rt, stripe.place(), *block, data.blocks());
+            assert!(rt; data.fits_run());
         }
         Step::Claim(_) => {}
-        Step::Read(block) => assert!(rt; *block < stripe.blocks()),
+        Step::Read(block, room) => has_room(rt, stripe.place(), *block, room.bytes()),
         Step::Replace(leg, part) => {
             assert!(rt; (*leg as usize) < stripe.legs() && part.len() == stripe.blocks());
         }
@@ -113,7 +149,12 @@ pub fn summary_of<L: LegPart>(answer: &Answer<L>) -> Summary {
         Answer::Complete(number) => Summary::Complete(*number),
         Answer::Halted => Summary::Halted,
         Answer::Written(written) => Summary::Written(written.number()),
-        Answer::Value(value) => Summary::Value(value.number(), value.bytes().0[511]),
+        Answer::Value(value) => {
+            Summary::Value(
+                value.number(),
+                value.bytes().last().copied().unwrap_or(0x11),
+            )
+        }
         Answer::Failed => Summary::Failed,
         Answer::MasterChanged(master) => Summary::MasterChanged(*master),
         Answer::Joining(left) => Summary::Joining(*left),

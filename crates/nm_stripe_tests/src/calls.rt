@@ -1,10 +1,11 @@
 //! Single calls of a stripe, and which legs a step calls.
-use crate::asking::{Ask, Summary, fill_block, may_ask, step_of, summary_of};
-use crate::lists::WRITE_AND_READS;
+use crate::asking::{
+    Ask, Summary, fill_blocks, has_room, is_run, may_ask, room, step_of, summary_of,
+};
+use crate::lists::{CALLS_OF_RUNS, WHOLE_REGIONS};
 use crate::opening::{ONE_LEG, Setup, TWO_LEGS, open_fused};
 use crate::worked::stand;
 use nm_leg::{CountingLeg, FuseLeg, LegPart, MemLeg};
-use nm_replay::Block;
 use nm_stripe::{
     Answer, At, Beginning, Copying, Failing, Handed, LegState, Policy, Reach, Reading, Refusal,
     Step, Stripe, Syncing,
@@ -41,8 +42,9 @@ fn begin_write(
     stripe: &mut Stripe<FuseLeg>,
     block: u64,
 ) -> Result<u64, Fail> {
-    let data = fill_block(alloc, 0xaa)?;
-    assert!(rt; block < stripe.blocks() && data.fits_block());
+    let data = fill_blocks(alloc, 1, 0xaa)?;
+    is_run(rt, stripe.place(), block, data.blocks());
+    assert!(rt; data.fits_run());
     match stripe.begin(block, data) {
         Ok(Beginning::Begun(ticket)) => Ok(ticket),
         _other => Err(Fail::new("begin")),
@@ -102,31 +104,63 @@ fn a_write_by_its_own_calls(rt: HostRuntime) -> Result<(), Fail> {
     claims(&rt, &mut stripe, ticket)
 }
 
-fn reads(rt: &impl Abort, stripe: &mut Stripe<FuseLeg>) -> Result<(), Fail> {
-    let mut into = Block([9; 512]);
-    assert!(rt; stripe.place().blocks == 8);
-    let Ok(Reading::Value(receipt)) = stripe.read(2, &mut into) else {
+/// One leg, that fails its first call, and two numbers are left.
+const TWO_NUMBERS: Setup = Setup {
+    first: 9_223_372_036_854_775_806,
+    fuse: Some((0, 1)),
+    ..ONE_LEG
+};
+
+/// Reads blocks 2 and 3.
+fn read_two(
+    rt: &impl Abort,
+    stripe: &mut Stripe<FuseLeg>,
+    into: &mut [u8],
+) -> Result<Reading<FuseLeg>, Refusal> {
+    has_room(rt, stripe.place(), 2, into);
+    stripe.read(2, into)
+}
+
+/// Both blocks are read as zeroes, under the last two numbers.
+fn reads_two(rt: &impl Abort, stripe: &mut Stripe<FuseLeg>) -> Result<(), Fail> {
+    let mut into = [0x11; 1024];
+    let Ok(Reading::Value(receipt)) = read_two(rt, stripe, &mut into) else {
         return Err(Fail::new("read"));
     };
     assert_eq!(rt;
-        (receipt.stripe(), receipt.block(), receipt.number()),
-        (7, 2, 5)
+        (
+            receipt.stripe(),
+            receipt.block(),
+            receipt.number(),
+            receipt.count()
+        ),
+        (7, 2, 9_223_372_036_854_775_806, 2)
     );
-    assert_eq!(rt; into, Block::ZERO);
+    assert_eq!(rt; into, [0; 1024]);
     Ok(())
 }
 
+/// A step is refused for want of numbers, and its room comes back as it was.
+fn hands_its_room_back(rt: &impl Abort, answer: &Answer<FuseLeg>) {
+    match answer {
+        Answer::Refused(refusal, Handed::Room(room)) => {
+            assert_eq!(rt; *refusal, Refusal::Exhausted);
+            assert_eq!(rt; room.bytes(), [0x11; 1024].as_slice());
+        }
+        _other => assert!(rt; false, "no room came back"),
+    }
+}
+
 #[test]
-fn a_read_by_its_own_call(rt: HostRuntime) -> Result<(), Fail> {
-    let mut stripe = open_fused(
-        &rt,
-        rt.alloc(),
-        Setup {
-            first: 5,
-            ..TWO_LEGS
-        },
-    )?;
-    reads(&rt, &mut stripe)
+fn a_run_is_read_or_its_room_comes_back(rt: HostRuntime) -> Result<(), Fail> {
+    let mut stripe = open_fused(&rt, rt.alloc(), TWO_NUMBERS)?;
+    let failed = read_two(&rt, &mut stripe, &mut [0x11; 1024]);
+    assert_eq!(rt; failed.err(), Some(Refusal::Fault));
+    reads_two(&rt, &mut stripe)?;
+    let step = Step::Read(2, room(rt.alloc(), 2)?);
+    may_ask(&rt, &stripe, &step);
+    hands_its_room_back(&rt, &stripe.step(step));
+    Ok(())
 }
 
 /// Compares the answer to a leg that was not taken.
@@ -261,15 +295,24 @@ const CALLS: [(u64, u64); 19] = [
     (8, 6),
 ];
 
-/// A stripe on two legs that count their calls.
-fn counting_stripe(alloc: Global) -> Result<Stripe<CountingLeg<MemLeg>>, Fail> {
+/// A stripe of so many blocks, in regions of so many, on two legs that count their calls.
+fn counting_stripe(
+    rt: &impl Abort,
+    alloc: Global,
+    blocks: u64,
+    region: u64,
+) -> Result<Stripe<CountingLeg<MemLeg>>, Fail> {
+    assert!(rt; 1 <= blocks && blocks <= 65536 && 1 <= region && region <= 65536);
+    let first = CountingLeg::new(MemLeg::new(alloc, blocks)?);
+    let second = CountingLeg::new(MemLeg::new(alloc, blocks)?);
+    assert!(rt; first.len() == blocks && second.len() == blocks);
     let mut legs = Vec::new(alloc);
-    legs.push(CountingLeg::new(MemLeg::new(alloc, 8)?))?;
-    legs.push(CountingLeg::new(MemLeg::new(alloc, 8)?))?;
+    legs.push(first)?;
+    legs.push(second)?;
     let place = At {
         stripe: 7,
-        blocks: 8,
-        region: 4,
+        blocks,
+        region,
         chunk: 2,
     };
     Ok(
@@ -301,18 +344,29 @@ fn compare_call(
     Ok(())
 }
 
-/// Does the steps one by one on two legs, and compares their answers and the calls of each leg.
+/// Does the steps one by one, and compares their answers and the calls of each leg.
+fn compare_all(
+    rt: &impl Abort,
+    alloc: Global,
+    stripe: &mut Stripe<CountingLeg<MemLeg>>,
+    rows: &[(Ask, Summary)],
+    calls: &[(u64, u64)],
+) -> Result<(), Fail> {
+    for (row, calls) in rows.iter().zip(calls) {
+        compare_call(rt, alloc, stripe, *row, *calls)?;
+    }
+    Ok(())
+}
+
+/// Does the steps on two legs of two regions.
 pub fn compare_calls(
     rt: &impl Abort,
     alloc: Global,
     rows: &[(Ask, Summary)],
     calls: &[(u64, u64)],
 ) -> Result<(), Fail> {
-    let mut stripe = counting_stripe(alloc)?;
-    for (row, calls) in rows.iter().zip(calls) {
-        compare_call(rt, alloc, &mut stripe, *row, *calls)?;
-    }
-    Ok(())
+    let mut stripe = counting_stripe(rt, alloc, 8, 4)?;
+    compare_all(rt, alloc, &mut stripe, rows, calls)
 }
 
 #[test]
@@ -320,10 +374,8 @@ fn a_step_makes_at_most_one_call_of_a_leg(rt: HostRuntime) -> Result<(), Fail> {
     compare_calls(&rt, rt.alloc(), &HEALING, &CALLS)
 }
 
-/// How many calls each leg has had after each step of `WRITE_AND_READS`.
-const CALLS_OF_A_WRITE: [(u64, u64); 7] = [(0, 0), (1, 0), (2, 0), (3, 0), (3, 1), (3, 1), (4, 1)];
-
 #[test]
-fn a_write_calls_each_leg_once_and_a_read_the_master(rt: HostRuntime) -> Result<(), Fail> {
-    compare_calls(&rt, rt.alloc(), &WRITE_AND_READS, &CALLS_OF_A_WRITE)
+fn a_run_calls_each_leg_once_and_a_read_one_leg(rt: HostRuntime) -> Result<(), Fail> {
+    let mut stripe = counting_stripe(&rt, rt.alloc(), 300, 128)?;
+    compare_all(&rt, rt.alloc(), &mut stripe, &WHOLE_REGIONS, &CALLS_OF_RUNS)
 }

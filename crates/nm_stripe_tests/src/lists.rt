@@ -1,5 +1,5 @@
-//! Worked lists of steps with their answers, and the stripes that they are done on. Each is also a
-//! script of `tests/scripts`, with all that the stripe keeps.
+//! Worked lists of steps with their answers, and the stripes that they are done on. Each but that
+//! of whole regions is also a script of `tests/scripts`, with all that the stripe keeps.
 use crate::asking::{Ask, Summary};
 use crate::opening::{LONGER, ONE_LEG, Setup, THREE_LEGS, TWO_LEGS};
 use nm_stripe::{Policy, Refusal};
@@ -15,6 +15,13 @@ pub const LONG: Setup = Setup {
     region: 128,
     chunk: 8,
     ..ONE_LEG
+};
+
+/// Two legs of three regions, of which two have as many blocks as a run may have.
+pub const LONG_OF_TWO: Setup = Setup {
+    legs: 2,
+    in_sync: 3,
+    ..LONG
 };
 
 /// One block on one leg.
@@ -89,6 +96,45 @@ pub const WRITE_AND_READS: [(Ask, Summary); 7] = [
     (Ask::Push(0, 1), Summary::Complete(1)),
     (Ask::Claim(0), Summary::Written(1)),
     (Ask::Read(3), Summary::Value(3, 0xaa)),
+];
+
+/// Runs of a whole region, with reads before, between and after, which are more than are kept.
+pub const WHOLE_REGIONS: [(Ask, Summary); 15] = [
+    (Ask::Run(128, 128, 0xaa), Summary::Begun(0)),
+    (Ask::Get(128, 128), Summary::Value(0, 0x00)),
+    (Ask::Push(0, 0), Summary::Pushed(1)),
+    (Ask::Get(128, 128), Summary::Value(256, 0xaa)),
+    (Ask::Push(0, 1), Summary::Complete(128)),
+    (Ask::Claim(0), Summary::Written(128)),
+    (Ask::Get(128, 128), Summary::Value(384, 0xaa)),
+    (Ask::Run(128, 128, 0x00), Summary::Begun(128)),
+    (Ask::Push(128, 1), Summary::Pushed(1)),
+    (Ask::Push(128, 0), Summary::Complete(512)),
+    (Ask::Claim(128), Summary::Written(512)),
+    (Ask::Get(128, 128), Summary::Value(640, 0x00)),
+    (Ask::Get(128, 128), Summary::Value(768, 0x00)),
+    (Ask::Get(128, 128), Summary::Value(896, 0x00)),
+    (Ask::Get(128, 128), Summary::Value(1024, 0x00)),
+];
+
+/// How many calls each leg has had after each of the steps above: one for each run that it
+/// reaches or gives.
+pub const CALLS_OF_RUNS: [(u64, u64); 15] = [
+    (0, 0),
+    (1, 0),
+    (2, 0),
+    (3, 0),
+    (3, 1),
+    (3, 1),
+    (4, 1),
+    (4, 1),
+    (4, 2),
+    (5, 2),
+    (5, 2),
+    (5, 3),
+    (6, 3),
+    (6, 4),
+    (7, 4),
 ];
 
 const SETTLING: Summary = Summary::Refused(Refusal::Settling);

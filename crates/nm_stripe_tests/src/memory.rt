@@ -3,11 +3,12 @@ use crate::asking::{Ask, Summary, compare_each, steps_of};
 use crate::calls::HEALING;
 use crate::lists::{
     DIRTY_REGION, FIRST_FAILS, FIRST_OF_LONGER_FAILS, LAST_FIRST, LAST_IS_MASTER, LAST_LEG_FAILS,
-    LAST_LEG_HALTS, LAST_LEG_READS, LAST_NUMBER, LONG, LONGER_OF_THREE, MASTER_HAD_IT, MASTER_LOST,
-    NAMED_CALL, NOT_READ, ONE_BLOCK, OTHER_HAD_IT, OVER_A_WRITE, PART_LOSES_THE_MASTER,
-    PUSH_LOSES_THE_MASTER, SECOND_FAILS, SECOND_OF_STRIPED_FAILS, SECOND_OF_THREE_FAILS,
-    SHORT_REGION, SHORTER, STRIPED, STRIPED_LEGS, SYNC_FAILS, THREE_UNDER_WAY,
-    TICKETS_ARE_NO_PLACES, TORN, WRITE_AND_READS, full_and_after, many_reads,
+    LAST_LEG_HALTS, LAST_LEG_READS, LAST_NUMBER, LONG, LONG_OF_TWO, LONGER_OF_THREE, MASTER_HAD_IT,
+    MASTER_LOST, NAMED_CALL, NOT_READ, ONE_BLOCK, OTHER_HAD_IT, OVER_A_WRITE,
+    PART_LOSES_THE_MASTER, PUSH_LOSES_THE_MASTER, SECOND_FAILS, SECOND_OF_STRIPED_FAILS,
+    SECOND_OF_THREE_FAILS, SHORT_REGION, SHORTER, STRIPED, STRIPED_LEGS, SYNC_FAILS,
+    THREE_UNDER_WAY, TICKETS_ARE_NO_PLACES, TORN, WHOLE_REGIONS, WRITE_AND_READS, full_and_after,
+    many_reads,
 };
 use crate::opening::{LONGER, ONE_LEG, Setup, TWO_LEGS, fuse_of, open_fused};
 use nm_leg::FuseLeg;
@@ -50,8 +51,8 @@ fn do_last(rt: &impl Abort, all: &mut Vec<Prepared>, rows: &[(Ask, Summary)]) {
 }
 
 /// The worked lists in which no leg is replaced, but for the one with two fuses and the long ones;
-/// and one in which a leg is copied.
-static LISTS: [(Setup, &[(Ask, Summary)]); 20] = [
+/// one in which a leg is copied, and one of runs.
+static LISTS: [(Setup, &[(Ask, Summary)]); 21] = [
     (LONGER, &WRITE_AND_READS),
     (ONE_BLOCK, &[]),
     (LONGER, &MASTER_HAD_IT),
@@ -72,6 +73,7 @@ static LISTS: [(Setup, &[(Ask, Summary)]); 20] = [
     (LAST_LEG_FAILS, &NOT_READ),
     (FIRST_FAILS, &PART_LOSES_THE_MASTER),
     (TWO_LEGS, &HEALING),
+    (LONG_OF_TWO, &WHOLE_REGIONS),
 ];
 
 /// Takes all memory that these lists need, and then that for the list of the last leg, for one that is

@@ -1,10 +1,9 @@
 //! The part of a pass in one stripe: what it counts, and when it refuses a step.
-use crate::asking::{Ask, Summary, fill_block};
+use crate::asking::{Ask, Summary, fill_blocks};
 use crate::opening::{ONE_LEG, open_fused};
 use nm_fanout::Data;
 use nm_leg::FuseLeg;
 use nm_part::Part;
-use nm_replay::Block;
 use nm_stripe::{Beginning, Reach, Reading, Refusal, Stripe};
 use std::alloc::Global;
 use std::process::Abort;
@@ -43,15 +42,17 @@ fn claim(part: &mut Part<FuseLeg>, stripe: &mut Stripe<FuseLeg>, ticket: u64) ->
     }
 }
 
-/// Reads a block through the part, and tells what came of it, with the target's last byte.
+/// Reads blocks through the part, and tells what came of it, with the target's last byte.
 fn read_into(
     part: &mut Part<FuseLeg>,
     stripe: &mut Stripe<FuseLeg>,
     block: u64,
-    into: &mut Block,
+    into: &mut [u8],
 ) -> Summary {
     match part.read(stripe, block, into) {
-        Ok(Reading::Value(receipt)) => Summary::Value(receipt.number(), into.0[511]),
+        Ok(Reading::Value(receipt)) => {
+            Summary::Value(receipt.number(), into.last().copied().unwrap_or(0))
+        }
         Ok(Reading::LegLost(leg)) => Summary::LegLost(leg),
         Err(refusal) => Summary::Refused(refusal),
     }
@@ -67,10 +68,10 @@ fn compare_step(
 ) -> Result<(), Fail> {
     let (ask, want) = row;
     let told = match ask {
-        Ask::Begin(block, byte) => begin(part, stripe, block, fill_block(alloc, byte)?),
+        Ask::Begin(block, byte) => begin(part, stripe, block, fill_blocks(alloc, 1, byte)?),
         Ask::Push(ticket, leg) => push(part, stripe, ticket, leg),
         Ask::Claim(ticket) => claim(part, stripe, ticket),
-        Ask::Read(block) => read_into(part, stripe, block, &mut Block([0x11; 512])),
+        Ask::Read(block) => read_into(part, stripe, block, &mut [0x11; 512]),
         _ => return Err(Fail::new("no step of a part")),
     };
     assert_eq!(rt; told, want, "at {ask:?}");
@@ -109,19 +110,6 @@ fn a_part_counts_values_and_finished_writes(rt: HostRuntime) -> Result<(), Fail>
     counts(&rt, rt.alloc(), &mut part, &mut stripe)
 }
 
-#[test]
-fn a_part_reads_what_was_written(rt: HostRuntime) -> Result<(), Fail> {
-    let mut stripe = open_fused(&rt, rt.alloc(), ONE_LEG)?;
-    let mut part = Part::of(&stripe);
-    counts(&rt, rt.alloc(), &mut part, &mut stripe)?;
-    let mut into = Block([0x11; 512]);
-    let told = read_into(&mut part, &mut stripe, 0, &mut into);
-    assert_eq!(rt; told, Summary::Value(2, 0xaa));
-    assert!(rt; into == Block([0xaa; 512]));
-    assert_eq!(rt; (part.front(), part.count()), (3, 3));
-    Ok(())
-}
-
 /// The part's step in a new stripe is refused, and does nothing there.
 fn is_astray(rt: &impl Abort, alloc: Global, part: &mut Part<FuseLeg>) -> Result<(), Fail> {
     let mut other = open_fused(rt, alloc, ONE_LEG)?;
@@ -151,5 +139,43 @@ fn a_step_on_a_block_or_a_leg_that_is_not_there_is_astray(rt: HostRuntime) -> Re
         let astray = (ask, Summary::Refused(Refusal::Astray));
         compare_step(&rt, rt.alloc(), &mut part, &mut stripe, astray)?;
     }
+    Ok(())
+}
+
+#[test]
+fn a_part_counts_each_block_of_a_run(rt: HostRuntime) -> Result<(), Fail> {
+    let mut stripe = open_fused(&rt, rt.alloc(), ONE_LEG)?;
+    let mut part = Part::of(&stripe);
+    let data = fill_blocks(rt.alloc(), 3, 0xaa)?;
+    assert_eq!(rt; begin(&mut part, &mut stripe, 4, data), Summary::Begun(0));
+    assert_eq!(rt; push(&mut part, &mut stripe, 0, 0), Summary::Complete(0));
+    assert_eq!(rt; claim(&mut part, &mut stripe, 0), Summary::Written(0));
+    assert_eq!(rt; (part.front(), part.count()), (3, 3));
+    let mut into = [0x11; 4 * 512];
+    let told = read_into(&mut part, &mut stripe, 4, &mut into);
+    assert_eq!(rt; told, Summary::Value(3, 0x00));
+    assert_eq!(rt; (into[0], into[3 * 512 - 1]), (0xaa, 0xaa));
+    assert_eq!(rt; (part.front(), part.count()), (7, 7));
+    Ok(())
+}
+
+// The regions have 4 blocks.
+#[test]
+fn a_run_that_is_not_there_is_astray(rt: HostRuntime) -> Result<(), Fail> {
+    let mut stripe = open_fused(&rt, rt.alloc(), ONE_LEG)?;
+    let mut part = Part::of(&stripe);
+    let astray = Summary::Refused(Refusal::Astray);
+    for (block, blocks) in [(3, 2), (0, 5), (7, 2), (0, 0)] {
+        assert_eq!(rt;
+            begin(&mut part, &mut stripe, block, Data::Zero(blocks)),
+            astray
+        );
+    }
+    for (block, bytes) in [(3, 1024), (0, 2560), (7, 1024), (0, 0), (0, 511), (0, 513)] {
+        let into = &mut [0x11; 2560][..bytes];
+        assert_eq!(rt; read_into(&mut part, &mut stripe, block, into), astray);
+        assert!(rt; into.iter().all(|byte| *byte == 0x11));
+    }
+    assert_eq!(rt; (part.front(), part.count()), (0, 0));
     Ok(())
 }

@@ -10,6 +10,8 @@ use std::rt::Files;
 /// What the process may use at most. None is unlimited, or not told.
 #[derive(Clone, Copy, Debug, PartialEq, Eq)]
 pub struct Limits {
+    /// How many bytes of address space it may have.
+    pub address_space: Option<u64>,
     /// How long a file may become that it writes, in bytes.
     pub file_bytes: Option<u64>,
     /// How many files it may have open at once.
@@ -23,6 +25,7 @@ impl Limits {
     pub fn read<R: Files<File = File>>(rt: &R, alloc: Global) -> Result<Limits, AllocError> {
         let text = contents(rt, alloc, "/proc/self/limits")?;
         Ok(Limits {
+            address_space: soft_limit(&text, "Max address space"),
             file_bytes: soft_limit(&text, "Max file size"),
             open_files: soft_limit(&text, "Max open files"),
             stack_bytes: soft_limit(&text, "Max stack size"),

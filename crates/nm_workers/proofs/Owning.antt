@@ -14,7 +14,7 @@ use Rattle.nm_session.specs.CalledValue.{CalledValue}
 use Rattle.nm_session.specs.Calling.{TaskResult}
 use Rattle.nm_session.specs.Event.{Event, Runs}
 use Rattle.nm_session.specs.Laws.{SoFar}
-use Rattle.nm_session.specs.Session.{Session, session_of}
+use Rattle.nm_session.specs.Session.{Session, session_of, so_many}
 use Rattle.nm_wire.specs.declared.export.Export.{Export}
 use Rattle.nm_wire.specs.Export.{size_of}
 use Rattle.nm_workers.specs.Moving.{owner_state, Attends, BreaksOff}
@@ -68,11 +68,11 @@ sizes_stay size old new events targets runs large =
 module _ {F : Task → TaskResult → Type 0} where
   -- the session of a new core is a whole one
   pub whole_at : SoFar → (served : Served) (export : Export) (core : Session) (bytes output written : Option (List ℕ))
-      → core ≡ session_of export 16 → Ends F served core (wires bytes output) written → IsServed F served export (wires bytes output) written
+      → core ≡ session_of export (so_many 16) → Ends F served core (wires bytes output) written → IsServed F served export (wires bytes output) written
   whole_at so_far served export core bytes output written is ends = whole so_far served export bytes output written
       (subst (λ (c : Session). Ends F served c (wires bytes output) written) is ends)
 
   pub broken_at : SoFar → (found : ServeFault) (export : Export) (core : Session) (bytes output after : Option (List ℕ))
-      → core ≡ session_of export 16 → Breaks F found core (wires bytes output) after → IsBrokenOff F found export (wires bytes output) after
+      → core ≡ session_of export (so_many 16) → Breaks F found core (wires bytes output) after → IsBrokenOff F found export (wires bytes output) after
   broken_at so_far found export core bytes output after is breaks = broken so_far found export bytes output after
       (subst (λ (c : Session). Breaks F found c (wires bytes output) after) is breaks)

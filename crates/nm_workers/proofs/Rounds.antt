@@ -1,5 +1,5 @@
 -- What the parts of a round do together.
-use Rattle.std.proofs.Common.{◌≡◌, ℕ, List, Option, Result, Ok, Err, IfOk, IfErr, refl, sym, subst}
+use Rattle.std.proofs.Common.{◌≡◌, ℕ, List, [], Option, inl, inr, Result, Ok, Err, IfOk, IfErr, refl, sym, subst}
 use Rattle.nm_mailbox.specs.declared.message.Message.{Message}
 use Rattle.nm_session.proofs.Pieces.{none_after_send}
 use Rattle.nm_session.specs.declared.serve_fault.ServeFault.{ServeFault}
@@ -10,12 +10,15 @@ use Rattle.nm_session.specs.CalledValue.{CalledValue}
 use Rattle.nm_session.specs.Calling.{TaskResult}
 use Rattle.nm_session.specs.Laws.{IsRead}
 use Rattle.nm_session.specs.MovingBytes.{SendsOut, SendsPart}
-use Rattle.nm_session.specs.Session.{Session}
+use Rattle.nm_session.specs.Session.{IsFull, IsReading, LacksRoom, Session}
+use Rattle.nm_session.specs.Turning.{IsStarved}
+use Rattle.nm_workers.specs.declared.round.NoRequest.{NoRequest}
+use Rattle.nm_workers.specs.declared.round.NoRequest.TheVariants as why
 use Rattle.nm_workers.specs.declared.round.Round.{Round}
 use Rattle.nm_workers.specs.declared.round.Round.TheVariants as round
 use Rattle.nm_workers.specs.declared.round.ReadState.{ReadState}
 use Rattle.nm_workers.specs.declared.round.ReadState.TheVariants as state
-use Rattle.nm_workers.specs.Moving.{OwnerState, owner_state, Moves, BreaksOff, IsKnown, IsOverAt, Attends, IsRound, EndsAs}
+use Rattle.nm_workers.specs.Moving.{OwnerState, owner_state, Moves, BreaksOff, HasNoRequest, IsKnown, IsOverAt, Attends, IsRound, EndsAs}
 use Rattle.nm_workers.proofs.Steps.{moves_on, breaks_on, stops, reads, sends, sends_part}
 
 module _ {F : Task → TaskResult → Type 0} where
@@ -52,6 +55,34 @@ pub known_as : (next before : ReadState) (heard : List (Message CalledValue)) �
 known_as state.Idle before heard same known = tt
 known_as state.Pending before heard same known = tt
 known_as state.Eof before heard same known = subst (λ (i : ReadState). IsKnown i heard) (same refl) known
+
+-- replies that go out are no requests
+sent_reading : (core : Session) → IsReading core → IsReading (record core { out = [] })
+sent_reading core reads = record { serving = reads.serving; free = reads.free }
+
+sent_full : (core : Session) → IsFull core → IsFull (record core { out = [] })
+sent_full core full = record {
+  serving = full.serving;
+  full = elim full.full [
+    | inl many ↦ inl many
+    | inr lacks ↦ inr (record { bytes = lacks.bytes; next = lacks.next; alone = lacks.alone; more = lacks.more })
+  ];
+}
+
+sent_starved : (core : Session) → IsStarved core → IsStarved (record core { out = [] })
+sent_starved core (inl haggles) = inl haggles
+sent_starved core (inr (reads, none)) = inr (sent_reading core reads, none)
+
+sent_none : (found : NoRequest) (core : Session) → HasNoRequest found core
+    → HasNoRequest found (record core { out = [] })
+sent_none why.Starved core starved = sent_starved core starved
+sent_none why.Full core full = sent_full core full
+sent_none why.Ended core ended = ended
+
+pub no_request_sent : (found : NoRequest) (old new : Session) (output written : Option (List ℕ))
+    → SendsOut old new output written → HasNoRequest found old → HasNoRequest found new
+no_request_sent found old new output written sent none =
+    subst (λ (s : Session). HasNoRequest found s) (sym sent.takes.new_is) (sent_none found old none)
 
 module _ {F : Task → TaskResult → Type 0} where
   module _ (old mid new : Session) (heard : List (Message CalledValue)) (output written : Option (List ℕ))

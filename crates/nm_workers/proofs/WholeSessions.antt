@@ -22,7 +22,7 @@ use Rattle.nm_session.specs.Feeding.{FeedsAt}
 use Rattle.nm_session.specs.Laws.{SoFar}
 use Rattle.nm_session.specs.Moving.{moment}
 use Rattle.nm_session.specs.Serving.{IsEnd}
-use Rattle.nm_session.specs.Session.{Session, session_of}
+use Rattle.nm_session.specs.Session.{Session, session_of, so_many}
 use Rattle.nm_session.specs.Text.{GoesOut}
 use Rattle.nm_wire.specs.declared.export.Export.{Export}
 use Rattle.nm_workers.specs.declared.round.ReadState.{ReadState}
@@ -221,33 +221,33 @@ unwritten_of (fault.Write sent) all written cause = (
 module _ {F : Task → TaskResult → Type 0} where
   -- a whole session that came to its end
   pub whole : SoFar → (served : Served) (export : Export) (bytes output written : Option (List ℕ))
-      → Ends F served (session_of export 16) (wires bytes output) written → IsServed F served export (wires bytes output) written
+      → Ends F served (session_of export (so_many 16)) (wires bytes output) written → IsServed F served export (wires bytes output) written
   whole so_far served export bytes output written ends = record {
     ends = ends;
     requests = ends.requests ∙ omega (
       arith,
-      counted (session_of export 16) ends.last ends.events
-          (runs_of F (session_of export 16) ends.last ends.events ends.runs),
+      counted (session_of export (so_many 16)) ends.last ends.events
+          (runs_of F (session_of export (so_many 16)) ends.last ends.events ends.runs),
     );
-    goes_out = subst (GoesOut export ends.events)
+    goes_out = subst (GoesOut export (so_many 16) ends.events)
         (ap (λ (rest : List ℕ). taken_bytes ends.events ++ rest) ends.sent ∙ append-nil (taken_bytes ends.events))
-        (so_far export 16 ends.events ends.last
-        (runs_of F (session_of export 16) ends.last ends.events ends.runs));
+        (so_far export (so_many 16) ends.events ends.last
+        (runs_of F (session_of export (so_many 16)) ends.last ends.events ends.runs));
   }
 
   -- a session that broke off
   pub broken : SoFar → (found : ServeFault) (export : Export) (bytes output after : Option (List ℕ))
-      → Breaks F found (session_of export 16) (wires bytes output) after → IsBrokenOff F found export (wires bytes output) after
+      → Breaks F found (session_of export (so_many 16)) (wires bytes output) after → IsBrokenOff F found export (wires bytes output) after
   broken so_far found export bytes output after breaks =
       let rest = unwritten_of found (taken_bytes breaks.events) breaks.written breaks.cause in
       record {
         breaks = breaks;
         unwritten = rest.0 ++ breaks.last.out;
-        goes_out = subst (GoesOut export breaks.events)
+        goes_out = subst (GoesOut export (so_many 16) breaks.events)
             (ap (λ (front : List ℕ). front ++ breaks.last.out) rest.1
             ∙ append_assoc breaks.written rest.0 breaks.last.out)
-            (so_far export 16 breaks.events breaks.last
-            (runs_of F (session_of export 16) breaks.last breaks.events breaks.runs));
+            (so_far export (so_many 16) breaks.events breaks.last
+            (runs_of F (session_of export (so_many 16)) breaks.last breaks.events breaks.runs));
       }
 
   -- the haggling, after which nothing is answered yet

@@ -10,7 +10,7 @@ use Rattle.nm_session.specs.Calling.{TaskResult}
 use Rattle.nm_session.specs.Event.{Event, fed_bytes, taken_bytes, messages}
 use Rattle.nm_session.specs.Moving.{moment}
 use Rattle.nm_session.specs.Serving.{IsEnd}
-use Rattle.nm_session.specs.Session.{Session, session_of}
+use Rattle.nm_session.specs.Session.{Session, session_of, so_many}
 use Rattle.nm_session.specs.Text.{GoesOut}
 use Rattle.nm_workers.specs.Moving.{IsCause}
 use Rattle.nm_workers.specs.Results.{RunsWith, no_result}
@@ -72,13 +72,13 @@ Greets (Some served) from to before after = Ends no_result served from before af
 -- a whole session over an export: what was written is what goes out
 pub record IsServed (HasResult : Task → TaskResult → Type 0) (served : Served) (export : Export)
     (before : Wires) (written : Option (List ℕ)) : Type 0 where
-  pub ends : Ends HasResult served (session_of export 16) before written
+  pub ends : Ends HasResult served (session_of export (so_many 16)) before written
   pub requests : served.requests ≡ length (messages ends.events)
-  pub goes_out : GoesOut export ends.events (taken_bytes ends.events)
+  pub goes_out : GoesOut export (so_many 16) ends.events (taken_bytes ends.events)
 
 -- a session that a fault broke off: what was written is a beginning of what goes out
 pub record IsBrokenOff (HasResult : Task → TaskResult → Type 0) (fault : ServeFault)
     (export : Export) (before : Wires) (after : Option (List ℕ)) : Type 0 where
-  pub breaks : Breaks HasResult fault (session_of export 16) before after
+  pub breaks : Breaks HasResult fault (session_of export (so_many 16)) before after
   pub unwritten : List ℕ
-  pub goes_out : GoesOut export breaks.events (breaks.written ++ unwritten)
+  pub goes_out : GoesOut export (so_many 16) breaks.events (breaks.written ++ unwritten)

@@ -18,7 +18,11 @@ use std::sync::Wait;
 // How many messages a mailbox has room for.
 const WAITING: usize = 32;
 
-// Waits for a message, and takes it and all others that wait by then.
+// From how many bytes of replies on they are sent before more outcomes are taken.
+pub(crate) const GATHERED: usize = 1024 * 1024;
+
+// Waits for a message, and takes it and those that wait by then, up to about 1 MiB of replies: what
+// they carry is in the outcome and in the output for a while.
 pub(crate) fn receive<R: Wait, C, T: Target + Drop>(
     rt: &R,
     alloc: Global,
@@ -45,6 +49,9 @@ pub(crate) fn receive<R: Wait, C, T: Target + Drop>(
         Err(fault) => return Err(fault),
     };
     'messages: for _ in 1..WAITING {
+        if core.waiting() >= GATHERED {
+            return Ok(state);
+        }
         let Some(message) = inbox.try_recv(rt) else {
             return Ok(state);
         };

@@ -16,8 +16,9 @@ use crate::reader::Reader;
 use crate::spin_wait::{BusyPoll, SpinToken, SpinWait, Unpolled};
 use nm_mailbox::{Inbox, mailbox};
 use nm_replies::ReplyWriter;
-use nm_session::{ServeFault, Served, SessionCore, Target, laws};
+use nm_session::{Limit, ServeFault, Served, SessionCore, Target, laws};
 use nm_wire::Export;
+use nm_wire::sizes::MAX_PAYLOAD;
 use std::alloc::Global;
 use std::io::{Read, Write};
 use std::marker::Brand;
@@ -36,8 +37,11 @@ pub struct Finished<O> {
 // How many bytes a read has room for while the client haggles.
 const ROOM: usize = 128 * 1024;
 
-// How many requests are outstanding at most.
-const LIMIT: usize = 16;
+// What is outstanding at most: 16 requests, whatever their length.
+const LIMIT: Limit = Limit {
+    requests: 16,
+    bytes: 16 * MAX_PAYLOAD as usize,
+};
 
 /// Serves one client's session from the greeting to its end, up to 16 requests at once: each of the
 /// targets, 1 to 16 of them with at least the export's bytes, is called by a thread of its own, and

@@ -12,7 +12,7 @@ ghost use Rattle.nm_workers.specs.Moving.{IsRound, IsOverAt, IsPhase};
 use crate::dispatcher::{Dispatcher, hand_out};
 use crate::inline::note_request;
 use crate::job::{Extent, JobResult};
-use crate::messages::receive;
+use crate::messages::{GATHERED, receive};
 use crate::permits::{PermitSender, ReadPermit};
 use crate::pool::{WorkerPool, submit_deferred};
 use crate::round::{NoRequest, PhaseEnd, ReadState, Round};
@@ -72,7 +72,8 @@ where
 // session is over, waits for what the threads report. Where no request is left it gives the permit to
 // read, and does so before the last one is given to a worker: the thread that reads mostly looks
 // for it still then, and to give a job takes longer where a worker has to be woken for it. It does
-// neither where the owner is to do the last one itself.
+// neither where the owner is to do the last one itself. Many bytes of replies are sent first, so that
+// they are gone before more are asked for.
 fn round_with_threads<'s, S, E, R, O, T>(
     rt: &'s R,
     alloc: Global,
@@ -98,6 +99,9 @@ where
         (owner_state core.new (received_by inbox.new) (O.contents (device_of sender.new)))) }
     ensures channel { IsSameInbox inbox.new inbox.old }
 {
+    if core.waiting() >= GATHERED {
+        return send_gathered(core, sender, inbox, state);
+    }
     let why = match hand_out(rt, alloc, core, &mut dispatcher.pool) {
         Ok(why) => why,
         Err(fault) => return Err(fault),
@@ -124,6 +128,27 @@ where
     }
     match receive(rt, alloc, core, inbox, state, dispatcher) {
         Ok(next) => Ok(Round::Continue(next)),
+        Err(fault) => Err(fault),
+    }
+}
+
+// Sends the replies that wait, and does nothing else.
+fn send_gathered<O: Write, T: Target + Drop>(
+    core: &mut SessionCore,
+    sender: &mut ReplyWriter<O>,
+    _inbox: &Inbox<JobResult<T>>,
+    state: ReadState,
+) -> Result<Round, ServeFault>
+    requires known { IsKnown state (received_by _inbox.now) }
+    ensures ok { IfOk result (λ round. IsRound (IsResult T.follows) round
+        (owner_state core.old (received_by _inbox.now) (O.contents (device_of sender.old)))
+        (owner_state core.new (received_by _inbox.now) (O.contents (device_of sender.new)))) }
+    ensures err { IfErr result (λ fault. BreaksOff (IsResult T.follows) fault
+        (owner_state core.old (received_by _inbox.now) (O.contents (device_of sender.old)))
+        (owner_state core.new (received_by _inbox.now) (O.contents (device_of sender.new)))) }
+{
+    match send_out(core, sender) {
+        Ok(()) => Ok(Round::Continue(state)),
         Err(fault) => Err(fault),
     }
 }

@@ -5,7 +5,8 @@ ghost use Rattle.std.specs.Prelude.{◌≤◌};
 
 use bytes::Bytes;
 use nm_requests::Task;
-use nm_session::{EndedBy, Next, Outcome, Phase, Refused, SessionCore};
+use nm_session::{EndedBy, Limit, Next, Outcome, Phase, Refused, SessionCore};
+use nm_wire::sizes::MAX_PAYLOAD;
 use nm_wire::{Export, Name};
 use std::alloc::{AllocError, Global};
 use std::process::Abort;
@@ -70,17 +71,18 @@ struct Client {
 }
 
 impl Client {
-    // A session over 64 MiB.
-    fn new(alloc: Global, limit: usize) -> Result<Client, Refused>
-        requires some { 1 ≤ limit }
-        requires limit { limit ≤ 16 }
+    // A session over 64 MiB, with so many requests of any length.
+    fn new(alloc: Global, requests: usize) -> Result<Client, Refused>
+        requires some { 1 ≤ requests }
+        requires few { requests ≤ 16 }
     {
         let export = Export {
             name: Name::new(Vec::new(alloc)),
             blocks: 131_072,
             read_only: false,
         };
-        match SessionCore::new(alloc, export, limit) {
+        let bytes = requests * MAX_PAYLOAD as usize;
+        match SessionCore::new(alloc, export, Limit { requests, bytes }) {
             Ok(core) => Ok(Client { core }),
             Err((refused, _export)) => Err(refused),
         }

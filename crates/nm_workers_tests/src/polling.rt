@@ -6,7 +6,7 @@ use crate::running::targets;
 use crate::shared_target::{SharedBytes, SharedTarget, have_bytes};
 use crate::texts::{DISC, SIZE, Talk, export};
 use nm_replies::ReplyWriter;
-use nm_session::{ServeFault, Served, SessionCore};
+use nm_session::{Limit, ServeFault, Served, SessionCore};
 use nm_wire::{Export, Memory};
 use nm_workers::{BusyPoll, SpinToken, greet, transmit};
 use std::alloc::Global;
@@ -57,7 +57,11 @@ where
         return Err(Memory);
     }
     let mut room = vec![in alloc; 0; 4096]?;
-    let Ok(mut core) = SessionCore::new(alloc, export, 16) else {
+    let limit = Limit {
+        requests: 16,
+        bytes: 1 << 30,
+    };
+    let Ok(mut core) = SessionCore::new(alloc, export, limit) else {
         return Err(Memory);
     };
     let mut sender = ReplyWriter::new(writer);

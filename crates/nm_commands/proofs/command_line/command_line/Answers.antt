@@ -8,8 +8,8 @@ returns-clause-ok c =
     let line = c.in_ok-program.ensures.ok in
     let one = c.in_ok-with_sessions.ensures.shape c.number_option-sessions.ensures.own
     ∙ ap₂ with_rule line.2.2 c.number_option-sessions.ensures.rule in
-    let two = c.in_ok-with_read_only.ensures.shape c.flag-read_only.ensures.own
-    ∙ ap₂ with_rule one c.flag-read_only.ensures.rule in
+    let two = c.in_ok-with_read_only.ensures.shape c.lettered_flag-read_only.ensures.own
+    ∙ ap₂ with_rule one c.lettered_flag-read_only.ensures.rule in
     let three = c.in_ok-with_flags.ensures.shape c.flag-force_in_use.ensures.own
     ∙ ap₂ with_rule two c.flag-force_in_use.ensures.rule in
     let all : app_of c.in_ok-command.command ≡ nbdmirror line.0 line.2.0 =

@@ -1,8 +1,8 @@
-use Rattle.std.proofs.Common.{◌∙◌, ◌≡◌, ap, sym, map, List}
+use Rattle.std.proofs.Common.{◌∙◌, ◌≡◌, [], ap, sym, map, List, true≢false}
 use Rattle.clap.specs.Words.{Text, App, app_of, fault_of, found_of, is_simple, is_simple_and_free, matches_of, rows_of}
-use Rattle.nm_commands.proofs.Said.{simple, simple_and_free, handed_on, said_fault}
+use Rattle.nm_commands.proofs.Said.{simple, simple_and_free, handed_on, said_fault, said_two}
 use Rattle.nm_commands.specs.CommandLine.{nbdmirror}
-use Rattle.nm_commands.specs.Settings.{IsRefusal}
+use Rattle.nm_commands.specs.Settings.{IsRefusal, NamesTwo}
 use Rattle.nm_commands.proofs.command_line.settings.Goals as goal
 
 pub returns-clause-asked : goal.returns-clause-asked
@@ -12,7 +12,7 @@ returns-clause-asked g c =
     let f = found_of c.in_ok-matches.matches in
     let rows = matches_of (nbdmirror line.0 line.2.0) words in
     let e : rows_of f ≡ rows =
-    (c.in_ok-matches.ensures.matches (ap is_simple line.2.2 ∙ simple line.0 line.2.0)).0
+    (c.in_ok-matches.ensures.ok.2 (ap is_simple line.2.2 ∙ simple line.0 line.2.0)).0
     ∙ ap (λ (a : App). matches_of a words) line.2.2 in
     record {
       policies = line.0;
@@ -21,8 +21,27 @@ returns-clause-asked g c =
       known_starts = line.2.1;
       faultless = ap (λ (a : App). fault_of a words) (sym line.2.2)
           ∙ c.in_ok-matches.ensures.kinds (ap is_simple_and_free line.2.2 ∙ simple_and_free line.0 line.2.0);
+      one_place = λ two.
+          let both : NamesTwo (rows_of f) = rw e two in
+          true≢false (sym (c.names_two.ensures.1 both) ∙ c.if-names_two.false);
       settings = rw (← e) c.in_ok-settings.ensures.ok;
     }
+
+pub returns-then-names_two-clause-refused : goal.returns-then-names_two-clause-refused
+returns-then-names_two-clause-refused g c =
+    let line = c.in_ok-command.ensures.ok in
+    let words : List Text = map g.S.AsStr.text c.args.words.now in
+    let f = found_of c.in_ok-matches.matches in
+    let rows = matches_of (nbdmirror line.0 line.2.0) words in
+    let e : rows_of f ≡ rows =
+    (c.in_ok-matches.ensures.ok.2 (ap is_simple line.2.2 ∙ simple line.0 line.2.0)).0
+    ∙ ap (λ (a : App). matches_of a words) line.2.2 in
+    let faultless : fault_of (nbdmirror line.0 line.2.0) words ≡ [] =
+    ap (λ (a : App). fault_of a words) (sym line.2.2)
+    ∙ c.in_ok-matches.ensures.kinds (ap is_simple_and_free line.2.2 ∙ simple_and_free line.0 line.2.0) in
+    let two : NamesTwo rows = rw (← e) (c.names_two.ensures.0 c.if-names_two.true) in
+    said_two line.0 line.2.0 words c.in_ok-error.error line.1 line.2.1 faultless two
+    c.in_ok-error.ensures.kind
 
 pub returns-in_err-matches-clause-refused : goal.returns-in_err-matches-clause-refused
 returns-in_err-matches-clause-refused g c =

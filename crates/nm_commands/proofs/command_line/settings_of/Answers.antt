@@ -1,6 +1,6 @@
 use Rattle.std.proofs.Common.{codes, refl}
 use Rattle.clap.specs.Words.{found_of, rows_of}
-use Rattle.nm_commands.proofs.Said.{said_text, said_number, said_master, said_flag, said_words}
+use Rattle.nm_commands.proofs.Said.{said_text, said_number, said_number_if_any, said_flag, said_words}
 use Rattle.nm_commands.proofs.command_line.settings_of.Goals as goal
 
 pub returns-clause-ok : goal.returns-clause-ok
@@ -9,11 +9,13 @@ returns-clause-ok c =
     let rows = rows_of f in
     record {
       listen = said_text f rows (codes "listen") _ refl c.in_ok-listen.ensures.ok;
+      port = said_number_if_any f rows (codes "port") _ refl c.in_ok-port.ensures.some
+          c.in_ok-port.ensures.none;
       control = said_text f rows (codes "control") _ refl c.in_ok-control.ensures.ok;
       name = said_text f rows (codes "name") _ refl c.in_ok-name.ensures.ok;
       stripes = said_number f rows (codes "stripes") _ refl c.in_ok-stripes.ensures.ok;
       policy = said_text f rows (codes "policy") _ refl c.in_ok-policy.ensures.ok;
-      master = said_master f rows _ refl c.in_ok-master.ensures.some c.in_ok-master.ensures.none;
+      master = said_number_if_any f rows (codes "master") _ refl c.in_ok-master.ensures.some c.in_ok-master.ensures.none;
       start = said_text f rows (codes "start") _ refl c.in_ok-start.ensures.ok;
       sessions = said_number f rows (codes "sessions") _ refl c.in_ok-sessions.ensures.ok;
       read_only = said_flag f rows (codes "read-only") _ refl c.get_flag-read_only.ensures.value

@@ -1,12 +1,17 @@
--- The pieces before this one are cut.
-use Rattle.std.proofs.Common.{◌≡◌, ◌≤◌, vec_len, vec_capacity}
+-- The runs before these are cut.
+use Rattle.std.proofs.Common.{◌≡◌, ◌+◌, ◌≤◌, length, vec_len, vec_capacity}
 use Rattle.nm_geometry.specs.Pieces.{touched}
+use Rattle.nm_lanes.specs.Stretches.{runs_in_stretch}
 use Rattle.nm_lanes.proofs.CutLemmas.{HasCut}
 use Rattle.nm_lanes.proofs.cutting.cut_up.Given as goal
 
-abbrev pub invariant-loop-number : goal.invariant-loop-number
-invariant-loop-number l = record {
-  cut : HasCut l.range l.fn.payload l.number l.writes.items l.rest;
-  count : vec_len l.writes ≡ l.number;
-  room : touched l.range ≤ vec_capacity l.writes;
+abbrev pub invariant-loop-left : goal.invariant-loop-left
+invariant-loop-left l = record {
+  cut : HasCut l.shape l.fn.stretch l.left l.fn.payload l.writes.items l.rest;
+  range : l.left.range ≡ l.fn.stretch.range;
+  inside : l.left.first + l.left.count ≤ touched l.fn.stretch.range;
+  count : vec_len l.writes + length (runs_in_stretch l.shape l.left) ≤ vec_capacity l.writes;
 }
+
+abbrev pub decreases-loop-left : goal.decreases-loop-left
+decreases-loop-left l = l.left.count

@@ -1,33 +1,35 @@
 -- What came of both halves.
 use Rattle.std.proofs.Common.{rules, arith, ◌≡◌, ◌+◌, ◌-◌, ◌/◌, ◌<◌, ◌∙◌, length, length-append, ap}
-use Rattle.nm_lanes.specs.declared.run.Run.{Run}
-use Rattle.nm_lanes.specs.Gets.{pieces_in_stretch, bytes_of, ReadsLanes}
-use Rattle.nm_lanes.specs.Puts.{blocks_in}
-use Rattle.nm_lanes.proofs.GetStretchLemmas.{get-apart, read-halved, bytes-fit}
+use Rattle.nm_lanes.specs.declared.region_range.RegionRange.{RegionRange}
+use Rattle.nm_lanes.specs.Gets.{ReadsLanes}
+use Rattle.nm_lanes.specs.RegionRanges.{blocks_in}
+use Rattle.nm_lanes.specs.Stretches.{runs_in_stretch, bytes_of}
+use Rattle.nm_lanes.proofs.GetStretchLemmas.{get-apart, read-halved}
+use Rattle.nm_lanes.proofs.CutLemmas.{bytes-fit}
 use Rattle.nm_lanes.proofs.GetRoundLemmas.{get-halves}
-use Rattle.nm_lanes.proofs.RunLemmas.{halves-fit}
+use Rattle.nm_lanes.proofs.RegionLemmas.{halves-fit}
 use Rattle.nm_lanes.proofs.getting.+get.Goals as goal
 
 pub get_round-split_at_mut-own-requires : goal.get_round-split_at_mut-own-requires
 get_round-split_at_mut-own-requires g t c =
     let shape = c.args.call.now.shape.now in
     let lanes = length c.args.lanes.now in
-    let run = c.args.run in
+    let regions = c.args.regions in
     let low = c.halves.result.0 in
     let some : 0 < lanes / 2 = search rules in
     let less : lanes / 2 < lanes = search rules in
-    let fit = halves-fit shape lanes (lanes / 2) run c.requires.run some less in
-    let count : low.stretch.count ≡ blocks_in shape (lanes / 2) run = ap (λ (r : Run). r.stretch.count) c.halves.ensures.lower in
-    let bytes = bytes-fit run.stretch low.stretch.count (omega (arith, count, fit.less)) in
-    let long : length c.args.into.now ≡ bytes_of run.stretch run.stretch.count = c.requires.stretch.long in
+    let fit = halves-fit shape lanes (lanes / 2) regions c.requires.regions some less in
+    let count : low.stretch.count ≡ blocks_in shape (lanes / 2) regions = ap (λ (r : RegionRange). r.stretch.count) c.halves.ensures.lower in
+    let bytes = bytes-fit regions.stretch low.stretch.count (omega (arith, count, fit.less)) in
+    let long : length c.args.into.now ≡ bytes_of regions.stretch regions.stretch.count = c.requires.stretch.long in
     omega (arith, bytes, long, c.bytes_of.ensures)
 
 pub get_halves-returns : goal.get_halves-returns
 get_halves-returns g t c =
     let laws = g.met.D.Lane g.world.𝓛 g.world.𝓜 g.world.𝓡 ((λ s x. x), (λ x. x), (λ x. x), λ x. x) in
     let shape = c.args.call.now.shape.now in
-    let low = pieces_in_stretch c.args.low.stretch in
-    let high = pieces_in_stretch c.args.high.stretch in
+    let low = runs_in_stretch shape c.args.low.stretch in
+    let high = runs_in_stretch shape c.args.high.stretch in
     let ran = c.do_both.ensures in
     let lower : ReadsLanes g.D.Lane.follows shape low c.args.low.stripe (c.args.front.now, c.front-1.given.0) c.own-1.given.0 ran.lower = search (rules, ran.low) in
     let upper : ReadsLanes g.D.Lane.follows shape high c.args.high.stripe (c.args.back.now, c.back-1.given.0) c.rest-1.given.0 ran.upper = search (rules, ran.high) in
@@ -46,11 +48,11 @@ get_round-get_halves-requires-clause-low g t c =
     let backs : length front.result.1.now ≡ lanes - lanes / 2 = omega (arith, front.ensures.back_len, less) in
     let long = own.ensures.front_len ∙ c.bytes_of.ensures in
     let split : length c.args.into.now ≡ length own.result.0.now + length own.result.1.now = ap (λ bs. length bs) own.ensures.value ∙ length-append own.result.0.now own.result.1.now in
-    let all = read-halved shape lanes (lanes / 2) (length front.result.0.now) (length front.result.1.now) c.args.run c.halves.result.0 c.halves.result.1 (length c.args.into.now) (length own.result.0.now) (length own.result.1.now) c.halves.ensures.shape c.requires.stretch c.requires.run some less
+    let all = read-halved shape lanes (lanes / 2) (length front.result.0.now) (length front.result.1.now) c.args.regions c.halves.result.0 c.halves.result.1 (length c.args.into.now) (length own.result.0.now) (length own.result.1.now) c.halves.ensures.shape c.requires.stretch c.requires.regions some less
     c.halves.ensures.lower c.halves.ensures.upper split long front.ensures.front_len backs in
     let stretch = all.low_stretch in
-    let run = all.low_run in
-    search (rules, stretch, run)
+    let regions = all.low_regions in
+    search (rules, stretch, regions)
 
 pub get_round-get_halves-requires-clause-high : goal.get_round-get_halves-requires-clause-high
 get_round-get_halves-requires-clause-high g t c =
@@ -63,11 +65,11 @@ get_round-get_halves-requires-clause-high g t c =
     let backs : length front.result.1.now ≡ lanes - lanes / 2 = omega (arith, front.ensures.back_len, less) in
     let long = own.ensures.front_len ∙ c.bytes_of.ensures in
     let split : length c.args.into.now ≡ length own.result.0.now + length own.result.1.now = ap (λ bs. length bs) own.ensures.value ∙ length-append own.result.0.now own.result.1.now in
-    let all = read-halved shape lanes (lanes / 2) (length front.result.0.now) (length front.result.1.now) c.args.run c.halves.result.0 c.halves.result.1 (length c.args.into.now) (length own.result.0.now) (length own.result.1.now) c.halves.ensures.shape c.requires.stretch c.requires.run some less
+    let all = read-halved shape lanes (lanes / 2) (length front.result.0.now) (length front.result.1.now) c.args.regions c.halves.result.0 c.halves.result.1 (length c.args.into.now) (length own.result.0.now) (length own.result.1.now) c.halves.ensures.shape c.requires.stretch c.requires.regions some less
     c.halves.ensures.lower c.halves.ensures.upper split long front.ensures.front_len backs in
     let stretch = all.high_stretch in
-    let run = all.high_run in
-    search (rules, stretch, run)
+    let regions = all.high_regions in
+    search (rules, stretch, regions)
 
 pub get_round-returns : goal.get_round-returns
 get_round-returns g t c =
@@ -80,6 +82,6 @@ get_round-returns g t c =
     let backs : length front.result.1.now ≡ lanes - lanes / 2 = omega (arith, front.ensures.back_len, less) in
     let long = own.ensures.front_len ∙ c.bytes_of.ensures in
     let split : length c.args.into.now ≡ length own.result.0.now + length own.result.1.now = ap (λ bs. length bs) own.ensures.value ∙ length-append own.result.0.now own.result.1.now in
-    let all = read-halved shape lanes (lanes / 2) (length front.result.0.now) (length front.result.1.now) c.args.run c.halves.result.0 c.halves.result.1 (length c.args.into.now) (length own.result.0.now) (length own.result.1.now) c.halves.ensures.shape c.requires.stretch c.requires.run some less
+    let all = read-halved shape lanes (lanes / 2) (length front.result.0.now) (length front.result.1.now) c.args.regions c.halves.result.0 c.halves.result.1 (length c.args.into.now) (length own.result.0.now) (length own.result.1.now) c.halves.ensures.shape c.requires.stretch c.requires.regions some less
     c.halves.ensures.lower c.halves.ensures.upper split long front.ensures.front_len backs in
-    record { reads = rw (all.pieces, all.stripe, front.ensures.value) c.get_halves.ensures.reads }
+    record { reads = rw (all.runs, all.stripe, front.ensures.value) c.get_halves.ensures.reads }

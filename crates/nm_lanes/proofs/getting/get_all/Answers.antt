@@ -1,9 +1,10 @@
 -- One round more, or the end in one.
 use Rattle.std.proofs.Common.{rules, arith, ◌≡◌, ◌+◌, ◌-◌, ◌≤◌, length, take, refl, ◌∙◌}
 use borrow.Rule.Slice.PartMut.{put_mid}
-use Rattle.nm_lanes.specs.Gets.{pieces_in_stretch, bytes_of, ReadsNext}
+use Rattle.nm_lanes.specs.Gets.{ReadsNext}
+use Rattle.nm_lanes.specs.Stretches.{runs_in_stretch, bytes_of}
 use Rattle.nm_lanes.proofs.GetAllLemmas.{all-begins, all-more, all-ended, taken-more}
-use Rattle.nm_lanes.proofs.GetStretchLemmas.{bytes-fit}
+use Rattle.nm_lanes.proofs.CutLemmas.{bytes-fit}
 use Rattle.nm_lanes.proofs.getting.get_all.Goals as goal
 
 pub loop-left-init : goal.loop-left-init
@@ -21,7 +22,7 @@ pub returns-in_err-done-clause-err : goal.returns-in_err-done-clause-err
 returns-in_err-done-clause-err g c =
     let laws = g.met.D.Lane g.world.𝓛 g.world.𝓜 g.world.𝓡 ((λ s x. x), (λ x. x), (λ x. x), λ x. x) in
     let loop = c.loop-left in
-    let all = all-ended g.D.Lane.follows laws.joins c.args.call.now.shape.now (pieces_in_stretch c.args.stretch) loop.left (take loop.taken loop.into) (length loop.into - loop.taken) c.args.lanes.now loop.lanes c.get_next.new.lanes c.in_err-done.field-0.0 loop.invariant.far c.in_err-done.ensures.err in
+    let all = all-ended g.D.Lane.follows laws.joins c.args.call.now.shape.now (runs_in_stretch c.args.call.now.shape.now c.args.stretch) loop.left (take loop.taken loop.into) (length loop.into - loop.taken) c.args.lanes.now loop.lanes c.get_next.new.lanes c.in_err-done.field-0.0 loop.invariant.far c.in_err-done.ensures.err in
     search (rules, all)
 
 pub loop-left-preserved : goal.loop-left-preserved
@@ -41,7 +42,7 @@ loop-left-preserved g c =
     let fits : bytes ≤ length new = omega (arith, long, fit, loop.invariant.far.rest.long) in
     let taken = taken-more loop.taken bytes loop.into new loop.invariant.taken fits in
     let more : count ≡ bytes + (length written - (loop.taken + bytes)) = omega (arith, same, long, fits, loop.invariant.taken) in
-    let far = all-more g.D.Lane.follows laws.joins shape (pieces_in_stretch c.args.stretch) loop.left (take loop.taken loop.into) new (take (loop.taken + bytes) written) count (length written - (loop.taken + bytes)) c.args.lanes.now loop.lanes c.get_next.new.lanes done taken more loop.invariant.far ok in
+    let far = all-more g.D.Lane.follows laws.joins shape (runs_in_stretch c.args.call.now.shape.now c.args.stretch) loop.left (take loop.taken loop.into) new (take (loop.taken + bytes) written) count (length written - (loop.taken + bytes)) c.args.lanes.now loop.lanes c.get_next.new.lanes done taken more loop.invariant.far ok in
     record {
       far = rw (c.bytes_of-taken.ensures, c.rest_of-left.ensures) far;
       taken = omega (arith, same, long, fits, c.bytes_of-taken.ensures, loop.invariant.taken);

@@ -1,12 +1,12 @@
 -- The rounds before this one are done.
 use Rattle.std.proofs.Common.{◌≡◌, ◌-◌, ◌≤◌, length, take}
-use Rattle.nm_lanes.specs.Gets.{pieces_in_stretch}
+use Rattle.nm_lanes.specs.Stretches.{runs_in_stretch}
 use Rattle.nm_lanes.proofs.GetAllLemmas.{GetAllSoFar}
 use Rattle.nm_lanes.proofs.getting.get_all.Given as goal
 
 abbrev pub invariant-loop-left : goal.invariant-loop-left
 invariant-loop-left g l = record {
-  far : GetAllSoFar g.D.Lane.follows l.fn.call.shape.now (pieces_in_stretch l.fn.stretch) l.left (take l.taken l.into) (length l.into - l.taken) l.fn.lanes l.lanes;
+  far : GetAllSoFar g.D.Lane.follows l.fn.call.shape.now (runs_in_stretch l.fn.call.shape.now l.fn.stretch) l.left (take l.taken l.into) (length l.into - l.taken) l.fn.lanes l.lanes;
   taken : l.taken ≤ length l.into;
   long : length l.into ≡ length l.fn.into;
   lanes : length l.lanes ≡ length l.fn.lanes;

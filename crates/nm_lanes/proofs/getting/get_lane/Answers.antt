@@ -1,55 +1,76 @@
--- One piece more, or the end at a piece.
-use Rattle.std.proofs.Common.{rules, arith, ◌≡◌, ◌+◌, ◌-◌, ◌/◌, ◌<◌, ◌≤◌, ◌++◌, length, take, drop, ap, sym, ◌∙◌}
-use Rattle.nm_geometry.specs.Geometry.{block_in_stripe}
+-- One run more, or the end at a run.
+use Rattle.std.proofs.Common.{rules, arith, ◌≡◌, ◌+◌, ◌-◌, ◌/◌, ◌<◌, ◌≤◌, ◌++◌, length, take, refl, ap, sym, ◌∙◌}
+use borrow.Rule.Slice.PartMut.{put_mid}
+use Rattle.std.proofs.lemmas.List.{take_all}
 use Rattle.std.proofs.lemmas.Slice.{take-put_mid}
-use Rattle.nm_geometry.specs.declared.piece.Piece.{Piece}
-use Rattle.nm_geometry.specs.Pieces.{piece_in}
-use Rattle.nm_lanes.specs.Gets.{bytes_of, bytes_in}
-use Rattle.nm_lanes.specs.Puts.{block_of}
-use Rattle.nm_lanes.proofs.GetLaneLemmas.{get-begins, get-more, get-stops}
-use Rattle.nm_lanes.proofs.GetStretchLemmas.{bytes-one, stretch-bytes}
-use Rattle.nm_lanes.proofs.RunLemmas.{one-stripe}
+use Rattle.nm_geometry.specs.Geometry.{block_in_stripe}
+use Rattle.nm_lanes.specs.Stretches.{block_of, runs_in_stretch}
+use Rattle.nm_lanes.proofs.CutLemmas.{bytes-fit}
+use Rattle.nm_lanes.proofs.GetLaneLemmas.{get-begins, get-ends, get-more, get-stops}
+use Rattle.nm_lanes.proofs.RegionLemmas.{one-stripe}
 use Rattle.nm_lanes.proofs.getting.get_lane.Goals as goal
 
-pub loop-at-init : goal.loop-at-init
-loop-at-init g c = record {
-  far = get-begins g.D.Lane.follows g.met.D.Lane.stays c.args.call.now.shape.now c.args.run.stretch c.args.run.stripe c.args.into.now c.args.lane.now;
-  long = search rules;
-}
+pub loop-left-init : goal.loop-left-init
+loop-left-init g c =
+    let all : length c.args.into.now - 0 ≡ length c.args.into.now = omega arith in
+    record {
+      far = rw all (get-begins g.D.Lane.follows g.met.D.Lane.stays c.args.call.now.shape.now c.args.regions.stretch c.args.regions.stripe (length c.args.into.now) c.args.lane.now c.requires.stretch);
+      long = search rules;
+      fits = search rules;
+      begins = search rules;
+      ends = search rules;
+      follow = c.first_in_stripe-block.ensures.follow;
+      low = c.first_in_stripe-block.ensures.most;
+    }
 
 pub returns-in_err-read_one-clause-err : goal.returns-in_err-read_one-clause-err
 returns-in_err-read_one-clause-err g c =
     let shape = c.args.call.now.shape.now in
-    let stretch = c.args.run.stretch in
-    let at = c.loop-at.at in
-    let below : at < stretch.count = c.loop-at-test.true in
-    let all = get-stops g.D.Lane.follows g.met.D.Lane.joins shape stretch c.args.run.stripe at c.in_err-read_one.field-0.0 c.loop-at.into c.args.lane.now c.loop-at.lane c.read_one.new.lane below c.loop-at.invariant.far c.in_err-read_one.ensures.err in
+    let loop = c.loop-left in
+    let all = get-stops g.D.Lane.follows g.met.D.Lane.joins shape c.args.regions.stripe (runs_in_stretch shape c.args.regions.stretch) loop.left c.in_err-read_one.field-0.0 (take loop.from loop.into) (length loop.into - loop.from) c.args.lane.now loop.lane c.read_one.new.lane loop.invariant.far c.in_err-read_one.ensures.err in
     search (rules, all)
 
-pub loop-at-preserved : goal.loop-at-preserved
-loop-at-preserved g c =
+pub loop-left-preserved : goal.loop-left-preserved
+loop-left-preserved g c =
     let shape = c.args.call.now.shape.now in
-    let stretch = c.args.run.stretch in
-    let at = c.loop-at.at in
-    let into = c.loop-at.into in
+    let loop = c.loop-left in
+    let from = loop.from in
+    let into = loop.into in
     let last = c.read_one.new.into in
-    let from = c.bytes_of-from.result in
-    let piece = c.piece-piece.result in
-    let below : at < stretch.count = c.loop-at-test.true in
-    let next : stretch.range.offset / 512 + (stretch.first + at) ≡ block_of stretch + at = omega arith in
-    let is : piece ≡ piece_in (block_of stretch + at) stretch.range = c.piece-piece.ensures.piece ∙ ap (λ b. piece_in b stretch.range) next in
-    let block : piece.block ≡ block_of stretch + at = ap (λ (p : Piece). p.block) is in
-    let in_its_stripe = c.first_in_stripe-first.ensures.follow at below ∙ ap (λ b. block_in_stripe b shape) (sym block) in
-    let len : piece.len ≡ bytes_in (block_of stretch + at) 1 stretch.range = ap (λ (p : Piece). p.len) is ∙ bytes-one (block_of stretch + at) stretch.range in
-    let in_stripe = one-stripe shape c.args.run piece.block c.within_bounds.ensures c.requires.run (omega (arith, block)) (omega (arith, block, below)) in
-    let long : length last ≡ piece.len = search rules in
-    let count = length (take (from + piece.len - from) (drop from into)) in
-    let as_long : count ≡ piece.len = search rules in
-    let more = stretch-bytes stretch at 1 in
-    let upto : bytes_of stretch (at + 1) ≡ from + length last = omega (arith, more, len, long, c.bytes_of-from.ensures) in
-    let fits : from ≤ length into = search rules in
-    let both = take-put_mid from (from + piece.len - from) into last (bytes_of stretch (at + 1)) upto fits ∙ ap (λ n. take n into ++ last) c.bytes_of-from.ensures in
-    record {
-      far = get-more g.D.Lane.follows g.met.D.Lane.joins shape stretch c.args.run.stripe at piece (c.first_in_stripe-first.result + at) count into last _ c.args.lane.now c.loop-at.lane c.read_one.new.lane is in_stripe in_its_stripe as_long both c.loop-at.invariant.far c.in_ok-read_one.ensures.ok;
-      long = search rules;
-    }
+    let run = c.first_run-blocks.result.0 in
+    let blocks = c.first_run-blocks.result.1 in
+    let first = c.first_run-blocks.ensures in
+    let some : 0 < loop.left.count = c.loop-left-test.true in
+    let in_stripe = one-stripe shape c.args.regions run.block c.within_bounds.ensures c.requires.regions (omega (arith, first.block, loop.invariant.begins)) (omega (arith, first.block, some, loop.invariant.ends)) in
+    let here : block_of loop.left + 0 ≡ run.block = omega (arith, first.block) in
+    let next : loop.block + 0 ≡ loop.block = omega arith in
+    let block : loop.block ≡ block_in_stripe run.block shape = sym next ∙ loop.invariant.follow 0 some ∙ ap (λ b. block_in_stripe b shape) here in
+    let bytes = bytes-fit loop.left blocks first.most in
+    let long : length last ≡ run.len = search rules in
+    let fits : from + run.len ≤ length into = omega (arith, bytes, first.bytes, loop.invariant.far.rest.long, loop.invariant.fits) in
+    let written = put_mid from (from + run.len - from) into last in
+    let both : take (from + run.len) written ≡ take from into ++ last = take-put_mid from (from + run.len - from) into last (from + run.len) (omega (arith, long)) loop.invariant.fits in
+    let same : length written ≡ length into = search (rules, fits) in
+    let more : length into - from ≡ run.len + (length written - (from + run.len)) = omega (arith, same, fits, loop.invariant.fits) in
+    rw c.rest_of-left.ensures (record {
+      far = get-more g.D.Lane.follows g.met.D.Lane.joins shape c.args.regions.stripe (runs_in_stretch shape c.args.regions.stretch) loop.left run blocks loop.block run.len (take from into) last (take (from + run.len) written) (length into - from) (length written - (from + run.len))
+          c.args.lane.now loop.lane c.read_one.new.lane first in_stripe block refl both more loop.invariant.far c.in_ok-read_one.ensures.ok;
+      long = same ∙ loop.invariant.long;
+      fits = omega (arith, same, fits);
+      begins = omega (arith, loop.invariant.begins);
+      ends = omega (arith, loop.invariant.ends, first.most);
+      follow = λ at below.
+          let inside : blocks + at < loop.left.count = omega (arith, below) in
+          let a : loop.block + blocks + at ≡ loop.block + (blocks + at) = omega arith in
+          let b : block_of loop.left + (blocks + at) ≡ loop.left.range.offset / 512 + (loop.left.first + blocks) + at = omega arith in
+          a ∙ loop.invariant.follow (blocks + at) inside ∙ ap (λ n. block_in_stripe n shape) b;
+      low = omega (arith, loop.invariant.low);
+    })
+
+pub returns-clause-ok : goal.returns-clause-ok
+returns-clause-ok g c =
+    let shape = c.args.call.now.shape.now in
+    let loop = c.loop-left in
+    let none : loop.left.count ≡ 0 = search rules in
+    let over : length loop.into ≤ loop.from = omega (arith, none, loop.invariant.far.rest.long, loop.invariant.fits) in
+    get-ends g.D.Lane.follows shape c.args.regions.stripe (runs_in_stretch shape c.args.regions.stretch) loop.left (take loop.from loop.into) loop.into (length loop.into - loop.from) c.args.lane.now loop.lane none (sym (take_all loop.from loop.into over)) loop.invariant.far

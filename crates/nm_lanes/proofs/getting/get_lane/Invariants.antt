@@ -1,10 +1,20 @@
--- The pieces before this one are read.
-use Rattle.std.proofs.Common.{◌≡◌, length}
+-- The runs before these are read.
+use Rattle.std.proofs.Common.{◌≡◌, ℕ, ◌+◌, ◌-◌, ◌≤◌, ◌<◌, length, take}
+use Rattle.nm_geometry.specs.Geometry.{block_in_stripe}
+use Rattle.nm_lanes.specs.Stretches.{block_of, runs_in_stretch}
 use Rattle.nm_lanes.proofs.GetLaneLemmas.{GetSoFar}
 use Rattle.nm_lanes.proofs.getting.get_lane.Given as goal
 
-abbrev pub invariant-loop-at : goal.invariant-loop-at
-invariant-loop-at g l = record {
-  far : GetSoFar g.D.Lane.follows l.fn.call.shape.now l.fn.run.stretch l.fn.run.stripe l.at l.into l.fn.lane l.lane;
+abbrev pub invariant-loop-left : goal.invariant-loop-left
+invariant-loop-left g l = record {
+  far : GetSoFar g.D.Lane.follows l.fn.call.shape.now l.fn.regions.stripe (runs_in_stretch l.fn.call.shape.now l.fn.regions.stretch) l.left (take l.from l.into) (length l.into - l.from) l.fn.lane l.lane;
   long : length l.into ≡ length l.fn.into;
+  fits : l.from ≤ length l.into;
+  begins : block_of l.fn.regions.stretch ≤ block_of l.left;
+  ends : block_of l.left + l.left.count ≡ block_of l.fn.regions.stretch + l.fn.regions.stretch.count;
+  follow : (at : ℕ) → at < l.left.count → l.block + at ≡ block_in_stripe (block_of l.left + at) l.fn.call.shape.now;
+  low : l.block ≤ block_of l.left;
 }
+
+abbrev pub decreases-loop-left : goal.decreases-loop-left
+decreases-loop-left g l = l.left.count

@@ -1,19 +1,20 @@
--- The round's pieces are the next ones, and its lanes are some of all.
+-- The round's runs are the next ones, and its lanes are some of all.
 use Rattle.std.proofs.Common.{rules, ◌≡◌, ◌++◌, List, length, take, sym, ap, ◌∙◌, subst}
 use Rattle.std.proofs.Math.Seq.{take-append_seam}
-use Rattle.nm_geometry.specs.declared.piece.Piece.{Piece}
+use Rattle.nm_lanes.specs.declared.run.Run.{Run}
 use Rattle.nm_lanes.specs.declared.stretch.Stretch.{Stretch}
-use Rattle.nm_lanes.specs.Gets.{pieces_in_stretch, bytes_of, IsReadStretch}
-use Rattle.nm_lanes.specs.Puts.{first_of, rest_of}
+use Rattle.nm_lanes.specs.Gets.{IsReadStretch}
+use Rattle.nm_lanes.specs.Stretches.{runs_in_stretch, bytes_of, first_of, rest_of}
 use Rattle.nm_lanes.specs.Reads.{HasRead}
 use Rattle.nm_lanes.proofs.GetAllLemmas.{round-ended}
-use Rattle.nm_lanes.proofs.GetStretchLemmas.{first-read, pieces-cut}
+use Rattle.nm_lanes.proofs.GetStretchLemmas.{first-read}
+use Rattle.nm_lanes.proofs.StretchLemmas.{parts}
 use Rattle.nm_lanes.proofs.getting.get_next.Goals as goal
 
 pub get_round-requires-clause-stretch : goal.get_round-requires-clause-stretch
 get_round-requires-clause-stretch g c =
     let shape = c.args.call.now.shape.now in
-    let next = c.next_run-stripes in
+    let next = c.next_round-stripes in
     let own = c.split_at_mut-own in
     let long = own.ensures.front_len ∙ c.bytes_of.ensures in
     let all = subst (λ (p : Stretch). IsReadStretch shape p (length own.result.0.now)) (sym next.ensures.stretch)
@@ -24,7 +25,7 @@ pub returns-in-Ok-clause-ok : goal.returns-in-Ok-clause-ok
 returns-in-Ok-clause-ok g c =
     let shape = c.args.call.now.shape.now in
     let stretch = c.args.stretch in
-    let next = c.next_run-stripes in
+    let next = c.next_round-stripes in
     let done = next.result.0.stretch.count in
     let own = c.split_at_mut-own in
     let front = c.split_at_mut-rest in
@@ -37,10 +38,11 @@ returns-in-Ok-clause-ok g c =
     let lanes = front.result.0.now ++ (round.result.0.now ++ round.result.1.now) in
     let after = front.result.0.now ++ (c.get_round.new.lanes ++ round.result.1.now) in
     let all = c.in-Ok.ensures.reads.all front.result.0.now round.result.1.now front.ensures.front_len in
-    let read = subst (λ (p : Stretch). HasRead g.D.Lane.follows shape (pieces_in_stretch p) (lanes, after) new) next.ensures.stretch all in
+    let read = subst (λ (p : Stretch). HasRead g.D.Lane.follows shape (runs_in_stretch shape p) (lanes, after) new) next.ensures.stretch all in
     record {
-      some = next.ensures.run.some;
+      some = next.ensures.regions.some;
       most = next.ensures.most;
+      ends = next.ensures.ends;
       read = rw (target, whole) read;
     }
 
@@ -49,12 +51,12 @@ returns-in-Err-clause-err g c =
     let laws = g.met.D.Lane g.world.𝓛 g.world.𝓜 g.world.𝓡 ((λ s x. x), (λ x. x), (λ x. x), λ x. x) in
     let shape = c.args.call.now.shape.now in
     let stretch = c.args.stretch in
-    let next = c.next_run-stripes in
+    let next = c.next_round-stripes in
     let done = next.result.0.stretch.count in
     let front = c.split_at_mut-rest in
     let round = c.split_at_mut-round in
-    let now : pieces_in_stretch (first_of done stretch) ≡ pieces_in_stretch next.result.0.stretch = ap (λ (p : Stretch). pieces_in_stretch p) (sym next.ensures.stretch) in
-    let all_are = pieces-cut stretch done next.ensures.most ∙ ap (λ (ps : List Piece). ps ++ pieces_in_stretch (rest_of done stretch)) now in
+    let now : runs_in_stretch shape (first_of done stretch) ≡ runs_in_stretch shape next.result.0.stretch = ap (λ (p : Stretch). runs_in_stretch shape p) (sym next.ensures.stretch) in
+    let all_are = parts shape stretch done next.ensures.most next.ensures.ends ∙ ap (λ (ps : List Run). ps ++ runs_in_stretch shape (rest_of done stretch)) now in
     let whole = front.ensures.value ∙ ap (λ ls. front.result.0.now ++ ls) round.ensures.value in
-    rw (all_are, whole) (round-ended g.D.Lane.follows laws.stays shape (pieces_in_stretch next.result.0.stretch) (pieces_in_stretch (rest_of done stretch)) c.in-Err.cause next.result.0.stripe front.result.0.now round.result.0.now c.get_round.new.lanes round.result.1.now
+    rw (all_are, whole) (round-ended g.D.Lane.follows laws.stays shape (runs_in_stretch shape next.result.0.stretch) (runs_in_stretch shape (rest_of done stretch)) c.in-Err.cause next.result.0.stripe front.result.0.now round.result.0.now c.get_round.new.lanes round.result.1.now
     front.ensures.front_len c.in-Err.ensures.reads.all c.in-Err.ensures.reads.each)

@@ -1,8 +1,8 @@
 -- What was done on the only lane.
 use Rattle.std.proofs.Common.{get_or, arith, subst}
 use Rattle.nm_lanes.specs.Ends.{LaneDid, LaneTries}
-use Rattle.nm_lanes.specs.Gets.{pieces_in_stretch}
-use Rattle.nm_lanes.specs.Puts.{IsRun}
+use Rattle.nm_lanes.specs.RegionRanges.{IsRegionRange}
+use Rattle.nm_lanes.specs.Stretches.{runs_in_stretch}
 use Rattle.nm_lanes.specs.Reads.{ReadsSomeIn}
 use Rattle.nm_lanes.proofs.EachLemmas.{each-one}
 use Rattle.nm_lanes.proofs.GetLaneLemmas.{did-some, tries-some, read-one}
@@ -12,40 +12,40 @@ use Rattle.nm_lanes.proofs.getting.get_one.Goals as goal
 pub returns-in-Ok : goal.returns-in-Ok
 returns-in-Ok g c =
     let shape = c.args.call.now.shape.now in
-    let run = c.args.run in
-    let pieces = pieces_in_stretch run.stretch in
+    let regions = c.args.regions in
+    let runs = runs_in_stretch shape regions.stretch in
     let lanes = c.args.lanes.now in
     let any = c.index-lanes-0.result in
     let new = c.get_lane.new.lane in
     let into = c.get_lane.new.into in
-    let one : IsRun shape 1 run = subst (λ n. IsRun shape n run) c.requires.one c.requires.run in
-    let own = get-here shape run c.within_bounds.ensures one in
+    let one : IsRegionRange shape 1 regions = subst (λ n. IsRegionRange shape n regions) c.requires.one c.requires.regions in
+    let own = get-here shape regions c.within_bounds.ensures one in
     record {
       reads = record {
-        each = each-one (λ stripe before after. LaneDid g.D.Lane.follows (λ own. ReadsSomeIn shape pieces stripe own) before after) run.stripe lanes any new c.requires.one (did-some g.D.Lane.follows shape pieces into run.stripe (get_or lanes 0 any) new own c.in-Ok.ensures.ok);
-        all = read-one g.D.Lane.follows g.met.D.Lane.stays shape pieces into run.stripe lanes any new c.requires.one c.in-Ok.ensures.ok;
+        each = each-one (λ stripe before after. LaneDid g.D.Lane.follows (λ own. ReadsSomeIn shape runs stripe own) before after) regions.stripe lanes any new c.requires.one (did-some g.D.Lane.follows shape runs into regions.stripe (get_or lanes 0 any) new own c.in-Ok.ensures.ok);
+        all = read-one g.D.Lane.follows g.met.D.Lane.stays shape runs into regions.stripe lanes any new c.requires.one c.in-Ok.ensures.ok;
       };
     }
 
 pub returns-in-Err : goal.returns-in-Err
 returns-in-Err g c =
     let shape = c.args.call.now.shape.now in
-    let run = c.args.run in
-    let pieces = pieces_in_stretch run.stretch in
+    let regions = c.args.regions in
+    let runs = runs_in_stretch shape regions.stretch in
     let lanes = c.args.lanes.now in
     let any = c.index-lanes-0.result in
     let new = c.get_lane.new.lane in
     let kind = c.in-Err.kind in
-    let one : IsRun shape 1 run = subst (λ n. IsRun shape n run) c.requires.one c.requires.run in
-    let own = get-here shape run c.within_bounds.ensures one in
+    let one : IsRegionRange shape 1 regions = subst (λ n. IsRegionRange shape n regions) c.requires.one c.requires.regions in
+    let own = get-here shape regions c.within_bounds.ensures one in
     record {
       reads = record {
         each = record {
           from = omega arith;
           upto = omega (arith, c.requires.one);
-          each = each-one (λ stripe before after. LaneTries g.D.Lane.follows (λ own. ReadsSomeIn shape pieces stripe own) (record { stripe = run.stripe; kind = kind }) stripe before after) run.stripe lanes any new c.requires.one
-              (tries-some g.D.Lane.follows shape pieces run.stripe (record { stripe = run.stripe; kind = kind }) (get_or lanes 0 any) new own c.in-Err.ensures.err);
+          each = each-one (λ stripe before after. LaneTries g.D.Lane.follows (λ own. ReadsSomeIn shape runs stripe own) (record { stripe = regions.stripe; kind = kind }) stripe before after) regions.stripe lanes any new c.requires.one
+              (tries-some g.D.Lane.follows shape runs regions.stripe (record { stripe = regions.stripe; kind = kind }) (get_or lanes 0 any) new own c.in-Err.ensures.err);
         };
-        all = get-lies shape run c.within_bounds.ensures one;
+        all = get-lies shape regions c.within_bounds.ensures one;
       };
     }

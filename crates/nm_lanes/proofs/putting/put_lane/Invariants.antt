@@ -1,11 +1,20 @@
--- The pieces before this one are written.
-use Rattle.std.proofs.Common.{◌≡◌, length}
-use Rattle.nm_lanes.specs.Puts.{filling}
+-- The runs before these are written.
+use Rattle.std.proofs.Common.{◌≡◌, ℕ, ◌+◌, ◌≤◌, ◌<◌, drop}
+use Rattle.nm_geometry.specs.Geometry.{block_in_stripe}
+use Rattle.nm_lanes.specs.Fillings.{filling}
+use Rattle.nm_lanes.specs.Stretches.{block_of}
 use Rattle.nm_lanes.proofs.PutLaneLemmas.{PutSoFar}
 use Rattle.nm_lanes.proofs.putting.put_lane.Given as goal
 
-abbrev pub invariant-loop-at : goal.invariant-loop-at
-invariant-loop-at g l = record {
-  far : PutSoFar g.D.Lane.follows l.fn.call.shape.now l.fn.run.stretch l.fn.run.stripe l.at l.fn.cuts l.cuts l.fn.lane l.lane;
-  long : length (filling l.fn.run.stretch l.cuts) ≡ l.fn.run.stretch.count;
+abbrev pub invariant-loop-left : goal.invariant-loop-left
+invariant-loop-left g l = record {
+  far : PutSoFar g.D.Lane.follows l.fn.call.shape.now l.fn.regions.stripe (filling l.fn.call.shape.now l.fn.regions.stretch l.fn.cuts) l.left (drop l.number l.cuts) l.fn.lane l.lane;
+  begins : block_of l.fn.regions.stretch ≤ block_of l.left;
+  ends : block_of l.left + l.left.count ≡ block_of l.fn.regions.stretch + l.fn.regions.stretch.count;
+  few : l.number + l.left.count ≤ l.fn.regions.stretch.count;
+  follow : (at : ℕ) → at < l.left.count → l.block + at ≡ block_in_stripe (block_of l.left + at) l.fn.call.shape.now;
+  low : l.block ≤ block_of l.left;
 }
+
+abbrev pub decreases-loop-left : goal.decreases-loop-left
+decreases-loop-left g l = l.left.count

@@ -1,7 +1,7 @@
 -- A session is its handshake and its transmission, and what goes out is told by the law so far.
 use Rattle.std.proofs.Common.{Some, None, subst}
 use Rattle.nm_replies.specs.Sending.{device_of}
-use Rattle.nm_session.specs.Session.{Session, session_of}
+use Rattle.nm_session.specs.Session.{Session, session_of, so_many}
 use Rattle.nm_session.specs.Moving.{moment, BreaksOff}
 use Rattle.nm_session.specs.Serving.{no_target, ShakesHands, Transmits, IsServed, IsBrokenOff}
 use Rattle.nm_session.proofs.Motion.{IsPath, breaks_on}
@@ -20,11 +20,11 @@ returns-in_default-clause-err g c =
 
 pub returns-in-Ok-None-clause-ok : goal.returns-in-Ok-None-clause-ok
 returns-in-Ok-None-clause-ok g c =
-    let hands : ShakesHands None (moment (session_of c.args.export 1) tt (g.I.Read.remaining c.args.reader.now) (g.O.Write.contents (device_of c.args.sender.now)))
+    let hands : ShakesHands None (moment (session_of c.args.export (so_many 1)) tt (g.I.Read.remaining c.args.reader.now) (g.O.Write.contents (device_of c.args.sender.now)))
     (moment c.handshake.new.self tt (g.I.Read.remaining c.handshake.new.reader) (g.O.Write.contents (device_of c.handshake.new.sender))) =
     subst (λ (from : Session). ShakesHands None (moment from tt (g.I.Read.remaining c.args.reader.now) (g.O.Write.contents (device_of c.args.sender.now)))
     (moment c.handshake.new.self tt (g.I.Read.remaining c.handshake.new.reader) (g.O.Write.contents (device_of c.handshake.new.sender)))) c.in-Ok.ensures (rw c.in-Ok-None.field-0-is at c.in-Ok-None.ensures.ok) in
-    let start = moment (session_of c.args.export 1) c.args.target.now (g.I.Read.remaining c.args.reader.now) (g.O.Write.contents (device_of c.args.sender.now)) in
+    let start = moment (session_of c.args.export (so_many 1)) c.args.target.now (g.I.Read.remaining c.args.reader.now) (g.O.Write.contents (device_of c.args.sender.now)) in
     let here = moment c.handshake.new.self c.args.target.now (g.I.Read.remaining c.handshake.new.reader) (g.O.Write.contents (device_of c.handshake.new.sender)) in
     let there = moment c.transmit.new.self c.transmit.new.target (g.I.Read.remaining c.transmit.new.reader) (g.O.Write.contents (device_of c.transmit.new.sender)) in
     if_ok c.transmit.result (λ served. Transmits g.T.Target.follows served here there)
@@ -33,17 +33,17 @@ returns-in-Ok-None-clause-ok g c =
     (λ served transmits. whole g.T.Target.follows (path g) c.so_far.ensures c.args.export
     c.transmit.new.self c.args.target.now c.transmit.new.target (g.I.Read.remaining c.args.reader.now) (g.I.Read.remaining c.transmit.new.reader) (g.O.Write.contents (device_of c.args.sender.now)) (g.O.Write.contents (device_of c.transmit.new.sender)) served
     (transmits_on g.T.Target.follows (path g) start here there served
-    (with_target g.T.Target.follows (path g) (moment (session_of c.args.export 1) tt (g.I.Read.remaining c.args.reader.now) (g.O.Write.contents (device_of c.args.sender.now)))
+    (with_target g.T.Target.follows (path g) (moment (session_of c.args.export (so_many 1)) tt (g.I.Read.remaining c.args.reader.now) (g.O.Write.contents (device_of c.args.sender.now)))
     (moment c.handshake.new.self tt (g.I.Read.remaining c.handshake.new.reader) (g.O.Write.contents (device_of c.handshake.new.sender))) c.args.target.now hands.moves) hands.idle transmits))
     c.transmit.ensures.ok
 
 pub returns-in-Ok-None-clause-err : goal.returns-in-Ok-None-clause-err
 returns-in-Ok-None-clause-err g c =
-    let hands : ShakesHands None (moment (session_of c.args.export 1) tt (g.I.Read.remaining c.args.reader.now) (g.O.Write.contents (device_of c.args.sender.now)))
+    let hands : ShakesHands None (moment (session_of c.args.export (so_many 1)) tt (g.I.Read.remaining c.args.reader.now) (g.O.Write.contents (device_of c.args.sender.now)))
     (moment c.handshake.new.self tt (g.I.Read.remaining c.handshake.new.reader) (g.O.Write.contents (device_of c.handshake.new.sender))) =
     subst (λ (from : Session). ShakesHands None (moment from tt (g.I.Read.remaining c.args.reader.now) (g.O.Write.contents (device_of c.args.sender.now)))
     (moment c.handshake.new.self tt (g.I.Read.remaining c.handshake.new.reader) (g.O.Write.contents (device_of c.handshake.new.sender)))) c.in-Ok.ensures (rw c.in-Ok-None.field-0-is at c.in-Ok-None.ensures.ok) in
-    let start = moment (session_of c.args.export 1) c.args.target.now (g.I.Read.remaining c.args.reader.now) (g.O.Write.contents (device_of c.args.sender.now)) in
+    let start = moment (session_of c.args.export (so_many 1)) c.args.target.now (g.I.Read.remaining c.args.reader.now) (g.O.Write.contents (device_of c.args.sender.now)) in
     let here = moment c.handshake.new.self c.args.target.now (g.I.Read.remaining c.handshake.new.reader) (g.O.Write.contents (device_of c.handshake.new.sender)) in
     let there = moment c.transmit.new.self c.transmit.new.target (g.I.Read.remaining c.transmit.new.reader) (g.O.Write.contents (device_of c.transmit.new.sender)) in
     if_err c.transmit.result (λ found. BreaksOff g.T.Target.follows here there found)
@@ -52,20 +52,20 @@ returns-in-Ok-None-clause-err g c =
     (λ found breaks. broken g.T.Target.follows (path g) c.so_far.ensures c.args.export
     c.transmit.new.self c.args.target.now c.transmit.new.target (g.I.Read.remaining c.args.reader.now) (g.I.Read.remaining c.transmit.new.reader) (g.O.Write.contents (device_of c.args.sender.now)) (g.O.Write.contents (device_of c.transmit.new.sender)) found
     (breaks_on g.T.Target.follows (path g) start here there found
-    (with_target g.T.Target.follows (path g) (moment (session_of c.args.export 1) tt (g.I.Read.remaining c.args.reader.now) (g.O.Write.contents (device_of c.args.sender.now)))
+    (with_target g.T.Target.follows (path g) (moment (session_of c.args.export (so_many 1)) tt (g.I.Read.remaining c.args.reader.now) (g.O.Write.contents (device_of c.args.sender.now)))
     (moment c.handshake.new.self tt (g.I.Read.remaining c.handshake.new.reader) (g.O.Write.contents (device_of c.handshake.new.sender))) c.args.target.now hands.moves) breaks))
     c.transmit.ensures.err
 
 pub returns-in-Ok-Some-clause-ok : goal.returns-in-Ok-Some-clause-ok
 returns-in-Ok-Some-clause-ok g c =
-    let hands : ShakesHands (Some c.in-Ok-Some.served) (moment (session_of c.args.export 1) tt (g.I.Read.remaining c.args.reader.now) (g.O.Write.contents (device_of c.args.sender.now)))
+    let hands : ShakesHands (Some c.in-Ok-Some.served) (moment (session_of c.args.export (so_many 1)) tt (g.I.Read.remaining c.args.reader.now) (g.O.Write.contents (device_of c.args.sender.now)))
     (moment c.handshake.new.self tt (g.I.Read.remaining c.handshake.new.reader) (g.O.Write.contents (device_of c.handshake.new.sender))) =
     subst (λ (from : Session). ShakesHands (Some c.in-Ok-Some.served) (moment from tt (g.I.Read.remaining c.args.reader.now) (g.O.Write.contents (device_of c.args.sender.now)))
     (moment c.handshake.new.self tt (g.I.Read.remaining c.handshake.new.reader) (g.O.Write.contents (device_of c.handshake.new.sender)))) c.in-Ok.ensures (rw c.in-Ok-Some.field-0-is at c.in-Ok-Some.ensures.ok) in
     whole g.T.Target.follows (path g) c.so_far.ensures c.args.export c.handshake.new.self
     c.args.target.now c.args.target.now (g.I.Read.remaining c.args.reader.now) (g.I.Read.remaining c.handshake.new.reader) (g.O.Write.contents (device_of c.args.sender.now)) (g.O.Write.contents (device_of c.handshake.new.sender)) c.in-Ok-Some.served
     (record {
-      moves = with_target g.T.Target.follows (path g) (moment (session_of c.args.export 1) tt (g.I.Read.remaining c.args.reader.now) (g.O.Write.contents (device_of c.args.sender.now)))
+      moves = with_target g.T.Target.follows (path g) (moment (session_of c.args.export (so_many 1)) tt (g.I.Read.remaining c.args.reader.now) (g.O.Write.contents (device_of c.args.sender.now)))
           (moment c.handshake.new.self tt (g.I.Read.remaining c.handshake.new.reader) (g.O.Write.contents (device_of c.handshake.new.sender))) c.args.target.now hands.moves;
       idle = hands.idle;
       sent = hands.sent;
@@ -77,7 +77,7 @@ pub returns-clause-err : goal.returns-clause-err
 returns-clause-err g c =
     broken g.T.Target.follows (path g) c.so_far.ensures c.args.export c.handshake.new.self
     c.args.target.now c.args.target.now (g.I.Read.remaining c.args.reader.now) (g.I.Read.remaining c.handshake.new.reader) (g.O.Write.contents (device_of c.args.sender.now)) (g.O.Write.contents (device_of c.handshake.new.sender)) c.in-Err.fault
-    (breaks_with_target g.T.Target.follows (path g) (moment (session_of c.args.export 1) tt (g.I.Read.remaining c.args.reader.now) (g.O.Write.contents (device_of c.args.sender.now)))
+    (breaks_with_target g.T.Target.follows (path g) (moment (session_of c.args.export (so_many 1)) tt (g.I.Read.remaining c.args.reader.now) (g.O.Write.contents (device_of c.args.sender.now)))
     (moment c.handshake.new.self tt (g.I.Read.remaining c.handshake.new.reader) (g.O.Write.contents (device_of c.handshake.new.sender))) c.args.target.now c.in-Err.fault
     (subst (λ (from : Session). BreaksOff no_target (moment from tt (g.I.Read.remaining c.args.reader.now) (g.O.Write.contents (device_of c.args.sender.now)))
     (moment c.handshake.new.self tt (g.I.Read.remaining c.handshake.new.reader) (g.O.Write.contents (device_of c.handshake.new.sender))) c.in-Err.fault) c.in-Ok.ensures c.in-Err.ensures.err))

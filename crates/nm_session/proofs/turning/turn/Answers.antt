@@ -11,7 +11,7 @@ use Rattle.nm_session.proofs.turning.turn.Goals as goal
 path : (g : Over) → IsPath g.T.Target.follows
 path g = record { stays = g.met.T.Target.stays; joins = g.met.T.Target.joins }
 
-idle_at : (core : Session) → core.limit ≡ 1 → core.outstanding ≡ [] → IsIdle core core
+idle_at : (core : Session) → core.limit.requests ≡ 1 → core.outstanding ≡ [] → IsIdle core core
 idle_at core limit none = record { limit = limit; export = refl; outstanding = none }
 
 pub returns-in_err-index-clause-err : goal.returns-in_err-index-clause-err

@@ -1,19 +1,21 @@
 -- What is left to do makes the whole with what is done.
 use Rattle.std.proofs.Common.{◌≡◌, ◌+◌, ◌≤◌, length}
-use Rattle.nm_fanout.specs.Records.{landed_all, unlanded}
+use Rattle.nm_fanout.specs.Runs.{flat, runs_landed, unlanded_blocks}
 use Rattle.nm_rules.specs.Kept.{kept_with}
 use Rattle.nm_rules.specs.Lost.{landing}
+use Rattle.nm_store.specs.Landing.{AreWords}
 use Rattle.nm_store.proofs.failing_over.land_all.Given as goal
 
 abbrev pub invariant-loop-place : goal.invariant-loop-place
 invariant-loop-place l = record {
   number : l.number ≡ l.first + l.kept.total;
   few : length l.kept.entries ≤ 1024;
-  records : landed_all l.number l.records ≡ landed_all (l.first + l.fn.kept.total) l.fn.records;
-  entries : kept_with (landing l.number l.records) l.kept.entries
-      ≡ kept_with (landing (l.first + l.fn.kept.total) l.fn.records) l.fn.kept.entries;
-  total : l.kept.total + unlanded l.records ≡ l.fn.kept.total + unlanded l.fn.records;
+  words : AreWords l.records;
+  records : runs_landed l.number l.records ≡ runs_landed (l.first + l.fn.kept.total) l.fn.records;
+  entries : kept_with (landing l.number (flat l.records)) l.kept.entries
+      ≡ kept_with (landing (l.first + l.fn.kept.total) (flat l.fn.records)) l.fn.kept.entries;
+  total : l.kept.total + unlanded_blocks l.records ≡ l.fn.kept.total + unlanded_blocks l.fn.records;
 }
 
 abbrev pub decreases-loop-place : goal.decreases-loop-place
-decreases-loop-place l = unlanded l.records
+decreases-loop-place l = unlanded_blocks l.records

@@ -2,7 +2,7 @@
 use Rattle.nm_replies.specs.Sending.{device_of}
 use Rattle.nm_session.proofs.WholeSessions.{if_ok, if_err}
 use Rattle.nm_session.specs.declared.serve_fault.ServeFault.TheVariants as fault
-use Rattle.nm_session.specs.Session.{session_of}
+use Rattle.nm_session.specs.Session.{session_of, so_many}
 use Rattle.nm_workers.specs.Results.{IsResult}
 use Rattle.nm_workers.specs.Serving.{wires, Ends, Breaks, IsServed, IsBrokenOff}
 use Rattle.nm_workers.proofs.Owning.{whole_at, broken_at}
@@ -13,7 +13,7 @@ pub returns-in_default-clause-err : goal.returns-in_default-clause-err
 returns-in_default-clause-err g c =
     broken c.so_far.ensures fault.Memory c.args.export (g.I.Read.remaining c.args.reader)
     (g.O.Write.contents (device_of c.args.sender)) (g.O.Write.contents (device_of c.args.sender))
-    (breaks_at_once (session_of c.args.export 16) (g.I.Read.remaining c.args.reader)
+    (breaks_at_once (session_of c.args.export (so_many 16)) (g.I.Read.remaining c.args.reader)
     (g.O.Write.contents (device_of c.args.sender)))
 
 pub returns-clause-ok : goal.returns-clause-ok

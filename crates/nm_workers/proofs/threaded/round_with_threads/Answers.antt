@@ -4,9 +4,16 @@ use Rattle.nm_mailbox.specs.Ends.{received_by}
 use Rattle.nm_replies.specs.Sending.{device_of}
 use Rattle.nm_session.specs.declared.serve_fault.ServeFault.TheVariants as fault
 use Rattle.nm_workers.specs.Moving.{owner_state}
-use Rattle.nm_workers.proofs.Rounds.{stops_there, known_as, reads_sends, reads_sends_part, over_there}
+use Rattle.nm_workers.proofs.Rounds.{stops_there, known_as, no_request_sent, reads_sends, reads_sends_part, over_there}
 use Rattle.nm_workers.proofs.Steps.{moves_on, breaks_on, reads}
 use Rattle.nm_workers.proofs.threaded.round_with_threads.Goals as goal
+
+pub over-requires : goal.over-requires
+over-requires g c = record {
+  why = no_request_sent c.in-Ok.why c.hand_out.new.core c.send_out.new.core
+      (g.O.Write.contents (device_of c.args.sender.now)) (g.O.Write.contents (device_of c.send_out.new.sender))
+      c.in_default.ensures.ok c.in-Ok.ensures.why;
+}
 
 pub returns-in-Err-clause-err : goal.returns-in-Err-clause-err
 returns-in-Err-clause-err g c =

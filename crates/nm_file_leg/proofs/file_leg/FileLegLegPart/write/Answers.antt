@@ -5,7 +5,7 @@ use Rattle.nm_geometry.specs.Geometry.{stripe_blocks}
 use Rattle.nm_file_leg.specs.Blocks.{length-blocks_from}
 use Rattle.nm_file_leg.proofs.PlaceLemmas.{blocks-most}
 use Rattle.nm_file_leg.proofs.LegLemmas.{writes-run, writes-failed}
-use Rattle.nm_file_leg.proofs.RuleLemmas.{rules-write, rules-next, owns-kept}
+use Rattle.nm_file_leg.proofs.RuleLemmas.{keeps-run, rules-write, rules-next, owns-kept}
 use Rattle.nm_file_leg.proofs.file_leg.FileLegLegPart.write.Goals as goal
 use Rattle.nm_file_leg.proofs.file_leg.FileLegLegPart.write.Goals.{else-at-self-via-then-at-self+else-self-end, else-at-self-via-else-at-self}
 
@@ -13,6 +13,12 @@ pub write_run-requires-clause-run : goal.write_run-requires-clause-run
 write_run-requires-clause-run g c =
     let leg = c.args.self.now in
     subst (λ (n : ℕ). IsRun c.args.at n c.args.bytes.now) (length-blocks_from leg.stripe leg.shape _ _ _) c.requires
+
+pub write_run-requires-clause-kept : goal.write_run-requires-clause-kept
+write_run-requires-clause-kept g c =
+    let leg = c.args.self.now in
+    let inside : c.args.at + length c.args.bytes.now / 512 ≤ stripe_blocks leg.stripe leg.shape = omega (arith, c.requires.inside, length-blocks_from leg.stripe leg.shape 0 (stripe_blocks leg.stripe leg.shape) (g.M.Medium.held leg.medium).contents) in
+    keeps-run _ leg.stripe leg.shape leg.rewritten_below c.args.at leg.dirty c.args.bytes.now (g.M.Medium.held leg.medium) c.stripe_blocks.result c.stripe_blocks.ensures.blocks inside leg.rules
 
 pub overflow_add-end : goal.overflow_add-end
 overflow_add-end g c =

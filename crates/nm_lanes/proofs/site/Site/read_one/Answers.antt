@@ -1,11 +1,11 @@
 -- A try after those that did nothing of their own.
-use Rattle.std.proofs.Common.{rules, ◌≡◌, [], length, take, drop}
-use Rattle.nm_stripe.specs.declared.step.Step.TheVariants as step
+use Rattle.std.proofs.Common.{rules, ◌≡◌, [], take, drop}
 use Rattle.nm_lanes.specs.Own.{EndsSo}
 use Rattle.nm_lanes.specs.Reads.{IsValue, value_bytes}
+use Rattle.nm_lanes.specs.Runs.{run_blocks}
 use Rattle.nm_lanes.specs.Steps.{Nobodys}
 use Rattle.nm_lanes.proofs.LaneLemmas.{does-does, does-stops}
-use Rattle.nm_lanes.proofs.TurnLemmas.{does-completes}
+use Rattle.nm_lanes.proofs.TurnLemmas.{does-reads}
 use Rattle.nm_lanes.proofs.site.Site.read_one.Goals as goal
 
 pub returns-in_err-read_turn-clause-err : goal.returns-in_err-read_turn-clause-err
@@ -16,8 +16,8 @@ returns-in_err-read_turn-clause-err g c =
 
 pub returns-then-branch-clause-ok : goal.returns-then-branch-clause-ok
 returns-then-branch-clause-ok g c =
-    does-completes g.D.Lane.follows g.met.D.Lane.joins c.args.lane.now c.loop.lane c.read_turn.new.lane (step.Read c.args.block) (λ told. IsValue told × (c.read_turn.new.into ≡ take (length c.args.into.now) (drop c.args.from (value_bytes told))))
-    c.loop.invariant.does (rw (c.if-branch.true, c.loop.invariant.long) at c.in_ok-read_turn.ensures.ok)
+    does-reads g.D.Lane.follows g.met.D.Lane.joins c.args.lane.now c.loop.lane c.read_turn.new.lane c.args.block (run_blocks c.args.run) (λ told. IsValue told × (c.read_turn.new.into ≡ take c.args.run.len (drop c.args.run.from (value_bytes told))))
+    c.loop.invariant.does (rw c.if-branch.true at c.in_ok-read_turn.ensures.ok)
 
 pub loop-preserved : goal.loop-preserved
 loop-preserved g c = record {

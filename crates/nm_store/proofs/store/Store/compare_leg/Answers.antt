@@ -10,21 +10,21 @@ pub returns-then-is_err : goal.returns-then-is_err
 returns-then-is_err g c =
     let joins : is_joining (leg_state c.args.leg c.args.self.now) ≡ true =
     ap (λ (st : LegState). is_joining st) (sym c.state.ensures) ∙ sym c.is_joining.ensures ∙ c.if-not-is_joining.false in
-    let failed : is_ok c.read_leg.result ≡ false = search rules in
-    fails-read (leg_type g.L.LegPart.model g.L.LegPart.honest) c.args.leg c.args.block c.args.bytes.now c.read_leg.new.into c.args.self.now c.read_leg.new.self c.drop_out.new.self joins (is_ok c.read_leg.result) c.read_leg.ensures.reads c.read_leg.ensures.others failed c.drop_out.ensures
+    let failed : is_ok c.read_block.result ≡ false = search rules in
+    fails-read (leg_type g.L.LegPart.model g.L.LegPart.honest) c.args.leg c.args.block c.args.bytes.now c.read_block.new.into c.args.self.now c.read_block.new.self c.drop_out.new.self joins (is_ok c.read_block.result) c.read_block.ensures.reads c.read_block.ensures.others failed c.drop_out.ensures
 
 pub returns-then-eq : goal.returns-then-eq
 returns-then-eq g c =
     let joins : is_joining (leg_state c.args.leg c.args.self.now) ≡ true =
     ap (λ (st : LegState). is_joining st) (sym c.state.ensures) ∙ sym c.is_joining.ensures ∙ c.if-not-is_joining.false in
-    let went_well : is_ok c.read_leg.result ≡ true = search rules in
-    let same : c.read_leg.new.into ≡ c.args.bytes.now = search rules in
-    holds-same (leg_type g.L.LegPart.model g.L.LegPart.honest) c.args.leg c.args.block c.args.bytes.now c.read_leg.new.into c.args.self.now c.read_leg.new.self c.read_leg.new.self joins (is_ok c.read_leg.result) c.read_leg.ensures.reads c.read_leg.ensures.others went_well same
+    let went_well : is_ok c.read_block.result ≡ true = search rules in
+    let same : c.read_block.new.into ≡ c.args.bytes.now = search rules in
+    holds-same (leg_type g.L.LegPart.model g.L.LegPart.honest) c.args.leg c.args.block c.args.bytes.now c.read_block.new.into c.args.self.now c.read_block.new.self c.read_block.new.self joins (is_ok c.read_block.result) c.read_block.ensures.reads c.read_block.ensures.others went_well same
 
 pub returns : goal.returns
 returns g c =
     let joins : is_joining (leg_state c.args.leg c.args.self.now) ≡ true =
     ap (λ (st : LegState). is_joining st) (sym c.state.ensures) ∙ sym c.is_joining.ensures ∙ c.if-not-is_joining.false in
-    let went_well : is_ok c.read_leg.result ≡ true = search rules in
-    let differs : c.read_leg.new.into ≢ c.args.bytes.now = search rules in
-    holds-other (leg_type g.L.LegPart.model g.L.LegPart.honest) c.args.leg c.args.block c.args.bytes.now c.read_leg.new.into c.args.self.now c.read_leg.new.self c.mark_at.new.self joins (is_ok c.read_leg.result) c.read_leg.ensures.reads c.read_leg.ensures.others went_well differs c.mark_at.ensures
+    let went_well : is_ok c.read_block.result ≡ true = search rules in
+    let differs : c.read_block.new.into ≢ c.args.bytes.now = search rules in
+    holds-other (leg_type g.L.LegPart.model g.L.LegPart.honest) c.args.leg c.args.block c.args.bytes.now c.read_block.new.into c.args.self.now c.read_block.new.self c.mark_at.new.self joins (is_ok c.read_block.result) c.read_block.ensures.reads c.read_block.ensures.others went_well differs c.mark_at.ensures

@@ -46,4 +46,5 @@ invariant_of-self-in-Some g c =
       states = c.self.invariant.states ∙ legs-count c.self.inside.legs c.write_block_at.new.legs;
       flags = legs ∙ c.self.invariant.flags ∙ legs-count c.self.inside.legs c.write_block_at.new.legs;
       chunk = ap (λ (b : CopyBuffer). b.most) c.wrote.ensures.written ∙ c.self.invariant.chunk;
+      runs = c.self.invariant.runs;
     }

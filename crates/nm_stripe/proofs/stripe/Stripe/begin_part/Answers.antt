@@ -1,135 +1,136 @@
 -- A begin of a part is read off its calls once, and the lemmas on begins do the rest.
-use Rattle.nm_leg.specs.Leg.{leg_type}
-use Rattle.std.proofs.Common.{rules, ◌≡◌, ◌<◌, true, false, is_ok, length, None, refl, sym, ◌∙◌, subst}
+use Rattle.nm_leg.specs.Leg.{leg_type, block_of, blocks_of}
+use Rattle.std.proofs.Common.{rules, ◌≡◌, ℕ, ◌<◌, true, false, is_ok, length, None, refl, sym, ◌∙◌, subst}
+use Rattle.nm_fanout.specs.Data.{data_blocks}
 use Rattle.nm_rules.specs.Begin.{Begins, LosesInBegin, FailsInBegin, begin_cause}
-use Rattle.nm_rules.specs.Read.{current_legs}
+use Rattle.nm_rules.specs.RunBegin.{begin_run_cause}
+use Rattle.nm_rules.specs.Runs.{FitsRun}
 use Rattle.nm_rules.specs.State.{StripeState, is_last}
-use Rattle.nm_rules.proofs.BeginLemmas.{begins-keeps, begins-explained, fails_in_begin-explained}
+use Rattle.nm_rules.proofs.BeginLemmas.{fails_in_begin-explained}
 use Rattle.nm_rules.proofs.HaltLemmas.{begin_fault-keeps}
 use Rattle.nm_rules.proofs.LostStepLemmas.{begin_lost-keeps, begin_lost-acts}
-use Rattle.nm_rules.proofs.ReadLegLemmas.{some_current}
 use Rattle.nm_rules.proofs.StateLemmas.{master_inside}
 use Rattle.nm_stripe.specs.Begin.{ForFault}
 use Rattle.nm_stripe.proofs.LostLemmas.{last-from}
-use Rattle.nm_stripe.proofs.ReadLemmas.{has-block}
-use Rattle.nm_stripe.proofs.BeginLemmas.{reads-at, master-read, room, begins-part, loses, fails}
+use Rattle.nm_stripe.proofs.ReadLemmas.{has-run, read-inside}
+use Rattle.nm_stripe.proofs.BeginLemmas.{part-one, reads-at, room, still-current, part-begins, begins-part, begins-with, begun-keeps, begun-explained, loses, fails}
 use Rattle.nm_stripe.proofs.stripe.Stripe.begin_part.Goals as goal
 
 pub read_leg-requires-clause-leg : goal.read_leg-requires-clause-leg
 read_leg-requires-clause-leg g c =
-    let type = leg_type g.L.LegPart.model g.L.LegPart.honest in
     let s = c.self.inside.store in
     let here : c.master-master.result ≡ s.master = search rules in
     rw here (master_inside g.L.LegPart.model s c.self.invariant.legs)
 
-pub read_leg-requires-clause-block : goal.read_leg-requires-clause-block
-read_leg-requires-clause-block g c =
-    let type = leg_type g.L.LegPart.model g.L.LegPart.honest in
+pub read_leg-requires-clause-run : goal.read_leg-requires-clause-run
+read_leg-requires-clause-run g c =
     let s = c.self.inside.store in
-    let within : c.args.block < s.place.blocks = subst (λ (s : StripeState _). c.args.block < s.place.blocks) (sym c.self.view_is) c.requires.inside in
     let here : c.master-master.result ≡ s.master = search rules in
-    rw here (has-block g.L.LegPart.model s s.master c.args.block c.self.invariant.legs (master_inside g.L.LegPart.model s c.self.invariant.legs) within)
+    let fits : FitsRun s.place c.args.block 1 = subst (λ (n : ℕ). FitsRun s.place c.args.block n) (part-one c.args.data c.requires.part) (subst (λ (s : StripeState _). FitsRun s.place c.args.block (data_blocks c.args.data)) (sym c.self.view_is) c.requires.run) in
+    rw here (has-run g.L.LegPart.model s s.master c.args.block _ c.self.invariant.legs (master_inside g.L.LegPart.model s c.self.invariant.legs) fits refl)
 
 pub begin-requires-clause-current : goal.begin-requires-clause-current
 begin-requires-clause-current g c =
     let type = leg_type g.L.LegPart.model g.L.LegPart.honest in
-    let s = c.self.inside.store in
-    let mid = c.read_leg.new.self in
-    let base = c.read_leg.new.into in
-    let none : begin_cause s c.args.block ≡ None = subst (λ (s : StripeState _). begin_cause s c.args.block ≡ None) (sym c.self.view_is) c.requires.no_cause in
-    subst (λ (m : StripeState _). 0 < length (current_legs c.args.block m)) (sym c.read_leg.ensures.others) (some_current type s c.args.block c.self.invariant.legs)
+    still-current type c.self.inside.store c.read_leg.new.self c.args.block c.self.invariant c.read_leg.ensures.others
 
 pub begin-requires-clause-few : goal.begin-requires-clause-few
 begin-requires-clause-few g c =
     let type = leg_type g.L.LegPart.model g.L.LegPart.honest in
     let s = c.self.inside.store in
-    let none : begin_cause s c.args.block ≡ None = subst (λ (s : StripeState _). begin_cause s c.args.block ≡ None) (sym c.self.view_is) c.requires.no_cause in
-    (room type s c.read_leg.new.self c.args.block c.self.invariant none c.read_leg.ensures.others).0
+    let cause : begin_run_cause s c.args.block (data_blocks c.args.data) ≡ None = subst (λ (s : StripeState _). begin_run_cause s c.args.block (data_blocks c.args.data) ≡ None) (sym c.self.view_is) c.requires.no_cause in
+    (room type s c.read_leg.new.self c.args.block (data_blocks c.args.data) c.self.invariant cause c.read_leg.ensures.others).0
 
 pub begin-requires-clause-next : goal.begin-requires-clause-next
 begin-requires-clause-next g c =
     let type = leg_type g.L.LegPart.model g.L.LegPart.honest in
     let s = c.self.inside.store in
-    let none : begin_cause s c.args.block ≡ None = subst (λ (s : StripeState _). begin_cause s c.args.block ≡ None) (sym c.self.view_is) c.requires.no_cause in
-    (room type s c.read_leg.new.self c.args.block c.self.invariant none c.read_leg.ensures.others).1
+    let cause : begin_run_cause s c.args.block (data_blocks c.args.data) ≡ None = subst (λ (s : StripeState _). begin_run_cause s c.args.block (data_blocks c.args.data) ≡ None) (sym c.self.view_is) c.requires.no_cause in
+    (room type s c.read_leg.new.self c.args.block (data_blocks c.args.data) c.self.invariant cause c.read_leg.ensures.others).1
 
 pub begin-requires-clause-more : goal.begin-requires-clause-more
 begin-requires-clause-more g c =
     let type = leg_type g.L.LegPart.model g.L.LegPart.honest in
     let s = c.self.inside.store in
-    let none : begin_cause s c.args.block ≡ None = subst (λ (s : StripeState _). begin_cause s c.args.block ≡ None) (sym c.self.view_is) c.requires.no_cause in
-    (room type s c.read_leg.new.self c.args.block c.self.invariant none c.read_leg.ensures.others).2
+    let cause : begin_run_cause s c.args.block (data_blocks c.args.data) ≡ None = subst (λ (s : StripeState _). begin_run_cause s c.args.block (data_blocks c.args.data) ≡ None) (sym c.self.view_is) c.requires.no_cause in
+    (room type s c.read_leg.new.self c.args.block (data_blocks c.args.data) c.self.invariant cause c.read_leg.ensures.others).2
 
 pub invariant_of-self : goal.invariant_of-self
 invariant_of-self g c =
     let type = leg_type g.L.LegPart.model g.L.LegPart.honest in
     let s = c.self.inside.store in
     let mid = c.read_leg.new.self in
-    let base = c.read_leg.new.into in
-    let none : begin_cause s c.args.block ≡ None = subst (λ (s : StripeState _). begin_cause s c.args.block ≡ None) (sym c.self.view_is) c.requires.no_cause in
-    let ok : is_ok c.read_leg.result ≡ true = search rules in
+    let bytes = c.read_leg.new.into in
+    let whole : length bytes ≡ 512 = c.read_leg.ensures.long in
+    let cause : begin_run_cause s c.args.block (data_blocks c.args.data) ≡ None = subst (λ (s : StripeState _). begin_run_cause s c.args.block (data_blocks c.args.data) ≡ None) (sym c.self.view_is) c.requires.no_cause in
+    let none : begin_cause s c.args.block ≡ None = part-begins s c.args.block c.args.data c.requires.part cause in
     let here : c.master-master.result ≡ s.master = search rules in
-    let reads = reads-at type true s mid c.args.block base ok here c.read_leg.ensures.reads in
-    let within : c.args.block < s.place.blocks = subst (λ (s : StripeState _). c.args.block < s.place.blocks) (sym c.self.view_is) c.requires.inside in
+    let fits : FitsRun s.place c.args.block (data_blocks c.args.data) = subst (λ (s : StripeState _). FitsRun s.place c.args.block (data_blocks c.args.data)) (sym c.self.view_is) c.requires.run in
+    let ok : is_ok c.read_leg.result ≡ true = search rules in
+    let reads = reads-at type true s mid c.args.block bytes ok here whole c.read_leg.ensures.reads in
     let new = c.begin.new.self in
-    let is : Begins type s new c.args.block c.args.data c.begin.result = begins-part type s mid new c.args.block c.args.data base c.read_leg.ensures.others none c.requires.part c.begin.result c.begin.ensures.filled reads c.begin.ensures.ticket c.begin.ensures.begun in
-    begins-keeps type s new c.args.block c.args.data c.begin.result c.self.invariant is within c.requires.fits
+    let is : Begins type s new c.args.block c.args.data c.begin.result = begins-part type s mid new c.args.block c.args.data (block_of bytes) c.read_leg.ensures.others none c.requires.part c.begin.result c.begin.ensures.filled reads c.begin.ensures.ticket c.begin.ensures.begun in
+    let with = begins-with type s new c.args.block c.args.data c.begin.result c.requires.part is in
+    begun-keeps type s new c.args.block c.args.data c.begin.result c.self.invariant with fits c.requires.fits
 
 pub returns-then-is_ok-clause-ok : goal.returns-then-is_ok-clause-ok
 returns-then-is_ok-clause-ok g c =
     let type = leg_type g.L.LegPart.model g.L.LegPart.honest in
     let s = c.self.inside.store in
     let mid = c.read_leg.new.self in
-    let base = c.read_leg.new.into in
-    let none : begin_cause s c.args.block ≡ None = subst (λ (s : StripeState _). begin_cause s c.args.block ≡ None) (sym c.self.view_is) c.requires.no_cause in
-    let ok : is_ok c.read_leg.result ≡ true = search rules in
+    let bytes = c.read_leg.new.into in
+    let whole : length bytes ≡ 512 = c.read_leg.ensures.long in
+    let cause : begin_run_cause s c.args.block (data_blocks c.args.data) ≡ None = subst (λ (s : StripeState _). begin_run_cause s c.args.block (data_blocks c.args.data) ≡ None) (sym c.self.view_is) c.requires.no_cause in
+    let none : begin_cause s c.args.block ≡ None = part-begins s c.args.block c.args.data c.requires.part cause in
     let here : c.master-master.result ≡ s.master = search rules in
-    let reads = reads-at type true s mid c.args.block base ok here c.read_leg.ensures.reads in
-    let within : c.args.block < s.place.blocks = subst (λ (s : StripeState _). c.args.block < s.place.blocks) (sym c.self.view_is) c.requires.inside in
+    let ok : is_ok c.read_leg.result ≡ true = search rules in
+    let reads = reads-at type true s mid c.args.block bytes ok here whole c.read_leg.ensures.reads in
     let new = c.begin.new.self in
-    let is : Begins type s new c.args.block c.args.data c.begin.result = begins-part type s mid new c.args.block c.args.data base c.read_leg.ensures.others none c.requires.part c.begin.result c.begin.ensures.filled reads c.begin.ensures.ticket c.begin.ensures.begun in
-    rw (← c.self.view_is) is
+    let is : Begins type s new c.args.block c.args.data c.begin.result = begins-part type s mid new c.args.block c.args.data (block_of bytes) c.read_leg.ensures.others none c.requires.part c.begin.result c.begin.ensures.filled reads c.begin.ensures.ticket c.begin.ensures.begun in
+    let with = begins-with type s new c.args.block c.args.data c.begin.result c.requires.part is in
+    rw (← c.self.view_is) with
 
 pub returns-then-is_ok-clause-acts : goal.returns-then-is_ok-clause-acts
 returns-then-is_ok-clause-acts g c is_honest =
     let type = leg_type g.L.LegPart.model g.L.LegPart.honest in
     let s = c.self.inside.store in
     let mid = c.read_leg.new.self in
-    let base = c.read_leg.new.into in
-    let none : begin_cause s c.args.block ≡ None = subst (λ (s : StripeState _). begin_cause s c.args.block ≡ None) (sym c.self.view_is) c.requires.no_cause in
-    let ok : is_ok c.read_leg.result ≡ true = search rules in
+    let bytes = c.read_leg.new.into in
+    let whole : length bytes ≡ 512 = c.read_leg.ensures.long in
+    let cause : begin_run_cause s c.args.block (data_blocks c.args.data) ≡ None = subst (λ (s : StripeState _). begin_run_cause s c.args.block (data_blocks c.args.data) ≡ None) (sym c.self.view_is) c.requires.no_cause in
+    let none : begin_cause s c.args.block ≡ None = part-begins s c.args.block c.args.data c.requires.part cause in
     let here : c.master-master.result ≡ s.master = search rules in
-    let reads = reads-at type true s mid c.args.block base ok here c.read_leg.ensures.reads in
-    let within : c.args.block < s.place.blocks = subst (λ (s : StripeState _). c.args.block < s.place.blocks) (sym c.self.view_is) c.requires.inside in
+    let ok : is_ok c.read_leg.result ≡ true = search rules in
+    let reads = reads-at type true s mid c.args.block bytes ok here whole c.read_leg.ensures.reads in
     let new = c.begin.new.self in
-    let is : Begins type s new c.args.block c.args.data c.begin.result = begins-part type s mid new c.args.block c.args.data base c.read_leg.ensures.others none c.requires.part c.begin.result c.begin.ensures.filled reads c.begin.ensures.ticket c.begin.ensures.begun in
-    rw (← c.self.view_is) (begins-explained type s new c.args.block c.args.data c.begin.result c.self.invariant is c.requires.fits is_honest)
+    let is : Begins type s new c.args.block c.args.data c.begin.result = begins-part type s mid new c.args.block c.args.data (block_of bytes) c.read_leg.ensures.others none c.requires.part c.begin.result c.begin.ensures.filled reads c.begin.ensures.ticket c.begin.ensures.begun in
+    let with = begins-with type s new c.args.block c.args.data c.begin.result c.requires.part is in
+    rw (← c.self.view_is) (begun-explained type s new c.args.block c.args.data c.begin.result c.self.invariant with c.requires.fits is_honest)
 
+-- the master failed
 pub is_last-requires : goal.is_last-requires
 is_last-requires g c =
     let type = leg_type g.L.LegPart.model g.L.LegPart.honest in
     let s = c.self.inside.store in
-    let mid = c.read_leg.new.self in
-    let base = c.read_leg.new.into in
-    let none : begin_cause s c.args.block ≡ None = subst (λ (s : StripeState _). begin_cause s c.args.block ≡ None) (sym c.self.view_is) c.requires.no_cause in
-    let ok : is_ok c.read_leg.result ≡ false = search rules in
     let here : c.master-master.result ≡ s.master = search rules in
-    let reads = reads-at type false s mid c.args.block base ok here c.read_leg.ensures.reads in
-    rw here (master-read type false s mid c.args.block base c.self.invariant.legs reads)
+    let master : c.master-master.result < length s.legs = rw here (master_inside g.L.LegPart.model s c.self.invariant.legs) in
+    read-inside type (is_ok c.read_leg.result) s.legs c.read_leg.new.self.legs c.args.block c.master-master.result (blocks_of c.read_leg.new.into) c.read_leg.ensures.reads master
 
 pub invariant_of-self-then-is_last : goal.invariant_of-self-then-is_last
 invariant_of-self-then-is_last g c =
     let type = leg_type g.L.LegPart.model g.L.LegPart.honest in
     let s = c.self.inside.store in
     let mid = c.read_leg.new.self in
-    let base = c.read_leg.new.into in
-    let none : begin_cause s c.args.block ≡ None = subst (λ (s : StripeState _). begin_cause s c.args.block ≡ None) (sym c.self.view_is) c.requires.no_cause in
-    let ok : is_ok c.read_leg.result ≡ false = search rules in
+    let bytes = c.read_leg.new.into in
+    let whole : length bytes ≡ 512 = c.read_leg.ensures.long in
+    let cause : begin_run_cause s c.args.block (data_blocks c.args.data) ≡ None = subst (λ (s : StripeState _). begin_run_cause s c.args.block (data_blocks c.args.data) ≡ None) (sym c.self.view_is) c.requires.no_cause in
+    let none : begin_cause s c.args.block ≡ None = part-begins s c.args.block c.args.data c.requires.part cause in
     let here : c.master-master.result ≡ s.master = search rules in
-    let reads = reads-at type false s mid c.args.block base ok here c.read_leg.ensures.reads in
+    let ok : is_ok c.read_leg.result ≡ false = search rules in
+    let reads = reads-at type false s mid c.args.block bytes ok here whole c.read_leg.ensures.reads in
     let given : c.is_last.result ≡ true = search rules in
     let last : is_last s.master s ≡ true = last-from s.master s mid c.is_last.result c.read_leg.ensures.others (rw (← here) c.is_last.ensures) ∙ given in
-    let is : FailsInBegin type s mid c.args.block c.args.data = fails type s mid c.args.block c.args.data base c.read_leg.ensures.others none c.requires.part reads last in
+    let is : FailsInBegin type s mid c.args.block c.args.data = fails type s mid c.args.block c.args.data (block_of bytes) c.read_leg.ensures.others none c.requires.part reads last in
     begin_fault-keeps type s mid c.self.invariant c.args.block c.args.data is
 
 pub returns-then-is_last-clause-refused : goal.returns-then-is_last-clause-refused
@@ -137,14 +138,16 @@ returns-then-is_last-clause-refused g c =
     let type = leg_type g.L.LegPart.model g.L.LegPart.honest in
     let s = c.self.inside.store in
     let mid = c.read_leg.new.self in
-    let base = c.read_leg.new.into in
-    let none : begin_cause s c.args.block ≡ None = subst (λ (s : StripeState _). begin_cause s c.args.block ≡ None) (sym c.self.view_is) c.requires.no_cause in
-    let ok : is_ok c.read_leg.result ≡ false = search rules in
+    let bytes = c.read_leg.new.into in
+    let whole : length bytes ≡ 512 = c.read_leg.ensures.long in
+    let cause : begin_run_cause s c.args.block (data_blocks c.args.data) ≡ None = subst (λ (s : StripeState _). begin_run_cause s c.args.block (data_blocks c.args.data) ≡ None) (sym c.self.view_is) c.requires.no_cause in
+    let none : begin_cause s c.args.block ≡ None = part-begins s c.args.block c.args.data c.requires.part cause in
     let here : c.master-master.result ≡ s.master = search rules in
-    let reads = reads-at type false s mid c.args.block base ok here c.read_leg.ensures.reads in
+    let ok : is_ok c.read_leg.result ≡ false = search rules in
+    let reads = reads-at type false s mid c.args.block bytes ok here whole c.read_leg.ensures.reads in
     let given : c.is_last.result ≡ true = search rules in
     let last : is_last s.master s ≡ true = last-from s.master s mid c.is_last.result c.read_leg.ensures.others (rw (← here) c.is_last.ensures) ∙ given in
-    let is : FailsInBegin type s mid c.args.block c.args.data = fails type s mid c.args.block c.args.data base c.read_leg.ensures.others none c.requires.part reads last in
+    let is : FailsInBegin type s mid c.args.block c.args.data = fails type s mid c.args.block c.args.data (block_of bytes) c.read_leg.ensures.others none c.requires.part reads last in
     rw (← c.self.view_is) (ForFault refl is)
 
 pub returns-then-is_last-clause-refused_acts : goal.returns-then-is_last-clause-refused_acts
@@ -152,42 +155,42 @@ returns-then-is_last-clause-refused_acts g c is_honest =
     let type = leg_type g.L.LegPart.model g.L.LegPart.honest in
     let s = c.self.inside.store in
     let mid = c.read_leg.new.self in
-    let base = c.read_leg.new.into in
-    let none : begin_cause s c.args.block ≡ None = subst (λ (s : StripeState _). begin_cause s c.args.block ≡ None) (sym c.self.view_is) c.requires.no_cause in
-    let ok : is_ok c.read_leg.result ≡ false = search rules in
+    let bytes = c.read_leg.new.into in
+    let whole : length bytes ≡ 512 = c.read_leg.ensures.long in
+    let cause : begin_run_cause s c.args.block (data_blocks c.args.data) ≡ None = subst (λ (s : StripeState _). begin_run_cause s c.args.block (data_blocks c.args.data) ≡ None) (sym c.self.view_is) c.requires.no_cause in
+    let none : begin_cause s c.args.block ≡ None = part-begins s c.args.block c.args.data c.requires.part cause in
     let here : c.master-master.result ≡ s.master = search rules in
-    let reads = reads-at type false s mid c.args.block base ok here c.read_leg.ensures.reads in
+    let ok : is_ok c.read_leg.result ≡ false = search rules in
+    let reads = reads-at type false s mid c.args.block bytes ok here whole c.read_leg.ensures.reads in
     let given : c.is_last.result ≡ true = search rules in
     let last : is_last s.master s ≡ true = last-from s.master s mid c.is_last.result c.read_leg.ensures.others (rw (← here) c.is_last.ensures) ∙ given in
-    let is : FailsInBegin type s mid c.args.block c.args.data = fails type s mid c.args.block c.args.data base c.read_leg.ensures.others none c.requires.part reads last in
+    let is : FailsInBegin type s mid c.args.block c.args.data = fails type s mid c.args.block c.args.data (block_of bytes) c.read_leg.ensures.others none c.requires.part reads last in
     rw (← c.self.view_is) (fails_in_begin-explained type s mid c.args.block c.args.data is_honest c.self.invariant is)
 
 pub lose-requires-clause-leg : goal.lose-requires-clause-leg
 lose-requires-clause-leg g c =
     let type = leg_type g.L.LegPart.model g.L.LegPart.honest in
     let s = c.self.inside.store in
-    let mid = c.read_leg.new.self in
-    let base = c.read_leg.new.into in
-    let none : begin_cause s c.args.block ≡ None = subst (λ (s : StripeState _). begin_cause s c.args.block ≡ None) (sym c.self.view_is) c.requires.no_cause in
-    let ok : is_ok c.read_leg.result ≡ false = search rules in
     let here : c.master-master.result ≡ s.master = search rules in
-    let reads = reads-at type false s mid c.args.block base ok here c.read_leg.ensures.reads in
-    rw here (master-read type false s mid c.args.block base c.self.invariant.legs reads)
+    let master : c.master-master.result < length s.legs = rw here (master_inside g.L.LegPart.model s c.self.invariant.legs) in
+    read-inside type (is_ok c.read_leg.result) s.legs c.read_leg.new.self.legs c.args.block c.master-master.result (blocks_of c.read_leg.new.into) c.read_leg.ensures.reads master
 
 pub invariant_of-self-2 : goal.invariant_of-self-2
 invariant_of-self-2 g c =
     let type = leg_type g.L.LegPart.model g.L.LegPart.honest in
     let s = c.self.inside.store in
     let mid = c.read_leg.new.self in
-    let base = c.read_leg.new.into in
-    let none : begin_cause s c.args.block ≡ None = subst (λ (s : StripeState _). begin_cause s c.args.block ≡ None) (sym c.self.view_is) c.requires.no_cause in
-    let ok : is_ok c.read_leg.result ≡ false = search rules in
+    let bytes = c.read_leg.new.into in
+    let whole : length bytes ≡ 512 = c.read_leg.ensures.long in
+    let cause : begin_run_cause s c.args.block (data_blocks c.args.data) ≡ None = subst (λ (s : StripeState _). begin_run_cause s c.args.block (data_blocks c.args.data) ≡ None) (sym c.self.view_is) c.requires.no_cause in
+    let none : begin_cause s c.args.block ≡ None = part-begins s c.args.block c.args.data c.requires.part cause in
     let here : c.master-master.result ≡ s.master = search rules in
-    let reads = reads-at type false s mid c.args.block base ok here c.read_leg.ensures.reads in
+    let ok : is_ok c.read_leg.result ≡ false = search rules in
+    let reads = reads-at type false s mid c.args.block bytes ok here whole c.read_leg.ensures.reads in
     let given : c.is_last.result ≡ false = search rules in
     let last : is_last s.master s ≡ false = last-from s.master s mid c.is_last.result c.read_leg.ensures.others (rw (← here) c.is_last.ensures) ∙ given in
     let new = c.lose.new.self in
-    let is : LosesInBegin type s new c.args.block c.args.data s.master = loses type s mid new c.args.block c.args.data base c.read_leg.ensures.others none c.requires.part reads last (rw (← here) c.lose.ensures) in
+    let is : LosesInBegin type s new c.args.block c.args.data s.master = loses type s mid new c.args.block c.args.data (block_of bytes) c.read_leg.ensures.others none c.requires.part reads last (rw (← here) c.lose.ensures) in
     begin_lost-keeps type s new c.self.invariant c.args.block c.args.data s.master is
 
 pub returns-clause-ok : goal.returns-clause-ok
@@ -195,15 +198,17 @@ returns-clause-ok g c =
     let type = leg_type g.L.LegPart.model g.L.LegPart.honest in
     let s = c.self.inside.store in
     let mid = c.read_leg.new.self in
-    let base = c.read_leg.new.into in
-    let none : begin_cause s c.args.block ≡ None = subst (λ (s : StripeState _). begin_cause s c.args.block ≡ None) (sym c.self.view_is) c.requires.no_cause in
-    let ok : is_ok c.read_leg.result ≡ false = search rules in
+    let bytes = c.read_leg.new.into in
+    let whole : length bytes ≡ 512 = c.read_leg.ensures.long in
+    let cause : begin_run_cause s c.args.block (data_blocks c.args.data) ≡ None = subst (λ (s : StripeState _). begin_run_cause s c.args.block (data_blocks c.args.data) ≡ None) (sym c.self.view_is) c.requires.no_cause in
+    let none : begin_cause s c.args.block ≡ None = part-begins s c.args.block c.args.data c.requires.part cause in
     let here : c.master-master.result ≡ s.master = search rules in
-    let reads = reads-at type false s mid c.args.block base ok here c.read_leg.ensures.reads in
+    let ok : is_ok c.read_leg.result ≡ false = search rules in
+    let reads = reads-at type false s mid c.args.block bytes ok here whole c.read_leg.ensures.reads in
     let given : c.is_last.result ≡ false = search rules in
     let last : is_last s.master s ≡ false = last-from s.master s mid c.is_last.result c.read_leg.ensures.others (rw (← here) c.is_last.ensures) ∙ given in
     let new = c.lose.new.self in
-    let is : LosesInBegin type s new c.args.block c.args.data s.master = loses type s mid new c.args.block c.args.data base c.read_leg.ensures.others none c.requires.part reads last (rw (← here) c.lose.ensures) in
+    let is : LosesInBegin type s new c.args.block c.args.data s.master = loses type s mid new c.args.block c.args.data (block_of bytes) c.read_leg.ensures.others none c.requires.part reads last (rw (← here) c.lose.ensures) in
     rw (← c.self.view_is, here) (is, refl)
 
 pub returns-clause-acts : goal.returns-clause-acts
@@ -211,13 +216,15 @@ returns-clause-acts g c is_honest =
     let type = leg_type g.L.LegPart.model g.L.LegPart.honest in
     let s = c.self.inside.store in
     let mid = c.read_leg.new.self in
-    let base = c.read_leg.new.into in
-    let none : begin_cause s c.args.block ≡ None = subst (λ (s : StripeState _). begin_cause s c.args.block ≡ None) (sym c.self.view_is) c.requires.no_cause in
-    let ok : is_ok c.read_leg.result ≡ false = search rules in
+    let bytes = c.read_leg.new.into in
+    let whole : length bytes ≡ 512 = c.read_leg.ensures.long in
+    let cause : begin_run_cause s c.args.block (data_blocks c.args.data) ≡ None = subst (λ (s : StripeState _). begin_run_cause s c.args.block (data_blocks c.args.data) ≡ None) (sym c.self.view_is) c.requires.no_cause in
+    let none : begin_cause s c.args.block ≡ None = part-begins s c.args.block c.args.data c.requires.part cause in
     let here : c.master-master.result ≡ s.master = search rules in
-    let reads = reads-at type false s mid c.args.block base ok here c.read_leg.ensures.reads in
+    let ok : is_ok c.read_leg.result ≡ false = search rules in
+    let reads = reads-at type false s mid c.args.block bytes ok here whole c.read_leg.ensures.reads in
     let given : c.is_last.result ≡ false = search rules in
     let last : is_last s.master s ≡ false = last-from s.master s mid c.is_last.result c.read_leg.ensures.others (rw (← here) c.is_last.ensures) ∙ given in
     let new = c.lose.new.self in
-    let is : LosesInBegin type s new c.args.block c.args.data s.master = loses type s mid new c.args.block c.args.data base c.read_leg.ensures.others none c.requires.part reads last (rw (← here) c.lose.ensures) in
+    let is : LosesInBegin type s new c.args.block c.args.data s.master = loses type s mid new c.args.block c.args.data (block_of bytes) c.read_leg.ensures.others none c.requires.part reads last (rw (← here) c.lose.ensures) in
     rw (← c.self.view_is) (begin_lost-acts type s new c.self.invariant c.args.block c.args.data s.master is is_honest)
