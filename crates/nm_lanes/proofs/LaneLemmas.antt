@@ -44,7 +44,7 @@ claims-more ours theirs more (Read block room) h = absurd h
 claims-more ours theirs more (Fail leg) h = absurd h
 claims-more ours theirs more (Attach leg) h = absurd h
 claims-more ours theirs more (Replace leg part) h = absurd h
-claims-more ours theirs more (Copy leg) h = absurd h
+claims-more ours theirs more (Copy leg most) h = absurd h
 claims-more ours theirs more (Promote leg) h = absurd h
 claims-more ours theirs more (Sync leg) h = absurd h
 

@@ -47,7 +47,7 @@ helps step (Refused refused handed) = is_none (end_of refused)
 helps step (LegLost gone handed) = true
 helps step (Pushed count) = true
 helps step (Complete number) = true
-helps step (Copied blocks) = true
+helps step (Copied moved blocks) = true
 helps step Nothing = true
 helps step answer = false
 

@@ -9,6 +9,7 @@ use crate::gate::Gate;
 use crate::hindrance::{Hindrance, end_of};
 use crate::lane::Lane;
 use crate::site::Site;
+use nm_fanout::MOST_RUN;
 use nm_leg::LegPart;
 use nm_rules::Refusal;
 use nm_stripe::Copying;
@@ -39,8 +40,8 @@ impl<R: Wait, G: Gate, K> Site<'_, R, G, K> {
         ensures err { IfErr result (λ kind.
             LaneStops D.follows lane.old lane.new [] (EndsSo Nobodys kind)) }
     {
-        match self.copy(lane, leg) {
-            Ok(Copying::Copied(_)) => Ok(()),
+        match self.copy(lane, leg, MOST_RUN as u64) {
+            Ok(Copying::Copied { .. }) => Ok(()),
             Ok(Copying::Nothing) => Ok(()),
             Ok(Copying::LegLost(_)) => Ok(()),
             Err(refusal) => {

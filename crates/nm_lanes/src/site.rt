@@ -142,16 +142,17 @@ impl<R: Wait, G: Gate, K> Site<'_, R, G, K> {
         synced
     }
 
-    /// Does a step of the copy to a leg.
+    /// Does a step of the copy to a leg, which moves up to `most` blocks.
     pub(crate) fn copy<L: LegPart, D: Lane<L, K>>(
         &self,
         lane: &mut D,
         leg: u8,
+        most: u64,
     ) -> Result<Copying, Refusal>
         ensures follows { D.follows lane.old
-            (done_as (step.Copy leg) (answer_of_copy result) ∷ []) lane.new }
+            (done_as (step.Copy leg most) (answer_of_copy result) ∷ []) lane.new }
     {
-        let copied = lane.copy(self.rt, self.lock, leg);
+        let copied = lane.copy(self.rt, self.lock, leg, most);
         self.pass_gate(StepKind::Copy, None);
         copied
     }

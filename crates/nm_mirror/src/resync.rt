@@ -2,6 +2,7 @@
 ghost use Rattle.std.specs.Prelude.{◌<◌, length};
 
 use crate::mirror::Mirror;
+use nm_fanout::MOST_RUN;
 use nm_lanes::{CallKind, Gate, Place, StepKind};
 use nm_leg::LegPart;
 use nm_stripe::{LegState, Refusal, Stripe};
@@ -36,7 +37,7 @@ fn copy_to<L: LegPart>(stripe: &mut Stripe<L>, leg: u8) -> Try
 {
     Try {
         step: StepKind::Copy,
-        refusal: stripe.copy(leg).err(),
+        refusal: stripe.copy(leg, MOST_RUN as u64).err(),
     }
 }
 
@@ -61,7 +62,8 @@ fn help<L: LegPart>(stripe: &mut Stripe<L>, refusal: Refusal) -> Option<Try> {
 
 impl<L: LegPart, G: Gate + Drop> Mirror<L, G> {
     /// In every stripe, for each joining leg, does what brings it nearer to being in sync: calls it
-    /// so where nothing is left to copy to it, and else copies to it, by one block or half of one.
+    /// so where nothing is left to copy to it, and else copies to it, by a run of blocks or half of
+    /// that.
     /// Where a write or another copy stands in the way of the copy, it helps that by one step.
     ///
     /// Answers how many steps were not refused.

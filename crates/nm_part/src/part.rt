@@ -241,18 +241,24 @@ impl<L: LegPart> Part<L> {
         stripe.sync(leg)
     }
 
-    /// Does a step of the copy to a leg.
-    pub fn copy(&mut self, stripe: &mut Stripe<L>, leg: u8) -> Result<Copying, Refusal>
-        ensures step { AsksStripe (leg_type L.model L.honest) (step.Copy leg)
+    /// Does a step of the copy to a leg, which moves up to `most` blocks. Where it may move none it
+    /// is astray.
+    pub fn copy(
+        &mut self,
+        stripe: &mut Stripe<L>,
+        leg: u8,
+        most: u64,
+    ) -> Result<Copying, Refusal>
+        ensures step { AsksStripe (leg_type L.model L.honest) (step.Copy leg most)
             (answer_of_copy result) self.old (stripe.old, stripe.new) }
         ensures acts { IsTrue L.honest → IsExplainedStep L.model
-            (marks {L = L} (step.Copy leg) (answer_of_copy result)) stripe.old stripe.new }
+            (marks {L = L} (step.Copy leg most) (answer_of_copy result)) stripe.old stripe.new }
         ensures counted { self.new ≡ part_after {L = L} (answer_of_copy result) self.old }
     {
         stripe.sound();
-        if !self.has_leg(stripe, leg) {
+        if !self.has_leg(stripe, leg) || most == 0 {
             return Err(Refusal::Astray);
         }
-        stripe.copy(leg)
+        stripe.copy(leg, most)
     }
 }

@@ -28,8 +28,9 @@ const MOST_BLOCKS: u64 = 1 << 31;
 /// How many blocks a region has.
 const REGION: u64 = 128;
 
-/// How many blocks a chunk of a copy has.
-const CHUNK: u64 = 8;
+/// How many blocks a chunk of a copy has: a region, so that two calls copy it, and a copy that has
+/// no open chunk never stands inside a region.
+const CHUNK: u64 = REGION;
 
 /// How many bytes are read at once where reads follow one another. A region has a whole number of
 /// these, so that none is read which belongs to another stripe.

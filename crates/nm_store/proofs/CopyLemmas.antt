@@ -1,5 +1,5 @@
 -- The copy and the chunk that a step of a copy goes on with.
-use Rattle.std.proofs.Common.{Vec, ◌≡◌, ℕ, ◌*◌, ◌<◌, ◌==◌, Bool, true, false, cond, List, [], ◌∷◌, None, Some, Option, length, nat_lt, refl, sym, ap, ◌∙◌, subst, arith, position}
+use Rattle.std.proofs.Common.{Vec, ◌≡◌, ℕ, ◌*◌, ◌<◌, ◌≤◌, ◌==◌, IfSome, Bool, true, false, cond, List, [], ◌∷◌, None, Some, Option, length, nat_lt, refl, is_none, sym, ap, ◌∙◌, subst, arith, position}
 use Rattle.std.specs.List.{list_any}
 use Rattle.std.specs.Option.{IsSome, option_map, option_or}
 use Rattle.std.specs.Vec.{with_items}
@@ -10,7 +10,7 @@ use Rattle.std.proofs.lemmas.Option.{same_Some}
 use Rattle.std.proofs.Math.Nat.{lt_of_mul-lt-mul_right}
 use Rattle.nm_replay.specs.declared.block.Block.{Block}
 use Rattle.nm_leg.specs.Leg.{LegType}
-use Rattle.nm_rules.specs.BlockCalls.{ReadsBlockAt, WritesBlockAt}
+use Rattle.nm_rules.specs.RunCalls.{ReadsRunAt, WritesRunAt}
 use Rattle.nm_regions.specs.declared.copy_place.CopyPlace.{CopyPlace}
 use Rattle.nm_regions.specs.Changes.{advanced, cleared_for, moved, region_finished}
 use Rattle.nm_regions.specs.LegFlags.{no_leg}
@@ -18,13 +18,15 @@ use Rattle.nm_regions.specs.Links.{before_lowest}
 use Rattle.nm_regions.specs.Sound.{IsRegionTable}
 use Rattle.nm_regions.specs.Table.{RegionTable, copy_rest, has_behind, leg_at, lowest_behind, length_of, regions_of}
 use Rattle.nm_regions.proofs.Linking.{lowest-position}
-use Rattle.nm_rules.specs.Copy.{GoesOn, copy_cause, copy_of, chunk_copied}
+use Rattle.nm_resync.specs.Chunk.{IsChunk, length_of as chunk_blocks}
+use Rattle.nm_rules.specs.Copy.{GoesOn, chunk_of, chunk_or, copy_cause, copy_of, chunk_copied, new_chunk}
 use Rattle.nm_rules.specs.Invariant.{IsCopy, Keeps}
 use Rattle.nm_rules.specs.State.{StripeState, Chunk, table}
 use Rattle.nm_rules.proofs.ChunkLemmas.{copy-is}
 use Rattle.nm_rules.proofs.CopyLemmas.{may_copy, region-some}
 use Rattle.nm_rules.proofs.CopySteps.{goes-ready}
 use Rattle.nm_rules.proofs.StateLemmas.{joining_inside}
+use Rattle.nm_store.specs.Copying.{unread}
 
 -- a place before the end of a region is in one of the regions
 pub region-inside : (t : RegionTable) (region cursor : ℕ) → IsRegionTable t → cursor < length_of region t → region < length t.writes
@@ -122,21 +124,67 @@ legs-count legs new = sym legs.ok.0 ∙ (with_items legs new).ok.0
 pub stored : {X Z : Type 0} (legs : Vec X Z) (new : List X) → length new ≡ length legs.items → new ≡ (with_items legs new).items
 stored legs new same = sym (with_items_is legs new (same ∙ sym legs.ok.0))
 
--- a read and a write that failed, in the words of the state
-pub read-failed : {L Z : Type 0} (type : LegType L) (legs : Vec L Z) (lent new : List L) (ok : Bool) (leg at start : ℕ) (bytes : Block) → ReadsBlockAt type ok leg at lent new bytes → lent ≡ legs.items → ok ≡ false → at ≡ start
-    → ReadsBlockAt type false leg start legs.items (with_items legs new).items bytes
-read-failed type legs lent new ok leg at start bytes r whole failed is =
-    let same : length new ≡ length legs.items = ap (λ (xs : List _). length xs) r.change.others ∙ length-set lent leg r.after ∙ ap (λ (xs : List _). length xs) whole in
-    let one = subst (λ (b : Bool). ReadsBlockAt type b leg at lent new bytes) failed r in
-    let two = subst (λ (n : ℕ). ReadsBlockAt type false leg n lent new bytes) is one in
-    let three = subst (λ (xs : List _). ReadsBlockAt type false leg start xs new bytes) whole two in
-    subst (λ (xs : List _). ReadsBlockAt type false leg start legs.items xs bytes) (stored legs new same) three
+-- a read and a write of a run, in the words of the state
+module _ {L Z : Type 0} (type : LegType L) (legs : Vec L Z) (lent new : List L) (ok is_ok : Bool) (leg at start : ℕ) (whole : lent ≡ legs.items) (answers : ok ≡ is_ok) (is : at ≡ start) where
+  pub read-in : (found : List Block) → ReadsRunAt type ok leg at found lent new → ReadsRunAt type is_ok leg start found legs.items (with_items legs new).items
+  read-in found r =
+      let same : length new ≡ length legs.items = ap (λ (xs : List L). length xs) r.change.others ∙ length-set lent leg r.after ∙ ap (λ (xs : List L). length xs) whole in
+      let one = subst (λ (b : Bool). ReadsRunAt type b leg at found lent new) answers r in
+      let two = subst (λ (n : ℕ). ReadsRunAt type is_ok leg n found lent new) is one in
+      let three = subst (λ (xs : List L). ReadsRunAt type is_ok leg start found xs new) whole two in
+      subst (λ (xs : List L). ReadsRunAt type is_ok leg start found legs.items xs) (stored legs new same) three
 
-pub write-failed : {L Z : Type 0} (type : LegType L) (legs : Vec L Z) (lent new : List L) (ok : Bool) (leg at start : ℕ) (bytes : List ℕ) → WritesBlockAt type ok leg at bytes lent new → lent ≡ legs.items → ok ≡ false → at ≡ start
-    → WritesBlockAt type false leg start bytes legs.items (with_items legs new).items
-write-failed type legs lent new ok leg at start bytes w whole failed is =
-    let same : length new ≡ length legs.items = ap (λ (xs : List _). length xs) w.change.others ∙ length-set lent leg w.after ∙ ap (λ (xs : List _). length xs) whole in
-    let one = subst (λ (b : Bool). WritesBlockAt type b leg at bytes lent new) failed w in
-    let two = subst (λ (n : ℕ). WritesBlockAt type false leg n bytes lent new) is one in
-    let three = subst (λ (xs : List _). WritesBlockAt type false leg start bytes xs new) whole two in
-    subst (λ (xs : List _). WritesBlockAt type false leg start bytes legs.items xs) (stored legs new same) three
+  pub write-in : (written blocks : List Block) → written ≡ blocks → WritesRunAt type ok leg at written lent new → WritesRunAt type is_ok leg start blocks legs.items (with_items legs new).items
+  write-in written blocks these w =
+      let same : length new ≡ length legs.items = ap (λ (xs : List L). length xs) w.change.others ∙ length-set lent leg w.after ∙ ap (λ (xs : List L). length xs) whole in
+      let one = subst (λ (b : Bool). WritesRunAt type b leg at written lent new) answers w in
+      let two = subst (λ (n : ℕ). WritesRunAt type is_ok leg n written lent new) is one in
+      let three = subst (λ (bs : List Block). WritesRunAt type is_ok leg start bs lent new) these two in
+      let four = subst (λ (xs : List L). WritesRunAt type is_ok leg start blocks xs new) whole three in
+      subst (λ (xs : List L). WritesRunAt type is_ok leg start blocks legs.items xs) (stored legs new same) four
+
+-- the chunk that a step goes on with, by how many blocks the open one has
+pub open-length : (o : Option Chunk) (new : Chunk) (most : ℕ) → IfSome o (IsChunk most) → 0 < chunk_blocks o → (chunk_blocks o ≡ (chunk_or o new).length) × (chunk_blocks o ≤ most)
+open-length None new most is some = absurd (let e : ⊥ = omega (arith, some) in e)
+open-length (Some c) new most is some = (refl, is.fits)
+
+pub none-open : (o : Option Chunk) (new : Chunk) (most : ℕ) → IfSome o (IsChunk most) → chunk_blocks o ≤ 0 → chunk_or o new ≡ new
+none-open None new most is none = refl
+none-open (Some c) new most is none = absurd (let e : ⊥ = omega (arith, none, is.some) in e)
+
+-- a new chunk that opens with so many blocks is the one that a step goes on with
+pub kept-chunk : {L : Type 0} (s : StripeState L) (copy : CopyPlace) (blocks : ℕ) → blocks ≡ (chunk_of copy s).length → chunk_or s.chunk (unread blocks) ≡ chunk_of copy s
+kept-chunk s copy blocks is = or s.chunk is
+  where
+    or : (o : Option Chunk) → blocks ≡ (chunk_or o (new_chunk copy s)).length → chunk_or o (unread blocks) ≡ chunk_or o (new_chunk copy s)
+    or None same = ap (λ (n : ℕ). unread n) same
+    or (Some c) same = refl
+
+-- a copy that opens, and one that is open, are at the place that a step goes on with
+pub opens-at : {L : Type 0} (s : StripeState L) (copy : CopyPlace) → is_none s.copy ≡ true → copy_of copy.leg s ≡ Some copy → (let o : Option CopyPlace = Some (record { leg = copy.leg; region = copy.region; cursor = 0 }) in o) ≡ Some copy
+opens-at s copy none is = by s.copy none is
+  where
+    first : ℕ → CopyPlace
+    first region = record { leg = copy.leg; region = region; cursor = 0 }
+
+    by : (o : Option CopyPlace) → is_none o ≡ true → option_or o (option_map first (lowest_behind copy.leg (table s))) ≡ Some copy → (let p : Option CopyPlace = Some (first copy.region) in p) ≡ Some copy
+    by None shut e =
+        let found = mapped first (lowest_behind copy.leg (table s)) copy e in
+        ap (λ (c : CopyPlace). let p : Option CopyPlace = Some c in p) (ap (λ (c : CopyPlace). first c.region) (sym found.2) ∙ found.2)
+    by (Some c) shut e = cc
+
+pub open-at : {L : Type 0} (s : StripeState L) (copy : CopyPlace) → is_none s.copy ≡ false → copy_of copy.leg s ≡ Some copy → s.copy ≡ Some copy
+open-at s copy some is = by s.copy _ some is
+  where
+    by : (o low : Option CopyPlace) → is_none o ≡ false → option_or o low ≡ Some copy → o ≡ Some copy
+    by None low shut e = cc
+    by (Some c) low shut e = e
+
+-- a chunk that closes is written to its end, and one that does not is not
+pub closes : (v : Bool) (l b : ℕ) → (let o : Option ℕ = cond v (Some l) None in o) ≡ Some b → (v ≡ true) × (b ≡ l)
+closes true l b is = (refl, sym (same_Some l b is))
+closes false l b is = cc
+
+pub stays-open : (v : Bool) (l : ℕ) → (let o : Option ℕ = cond v (Some l) None in o) ≡ None → v ≡ false
+stays-open true l is = cc
+stays-open false l is = refl
