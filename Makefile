@@ -3,11 +3,13 @@ RT ?= rt
 export RT
 
 .DEFAULT_GOAL := help
-.PHONY: help run script demo interop hostile check gate-cost must-fail wrong-bodies fail-alloc bench bench-server fmt
+.PHONY: help run script demo interop hostile install deb check gate-cost must-fail wrong-bodies fail-alloc bench bench-server fmt
 
 help:
 	@echo 'make run           build nbdmirror and serve two legs of 64 MiB, until a quit; PORT=20809 for other ports than 10809 and 10810'
 	@echo 'make demo          build nbdmirror and show it: a leg fails, comes back, and is copied'
+	@echo 'make install       build nbdmirror and install it below PREFIX (/usr/local), in DESTDIR'
+	@echo 'make deb           build nbdmirror and a package of it for Debian, out/nbdmirror_VERSION_amd64.deb'
 	@echo 'make interop       other programs against nbdmirror; installs what is missing'
 	@echo 'make hostile       clients, legs and crashes that do harm, for about three quarters of an hour; FORM=short for a minute or two'
 	@echo 'make script        build nm_script and run it on the example script'
@@ -31,6 +33,12 @@ interop:
 
 hostile:
 	@tools/build-server && interop/hostile/run
+
+install:
+	@tools/build-server && packaging/install
+
+deb:
+	@tools/build-server && packaging/deb
 
 script:
 	@echo 'The first time this proves nm_script and what it stands on, which takes about 5 minutes on 4 cores.' >&2

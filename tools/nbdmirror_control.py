@@ -18,6 +18,8 @@ MOST_BYTES, MOST_STRIPES = 4096, 1024
 STRIPE = re.compile(r"stripe (\d{1,20}): (.*)")
 RUNNING = re.compile(r"master (\d{1,20}) settling (yes|no) legs((?: (?:in|out|join\(\d{1,20}\)))+)")
 FAILED = re.compile(r"fail (\d+): failed (\d+) last (\d+) out (\d+) stopped (\d+)")
+UNREAD = re.compile(r"unread (\d{1,20}) (\d{1,20}) (\d{1,20}) (\d{1,20})")
+UNREAD_END = re.compile(r"end (\d{1,20})")
 ATTACHED = re.compile(r"attach (\d+): joining (\d+) left (\d+) notout (\d+) stopped (\d+)")
 
 
@@ -104,6 +106,15 @@ class Control:
         self.send("status")
         return [stripe_of(line) for line in self.status_lines()]
 
+    def unread(self):
+        """The regions that could not be read, so that they were not copied. None where the server does not tell."""
+        self.send("unread")
+        regions = []
+        while found := UNREAD.fullmatch(line := self.next_line()):
+            regions.append(dict(zip(("stripe", "region", "offset", "length"), map(int, found.groups()))))
+        end = UNREAD_END.fullmatch(line)
+        return {"count": int(end[1]), "regions": regions} if end else None
+
 
 def leg_of(word):
     """A leg's state in a stripe, and how many blocks it lacks there: None where that is not told."""
@@ -143,6 +154,11 @@ def legs_in(stripes, state):
             if leg["state"] == state:
                 found.setdefault(number, []).append(leg["left"])
     return found
+
+
+def is_copying(stripes):
+    """Whether something is left to copy to some leg."""
+    return any(sum(left) for left in legs_in(stripes, "join").values())
 
 
 def count_of_legs(stripes):

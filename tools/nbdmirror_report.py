@@ -235,9 +235,21 @@ def status_lines(stripes, copies, most, has_colours, *, is_watched=False, is_lon
     return lines
 
 
-def health(stripes):
+def unread_sentence(unread):
+    """Which regions cannot be read, or nothing where there are none. The first eight are named."""
+    if not unread or not unread["count"]:
+        return ""
+    count = unread["count"]
+    named_ones = [f"{region['length']} bytes at {region['offset']}" for region in unread["regions"][:8]]
+    more = [f"{count - len(named_ones)} more"] if count > len(named_ones) else []
+    return f"{count} {'region' if count == 1 else 'regions'} cannot be read: {', '.join(named_ones + more)}"
+
+
+def health(stripes, unread=None):
     """What a monitoring check says: its level, and why in a line."""
     found, count = [], len(stripes)
+    if text := unread_sentence(unread):
+        found.append((CRITICAL, text))
     if stopped := [stripe["stripe"] for stripe in stripes if stripe["stopped"]]:
         found.append((CRITICAL, f"{named(stopped)} stopped"))
     for leg, left in sorted(legs_in(stripes, "out").items()):

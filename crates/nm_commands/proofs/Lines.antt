@@ -7,7 +7,7 @@ use Rattle.std.proofs.lemmas.Fmt.{IsAscii-from_digits}
 use Rattle.std.proofs.Math.Seq.{take-append_seam}
 use Rattle.nm_commands.specs.ControlLine.{Asks, IsNumeralOf, IsQuitWithin, IsWithNumber}
 use Rattle.nm_commands.specs.declared.control_command.ControlCommand.{ControlCommand}
-use Rattle.nm_commands.specs.declared.control_command.ControlCommand.TheVariants.{Status, Fail, Attach, Quit, QuitWithin, Bad}
+use Rattle.nm_commands.specs.declared.control_command.ControlCommand.TheVariants.{Status, Unread, Fail, Attach, Quit, QuitWithin, Bad}
 
 -- a word of digits is text
 pub named_is_text : (word : List ℕ) (leg : ℕ) → IsNumeralOf word leg → IsUtf8 word
@@ -48,14 +48,17 @@ pub other_start : (start line word : List ℕ) → (take (length start) line ≡
 other_start start line word other e =
     other (ap (take (length start)) e ∙ take-append_seam start word)
 
-pub asks_nothing : (line : List ℕ) → (line ≡ codes "status" → ⊥) → (line ≡ codes "quit" → ⊥) →
+pub asks_nothing : (line : List ℕ) → (line ≡ codes "status" → ⊥) → (line ≡ codes "unread" → ⊥) →
+    (line ≡ codes "quit" → ⊥) →
     ((leg : ℕ) → IsWithNumber (codes "fail ") line leg → ⊥) →
     ((leg : ℕ) → IsWithNumber (codes "attach ") line leg → ⊥) →
     ((seconds : ℕ) → IsQuitWithin line seconds → ⊥) →
     (command : ControlCommand) → Asks line command → ⊥
-asks_nothing line status quit fail attach within Status asks = status asks
-asks_nothing line status quit fail attach within (Fail leg) asks = fail leg asks
-asks_nothing line status quit fail attach within (Attach leg) asks = attach leg asks
-asks_nothing line status quit fail attach within Quit asks = quit asks
-asks_nothing line status quit fail attach within (QuitWithin seconds) asks = within seconds asks
-asks_nothing line status quit fail attach within Bad asks = asks
+asks_nothing line status unread quit fail attach within Status asks = status asks
+asks_nothing line status unread quit fail attach within Unread asks = unread asks
+asks_nothing line status unread quit fail attach within (Fail leg) asks = fail leg asks
+asks_nothing line status unread quit fail attach within (Attach leg) asks = attach leg asks
+asks_nothing line status unread quit fail attach within Quit asks = quit asks
+asks_nothing line status unread quit fail attach within (QuitWithin seconds) asks =
+    within seconds asks
+asks_nothing line status unread quit fail attach within Bad asks = asks

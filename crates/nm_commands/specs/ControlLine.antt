@@ -2,7 +2,7 @@
 use Rattle.std.specs.Prelude.{◌≡◌, ◌<◌, ◌≤◌, ℕ, ◌^◌, List, ◌++◌, length, codes}
 use Rattle.std.specs.Str.Parse.{IsNumeral, digits_value}
 use Rattle.nm_commands.specs.declared.control_command.ControlCommand.{ControlCommand}
-use Rattle.nm_commands.specs.declared.control_command.ControlCommand.TheVariants.{Status, Fail}
+use Rattle.nm_commands.specs.declared.control_command.ControlCommand.TheVariants.{Status, Unread, Fail}
 use Rattle.nm_commands.specs.declared.control_command.ControlCommand.TheVariants.{Attach, Quit}
 use Rattle.nm_commands.specs.declared.control_command.ControlCommand.TheVariants.{QuitWithin, Bad}
 
@@ -26,6 +26,7 @@ pub record IsQuitWithin (line : List ℕ) (seconds : ℕ) : Type 0 where
 -- The line asks for this.
 abbrev pub Asks : List ℕ → ControlCommand → Type 0
 Asks line Status = line ≡ codes "status"
+Asks line Unread = line ≡ codes "unread"
 Asks line (Fail leg) = IsWithNumber (codes "fail ") line leg
 Asks line (Attach leg) = IsWithNumber (codes "attach ") line leg
 Asks line Quit = line ≡ codes "quit"

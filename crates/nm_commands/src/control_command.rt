@@ -12,6 +12,8 @@ const MOST_SECONDS: u64 = 86_400;
 pub enum ControlCommand {
     /// The state of each stripe.
     Status,
+    /// The regions that could not be read, so that they were not copied.
+    Unread,
     /// The leg goes out in every stripe.
     Fail(u64),
     /// The leg is to be copied again in every stripe.
@@ -77,6 +79,9 @@ pub fn control_line(line: &[u8]) -> ControlCommand
 {
     if line == b"status".as_slice() {
         return ControlCommand::Status;
+    }
+    if line == b"unread".as_slice() {
+        return ControlCommand::Unread;
     }
     if line == b"quit".as_slice() {
         return ControlCommand::Quit;

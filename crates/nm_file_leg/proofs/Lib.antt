@@ -2,7 +2,6 @@ pub mod BlockLemmas
 pub mod LegLemmas
 pub mod MediaLemmas
 pub mod PlaceLemmas
-pub mod ReadAheadLemmas
 pub mod RuleLemmas
 pub mod RunLemmas
 pub mod StepLemmas

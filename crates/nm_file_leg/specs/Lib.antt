@@ -2,5 +2,4 @@ pub mod Blocks
 pub mod FileLeg
 pub mod Media
 pub mod Medium
-pub mod ReadAheadBuffer
 pub mod Runs

@@ -6,7 +6,7 @@
 --     nobody changes the length.
 --   * A failed sync fails the next sync of every user: whoever's it is, it is told to each user
 --     that has written since the last sync that succeeded.
-use Rattle.std.specs.Prelude.{◌≡◌, ℕ, ◌+◌, ◌/◌, ◌<◌, ◌≤◌, ◌⊎◌, Bool, IsTrue, IsFalse}
+use Rattle.std.specs.Prelude.{◌≡◌, ℕ, ◌+◌, ◌<◌, ◌≤◌, ◌⊎◌, Bool, IsTrue, IsFalse}
 use Rattle.std.specs.Prelude.{List, length, take, replicate, Result, IfOk, OnOk}
 unfoldable pub use Rattle.nm_leg.specs.Bytes.{spliced, window}
 
@@ -23,11 +23,6 @@ pub record Held : Type 0 where
 -- these bytes are the user's own
 abbrev pub Owns : Held → (from many : ℕ) → Type 0
 Owns held from many = (at : ℕ) → from ≤ at → at < from + many → IsTrue (held.own at)
-
--- of each row of so many bytes, the first of which begins with the medium, the user owns all or
--- none
-abbrev pub OwnsWholeRows : Held → (row : ℕ) → Type 0
-OwnsWholeRows held row = (at other : ℕ) → at / row ≡ other / row → held.own at ≡ held.own other
 
 -- the next sync that succeeds makes these bytes durable
 abbrev pub Kept : Held → ℕ → ℕ → Type 0

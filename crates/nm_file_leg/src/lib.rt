@@ -2,9 +2,9 @@
 //!
 //! `Medium` says what a medium is asked for, and what an honest one does. `FileLeg` keeps the
 //! blocks of one stripe in one: over an honest medium it is an honest leg. `MemMedium` is an honest
-//! medium in memory, `ReadAhead` keeps what it reads ahead, and `FuseMedium` fails calls for tests.
-//! `SharedFile` is a file that is opened once for several legs, and `FileUser` the medium of one of
-//! them, which promises nothing of its contents.
+//! medium in memory, and `FuseMedium` fails calls for tests. `SharedFile` is a file that is opened
+//! once for several legs, and `FileUser` the medium of one of them, which promises nothing of its
+//! contents.
 #![tactic(auto)]
 
 pub use backing_file::BackingFile;
@@ -13,7 +13,6 @@ pub use file_user::FileUser;
 pub use fuse_medium::FuseMedium;
 pub use medium::Medium;
 pub use mem_medium::MemMedium;
-pub use read_ahead::ReadAhead;
 pub use shared_file::SharedFile;
 pub use sync_counts::{is_covered, may_have_lost};
 
@@ -23,8 +22,6 @@ mod file_user;
 mod fuse_medium;
 mod medium;
 mod mem_medium;
-mod read_ahead;
-mod read_ahead_buffer;
 mod runs;
 mod shared_file;
 mod splice;

@@ -51,7 +51,7 @@ module _ {L : Type 0} where
   no-sync leg (Fail other) ticket a = a
   no-sync leg (Attach other) ticket a = a
   no-sync leg (Replace other new) ticket a = a
-  no-sync leg (Copy other) ticket a = a
+  no-sync leg (Copy other most from) ticket a = a
   no-sync leg (Promote other) ticket a = a
   no-sync leg (Sync other) ticket a = a
 

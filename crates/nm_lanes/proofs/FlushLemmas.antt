@@ -1,6 +1,6 @@
 -- Syncs of every leg, one stripe more at a time.
 use Rattle.std.proofs.Common.{◌≡◌, ◌⊎◌, inl, inr, ℕ, ◌<◌, List, [], ◌∷◌, ◌++◌, length, get_or, slice_set, refl, sym, ap, ◌∙◌, subst}
-use Rattle.nm_lanes.specs.declared.cause.Cause.{Cause}
+use Rattle.nm_lanes.specs.declared.call_error.CallError.{CallError}
 use Rattle.nm_lanes.specs.Done.{Done}
 use Rattle.nm_lanes.specs.Ends.{LaneTries}
 use Rattle.nm_lanes.specs.Flushes.{OnlySyncs, SyncsIn, IsStripeFlush, HasFlushed, HasFlushedSome}
@@ -8,6 +8,7 @@ use Rattle.nm_lanes.specs.Lists.{MirrorStep, steps_in, stripe_list, own_steps}
 use Rattle.nm_lanes.specs.Syncs.{AllSync, LaneSyncs}
 use Rattle.nm_lanes.proofs.EachLemmas.{each-map}
 use Rattle.nm_lanes.proofs.LiftLemmas.{list-same, list-append, own_steps-append, own-in, leads-none, leads-lane, leads-append}
+use Rattle.nm_lanes.proofs.ShareLemmas.{tries-share}
 use Rattle.nm_lanes.proofs.SyncLemmas.{synced-left, synced-right, own-flush}
 
 only-in : {L : Type 0} (legs stripe : ℕ) (own : List (Done L)) → AllSync legs own → OnlySyncs legs (λ other. other ≡ stripe) (steps_in stripe own)
@@ -72,12 +73,12 @@ module _ {L D : Type 0} (follows : D → List (Done L) → D → Type 0) where
   pub flush-as : (lanes : List D × List D) (legs : ℕ) (In All : ℕ → Type 0) → ((stripe : ℕ) → In stripe → All stripe) → ((stripe : ℕ) → All stripe → In stripe) → HasFlushed follows legs In lanes → HasFlushed follows legs All lanes
   flush-as lanes legs In All there back a = record { own = a.own; does = a.does; only = only-more legs In All there a.own a.only; each = λ stripe is. a.each stripe (back stripe is) }
 
-  pub flush_some-as : (lanes : List D × List D) (legs : ℕ) (In All : ℕ → Type 0) (cause : Cause) → ((stripe : ℕ) → In stripe → All stripe) → HasFlushedSome follows legs In lanes cause → HasFlushedSome follows legs All lanes cause
+  pub flush_some-as : (lanes : List D × List D) (legs : ℕ) (In All : ℕ → Type 0) (cause : CallError) → ((stripe : ℕ) → In stripe → All stripe) → HasFlushedSome follows legs In lanes cause → HasFlushedSome follows legs All lanes cause
   flush_some-as lanes legs In All cause there a = record {
     stripe = there cause.stripe a.stripe;
     tried = record {
       inside = a.tried.inside;
       each = each-map (λ stripe old new. LaneTries follows (SyncsIn legs In stripe) cause stripe old new) (λ stripe old new. LaneTries follows (SyncsIn legs All stripe) cause stripe old new) 0 lanes.0 lanes.1
-          (λ stripe old new from upto t. record { own = t.own; share = in-more legs In All stripe (there stripe) t.own t.share; did = t.did; ends = t.ends }) a.tried.each;
+          (λ stripe old new from upto t. tries-share follows (SyncsIn legs In stripe) (SyncsIn legs All stripe) cause stripe old new (λ own some. in-more legs In All stripe (there stripe) own some) t) a.tried.each;
     };
   }

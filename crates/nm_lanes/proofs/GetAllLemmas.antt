@@ -5,31 +5,31 @@ use Rattle.std.proofs.Math.Seq.{take-append-add}
 use Rattle.std.proofs.lemmas.List.{length-append, take-append-le}
 use Rattle.nm_lanes.specs.declared.run.Run.{Run}
 use Rattle.nm_geometry.specs.Geometry.{Geometry}
-use Rattle.nm_lanes.specs.declared.cause.Cause.{Cause}
-use Rattle.nm_lanes.specs.declared.stretch.Stretch.{Stretch}
+use Rattle.nm_lanes.specs.declared.call_error.CallError.{CallError}
+use Rattle.nm_lanes.specs.declared.piece_range.PieceRange.{PieceRange}
 use Rattle.nm_lanes.specs.Done.{Done}
 use Rattle.nm_lanes.specs.Ends.{EachLane, LaneDid, LaneTries}
-use Rattle.nm_lanes.specs.Gets.{IsReadStretch, ReadsNext}
-use Rattle.nm_lanes.specs.Stretches.{runs_in_stretch, bytes_of, first_of, rest_of}
+use Rattle.nm_lanes.specs.Gets.{IsReadPieceRange, ReadsNext}
+use Rattle.nm_lanes.specs.PieceRanges.{runs_in_pieces, bytes_of, first_of, rest_of}
 use Rattle.nm_lanes.specs.Lists.{MirrorStep, steps_in, stripe_list}
 use Rattle.nm_lanes.specs.Reads.{HasRead, HasReadSome, ReadsEach, ReadsSomeIn, RunIn, runs_in}
 use Rattle.nm_lanes.specs.Rounds.{EndedLanes}
 use Rattle.nm_lanes.proofs.ClaimedLemmas.{reads-claimed}
 use Rattle.nm_lanes.proofs.EachLemmas.{each-append, each-map, each-same}
 use Rattle.nm_lanes.proofs.GetListLemmas.{runs_in-append, some-right, some-append, each-in, lies-left, lies-right}
-use Rattle.nm_lanes.proofs.GetStretchLemmas.{rest-read}
+use Rattle.nm_lanes.proofs.GetPieceRangeLemmas.{rest-read}
 use Rattle.nm_lanes.proofs.GetRoundLemmas.{read-append}
 use Rattle.nm_lanes.proofs.LiftLemmas.{in-append, does-none}
-use Rattle.nm_lanes.proofs.StretchLemmas.{parts}
+use Rattle.nm_lanes.proofs.PieceRangeLemmas.{parts}
 use Rattle.nm_lanes.proofs.ShareLemmas.{own-list, tries-share, each-behind, tries-behind}
 
 module _ {L D : Type 0} (follows : D → List (Done L) → D → Type 0) (stays : (lane : D) → follows lane [] lane) where
   -- a lane that was left alone
-  rests : (shape : Geometry) (runs : List Run) (cause : Cause) (stripe : ℕ) (lane : D) → (stripe ≡ cause.stripe → ⊥) → LaneTries follows (λ own. ReadsSomeIn shape runs stripe own) cause stripe lane lane
+  rests : (shape : Geometry) (runs : List Run) (cause : CallError) (stripe : ℕ) (lane : D) → (stripe ≡ cause.stripe → ⊥) → LaneTries follows (λ own. ReadsSomeIn shape runs stripe own) cause stripe lane lane
   rests shape runs cause stripe lane other = record { own = []; share = tt; did = inl (tt, record { list = []; leads = stays lane; own_is = refl }); ends = λ same. absurd (other same) }
 
   -- the call ended in a round, after which other runs are left
-  pub round-ended : (shape : Geometry) (now later : List Run) (cause : Cause) (first : ℕ) (before xs us after : List D) → length before ≡ first → RunIn shape now cause.stripe
+  pub round-ended : (shape : Geometry) (now later : List Run) (cause : CallError) (first : ℕ) (before xs us after : List D) → length before ≡ first → RunIn shape now cause.stripe
       → EndedLanes follows (λ stripe own. ReadsSomeIn shape now stripe own) first (xs, us) cause → HasReadSome follows shape (now ++ later) (before ++ (xs ++ after), before ++ (us ++ after)) cause
   round-ended shape now later cause first before xs us after at lies a =
       let Tries : ℕ → D → D → Type 0 = λ stripe old new. LaneTries follows (λ own. ReadsSomeIn shape (now ++ later) stripe own) cause stripe old new in
@@ -71,7 +71,7 @@ module _ {L D : Type 0} (follows : D → List (Done L) → D → Type 0)
   }
 
   -- rounds that went through, and one that ended the call
-  read-ended : (shape : Geometry) (first rest : List Run) (target : List ℕ) (cause : Cause) (old mid new : List D) → HasRead follows shape first (old, mid) target → HasReadSome follows shape rest (mid, new) cause → HasReadSome follows shape (first ++ rest) (old, new) cause
+  read-ended : (shape : Geometry) (first rest : List Run) (target : List ℕ) (cause : CallError) (old mid new : List D) → HasRead follows shape first (old, mid) target → HasReadSome follows shape rest (mid, new) cause → HasReadSome follows shape (first ++ rest) (old, new) cause
   read-ended shape first rest target cause old mid new a b = record {
     stripe = lies-right shape first rest cause.stripe b.stripe;
     tried = record {
@@ -85,33 +85,33 @@ module _ {L D : Type 0} (follows : D → List (Done L) → D → Type 0)
   }
 
 -- so many rounds are done: these bytes were found, and so many are still to be
-pub record GetAllSoFar {L D : Type 0} (follows : D → List (Done L) → D → Type 0) (shape : Geometry) (all : List Run) (left : Stretch) (found : List ℕ) (more : ℕ) (old lanes : List D) : Type 0 where
+pub record GetAllSoFar {L D : Type 0} (follows : D → List (Done L) → D → Type 0) (shape : Geometry) (all : List Run) (left : PieceRange) (found : List ℕ) (more : ℕ) (old lanes : List D) : Type 0 where
   pub done : List Run
-  pub all_are : all ≡ done ++ runs_in_stretch shape left
+  pub all_are : all ≡ done ++ runs_in_pieces shape left
   pub read : HasRead follows shape done (old, lanes) found
-  pub rest : IsReadStretch shape left more
+  pub rest : IsReadPieceRange shape left more
 
 module _ {L D : Type 0} (follows : D → List (Done L) → D → Type 0)
     (joins : (first mid last : D) (before after : List (Done L)) → follows first before mid → follows mid after last → follows first (before ++ after) last) where
-  pub all-more : (shape : Geometry) (all : List Run) (left : Stretch) (found next both : List ℕ) (more after : ℕ) (old mid new : List D) (done : ℕ) → both ≡ found ++ take (bytes_of left done) next → more ≡ bytes_of left done + after
+  pub all-more : (shape : Geometry) (all : List Run) (left : PieceRange) (found next both : List ℕ) (more after : ℕ) (old mid new : List D) (done : ℕ) → both ≡ found ++ take (bytes_of left done) next → more ≡ bytes_of left done + after
       → GetAllSoFar follows shape all left found more old mid → ReadsNext follows shape left (mid, new) next done → GetAllSoFar follows shape all (rest_of done left) both after old new
   all-more shape all left found next both more after old mid new done is long a b =
       let now = take (bytes_of left done) next in
       record {
-        done = a.done ++ runs_in_stretch shape (first_of done left);
-        all_are = a.all_are ∙ ap (λ (ps : List Run). a.done ++ ps) (parts shape left done b.most b.ends) ∙ sym (append_assoc a.done (runs_in_stretch shape (first_of done left)) (runs_in_stretch shape (rest_of done left)));
-        read = subst (λ (bs : List ℕ). HasRead follows shape (a.done ++ runs_in_stretch shape (first_of done left)) (old, new) bs) (sym is) (read-append follows joins shape a.done (runs_in_stretch shape (first_of done left)) old mid new found now a.read b.read);
+        done = a.done ++ runs_in_pieces shape (first_of done left);
+        all_are = a.all_are ∙ ap (λ (ps : List Run). a.done ++ ps) (parts shape left done b.most b.ends) ∙ sym (append_assoc a.done (runs_in_pieces shape (first_of done left)) (runs_in_pieces shape (rest_of done left)));
+        read = subst (λ (bs : List ℕ). HasRead follows shape (a.done ++ runs_in_pieces shape (first_of done left)) (old, new) bs) (sym is) (read-append follows joins shape a.done (runs_in_pieces shape (first_of done left)) old mid new found now a.read b.read);
         rest = rest-read shape left done more (bytes_of left done) after b.most refl long a.rest;
       }
 
-  pub all-ended : (shape : Geometry) (all : List Run) (left : Stretch) (found : List ℕ) (more : ℕ) (old mid new : List D) (cause : Cause) → GetAllSoFar follows shape all left found more old mid
-      → HasReadSome follows shape (runs_in_stretch shape left) (mid, new) cause → HasReadSome follows shape all (old, new) cause
+  pub all-ended : (shape : Geometry) (all : List Run) (left : PieceRange) (found : List ℕ) (more : ℕ) (old mid new : List D) (cause : CallError) → GetAllSoFar follows shape all left found more old mid
+      → HasReadSome follows shape (runs_in_pieces shape left) (mid, new) cause → HasReadSome follows shape all (old, new) cause
   all-ended shape all left found more old mid new cause a b =
-      subst (λ (ps : List Run). HasReadSome follows shape ps (old, new) cause) (sym a.all_are) (read-ended follows joins shape a.done (runs_in_stretch shape left) found cause old mid new a.read b)
+      subst (λ (ps : List Run). HasReadSome follows shape ps (old, new) cause) (sym a.all_are) (read-ended follows joins shape a.done (runs_in_pieces shape left) found cause old mid new a.read b)
 
 module _ {L D : Type 0} (follows : D → List (Done L) → D → Type 0) (stays : (lane : D) → follows lane [] lane) where
-  pub all-begins : (shape : Geometry) (stretch : Stretch) (target : ℕ) (old : List D) → IsReadStretch shape stretch target → GetAllSoFar follows shape (runs_in_stretch shape stretch) stretch [] target old old
-  all-begins shape stretch target old a = record { done = []; all_are = refl; read = record { own = []; does = does-none follows stays old; each = tt; filled = refl }; rest = a }
+  pub all-begins : (shape : Geometry) (pieces : PieceRange) (target : ℕ) (old : List D) → IsReadPieceRange shape pieces target → GetAllSoFar follows shape (runs_in_pieces shape pieces) pieces [] target old old
+  all-begins shape pieces target old a = record { done = []; all_are = refl; read = record { own = []; does = does-none follows stays old; each = tt; filled = refl }; rest = a }
 
 -- what stands in a target up to a byte of what was put after its first bytes
 pub taken-more : (taken more : ℕ) (into new : List ℕ) → taken ≤ length into → more ≤ length new → take (taken + more) (put_mid taken (length into - taken) into new) ≡ take taken into ++ take more new

@@ -3,7 +3,7 @@ use Rattle.std.proofs.Common.{Result, Ok, Err, ◌≡◌, ℕ, ◌+◌, ◌≤�
 use Rattle.std.proofs.lemmas.List.{length-append}
 use Rattle.nm_lanes.specs.declared.run.Run.{Run}
 use Rattle.nm_geometry.specs.Geometry.{Geometry}
-use Rattle.nm_lanes.specs.declared.cause.Cause.{Cause}
+use Rattle.nm_lanes.specs.declared.call_error.CallError.{CallError}
 use Rattle.nm_lanes.specs.Done.{Done}
 use Rattle.nm_lanes.specs.Ends.{LaneDid}
 use Rattle.nm_lanes.specs.Halves.{first_cause}
@@ -47,18 +47,18 @@ module _ {L D : Type 0} (follows : D → List (Done L) → D → Type 0)
       let all = read-append shape low high (before ++ (xs ++ (ys ++ after))) (before ++ (us ++ (ys ++ after))) (before ++ (us ++ (vs ++ after))) front back one next in
       rw (append_assoc xs ys after, append_assoc us vs after) all
 
-  ends-both : {A : Type 0} (shape : Geometry) (low high : List Run) (first : ℕ) (xs us ys vs : List D) (front back : List ℕ) (upper : Result A Cause) → length us ≡ length xs → ReadOn follows shape low first (xs, us) front → EndsReads follows shape high (first + length xs) (ys, vs) back upper → EndsReads follows shape (low ++ high) first (xs ++ ys, us ++ vs) (front ++ back) upper
+  ends-both : {A : Type 0} (shape : Geometry) (low high : List Run) (first : ℕ) (xs us ys vs : List D) (front back : List ℕ) (upper : Result A CallError) → length us ≡ length xs → ReadOn follows shape low first (xs, us) front → EndsReads follows shape high (first + length xs) (ys, vs) back upper → EndsReads follows shape (low ++ high) first (xs ++ ys, us ++ vs) (front ++ back) upper
   ends-both shape low high first xs us ys vs front back (Ok done) same a b = read-both shape low high first xs us ys vs front back same a b
   ends-both shape low high first xs us ys vs front back (Err cause) same a b = lies-right shape low high cause.stripe b
 
-  ends-halves : {A : Type 0} (shape : Geometry) (low high : List Run) (first : ℕ) (xs us ys vs : List D) (front back : List ℕ) (lower upper : Result A Cause)
+  ends-halves : {A : Type 0} (shape : Geometry) (low high : List Run) (first : ℕ) (xs us ys vs : List D) (front back : List ℕ) (lower upper : Result A CallError)
       → RunsLanes follows (λ stripe own. ReadsSomeIn shape low stripe own) (λ stripe own. ReadsSomeIn shape low stripe own) first (xs, us) lower
       → EndsReads follows shape low first (xs, us) front lower → EndsReads follows shape high (first + length xs) (ys, vs) back upper → EndsReads follows shape (low ++ high) first (xs ++ ys, us ++ vs) (front ++ back) (first_cause lower upper)
   ends-halves shape low high first xs us ys vs front back (Ok done) upper each a b = ends-both shape low high first xs us ys vs front back upper (each-long (λ stripe old new. LaneDid follows (λ own. ReadsSomeIn shape low stripe own) old new) first xs us each) a b
   ends-halves shape low high first xs us ys vs front back (Err cause) upper each a b = lies-left shape low high cause.stripe a
 
   -- two halves, of which the second has no run in a stripe of the first
-  pub get-halves : {A : Type 0} (shape : Geometry) (low high : List Run) (first next : ℕ) (xs us ys vs : List D) (front back : List ℕ) (lower upper : Result A Cause) → next ≡ first + length xs
+  pub get-halves : {A : Type 0} (shape : Geometry) (low high : List Run) (first next : ℕ) (xs us ys vs : List D) (front back : List ℕ) (lower upper : Result A CallError) → next ≡ first + length xs
       → ((stripe : ℕ) → first + length xs ≤ stripe → runs_in shape stripe low ≡ [])
       → ReadsLanes follows shape low first (xs, us) front lower → ReadsLanes follows shape high next (ys, vs) back upper → ReadsLanes follows shape (low ++ high) first (xs ++ ys, us ++ vs) (front ++ back) (first_cause lower upper)
   get-halves shape low high first next xs us ys vs front back lower upper at apart a b = record {

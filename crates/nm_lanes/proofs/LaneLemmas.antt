@@ -5,8 +5,8 @@ use Rattle.nm_rules.specs.declared.refusal.Refusal.TheVariants as refusal
 use Rattle.nm_stripe.specs.declared.answer.Answer.{Answer}
 use Rattle.nm_stripe.specs.declared.step.Step.{Step}
 use Rattle.nm_stripe.specs.declared.step.Step.TheVariants.{Begin, Push, Claim, Read, Fail, Attach, Replace, Copy, Promote, Sync}
-use Rattle.nm_lanes.specs.declared.cause_kind.CauseKind.{CauseKind}
-use Rattle.nm_lanes.specs.declared.cause_kind.CauseKind.TheVariants as cause
+use Rattle.nm_lanes.specs.declared.call_error_kind.CallErrorKind.{CallErrorKind}
+use Rattle.nm_lanes.specs.declared.call_error_kind.CallErrorKind.TheVariants as cause
 use Rattle.nm_lanes.specs.Done.{Done, done_as}
 use Rattle.nm_lanes.specs.Own.{end_of, ends_with, helps, own_done, ClaimsOurs, EndsSo}
 use Rattle.nm_lanes.specs.Lane.{LaneDoes, LaneStops}
@@ -44,12 +44,12 @@ claims-more ours theirs more (Read block room) h = absurd h
 claims-more ours theirs more (Fail leg) h = absurd h
 claims-more ours theirs more (Attach leg) h = absurd h
 claims-more ours theirs more (Replace leg part) h = absurd h
-claims-more ours theirs more (Copy leg) h = absurd h
+claims-more ours theirs more (Copy leg most from) h = absurd h
 claims-more ours theirs more (Promote leg) h = absurd h
 claims-more ours theirs more (Sync leg) h = absurd h
 
 -- tickets that are ours are also theirs
-pub ends-more : {L : Type 0} (ours theirs : ℕ → Type 0) (kind : CauseKind) (d : Done L) → ((ticket : ℕ) → ours ticket → theirs ticket) → EndsSo ours kind d → EndsSo theirs kind d
+pub ends-more : {L : Type 0} (ours theirs : ℕ → Type 0) (kind : CallErrorKind) (d : Done L) → ((ticket : ℕ) → ours ticket → theirs ticket) → EndsSo ours kind d → EndsSo theirs kind d
 ends-more ours theirs kind d more e = record { answer = e.answer; ticket = λ is. claims-more ours theirs more d.step (e.ticket is) }
 
 module _ {L D : Type 0} (follows : D → List (Done L) → D → Type 0) where
@@ -67,7 +67,7 @@ module _ {L D : Type 0} (follows : D → List (Done L) → D → Type 0) where
   stops-one old new step answer Ends leads ends = record { list = []; last = done_as step answer; leads = leads; own_is = refl; ends = ends }
 
   -- a step that was refused by an end of each call
-  pub stops-refused : (old new : D) (step : Step L) (answer : Answer L) (r : Refusal) (kind : CauseKind) (ours : ℕ → Type 0)
+  pub stops-refused : (old new : D) (step : Step L) (answer : Answer L) (r : Refusal) (kind : CallErrorKind) (ours : ℕ → Type 0)
       → follows old (done_as step answer ∷ []) new → ends_with step answer ≡ end_of r → end_of r ≡ Some kind → LaneStops follows old new [] (EndsSo ours kind)
   stops-refused old new step answer r kind ours leads meant is =
       stops-one old new step answer (EndsSo ours kind) leads (record { answer = meant ∙ is; ticket = λ e. absurd (no-claim r (is ∙ ap (λ k. Some k) e)) })
@@ -92,7 +92,7 @@ module _ {L D : Type 0} (follows : D → List (Done L) → D → Type 0) where
   }
 
   -- tickets that are ours are also theirs
-  pub stops-more : (old new : D) (own : List (Done L)) (ours theirs : ℕ → Type 0) (kind : CauseKind)
+  pub stops-more : (old new : D) (own : List (Done L)) (ours theirs : ℕ → Type 0) (kind : CallErrorKind)
       → ((ticket : ℕ) → ours ticket → theirs ticket) → LaneStops follows old new own (EndsSo ours kind) → LaneStops follows old new own (EndsSo theirs kind)
   stops-more old new own ours theirs kind more a = record {
     list = a.list;
@@ -109,7 +109,7 @@ module _ {L D : Type 0} (follows : D → List (Done L) → D → Type 0) where
   refused-goes joins old mid new step answer leads is b = does-does joins old mid new [] [] (does-help old mid step answer leads is) b
 
   pub refused-ends : ((first mid last : D) (before after : List (Done L)) → follows first before mid → follows mid after last → follows first (before ++ after) last)
-      → (old mid new : D) (step : Step L) (answer : Answer L) (r : Refusal) (kind : CauseKind)
+      → (old mid new : D) (step : Step L) (answer : Answer L) (r : Refusal) (kind : CallErrorKind)
       → follows old (done_as step answer ∷ []) mid → ends_with step answer ≡ end_of r → (end_of r ≡ None → helps step answer ≡ true)
       → EndsHere follows (mid, new) r kind → LaneStops follows old new [] (EndsSo Nobodys kind)
   refused-ends joins old mid new step answer r kind leads meant is (inl at) =

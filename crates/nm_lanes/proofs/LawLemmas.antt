@@ -10,11 +10,11 @@ use Rattle.nm_geometry.specs.Pieces.{touched, piece_in, pieces_from, pieces_of}
 use Rattle.nm_lanes.specs.declared.run.Run.{Run}
 use Rattle.nm_lanes.specs.Runs.{in_one_run, is_whole, is_joined, before_runs, run_blocks, run_of, runs_of}
 use Rattle.nm_lanes.specs.RunLaws.{AllFit, FitsStep, IsOfOneRun}
-use Rattle.nm_lanes.specs.Stretches.{runs_in_stretch, rest_of}
+use Rattle.nm_lanes.specs.PieceRanges.{runs_in_pieces, rest_of}
 use Rattle.nm_lanes.proofs.FirstRunLemmas.{first-whole}
 use Rattle.nm_lanes.proofs.PieceLemmas.{touched-inside}
 use Rattle.nm_lanes.proofs.RunLemmas.{agree, whole_run}
-use Rattle.nm_lanes.proofs.StretchLemmas.{all_of, all-runs}
+use Rattle.nm_lanes.proofs.PieceRangeLemmas.{all_of, all-runs}
 
 -- numbers that are told to be the same are
 equal : (n m : ℕ) → (n == m) ≡ true → n ≡ m
@@ -56,14 +56,14 @@ blocks-one shape range some a =
     let long : 512 * suc more ≡ range.length = omega (arith, any, a.ends) in
     let full : (range.length == 0) ≡ false = elim (eqb_tells range.length 0) [ inl none ↦ absurd (omega (arith, none.1, any)) | inr other ↦ other.0 ] in
     let all : touched range ≡ suc more = rw full (omega (arith, any, a.begins, a.ends)) in
-    let stretch = all_of range (suc more) true in
+    let pieces = all_of range (suc more) true in
     let last : first + range.length / 512 - 1 ≡ first + more = omega (arith, any, a.ends) in
     let one : in_one_run shape first (first + more) ≡ true = let told = rw last at a.one in search (rules, told) in
     let far = one-far shape first more some (are-one shape first (first + more) one) in
     let here : first + 0 ≡ first = omega arith in
-    let runs = (first-whole shape stretch more (omega (arith, all)) (omega arith) (omega arith) (omega (arith, long, a.begins)) (rw here far.0) (rw here far.1) (inl refl)).runs in
+    let runs = (first-whole shape pieces more (omega (arith, all)) (omega arith) (omega arith) (omega (arith, long, a.begins)) (rw here far.0) (rw here far.1) (inl refl)).runs in
     let none : suc more - suc more ≡ 0 = omega arith in
-    let rest : runs_in_stretch shape (rest_of (suc more) stretch) ≡ [] = ap (λ (k : ℕ). runs_of shape (pieces_from (first + (0 + suc more)) k range)) none in
+    let rest : runs_in_pieces shape (rest_of (suc more) pieces) ≡ [] = ap (λ (k : ℕ). runs_of shape (pieces_from (first + (0 + suc more)) k range)) none in
     sym (all-runs shape range (suc more) true (sym all)) ∙ runs ∙ ap (λ (rs : List Run). whole_run (first + 0) (suc more) ∷ rs) rest
     ∙ (rw (here, long) refl)
 

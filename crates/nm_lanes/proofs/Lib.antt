@@ -15,14 +15,14 @@ pub mod CutLemmas
 pub mod WriteLemmas
 pub mod ShareLemmas
 pub mod PutListLemmas
-pub mod StretchLemmas
+pub mod PieceRangeLemmas
 pub mod LawLemmas
 pub mod RegionLemmas
 pub mod PutLaneLemmas
 pub mod PutRoundLemmas
 pub mod PutAllLemmas
 pub mod GetListLemmas
-pub mod GetStretchLemmas
+pub mod GetPieceRangeLemmas
 pub mod GetLaneLemmas
 pub mod GetRoundLemmas
 pub mod GetAllLemmas

@@ -2,7 +2,7 @@
 use Rattle.std.proofs.Common.{Result, Ok, Err, ◌≡◌, ℕ, ◌+◌, ◌≤◌, List, [], ◌++◌, length, subst, append_assoc, arith}
 use Rattle.std.proofs.lemmas.List.{length-append}
 use Rattle.nm_geometry.specs.Geometry.{Geometry}
-use Rattle.nm_lanes.specs.declared.cause.Cause.{Cause}
+use Rattle.nm_lanes.specs.declared.call_error.CallError.{CallError}
 use Rattle.nm_lanes.specs.declared.run_write.RunWrite.{RunWrite}
 use Rattle.nm_lanes.specs.Done.{Done}
 use Rattle.nm_lanes.specs.Ends.{LaneDid}
@@ -46,18 +46,18 @@ module _ {L D : Type 0} (follows : D → List (Done L) → D → Type 0)
       let all = written-append shape low high (before ++ (xs ++ (ys ++ after))) (before ++ (us ++ (ys ++ after))) (before ++ (us ++ (vs ++ after))) one next in
       rw (append_assoc xs ys after, append_assoc us vs after) all
 
-  ends-both : {A : Type 0} (shape : Geometry) (low high : List RunWrite) (first : ℕ) (xs us ys vs : List D) (upper : Result A Cause) → length us ≡ length xs → WroteOn follows shape low first (xs, us) → EndsWrites follows shape high (first + length xs) (ys, vs) upper → EndsWrites follows shape (low ++ high) first (xs ++ ys, us ++ vs) upper
+  ends-both : {A : Type 0} (shape : Geometry) (low high : List RunWrite) (first : ℕ) (xs us ys vs : List D) (upper : Result A CallError) → length us ≡ length xs → WroteOn follows shape low first (xs, us) → EndsWrites follows shape high (first + length xs) (ys, vs) upper → EndsWrites follows shape (low ++ high) first (xs ++ ys, us ++ vs) upper
   ends-both shape low high first xs us ys vs (Ok done) same a b = wrote-both shape low high first xs us ys vs same a b
   ends-both shape low high first xs us ys vs (Err cause) same a b = lies-right shape low high cause.stripe b
 
-  ends-halves : {A : Type 0} (shape : Geometry) (low high : List RunWrite) (first : ℕ) (xs us ys vs : List D) (lower upper : Result A Cause)
+  ends-halves : {A : Type 0} (shape : Geometry) (low high : List RunWrite) (first : ℕ) (xs us ys vs : List D) (lower upper : Result A CallError)
       → RunsLanes follows (λ stripe own. WritesSomeIn shape low stripe own) (λ stripe own. WritesSomeIn shape low stripe own) first (xs, us) lower
       → EndsWrites follows shape low first (xs, us) lower → EndsWrites follows shape high (first + length xs) (ys, vs) upper → EndsWrites follows shape (low ++ high) first (xs ++ ys, us ++ vs) (first_cause lower upper)
   ends-halves shape low high first xs us ys vs (Ok done) upper each a b = ends-both shape low high first xs us ys vs upper (each-long (λ stripe old new. LaneDid follows (λ own. WritesSomeIn shape low stripe own) old new) first xs us each) a b
   ends-halves shape low high first xs us ys vs (Err cause) upper each a b = lies-left shape low high cause.stripe a
 
   -- two halves, of which the second has no run in a stripe of the first
-  pub put-halves : {A : Type 0} (shape : Geometry) (low high : List RunWrite) (first next : ℕ) (xs us ys vs : List D) (lower upper : Result A Cause) → next ≡ first + length xs
+  pub put-halves : {A : Type 0} (shape : Geometry) (low high : List RunWrite) (first next : ℕ) (xs us ys vs : List D) (lower upper : Result A CallError) → next ≡ first + length xs
       → ((stripe : ℕ) → first + length xs ≤ stripe → writes_in shape stripe low ≡ [])
       → PutsLanes follows shape low first (xs, us) lower → PutsLanes follows shape high next (ys, vs) upper → PutsLanes follows shape (low ++ high) first (xs ++ ys, us ++ vs) (first_cause lower upper)
   put-halves shape low high first next xs us ys vs lower upper at apart a b = record {

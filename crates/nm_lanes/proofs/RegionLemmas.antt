@@ -4,16 +4,16 @@ use Rattle.std.proofs.Math.Nat.{mul-mod_left, mod-eq_of_lt, add-mul-mod_self_rig
 use Rattle.std.proofs.lemmas.Bool.Decides.{eqb_tells}
 use Rattle.std.proofs.lemmas.Nat.{div_below, le-div, mod_below}
 use Rattle.nm_geometry.specs.Geometry.{Geometry, IsGeometry, stripe_of, block_in_stripe}
-use Rattle.nm_lanes.specs.declared.stretch.Stretch.{Stretch}
+use Rattle.nm_lanes.specs.declared.piece_range.PieceRange.{PieceRange}
 use Rattle.nm_lanes.specs.declared.run_write.RunWrite.{RunWrite}
 use Rattle.nm_lanes.specs.declared.region_range.RegionRange.{RegionRange}
-use Rattle.nm_lanes.specs.Fillings.{filling, cuts_of, IsStretch}
+use Rattle.nm_lanes.specs.Fillings.{filling, cuts_of, IsPieceRange}
 use Rattle.nm_lanes.specs.RegionRanges.{blocks_in, lower, upper, IsRegionRange}
 use Rattle.nm_lanes.specs.Cuts.{runs_written}
-use Rattle.nm_lanes.specs.Stretches.{block_of, first_of, EndsRegion}
+use Rattle.nm_lanes.specs.PieceRanges.{block_of, first_of, EndsRegion}
 use Rattle.nm_lanes.specs.Writes.{writes_in, LiesIn}
 use Rattle.nm_lanes.proofs.RunLemmas.{runs-within, AllWithin}
-use Rattle.nm_lanes.proofs.StretchLemmas.{cuts-fit, filling-some, filling-split, first-stretch, parts, rest-stretch, Parts}
+use Rattle.nm_lanes.proofs.PieceRangeLemmas.{cuts-fit, filling-some, filling-split, first-piece_range, parts, rest-piece_range, Parts}
 use Rattle.nm_lanes.proofs.PutListLemmas.{AllLie, within-lie, none-in, all-in, lies-first}
 
 turned : (first number stripes : ℕ) → (first + number) % stripes ≡ (first % stripes + number) % stripes
@@ -31,7 +31,7 @@ pub record LiesAmong (shape : Geometry) (first lanes block : ℕ) : Type 0 where
   pub from : first ≤ stripe_of block shape
   pub upto : stripe_of block shape < first + lanes
 
-pub range-stripe : (shape : Geometry) (lanes : ℕ) (regions : RegionRange) (block : ℕ) → IsGeometry shape → IsRegionRange shape lanes regions → block_of regions.stretch ≤ block → block < block_of regions.stretch + regions.stretch.count → LiesAmong shape regions.stripe lanes block
+pub range-stripe : (shape : Geometry) (lanes : ℕ) (regions : RegionRange) (block : ℕ) → IsGeometry shape → IsRegionRange shape lanes regions → block_of regions.pieces ≤ block → block < block_of regions.pieces + regions.pieces.count → LiesAmong shape regions.stripe lanes block
 range-stripe shape lanes regions block is a from upto =
     let at : regions.region ≤ block / shape.region = le-div regions.region block shape.region is.some_region (omega (arith, a.begins, from)) in
     let below : block / shape.region < regions.region + lanes = div_below block shape.region (regions.region + lanes) is.some_region (omega (arith, a.upto, upto)) in
@@ -41,42 +41,42 @@ range-stripe shape lanes regions block is a from upto =
     record { from = omega (arith, stripe); upto = omega (arith, stripe, at, below) }
 
 -- so do its runs; none lies in a stripe after them
-all-within : (shape : Geometry) (stretch : Stretch) (cuts : List RunWrite) → IsStretch shape stretch cuts → AllWithin (block_of stretch) (block_of stretch + stretch.count) (runs_written (filling shape stretch cuts))
-all-within shape stretch cuts a = rw a.runs (runs-within shape stretch.range (block_of stretch) stretch.count)
+all-within : (shape : Geometry) (pieces : PieceRange) (cuts : List RunWrite) → IsPieceRange shape pieces cuts → AllWithin (block_of pieces) (block_of pieces + pieces.count) (runs_written (filling shape pieces cuts))
+all-within shape pieces cuts a = rw a.runs (runs-within shape pieces.range (block_of pieces) pieces.count)
 
-pub range-apart : (shape : Geometry) (lanes : ℕ) (regions : RegionRange) (cuts : List RunWrite) (stripe : ℕ) → IsGeometry shape → IsStretch shape regions.stretch cuts → IsRegionRange shape lanes regions → regions.stripe + lanes ≤ stripe → writes_in shape stripe (filling shape regions.stretch cuts) ≡ []
-range-apart shape lanes regions cuts stripe is stretch a behind =
-    let writes = filling shape regions.stretch cuts in
-    none-in shape stripe writes (within-lie (λ n. n ≡ stripe → ⊥) shape (block_of regions.stretch) (block_of regions.stretch + regions.stretch.count) writes
-    (λ b from upto same. let lies = range-stripe shape lanes regions b is a from upto in omega (arith, same, behind, lies.upto)) (all-within shape regions.stretch cuts stretch))
+pub range-apart : (shape : Geometry) (lanes : ℕ) (regions : RegionRange) (cuts : List RunWrite) (stripe : ℕ) → IsGeometry shape → IsPieceRange shape regions.pieces cuts → IsRegionRange shape lanes regions → regions.stripe + lanes ≤ stripe → writes_in shape stripe (filling shape regions.pieces cuts) ≡ []
+range-apart shape lanes regions cuts stripe is pieces a behind =
+    let writes = filling shape regions.pieces cuts in
+    none-in shape stripe writes (within-lie (λ n. n ≡ stripe → ⊥) shape (block_of regions.pieces) (block_of regions.pieces + regions.pieces.count) writes
+    (λ b from upto same. let lies = range-stripe shape lanes regions b is a from upto in omega (arith, same, behind, lies.upto)) (all-within shape regions.pieces cuts pieces))
 
-all-lie : (shape : Geometry) (regions : RegionRange) (cuts : List RunWrite) → IsGeometry shape → IsStretch shape regions.stretch cuts → IsRegionRange shape 1 regions → AllLie (λ n. n ≡ regions.stripe) shape (filling shape regions.stretch cuts)
-all-lie shape regions cuts is stretch a =
-    within-lie (λ n. n ≡ regions.stripe) shape (block_of regions.stretch) (block_of regions.stretch + regions.stretch.count) (filling shape regions.stretch cuts)
-    (λ b from upto. let lies = range-stripe shape 1 regions b is a from upto in omega (arith, lies.from, lies.upto)) (all-within shape regions.stretch cuts stretch)
+all-lie : (shape : Geometry) (regions : RegionRange) (cuts : List RunWrite) → IsGeometry shape → IsPieceRange shape regions.pieces cuts → IsRegionRange shape 1 regions → AllLie (λ n. n ≡ regions.stripe) shape (filling shape regions.pieces cuts)
+all-lie shape regions cuts is pieces a =
+    within-lie (λ n. n ≡ regions.stripe) shape (block_of regions.pieces) (block_of regions.pieces + regions.pieces.count) (filling shape regions.pieces cuts)
+    (λ b from upto. let lies = range-stripe shape 1 regions b is a from upto in omega (arith, lies.from, lies.upto)) (all-within shape regions.pieces cuts pieces)
 
-pub range-lies : (shape : Geometry) (regions : RegionRange) (cuts : List RunWrite) → IsGeometry shape → IsStretch shape regions.stretch cuts → IsRegionRange shape 1 regions → LiesIn shape (filling shape regions.stretch cuts) regions.stripe
-range-lies shape regions cuts is stretch a = lies-first shape regions.stripe (filling shape regions.stretch cuts) (filling-some shape regions.stretch cuts a.some stretch) (all-lie shape regions cuts is stretch a)
+pub range-lies : (shape : Geometry) (regions : RegionRange) (cuts : List RunWrite) → IsGeometry shape → IsPieceRange shape regions.pieces cuts → IsRegionRange shape 1 regions → LiesIn shape (filling shape regions.pieces cuts) regions.stripe
+range-lies shape regions cuts is pieces a = lies-first shape regions.stripe (filling shape regions.pieces cuts) (filling-some shape regions.pieces cuts a.some pieces) (all-lie shape regions cuts is pieces a)
 
 -- all runs of a range of regions in one stripe are the stripe's
-pub range-one : (shape : Geometry) (regions : RegionRange) (cuts : List RunWrite) → IsGeometry shape → IsStretch shape regions.stretch cuts → IsRegionRange shape 1 regions → writes_in shape regions.stripe (filling shape regions.stretch cuts) ≡ filling shape regions.stretch cuts
-range-one shape regions cuts is stretch a =
-    all-in shape regions.stripe (filling shape regions.stretch cuts) (all-lie shape regions cuts is stretch a)
+pub range-one : (shape : Geometry) (regions : RegionRange) (cuts : List RunWrite) → IsGeometry shape → IsPieceRange shape regions.pieces cuts → IsRegionRange shape 1 regions → writes_in shape regions.stripe (filling shape regions.pieces cuts) ≡ filling shape regions.pieces cuts
+range-one shape regions cuts is pieces a =
+    all-in shape regions.stripe (filling shape regions.pieces cuts) (all-lie shape regions cuts is pieces a)
 
-pub one-stripe : (shape : Geometry) (regions : RegionRange) (block : ℕ) → IsGeometry shape → IsRegionRange shape 1 regions → block_of regions.stretch ≤ block → block < block_of regions.stretch + regions.stretch.count → regions.stripe ≡ stripe_of block shape
+pub one-stripe : (shape : Geometry) (regions : RegionRange) (block : ℕ) → IsGeometry shape → IsRegionRange shape 1 regions → block_of regions.pieces ≤ block → block < block_of regions.pieces + regions.pieces.count → regions.stripe ≡ stripe_of block shape
 one-stripe shape regions block is a from upto = let lies = range-stripe shape 1 regions block is a from upto in omega (arith, lies.from, lies.upto)
 
 -- the blocks of a range of regions in one stripe are its region's
-range-region : (shape : Geometry) (regions : RegionRange) (block : ℕ) → IsGeometry shape → IsRegionRange shape 1 regions → block_of regions.stretch ≤ block → block < block_of regions.stretch + regions.stretch.count → block / shape.region ≡ regions.region
+range-region : (shape : Geometry) (regions : RegionRange) (block : ℕ) → IsGeometry shape → IsRegionRange shape 1 regions → block_of regions.pieces ≤ block → block < block_of regions.pieces + regions.pieces.count → block / shape.region ≡ regions.region
 range-region shape regions block is a from upto =
     let least : regions.region ≤ block / shape.region = le-div regions.region block shape.region is.some_region (omega (arith, a.begins, from)) in
     let below : block / shape.region < regions.region + 1 = div_below block shape.region (regions.region + 1) is.some_region (omega (arith, a.upto, upto)) in
     omega (arith, least, below)
 
 -- and follow one another in the stripe too
-pub range-follows : (shape : Geometry) (regions : RegionRange) (at : ℕ) → IsGeometry shape → IsRegionRange shape 1 regions → at < regions.stretch.count → block_in_stripe (block_of regions.stretch) shape + at ≡ block_in_stripe (block_of regions.stretch + at) shape
+pub range-follows : (shape : Geometry) (regions : RegionRange) (at : ℕ) → IsGeometry shape → IsRegionRange shape 1 regions → at < regions.pieces.count → block_in_stripe (block_of regions.pieces) shape + at ≡ block_in_stripe (block_of regions.pieces + at) shape
 range-follows shape regions at is a below =
-    let first = block_of regions.stretch in
+    let first = block_of regions.pieces in
     let here = range-region shape regions first is a (omega arith) (omega (arith, a.some)) in
     let there = range-region shape regions (first + at) is a (omega arith) (omega (arith, below)) in
     let same = here ∙ sym there in
@@ -91,9 +91,9 @@ in_stripe-le shape block =
 
 -- the halves of a range of regions
 pub record HalvesFit (shape : Geometry) (half : ℕ) (regions : RegionRange) : Type 0 where
-  pub begins : block_of regions.stretch ≤ (regions.region + half) * shape.region
+  pub begins : block_of regions.pieces ≤ (regions.region + half) * shape.region
   pub some : 0 < blocks_in shape half regions
-  pub less : blocks_in shape half regions < regions.stretch.count
+  pub less : blocks_in shape half regions < regions.pieces.count
 
 pub halves-fit : (shape : Geometry) (lanes half : ℕ) (regions : RegionRange) → IsRegionRange shape lanes regions → 0 < half → half < lanes → HalvesFit shape half regions
 halves-fit shape lanes half regions a some less =
@@ -107,10 +107,10 @@ halves-fit shape lanes half regions a some less =
     }
 
 -- a range of regions ends a run where it is cut into halves
-pub halves-part : (shape : Geometry) (half : ℕ) (regions : RegionRange) → HalvesFit shape half regions → Parts shape regions.stretch (blocks_in shape half regions)
+pub halves-part : (shape : Geometry) (half : ℕ) (regions : RegionRange) → HalvesFit shape half regions → Parts shape regions.pieces (blocks_in shape half regions)
 halves-part shape half regions fit =
-    let next : block_of regions.stretch + blocks_in shape half regions ≡ (regions.region + half) * shape.region = omega (arith, fit.begins) in
-    parts shape regions.stretch (blocks_in shape half regions) (omega (arith, fit.less)) (inr (ap (λ n. n % shape.region) next ∙ mul-mod_left (regions.region + half) shape.region))
+    let next : block_of regions.pieces + blocks_in shape half regions ≡ (regions.region + half) * shape.region = omega (arith, fit.begins) in
+    parts shape regions.pieces (blocks_in shape half regions) (omega (arith, fit.less)) (inr (ap (λ n. n % shape.region) next ∙ mul-mod_left (regions.region + half) shape.region))
 
 pub lower-range : (shape : Geometry) (lanes half : ℕ) (regions : RegionRange) → IsRegionRange shape lanes regions → 0 < half → half < lanes → 0 < shape.region → IsRegionRange shape half (lower shape half regions)
 lower-range shape lanes half regions a some less region =
@@ -128,9 +128,9 @@ lower-range shape lanes half regions a some less region =
 pub upper-range : (shape : Geometry) (lanes half : ℕ) (regions : RegionRange) → IsRegionRange shape lanes regions → 0 < half → half < lanes → 0 < shape.region → IsRegionRange shape (lanes - half) (upper shape half regions)
 upper-range shape lanes half regions a some less region =
     let fit = halves-fit shape lanes half regions a some less in
-    let next : block_of (upper shape half regions).stretch ≡ (regions.region + half) * shape.region = omega (arith, fit.begins) in
+    let next : block_of (upper shape half regions).pieces ≡ (regions.region + half) * shape.region = omega (arith, fit.begins) in
     let all : regions.region + half + (lanes - half) ≡ regions.region + lanes = omega (arith, less) in
-    let end : block_of (upper shape half regions).stretch + (upper shape half regions).stretch.count ≡ block_of regions.stretch + regions.stretch.count = omega (arith, fit.less) in
+    let end : block_of (upper shape half regions).pieces + (upper shape half regions).pieces.count ≡ block_of regions.pieces + regions.pieces.count = omega (arith, fit.less) in
     let whole : (regions.region + half + (lanes - half)) * shape.region ≡ (regions.region + lanes) * shape.region = ap (λ n. n * shape.region) all in
     record {
       some = omega (arith, fit.less);
@@ -143,25 +143,25 @@ upper-range shape lanes half regions a some less region =
     }
 
 -- the next round
-pub next-round : (shape : Geometry) (stretch first : Stretch) (block lanes : ℕ) → IsGeometry shape → 0 < stretch.count → block ≡ block_of stretch
-    → lanes ≡ min (min ((block + stretch.count - 1) / shape.region - block / shape.region + 1) (shape.stripes - block / shape.region % shape.stripes)) 8
-    → first ≡ first_of (min ((block / shape.region + lanes) * shape.region) (block + stretch.count) - block) stretch
-    → IsRegionRange shape lanes (record { stretch = first; region = block / shape.region; stripe = block / shape.region % shape.stripes })
-next-round shape stretch first block lanes is some at lanes_are first_is =
+pub next-round : (shape : Geometry) (pieces first : PieceRange) (block lanes : ℕ) → IsGeometry shape → 0 < pieces.count → block ≡ block_of pieces
+    → lanes ≡ min (min ((block + pieces.count - 1) / shape.region - block / shape.region + 1) (shape.stripes - block / shape.region % shape.stripes)) 8
+    → first ≡ first_of (min ((block / shape.region + lanes) * shape.region) (block + pieces.count) - block) pieces
+    → IsRegionRange shape lanes (record { pieces = first; region = block / shape.region; stripe = block / shape.region % shape.stripes })
+next-round shape pieces first block lanes is some at lanes_are first_is =
     let r = shape.region in
     let region = block / r in
-    let last = (block + stretch.count - 1) / r in
+    let last = (block + pieces.count - 1) / r in
     let rest : region * r + block % r ≡ block = div-add-mod' block r in
     let below = mod_below block r is.some_region in
-    let end : last * r + (block + stretch.count - 1) % r ≡ block + stretch.count - 1 = div-add-mod' (block + stretch.count - 1) r in
+    let end : last * r + (block + pieces.count - 1) % r ≡ block + pieces.count - 1 = div-add-mod' (block + pieces.count - 1) r in
     let stripe = mod_below region shape.stripes is.some_stripes in
-    let one : region ≤ last = le-div region (block + stretch.count - 1) r is.some_region (omega (arith, rest, some)) in
+    let one : region ≤ last = le-div region (block + pieces.count - 1) r is.some_region (omega (arith, rest, some)) in
     let any : 1 ≤ lanes = omega (arith, lanes_are, stripe) in
     let more : (region + 1) * r ≤ (region + lanes) * r = mul-le-mul_right r (let e : region + 1 ≤ region + lanes = omega (arith, any) in e) in
     let most : (region + lanes) * r ≤ (last + 1) * r = mul-le-mul_right r (let e : region + lanes ≤ last + 1 = omega (arith, lanes_are, one) in e) in
     let region_some : 0 < r = is.some_region in
-    let b : block_of first ≡ block = ap (λ (p : Stretch). block_of p) first_is ∙ sym at in
-    let n : first.count ≡ min ((region + lanes) * r) (block + stretch.count) - block = ap (λ (p : Stretch). p.count) first_is in
+    let b : block_of first ≡ block = ap (λ (p : PieceRange). block_of p) first_is ∙ sym at in
+    let n : first.count ≡ min ((region + lanes) * r) (block + pieces.count) - block = ap (λ (p : PieceRange). p.count) first_is in
     record {
       some = omega (arith, n, more, rest, below, some);
       stripe_is = refl;
@@ -172,51 +172,51 @@ next-round shape stretch first block lanes is some at lanes_are first_is =
       ends = omega (arith, b, n, more, most, rest, below, end, some, region_some);
     }
 
--- it ends where the stretch does, or a region
-pub next-ends : (shape : Geometry) (stretch : Stretch) (block lanes count : ℕ) → IsGeometry shape → 0 < stretch.count → 0 < lanes → block ≡ block_of stretch → count ≡ min ((block / shape.region + lanes) * shape.region) (block + stretch.count) - block → EndsRegion shape stretch count
-next-ends shape stretch block lanes count is some any at count_is = elim (eqb_tells count stretch.count) [
+-- it ends where the piece range does, or a region
+pub next-ends : (shape : Geometry) (pieces : PieceRange) (block lanes count : ℕ) → IsGeometry shape → 0 < pieces.count → 0 < lanes → block ≡ block_of pieces → count ≡ min ((block / shape.region + lanes) * shape.region) (block + pieces.count) - block → EndsRegion shape pieces count
+next-ends shape pieces block lanes count is some any at count_is = elim (eqb_tells count pieces.count) [
   | inl all ↦ inl all.1
   | inr less ↦
       let r = shape.region in
       let rest : block / r * r + block % r ≡ block = div-add-mod' block r in
       let below = mod_below block r is.some_region in
       let more : (block / r + 1) * r ≤ (block / r + lanes) * r = mul-le-mul_right r (let e : block / r + 1 ≤ block / r + lanes = omega (arith, any) in e) in
-      let end : block_of stretch + count ≡ (block / r + lanes) * r = omega (arith, at, count_is, less.1, more, rest, below) in
+      let end : block_of pieces + count ≡ (block / r + lanes) * r = omega (arith, at, count_is, less.1, more, rest, below) in
       inr (ap (λ n. n % r) end ∙ mul-mod_left (block / r + lanes) r)
 ]
 
 -- a range of regions, cut into halves with their cuts
 pub record Halved (shape : Geometry) (fronts backs : ℕ) (regions low high : RegionRange) (cuts own rest : List RunWrite) : Type 0 where
-  pub low_stretch : IsStretch shape low.stretch own
+  pub low_pieces : IsPieceRange shape low.pieces own
   pub low_regions : IsRegionRange shape fronts low
-  pub high_stretch : IsStretch shape high.stretch rest
+  pub high_pieces : IsPieceRange shape high.pieces rest
   pub high_regions : IsRegionRange shape backs high
-  pub fill : filling shape regions.stretch cuts ≡ filling shape low.stretch own ++ filling shape high.stretch rest
+  pub fill : filling shape regions.pieces cuts ≡ filling shape low.pieces own ++ filling shape high.pieces rest
   pub stripe : regions.stripe ≡ low.stripe
 
-halved-as : (shape : Geometry) (lanes half : ℕ) (regions : RegionRange) (cuts own rest : List RunWrite) → IsGeometry shape → IsStretch shape regions.stretch cuts → IsRegionRange shape lanes regions → 0 < half → half < lanes
-    → cuts ≡ own ++ rest → length own ≡ cuts_of shape (lower shape half regions).stretch → Halved shape half (lanes - half) regions (lower shape half regions) (upper shape half regions) cuts own rest
-halved-as shape lanes half regions cuts own rest is stretch a some less split long =
+halved-as : (shape : Geometry) (lanes half : ℕ) (regions : RegionRange) (cuts own rest : List RunWrite) → IsGeometry shape → IsPieceRange shape regions.pieces cuts → IsRegionRange shape lanes regions → 0 < half → half < lanes
+    → cuts ≡ own ++ rest → length own ≡ cuts_of shape (lower shape half regions).pieces → Halved shape half (lanes - half) regions (lower shape half regions) (upper shape half regions) cuts own rest
+halved-as shape lanes half regions cuts own rest is pieces a some less split long =
     let fit = halves-fit shape lanes half regions a some less in
-    let le : blocks_in shape half regions ≤ regions.stretch.count = omega (arith, fit.less) in
+    let le : blocks_in shape half regions ≤ regions.pieces.count = omega (arith, fit.less) in
     let part = halves-part shape half regions fit in
     record {
-      low_stretch = first-stretch shape regions.stretch (blocks_in shape half regions) cuts own rest le part split long stretch;
+      low_pieces = first-piece_range shape regions.pieces (blocks_in shape half regions) cuts own rest le part split long pieces;
       low_regions = lower-range shape lanes half regions a some less is.some_region;
-      high_stretch = rest-stretch shape regions.stretch (blocks_in shape half regions) cuts own rest le part split long stretch;
+      high_pieces = rest-piece_range shape regions.pieces (blocks_in shape half regions) cuts own rest le part split long pieces;
       high_regions = upper-range shape lanes half regions a some less is.some_region;
-      fill = filling-split shape regions.stretch (blocks_in shape half regions) cuts own rest part split;
+      fill = filling-split shape regions.pieces (blocks_in shape half regions) cuts own rest part split;
       stripe = refl;
     }
 
-pub half-fits : (shape : Geometry) (lanes half : ℕ) (regions low : RegionRange) (cuts : List RunWrite) → IsStretch shape regions.stretch cuts → IsRegionRange shape lanes regions → 0 < half → half < lanes → low ≡ lower shape half regions → cuts_of shape low.stretch ≤ length cuts
-half-fits shape lanes half regions low cuts stretch a some less low_is =
+pub half-fits : (shape : Geometry) (lanes half : ℕ) (regions low : RegionRange) (cuts : List RunWrite) → IsPieceRange shape regions.pieces cuts → IsRegionRange shape lanes regions → 0 < half → half < lanes → low ≡ lower shape half regions → cuts_of shape low.pieces ≤ length cuts
+half-fits shape lanes half regions low cuts pieces a some less low_is =
     let part = halves-part shape half regions (halves-fit shape lanes half regions a some less) in
-    rw low_is (cuts-fit shape regions.stretch (blocks_in shape half regions) cuts part stretch)
+    rw low_is (cuts-fit shape regions.pieces (blocks_in shape half regions) cuts part pieces)
 
-pub halved : (shape : Geometry) (lanes half fronts backs : ℕ) (regions low high : RegionRange) (cuts own rest : List RunWrite) → IsGeometry shape → IsStretch shape regions.stretch cuts → IsRegionRange shape lanes regions → 0 < half → half < lanes
-    → low ≡ lower shape half regions → high ≡ upper shape half regions → cuts ≡ own ++ rest → length own ≡ cuts_of shape low.stretch → fronts ≡ half → backs ≡ lanes - half → Halved shape fronts backs regions low high cuts own rest
-halved shape lanes half fronts backs regions low high cuts own rest is stretch a some less low_is high_is split long fronts_are backs_are =
-    let all = halved-as shape lanes half regions cuts own rest is stretch a some less split (long ∙ ap (λ (r : RegionRange). cuts_of shape r.stretch) low_is) in
+pub halved : (shape : Geometry) (lanes half fronts backs : ℕ) (regions low high : RegionRange) (cuts own rest : List RunWrite) → IsGeometry shape → IsPieceRange shape regions.pieces cuts → IsRegionRange shape lanes regions → 0 < half → half < lanes
+    → low ≡ lower shape half regions → high ≡ upper shape half regions → cuts ≡ own ++ rest → length own ≡ cuts_of shape low.pieces → fronts ≡ half → backs ≡ lanes - half → Halved shape fronts backs regions low high cuts own rest
+halved shape lanes half fronts backs regions low high cuts own rest is pieces a some less low_is high_is split long fronts_are backs_are =
+    let all = halved-as shape lanes half regions cuts own rest is pieces a some less split (long ∙ ap (λ (r : RegionRange). cuts_of shape r.pieces) low_is) in
     subst (λ (r : RegionRange). Halved shape fronts backs regions r high cuts own rest) (sym low_is) (subst (λ (r : RegionRange). Halved shape fronts backs regions (lower shape half regions) r cuts own rest) (sym high_is)
     (subst (λ n. Halved shape n backs regions (lower shape half regions) (upper shape half regions) cuts own rest) (sym fronts_are) (subst (λ n. Halved shape half n regions (lower shape half regions) (upper shape half regions) cuts own rest) (sym backs_are) all)))

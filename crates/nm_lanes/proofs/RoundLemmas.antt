@@ -1,7 +1,7 @@
 -- A call on the lanes of stripes that follow one another, some and then others.
 use Rattle.std.proofs.Common.{Result, Ok, Err, ◌≡◌, inl, inr, ℕ, ◌+◌, ◌<◌, List, [], ◌++◌, length, refl, subst, arith}
 use Rattle.std.proofs.lemmas.List.{length-append}
-use Rattle.nm_lanes.specs.declared.cause.Cause.{Cause}
+use Rattle.nm_lanes.specs.declared.call_error.CallError.{CallError}
 use Rattle.nm_lanes.specs.Done.{Done}
 use Rattle.nm_lanes.specs.Ends.{EachLane, LaneDid, LaneTries}
 use Rattle.nm_lanes.specs.Halves.{first_cause}
@@ -11,11 +11,11 @@ use Rattle.nm_lanes.proofs.EachLemmas.{each-append, each-map, each-same}
 module _ {L D : Type 0} (follows : D → List (Done L) → D → Type 0) (All Share : ℕ → List (Done L) → Type 0)
     (some : (stripe : ℕ) (own : List (Done L)) → All stripe own → Share stripe own) where
   -- a lane on which all was done, in a call that ended in another stripe
-  pub did-tries : (stripe : ℕ) (cause : Cause) (old new : D) → (stripe ≡ cause.stripe → ⊥) → LaneDid follows (All stripe) old new → LaneTries follows (Share stripe) cause stripe old new
+  pub did-tries : (stripe : ℕ) (cause : CallError) (old new : D) → (stripe ≡ cause.stripe → ⊥) → LaneDid follows (All stripe) old new → LaneTries follows (Share stripe) cause stripe old new
   did-tries stripe cause old new other a = record { own = a.own; share = some stripe a.own a.all; did = inl (a.claimed, a.does); ends = λ is. absurd (other is) }
 
   -- the same lane, in a call whose cause is in a stripe below
-  tries-other : (stripe : ℕ) (first second : Cause) (old new : D) → second.stripe < stripe → LaneTries follows (Share stripe) first stripe old new → LaneTries follows (Share stripe) second stripe old new
+  tries-other : (stripe : ℕ) (first second : CallError) (old new : D) → second.stripe < stripe → LaneTries follows (Share stripe) first stripe old new → LaneTries follows (Share stripe) second stripe old new
   tries-other stripe first second old new below a = record {
     own = a.own;
     share = a.share;
@@ -27,7 +27,7 @@ module _ {L D : Type 0} (follows : D → List (Done L) → D → Type 0) (All Sh
   }
 
   -- lanes on which the call ended, and others
-  ended-more : (first : ℕ) (cause : Cause) (xs us ys vs : List D) → EndedLanes follows Share first (xs, us) cause
+  ended-more : (first : ℕ) (cause : CallError) (xs us ys vs : List D) → EndedLanes follows Share first (xs, us) cause
       → EachLane (λ stripe old new. LaneTries follows (Share stripe) cause stripe old new) (first + length xs) ys vs → EndedLanes follows Share first (xs ++ ys, us ++ vs) cause
   ended-more first cause xs us ys vs a b = record {
     from = a.from;
@@ -36,7 +36,7 @@ module _ {L D : Type 0} (follows : D → List (Done L) → D → Type 0) (All Sh
   }
 
   -- the call ended on the first lanes, whatever came of the others
-  pub first-ended : {A : Type 0} (first : ℕ) (cause : Cause) (xs us ys vs : List D) (second : Result A Cause) → EndedLanes follows Share first (xs, us) cause
+  pub first-ended : {A : Type 0} (first : ℕ) (cause : CallError) (xs us ys vs : List D) (second : Result A CallError) → EndedLanes follows Share first (xs, us) cause
       → RunsLanes follows All Share (first + length xs) (ys, vs) second → EndedLanes follows Share first (xs ++ ys, us ++ vs) cause
   first-ended first cause xs us ys vs (Ok done) a b =
       ended-more first cause xs us ys vs a (each-map (λ stripe old new. LaneDid follows (All stripe) old new) (λ stripe old new. LaneTries follows (Share stripe) cause stripe old new) (first + length xs) ys vs
@@ -46,7 +46,7 @@ module _ {L D : Type 0} (follows : D → List (Done L) → D → Type 0) (All Sh
       (λ stripe old new from upto tries. tries-other stripe later cause old new (omega (arith, from, a.upto)) tries) b.each)
 
   -- all was done on the first lanes, and so it is as for the others
-  pub first-done : {A : Type 0} (first : ℕ) (xs us ys vs : List D) (second : Result A Cause) → DidLanes follows All first (xs, us)
+  pub first-done : {A : Type 0} (first : ℕ) (xs us ys vs : List D) (second : Result A CallError) → DidLanes follows All first (xs, us)
       → RunsLanes follows All Share (first + length xs) (ys, vs) second → RunsLanes follows All Share first (xs ++ ys, us ++ vs) second
   first-done first xs us ys vs (Ok done) a b = each-append (λ stripe old new. LaneDid follows (All stripe) old new) first xs us ys vs a b
   first-done first xs us ys vs (Err cause) a b =
@@ -60,19 +60,19 @@ module _ {L D : Type 0} (follows : D → List (Done L) → D → Type 0) (All Sh
       }
 
   -- two halves, the first of which went through
-  pub halves-ok : {A B : Type 0} (first next : ℕ) (xs us ys vs : List D) (lower : Result A Cause) (upper : Result B Cause) (done : A) → next ≡ first + length xs → lower ≡ Ok done
+  pub halves-ok : {A B : Type 0} (first next : ℕ) (xs us ys vs : List D) (lower : Result A CallError) (upper : Result B CallError) (done : A) → next ≡ first + length xs → lower ≡ Ok done
       → RunsLanes follows All Share first (xs, us) lower → RunsLanes follows All Share next (ys, vs) upper → RunsLanes follows All Share first (xs ++ ys, us ++ vs) upper
   halves-ok {A} first next xs us ys vs lower upper done at is a b =
-      first-done first xs us ys vs upper (subst (λ (r : Result A Cause). RunsLanes follows All Share first (xs, us) r) is a) (subst (λ (n : ℕ). RunsLanes follows All Share n (ys, vs) upper) at b)
+      first-done first xs us ys vs upper (subst (λ (r : Result A CallError). RunsLanes follows All Share first (xs, us) r) is a) (subst (λ (n : ℕ). RunsLanes follows All Share n (ys, vs) upper) at b)
 
   -- two halves
-  pub both-halves : {A : Type 0} (first next : ℕ) (xs us ys vs : List D) (lower upper : Result A Cause) → next ≡ first + length xs
+  pub both-halves : {A : Type 0} (first next : ℕ) (xs us ys vs : List D) (lower upper : Result A CallError) → next ≡ first + length xs
       → RunsLanes follows All Share first (xs, us) lower → RunsLanes follows All Share next (ys, vs) upper → RunsLanes follows All Share first (xs ++ ys, us ++ vs) (first_cause lower upper)
   both-halves first next xs us ys vs (Ok done) upper at a b = first-done first xs us ys vs upper a (subst (λ (n : ℕ). RunsLanes follows All Share n (ys, vs) upper) at b)
   both-halves first next xs us ys vs (Err cause) upper at a b = first-ended first cause xs us ys vs upper a (subst (λ (n : ℕ). RunsLanes follows All Share n (ys, vs) upper) at b)
 
   -- the call ended on the first lanes, and the others were left alone
-  pub first-ended-alone : ((lane : D) → follows lane [] lane) → ((stripe : ℕ) → Share stripe []) → (first : ℕ) (cause : Cause) (xs us ys : List D)
+  pub first-ended-alone : ((lane : D) → follows lane [] lane) → ((stripe : ℕ) → Share stripe []) → (first : ℕ) (cause : CallError) (xs us ys : List D)
       → EndedLanes follows Share first (xs, us) cause → EndedLanes follows Share first (xs ++ ys, us ++ ys) cause
   first-ended-alone stays none first cause xs us ys a =
       ended-more first cause xs us ys ys a (each-same (λ stripe old new. LaneTries follows (Share stripe) cause stripe old new) (first + length xs) ys

@@ -1,9 +1,11 @@
 -- A call's share of each lane: in other words, and after what was done before.
 use Rattle.std.proofs.Common.{Result, Ok, Err, ◌≡◌, inl, inr, ℕ, suc, ◌+◌, ◌≤◌, ◌==◌, Bool, true, false, if◌then◌else◌, Some, List, [], ◌∷◌, ◌++◌, length, slice_get, refl, sym, ap, ◌∙◌, subst, append_assoc, arith}
-use Rattle.nm_lanes.specs.declared.cause.Cause.{Cause}
-use Rattle.nm_lanes.specs.declared.cause_kind.CauseKind.{CauseKind}
-use Rattle.nm_lanes.specs.Done.{Done}
-use Rattle.nm_lanes.specs.Ends.{BeganOwn, EachLane, LaneDid, LaneEnds, LaneTries}
+use Rattle.nm_stripe.specs.declared.answer.Answer.TheVariants.{Begun}
+use Rattle.nm_stripe.specs.declared.step.Step.TheVariants.{Begin}
+use Rattle.nm_lanes.specs.declared.call_error.CallError.{CallError}
+use Rattle.nm_lanes.specs.declared.call_error_kind.CallErrorKind.{CallErrorKind}
+use Rattle.nm_lanes.specs.Done.{Done, done_as}
+use Rattle.nm_lanes.specs.Ends.{BeganOwn, ByLeaving, ByStep, EachLane, LaneDid, LaneEnds, LaneTries, LeavesZeroes}
 use Rattle.nm_lanes.specs.Lane.{LaneDoes}
 use Rattle.nm_lanes.specs.Lists.{MirrorStep, stripe_list, own_steps}
 use Rattle.nm_lanes.specs.Own.{helps, own_done, EndsSo}
@@ -28,11 +30,26 @@ module _ {L D : Type 0} (follows : D → List (Done L) → D → Type 0) where
   pub did-share : (All Other : List (Done L) → Type 0) (old new : D) → ((own : List (Done L)) → All own → Other own) → LaneDid follows All old new → LaneDid follows Other old new
   did-share All Other old new more a = record { own = a.own; all = more a.own a.all; claimed = a.claimed; does = a.does }
 
-  pub tries-share : (Share Other : List (Done L) → Type 0) (cause : Cause) (stripe : ℕ) (old new : D) → ((own : List (Done L)) → Share own → Other own) → LaneTries follows Share cause stripe old new → LaneTries follows Other cause stripe old new
-  tries-share Share Other cause stripe old new more a = record { own = a.own; share = more a.own a.share; did = a.did; ends = a.ends }
+  leaves-share : (Share Other : List (Done L) → Type 0) (own : List (Done L)) → ((own : List (Done L)) → Share own → Other own) → LeavesZeroes Share own → LeavesZeroes Other own
+  leaves-share Share Other own more a = record { block = a.block; bytes = a.bytes; ticket = a.ticket; zeroes = a.zeroes; next = more (own ++ done_as (Begin a.block a.bytes) (Begun a.ticket) ∷ []) a.next }
+
+  ends-share : (Share Other : List (Done L) → Type 0) (old new : D) (own : List (Done L)) (kind : CallErrorKind) → ((own : List (Done L)) → Share own → Other own) → LaneEnds follows Share (old, new) own kind → LaneEnds follows Other (old, new) own kind
+  ends-share Share Other old new own kind more (ByStep a) = ByStep a
+  ends-share Share Other old new own kind more (ByLeaving gone left claimed does) = ByLeaving gone (leaves-share Share Other own more left) claimed does
+
+  pub tries-share : (Share Other : List (Done L) → Type 0) (cause : CallError) (stripe : ℕ) (old new : D) → ((own : List (Done L)) → Share own → Other own) → LaneTries follows Share cause stripe old new → LaneTries follows Other cause stripe old new
+  tries-share Share Other cause stripe old new more a = record {
+    own = a.own;
+    share = more a.own a.share;
+    did = elim a.did [
+      | inl did ↦ inl did
+      | inr ends ↦ inr (ends.0, ends.1, ends-share Share Other old new a.own ends.1 more ends.2)
+    ];
+    ends = λ same. ends-share Share Other old new a.own cause.kind more (a.ends same);
+  }
 
   -- the same shares in other words
-  pub runs-share : {A : Type 0} (Share Other : ℕ → List (Done L) → Type 0) (first : ℕ) (xs us : List D) (result : Result A Cause) → ((stripe : ℕ) → first ≤ stripe → (own : List (Done L)) → Share stripe own → Other stripe own)
+  pub runs-share : {A : Type 0} (Share Other : ℕ → List (Done L) → Type 0) (first : ℕ) (xs us : List D) (result : Result A CallError) → ((stripe : ℕ) → first ≤ stripe → (own : List (Done L)) → Share stripe own → Other stripe own)
       → RunsLanes follows Share Share first (xs, us) result → RunsLanes follows Other Other first (xs, us) result
   runs-share Share Other first xs us (Ok done) more a =
       each-map (λ stripe old new. LaneDid follows (Share stripe) old new) (λ stripe old new. LaneDid follows (Other stripe) old new) first xs us (λ stripe old new from upto did. did-share (Share stripe) (Other stripe) old new (more stripe from) did) a
@@ -69,19 +86,33 @@ module _ {L D : Type 0} (follows : D → List (Done L) → D → Type 0)
     begun = a.begun;
   }
 
-  ends-behind : (old mid new : D) (xs ys : List (Done L)) (kind : CauseKind) → LaneDoes follows old mid xs → LaneEnds follows (mid, new) ys kind → LaneEnds follows (old, new) (xs ++ ys) kind
-  ends-behind old mid new xs ys kind a b =
-      stops-more follows old new (xs ++ ys) (BeganOwn ys) (BeganOwn (xs ++ ys)) kind (λ ticket was. began-behind xs ys ticket was) (does-stops follows joins old mid new xs ys (EndsSo (BeganOwn ys) kind) a b)
+  leaves-behind : (All Share Whole : List (Done L) → Type 0) (xs ys : List (Done L)) → ((first second : List (Done L)) → All first → Share second → Whole (first ++ second)) → All xs → LeavesZeroes Share ys → LeavesZeroes Whole (xs ++ ys)
+  leaves-behind All Share Whole xs ys both all a =
+      let begun = done_as (Begin a.block a.bytes) (Begun a.ticket) in
+      record {
+        block = a.block;
+        bytes = a.bytes;
+        ticket = a.ticket;
+        zeroes = a.zeroes;
+        next = subst (λ (own : List (Done L)). Whole own) (sym (append_assoc xs ys (begun ∷ []))) (both xs (ys ++ begun ∷ []) all a.next);
+      }
+
+  ends-behind : (All Share Whole : List (Done L) → Type 0) (old mid new : D) (ys : List (Done L)) (kind : CallErrorKind) → ((first second : List (Done L)) → All first → Share second → Whole (first ++ second))
+      → (a : LaneDid follows All old mid) → LaneEnds follows Share (mid, new) ys kind → LaneEnds follows Whole (old, new) (a.own ++ ys) kind
+  ends-behind All Share Whole old mid new ys kind both a (ByStep b) =
+      ByStep (stops-more follows old new (a.own ++ ys) (BeganOwn ys) (BeganOwn (a.own ++ ys)) kind (λ ticket was. began-behind a.own ys ticket was) (does-stops follows joins old mid new a.own ys (EndsSo (BeganOwn ys) kind) a.does b))
+  ends-behind All Share Whole old mid new ys kind both a (ByLeaving gone left claimed b) =
+      ByLeaving gone (leaves-behind All Share Whole a.own ys both a.all left) (claimed-append a.own ys a.claimed claimed) (does-does follows joins old mid new a.own ys a.does b)
 
   -- all of one share, and then some of another
-  pub tries-behind : (All Share Whole : List (Done L) → Type 0) (cause : Cause) (stripe : ℕ) (old mid new : D) → ((first second : List (Done L)) → All first → Share second → Whole (first ++ second))
+  pub tries-behind : (All Share Whole : List (Done L) → Type 0) (cause : CallError) (stripe : ℕ) (old mid new : D) → ((first second : List (Done L)) → All first → Share second → Whole (first ++ second))
       → LaneDid follows All old mid → LaneTries follows Share cause stripe mid new → LaneTries follows Whole cause stripe old new
   tries-behind All Share Whole cause stripe old mid new both a b = record {
     own = a.own ++ b.own;
     share = both a.own b.own a.all b.share;
     did = elim b.did [
       | inl did ↦ inl (claimed-append a.own b.own a.claimed did.0, does-does follows joins old mid new a.own b.own a.does did.1)
-      | inr ends ↦ inr (ends.0, ends.1, ends-behind old mid new a.own b.own ends.1 a.does ends.2)
+      | inr ends ↦ inr (ends.0, ends.1, ends-behind All Share Whole old mid new b.own ends.1 both a ends.2)
     ];
-    ends = λ same. ends-behind old mid new a.own b.own cause.kind a.does (b.ends same);
+    ends = λ same. ends-behind All Share Whole old mid new b.own cause.kind both a (b.ends same);
   }

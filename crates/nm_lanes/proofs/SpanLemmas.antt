@@ -5,7 +5,7 @@ use Rattle.std.proofs.Math.Seq.{get_or-append_seam, set-append_seam}
 use Rattle.std.proofs.lemmas.Bool.{cases_lt}
 use Rattle.std.proofs.lemmas.List.{length-append}
 use Rattle.nm_geometry.specs.Geometry.{Geometry}
-use Rattle.nm_lanes.specs.declared.cause.Cause.{Cause}
+use Rattle.nm_lanes.specs.declared.call_error.CallError.{CallError}
 use Rattle.nm_lanes.specs.Done.{Done}
 use Rattle.nm_lanes.specs.Ends.{EachLane, LaneDid, LaneTries}
 use Rattle.nm_lanes.specs.Flushes.{IsStripeOf, SyncsIn, HasFlushed, HasFlushedSome}
@@ -13,6 +13,7 @@ use Rattle.nm_lanes.specs.Rounds.{DidLanes, EndedLanes}
 use Rattle.nm_lanes.specs.Syncs.{AllSync, IsLegSyncs, LaneSyncs, InSpans, IsAround}
 use Rattle.nm_lanes.proofs.EachLemmas.{each-append, each-map, each-same, each-long}
 use Rattle.nm_lanes.proofs.FlushLemmas.{flush-none, flush-lane, flush-more}
+use Rattle.nm_lanes.proofs.ShareLemmas.{tries-share}
 
 in-all : {L : Type 0} (legs : ℕ) (In : ℕ → Type 0) (stripe : ℕ) → In stripe → (own : List (Done L)) → AllSync legs own → SyncsIn legs In stripe own
 in-all legs In stripe is [] all = tt
@@ -20,19 +21,19 @@ in-all legs In stripe is (d ∷ own) all = (is, all.0, in-all legs In stripe is 
 
 module _ {L D : Type 0} (follows : D → List (Done L) → D → Type 0) (stays : (lane : D) → follows lane [] lane) where
   -- a lane of one of these stripes
-  tries-in : (legs : ℕ) (In : ℕ → Type 0) (cause : Cause) (stripe : ℕ) (old new : D) → In stripe → LaneTries follows (AllSync legs) cause stripe old new → LaneTries follows (SyncsIn legs In stripe) cause stripe old new
-  tries-in legs In cause stripe old new is a = record { own = a.own; share = in-all legs In stripe is a.own a.share; did = a.did; ends = a.ends }
+  tries-in : (legs : ℕ) (In : ℕ → Type 0) (cause : CallError) (stripe : ℕ) (old new : D) → In stripe → LaneTries follows (AllSync legs) cause stripe old new → LaneTries follows (SyncsIn legs In stripe) cause stripe old new
+  tries-in legs In cause stripe old new is a = tries-share follows (AllSync legs) (SyncsIn legs In stripe) cause stripe old new (λ own some. in-all legs In stripe is own some) a
 
   -- a lane whose legs are all synced
-  goes-in : (legs : ℕ) (In : ℕ → Type 0) (cause : Cause) (stripe : ℕ) (old new : D) → In stripe → (stripe ≡ cause.stripe → ⊥) → LaneDid follows (λ own. IsLegSyncs legs own) old new → LaneTries follows (SyncsIn legs In stripe) cause stripe old new
+  goes-in : (legs : ℕ) (In : ℕ → Type 0) (cause : CallError) (stripe : ℕ) (old new : D) → In stripe → (stripe ≡ cause.stripe → ⊥) → LaneDid follows (λ own. IsLegSyncs legs own) old new → LaneTries follows (SyncsIn legs In stripe) cause stripe old new
   goes-in legs In cause stripe old new is other a = record { own = a.own; share = in-all legs In stripe is a.own a.all.only; did = inl (a.claimed, a.does); ends = λ same. absurd (other same) }
 
   -- a lane that was left alone
-  rests-in : (legs : ℕ) (In : ℕ → Type 0) (cause : Cause) (stripe : ℕ) (lane : D) → (stripe ≡ cause.stripe → ⊥) → LaneTries follows (SyncsIn legs In stripe) cause stripe lane lane
+  rests-in : (legs : ℕ) (In : ℕ → Type 0) (cause : CallError) (stripe : ℕ) (lane : D) → (stripe ≡ cause.stripe → ⊥) → LaneTries follows (SyncsIn legs In stripe) cause stripe lane lane
   rests-in legs In cause stripe lane other = record { own = []; share = tt; did = inl (tt, record { list = []; leads = stays lane; own_is = refl }); ends = λ same. absurd (other same) }
 
   -- the call ended in the first run of lanes
-  pub front-ended : (legs : ℕ) (In : ℕ → Type 0) (cause : Cause) (xs us rest : List D) → ((stripe : ℕ) → stripe < length xs → In stripe) → EndedLanes follows (λ stripe own. AllSync legs own) 0 (xs, us) cause → HasFlushedSome follows legs In (xs ++ rest, us ++ rest) cause
+  pub front-ended : (legs : ℕ) (In : ℕ → Type 0) (cause : CallError) (xs us rest : List D) → ((stripe : ℕ) → stripe < length xs → In stripe) → EndedLanes follows (λ stripe own. AllSync legs own) 0 (xs, us) cause → HasFlushedSome follows legs In (xs ++ rest, us ++ rest) cause
   front-ended legs In cause xs us rest are a =
       let long = length-append xs rest in
       let upto : cause.stripe < length xs = omega (arith, a.upto) in
@@ -48,7 +49,7 @@ module _ {L D : Type 0} (follows : D → List (Done L) → D → Type 0) (stays 
       }
 
   -- the call ended in the second run
-  pub back-ended : (legs first : ℕ) (In : ℕ → Type 0) (cause : Cause) (xs us mid ys vs rest : List D) → first ≡ length xs + length mid
+  pub back-ended : (legs first : ℕ) (In : ℕ → Type 0) (cause : CallError) (xs us mid ys vs rest : List D) → first ≡ length xs + length mid
       → ((stripe : ℕ) → stripe < length xs → In stripe) → ((stripe : ℕ) → first ≤ stripe → stripe < first + length ys → In stripe)
       → DidLanes follows (λ stripe own. IsLegSyncs legs own) 0 (xs, us) → EndedLanes follows (λ stripe own. AllSync legs own) first (ys, vs) cause → HasFlushedSome follows legs In (xs ++ (mid ++ (ys ++ rest)), us ++ (mid ++ (vs ++ rest))) cause
   back-ended legs first In cause xs us mid ys vs rest at are too a b =

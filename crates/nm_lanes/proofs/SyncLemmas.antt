@@ -3,9 +3,9 @@ use Rattle.std.proofs.Common.{◌≡◌, inl, inr, ℕ, ◌+◌, ◌<◌, Bool, 
 use Rattle.std.proofs.lemmas.Bool.{cases_lt}
 use Rattle.nm_stripe.specs.Flush.{SyncsLeg, HasSynced}
 use Rattle.nm_stripe.specs.declared.step.Step.TheVariants.{Sync}
-use Rattle.nm_lanes.specs.declared.cause_kind.CauseKind.{CauseKind}
+use Rattle.nm_lanes.specs.declared.call_error_kind.CallErrorKind.{CallErrorKind}
 use Rattle.nm_lanes.specs.Done.{Done, done_as}
-use Rattle.nm_lanes.specs.Ends.{BeganOwn, LaneDid, LaneEnds, LaneTries}
+use Rattle.nm_lanes.specs.Ends.{BeganOwn, ByStep, LaneDid, LaneEnds, LaneTries}
 use Rattle.nm_lanes.specs.Flushes.{SyncsOne, IsStripeFlush}
 use Rattle.nm_lanes.specs.Lane.{LaneStops}
 use Rattle.nm_lanes.specs.Own.{helps, own_done, EndsSo}
@@ -63,7 +63,7 @@ module _ {L D : Type 0} (follows : D → List (Done L) → D → Type 0)
       }
 
   -- the end of the call at a leg
-  pub syncs-stop : (old mid new : D) (legs leg : ℕ) (kind : CauseKind) → LaneSyncs follows (old, mid) legs leg → LaneStops follows mid new [] (EndsSo Nobodys kind) → LaneSyncStops follows (old, new) legs kind
+  pub syncs-stop : (old mid new : D) (legs leg : ℕ) (kind : CallErrorKind) → LaneSyncs follows (old, mid) legs leg → LaneStops follows mid new [] (EndsSo Nobodys kind) → LaneSyncStops follows (old, new) legs kind
   syncs-stop old mid new legs leg kind a b = record {
     own = a.own;
     only = a.only;
@@ -76,7 +76,7 @@ module _ {L D : Type 0} (follows : D → List (Done L) → D → Type 0) where
   syncs-did legs old new a = record { own = a.own; all = record { only = a.only; each = a.each }; claimed = syncs-claimed legs a.own a.only; does = a.does }
 
   -- a sync ended the call
-  pub syncs-tried : (legs stripe : ℕ) (kind : CauseKind) (old new : D) → LaneSyncStops follows (old, new) legs kind → LaneTries follows (λ own. AllSync legs own) (record { stripe = stripe; kind = kind }) stripe old new
+  pub syncs-tried : (legs stripe : ℕ) (kind : CallErrorKind) (old new : D) → LaneSyncStops follows (old, new) legs kind → LaneTries follows (λ own. AllSync legs own) (record { stripe = stripe; kind = kind }) stripe old new
   syncs-tried legs stripe kind old new a =
-      let ends : LaneEnds follows (old, new) a.own kind = stops-more follows old new a.own Nobodys (BeganOwn a.own) kind (λ ticket none. absurd none) a.stops in
+      let ends : LaneEnds follows (λ own. AllSync legs own) (old, new) a.own kind = ByStep (stops-more follows old new a.own Nobodys (BeganOwn a.own) kind (λ ticket none. absurd none) a.stops) in
       record { own = a.own; share = a.only; did = inr (omega arith, kind, ends); ends = λ is. ends }

@@ -1,5 +1,5 @@
 -- The mirror's array follows its stripes' arrays, entry by entry.
-use Rattle.std.proofs.Common.{◌≡◌, ◌≢◌, ℕ, zero, suc, ◌+◌, ◌<◌, ◌==◌, true, if◌then◌else◌, List, [], ◌∷◌, map, length, length-set, get_or, slice_get, slice_set, Some, refl, sym, ap, ◌∙◌, subst, arith, inl, inr, eq-eqb}
+use Rattle.std.proofs.Common.{◌≡◌, ◌≢◌, ℕ, zero, suc, ◌+◌, ◌<◌, ◌==◌, true, if◌then◌else◌, List, [], ◌∷◌, map, length, length-set, get_or, replicate, slice_get, slice_set, Some, refl, sym, ap, ◌∙◌, subst, arith, inl, inr, eq-eqb}
 use Rattle.std.proofs.lemmas.Bool.{cases_lt}
 use Rattle.std.proofs.lemmas.Bool.Decides.{eqb_tells}
 use Rattle.std.proofs.lemmas.Option.{same_Some, slice_get_within, slice_get_past, slice_get-get_or}
@@ -12,12 +12,15 @@ use Rattle.nm_replay.specs.declared.entry.Kind.TheVariants.{Read, Write, Patch}
 use Rattle.nm_replay.specs.Array.{Array, after}
 use Rattle.nm_replay.specs.History.{Fits, EntryFits, after_entry, operation, Legal}
 use Rattle.nm_replay.proofs.Arrays.{slice_get-set_same, slice_get-set_other, same_by_slice_get}
-use Rattle.nm_resync.specs.Chunk.{zero_block}
 use Rattle.nm_lanes.specs.Events.{MirrorEntry, entries_in}
 use Rattle.nm_lanes.specs.Explained.{MirrorLegal, counted}
 use Rattle.nm_lanes.specs.Interleavings.{in_export}
 use Rattle.nm_lanes.specs.Moved.{moved_entry}
 use Rattle.nm_lanes.specs.Whole.{AreAsLong, IsWhole, HasWhole}
+
+-- a block of zeros
+abbrev zero_block : Block
+zero_block = record { 0 = replicate 512 0 }
 
 -- a block of a stripe's array lies in the mirror's, and is the block there
 pub found-there : (shape : Geometry) (arrays : ℕ → Array) (whole : Array) (s b : ℕ) → IsGeometry shape → s < shape.stripes → IsWhole shape arrays whole → b < length (arrays s) → (in_export shape s b < shape.blocks) × (slice_get whole (in_export shape s b) ≡ slice_get (arrays s) b)

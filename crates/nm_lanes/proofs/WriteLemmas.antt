@@ -5,7 +5,7 @@ use Rattle.nm_rules.specs.declared.refusal.Refusal.{Refusal}
 use Rattle.nm_rules.specs.Runs.{EntryNames}
 use Rattle.nm_stripe.specs.declared.answer.Answer.TheVariants.{Begun, Written}
 use Rattle.nm_stripe.specs.declared.step.Step.TheVariants.{Begin, Claim}
-use Rattle.nm_lanes.specs.declared.cause_kind.CauseKind.{CauseKind}
+use Rattle.nm_lanes.specs.declared.call_error_kind.CallErrorKind.{CallErrorKind}
 use Rattle.nm_lanes.specs.Answers.{refused_with_nothing}
 use Rattle.nm_lanes.specs.Done.{Done, done_as}
 use Rattle.nm_lanes.specs.Own.{claim_end_of, EndsSo}
@@ -19,7 +19,7 @@ module _ {L D : Type 0} (follows : D → List (Done L) → D → Type 0) where
   claim-done old new ticket written leads = record { answer = Written written; does = does-own follows old new (Claim ticket) (Written written) leads refl; is_answer = tt }
 
   -- a claim that was refused by an end of the call
-  pub claim-ends : (old new : D) (ticket : ℕ) (r : Refusal) (kind : CauseKind) → follows old (done_as (Claim ticket) (refused_with_nothing r) ∷ []) new → claim_end_of r ≡ Some kind → LaneStops follows old new [] (EndsSo (Only ticket) kind)
+  pub claim-ends : (old new : D) (ticket : ℕ) (r : Refusal) (kind : CallErrorKind) → follows old (done_as (Claim ticket) (refused_with_nothing r) ∷ []) new → claim_end_of r ≡ Some kind → LaneStops follows old new [] (EndsSo (Only ticket) kind)
   claim-ends old new ticket r kind leads is =
       stops-one follows old new (Claim ticket) (refused_with_nothing r) (EndsSo (Only ticket) kind) leads (record { answer = is; ticket = λ e. refl })
 
@@ -30,7 +30,7 @@ module _ {L D : Type 0} (follows : D → List (Done L) → D → Type 0)
   claim-goes old mid new ticket r leads none after =
       refused-goes follows joins old mid new (Claim ticket) (refused_with_nothing r) leads (ap (λ x. is_none x) none) after
 
-  pub claim-stops : (old mid new : D) (ticket : ℕ) (r : Refusal) (kind : CauseKind) → follows old (done_as (Claim ticket) (refused_with_nothing r) ∷ []) mid → claim_end_of r ≡ None → LaneStops follows mid new [] (EndsSo Nobodys kind) → LaneStops follows old new [] (EndsSo (Only ticket) kind)
+  pub claim-stops : (old mid new : D) (ticket : ℕ) (r : Refusal) (kind : CallErrorKind) → follows old (done_as (Claim ticket) (refused_with_nothing r) ∷ []) mid → claim_end_of r ≡ None → LaneStops follows mid new [] (EndsSo Nobodys kind) → LaneStops follows old new [] (EndsSo (Only ticket) kind)
   claim-stops old mid new ticket r kind leads none after =
       does-stops follows joins old mid new [] [] (EndsSo (Only ticket) kind)
       (does-help follows old mid (Claim ticket) (refused_with_nothing r) leads (ap (λ x. is_none x) none))
@@ -48,12 +48,12 @@ module _ {L D : Type 0} (follows : D → List (Done L) → D → Type 0)
   }
 
   -- begun, and the end of the call
-  pub pushes-stop : (old begun new : D) (block : ℕ) (bytes : Data) (ticket : ℕ) (kind : CauseKind) → LaneDoes follows old begun (done_as (Begin block bytes) (Begun ticket) ∷ [])
+  pub pushes-stop : (old begun new : D) (block : ℕ) (bytes : Data) (ticket : ℕ) (kind : CallErrorKind) → LaneDoes follows old begun (done_as (Begin block bytes) (Begun ticket) ∷ [])
       → LaneStops follows begun new [] (EndsSo Nobodys kind) → LaneWriteStops follows (old, new) block bytes kind
   pushes-stop old begun new block bytes ticket kind a b =
       inr (ticket, does-stops follows joins old begun new (done_as (Begin block bytes) (Begun ticket) ∷ []) [] (EndsSo (Only ticket) kind) a (stops-more follows begun new [] Nobodys (Only ticket) kind (λ t h. absurd h) b))
 
-  pub claims-stop : (old begun pushed new : D) (block : ℕ) (bytes : Data) (ticket : ℕ) (kind : CauseKind) → LaneDoes follows old begun (done_as (Begin block bytes) (Begun ticket) ∷ []) → LaneDoes follows begun pushed []
+  pub claims-stop : (old begun pushed new : D) (block : ℕ) (bytes : Data) (ticket : ℕ) (kind : CallErrorKind) → LaneDoes follows old begun (done_as (Begin block bytes) (Begun ticket) ∷ []) → LaneDoes follows begun pushed []
       → LaneStops follows pushed new [] (EndsSo (Only ticket) kind) → LaneWriteStops follows (old, new) block bytes kind
   claims-stop old begun pushed new block bytes ticket kind a b e =
       inr (ticket, does-stops follows joins old begun new (done_as (Begin block bytes) (Begun ticket) ∷ []) [] (EndsSo (Only ticket) kind) a (does-stops follows joins begun pushed new [] [] (EndsSo (Only ticket) kind) b e))

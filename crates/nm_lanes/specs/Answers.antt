@@ -65,7 +65,7 @@ answer_of_sync (Err refusal) = refused_with_nothing refusal
 
 -- a step of a copy
 abbrev pub answer_of_copy : {L : Type 0} → Result Copying Refusal → Answer L
-answer_of_copy (Ok (copying.Copied blocks)) = answer.Copied blocks
+answer_of_copy (Ok (copying.Copied moved blocks)) = answer.Copied moved blocks
 answer_of_copy (Ok copying.Nothing) = answer.Nothing
 answer_of_copy (Ok (copying.LegLost leg)) = lost_with_nothing leg
 answer_of_copy (Err refusal) = refused_with_nothing refusal

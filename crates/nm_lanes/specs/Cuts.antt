@@ -14,6 +14,12 @@ cut_for run bytes = if is_whole run then Cut bytes else Part run.from bytes
 abbrev pub zero_for : Run → Data
 zero_for run = if is_whole run then Zero (run.len / 512) else ZeroPart run.from run.len
 
+-- whole blocks of zeroes, or a part of zeroes
+abbrev pub AreZeroes : Data → Type 0
+AreZeroes (Zero count) = Unit {0}
+AreZeroes (ZeroPart from len) = Unit {0}
+AreZeroes bytes = ⊥
+
 -- the payload, cut where the runs end
 abbrev pub cuts_for : List Run → List ℕ → List RunWrite
 cuts_for [] payload = []

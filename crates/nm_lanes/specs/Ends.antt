@@ -1,9 +1,13 @@
 -- What a call did on each lane, where steps ended it in some stripes.
 use Rattle.std.specs.Prelude.{◌≡◌, ◌⊎◌, ℕ, ◌+◌, ◌<◌, ◌≤◌, List, [], ◌∷◌, ◌++◌, length}
+use Rattle.nm_fanout.specs.declared.block_data.Data.{Data}
 use Rattle.nm_stripe.specs.declared.answer.Answer.TheVariants.{Begun}
-use Rattle.nm_lanes.specs.declared.cause.Cause.{Cause}
-use Rattle.nm_lanes.specs.declared.cause_kind.CauseKind.{CauseKind}
-use Rattle.nm_lanes.specs.Done.{Done}
+use Rattle.nm_stripe.specs.declared.step.Step.TheVariants.{Begin}
+use Rattle.nm_lanes.specs.declared.call_error.CallError.{CallError}
+use Rattle.nm_lanes.specs.declared.call_error_kind.CallErrorKind.{CallErrorKind}
+use Rattle.nm_lanes.specs.declared.call_error_kind.CallErrorKind.TheVariants.{Gone}
+use Rattle.nm_lanes.specs.Cuts.{AreZeroes}
+use Rattle.nm_lanes.specs.Done.{Done, done_as}
 use Rattle.nm_lanes.specs.Lane.{LaneDoes, LaneStops}
 use Rattle.nm_lanes.specs.Own.{EndsSo}
 
@@ -28,11 +32,24 @@ pub record BeganOwn {L : Type 0} (own : List (Done L)) (ticket : ℕ) : Type 0 w
   pub own_is : own ≡ before ++ last ∷ []
   pub begun : last.answer ≡ Begun ticket
 
--- the call's own steps on the lane were these, and one step more ended the call
-abbrev pub LaneEnds : {L D : Type 0} → (D → List (Done L) → D → Type 0) → D × D
-    → List (Done L) → CauseKind → Type 0
-LaneEnds follows lane own kind =
-    LaneStops follows lane.0 lane.1 own (EndsSo (BeganOwn own) kind)
+-- after these own steps a write of zeroes is left of the share
+pub record LeavesZeroes {L : Type 0} (Share : List (Done L) → Type 0) (own : List (Done L))
+    : Type 0 where
+  pub block : ℕ
+  pub bytes : Data
+  pub ticket : ℕ
+  pub zeroes : AreZeroes bytes
+  pub next : Share (own ++ done_as (Begin block bytes) (Begun ticket) ∷ [])
+
+-- the call ended on the lane after these own steps: one step more was answered so; or its caller
+-- was gone, and it did no more: zeroes are left to be written, and no write of theirs unclaimed
+pub data LaneEnds {L D : Type 0} (follows : D → List (Done L) → D → Type 0)
+    (Share : List (Done L) → Type 0) (lane : D × D) (own : List (Done L)) (kind : CallErrorKind)
+    : Type 0 where
+  ByStep : LaneStops follows lane.0 lane.1 own (EndsSo (BeganOwn own) kind)
+      → LaneEnds follows Share lane own kind
+  ByLeaving : kind ≡ Gone → LeavesZeroes Share own → EndsClaimed own
+      → LaneDoes follows lane.0 lane.1 own → LaneEnds follows Share lane own kind
 
 -- on a lane the call's own steps were all of its share, no write of theirs is left unclaimed, and
 -- nothing ended the call
@@ -44,20 +61,21 @@ pub record LaneDid {L D : Type 0} (follows : D → List (Done L) → D → Type 
   pub does : LaneDoes follows old new own
 
 -- a call that was ended: on the lane of this stripe its own steps were some of its share, in order.
--- Nothing ended it there, and no write of theirs is left unclaimed; or one step more ended it,
--- which happens in no stripe below the cause's. In the cause's stripe one did, with the cause's
--- answer.
+-- It did not end there, and no write of theirs is left unclaimed; or it ended there, which happens
+-- in no stripe below the cause's. In the cause's stripe it did, for the cause.
 pub record LaneTries {L D : Type 0} (follows : D → List (Done L) → D → Type 0)
-    (Share : List (Done L) → Type 0) (cause : Cause) (stripe : ℕ) (old new : D) : Type 0 where
+    (Share : List (Done L) → Type 0) (cause : CallError) (stripe : ℕ) (old new : D) : Type 0 where
   pub own : List (Done L)
   pub share : Share own
   pub did : (EndsClaimed own × LaneDoes follows old new own)
-      ⊎ ((cause.stripe ≤ stripe) × (kind : CauseKind) × LaneEnds follows (old, new) own kind)
-  pub ends : stripe ≡ cause.stripe → LaneEnds follows (old, new) own cause.kind
+      ⊎ ((cause.stripe ≤ stripe)
+      × (kind : CallErrorKind) × LaneEnds follows Share (old, new) own kind)
+  pub ends : stripe ≡ cause.stripe → LaneEnds follows Share (old, new) own cause.kind
 
 -- a call that was ended, on all lanes
 pub record HasTried {L D : Type 0} (follows : D → List (Done L) → D → Type 0)
-    (Share : ℕ → List (Done L) → Type 0) (lanes : List D × List D) (cause : Cause) : Type 0 where
+    (Share : ℕ → List (Done L) → Type 0) (lanes : List D × List D) (cause : CallError)
+    : Type 0 where
   pub inside : cause.stripe < length lanes.0
   pub each :
       EachLane (λ stripe old new. LaneTries follows (Share stripe) cause stripe old new) 0

@@ -4,7 +4,7 @@ use Rattle.nm_geometry.specs.declared.byte_range.ByteRange.{ByteRange}
 use Rattle.nm_geometry.specs.Geometry.{Geometry, stripe_of}
 use Rattle.nm_geometry.specs.Pieces.{touched, piece_at}
 use Rattle.nm_stripe.specs.Flush.{SyncsLeg, IsFlush}
-use Rattle.nm_lanes.specs.declared.cause.Cause.{Cause}
+use Rattle.nm_lanes.specs.declared.call_error.CallError.{CallError}
 use Rattle.nm_lanes.specs.Done.{Done}
 use Rattle.nm_lanes.specs.Ends.{HasTried}
 use Rattle.nm_lanes.specs.Lists.{MirrorStep, stripe_list, Does}
@@ -50,6 +50,6 @@ SyncsIn legs In stripe (d ∷ own) = In stripe × SyncsOne legs d × SyncsIn leg
 -- legs were synced in these stripes, and nothing else was done, until syncs in some of them ended
 -- the call
 pub record HasFlushedSome {L D : Type 0} (follows : D → List (Done L) → D → Type 0) (legs : ℕ)
-    (In : ℕ → Type 0) (lanes : List D × List D) (cause : Cause) : Type 0 where
+    (In : ℕ → Type 0) (lanes : List D × List D) (cause : CallError) : Type 0 where
   pub stripe : In cause.stripe
   pub tried : HasTried follows (SyncsIn legs In) lanes cause

@@ -1,7 +1,7 @@
 pub mod Done
 pub mod Answers
 pub mod Told
-pub mod Hinders
+pub mod Blockers
 pub mod Own
 pub mod Lane
 pub mod Steps
@@ -10,7 +10,7 @@ pub mod Ends
 pub mod Rounds
 pub mod Halves
 pub mod Runs
-pub mod Stretches
+pub mod PieceRanges
 pub mod Reads
 pub mod Cuts
 pub mod Fillings

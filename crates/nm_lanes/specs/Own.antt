@@ -8,12 +8,12 @@ use Rattle.nm_stripe.specs.declared.answer.Answer.TheVariants.{Pushed, Complete,
 use Rattle.nm_stripe.specs.declared.answer.Answer.TheVariants.{Nothing, LegLost, Refused}
 use Rattle.nm_stripe.specs.declared.step.Step.{Step}
 use Rattle.nm_stripe.specs.declared.step.Step.TheVariants.{Claim, Sync}
-use Rattle.nm_lanes.specs.declared.cause_kind.CauseKind.{CauseKind}
-use Rattle.nm_lanes.specs.declared.cause_kind.CauseKind.TheVariants as cause
+use Rattle.nm_lanes.specs.declared.call_error_kind.CallErrorKind.{CallErrorKind}
+use Rattle.nm_lanes.specs.declared.call_error_kind.CallErrorKind.TheVariants as cause
 use Rattle.nm_lanes.specs.Done.{Done}
 
 -- the refusals that end a call, whatever step met them
-abbrev pub end_of : Refusal → Option CauseKind
+abbrev pub end_of : Refusal → Option CallErrorKind
 end_of refusal.Fault = Some cause.Fault
 end_of refusal.Stopped = Some cause.Stopped
 end_of refusal.Exhausted = Some cause.Exhausted
@@ -21,12 +21,12 @@ end_of refusal.Astray = Some cause.Astray
 end_of other = None
 
 -- the refusals that end a call where a claim met them: these, and that the record is gone
-abbrev pub claim_end_of : Refusal → Option CauseKind
+abbrev pub claim_end_of : Refusal → Option CallErrorKind
 claim_end_of refusal.NoTicket = Some cause.NoTicket
 claim_end_of other = end_of other
 
 -- the answers that end a call: a halt, and such refusals
-abbrev pub ends_with : {L : Type 0} → Step L → Answer L → Option CauseKind
+abbrev pub ends_with : {L : Type 0} → Step L → Answer L → Option CallErrorKind
 ends_with step Halted = Some cause.Halted
 ends_with (Claim ticket) (Refused refused handed) = claim_end_of refused
 ends_with step (Refused refused handed) = end_of refused
@@ -47,7 +47,7 @@ helps step (Refused refused handed) = is_none (end_of refused)
 helps step (LegLost gone handed) = true
 helps step (Pushed count) = true
 helps step (Complete number) = true
-helps step (Copied blocks) = true
+helps step (Copied moved blocks) = true
 helps step Nothing = true
 helps step answer = false
 
@@ -62,6 +62,7 @@ ClaimsOurs ours (Claim ticket) = ours ticket
 ClaimsOurs ours step = ⊥
 
 -- the step's answer is this end of a call; a record that is gone was one of ours
-pub record EndsSo {L : Type 0} (ours : ℕ → Type 0) (kind : CauseKind) (d : Done L) : Type 0 where
+pub record EndsSo {L : Type 0} (ours : ℕ → Type 0) (kind : CallErrorKind) (d : Done L)
+    : Type 0 where
   pub answer : ends_with d.step d.answer ≡ Some kind
   pub ticket : kind ≡ cause.NoTicket → ClaimsOurs ours d.step

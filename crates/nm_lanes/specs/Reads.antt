@@ -5,7 +5,7 @@ use Rattle.nm_geometry.specs.Geometry.{Geometry, stripe_of, block_in_stripe}
 use Rattle.nm_stripe.specs.declared.answer.Answer.{Answer}
 use Rattle.nm_stripe.specs.declared.answer.Answer.TheVariants.{Value}
 use Rattle.nm_stripe.specs.declared.step.Step.TheVariants.{Read}
-use Rattle.nm_lanes.specs.declared.cause.Cause.{Cause}
+use Rattle.nm_lanes.specs.declared.call_error.CallError.{CallError}
 use Rattle.nm_lanes.specs.declared.run.Run.{Run}
 use Rattle.nm_lanes.specs.Done.{Done}
 use Rattle.nm_lanes.specs.Ends.{HasTried}
@@ -86,7 +86,7 @@ pub record RunIn (shape : Geometry) (runs : List Run) (stripe : ℕ) : Type 0 wh
 -- in each stripe the first of its runs were read once, in order, until steps in some of the
 -- stripes ended the call
 pub record HasReadSome {L D : Type 0} (follows : D → List (Done L) → D → Type 0)
-    (shape : Geometry) (runs : List Run) (lanes : List D × List D) (cause : Cause)
+    (shape : Geometry) (runs : List Run) (lanes : List D × List D) (cause : CallError)
     : Type 0 where
   pub stripe : RunIn shape runs cause.stripe
   pub tried :

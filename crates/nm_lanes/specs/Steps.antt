@@ -7,7 +7,7 @@ use Rattle.nm_stripe.specs.declared.answer.Answer.TheVariants.{Begun, Written}
 use Rattle.nm_stripe.specs.declared.step.Step.{Step}
 use Rattle.nm_stripe.specs.declared.step.Step.TheVariants.{Begin, Claim, Read}
 use Rattle.nm_fanout.specs.declared.block_data.Data.{Data}
-use Rattle.nm_lanes.specs.declared.cause_kind.CauseKind.{CauseKind}
+use Rattle.nm_lanes.specs.declared.call_error_kind.CallErrorKind.{CallErrorKind}
 use Rattle.nm_lanes.specs.Done.{Done, done_as}
 use Rattle.nm_lanes.specs.Own.{end_of, EndsSo}
 use Rattle.nm_lanes.specs.Lane.{LaneDoes, LaneStops}
@@ -24,7 +24,7 @@ Nobodys ticket = ⊥
 -- a refusal that ends the call, before anything else was done; or it does not, and a step that
 -- should help on ended the call
 abbrev pub EndsHere : {L D : Type 0} → (D → List (Done L) → D → Type 0) → D × D
-    → Refusal → CauseKind → Type 0
+    → Refusal → CallErrorKind → Type 0
 EndsHere {L} follows lanes refusal kind =
     ((end_of refusal ≡ Some kind) × (lanes.1 ≡ lanes.0))
     ⊎ ((end_of refusal ≡ None)
@@ -86,7 +86,7 @@ pub record LaneWrites {L D : Type 0} (follows : D → List (Done L) → D → Ty
 
 -- the call ended in a write: before it began, or after its begin
 abbrev pub LaneWriteStops : {L D : Type 0} → (D → List (Done L) → D → Type 0) → D × D
-    → ℕ → Data → CauseKind → Type 0
+    → ℕ → Data → CallErrorKind → Type 0
 LaneWriteStops {L} follows lanes block bytes kind =
     LaneStops {L = L} follows lanes.0 lanes.1 [] (EndsSo Nobodys kind)
     ⊎ ((ticket : ℕ)

@@ -1,8 +1,8 @@
 -- What a sync of every leg does on one lane, and on those of stripes that follow one another.
 use Rattle.std.specs.Prelude.{Result, ◌≡◌, ◌⊎◌, ℕ, ◌+◌, ◌<◌, ◌≤◌, ◌%◌, List, [], ◌∷◌}
 use Rattle.nm_geometry.specs.Geometry.{Geometry}
-use Rattle.nm_lanes.specs.declared.cause.Cause.{Cause}
-use Rattle.nm_lanes.specs.declared.cause_kind.CauseKind.{CauseKind}
+use Rattle.nm_lanes.specs.declared.call_error.CallError.{CallError}
+use Rattle.nm_lanes.specs.declared.call_error_kind.CallErrorKind.{CallErrorKind}
 use Rattle.nm_lanes.specs.Done.{Done}
 use Rattle.nm_lanes.specs.Flushes.{SyncsOne, IsStripeFlush}
 use Rattle.nm_lanes.specs.Lane.{LaneDoes, LaneStops}
@@ -22,7 +22,7 @@ pub record IsLegSyncs {L : Type 0} (legs : ℕ) (own : List (Done L)) : Type 0 w
 
 -- what came of syncs of every leg on these lanes, of which the first is this stripe's
 abbrev pub SyncsLanes : {L D A : Type 0} → (D → List (Done L) → D → Type 0) → ℕ → ℕ
-    → List D × List D → Result A Cause → Type 0
+    → List D × List D → Result A CallError → Type 0
 SyncsLanes follows legs first lanes result =
     RunsLanes follows (λ stripe own. IsLegSyncs legs own) (λ stripe own. AllSync legs own) first
     lanes result
@@ -37,7 +37,7 @@ pub record LaneSyncs {L D : Type 0} (follows : D → List (Done L) → D → Typ
 
 -- legs were synced, and nothing else was done; then a sync ended the call
 pub record LaneSyncStops {L D : Type 0} (follows : D → List (Done L) → D → Type 0)
-    (lanes : D × D) (legs : ℕ) (kind : CauseKind) : Type 0 where
+    (lanes : D × D) (legs : ℕ) (kind : CallErrorKind) : Type 0 where
   pub own : List (Done L)
   pub only : AllSync legs own
   pub stops : LaneStops follows lanes.0 lanes.1 own (EndsSo Nobodys kind)

@@ -3,7 +3,7 @@ use Rattle.std.specs.Prelude.{◌≡◌, ℕ, ◌==◌, if◌then◌else◌, Lis
 use Rattle.nm_geometry.specs.Geometry.{Geometry, stripe_of, block_in_stripe}
 use Rattle.nm_stripe.specs.declared.answer.Answer.TheVariants.{Begun}
 use Rattle.nm_stripe.specs.declared.step.Step.TheVariants.{Begin, Claim}
-use Rattle.nm_lanes.specs.declared.cause.Cause.{Cause}
+use Rattle.nm_lanes.specs.declared.call_error.CallError.{CallError}
 use Rattle.nm_lanes.specs.declared.run_write.RunWrite.{RunWrite}
 use Rattle.nm_lanes.specs.declared.write_fault.WriteFault.{WriteFault}
 use Rattle.nm_lanes.specs.declared.write_fault.WriteFault.TheVariants.{Memory, Io}
@@ -74,7 +74,7 @@ pub record LiesIn (shape : Geometry) (writes : List RunWrite) (stripe : ℕ) : T
 -- in each stripe the first of its runs were written once, in order, and at most a begin of its next
 -- one was done, until steps in some of the stripes ended the call
 pub record HasWrittenSome {L D : Type 0} (follows : D → List (Done L) → D → Type 0)
-    (shape : Geometry) (writes : List RunWrite) (lanes : List D × List D) (cause : Cause)
+    (shape : Geometry) (writes : List RunWrite) (lanes : List D × List D) (cause : CallError)
     : Type 0 where
   pub stripe : LiesIn shape writes cause.stripe
   pub tried :

@@ -1,5 +1,5 @@
 //! A call of a mirror: what its steps on each stripe have in common.
-ghost use Rattle.std.specs.Prelude.{◌≡◌, ◌<◌, ◌^◌, length};
+ghost use Rattle.std.specs.Prelude.{◌≡◌, ◌<◌, ◌^◌, IsTrue, Some, length, slice_get};
 ghost use Rattle.nm_geometry.specs.Geometry.{IsGeometry};
 ghost use Rattle.nm_geometry.specs.Pieces.{LiesInside, end_of};
 
@@ -7,12 +7,14 @@ use crate::call_kind::CallKind;
 use crate::gate::Gate;
 use crate::halves::Order;
 use crate::lane::Lane;
+use crate::piece_range::PieceRange;
 use crate::region_range::{RegionRange, are_worth_it};
-use crate::site::Site;
+use crate::stripe_call::StripeCall;
 use nm_geometry::{ByteRange, Shape};
 use nm_leg::LegPart;
 use nm_replay::BLOCK_BYTES;
 use std::sync::Wait;
+use std::sync::atomic::{AtomicBool, Ordering};
 
 /// Tells that a shape's numbers are within their bounds, as each shape's are.
 pub(crate) fn within_bounds(shape: &Shape)
@@ -47,7 +49,7 @@ fn any_taken<L: LegPart, K, D: Lane<L, K>>(locks: &[K], lanes: &[D]) -> bool {
 
 /// Begins a call of so many bytes: whether it may start threads. It may if it is long, and nobody
 /// else is at work in the mirror. Long calls are counted until they end.
-pub(crate) fn begin<L: LegPart, K, D: Lane<L, K>>(
+pub(crate) fn enter_call<L: LegPart, K, D: Lane<L, K>>(
     shape: &Shape,
     locks: &[K],
     lanes: &[D],
@@ -60,7 +62,7 @@ pub(crate) fn begin<L: LegPart, K, D: Lane<L, K>>(
 }
 
 /// Ends a call of so many bytes.
-pub(crate) fn end<L: LegPart, K, D: Lane<L, K>>(
+pub(crate) fn leave_call<L: LegPart, K, D: Lane<L, K>>(
     shape: &Shape,
     locks: &[K],
     lanes: &[D],
@@ -85,15 +87,29 @@ pub(crate) struct Call<'a, R, G, K> {
     pub(crate) kind: CallKind,
     /// Whether halves of a round may go side by side.
     pub(crate) starts_threads: bool,
+    /// Where the caller can go: whether it is gone.
+    pub(crate) is_gone: Option<&'a AtomicBool>,
 }
 
 impl<R: Wait, G: Gate, K> Call<'_, R, G, K> {
-    /// The call at work on one block of a stripe, or on none.
-    pub(crate) fn site(&self, stripe: u32, block: Option<u64>) -> Site<'_, R, G, K>
-        requires { stripe < length self.now.locks.now }
-        ensures { result.stripe ≡ stripe }
+    /// Whether these pieces are not to be begun: they are zeroes, and the caller is gone. When that
+    /// is so is not promised: it tells where a call's work would be for nobody.
+    pub(crate) fn gives_up(&self, left: PieceRange) -> bool
+        ensures { IsTrue result → IsTrue left.no_payload }
     {
-        Site {
+        match self.is_gone {
+            Some(is_gone) => left.no_payload && is_gone.load(Ordering::SeqCst),
+            None => false,
+        }
+    }
+
+    /// The call at work on one block of a stripe, or on none, through the stripe's own lock.
+    pub(crate) fn on_stripe(&self, stripe: u32, block: Option<u64>) -> StripeCall<'_, R, G, K>
+        requires { stripe < length self.now.locks.now }
+        ensures stripe { result.stripe ≡ stripe }
+        ensures lock { slice_get self.now.locks.now stripe ≡ Some result.lock.now }
+    {
+        StripeCall {
             rt: self.rt,
             gate: self.gate,
             lock: &self.locks[stripe as usize],

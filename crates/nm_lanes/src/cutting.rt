@@ -2,11 +2,11 @@
 ghost use Rattle.std.specs.Prelude.{◌≡◌, ◌+◌, ◌<◌, ◌≤◌, ◌^◌, length, IfOk};
 ghost use Rattle.nm_geometry.specs.Pieces.{end_of, touched};
 ghost use Rattle.nm_lanes.specs.Cuts.{cut_for, cuts_for};
-ghost use Rattle.nm_lanes.specs.Stretches.{bytes_of, runs_in_stretch};
+ghost use Rattle.nm_lanes.specs.PieceRanges.{bytes_of, runs_in_pieces};
 
+use crate::piece_range::PieceRange;
 use crate::run::{Run, count_runs, first_run};
 use crate::run_write::RunWrite;
-use crate::stretch::Stretch;
 use bytes::Bytes;
 use nm_fanout::Data;
 use nm_geometry::Shape;
@@ -27,22 +27,22 @@ fn cut_for(run: Run, bytes: Bytes) -> Data
     }
 }
 
-/// The payload, cut where the runs of the stretch end.
-pub(crate) fn cut_up(
+/// The payload, cut where the runs of the piece range end.
+pub(crate) fn split_payload(
     alloc: Global,
     shape: &Shape,
-    stretch: Stretch,
+    pieces: PieceRange,
     payload: Bytes,
 ) -> Result<Vec<RunWrite>, Memory>
-    requires end { end_of stretch.range < 2 ^ 64 }
-    requires inside { stretch.first + stretch.count ≤ touched stretch.range }
-    requires length { length payload ≡ bytes_of stretch stretch.count }
+    requires end { end_of pieces.range < 2 ^ 64 }
+    requires inside { pieces.first + pieces.count ≤ touched pieces.range }
+    requires length { length payload ≡ bytes_of pieces pieces.count }
     ensures cuts { IfOk result (λ writes.
-        writes.items ≡ cuts_for (runs_in_stretch shape.now stretch) payload) }
+        writes.items ≡ cuts_for (runs_in_pieces shape.now pieces) payload) }
 {
-    let mut writes = Vec::with_capacity(alloc, count_runs(shape, stretch))?;
+    let mut writes = Vec::with_capacity(alloc, count_runs(shape, pieces))?;
     let mut rest = payload;
-    let mut left = stretch;
+    let mut left = pieces;
     while left.count > 0 {
         let (run, blocks) = first_run(shape, left);
         let cut = rest.split_to(run.len as usize)?;

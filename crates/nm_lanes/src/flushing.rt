@@ -6,26 +6,26 @@ ghost use Rattle.nm_lanes.specs.Flushes.{HasFlushed, HasFlushedSome, IsStripeOf,
 ghost use Rattle.nm_lanes.specs.Syncs.{InSpans, IsAround, LaneSyncs, LaneSyncStops};
 
 use crate::call::{Call, range_inside, within_bounds};
+use crate::call_error::CallError;
+use crate::call_error_kind::CallErrorKind;
 use crate::call_kind::CallKind;
-use crate::cause::Cause;
-use crate::cause_kind::CauseKind;
 use crate::gate::Gate;
 use crate::lane::Lane;
 use crate::rounds::flush_lanes;
-use crate::site::Site;
+use crate::stripe_call::StripeCall;
 use nm_geometry::{ByteRange, Shape};
 use nm_leg::LegPart;
 use std::marker::{Send, Sync};
 use std::sync::Wait;
 use std::thread::Threads;
 
-impl<R: Wait, G: Gate, K> Site<'_, R, G, K> {
+impl<R: Wait, G: Gate, K> StripeCall<'_, R, G, K> {
     /// Syncs each of so many legs that is not out.
     pub(crate) fn sync_all<L: LegPart, D: Lane<L, K>>(
         &self,
         lane: &mut D,
         legs: u8,
-    ) -> Result<(), CauseKind>
+    ) -> Result<(), CallErrorKind>
         ensures ok { OnOk result (LaneSyncs D.follows (lane.old, lane.new) legs legs) }
         ensures err { IfErr result (LaneSyncStops D.follows (lane.old, lane.new) legs) }
     {
@@ -50,7 +50,7 @@ fn flush_spans<
     D: Lane<L, K> + Send,
     R: Threads + Wait + Sync,
     G: Gate + Sync,
->(call: &Call<'_, R, G, K>, spans: Spans, lanes: &mut [D]) -> Result<(), Cause>
+>(call: &Call<'_, R, G, K>, spans: Spans, lanes: &mut [D]) -> Result<(), CallError>
     requires locks { length call.now.locks.now ≡ call.now.shape.now.stripes }
     requires lanes { length lanes.old ≡ call.now.shape.now.stripes }
     requires order { (spans.low ≤ spans.first) × (spans.first ≤ spans.end) }
@@ -76,19 +76,20 @@ fn flush_spans<
 
 /// Syncs every leg of every stripe. A leg that is out, or goes out by it, is passed over.
 pub fn flush_by<
+    'a,
     L: LegPart + Send,
     K: Sync,
     D: Lane<L, K> + Send,
     R: Threads + Wait + Sync,
     G: Gate + Sync,
 >(
-    rt: &R,
-    shape: &Shape,
-    gate: &G,
+    rt: &'a R,
+    shape: &'a Shape,
+    gate: &'a G,
     pass: Option<u32>,
-    locks: &[K],
+    locks: &'a [K],
     lanes: &mut [D],
-) -> Result<(), Cause>
+) -> Result<(), CallError>
     requires locks { length locks.now ≡ shape.now.stripes }
     requires lanes { length lanes.old ≡ shape.now.stripes }
     ensures ok { OnOk result (HasFlushed D.follows shape.now.legs (IsStripeOf shape.now)
@@ -104,6 +105,7 @@ pub fn flush_by<
         pass,
         kind: CallKind::Flush,
         starts_threads: true,
+        is_gone: None,
     };
     let spans = Spans {
         low: 0,
@@ -158,21 +160,22 @@ fn spans_around(shape: &Shape, region: u64, count: u64) -> Spans
 
 /// Syncs every leg of the stripes in which some of the bytes from `offset` on lie.
 pub fn sync_by<
+    'a,
     L: LegPart + Send,
     K: Sync,
     D: Lane<L, K> + Send,
     R: Threads + Wait + Sync,
     G: Gate + Sync,
 >(
-    rt: &R,
-    shape: &Shape,
-    gate: &G,
+    rt: &'a R,
+    shape: &'a Shape,
+    gate: &'a G,
     pass: Option<u32>,
-    locks: &[K],
+    locks: &'a [K],
     lanes: &mut [D],
     offset: u64,
     len: u64,
-) -> Result<(), Cause>
+) -> Result<(), CallError>
     requires locks { length locks.now ≡ shape.now.stripes }
     requires lanes { length lanes.old ≡ shape.now.stripes }
     requires inside { LiesInside (record { offset = offset; length = len }) shape.now }
@@ -191,6 +194,7 @@ pub fn sync_by<
         pass,
         kind: CallKind::SyncTouched,
         starts_threads: true,
+        is_gone: None,
     };
     within_bounds(shape);
     let range = range_inside(shape, offset, len);

@@ -1,7 +1,7 @@
 //! The two halves of a round.
 ghost use Rattle.nm_lanes.specs.Halves.{BothRan};
 
-use crate::cause::Cause;
+use crate::call_error::CallError;
 use std::marker::Send;
 use std::thread::{Threads, join_mut};
 
@@ -16,9 +16,9 @@ pub(crate) enum Order {
 /// Does both halves of a round in this order. Where both have a cause it is the lower half's.
 pub(crate) fn do_both<
     R: Threads,
-    F: FnMut() -> Result<(), Cause> + Send,
-    G: FnMut() -> Result<(), Cause>,
->(rt: &R, order: Order, lower: &mut F, upper: &mut G) -> Result<(), Cause>
+    F: FnMut() -> Result<(), CallError> + Send,
+    G: FnMut() -> Result<(), CallError>,
+>(rt: &R, order: Order, lower: &mut F, upper: &mut G) -> Result<(), CallError>
     requires { F.pre lower.old × G.pre upper.old }
     ensures { BothRan (λ told. F.step lower.old told lower.new)
         (λ told. G.step upper.old told upper.new) result }

@@ -4,23 +4,24 @@ ghost use Rattle.nm_lanes.specs.Lane.{LaneDoes, LaneStops};
 ghost use Rattle.nm_lanes.specs.Own.{end_of, EndsSo};
 ghost use Rattle.nm_lanes.specs.Steps.{EndsHere, Nobodys};
 
-use crate::cause_kind::CauseKind;
+use crate::blocker::{Blocker, end_of};
+use crate::call_error_kind::CallErrorKind;
 use crate::gate::Gate;
-use crate::hindrance::{Hindrance, end_of};
 use crate::lane::Lane;
-use crate::site::Site;
+use crate::stripe_call::StripeCall;
+use nm_fanout::MOST_RUN;
 use nm_leg::LegPart;
 use nm_rules::Refusal;
 use nm_stripe::Copying;
 use std::sync::Wait;
 
-impl<R: Wait, G: Gate, K> Site<'_, R, G, K> {
+impl<R: Wait, G: Gate, K> StripeCall<'_, R, G, K> {
     /// Pushes a write, of this ticket or the oldest one under way, to the lowest leg that it owes.
     pub(crate) fn help_write<L: LegPart, D: Lane<L, K>>(
         &self,
         lane: &mut D,
         ticket: Option<u64>,
-    ) -> Result<(), CauseKind>
+    ) -> Result<(), CallErrorKind>
         ensures ok { OnOk result (LaneDoes D.follows lane.old lane.new []) }
         ensures err { IfErr result (λ kind.
             LaneStops D.follows lane.old lane.new [] (EndsSo Nobodys kind)) }
@@ -34,20 +35,24 @@ impl<R: Wait, G: Gate, K> Site<'_, R, G, K> {
     /// Does a step of the copy to a leg; where a write is in its way, pushes that one: without it
     /// the copy would not come further, and who waits for it would turn for ever. Another refusal
     /// that does not end the call is harmless.
-    fn help_copy<L: LegPart, D: Lane<L, K>>(&self, lane: &mut D, leg: u8) -> Result<(), CauseKind>
+    fn help_copy<L: LegPart, D: Lane<L, K>>(
+        &self,
+        lane: &mut D,
+        leg: u8,
+    ) -> Result<(), CallErrorKind>
         ensures ok { OnOk result (LaneDoes D.follows lane.old lane.new []) }
         ensures err { IfErr result (λ kind.
             LaneStops D.follows lane.old lane.new [] (EndsSo Nobodys kind)) }
     {
-        match self.copy(lane, leg) {
-            Ok(Copying::Copied(_)) => Ok(()),
+        match self.copy(lane, leg, MOST_RUN as u64, 0) {
+            Ok(Copying::Copied { .. }) => Ok(()),
             Ok(Copying::Nothing) => Ok(()),
             Ok(Copying::LegLost(_)) => Ok(()),
             Err(refusal) => {
                 if let Some(kind) = end_of(refusal) {
                     return Err(kind);
                 }
-                if let Hindrance::Write(ticket) = Hindrance::of(refusal) {
+                if let Blocker::Write(ticket) = Blocker::of(refusal) {
                     self.help_write(lane, ticket)?;
                 }
                 Ok(())
@@ -57,11 +62,11 @@ impl<R: Wait, G: Gate, K> Site<'_, R, G, K> {
 
     /// Goes on after a step that was refused so: where the refusal does not end the call, helps on
     /// what stood in the way.
-    pub(crate) fn go_on<L: LegPart, D: Lane<L, K>>(
+    pub(crate) fn unblock<L: LegPart, D: Lane<L, K>>(
         &self,
         lane: &mut D,
         refusal: Refusal,
-    ) -> Result<(), CauseKind>
+    ) -> Result<(), CallErrorKind>
         ensures going { OnOk result (end_of refusal ≡ None) }
         ensures ok { OnOk result (LaneDoes D.follows lane.old lane.new []) }
         ensures err { IfErr result (EndsHere D.follows (lane.old, lane.new) refusal) }
@@ -69,10 +74,10 @@ impl<R: Wait, G: Gate, K> Site<'_, R, G, K> {
         if let Some(kind) = end_of(refusal) {
             return Err(kind);
         }
-        match Hindrance::of(refusal) {
-            Hindrance::Write(ticket) => self.help_write(lane, ticket)?,
-            Hindrance::Copy(leg) => self.help_copy(lane, leg)?,
-            Hindrance::Nothing => {}
+        match Blocker::of(refusal) {
+            Blocker::Write(ticket) => self.help_write(lane, ticket)?,
+            Blocker::Copy(leg) => self.help_copy(lane, leg)?,
+            Blocker::Nothing => {}
         }
         Ok(())
     }

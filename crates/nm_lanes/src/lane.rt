@@ -62,10 +62,18 @@ pub trait Lane<L: LegPart, K> {
         ensures follows { follows self.old
             (done_as (step.Sync leg) (answer_of_sync result) ∷ []) self.new };
 
-    /// Does a step of the copy to a leg.
-    fn copy<R: Wait>(&mut self, rt: &R, lock: &K, leg: u8) -> Result<Copying, Refusal>
+    /// Does a step of the copy to a leg, which moves up to `most` blocks, and opens no region below
+    /// `from`.
+    fn copy<R: Wait>(
+        &mut self,
+        rt: &R,
+        lock: &K,
+        leg: u8,
+        most: u64,
+        from: u64,
+    ) -> Result<Copying, Refusal>
         ensures follows { follows self.old
-            (done_as (step.Copy leg) (answer_of_copy result) ∷ []) self.new };
+            (done_as (step.Copy leg most from) (answer_of_copy result) ∷ []) self.new };
 
     /// The lowest leg that a write still has to reach, with the write's ticket: of this ticket, or
     /// of the lowest ticket under way where none is given. One hold of the lock.

@@ -5,9 +5,9 @@
 //! together on the mirror's one array.
 #![tactic(auto)]
 
+pub use call_error::CallError;
+pub use call_error_kind::CallErrorKind;
 pub use call_kind::CallKind;
-pub use cause::Cause;
-pub use cause_kind::CauseKind;
 pub use flushing::{flush_by, sync_by};
 pub use gate::{Gate, NoGate};
 pub use lane::Lane;
@@ -18,19 +18,20 @@ pub use write_fault::WriteFault;
 pub use writing::write_by;
 pub use zeroing::zero_by;
 
+mod blocker;
 mod call;
+mod call_error;
+mod call_error_kind;
 mod call_kind;
-mod cause;
-mod cause_kind;
 mod cutting;
 mod flushing;
 mod gate;
 mod getting;
 mod halves;
 mod helping;
-mod hindrance;
 mod lane;
 pub mod laws;
+mod piece_range;
 mod place;
 mod putting;
 mod reading;
@@ -38,9 +39,8 @@ mod region_range;
 mod rounds;
 mod run;
 mod run_write;
-mod site;
 mod step_kind;
-mod stretch;
+mod stripe_call;
 mod turns;
 mod write_fault;
 mod writing;

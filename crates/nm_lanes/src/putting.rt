@@ -2,52 +2,55 @@
 ghost use Rattle.std.specs.Prelude.{◌≡◌, ◌+◌, ◌<◌, ◌++◌, length, IfErr, IfOk, OnOk};
 ghost use Rattle.std.specs.Thread.{IsSend, IsSync};
 ghost use Rattle.nm_lanes.specs.Ends.{LaneDid, LaneTries};
-ghost use Rattle.nm_lanes.specs.Fillings.{filling, IsStretch};
+ghost use Rattle.nm_lanes.specs.Fillings.{filling, IsPieceRange};
 ghost use Rattle.nm_lanes.specs.Lists.{steps_in};
 ghost use Rattle.nm_lanes.specs.Puts.{PutsLanes, PutsNext};
 ghost use Rattle.nm_lanes.specs.RegionRanges.{IsRegionRange};
 ghost use Rattle.nm_lanes.specs.Writes.{HasWritten, HasWrittenSome, WritesEach, WritesSome};
 
 use crate::call::{Call, within_bounds};
-use crate::cause::Cause;
-use crate::cause_kind::CauseKind;
+use crate::call_error::CallError;
+use crate::call_error_kind::CallErrorKind;
 use crate::gate::Gate;
 use crate::halves::do_both;
 use crate::lane::Lane;
+use crate::piece_range::PieceRange;
 use crate::region_range::{RegionRange, first_in_stripe, halves, next_round};
 use crate::run_write::RunWrite;
-use crate::stretch::Stretch;
 use nm_leg::LegPart;
 use std::marker::{Send, Sync};
 use std::sync::Wait;
 use std::thread::Threads;
 
-/// Writes one run of a stripe after the other.
-fn put_lane<L: LegPart, K, D: Lane<L, K>, R: Wait, G: Gate>(
+/// Writes one run of a stripe after the other; zeroes as long as the caller is not gone.
+fn write_lane<L: LegPart, K, D: Lane<L, K>, R: Wait, G: Gate>(
     call: &Call<'_, R, G, K>,
     regions: RegionRange,
     lane: &mut D,
     cuts: &mut [RunWrite],
-) -> Result<(), CauseKind>
+) -> Result<(), CallErrorKind>
     requires locks { length call.now.locks.now ≡ call.now.shape.now.stripes }
-    requires stretch { IsStretch call.now.shape.now regions.stretch cuts.old }
+    requires pieces { IsPieceRange call.now.shape.now regions.pieces cuts.old }
     requires regions { IsRegionRange call.now.shape.now 1 regions }
     ensures ok { OnOk result (LaneDid D.follows (λ own. WritesEach call.now.shape.now
-        (filling call.now.shape.now regions.stretch cuts.old) (steps_in regions.stripe own))
+        (filling call.now.shape.now regions.pieces cuts.old) (steps_in regions.stripe own))
         lane.old lane.new) }
     ensures err { IfErr result (λ kind. LaneTries D.follows (λ own. WritesSome call.now.shape.now
-        (filling call.now.shape.now regions.stretch cuts.old) (steps_in regions.stripe own))
+        (filling call.now.shape.now regions.pieces cuts.old) (steps_in regions.stripe own))
         (record { stripe = regions.stripe; kind = kind }) regions.stripe lane.old lane.new) }
 {
     let shape = call.shape;
     within_bounds(shape);
     let mut block = first_in_stripe(shape, regions);
-    let mut left = regions.stretch;
+    let mut left = regions.pieces;
     let mut number = 0;
     while left.count > 0 {
         let (write, blocks) = left.take(shape, number, cuts);
-        let site = call.site(regions.stripe, Some(block));
-        site.write_one(lane, block, write.bytes, shape.legs)?;
+        if call.gives_up(left) {
+            return Err(CallErrorKind::Gone);
+        }
+        let stripe_call = call.on_stripe(regions.stripe, Some(block));
+        stripe_call.write_one(lane, block, write.bytes, shape.legs)?;
         block += blocks;
         left = left.rest_of(blocks);
         number += 1;
@@ -56,24 +59,24 @@ fn put_lane<L: LegPart, K, D: Lane<L, K>, R: Wait, G: Gate>(
 }
 
 /// Writes the runs of this stripe, whose lane stands alone.
-fn put_one<L: LegPart, K, D: Lane<L, K>, R: Wait, G: Gate>(
+fn write_stripe<L: LegPart, K, D: Lane<L, K>, R: Wait, G: Gate>(
     call: &Call<'_, R, G, K>,
     regions: RegionRange,
     lanes: &mut [D],
     cuts: &mut [RunWrite],
-) -> Result<(), Cause>
+) -> Result<(), CallError>
     requires one { length lanes.old ≡ 1 }
     requires locks { length call.now.locks.now ≡ call.now.shape.now.stripes }
-    requires stretch { IsStretch call.now.shape.now regions.stretch cuts.old }
+    requires pieces { IsPieceRange call.now.shape.now regions.pieces cuts.old }
     requires regions { IsRegionRange call.now.shape.now (length lanes.old) regions }
     ensures puts { PutsLanes D.follows call.now.shape.now
-        (filling call.now.shape.now regions.stretch cuts.old)
+        (filling call.now.shape.now regions.pieces cuts.old)
         regions.stripe (lanes.old, lanes.new) result }
 {
     within_bounds(call.shape);
-    match put_lane(call, regions, &mut lanes[0], cuts) {
+    match write_lane(call, regions, &mut lanes[0], cuts) {
         Ok(()) => Ok(()),
-        Err(kind) => Err(Cause {
+        Err(kind) => Err(CallError {
             stripe: regions.stripe,
             kind,
         }),
@@ -81,8 +84,8 @@ fn put_one<L: LegPart, K, D: Lane<L, K>, R: Wait, G: Gate>(
 }
 
 /// Writes the runs of the stripes of these lanes.
-#[cycle(put)]
-fn put_round<
+#[cycle(write)]
+fn write_round<
     L: LegPart + Send,
     K: Sync,
     D: Lane<L, K> + Send,
@@ -93,29 +96,29 @@ fn put_round<
     regions: RegionRange,
     lanes: &mut [D],
     cuts: &mut [RunWrite],
-) -> Result<(), Cause>
+) -> Result<(), CallError>
     requires some { 0 < length lanes.old }
     requires locks { length call.now.locks.now ≡ call.now.shape.now.stripes }
-    requires stretch { IsStretch call.now.shape.now regions.stretch cuts.old }
+    requires pieces { IsPieceRange call.now.shape.now regions.pieces cuts.old }
     requires regions { IsRegionRange call.now.shape.now (length lanes.old) regions }
     ensures puts { PutsLanes D.follows call.now.shape.now
-        (filling call.now.shape.now regions.stretch cuts.old)
+        (filling call.now.shape.now regions.pieces cuts.old)
         regions.stripe (lanes.old, lanes.new) result }
 {
     if lanes.len() == 1 {
-        return put_one(call, regions, lanes, cuts);
+        return write_stripe(call, regions, lanes, cuts);
     }
     let shape = call.shape;
     let half = lanes.len() / 2;
     let (low, high) = halves(shape, regions, lanes.len(), half);
     let (front, back) = lanes.split_at_mut(half);
-    let (own, rest) = cuts.split_at_mut(low.stretch.cuts_of(shape));
-    put_halves(call, low, front, own, high, back, rest)
+    let (own, rest) = cuts.split_at_mut(low.pieces.cuts_of(shape));
+    write_halves(call, low, front, own, high, back, rest)
 }
 
 /// Does both halves of a round, in the order that the call gives them.
-#[cycle(put)]
-fn put_halves<
+#[cycle(write)]
+fn write_halves<
     L: LegPart + Send,
     K: Sync,
     D: Lane<L, K> + Send,
@@ -129,46 +132,46 @@ fn put_halves<
     high: RegionRange,
     back: &mut [D],
     rest: &mut [RunWrite],
-) -> Result<(), Cause>
+) -> Result<(), CallError>
     requires locks { length call.now.locks.now ≡ call.now.shape.now.stripes }
     requires some { (0 < length front.old) × (0 < length back.old) }
-    requires low { IsStretch call.now.shape.now low.stretch own.old
+    requires low { IsPieceRange call.now.shape.now low.pieces own.old
         × IsRegionRange call.now.shape.now (length front.old) low }
-    requires high { IsStretch call.now.shape.now high.stretch rest.old
+    requires high { IsPieceRange call.now.shape.now high.pieces rest.old
         × IsRegionRange call.now.shape.now (length back.old) high }
     requires next { high.stripe ≡ low.stripe + length front.old }
     ensures puts { PutsLanes D.follows call.now.shape.now
-        (filling call.now.shape.now low.stretch own.old
-        ++ filling call.now.shape.now high.stretch rest.old)
+        (filling call.now.shape.now low.pieces own.old
+        ++ filling call.now.shape.now high.pieces rest.old)
         low.stripe (front.old ++ back.old, front.new ++ back.new) result }
 {
     within_bounds(call.shape);
     let order = call.order_of(low, high, front);
-    let mut lower = || -> Result<(), Cause>
+    let mut lower = || -> Result<(), CallError>
         requires { IsSync R.row × IsSync G.row × IsSync K.row × IsSend D.row
             × (0 < length front.now)
             × (length call.now.locks.now ≡ call.now.shape.now.stripes)
-            × IsStretch call.now.shape.now low.stretch own.now
+            × IsPieceRange call.now.shape.now low.pieces own.now
             × IsRegionRange call.now.shape.now (length front.now) low }
         ensures { PutsLanes D.follows call.entry.now.shape.now
-            (filling call.entry.now.shape.now low.stretch own.entry.now)
+            (filling call.entry.now.shape.now low.pieces own.entry.now)
             low.stripe (front.entry.now, front.exit.now) result }
-    { put_round(call, low, front, own) };
-    let mut upper = || -> Result<(), Cause>
+    { write_round(call, low, front, own) };
+    let mut upper = || -> Result<(), CallError>
         requires { IsSync R.row × IsSync G.row × IsSync K.row × IsSend D.row
             × (0 < length back.now)
             × (length call.now.locks.now ≡ call.now.shape.now.stripes)
-            × IsStretch call.now.shape.now high.stretch rest.now
+            × IsPieceRange call.now.shape.now high.pieces rest.now
             × IsRegionRange call.now.shape.now (length back.now) high }
         ensures { PutsLanes D.follows call.entry.now.shape.now
-            (filling call.entry.now.shape.now high.stretch rest.entry.now)
+            (filling call.entry.now.shape.now high.pieces rest.entry.now)
             high.stripe (back.entry.now, back.exit.now) result }
-    { put_round(call, high, back, rest) };
+    { write_round(call, high, back, rest) };
     do_both(call.rt, order, &mut lower, &mut upper)
 }
 
 /// Writes the runs of the next round, and tells how many blocks they have.
-fn put_next<
+fn write_next<
     L: LegPart + Send,
     K: Sync,
     D: Lane<L, K> + Send,
@@ -176,33 +179,33 @@ fn put_next<
     G: Gate + Sync,
 >(
     call: &Call<'_, R, G, K>,
-    stretch: Stretch,
+    pieces: PieceRange,
     lanes: &mut [D],
     cuts: &mut [RunWrite],
-) -> Result<u64, Cause>
+) -> Result<u64, CallError>
     requires locks { length call.now.locks.now ≡ call.now.shape.now.stripes }
     requires lanes { length lanes.old ≡ call.now.shape.now.stripes }
-    requires stretch { IsStretch call.now.shape.now stretch cuts.old }
-    requires some { 0 < stretch.count }
-    ensures ok { IfOk result (PutsNext D.follows call.now.shape.now stretch
+    requires pieces { IsPieceRange call.now.shape.now pieces cuts.old }
+    requires some { 0 < pieces.count }
+    ensures ok { IfOk result (PutsNext D.follows call.now.shape.now pieces
         (cuts.old, cuts.new) (lanes.old, lanes.new)) }
     ensures err { IfErr result (HasWrittenSome D.follows call.now.shape.now
-        (filling call.now.shape.now stretch cuts.old) (lanes.old, lanes.new)) }
+        (filling call.now.shape.now pieces cuts.old) (lanes.old, lanes.new)) }
 {
-    let (regions, stripes) = next_round(call.shape, stretch);
-    let done = regions.stretch.count;
+    let (regions, stripes) = next_round(call.shape, pieces);
+    let done = regions.pieces.count;
     let (_, rest) = lanes.split_at_mut(regions.stripe as usize);
     let (round, _) = rest.split_at_mut(stripes as usize);
-    let (own, _) = cuts.split_at_mut(regions.stretch.cuts_of(call.shape));
-    match put_round(call, regions, round, own) {
+    let (own, _) = cuts.split_at_mut(regions.pieces.cuts_of(call.shape));
+    match write_round(call, regions, round, own) {
         Ok(()) => Ok(done),
         Err(cause) => Err(cause),
     }
 }
 
-/// Writes all runs of a stretch, in rounds. After a round in which a stripe could not go on comes
-/// no other.
-pub(crate) fn put_all<
+/// Writes all runs of a piece range, in rounds. After a round in which a stripe could not go on
+/// comes no other.
+pub(crate) fn write_all<
     L: LegPart + Send,
     K: Sync,
     D: Lane<L, K> + Send,
@@ -210,22 +213,22 @@ pub(crate) fn put_all<
     G: Gate + Sync,
 >(
     call: &Call<'_, R, G, K>,
-    stretch: Stretch,
+    pieces: PieceRange,
     lanes: &mut [D],
     cuts: &mut [RunWrite],
-) -> Result<(), Cause>
+) -> Result<(), CallError>
     requires locks { length call.now.locks.now ≡ call.now.shape.now.stripes }
     requires lanes { length lanes.old ≡ call.now.shape.now.stripes }
-    requires stretch { IsStretch call.now.shape.now stretch cuts.old }
+    requires pieces { IsPieceRange call.now.shape.now pieces cuts.old }
     ensures ok { OnOk result (HasWritten D.follows call.now.shape.now
-        (filling call.now.shape.now stretch cuts.old) (lanes.old, lanes.new)) }
+        (filling call.now.shape.now pieces cuts.old) (lanes.old, lanes.new)) }
     ensures err { IfErr result (HasWrittenSome D.follows call.now.shape.now
-        (filling call.now.shape.now stretch cuts.old) (lanes.old, lanes.new)) }
+        (filling call.now.shape.now pieces cuts.old) (lanes.old, lanes.new)) }
 {
-    let mut left = stretch;
+    let mut left = pieces;
     let mut taken = 0;
     while left.count > 0 {
-        let done = put_next(call, left, lanes, &mut cuts[taken..])?;
+        let done = write_next(call, left, lanes, &mut cuts[taken..])?;
         taken += left.first_of(done).cuts_of(call.shape);
         left = left.rest_of(done);
     }

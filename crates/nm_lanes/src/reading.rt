@@ -4,13 +4,13 @@ ghost use Rattle.nm_geometry.specs.Pieces.{LiesInside};
 ghost use Rattle.nm_lanes.specs.Reads.{HasRead, HasReadSome};
 ghost use Rattle.nm_lanes.specs.Runs.{runs_of_range};
 
-use crate::call::{Call, begin, end, range_inside};
+use crate::call::{Call, enter_call, leave_call, range_inside};
+use crate::call_error::CallError;
 use crate::call_kind::CallKind;
-use crate::cause::Cause;
 use crate::gate::Gate;
-use crate::getting::get_all;
+use crate::getting::read_all;
 use crate::lane::Lane;
-use crate::stretch::Stretch;
+use crate::piece_range::PieceRange;
 use nm_geometry::Shape;
 use nm_leg::LegPart;
 use std::marker::{Send, Sync};
@@ -23,21 +23,22 @@ use std::thread::Threads;
 /// On an error, in each stripe the first of its runs were read, and what stands in `into` is not
 /// told.
 pub fn read_by<
+    'a,
     L: LegPart + Send,
     K: Sync,
     D: Lane<L, K> + Send,
     R: Threads + Wait + Sync,
     G: Gate + Sync,
 >(
-    rt: &R,
-    shape: &Shape,
-    gate: &G,
+    rt: &'a R,
+    shape: &'a Shape,
+    gate: &'a G,
     pass: Option<u32>,
-    locks: &[K],
+    locks: &'a [K],
     lanes: &mut [D],
     offset: u64,
     into: &mut [u8],
-) -> Result<(), Cause>
+) -> Result<(), CallError>
     requires locks { length locks.now ≡ shape.now.stripes }
     requires lanes { length lanes.old ≡ shape.now.stripes }
     requires inside { LiesInside (record { offset = offset; length = length into.old }) shape.now }
@@ -57,17 +58,18 @@ pub fn read_by<
         locks,
         pass,
         kind: CallKind::Read,
-        starts_threads: begin(shape, locks, lanes, into.len() as u64),
+        starts_threads: enter_call(shape, locks, lanes, into.len() as u64),
+        is_gone: None,
     };
     let range = range_inside(shape, offset, into.len() as u64);
-    let stretch = Stretch {
+    let pieces = PieceRange {
         range,
         first: 0,
         count: range.pieces(),
-        uncut: true,
+        no_payload: true,
     };
-    let read = get_all(&call, stretch, lanes, into);
-    end(shape, locks, lanes, into.len() as u64);
+    let read = read_all(&call, pieces, lanes, into);
+    leave_call(shape, locks, lanes, into.len() as u64);
     match read {
         Ok(()) => Ok(()),
         Err(cause) => Err(cause),

@@ -2,18 +2,18 @@
 ghost use Rattle.std.specs.Prelude.{◌≡◌, ℕ, ◌+◌, ◌≤◌, ◌<◌};
 ghost use Rattle.nm_geometry.specs.Geometry.{IsGeometry, block_in_stripe};
 ghost use Rattle.nm_lanes.specs.RegionRanges.{lower, upper, IsRegionRange};
-ghost use Rattle.nm_lanes.specs.Stretches.{block_of, first_of, EndsRegion};
+ghost use Rattle.nm_lanes.specs.PieceRanges.{block_of, first_of, EndsRegion};
 
 use crate::call::within_bounds;
+use crate::piece_range::PieceRange;
 use crate::rounds::MOST_AT_ONCE;
-use crate::stretch::Stretch;
 use nm_geometry::Shape;
 
 /// Pieces of regions that follow one another, of stripes that follow one another.
 #[derive(Clone, Copy)]
 pub(crate) struct RegionRange {
     /// The pieces.
-    pub(crate) stretch: Stretch,
+    pub(crate) pieces: PieceRange,
     /// The first of the regions, and its stripe.
     pub(crate) region: u64,
     pub(crate) stripe: u32,
@@ -21,18 +21,18 @@ pub(crate) struct RegionRange {
 
 /// The pieces of the next round, and in how many stripes they lie: those up to the next region of
 /// the first stripe, of 8 regions at most.
-pub(crate) fn next_round(shape: &Shape, stretch: Stretch) -> (RegionRange, u32)
-    requires some { 0 < stretch.count }
-    requires blocks { block_of stretch + stretch.count ≤ shape.now.blocks }
+pub(crate) fn next_round(shape: &Shape, pieces: PieceRange) -> (RegionRange, u32)
+    requires some { 0 < pieces.count }
+    requires blocks { block_of pieces + pieces.count ≤ shape.now.blocks }
     ensures regions { IsRegionRange shape.now result.1 result.0 }
-    ensures stretch { result.0.stretch ≡ first_of result.0.stretch.count stretch }
-    ensures most { result.0.stretch.count ≤ stretch.count }
-    ensures ends { EndsRegion shape.now stretch result.0.stretch.count }
+    ensures pieces { result.0.pieces ≡ first_of result.0.pieces.count pieces }
+    ensures most { result.0.pieces.count ≤ pieces.count }
+    ensures ends { EndsRegion shape.now pieces result.0.pieces.count }
     ensures lanes { (0 < result.1) × (result.0.stripe + result.1 ≤ shape.now.stripes) }
 {
     within_bounds(shape);
-    let block = stretch.block();
-    let end = block + stretch.count;
+    let block = pieces.block();
+    let end = block + pieces.count;
     let region = block / shape.region;
     let stripe = (region % shape.stripes as u64) as u32;
     let last = (end - 1) / shape.region;
@@ -41,7 +41,7 @@ pub(crate) fn next_round(shape: &Shape, stretch: Stretch) -> (RegionRange, u32)
         .min(MOST_AT_ONCE as u64);
     let count = ((region + lanes) * shape.region).min(end) - block;
     let regions = RegionRange {
-        stretch: stretch.first_of(count),
+        pieces: pieces.first_of(count),
         region,
         stripe,
     };
@@ -52,13 +52,13 @@ pub(crate) fn next_round(shape: &Shape, stretch: Stretch) -> (RegionRange, u32)
 /// there as they do in the export, so they need no division.
 pub(crate) fn first_in_stripe(shape: &Shape, regions: RegionRange) -> u64
     requires regions { IsRegionRange shape.now 1 regions }
-    requires blocks { block_of regions.stretch + regions.stretch.count ≤ shape.now.blocks }
-    ensures follow { (at : ℕ) → at < regions.stretch.count
-        → result + at ≡ block_in_stripe (block_of regions.stretch + at) shape.now }
-    ensures most { result ≤ block_of regions.stretch }
+    requires blocks { block_of regions.pieces + regions.pieces.count ≤ shape.now.blocks }
+    ensures follow { (at : ℕ) → at < regions.pieces.count
+        → result + at ≡ block_in_stripe (block_of regions.pieces + at) shape.now }
+    ensures most { result ≤ block_of regions.pieces }
 {
     within_bounds(shape);
-    shape.block_in_stripe(regions.stretch.block())
+    shape.block_in_stripe(regions.pieces.block())
 }
 
 /// The pieces of the first so many regions of a range of regions, and the others.
@@ -69,7 +69,7 @@ pub(crate) fn halves(
     half: usize,
 ) -> (RegionRange, RegionRange)
     requires regions { IsRegionRange shape.now lanes regions }
-    requires blocks { block_of regions.stretch + regions.stretch.count ≤ shape.now.blocks }
+    requires blocks { block_of regions.pieces + regions.pieces.count ≤ shape.now.blocks }
     requires half { (0 < half) × (half < lanes) }
     ensures lower { result.0 ≡ lower shape.now half regions }
     ensures upper { result.1 ≡ upper shape.now half regions }
@@ -77,13 +77,13 @@ pub(crate) fn halves(
 {
     within_bounds(shape);
     let next = regions.region + half as u64;
-    let count = next * shape.region - regions.stretch.block();
+    let count = next * shape.region - regions.pieces.block();
     let low = RegionRange {
-        stretch: regions.stretch.first_of(count),
+        pieces: regions.pieces.first_of(count),
         ..regions
     };
     let high = RegionRange {
-        stretch: regions.stretch.rest_of(count),
+        pieces: regions.pieces.rest_of(count),
         region: next,
         stripe: regions.stripe + half as u32,
     };
@@ -94,5 +94,5 @@ pub(crate) fn halves(
 /// more, since a thread costs more than a few blocks.
 pub(crate) fn are_worth_it(shape: &Shape, low: RegionRange, high: RegionRange) -> bool {
     let least = shape.region;
-    low.stretch.count >= least && high.stretch.count >= least
+    low.pieces.count >= least && high.pieces.count >= least
 }

@@ -5,7 +5,7 @@ ghost use Rattle.nm_lanes.specs.Rounds.{IsRound};
 ghost use Rattle.nm_lanes.specs.Syncs.{SyncsLanes};
 
 use crate::call::Call;
-use crate::cause::Cause;
+use crate::call_error::CallError;
 use crate::gate::Gate;
 use crate::halves::{Order, do_both};
 use crate::lane::Lane;
@@ -22,17 +22,17 @@ fn flush_one<L: LegPart, K, D: Lane<L, K>, R: Wait, G: Gate>(
     call: &Call<'_, R, G, K>,
     stripe: u32,
     lanes: &mut [D],
-) -> Result<(), Cause>
+) -> Result<(), CallError>
     requires one { length lanes.old ≡ 1 }
     requires inside { stripe < length call.now.locks.now }
     ensures syncs { SyncsLanes D.follows call.now.shape.now.legs stripe
         (lanes.old, lanes.new) result }
 {
     let shape = call.shape;
-    let site = call.site(stripe, None);
-    match site.sync_all(&mut lanes[0], shape.legs) {
+    let stripe_call = call.on_stripe(stripe, None);
+    match stripe_call.sync_all(&mut lanes[0], shape.legs) {
         Ok(()) => Ok(()),
-        Err(kind) => Err(Cause { stripe, kind }),
+        Err(kind) => Err(CallError { stripe, kind }),
     }
 }
 
@@ -64,7 +64,7 @@ fn flush_round<
     D: Lane<L, K> + Send,
     R: Threads + Wait + Sync,
     G: Gate + Sync,
->(call: &Call<'_, R, G, K>, first: u32, lanes: &mut [D]) -> Result<(), Cause>
+>(call: &Call<'_, R, G, K>, first: u32, lanes: &mut [D]) -> Result<(), CallError>
     requires round { IsRound (length call.now.locks.now) first (length lanes.old) }
     ensures syncs { SyncsLanes D.follows call.now.shape.now.legs first
         (lanes.old, lanes.new) result }
@@ -80,13 +80,13 @@ fn flush_round<
     } else {
         Order::LowerFirst
     };
-    let mut lower = || -> Result<(), Cause>
+    let mut lower = || -> Result<(), CallError>
         requires { IsSync R.row × IsSync G.row × IsSync K.row × IsSend D.row
             × IsRound (length call.now.locks.now) first (length front.now) }
         ensures { SyncsLanes D.follows call.entry.now.shape.now.legs first
             (front.entry.now, front.exit.now) result }
     { flush_round(call, first, front) };
-    let mut upper = || -> Result<(), Cause>
+    let mut upper = || -> Result<(), CallError>
         requires { IsSync R.row × IsSync G.row × IsSync K.row × IsSend D.row
             × IsRound (length call.now.locks.now) next (length back.now) }
         ensures { SyncsLanes D.follows call.entry.now.shape.now.legs next
@@ -103,7 +103,7 @@ pub(crate) fn flush_lanes<
     D: Lane<L, K> + Send,
     R: Threads + Wait + Sync,
     G: Gate + Sync,
->(call: &Call<'_, R, G, K>, first: u32, lanes: &mut [D]) -> Result<(), Cause>
+>(call: &Call<'_, R, G, K>, first: u32, lanes: &mut [D]) -> Result<(), CallError>
     requires locks { length call.now.locks.now ≤ 64 }
     requires inside { first + length lanes.old ≤ length call.now.locks.now }
     ensures syncs { SyncsLanes D.follows call.now.shape.now.legs first

@@ -2,10 +2,10 @@
 ghost use Rattle.std.specs.Prelude.{◌≡◌, ◌+◌, ◌≤◌, ◌<◌, ◌^◌, length};
 ghost use Rattle.nm_geometry.specs.Pieces.{end_of, touched};
 ghost use Rattle.nm_lanes.specs.Runs.{is_whole};
-ghost use Rattle.nm_lanes.specs.Stretches.{block_of, runs_in_stretch, IsFirstRun};
+ghost use Rattle.nm_lanes.specs.PieceRanges.{block_of, runs_in_pieces, IsFirstRun};
 
 use crate::call::within_bounds;
-use crate::stretch::Stretch;
+use crate::piece_range::PieceRange;
 use nm_fanout::MOST_RUN;
 use nm_geometry::Shape;
 use nm_replay::BLOCK_BYTES;
@@ -31,17 +31,17 @@ impl Run {
     }
 }
 
-/// The first run of a stretch, and how many blocks it has: up to the end of the region, of a group
-/// of 128 blocks, or of the whole blocks.
-pub(crate) fn first_run(shape: &Shape, stretch: Stretch) -> (Run, u64)
-    requires end { end_of stretch.range < 2 ^ 64 }
-    requires inside { stretch.first + stretch.count ≤ touched stretch.range }
-    requires some { 0 < stretch.count }
-    ensures { IsFirstRun shape.now stretch result.0 result.1 }
+/// The first run of a piece range, and how many blocks it has: up to the end of the region, of a
+/// group of 128 blocks, or of the whole blocks.
+pub(crate) fn first_run(shape: &Shape, pieces: PieceRange) -> (Run, u64)
+    requires end { end_of pieces.range < 2 ^ 64 }
+    requires inside { pieces.first + pieces.count ≤ touched pieces.range }
+    requires some { 0 < pieces.count }
+    ensures { IsFirstRun shape.now pieces result.0 result.1 }
 {
     within_bounds(shape);
-    let block = stretch.block();
-    let piece = stretch.range.piece(stretch.first);
+    let block = pieces.block();
+    let piece = pieces.range.piece(pieces.first);
     if !piece.is_whole() {
         let run = Run {
             block,
@@ -53,8 +53,8 @@ pub(crate) fn first_run(shape: &Shape, stretch: Stretch) -> (Run, u64)
     let inside = block % shape.region;
     let in_group = MOST_RUN as u64 - inside % MOST_RUN as u64;
     let in_region = shape.region - inside;
-    let whole = (stretch.range.offset + stretch.range.length) / BLOCK_BYTES as u64 - block;
-    let blocks = in_group.min(in_region).min(whole).min(stretch.count);
+    let whole = (pieces.range.offset + pieces.range.length) / BLOCK_BYTES as u64 - block;
+    let blocks = in_group.min(in_region).min(whole).min(pieces.count);
     let run = Run {
         block,
         from: 0,
@@ -63,13 +63,13 @@ pub(crate) fn first_run(shape: &Shape, stretch: Stretch) -> (Run, u64)
     (run, blocks)
 }
 
-/// How many runs a stretch has.
-pub(crate) fn count_runs(shape: &Shape, stretch: Stretch) -> usize
-    requires end { end_of stretch.range < 2 ^ 64 }
-    requires inside { stretch.first + stretch.count ≤ touched stretch.range }
-    ensures runs { result ≡ length (runs_in_stretch shape.now stretch) }
+/// How many runs a piece range has.
+pub(crate) fn count_runs(shape: &Shape, pieces: PieceRange) -> usize
+    requires end { end_of pieces.range < 2 ^ 64 }
+    requires inside { pieces.first + pieces.count ≤ touched pieces.range }
+    ensures runs { result ≡ length (runs_in_pieces shape.now pieces) }
 {
-    let mut left = stretch;
+    let mut left = pieces;
     let mut runs = 0;
     while left.count > 0 {
         let (_, blocks) = first_run(shape, left);

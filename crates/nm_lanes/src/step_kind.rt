@@ -15,7 +15,7 @@ pub enum StepKind {
     Attach,
     /// A leg is replaced by another.
     Replace,
-    /// A block is copied to a joining leg, or half of that is done.
+    /// Blocks are copied to a joining leg, or half of that is done.
     Copy,
     /// A joining leg is called in sync.
     Promote,

@@ -9,25 +9,25 @@ ghost use Rattle.nm_lanes.specs.Reads.{IsValue, value_bytes};
 ghost use Rattle.nm_lanes.specs.Runs.{run_blocks, IsRun};
 ghost use Rattle.nm_lanes.specs.Steps.{Completes, CompletesRead, Nobodys, ReadTurns, Turns};
 
-use crate::cause_kind::CauseKind;
+use crate::blocker::finds_out;
+use crate::call_error_kind::CallErrorKind;
 use crate::gate::Gate;
-use crate::hindrance::finds_out;
 use crate::lane::Lane;
 use crate::run::Run;
-use crate::site::Site;
+use crate::stripe_call::StripeCall;
 use nm_leg::LegPart;
 use nm_replay::Block;
 use nm_stripe::Reading;
 use std::sync::Wait;
 
-impl<R: Wait, G: Gate, K> Site<'_, R, G, K> {
+impl<R: Wait, G: Gate, K> StripeCall<'_, R, G, K> {
     /// One try of a read of whole blocks right into the target: true where they were found.
     fn read_whole<L: LegPart, D: Lane<L, K>>(
         &self,
         lane: &mut D,
         block: u64,
         into: &mut [u8],
-    ) -> Result<bool, CauseKind>
+    ) -> Result<bool, CallErrorKind>
         requires { length into.old % 512 ≡ 0 }
         ensures ok { IfOk result (ReadTurns D.follows (lane.old, lane.new) block
             (length into.old / 512) (λ told. IsValue told × (into.new ≡ value_bytes told))) }
@@ -38,7 +38,7 @@ impl<R: Wait, G: Gate, K> Site<'_, R, G, K> {
             Ok(Reading::Value(_)) => Ok(true),
             Ok(Reading::LegLost(_)) => Ok(false),
             Err(refusal) => {
-                self.go_on(lane, refusal)?;
+                self.unblock(lane, refusal)?;
                 Ok(false)
             }
         }
@@ -52,7 +52,7 @@ impl<R: Wait, G: Gate, K> Site<'_, R, G, K> {
         block: u64,
         from: u16,
         into: &mut [u8],
-    ) -> Result<bool, CauseKind>
+    ) -> Result<bool, CallErrorKind>
         requires { from + length into.old ≤ 512 }
         ensures ok { IfOk result (ReadTurns D.follows (lane.old, lane.new) block 1 (λ told.
             IsValue told
@@ -69,20 +69,20 @@ impl<R: Wait, G: Gate, K> Site<'_, R, G, K> {
             }
             Ok(Reading::LegLost(_)) => Ok(false),
             Err(refusal) => {
-                self.go_on(lane, refusal)?;
+                self.unblock(lane, refusal)?;
                 Ok(false)
             }
         }
     }
 
     /// One try of a read of a run into the target: true where it was found.
-    fn read_turn<L: LegPart, D: Lane<L, K>>(
+    fn try_read_once<L: LegPart, D: Lane<L, K>>(
         &self,
         lane: &mut D,
         block: u64,
         run: Run,
         into: &mut [u8],
-    ) -> Result<bool, CauseKind>
+    ) -> Result<bool, CallErrorKind>
         requires run { IsRun run }
         requires long { length into.old ≡ run.len }
         ensures ok { IfOk result (ReadTurns D.follows (lane.old, lane.new) block (run_blocks run)
@@ -104,7 +104,7 @@ impl<R: Wait, G: Gate, K> Site<'_, R, G, K> {
         block: u64,
         run: Run,
         into: &mut [u8],
-    ) -> Result<(), CauseKind>
+    ) -> Result<(), CallErrorKind>
         requires run { IsRun run }
         requires long { length into.old ≡ run.len }
         ensures ok { OnOk result (CompletesRead D.follows lane.old lane.new block (run_blocks run)
@@ -114,7 +114,7 @@ impl<R: Wait, G: Gate, K> Site<'_, R, G, K> {
             LaneStops D.follows lane.old lane.new [] (EndsSo Nobodys kind)) }
     {
         for _ in self.rt.forever() {
-            if self.read_turn(lane, block, run, into)? {
+            if self.try_read_once(lane, block, run, into)? {
                 return Ok(());
             }
         }
@@ -122,7 +122,11 @@ impl<R: Wait, G: Gate, K> Site<'_, R, G, K> {
     }
 
     /// One try of a sync: true where the leg was synced, or is out.
-    fn sync_turn<L: LegPart, D: Lane<L, K>>(&self, lane: &mut D, leg: u8) -> Result<bool, CauseKind>
+    fn try_sync_once<L: LegPart, D: Lane<L, K>>(
+        &self,
+        lane: &mut D,
+        leg: u8,
+    ) -> Result<bool, CallErrorKind>
         ensures ok { IfOk result (Turns D.follows (lane.old, lane.new) (step.Sync leg)
             (SyncsLeg leg (step.Sync leg))) }
         ensures err { IfErr result (λ kind.
@@ -134,7 +138,7 @@ impl<R: Wait, G: Gate, K> Site<'_, R, G, K> {
                 if finds_out(refusal) {
                     return Ok(true);
                 }
-                self.go_on(lane, refusal)?;
+                self.unblock(lane, refusal)?;
                 Ok(false)
             }
         }
@@ -145,14 +149,14 @@ impl<R: Wait, G: Gate, K> Site<'_, R, G, K> {
         &self,
         lane: &mut D,
         leg: u8,
-    ) -> Result<(), CauseKind>
+    ) -> Result<(), CallErrorKind>
         ensures ok { OnOk result (Completes D.follows lane.old lane.new (step.Sync leg)
             (SyncsLeg leg (step.Sync leg))) }
         ensures err { IfErr result (λ kind.
             LaneStops D.follows lane.old lane.new [] (EndsSo Nobodys kind)) }
     {
         for _ in self.rt.forever() {
-            if self.sync_turn(lane, leg)? {
+            if self.try_sync_once(lane, leg)? {
                 return Ok(());
             }
         }

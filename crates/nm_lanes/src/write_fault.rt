@@ -1,7 +1,7 @@
 ghost use Rattle.std.specs.Prelude.{◌≡◌, Some};
 ghost use Rattle.nm_lanes.specs.WriteFault.{fault_number, fault_text};
 
-use crate::cause::Cause;
+use crate::call_error::CallError;
 use std::error::Error;
 use std::fmt;
 
@@ -11,7 +11,7 @@ pub enum WriteFault {
     /// Out of memory for the cuts of the payload. No step was done.
     Memory,
     /// A stripe could not go on. Blocks that were written before stay written.
-    Io(Cause),
+    Io(CallError),
 }
 
 impl WriteFault {

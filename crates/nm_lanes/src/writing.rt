@@ -5,13 +5,13 @@ ghost use Rattle.nm_lanes.specs.Cuts.{cuts_for};
 ghost use Rattle.nm_lanes.specs.Runs.{runs_of_range};
 ghost use Rattle.nm_lanes.specs.Writes.{FailsWriting, HasWritten};
 
-use crate::call::{Call, begin, end, range_inside};
+use crate::call::{Call, enter_call, leave_call, range_inside};
 use crate::call_kind::CallKind;
-use crate::cutting::cut_up;
+use crate::cutting::split_payload;
 use crate::gate::Gate;
 use crate::lane::Lane;
-use crate::putting::put_all;
-use crate::stretch::Stretch;
+use crate::piece_range::PieceRange;
+use crate::putting::write_all;
 use crate::write_fault::WriteFault;
 use bytes::Bytes;
 use nm_geometry::Shape;
@@ -35,18 +35,19 @@ use std::thread::Threads;
 /// no further round begins. In each stripe the first of its runs were written, and the next one's
 /// write may have begun.
 pub fn write_by<
+    'a,
     L: LegPart + Send,
     K: Sync,
     D: Lane<L, K> + Send,
     R: Threads + Wait + Sync,
     G: Gate + Sync,
 >(
-    rt: &R,
+    rt: &'a R,
     alloc: Global,
-    shape: &Shape,
-    gate: &G,
+    shape: &'a Shape,
+    gate: &'a G,
     pass: Option<u32>,
-    locks: &[K],
+    locks: &'a [K],
     lanes: &mut [D],
     offset: u64,
     payload: Bytes,
@@ -69,13 +70,13 @@ pub fn write_by<
     }
     let len = payload.len() as u64;
     let range = range_inside(shape, offset, len);
-    let stretch = Stretch {
+    let pieces = PieceRange {
         range,
         first: 0,
         count: range.pieces(),
-        uncut: false,
+        no_payload: false,
     };
-    let Ok(mut writes) = cut_up(alloc, shape, stretch, payload) else {
+    let Ok(mut writes) = split_payload(alloc, shape, pieces, payload) else {
         return Err(WriteFault::Memory);
     };
     let call = Call {
@@ -85,10 +86,11 @@ pub fn write_by<
         locks,
         pass,
         kind: CallKind::Write,
-        starts_threads: begin(shape, locks, lanes, len),
+        starts_threads: enter_call(shape, locks, lanes, len),
+        is_gone: None,
     };
-    let written = put_all(&call, stretch, lanes, writes.as_mut_slice());
-    end(shape, locks, lanes, len);
+    let written = write_all(&call, pieces, lanes, writes.as_mut_slice());
+    leave_call(shape, locks, lanes, len);
     match written {
         Ok(()) => Ok(()),
         Err(cause) => Err(WriteFault::Io(cause)),

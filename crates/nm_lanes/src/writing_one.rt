@@ -6,24 +6,24 @@ ghost use Rattle.nm_lanes.specs.Own.{EndsSo};
 ghost use Rattle.nm_lanes.specs.Steps.{BeginTurns, Completes, IsWritten, LaneBegins, LaneWrites};
 ghost use Rattle.nm_lanes.specs.Steps.{LaneWriteStops, Nobodys, Only, Turns};
 
-use crate::cause_kind::CauseKind;
+use crate::blocker::claim_end_of;
+use crate::call_error_kind::CallErrorKind;
 use crate::gate::Gate;
-use crate::hindrance::claim_end_of;
 use crate::lane::Lane;
-use crate::site::Site;
+use crate::stripe_call::StripeCall;
 use nm_fanout::Data;
 use nm_leg::LegPart;
 use nm_stripe::Beginning;
 use std::sync::Wait;
 
-impl<R: Wait, G: Gate, K> Site<'_, R, G, K> {
+impl<R: Wait, G: Gate, K> StripeCall<'_, R, G, K> {
     /// One try of a begin: its ticket, or the data, which have come back.
-    fn begin_turn<L: LegPart, D: Lane<L, K>>(
+    fn try_begin_once<L: LegPart, D: Lane<L, K>>(
         &self,
         lane: &mut D,
         block: u64,
         slice: Data,
-    ) -> Result<Result<u64, Data>, CauseKind>
+    ) -> Result<Result<u64, Data>, CallErrorKind>
         ensures ok { IfOk result (BeginTurns D.follows (lane.old, lane.new) block slice) }
         ensures err { IfErr result (λ kind.
             LaneStops D.follows lane.old lane.new [] (EndsSo Nobodys kind)) }
@@ -32,7 +32,7 @@ impl<R: Wait, G: Gate, K> Site<'_, R, G, K> {
             Ok(Beginning::Begun(ticket)) => Ok(Ok(ticket)),
             Ok(Beginning::LegLost(_, slice)) => Ok(Err(slice)),
             Err((refusal, slice)) => {
-                self.go_on(lane, refusal)?;
+                self.unblock(lane, refusal)?;
                 Ok(Err(slice))
             }
         }
@@ -44,14 +44,14 @@ impl<R: Wait, G: Gate, K> Site<'_, R, G, K> {
         lane: &mut D,
         block: u64,
         slice: Data,
-    ) -> Result<u64, CauseKind>
+    ) -> Result<u64, CallErrorKind>
         ensures ok { IfOk result (LaneBegins D.follows (lane.old, lane.new) block slice) }
         ensures err { IfErr result (λ kind.
             LaneStops D.follows lane.old lane.new [] (EndsSo Nobodys kind)) }
     {
         let mut rest = slice;
         for _ in self.rt.forever() {
-            let turn = self.begin_turn(lane, block, rest)?;
+            let turn = self.try_begin_once(lane, block, rest)?;
             match turn {
                 Ok(ticket) => return Ok(ticket),
                 Err(back) => rest = back,
@@ -66,7 +66,7 @@ impl<R: Wait, G: Gate, K> Site<'_, R, G, K> {
         lane: &mut D,
         ticket: u64,
         legs: u8,
-    ) -> Result<(), CauseKind>
+    ) -> Result<(), CallErrorKind>
         ensures ok { OnOk result (LaneDoes D.follows lane.old lane.new []) }
         ensures err { IfErr result (λ kind.
             LaneStops D.follows lane.old lane.new [] (EndsSo Nobodys kind)) }
@@ -80,11 +80,11 @@ impl<R: Wait, G: Gate, K> Site<'_, R, G, K> {
     }
 
     /// One try of a claim: true where the write is done.
-    fn claim_turn<L: LegPart, D: Lane<L, K>>(
+    fn try_claim_once<L: LegPart, D: Lane<L, K>>(
         &self,
         lane: &mut D,
         ticket: u64,
-    ) -> Result<bool, CauseKind>
+    ) -> Result<bool, CallErrorKind>
         ensures ok { IfOk result (Turns D.follows (lane.old, lane.new) (step.Claim ticket)
             IsWritten) }
         ensures err { IfErr result (λ kind.
@@ -107,14 +107,14 @@ impl<R: Wait, G: Gate, K> Site<'_, R, G, K> {
         &self,
         lane: &mut D,
         ticket: u64,
-    ) -> Result<(), CauseKind>
+    ) -> Result<(), CallErrorKind>
         ensures ok { OnOk result (Completes D.follows lane.old lane.new (step.Claim ticket)
             IsWritten) }
         ensures err { IfErr result (λ kind.
             LaneStops D.follows lane.old lane.new [] (EndsSo (Only ticket) kind)) }
     {
         for _ in self.rt.forever() {
-            if self.claim_turn(lane, ticket)? {
+            if self.try_claim_once(lane, ticket)? {
                 return Ok(());
             }
         }
@@ -128,7 +128,7 @@ impl<R: Wait, G: Gate, K> Site<'_, R, G, K> {
         block: u64,
         slice: Data,
         legs: u8,
-    ) -> Result<(), CauseKind>
+    ) -> Result<(), CallErrorKind>
         ensures ok { OnOk result (LaneWrites D.follows lane.old lane.new block slice) }
         ensures err { IfErr result (LaneWriteStops D.follows (lane.old, lane.new) block slice) }
     {

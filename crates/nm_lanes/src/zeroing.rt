@@ -5,24 +5,27 @@ ghost use Rattle.nm_lanes.specs.Cuts.{zeroes_for};
 ghost use Rattle.nm_lanes.specs.Runs.{runs_of_range};
 ghost use Rattle.nm_lanes.specs.Writes.{HasWritten, HasWrittenSome};
 
-use crate::call::{Call, begin, end, range_inside};
+use crate::call::{Call, enter_call, leave_call, range_inside};
+use crate::call_error::CallError;
 use crate::call_kind::CallKind;
-use crate::cause::Cause;
 use crate::gate::Gate;
 use crate::lane::Lane;
-use crate::putting::put_all;
-use crate::stretch::Stretch;
+use crate::piece_range::PieceRange;
+use crate::putting::write_all;
 use nm_geometry::Shape;
 use nm_leg::LegPart;
 use std::marker::{Send, Sync};
 use std::sync::Wait;
+use std::sync::atomic::AtomicBool;
 use std::thread::Threads;
 
 /// Writes zeroes to so many bytes of the export from `offset` on: to each run of blocks that they
 /// touch once, in order, up to 8 stripes side by side.
 ///
-/// It takes no memory. On an error the first runs of each stripe were written, and the next one's
-/// write may have begun.
+/// It takes no memory. Before each run it asks `is_gone`, where there is one: once that is true no
+/// further run is begun, and each that began is done; if some are left the call ends as
+/// `CallErrorKind::Gone`. On another error the first runs of each stripe were written, and the next
+/// one's write may have begun.
 pub fn zero_by<
     L: LegPart + Send,
     K: Sync,
@@ -38,7 +41,8 @@ pub fn zero_by<
     lanes: &mut [D],
     offset: u64,
     len: u64,
-) -> Result<(), Cause>
+    is_gone: Option<&AtomicBool>,
+) -> Result<(), CallError>
     requires locks { length locks.now ≡ shape.now.stripes }
     requires lanes { length lanes.old ≡ shape.now.stripes }
     requires inside { LiesInside (record { offset = offset; length = len }) shape.now }
@@ -58,17 +62,18 @@ pub fn zero_by<
         locks,
         pass,
         kind: CallKind::Zero,
-        starts_threads: begin(shape, locks, lanes, len),
+        starts_threads: enter_call(shape, locks, lanes, len),
+        is_gone,
     };
     let range = range_inside(shape, offset, len);
-    let stretch = Stretch {
+    let pieces = PieceRange {
         range,
         first: 0,
         count: range.pieces(),
-        uncut: true,
+        no_payload: true,
     };
-    let zeroed = put_all(&call, stretch, lanes, &mut []);
-    end(shape, locks, lanes, len);
+    let zeroed = write_all(&call, pieces, lanes, &mut []);
+    leave_call(shape, locks, lanes, len);
     match zeroed {
         Ok(()) => Ok(()),
         Err(cause) => Err(cause),

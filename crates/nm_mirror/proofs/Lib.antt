@@ -2,4 +2,5 @@ mod OneInSync
 mod OpenedLemmas
 mod OpeningLemmas
 mod Places
+mod RoundLemmas
 mod StatusLemmas

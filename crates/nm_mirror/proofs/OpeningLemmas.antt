@@ -5,9 +5,11 @@ use Rattle.nm_choice.specs.declared.policy.Policy.{Policy}
 use Rattle.nm_geometry.specs.Geometry.{Geometry}
 use Rattle.nm_rules.specs.declared.at.At.{At}
 use Rattle.nm_leg.specs.Leg.{LegType}
-use Rattle.nm_rules.specs.Comparing.{comparing, OpensCompared}
+use Rattle.nm_rules.specs.Comparing.{comparing}
+use Rattle.nm_rules.specs.RunComparing.{OpensComparedRuns}
 use Rattle.nm_rules.specs.Opening.{opened}
-use Rattle.nm_rules.proofs.ComparingLemmas.{Stage, blocks-moved, starts}
+use Rattle.nm_rules.proofs.ComparingLemmas.{Stage, starts}
+use Rattle.nm_rules.proofs.RunComparingLemmas.{runs-moved}
 use Rattle.nm_rules.specs.State.{StripeState}
 use Rattle.nm_mirror.proofs.Places.{one_more}
 use Rattle.nm_mirror.specs.Stripes.{AreFirst, IsNewStripe, place_of}
@@ -17,10 +19,11 @@ is_new shape number bits place legs policy is all =
     record { place = is; legs = all; first = refl; total = refl; tickets = refl }
 
 -- a stripe that was opened by comparing its legs is new too
-pub compared_is_new : {L : Type 0} (type : LegType L) (shape : Geometry) (number master : ℕ) (place : At) (legs : List L) (policy : Policy) (stripe : StripeState L) → 0 < place.region → master < length legs → OpensCompared type (comparing place legs master 0 policy) stripe → place ≡ place_of number shape → length legs ≡ shape.legs → IsNewStripe shape number stripe
+pub compared_is_new : {L : Type 0} (type : LegType L) (shape : Geometry) (number master : ℕ) (place : At) (legs : List L) (policy : Policy) (stripe : StripeState L) → 0 < place.region → master < length legs → OpensComparedRuns type (comparing place legs master 0 policy) stripe → place ≡ place_of number shape → length legs ≡ shape.legs → IsNewStripe shape number stripe
 compared_is_new {L} type shape number master place legs policy stripe some inside opens is all =
     let start : StripeState L = comparing place legs master 0 policy in
-    let stage : Stage type place legs master 0 policy place.blocks 0 opens.end = blocks-moved type place legs master 0 policy some place.blocks start opens.end (omega arith) (starts type place legs master 0 policy inside) opens.compares in
+    let stage : Stage type place legs master 0 policy place.blocks 0 opens.end =
+    subst (λ (n : ℕ). Stage type place legs master 0 policy n 0 opens.end) opens.all (runs-moved type place legs master 0 policy some opens.counts start opens.end (starts type place legs master 0 policy inside) opens.compares) in
     subst (λ (s : StripeState L). IsNewStripe shape number s) (sym opens.opens) (record {
       place = ap (λ (s : StripeState L). s.place) stage.rest ∙ is;
       legs = stage.count ∙ all;

@@ -1,9 +1,13 @@
 pub mod Closing
+pub mod CopyRound
 pub mod Counting
 pub mod Counts
 pub mod OpenFault
 pub mod Opening
 pub mod Passes
 pub mod Refused
+pub mod Resync
+pub mod RoundChanges
+pub mod RoundInside
 pub mod Status
 pub mod Stripes

@@ -4,8 +4,9 @@ use Rattle.std.specs.Prelude.{List, [], ◌∷◌, ◌++◌, length, slice_get, 
 use Rattle.nm_choice.specs.declared.policy.Policy.{Policy}
 use Rattle.nm_geometry.specs.Geometry.{Geometry}
 use Rattle.nm_leg.specs.Leg.{LegType}
-use Rattle.nm_rules.specs.Comparing.{comparing, FailsOnMaster, OpensCompared}
+use Rattle.nm_rules.specs.Comparing.{comparing}
 use Rattle.nm_rules.specs.Opening.{opened}
+use Rattle.nm_rules.specs.RunComparing.{FailsOnMasterRun, OpensComparedRuns}
 use Rattle.nm_rules.specs.State.{StripeState}
 use Rattle.nm_mirror.specs.Stripes.{FitNext, place_of}
 use Rattle.nm_mirror.specs.declared.open_fault.OpenFault.{OpenFault}
@@ -31,7 +32,7 @@ abbrev pub OpensOn : {L : Type 0} → LegType L → Asked → Start → ℕ → 
 OpensOn type asked Full number legs stripe =
     stripe ≡ opened (place_of number asked.shape) legs (2 ^ asked.master) 0 asked.policy
 OpensOn type asked Compare number legs stripe =
-    OpensCompared type
+    OpensComparedRuns type
     (comparing (place_of number asked.shape) legs asked.master 0 asked.policy) stripe
 
 -- the next stripe was opened on these legs as was asked for
@@ -68,7 +69,7 @@ abbrev pub RefusesFitting : {L : Type 0} → LegType L → Asked → Start → �
 RefusesFitting type asked start number legs Memory = Unit {0}
 RefusesFitting {L} type asked Compare number legs MasterFault =
     (back : List L)
-    × FailsOnMaster type
+    × FailsOnMasterRun type
     (comparing (place_of number asked.shape) legs asked.master 0 asked.policy) back
 RefusesFitting type asked Full number legs MasterFault = ⊥
 RefusesFitting type asked start number legs Misfit = ⊥

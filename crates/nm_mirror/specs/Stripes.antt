@@ -4,7 +4,8 @@ use Rattle.nm_choice.specs.declared.policy.Policy.{Policy}
 use Rattle.nm_geometry.specs.Geometry.{Geometry, stripe_blocks}
 use Rattle.nm_leg.specs.Leg.{Leg, LegType}
 use Rattle.nm_leg.specs.LegCalls.{EachHas}
-use Rattle.nm_rules.specs.Comparing.{comparing, OpensCompared}
+use Rattle.nm_rules.specs.Comparing.{comparing}
+use Rattle.nm_rules.specs.RunComparing.{OpensComparedRuns}
 use Rattle.nm_rules.specs.Opening.{opened}
 use Rattle.nm_rules.specs.State.{StripeState}
 use Rattle.nm_rules.specs.declared.at.At.{At}
@@ -62,6 +63,6 @@ OpensNext shape legs bits policy old new =
 pub record ComparesNext {L : Type 0} (type : LegType L) (shape : Geometry) (legs : List L)
     (master : ℕ) (policy : Policy) (old new : List (StripeState L)) : Type 0 where
   pub stripe : StripeState L
-  pub opens : OpensCompared type
+  pub opens : OpensComparedRuns type
       (comparing (place_of (length old) shape) legs master 0 policy) stripe
   pub added : new ≡ old ++ stripe ∷ []

@@ -6,9 +6,10 @@ ghost use Rattle.nm_lanes.specs.Reads.{HasRead, HasReadSome};
 ghost use Rattle.nm_lanes.specs.Runs.{runs_of_range};
 ghost use Rattle.nm_mirror.specs.Counting.{Follows};
 
+use crate::bounds::within_bounds;
 use crate::mirror::Mirror;
 use crate::pass::Pass;
-use nm_lanes::{Cause, Gate, flush_by, read_by, sync_by};
+use nm_lanes::{CallError, Gate, flush_by, read_by, sync_by};
 use nm_leg::LegPart;
 use nm_replay::BLOCK_BYTES;
 use std::marker::{Send, Sync};
@@ -27,7 +28,7 @@ impl<L: LegPart + Send, G: Gate + Drop + Sync> Mirror<L, G> {
         pass: &mut Pass<L>,
         offset: u64,
         into: &mut [u8],
-    ) -> Result<(), Cause>
+    ) -> Result<(), CallError>
         requires pass { length pass.old.parts.items ≡ self.now.shape.stripes }
         requires inside { LiesInside (record { offset = offset; length = length into.old })
             self.now.shape }
@@ -59,7 +60,7 @@ impl<L: LegPart + Send, G: Gate + Drop + Sync> Mirror<L, G> {
         pass: &mut Pass<L>,
         from: u64,
         into: &mut [u8],
-    ) -> Result<(), Cause>
+    ) -> Result<(), CallError>
         requires pass { length pass.old.parts.items ≡ self.now.shape.stripes }
         requires whole { length into.old % 512 ≡ 0 }
         requires inside { LiesInside (record { offset = 512 * from; length = length into.old })
@@ -73,8 +74,7 @@ impl<L: LegPart + Send, G: Gate + Drop + Sync> Mirror<L, G> {
             (record { offset = 512 * from; length = length into.old }))
             (pass.old.parts.items, pass.new.parts.items)) }
     {
-        // It tells that the export's bytes can be counted.
-        let _regions = self.shape.regions();
+        within_bounds(&self.shape);
         self.read_at(rt, pass, BLOCK_BYTES as u64 * from, into)
     }
 
@@ -82,7 +82,11 @@ impl<L: LegPart + Send, G: Gate + Drop + Sync> Mirror<L, G> {
     /// out by it, is passed over.
     ///
     /// Where a stripe cannot go on, its round is finished, and no further round begins.
-    pub fn flush<R: Threads + Wait + Sync>(&self, rt: &R, pass: &mut Pass<L>) -> Result<(), Cause>
+    pub fn flush<R: Threads + Wait + Sync>(
+        &self,
+        rt: &R,
+        pass: &mut Pass<L>,
+    ) -> Result<(), CallError>
         requires pass { length pass.old.parts.items ≡ self.now.shape.stripes }
         ensures ok { OnOk result (HasFlushed {L = L} Follows self.now.shape.legs
             (IsStripeOf self.now.shape) (pass.old.parts.items, pass.new.parts.items)) }
@@ -106,7 +110,7 @@ impl<L: LegPart + Send, G: Gate + Drop + Sync> Mirror<L, G> {
         pass: &mut Pass<L>,
         offset: u64,
         len: u64,
-    ) -> Result<(), Cause>
+    ) -> Result<(), CallError>
         requires pass { length pass.old.parts.items ≡ self.now.shape.stripes }
         requires inside { LiesInside (record { offset = offset; length = len })
             self.now.shape }

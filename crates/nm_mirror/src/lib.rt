@@ -6,14 +6,15 @@
 //! of the mirror as a whole. What a caller needs of the crates below is handed on from here.
 #![tactic(auto)]
 
+pub use copy_round::{CopyRound, UnreadRegion};
 pub use counts::{AttachCounts, FailCounts};
 pub use glance::Glance;
 pub use lock::Lock;
 pub use mirror::Mirror;
 pub use nm_geometry::Shape;
 pub use nm_lanes::{
-    CallKind, Cause, CauseKind, Gate, Lane, NoGate, Place, StepKind, WriteFault, flush_by, laws,
-    read_by, sync_by, write_by, zero_by,
+    CallError, CallErrorKind, CallKind, Gate, Lane, NoGate, Place, StepKind, WriteFault, flush_by,
+    laws, read_by, sync_by, write_by, zero_by,
 };
 pub use open_fault::OpenFault;
 pub use opening::{Opening, open_stripes};
@@ -24,8 +25,10 @@ pub use start::Start;
 pub use status::{LegStatus, StripeStatus};
 pub use totals::Totals;
 
+mod bounds;
 mod calls;
 mod closing;
+mod copy_round;
 mod counts;
 mod glance;
 mod legs;

@@ -74,6 +74,14 @@ impl<L: LegPart, G: Gate + Drop> Mirror<L, G> {
         self.locks.as_slice()
     }
 
+    /// From now on no call of this mirror starts threads: for legs whose calls cost less than a
+    /// thread, as those of files do. It is as if a long call were always at work beside it.
+    pub fn keep_to_one_thread(&self) {
+        if let Some(first) = self.locks.first() {
+            let _ = first.enter();
+        }
+    }
+
     /// How the mirror's blocks lie in its stripes.
     pub fn shape(&self) -> &Shape
         ensures { result.now ≡ self.now.shape }

@@ -6,14 +6,16 @@ ghost use Rattle.nm_leg.specs.Leg.{leg_type};
 ghost use Rattle.nm_leg.specs.LegCalls.{EachHas};
 ghost use Rattle.nm_regions.specs.Sound.{AreSizes};
 ghost use Rattle.nm_resync.specs.Chunk.{IsChunkSize};
-ghost use Rattle.nm_rules.specs.Comparing.{comparing, FailsToOpen};
+ghost use Rattle.nm_rules.specs.Comparing.{comparing};
 ghost use Rattle.nm_rules.specs.Opening.{HoldEqual};
+ghost use Rattle.nm_store.specs.Comparing.{FailsToOpenRuns};
 ghost use Rattle.nm_stripe.specs.Opening.{NamesALeg};
 ghost use Rattle.nm_mirror.specs.Opening.{AddsNext, AreAllOpened, RefusesFitting};
 ghost use Rattle.nm_mirror.specs.Opening.{RefusesOpening, start_of};
 ghost use Rattle.nm_mirror.specs.Stripes.{AreFirst, AreStripesOf, ComparesNext, FitNext, OpensNext};
 ghost use Rattle.nm_mirror.specs.Stripes.{place_of};
 
+use crate::bounds::within_bounds;
 use crate::open_fault::OpenFault;
 use crate::start::Start;
 use nm_geometry::Shape;
@@ -37,8 +39,7 @@ fn place_of(shape: &Shape, number: usize) -> At
     ensures sizes { AreSizes result.blocks result.region shape.now.legs }
     ensures chunk { IsChunkSize result.chunk }
 {
-    // It tells that there are few stripes.
-    let _regions = shape.regions();
+    within_bounds(shape);
     let stripe = number as u32;
     At {
         stripe,
@@ -172,8 +173,7 @@ impl<L: LegPart> Opening<L> {
         ensures opened { OnOk result (OpensNext self.old.shape legs.items (2 ^ master) policy
             self.old.stripes.items self.new.stripes.items) }
     {
-        // It tells that there are at most eight legs.
-        let _regions = self.shape.regions();
+        within_bounds(&self.shape);
         self.open(alloc, legs, only_bit::<L>(master), policy)
     }
 
@@ -191,7 +191,7 @@ impl<L: LegPart> Opening<L> {
         ensures ok { OnOk result
             (length self.new.stripes.items ≡ length self.old.stripes.items + 1) }
         ensures shape { self.new.shape ≡ self.old.shape }
-        ensures handed_back { IfErr result (λ refused. FailsToOpen (leg_type L.model L.honest)
+        ensures handed_back { IfErr result (λ refused. FailsToOpenRuns (leg_type L.model L.honest)
             (comparing (place_of (length self.old.stripes.items) self.old.shape) legs.items
             master 0 policy) refused.0 refused.1.items) }
         ensures stays { OnErr result (self.new.stripes.items ≡ self.old.stripes.items) }

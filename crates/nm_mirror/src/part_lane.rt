@@ -120,13 +120,20 @@ impl<L: LegPart> Lane<L, Lock<L>> for PartLane<L> {
         self.part.sync(&mut stripe, leg)
     }
 
-    fn copy<R: Wait>(&mut self, rt: &R, lock: &Lock<L>, leg: u8) -> Result<Copying, Refusal>
+    fn copy<R: Wait>(
+        &mut self,
+        rt: &R,
+        lock: &Lock<L>,
+        leg: u8,
+        most: u64,
+        from: u64,
+    ) -> Result<Copying, Refusal>
         ensures follows { self.new ≡ part_after_all {L = L}
-            (done_as (step.Copy leg) (answer_of_copy result) ∷ []) self.old }
+            (done_as (step.Copy leg most from) (answer_of_copy result) ∷ []) self.old }
     {
         let mut stripe = lock.hold(rt);
         lock.note_write();
-        self.part.copy(&mut stripe, leg)
+        self.part.copy(&mut stripe, leg, most, from)
     }
 
     fn owed<R: Wait>(&self, rt: &R, lock: &Lock<L>, ticket: Option<u64>) -> Option<(u64, u8)> {

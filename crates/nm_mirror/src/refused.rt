@@ -2,7 +2,7 @@ ghost use Rattle.std.specs.Prelude.{◌≡◌, Some};
 ghost use Rattle.nm_mirror.specs.Refused.{number_of, refused_for, refused_text};
 ghost use Rattle.nm_mirror.specs.declared.refused.Refused.TheVariants.{Io};
 
-use nm_lanes::{Cause, WriteFault};
+use nm_lanes::{CallError, WriteFault};
 use nm_stripe::End;
 use std::error::Error;
 use std::fmt;
@@ -13,7 +13,7 @@ pub enum Refused<L> {
     /// Out of memory; nothing was done.
     Memory,
     /// A stripe could not go on. What the call did before stays done.
-    Io(Cause),
+    Io(CallError),
     /// As many passes as a mirror makes were made.
     TooMany,
     /// Fewer passes came back than were made.
@@ -66,10 +66,10 @@ impl<L> fmt::Debug for Refused<L> {
 
 impl<L> Error for Refused<L> {}
 
-impl<L> From<Cause> for Refused<L> {
+impl<L> From<CallError> for Refused<L> {
     ghost from_gives = { λ cause refused. refused ≡ Io cause };
 
-    fn from(cause: Cause) -> Refused<L> {
+    fn from(cause: CallError) -> Refused<L> {
         Refused::Io(cause)
     }
 }

@@ -1,101 +1,228 @@
 //! One turn of the resynchroniser.
-ghost use Rattle.std.specs.Prelude.{◌<◌, length};
+ghost use Rattle.std.specs.Prelude.{◌≡◌, ◌*◌, ◌<◌, ◌≤◌, length};
+ghost use Rattle.nm_leg.specs.Leg.{leg_type};
+ghost use Rattle.nm_mirror.specs.RoundChanges.{GoesOnTo, visited};
+ghost use Rattle.nm_mirror.specs.Resync.{BringsUp, Helps, Pushes, step_of, step_of_help, visit_of};
+ghost use Rattle.nm_mirror.specs.declared.copy_round.Visit.{Visit};
 
+use crate::bounds::within_bounds;
+use crate::copy_round::{CopyRound, LegRound, Visit};
 use crate::mirror::Mirror;
-use nm_lanes::{CallKind, Gate, Place, StepKind};
+use nm_fanout::MOST_RUN;
+use nm_lanes::{CallKind, Gate, StepKind};
 use nm_leg::LegPart;
-use nm_stripe::{LegState, Refusal, Stripe};
+use nm_stripe::{Copying, LegState, Promotion, Reach, Refusal, Stripe};
 use std::sync::Wait;
 
 /// A step of the resynchroniser, and why it was refused, if it was.
 #[derive(Clone, Copy)]
-struct Try {
-    step: StepKind,
-    refusal: Option<Refusal>,
+pub struct Try {
+    /// What was tried.
+    pub step: StepKind,
+    /// Why it was refused.
+    pub refusal: Option<Refusal>,
 }
 
-/// Calls a joining leg in sync where nothing is left to copy to it, and else copies to it.
-fn bring_up<L: LegPart>(stripe: &mut Stripe<L>, leg: u8) -> Option<Try>
+/// What was done for a leg in one hold of its stripe.
+#[derive(Clone, Copy)]
+pub enum Tried {
+    /// Nothing: the leg does not join.
+    Rests,
+    /// Nothing: what is left to copy to it could not be read in this round.
+    Waits,
+    /// It was to be called in sync.
+    Promoted(Result<Promotion, Refusal>),
+    /// It was copied to, in this region.
+    Copied(Option<u64>, Result<Copying, Refusal>),
+}
+
+/// What was done for what stood in the way of a copy.
+#[derive(Clone, Copy)]
+pub enum Helped {
+    /// Nothing.
+    Nothing,
+    /// The write of this ticket was pushed to this leg.
+    Pushed(u64, u8, Result<Reach, Refusal>),
+    /// This leg was copied to.
+    Copied(u8, Result<Copying, Refusal>),
+}
+
+impl Tried {
+    /// The step that was tried.
+    fn step(self) -> Option<Try>
+        ensures { result ≡ step_of self }
+    {
+        match self {
+            Tried::Rests | Tried::Waits => None,
+            Tried::Promoted(answer) => Some(Try {
+                step: StepKind::Promote,
+                refusal: answer.err(),
+            }),
+            Tried::Copied(_, answer) => Some(Try {
+                step: StepKind::Copy,
+                refusal: answer.err(),
+            }),
+        }
+    }
+
+    /// What that says of the round.
+    fn visit(self) -> Visit
+        ensures { result ≡ visit_of self }
+    {
+        match self {
+            Tried::Rests => Visit::Rests,
+            Tried::Copied(_, Ok(Copying::Nothing)) => Visit::Ends,
+            Tried::Copied(Some(region), Err(Refusal::Fault)) => Visit::PassesOver(region),
+            _ => Visit::GoesOn,
+        }
+    }
+}
+
+/// Calls a joining leg in sync where nothing is left to copy to it, and else copies to it, unless
+/// its round is over.
+fn bring_up<L: LegPart>(stripe: &mut Stripe<L>, leg: u8, place: LegRound) -> Tried
     requires { leg < length stripe.old.legs }
+    ensures { BringsUp (leg_type L.model L.honest) leg place stripe.old stripe.new result }
 {
     if stripe.state(leg) != LegState::Joining {
-        return None;
+        return Tried::Rests;
     }
     if stripe.left(leg) == 0 {
-        return Some(Try {
-            step: StepKind::Promote,
-            refusal: stripe.promote(leg).err(),
-        });
+        return Tried::Promoted(stripe.promote(leg));
     }
-    Some(copy_to(stripe, leg))
+    if place.is_over {
+        return Tried::Waits;
+    }
+    let region = stripe.region_to_copy(leg, place.from);
+    Tried::Copied(region, stripe.copy(leg, MOST_RUN as u64, place.from))
 }
 
-/// Copies to the leg.
-fn copy_to<L: LegPart>(stripe: &mut Stripe<L>, leg: u8) -> Try
-    requires { leg < length stripe.old.legs }
+/// Pushes the write of this ticket to the leg, if there is such a leg.
+fn push_to<L: LegPart>(stripe: &mut Stripe<L>, owed: Option<(u64, u8)>) -> Helped
+    ensures { Pushes (leg_type L.model L.honest) owed stripe.old stripe.new result }
 {
-    Try {
-        step: StepKind::Copy,
-        refusal: stripe.copy(leg).err(),
+    match owed {
+        Some((ticket, leg)) if (leg as usize) < stripe.legs() => {
+            Helped::Pushed(ticket, leg, stripe.push(ticket, leg))
+        }
+        _ => Helped::Nothing,
     }
 }
 
 /// Does a step for what stood in the way of a copy: the write that is under way there or, while a
 /// failover is not over, the lowest one, is pushed, and another leg is copied to.
-fn help<L: LegPart>(stripe: &mut Stripe<L>, refusal: Refusal) -> Option<Try> {
-    let legs = stripe.legs();
-    let (ticket, leg) = match refusal {
-        Refusal::Busy(ticket) => (ticket, stripe.next_owed(ticket)?),
-        Refusal::Settling => stripe.first_owed()?,
-        Refusal::OtherCopy(leg) if (leg as usize) < legs => return Some(copy_to(stripe, leg)),
-        _ => return None,
-    };
-    if (leg as usize) >= legs {
-        return None;
+fn help<L: LegPart>(stripe: &mut Stripe<L>, refusal: Refusal) -> Helped
+    ensures { Helps (leg_type L.model L.honest) refusal stripe.old stripe.new result }
+{
+    match refusal {
+        Refusal::Busy(ticket) => {
+            let owed = stripe.next_owed(ticket).map(|leg| (ticket, leg));
+            push_to(stripe, owed)
+        }
+        Refusal::Settling => {
+            let owed = stripe.first_owed();
+            push_to(stripe, owed)
+        }
+        Refusal::OtherCopy(leg) if (leg as usize) < stripe.legs() => {
+            Helped::Copied(leg, stripe.copy(leg, MOST_RUN as u64, 0))
+        }
+        _ => Helped::Nothing,
     }
-    Some(Try {
-        step: StepKind::Push,
-        refusal: stripe.push(ticket, leg).err(),
-    })
+}
+
+impl Helped {
+    /// The step that was tried.
+    fn step(self) -> Option<Try>
+        ensures { result ≡ step_of_help self }
+    {
+        match self {
+            Helped::Nothing => None,
+            Helped::Pushed(_, _, answer) => Some(Try {
+                step: StepKind::Push,
+                refusal: answer.err(),
+            }),
+            Helped::Copied(_, answer) => Some(Try {
+                step: StepKind::Copy,
+                refusal: answer.err(),
+            }),
+        }
+    }
 }
 
 impl<L: LegPart, G: Gate + Drop> Mirror<L, G> {
     /// In every stripe, for each joining leg, does what brings it nearer to being in sync: calls it
-    /// so where nothing is left to copy to it, and else copies to it, by one block or half of one.
-    /// Where a write or another copy stands in the way of the copy, it helps that by one step.
+    /// so where nothing is left to copy to it, and else copies to it, by a run of blocks or half of
+    /// that. Where a write or another copy stands in the way of the copy, it helps that by one step.
     ///
+    /// A region that the last leg in sync cannot be read in is passed over, until `begin_again`.
     /// Answers how many steps were not refused.
-    pub fn resync_turn<R: Wait>(&self, rt: &R) -> u32 {
+    pub fn resync_turn<R: Wait>(&self, rt: &R, round: &mut CopyRound) -> u32
+        requires stripes { round.old.stripes ≡ self.now.shape.stripes }
+        requires legs { round.old.legs ≡ self.now.shape.legs }
+        ensures most { result ≤ self.now.shape.stripes * self.now.shape.legs }
+        ensures round { GoesOnTo round.old round.new }
+    {
+        within_bounds(&self.shape);
         let mut done = 0u32;
         for stripe in 0..self.shape.stripes {
-            for leg in 0..self.shape.legs {
-                done = done.saturating_add(self.resync(rt, stripe, leg));
-            }
+            done += self.resync_stripe(rt, stripe, round);
         }
         done
     }
 
-    /// The same for one leg of one stripe.
-    fn resync<R: Wait>(&self, rt: &R, stripe: u32, leg: u8) -> u32
+    /// The same for one stripe.
+    fn resync_stripe<R: Wait>(&self, rt: &R, stripe: u32, round: &mut CopyRound) -> u32
+        requires stripe { stripe < self.now.shape.stripes }
+        requires stripes { round.old.stripes ≡ self.now.shape.stripes }
+        requires legs { round.old.legs ≡ self.now.shape.legs }
+        ensures most { result ≤ self.now.shape.legs }
+        ensures round { GoesOnTo round.old round.new }
+    {
+        let mut done = 0u32;
+        let mut goes_on = false;
+        for leg in 0..self.shape.legs {
+            if let Some(first) = self.resync(rt, stripe, leg, round) {
+                goes_on = true;
+                done += self.end_step(rt, stripe, first);
+            }
+        }
+        if !goes_on {
+            round.settle(stripe);
+        }
+        done
+    }
+
+    /// Does a step for one leg of one stripe, in one hold, and notes what came of it.
+    fn resync<R: Wait>(&self, rt: &R, stripe: u32, leg: u8, round: &mut CopyRound) -> Option<Try>
+        requires stripe { stripe < self.now.shape.stripes }
+        requires in_round { (stripe < round.old.stripes) × (leg < round.old.legs) }
+        ensures round { (visit : Visit) × (round.new ≡ visited stripe leg visit round.old) }
+    {
+        let mut held = self.locks[stripe as usize].hold(rt);
+        if (leg as usize) >= held.legs() {
+            round.visit(stripe, leg, Visit::Rests);
+            return None;
+        }
+        let tried = bring_up(&mut held, leg, round.place(stripe, leg));
+        drop(held);
+        round.visit(stripe, leg, tried.visit());
+        tried.step()
+    }
+
+    /// Tells of a step, and helps what stood in its way by one step. How many of the two were not
+    /// refused: one at most.
+    fn end_step<R: Wait>(&self, rt: &R, stripe: u32, first: Try) -> u32
         requires { stripe < self.now.shape.stripes }
+        ensures { result ≤ 1 }
     {
         let lock = &self.locks[stripe as usize];
-        let mut held = lock.hold(rt);
-        if (leg as usize) >= held.legs() {
-            return 0;
-        }
-        let tried = bring_up(&mut held, leg);
-        drop(held);
-        let Some(first) = tried else {
-            return 0;
-        };
         lock.note_write();
         self.pass_gate(CallKind::ResyncTurn, stripe, first.step);
         let Some(refusal) = first.refusal else {
             return 1;
         };
         let helped = help(&mut lock.hold(rt), refusal);
-        let Some(second) = helped else {
+        let Some(second) = helped.step() else {
             return 0;
         };
         self.pass_gate(CallKind::ResyncTurn, stripe, second.step);

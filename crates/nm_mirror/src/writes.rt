@@ -6,15 +6,17 @@ ghost use Rattle.nm_lanes.specs.Runs.{runs_of_range};
 ghost use Rattle.nm_lanes.specs.Writes.{HasWritten, HasWrittenSome, FailsWriting};
 ghost use Rattle.nm_mirror.specs.Counting.{Follows};
 
+use crate::bounds::within_bounds;
 use crate::mirror::Mirror;
 use crate::pass::Pass;
 use bytes::Bytes;
-use nm_lanes::{Cause, Gate, WriteFault, write_by, zero_by};
+use nm_lanes::{CallError, Gate, WriteFault, write_by, zero_by};
 use nm_leg::LegPart;
 use nm_replay::BLOCK_BYTES;
 use std::alloc::Global;
 use std::marker::{Send, Sync};
 use std::sync::Wait;
+use std::sync::atomic::AtomicBool;
 use std::thread::Threads;
 
 impl<L: LegPart + Send, G: Gate + Drop + Sync> Mirror<L, G> {
@@ -85,23 +87,25 @@ impl<L: LegPart + Send, G: Gate + Drop + Sync> Mirror<L, G> {
             (record { offset = 512 * from; length = length payload }))
             payload) (pass.old.parts.items, pass.new.parts.items)) }
     {
-        // It tells that the export's bytes can be counted.
-        let _regions = self.shape.regions();
+        within_bounds(&self.shape);
         self.write_at(rt, alloc, pass, BLOCK_BYTES as u64 * from, payload)
     }
 
     /// Writes zeroes to so many bytes of the export from `offset` on: to each block that they touch
     /// once, in order, up to 8 stripes side by side. It takes no memory.
     ///
-    /// On an error the first blocks of each stripe were written, and the next one's write may have
-    /// begun, as for `write_at`.
+    /// Before each region of a stripe it asks `is_gone`, where there is one: once that is true no
+    /// further region is begun, and the call ends as `CallErrorKind::Gone`; each write that began is
+    /// done. On another error the first blocks of each stripe were written, and the next one's
+    /// write may have begun, as for `write_at`.
     pub fn zero_at<R: Threads + Wait + Sync>(
         &self,
         rt: &R,
         pass: &mut Pass<L>,
         offset: u64,
         len: u64,
-    ) -> Result<(), Cause>
+        is_gone: Option<&AtomicBool>,
+    ) -> Result<(), CallError>
         requires pass { length pass.old.parts.items ≡ self.now.shape.stripes }
         requires inside { LiesInside (record { offset = offset; length = len }) self.now.shape }
         ensures ok { OnOk result (HasWritten {L = L} Follows self.now.shape
@@ -122,6 +126,7 @@ impl<L: LegPart + Send, G: Gate + Drop + Sync> Mirror<L, G> {
             pass.parts.as_mut_slice(),
             offset,
             len,
+            is_gone,
         )
     }
 
@@ -132,7 +137,8 @@ impl<L: LegPart + Send, G: Gate + Drop + Sync> Mirror<L, G> {
         pass: &mut Pass<L>,
         from: u64,
         count: u64,
-    ) -> Result<(), Cause>
+        is_gone: Option<&AtomicBool>,
+    ) -> Result<(), CallError>
         requires pass { length pass.old.parts.items ≡ self.now.shape.stripes }
         requires inside { LiesInside (record { offset = 512 * from; length = 512 * count })
             self.now.shape }
@@ -145,13 +151,13 @@ impl<L: LegPart + Send, G: Gate + Drop + Sync> Mirror<L, G> {
             (record { offset = 512 * from; length = 512 * count })))
             (pass.old.parts.items, pass.new.parts.items)) }
     {
-        // It tells that the export's bytes can be counted.
-        let _regions = self.shape.regions();
+        within_bounds(&self.shape);
         self.zero_at(
             rt,
             pass,
             BLOCK_BYTES as u64 * from,
             BLOCK_BYTES as u64 * count,
+            is_gone,
         )
     }
 }

@@ -2,7 +2,7 @@
 
 use crate::mirrors::{close_even, pass_of, read_at, shape, zeroes};
 use nm_leg::FuseLeg;
-use nm_mirror::{Cause, CauseKind, Mirror, NoGate, Pass, Refused, WriteFault};
+use nm_mirror::{CallError, CallErrorKind, Mirror, NoGate, Pass, Refused, WriteFault};
 use std::alloc::Global;
 use std::process::Abort;
 use std::test::Fail;
@@ -59,9 +59,9 @@ fn a_pass_of_another_mirror_is_astray(rt: HostRuntime) -> Result<(), Fail> {
     let other = row(alloc)?;
     match read_at(&rt, &other, &mut pass, 0, &mut into) {
         Err(
-            Cause {
+            CallError {
                 stripe: 0,
-                kind: CauseKind::Astray,
+                kind: CallErrorKind::Astray,
             },
         ) => Ok(()),
         _ => Err(Fail::new("not astray")),
@@ -137,9 +137,9 @@ fn check_refusal<R: Abort>(
 #[test]
 fn what_ends_a_call_is_a_refusal(rt: HostRuntime) -> Result<(), Fail> {
     let alloc = rt.alloc();
-    let cause = Cause {
+    let cause = CallError {
         stripe: 1,
-        kind: CauseKind::Astray,
+        kind: CallErrorKind::Astray,
     };
     let text = "a stripe cannot go on";
     check_refusal(&rt, alloc, cause.into(), 2, text)?;

@@ -3,12 +3,13 @@
 
 use crate::meeting::{Meeting, TURNS};
 use crate::mirrors::{
-    close_even, fill_bytes, in_sync, mirror_of, pass_of, read_at, shape, write_at, zeroes,
+    close_even, fill_bytes, in_sync, mirror_of, pass_of, read_at, round_of, shape, turn, write_at,
+    zeroes,
 };
 use bytes::Bytes;
 use nm_lanes::{CallKind, Gate, Place, StepKind};
 use nm_leg::{FuseLeg, Hold, HoldLeg, LegPart, MemLeg};
-use nm_mirror::{Mirror, Pass};
+use nm_mirror::{CopyRound, Mirror, Pass};
 use nm_replay::{Block, Entry, Kind};
 use std::alloc::Global;
 use std::marker::Sync;
@@ -235,11 +236,12 @@ fn joins<R: Wait + Abort>(
 fn turns_beside_a_write<R: Wait + Abort>(
     rt: &R,
     mirror: &Mirror<FuseLeg, AfterAPush>,
+    round: &mut CopyRound,
     loses_master: bool,
 ) -> u32 {
     mirror.gate().meeting.start();
     assert!(rt; !loses_master || fails(rt, mirror, 0));
-    let done = mirror.resync_turn(rt);
+    let done = turn(rt, mirror, round);
     mirror.gate().meeting.let_go();
     done
 }
@@ -271,10 +273,11 @@ fn check_turn<R: Threads + Wait + Sync + Abort>(
     assert!(rt; write_at(rt, alloc, &mirror, &mut before, 7 * 512, early).is_ok());
     assert!(rt; joins(rt, &mirror, 2, 4));
     let payload = fill_bytes(alloc, 512, 0xaa)?;
+    let mut round = round_of(alloc, &mirror)?;
     let (written, done) = join(
         rt,
         || writes_block_4(rt, alloc, &mirror, &mut writer, payload),
-        || turns_beside_a_write(rt, &mirror, loses_master),
+        || turns_beside_a_write(rt, &mirror, &mut round, loses_master),
     );
     assert!(rt; written && mirror.gate().meeting.was_in_time());
     assert_eq!(rt; done, 1);
@@ -341,11 +344,12 @@ fn gate_copy(rt: HostRuntime) -> Result<(), Fail> {
     };
     let mirror = zeroes(alloc, shape(8, 4, 2, 1, 2)?, gate)?;
     let mut pass = pass_of(&rt, alloc, &mirror)?;
-    assert_eq!(rt; mirror.resync_turn(&rt), 1);
+    let mut round = round_of(alloc, &mirror)?;
+    assert_eq!(rt; turn(&rt, &mirror, &mut round), 1);
     let payload = fill_bytes(alloc, 512, 0xbb)?;
     assert!(rt; write_at(&rt, alloc, &mirror, &mut pass, 0, payload).is_ok());
-    assert_eq!(rt; mirror.gate().begins.load(Ordering::SeqCst), 4);
-    assert_eq!(rt; mirror.gate().copies.load(Ordering::SeqCst), 3);
+    assert_eq!(rt; mirror.gate().begins.load(Ordering::SeqCst), 2);
+    assert_eq!(rt; mirror.gate().copies.load(Ordering::SeqCst), 1);
     for told in &mirror.status(&rt, alloc)? {
         let text = told.to_string(alloc)?;
         assert_eq!(rt; text.as_str(), "master 0 settling no legs in join(6)");

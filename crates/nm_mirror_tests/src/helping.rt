@@ -14,8 +14,8 @@ use std::test::Fail;
 /// Copies to leg 1 until this many blocks are left; or until a step is refused.
 fn copy_until(part: &mut Part<FuseLeg>, stripe: &mut Stripe<FuseLeg>, left: u64) -> bool {
     for _ in 0..100 {
-        match part.copy(stripe, 1) {
-            Ok(Copying::Copied(blocks)) if blocks == left => return true,
+        match part.copy(stripe, 1, 128, 0) {
+            Ok(Copying::Copied { left: blocks, .. }) if blocks == left => return true,
             Ok(_) => {}
             Err(_) => return false,
         }

@@ -6,8 +6,8 @@ use crate::mirrors::{fill_bytes, legs_of_zeroes, shape};
 use crate::note_lane::{Door, Note, NoteLane, done};
 use nm_geometry::{ByteRange, Shape};
 use nm_lanes::{
-    CallKind, Cause, CauseKind, Gate, Lane, NoGate, Place, StepKind, WriteFault, flush_by, read_by,
-    sync_by, write_by, zero_by,
+    CallError, CallErrorKind, CallKind, Gate, Lane, NoGate, Place, StepKind, WriteFault, flush_by,
+    read_by, sync_by, write_by, zero_by,
 };
 use nm_leg::FuseLeg;
 use nm_mirror::{Start, open_stripes};
@@ -94,7 +94,7 @@ pub fn write<R: Threads + Wait + Sync + Abort, G: Gate + Sync>(
 }
 
 /// Compares what a lane noted.
-fn check_notes<R: Abort>(rt: &R, on: &Lanes, stripe: usize, want: &[Note]) {
+pub fn check_notes<R: Abort>(rt: &R, on: &Lanes, stripe: usize, want: &[Note]) {
     assert!(rt; stripe < on.lanes.len());
     let notes = on.lanes[stripe].notes();
     assert_eq!(rt; notes.len(), want.len(), "stripe {stripe}");
@@ -104,7 +104,7 @@ fn check_notes<R: Abort>(rt: &R, on: &Lanes, stripe: usize, want: &[Note]) {
 }
 
 /// The three steps of a write of a run from this block on under this ticket.
-fn notes_of_write(block: u64, ticket: u64) -> [Note; 3] {
+pub fn notes_of_write(block: u64, ticket: u64) -> [Note; 3] {
     [
         done(StepKind::Begin, block),
         done(StepKind::Push, ticket),
@@ -182,7 +182,7 @@ fn sync<R: Threads + Wait + Sync + Abort>(
     on: &mut Lanes,
     offset: u64,
     len: u64,
-) -> Result<(), Cause> {
+) -> Result<(), CallError> {
     want_lanes(rt, on, offset, len);
     let lanes = on.lanes.as_mut_slice();
     sync_by(rt, &on.shape, &NoGate, None, &on.locks, lanes, offset, len)
@@ -211,7 +211,7 @@ fn a_sync_reaches_each_leg_of_the_stripes_that_are_touched(rt: HostRuntime) -> R
 }
 
 /// Syncs every stripe.
-fn flush<R: Threads + Wait + Sync + Abort>(rt: &R, on: &mut Lanes) -> Result<(), Cause> {
+fn flush<R: Threads + Wait + Sync + Abort>(rt: &R, on: &mut Lanes) -> Result<(), CallError> {
     want_lanes(rt, on, 0, 0);
     let lanes = on.lanes.as_mut_slice();
     flush_by(rt, &on.shape, &NoGate, None, &on.locks, lanes)
@@ -274,9 +274,9 @@ fn write_beside_a_claim<R: Threads + Wait + Sync + Abort>(
 fn a_write_that_somebody_else_claimed_has_no_record(rt: HostRuntime) -> Result<(), Fail> {
     let alloc = rt.alloc();
     let mut on = open_lanes(&rt, alloc, shape(8, 4, 2, 1, 1)?)?;
-    let gone = Cause {
+    let gone = CallError {
         stripe: 0,
-        kind: CauseKind::NoTicket,
+        kind: CallErrorKind::NoTicket,
     };
     let written = write_beside_a_claim(&rt, alloc, &mut on)?;
     assert_eq!(rt; written, Err(WriteFault::Io(gone)));
@@ -327,7 +327,7 @@ fn stripes_of_a_call<R: Threads + Wait + Clock + Sync + Abort>(
     let (shape, locks, lanes) = (&on.shape, &on.locks, on.lanes.as_mut_slice());
     let went = match kind {
         CallKind::Read => read_by(rt, shape, &gate, None, locks, lanes, 0, &mut into).is_ok(),
-        CallKind::Zero => zero_by(rt, shape, &gate, None, locks, lanes, 0, 16 * 512).is_ok(),
+        CallKind::Zero => zero_by(rt, shape, &gate, None, locks, lanes, 0, 16 * 512, None).is_ok(),
         _ => write_by(rt, alloc, shape, &gate, None, locks, lanes, 0, payload).is_ok(),
     };
     assert!(rt; went);

@@ -1,6 +1,6 @@
 //! A leg that is taken out of every stripe, and joins again.
 
-use crate::mirrors::{shape, zeroes};
+use crate::mirrors::{round_of, shape, turn, zeroes};
 use nm_lanes::NoGate;
 use nm_leg::FuseLeg;
 use nm_mirror::{AttachCounts, FailCounts, Mirror};
@@ -84,25 +84,27 @@ fn a_leg_that_is_out_joins_again(rt: HostRuntime) -> Result<(), Fail> {
 fn a_joining_leg_is_copied_to_and_called_in_sync(rt: HostRuntime) -> Result<(), Fail> {
     let alloc = rt.alloc();
     let mirror = zeroes(alloc, shape(8, 4, 2, 2, 2)?, NoGate)?;
-    // Two stripes of four blocks, two calls of a leg for each block; then each is called in sync.
-    for _ in 0..9 {
-        assert_eq!(rt; mirror.resync_turn(&rt), 2);
+    let mut round = round_of(alloc, &mirror)?;
+    // Two stripes of two chunks, two calls of a leg for each chunk; then each is called in sync.
+    for _ in 0..5 {
+        assert_eq!(rt; turn(&rt, &mirror, &mut round), 2);
     }
-    assert_eq!(rt; mirror.resync_turn(&rt), 0);
+    assert_eq!(rt; turn(&rt, &mirror, &mut round), 0);
     check_states(&rt, alloc, &mirror, "master 0 settling no legs in in")
 }
 
-// The copy to leg 2 meets that to leg 1, and helps it. So a chunk of two blocks is read in the
-// first turn, and written in the second.
+// The copy to leg 2 meets that to leg 1, and helps it. So a chunk of two blocks is read and written
+// in one turn.
 #[test]
 fn a_turn_helps_the_copy_that_stands_in_its_way(rt: HostRuntime) -> Result<(), Fail> {
     let alloc = rt.alloc();
     let mirror = zeroes(alloc, shape(8, 4, 2, 2, 3)?, NoGate)?;
+    let mut round = round_of(alloc, &mirror)?;
     for text in [
-        "master 0 settling no legs in join(4) join(4)",
         "master 0 settling no legs in join(2) join(4)",
+        "master 0 settling no legs in join(0) join(4)",
     ] {
-        assert_eq!(rt; mirror.resync_turn(&rt), 4);
+        assert_eq!(rt; turn(&rt, &mirror, &mut round), 4);
         check_states(&rt, alloc, &mirror, text)?;
     }
     Ok(())

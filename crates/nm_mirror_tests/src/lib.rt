@@ -10,9 +10,13 @@ mod edges;
 #[cfg(test)]
 mod gates;
 #[cfg(test)]
+mod gone;
+#[cfg(test)]
 mod helping;
 #[cfg(test)]
 mod lanes;
+#[cfg(test)]
+mod leaving;
 #[cfg(test)]
 mod legs;
 #[cfg(test)]
@@ -30,8 +34,12 @@ mod rounds;
 #[cfg(test)]
 mod row;
 #[cfg(test)]
+mod spot_leg;
+#[cfg(test)]
 mod starts;
 #[cfg(test)]
 mod threads;
 #[cfg(test)]
 mod told;
+#[cfg(test)]
+mod unread;

@@ -4,15 +4,16 @@ ghost use Rattle.nm_geometry.specs.Pieces.{LiesInside};
 
 use bytes::Bytes;
 use nm_geometry::{ByteRange, Shape};
-use nm_lanes::{Cause, Gate, WriteFault};
+use nm_lanes::{CallError, Gate, WriteFault};
 use nm_leg::{FuseLeg, LegPart};
-use nm_mirror::{Mirror, Pass, Start, Totals, open_stripes};
+use nm_mirror::{CopyRound, Mirror, Pass, Start, Totals, open_stripes};
 use nm_replay::BLOCK_BYTES;
 use nm_stripe::Policy;
 use std::alloc::Global;
 use std::marker::{Send, Sync};
 use std::process::Abort;
 use std::sync::Wait;
+use std::sync::atomic::AtomicBool;
 use std::test::Fail;
 use std::thread::Threads;
 
@@ -73,14 +74,49 @@ pub fn zeroes<G: Gate + Drop>(
     mirror_of(alloc, shape, legs, gate)
 }
 
-/// Copies to the legs that join until each leg is in sync.
-pub fn sync_up<R: Wait + Abort, L: LegPart, G: Gate + Drop>(rt: &R, mirror: &Mirror<L, G>) {
+/// The round of a copier of this mirror.
+pub fn round_of<L: LegPart, G: Gate + Drop>(
+    alloc: Global,
+    mirror: &Mirror<L, G>,
+) -> Result<CopyRound, Fail> {
+    let shape = mirror.shape();
+    Ok(CopyRound::new(alloc, shape.stripes, shape.legs)?)
+}
+
+/// Does a turn of the copier: how many of its steps were not refused.
+pub fn turn<R: Wait + Abort, L: LegPart, G: Gate + Drop>(
+    rt: &R,
+    mirror: &Mirror<L, G>,
+    round: &mut CopyRound,
+) -> u32 {
+    assert!(rt; round.stripes() == mirror.shape().stripes && round.legs() == mirror.shape().legs);
+    mirror.resync_turn(rt, round)
+}
+
+/// Does turns until one does nothing.
+pub fn turn_until_idle<R: Wait + Abort, L: LegPart, G: Gate + Drop>(
+    rt: &R,
+    mirror: &Mirror<L, G>,
+    round: &mut CopyRound,
+) {
     for _ in 0..100_000 {
-        if mirror.resync_turn(rt) == 0 {
+        if turn(rt, mirror, round) == 0 {
             return;
         }
     }
-    assert!(rt; false, "a leg does not come in sync");
+    assert!(rt; false, "the copier does not come to an end");
+}
+
+/// Copies to the legs that join until each leg is in sync.
+pub fn sync_up<R: Wait + Abort, L: LegPart, G: Gate + Drop>(
+    rt: &R,
+    alloc: Global,
+    mirror: &Mirror<L, G>,
+) -> Result<(), Fail> {
+    let mut round = round_of(alloc, mirror)?;
+    turn_until_idle(rt, mirror, &mut round);
+    assert_eq!(rt; round.unread_count(), 0);
+    Ok(())
 }
 
 /// A mirror of zeroes, each leg of it in sync.
@@ -91,7 +127,7 @@ pub fn in_sync<R: Wait + Abort, G: Gate + Drop>(
     gate: G,
 ) -> Result<Mirror<FuseLeg, G>, Fail> {
     let mirror = zeroes(alloc, shape, gate)?;
-    sync_up(rt, &mirror);
+    sync_up(rt, alloc, &mirror)?;
     Ok(mirror)
 }
 
@@ -176,7 +212,7 @@ pub fn read_at<R: Threads + Wait + Sync + Abort, L: LegPart + Send, G: Gate + Dr
     pass: &mut Pass<L>,
     offset: u64,
     into: &mut [u8],
-) -> Result<(), Cause> {
+) -> Result<(), CallError> {
     want_inside(rt, mirror, pass, offset, into.len() as u64);
     mirror.read_at(rt, pass, offset, into)
 }
@@ -201,9 +237,22 @@ pub fn zero_at<R: Threads + Wait + Sync + Abort, L: LegPart + Send, G: Gate + Dr
     pass: &mut Pass<L>,
     offset: u64,
     len: u64,
-) -> Result<(), Cause> {
+) -> Result<(), CallError> {
     want_inside(rt, mirror, pass, offset, len);
-    mirror.zero_at(rt, pass, offset, len)
+    mirror.zero_at(rt, pass, offset, len, None)
+}
+
+/// Writes zeroes to these bytes of the export, which must lie in it, for a caller that may go.
+pub fn zero_unless_gone<R: Threads + Wait + Sync + Abort, L: LegPart + Send, G: Gate + Drop + Sync>(
+    rt: &R,
+    mirror: &Mirror<L, G>,
+    pass: &mut Pass<L>,
+    offset: u64,
+    len: u64,
+    is_gone: &AtomicBool,
+) -> Result<(), CallError> {
+    want_inside(rt, mirror, pass, offset, len);
+    mirror.zero_at(rt, pass, offset, len, Some(is_gone))
 }
 
 /// Syncs each leg of every stripe.
@@ -211,7 +260,7 @@ pub fn flush<R: Threads + Wait + Sync + Abort, L: LegPart + Send, G: Gate + Drop
     rt: &R,
     mirror: &Mirror<L, G>,
     pass: &mut Pass<L>,
-) -> Result<(), Cause> {
+) -> Result<(), CallError> {
     want_inside(rt, mirror, pass, 0, 0);
     mirror.flush(rt, pass)
 }

@@ -165,11 +165,18 @@ impl Lane<FuseLeg, Door> for NoteLane {
         told
     }
 
-    fn copy<R: Wait>(&mut self, rt: &R, lock: &Door, leg: u8) -> Result<Copying, Refusal>
+    fn copy<R: Wait>(
+        &mut self,
+        rt: &R,
+        lock: &Door,
+        leg: u8,
+        most: u64,
+        from: u64,
+    ) -> Result<Copying, Refusal>
         ensures follows { self.new ≡ part_after_all {L = FuseLeg}
-            (done_as (step.Copy leg) (answer_of_copy result) ∷ []) self.old }
+            (done_as (step.Copy leg most from) (answer_of_copy result) ∷ []) self.old }
     {
-        let told = self.part.copy(&mut lock.lock(rt), leg);
+        let told = self.part.copy(&mut lock.lock(rt), leg, most, from);
         self.note(StepKind::Copy, leg as u64, told.as_ref().err().copied());
         told
     }

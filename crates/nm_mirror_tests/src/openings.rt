@@ -13,14 +13,14 @@ use std::test::Fail;
 /// The bytes of a region of four blocks.
 const REGION_BYTES: usize = 2048;
 
-/// Two legs of zeroes a stripe. Leg 0 fails from its ninth call on, which is its first once its
-/// eight blocks were compared.
+/// Two legs of zeroes a stripe. Leg 0 fails from its third call on, which is its first once its two
+/// regions were compared.
 fn legs(alloc: Global, shape: &Shape) -> Result<Vec<Vec<FuseLeg>>, Fail> {
     let mut legs = Vec::new(alloc);
     for stripe in 0..shape.stripes {
         let blocks = shape.stripe_blocks(stripe);
         let first = FuseLeg::new(alloc, blocks)?;
-        first.fail_from(9);
+        first.fail_from(3);
         let mut own = Vec::new(alloc);
         own.push(first)?;
         own.push(FuseLeg::new(alloc, blocks)?)?;

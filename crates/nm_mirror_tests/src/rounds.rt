@@ -119,6 +119,22 @@ fn a_flush_of_stripes_without_writes_starts_no_thread(rt: HostRuntime) -> Result
     Ok(())
 }
 
+// Kept to one thread, a write does one stripe after the other.
+#[test]
+fn a_mirror_kept_to_one_thread_starts_none(rt: HostRuntime) -> Result<(), Fail> {
+    let alloc = rt.alloc();
+    let both = both_called();
+    let mirror = meeting_stripes(&rt, alloc, &both, 20)?;
+    mirror.keep_to_one_thread();
+    let mut pass = pass_of(&rt, alloc, &mirror)?;
+    hold_calls(&both);
+    let payload = fill_bytes(alloc, 8 * 512, 7)?;
+    assert!(rt; write_at(&rt, alloc, &mirror, &mut pass, 0, payload).is_ok());
+    assert_eq!(rt; both.second.load(Ordering::SeqCst), 1);
+    assert_eq!(rt; both.looks.load(Ordering::SeqCst), 20);
+    Ok(())
+}
+
 /// What the second stripe's steps tell the first stripe's leg: how many of them were given entries,
 /// and how often the leg's calls looked.
 #[derive(Drop)]

@@ -2,7 +2,7 @@
 
 use crate::mirrors::{close_even, fill_bytes, flush, in_sync, pass_of, shape};
 use bytes::Bytes;
-use nm_lanes::{Cause, NoGate, WriteFault};
+use nm_lanes::{CallError, NoGate, WriteFault};
 use nm_leg::FuseLeg;
 use nm_mirror::{Mirror, Pass};
 use std::alloc::Global;
@@ -37,10 +37,10 @@ fn zero<R: Threads + Wait + Sync + Abort>(
     pass: &mut Pass<FuseLeg>,
     from: u64,
     count: u64,
-) -> Result<(), Cause> {
+) -> Result<(), CallError> {
     assert!(rt; pass.stripes() == mirror.shape().stripes as usize && mirror.shape().blocks == 2050);
     assert!(rt; from <= 2050 && count <= 2050 && from + count <= 2050);
-    mirror.zero(rt, pass, from, count)
+    mirror.zero(rt, pass, from, count, None)
 }
 
 /// Reads whole blocks from this one on.
@@ -50,7 +50,7 @@ fn read<R: Threads + Wait + Sync + Abort>(
     pass: &mut Pass<FuseLeg>,
     from: u64,
     into: &mut [u8],
-) -> Result<(), Cause> {
+) -> Result<(), CallError> {
     assert!(rt; pass.stripes() == mirror.shape().stripes as usize && mirror.shape().blocks == 2050);
     assert!(rt; into.len() % 512 == 0 && into.len() <= 1 << 20 && from < 2050);
     assert!(rt; 512 * from + into.len() as u64 <= 512 * 2050);

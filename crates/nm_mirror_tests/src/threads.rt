@@ -1,10 +1,12 @@
 //! Four passes at once, while each leg in turn is taken out, joins again and is copied to.
 ghost use Rattle.std.specs.Thread.{IsSync};
 
-use crate::mirrors::{close_even, in_sync, pass_of, read_at, shape, try_filled, write_at};
+use crate::mirrors::{
+    close_even, in_sync, pass_of, read_at, round_of, shape, try_filled, turn, write_at,
+};
 use nm_lanes::{Gate, Place};
 use nm_leg::FuseLeg;
-use nm_mirror::{LegStatus, Mirror, Pass, StripeStatus};
+use nm_mirror::{CopyRound, LegStatus, Mirror, Pass, StripeStatus};
 use nm_replay::check;
 use nm_stripe::LegState;
 use std::alloc::Global;
@@ -129,7 +131,7 @@ fn fail_and_attach<R: Wait + Abort>(rt: &R, mirror: &Healing, leg: u8) -> bool {
 }
 
 /// Copies until each leg of every stripe is in sync: whether they could be asked.
-fn heal<R: Wait>(rt: &R, alloc: Global, mirror: &Healing) -> bool {
+fn heal<R: Wait + Abort>(rt: &R, alloc: Global, mirror: &Healing, copier: &mut CopyRound) -> bool {
     for _ in rt.forever() {
         let Ok(told) = mirror.status(rt, alloc) else {
             return false;
@@ -137,20 +139,25 @@ fn heal<R: Wait>(rt: &R, alloc: Global, mirror: &Healing) -> bool {
         if told.iter().all(is_in_sync) {
             return true;
         }
-        mirror.resync_turn(rt);
+        turn(rt, mirror, copier);
     }
     unreachable!()
 }
 
 /// Takes out each leg in turn, at least once, until all passes are done: whether each went out and
 /// came back in every stripe.
-fn fail_in_turn<R: Wait + Abort>(rt: &R, alloc: Global, mirror: &Healing) -> bool {
+fn fail_in_turn<R: Wait + Abort>(
+    rt: &R,
+    alloc: Global,
+    mirror: &Healing,
+    copier: &mut CopyRound,
+) -> bool {
     for round in 0..u64::MAX {
         if round >= 3 && mirror.gate().done.load(Ordering::SeqCst) == 4 {
             return true;
         }
-        let done = fail_and_attach(rt, mirror, (round % 3) as u8) && heal(rt, alloc, mirror);
-        if !done {
+        let leg = (round % 3) as u8;
+        if !fail_and_attach(rt, mirror, leg) || !heal(rt, alloc, mirror, copier) {
             return false;
         }
     }
@@ -163,6 +170,7 @@ fn run<R: Threads + Wait + Abort + Sync>(
     rt: &R,
     alloc: Global,
     mirror: &Healing,
+    copier: &mut CopyRound,
     a: &mut Pass<FuseLeg>,
     b: &mut Pass<FuseLeg>,
     c: &mut Pass<FuseLeg>,
@@ -170,7 +178,7 @@ fn run<R: Threads + Wait + Abort + Sync>(
 ) -> (u64, bool) {
     let (healed, (one, (two, (three, four)))) = join(
         rt,
-        || fail_in_turn(rt, alloc, mirror),
+        || fail_in_turn(rt, alloc, mirror, copier),
         || -> (u64, (u64, (u64, u64)))
             requires { IsSync R.row }
         {
@@ -231,7 +239,17 @@ fn four_threads(rt: HostRuntime) -> Result<(), Fail> {
     let mut b = pass_of(&rt, alloc, &mirror)?;
     let mut c = pass_of(&rt, alloc, &mirror)?;
     let mut d = pass_of(&rt, alloc, &mirror)?;
-    let (good, healed) = run(&rt, alloc, &mirror, &mut a, &mut b, &mut c, &mut d);
+    let mut copier = round_of(alloc, &mirror)?;
+    let (good, healed) = run(
+        &rt,
+        alloc,
+        &mirror,
+        &mut copier,
+        &mut a,
+        &mut b,
+        &mut c,
+        &mut d,
+    );
     assert_eq!(rt; good, 4 * CALLS);
     assert!(rt; healed);
     assert_eq!(rt; mirror.gate().falls.load(Ordering::SeqCst), 0);

@@ -66,7 +66,7 @@ fn places_of_a_call<R: Threads + Wait + Sync + Abort>(
     let (shape, locks, lanes, pass) = (&on.shape, &on.locks, on.lanes.as_mut_slice(), Some(7));
     let went = match kind {
         CallKind::Read => read_by(rt, shape, &gate, pass, locks, lanes, 2560, &mut into).is_ok(),
-        CallKind::Zero => zero_by(rt, shape, &gate, pass, locks, lanes, 2560, 1024).is_ok(),
+        CallKind::Zero => zero_by(rt, shape, &gate, pass, locks, lanes, 2560, 1024, None).is_ok(),
         CallKind::Flush => flush_by(rt, shape, &gate, pass, locks, lanes).is_ok(),
         CallKind::Write => {
             write_by(rt, alloc, shape, &gate, pass, locks, lanes, 2560, payload).is_ok()

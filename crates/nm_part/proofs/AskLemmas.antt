@@ -57,11 +57,11 @@ module _ {L : Type 0} (type : LegType L) (old new : StripeState L) where
   sync-step leg (Ok (syncing.LegLost gone)) ok refused = (ok, refl)
   sync-step leg (Err refusal) ok refused = (refused, refl)
 
-  pub copy-step : (leg : ℕ) (result : Result Copying Refusal) → IfOk result (Copies type old new leg) → IfErr result (RefusesCopy type old new leg) → StepOf type (Copy leg) (answer_of_copy result) old new
-  copy-step leg (Ok (copying.Copied blocks)) ok refused = ok
-  copy-step leg (Ok copying.Nothing) ok refused = ok
-  copy-step leg (Ok (copying.LegLost gone)) ok refused = (ok, refl)
-  copy-step leg (Err refusal) ok refused = (refused, refl)
+  pub copy-step : (leg most from : ℕ) (result : Result Copying Refusal) → IfOk result (Copies type old new leg most from) → IfErr result (RefusesCopy type old new leg most from) → StepOf type (Copy leg most from) (answer_of_copy result) old new
+  copy-step leg most from (Ok (copying.Copied moved blocks)) ok refused = ok
+  copy-step leg most from (Ok copying.Nothing) ok refused = ok
+  copy-step leg most from (Ok (copying.LegLost gone)) ok refused = (ok, refl)
+  copy-step leg most from (Err refusal) ok refused = (refused, refl)
 
 -- what a method explains is what its step explains of that answer
 module _ {L : Type 0} (model : L → Leg) (old new : StripeState L) where
@@ -93,11 +93,11 @@ sync-marks L leg (Ok syncing.Synced) = refl
 sync-marks L leg (Ok (syncing.LegLost gone)) = refl
 sync-marks L leg (Err refusal) = refl
 
-pub copy-marks : (L : Type 0) (leg : ℕ) (result : Result Copying Refusal) → marks {L = L} (Copy leg) (answer_of_copy result) ≡ []
-copy-marks L leg (Ok (copying.Copied blocks)) = refl
-copy-marks L leg (Ok copying.Nothing) = refl
-copy-marks L leg (Ok (copying.LegLost gone)) = refl
-copy-marks L leg (Err refusal) = refl
+pub copy-marks : (L : Type 0) (leg most from : ℕ) (result : Result Copying Refusal) → marks {L = L} (Copy leg most from) (answer_of_copy result) ≡ []
+copy-marks L leg most from (Ok (copying.Copied moved blocks)) = refl
+copy-marks L leg most from (Ok copying.Nothing) = refl
+copy-marks L leg most from (Ok (copying.LegLost gone)) = refl
+copy-marks L leg most from (Err refusal) = refl
 
 -- a part takes nothing of these answers
 pub begin-counts : (L : Type 0) (part : PartState) (result : Result Beginning (Refusal × Data)) → part ≡ part_after {L = L} (answer_of_begin result) part
@@ -118,7 +118,7 @@ sync-counts L part (Ok (syncing.LegLost gone)) = refl
 sync-counts L part (Err refusal) = refl
 
 pub copy-counts : (L : Type 0) (part : PartState) (result : Result Copying Refusal) → part ≡ part_after {L = L} (answer_of_copy result) part
-copy-counts L part (Ok (copying.Copied blocks)) = refl
+copy-counts L part (Ok (copying.Copied moved blocks)) = refl
 copy-counts L part (Ok copying.Nothing) = refl
 copy-counts L part (Ok (copying.LegLost gone)) = refl
 copy-counts L part (Err refusal) = refl

@@ -130,7 +130,8 @@ impl<L: LegPart> Part<L> {
     }
 }
 
-/// The stripe's steps, through the part, which counts the entries of a read and of a finished write.
+/// The stripe's steps, through the part, which counts the entries of a read and of a finished
+/// write.
 ///
 /// Each is refused as `Astray` before anything else where the stripe is not the part's, has no such
 /// run of blocks or leg, or the part has no room to count a run's entries. Then nothing changes.
@@ -241,18 +242,26 @@ impl<L: LegPart> Part<L> {
         stripe.sync(leg)
     }
 
-    /// Does a step of the copy to a leg.
-    pub fn copy(&mut self, stripe: &mut Stripe<L>, leg: u8) -> Result<Copying, Refusal>
-        ensures step { AsksStripe (leg_type L.model L.honest) (step.Copy leg)
+    /// Does a step of the copy to a leg, which moves up to `most` blocks, and opens no region below
+    /// `from`. Where it may move none it is astray.
+    pub fn copy(
+        &mut self,
+        stripe: &mut Stripe<L>,
+        leg: u8,
+        most: u64,
+        from: u64,
+    ) -> Result<Copying, Refusal>
+        ensures step { AsksStripe (leg_type L.model L.honest) (step.Copy leg most from)
             (answer_of_copy result) self.old (stripe.old, stripe.new) }
         ensures acts { IsTrue L.honest → IsExplainedStep L.model
-            (marks {L = L} (step.Copy leg) (answer_of_copy result)) stripe.old stripe.new }
+            (marks {L = L} (step.Copy leg most from) (answer_of_copy result))
+            stripe.old stripe.new }
         ensures counted { self.new ≡ part_after {L = L} (answer_of_copy result) self.old }
     {
         stripe.sound();
-        if !self.has_leg(stripe, leg) {
+        if !self.has_leg(stripe, leg) || most == 0 {
             return Err(Refusal::Astray);
         }
-        stripe.copy(leg)
+        stripe.copy(leg, most, from)
     }
 }

@@ -4,7 +4,7 @@ use Rattle.std.proofs.lemmas.Bool.{cases_Bool}
 use Rattle.std.proofs.lemmas.List.{length-set, length-map, get_or-map}
 use Rattle.std.proofs.lemmas.List.Elements.{All-map, All-weaker}
 use Rattle.nm_regions.specs.declared.copy_place.CopyPlace.{CopyPlace}
-use Rattle.nm_regions.specs.LegFlags.{LegRegions, no_leg, lowest_behind, marked_if_out}
+use Rattle.nm_regions.specs.LegFlags.{LegRegions, no_leg, is_behind, marked_if_out}
 use Rattle.nm_regions.specs.Table.{RegionTable, is_out, leg_at}
 use Rattle.nm_regions.specs.Sound.{AllHave, IsOpenCopy, IsRegionTable}
 
@@ -47,7 +47,7 @@ copy-kept region writes (Some copy) t h =
     record {
       leg = rw (length-map t.legs (marked_if_out region)) h.leg;
       attached = ap (λ (leg : LegRegions). leg.out) same ∙ h.attached;
-      lowest = ap (λ (leg : LegRegions). lowest_behind leg) same ∙ h.lowest;
+      behind = ap (λ (leg : LegRegions). is_behind copy.region leg) same ∙ h.behind;
       within = h.within;
     }
 

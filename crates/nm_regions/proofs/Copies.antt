@@ -1,18 +1,10 @@
 -- The open copy's region lies within what is behind for its leg.
-use Rattle.std.proofs.Common.{◌≡◌, ℕ, ◌≤◌, true, false, ◌==◌, get_or, Option, None, Some, inl, inr, arith}
+use Rattle.std.proofs.Common.{ℕ, ◌≤◌, ◌==◌, Option, None, Some, inl, inr, arith}
 use Rattle.std.proofs.lemmas.Bool.{cases_Bool, eqb-true}
 use Rattle.nm_regions.specs.declared.copy_place.CopyPlace.{CopyPlace}
 use Rattle.nm_regions.specs.Table.{RegionTable, leg_at, blocks_behind, copied}
 use Rattle.nm_regions.specs.Sound.{IsCopyOf, IsOpenCopy}
-use Rattle.nm_regions.proofs.Linking.{lowest-found, lowest-behind}
 use Rattle.nm_regions.proofs.Sizes.{length-behind}
-
--- the region of an open copy is behind for its leg
-pub copy-behind : (copy : CopyPlace) (t : RegionTable) → IsCopyOf copy t
-    → get_or (leg_at copy.leg t).behind copy.region false ≡ true
-copy-behind copy t h =
-    let at = lowest-found (leg_at copy.leg t).behind copy.region h.lowest in
-    rw at.0 (lowest-behind (leg_at copy.leg t).behind (rw at.0 at at.1))
 
 -- a copy has copied no more than what is behind for its leg
 copied-own : (copy : CopyPlace) (t : RegionTable) → IsCopyOf copy t
@@ -20,8 +12,7 @@ copied-own : (copy : CopyPlace) (t : RegionTable) → IsCopyOf copy t
 copied-own copy t h = omega (
   arith,
   h.within,
-  length-behind t.region t.blocks
-      (leg_at copy.leg t).behind copy.region (copy-behind copy t h),
+  length-behind t.region t.blocks (leg_at copy.leg t).behind copy.region h.behind,
 )
 
 -- so of any leg

@@ -5,7 +5,7 @@ use Rattle.std.proofs.lemmas.List.{length-set, get_or-set_other}
 use Rattle.std.proofs.lemmas.List.Elements.{All-set}
 use Rattle.nm_regions.specs.declared.copy_place.CopyPlace.{CopyPlace}
 use Rattle.nm_regions.specs.LegFlags as leg_flags
-use Rattle.nm_regions.specs.LegFlags.{LegRegions, no_leg, lowest_behind, dirty_marked}
+use Rattle.nm_regions.specs.LegFlags.{LegRegions, no_leg, is_behind, dirty_marked}
 use Rattle.nm_regions.specs.Table.{RegionTable, leg_at}
 use Rattle.nm_regions.specs.Changes.{copy_but_of, gone_out}
 use Rattle.nm_regions.specs.Sound.{IsOpenCopy, IsRegionTable}
@@ -37,7 +37,7 @@ copy-kept leg changed (Some copy) t h =
           rw differ (record {
             leg = rw (length-set t.legs leg changed) h.leg;
             attached = ap (λ (l : LegRegions). l.out) same ∙ h.attached;
-            lowest = ap (λ (l : LegRegions). lowest_behind l) same ∙ h.lowest;
+            behind = ap (λ (l : LegRegions). is_behind copy.region l) same ∙ h.behind;
             within = h.within;
           })
     ]

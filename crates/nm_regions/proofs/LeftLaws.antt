@@ -10,7 +10,6 @@ use Rattle.nm_regions.specs.Changes.{advanced, moved, region_finished, cleared_f
 use Rattle.nm_regions.specs.Sound.{IsRegionTable, IsCopyOf, IsOpenCopy}
 use Rattle.nm_regions.specs.Laws.{AdvanceLowersLeft, OpenKeepsLeft, FinishKeepsLeft, BeginKeepsLeft}
 use Rattle.nm_regions.proofs.Sizes.{length-behind}
-use Rattle.nm_regions.proofs.Copies.{copy-behind}
 use Rattle.nm_regions.proofs.Begun.{leg-kept}
 
 -- a region that is cleared takes its blocks along
@@ -49,7 +48,7 @@ advance-lowers t copy blocks h opened within =
     let is = is-copy-of t copy h opened in
     let all = blocks_behind t.region t.blocks (leg_at copy.leg t).behind in
     let len = length-behind t.region t.blocks (leg_at copy.leg t).behind copy.region
-    (copy-behind copy t is) in
+    is.behind in
     let new : left copy.leg (advanced blocks t) ≡ all - (copy.cursor + blocks) =
     left-is (advanced blocks t) (record copy { cursor = copy.cursor + blocks })
     (ap (λ (o : Option CopyPlace). moved blocks o) opened) in
@@ -72,7 +71,7 @@ finish-keeps t copy h opened done =
     copy.leg no_leg ≡ cleared copy.region (leg_at copy.leg t) =
     get_or-set_same t.legs copy.leg (cleared copy.region (leg_at copy.leg t)) no_leg is.leg in
     let parts = blocks-cleared t.region t.blocks (leg_at copy.leg t).behind copy.region
-    (copy-behind copy t is) in
+    is.behind in
     let new : left copy.leg (region_finished t) ≡ blocks_behind t.region t.blocks
     (set (leg_at copy.leg t).behind copy.region false) =
     ap (λ (o : Option CopyPlace). left copy.leg (record (cleared_for o t) { copy = None })) opened

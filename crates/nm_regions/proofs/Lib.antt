@@ -1,4 +1,5 @@
 pub mod Linking
+pub mod Walking
 pub mod Marking
 pub mod Sizes
 pub mod Copies

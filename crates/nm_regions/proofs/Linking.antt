@@ -1,11 +1,10 @@
 -- A leg's counter and links after each change of its flags, each by going through the flags once.
-use Rattle.std.proofs.Common.{◌≡◌, ℕ, zero, suc, ◌+◌, ◌-◌, ◌^◌, ◌<◌, ◌≤◌, Bool, true, false, cond, not, List, [], ◌∷◌, length, get_or, set, replicate, Some, None, zero-add, refl, sym, ap, ◌∙◌, arith}
+use Rattle.std.proofs.Common.{◌≡◌, ℕ, zero, suc, ◌+◌, ◌^◌, ◌<◌, ◌≤◌, Bool, true, false, cond, not, List, [], ◌∷◌, length, get_or, set, replicate, Some, None, refl, sym, ap, ◌∙◌, arith}
 use mir.Val.{bool_byte}
-use Rattle.std.specs.Prelude.{position, nat_lt, IsTrue, IsFalse}
+use Rattle.std.specs.Prelude.{position, nat_lt, IsTrue}
 use Rattle.std.specs.List.{list_any, position_or_len}
-use Rattle.std.proofs.lemmas.Bool.{lt-ltb, ltb-true, false≢true, cond_below, cond_above}
-use Rattle.std.proofs.lemmas.List.{length-set, get_or_default, length-replicate}
-use Rattle.std.proofs.lemmas.Option.{cond_some}
+use Rattle.std.proofs.lemmas.Bool.{lt-ltb, false≢true}
+use Rattle.std.proofs.lemmas.List.{length-set, length-replicate}
 use Rattle.nm_regions.specs.Links.{behind_count, before_lowest, AreLinks, AreLinked}
 
 -- one more region is behind, unless it was so before
@@ -52,16 +51,6 @@ lowest-is [] = refl
 lowest-is (true ∷ flags) = refl
 lowest-is (false ∷ flags) = omega (arith, lowest-is flags)
 
--- what it says of a region that it is the lowest behind
-pub lowest-found : (flags : List Bool) (k : ℕ) → position (λ behind. behind) flags ≡ Some k
-    → (k ≡ before_lowest flags) × (k < length flags)
-lowest-found flags k h =
-    let found = cond_some (nat_lt (position_or_len (λ behind. behind) flags) (length flags))
-    (position_or_len (λ behind. behind) flags) k h in
-    let below : position_or_len (λ behind. behind) flags < length flags = ltb-true _ _ found.0 in
-    let same : position_or_len (λ behind. behind) flags ≡ k = found.1 in
-    (sym same ∙ sym (lowest-is flags), omega arith)
-
 -- the lowest region behind is behind
 pub lowest-behind : (flags : List Bool) → before_lowest flags < length flags
     → get_or flags (before_lowest flags) false ≡ true
@@ -91,20 +80,6 @@ links-cleared at (false ∷ flags) (next ∷ links) h lt =
 pub lowest-position : (flags : List Bool) → position (λ behind. behind) flags
     ≡ cond (nat_lt (before_lowest flags) (length flags)) (Some (before_lowest flags)) None
 lowest-position flags = rw (lowest-is flags) refl
-
-pub lowest-some : (out : Bool) (flags : List Bool) (count head : ℕ) (links : List ℕ)
-    → AreLinked out flags count head links → IsFalse out → head < length flags
-    → Some head ≡ position (λ behind. behind) flags
-lowest-some out flags count head links h attached lt =
-    rw (lowest-position flags, ← h.lowest attached) (cond_below head (length flags) (Some head)
-    None lt)
-
-pub lowest-none : (out : Bool) (flags : List Bool) (count head : ℕ) (links : List ℕ)
-    → AreLinked out flags count head links → IsFalse out → length flags ≤ head
-    → None ≡ position (λ behind. behind) flags
-lowest-none out flags count head links h attached le =
-    rw (lowest-position flags, ← h.lowest attached) (cond_above head (length flags) (Some head)
-    None None le refl)
 
 -- a flag as a number
 pub byte-is : (b : Bool) → bool_byte b ≡ cond b 1 0
@@ -151,40 +126,3 @@ linked-new regions head links in_sync few places = record {
   lowest = λ no. absurd (false≢true (sym no));
   linked = λ no. absurd (false≢true (sym no));
 }
-
--- what holds where the lowest region behind of a leg is known
-pub record IsLowest (flags : List Bool) (count region : ℕ) : Type 0 where
-  pub within : region < length flags
-  pub first : region ≡ before_lowest flags
-  pub behind : get_or flags region false ≡ true
-  pub some : 1 ≤ count
-
-pub is-lowest : (out : Bool) (flags : List Bool) (count head : ℕ) (links : List ℕ) (region : ℕ)
-    → AreLinked out flags count head links → position (λ behind. behind) flags ≡ Some region
-    → IsLowest flags count region
-is-lowest out flags count head links region h found =
-    let at = lowest-found flags region found in
-    let behind : get_or flags region false ≡ true = rw at.0 (lowest-behind flags (rw at.0 at at.1))
-    in record {
-      within = at.1;
-      first = at.0;
-      behind = behind;
-      some = omega (arith, h.counted, count-cleared flags region behind);
-    }
-
--- a leg that is not out: its lowest region is no longer behind
-pub linked-cleared : (out : Bool) (flags : List Bool) (count head : ℕ) (links : List ℕ)
-    (region d : ℕ) → AreLinked out flags count head links → IsFalse out
-    → position (λ behind. behind) flags ≡ Some region
-    → AreLinked out (set flags region false) (count - 1) (get_or links region d) links
-linked-cleared out flags count head links region d h attached found =
-    let at = is-lowest out flags count head links region h found in
-    let cleared = links-cleared 0 flags links (h.linked attached) (rw at.first at at.within) in
-    record {
-      places = h.places ∙ sym (length-set flags region false);
-      few = rw (length-set flags region false) h.few;
-      counted = omega (arith, h.counted, count-cleared flags region at.behind);
-      lowest = λ _. get_or_default links region d 0 (rw h.places at.within)
-          ∙ rw at.first (cleared.1 ∙ zero-add _);
-      linked = λ _. rw at.first cleared.0;
-    }

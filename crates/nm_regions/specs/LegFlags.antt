@@ -1,7 +1,9 @@
 -- One leg's regions: whether the leg is out, and in which regions it is behind.
-use Rattle.std.specs.Prelude.{ℕ, Bool, true, false, not, ◌==◌, if◌then◌else◌, Option}
-use Rattle.std.specs.Prelude.{List, [], ◌∷◌, length, replicate, position, slice_index_or, slice_set}
+use Rattle.std.specs.Prelude.{ℕ, ◌+◌, Bool, true, false, not, ◌==◌, if◌then◌else◌, Option}
+use Rattle.std.specs.Prelude.{List, [], ◌∷◌, drop, length, replicate, position, slice_index_or}
+use Rattle.std.specs.Prelude.{slice_set}
 use Rattle.std.specs.List.{list_any}
+use Rattle.std.specs.Option.{option_map}
 
 -- whether the leg is out, and for each region whether it is behind
 pub record LegRegions : Type 0 where
@@ -20,9 +22,10 @@ opened_leg regions in_sync = record { out = false; behind = replicate regions (n
 abbrev pub is_behind : ℕ → LegRegions → Bool
 is_behind region leg = slice_index_or leg.behind region false
 
--- the lowest region that is behind
-abbrev pub lowest_behind : LegRegions → Option ℕ
-lowest_behind leg = position (λ behind. behind) leg.behind
+-- the lowest region behind that is not below this one
+abbrev pub next_behind : ℕ → LegRegions → Option ℕ
+next_behind from leg =
+    option_map (λ k. from + k) (position (λ behind. behind) (drop from leg.behind))
 
 -- whether some region is behind
 abbrev pub has_behind : LegRegions → Bool

@@ -1,19 +1,19 @@
 -- What holds of every region table.
-use Rattle.std.specs.Prelude.{◌≡◌, ℕ, ◌+◌, ◌*◌, ◌^◌, ◌<◌, ◌≤◌, IsFalse, Option, None, Some}
+use Rattle.std.specs.Prelude.{◌≡◌, ℕ, ◌+◌, ◌*◌, ◌^◌, ◌<◌, ◌≤◌, IsFalse, IsTrue, Option, None, Some}
 use Rattle.std.specs.Prelude.{List, length, All}
 use Rattle.nm_regions.specs.declared.copy_place.CopyPlace.{CopyPlace}
-use Rattle.nm_regions.specs.LegFlags.{LegRegions}
-use Rattle.nm_regions.specs.Table.{RegionTable, is_out, lowest_behind, length_of}
+use Rattle.nm_regions.specs.LegFlags.{LegRegions, is_behind}
+use Rattle.nm_regions.specs.Table.{RegionTable, is_out, leg_at, length_of}
 
 -- each leg has so many regions
 abbrev pub AllHave : ℕ → List LegRegions → Type 0
 AllHave regions legs = All (λ leg. length leg.behind ≡ regions) legs
 
--- the copy is of a leg that is not out, in its lowest region behind, and within that region
+-- the copy is of a leg that is not out, in a region where it is behind, and within that region
 pub record IsCopyOf (copy : CopyPlace) (t : RegionTable) : Type 0 where
   pub leg : copy.leg < length t.legs
   pub attached : IsFalse (is_out copy.leg t)
-  pub lowest : lowest_behind copy.leg t ≡ Some copy.region
+  pub behind : IsTrue (is_behind copy.region (leg_at copy.leg t))
   pub within : copy.cursor ≤ length_of copy.region t
 
 -- where a copy is open, it is one of this table

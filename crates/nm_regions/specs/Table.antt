@@ -97,9 +97,9 @@ copied leg (Some copy) = if copy.leg == leg then copy.cursor else 0
 abbrev pub left : ℕ → RegionTable → ℕ
 left leg t = blocks_behind t.region t.blocks (leg_at leg t).behind - copied leg t.copy
 
--- the lowest region that the leg is behind in
-abbrev pub lowest_behind : ℕ → RegionTable → Option ℕ
-lowest_behind leg t = leg_flags.lowest_behind (leg_at leg t)
+-- the lowest region that the leg is behind in, of those not below this one
+abbrev pub next_behind : ℕ → ℕ → RegionTable → Option ℕ
+next_behind leg from t = leg_flags.next_behind from (leg_at leg t)
 
 -- whether the leg is behind in some region
 abbrev pub has_behind : ℕ → RegionTable → Bool

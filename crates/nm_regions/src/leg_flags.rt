@@ -1,17 +1,18 @@
 ghost use Rattle.std.specs.Prelude.{◌≡◌, ◌<◌, ◌≤◌, ◌^◌, length, map, replicate, All, Some, IsTrue};
 ghost use Rattle.std.specs.Prelude.{IsFalse, IfOk};
-ghost use Rattle.nm_regions.specs.LegFlags.{opened_leg, is_behind, lowest_behind, has_behind};
+ghost use Rattle.nm_regions.specs.LegFlags.{opened_leg, is_behind, next_behind, has_behind};
 ghost use Rattle.nm_regions.specs.LegFlags.{dirty_marked, gone_out, attached, marked};
 ghost use Rattle.nm_regions.specs.LegFlags.{marked_if_out, all_marked, set_aside, cleared};
-ghost use Rattle.nm_regions.specs.Links.{behind_count, before_lowest, AreLinks};
+ghost use Rattle.nm_regions.specs.Links.{behind_count, before_lowest, AreLinks, IsLastBelow};
 
 use std::alloc::{AllocError, Global};
 use std::marker::Model;
 
 /// One leg's regions: whether the leg is out, and in which regions it is behind.
 ///
-/// While the leg is not out its flags are only ever cleared, the lowest first. So links from each
-/// region that is behind to the next one, made as the leg is attached, keep the lowest at hand.
+/// While the leg is not out its flags are only ever cleared. So links from each region behind to
+/// the next one, made as the leg is attached, keep the lowest at hand. As a region is cleared, the
+/// link to it leads on to the next one.
 #[derive(Drop)]
 pub(crate) struct LegFlags {
     out: bool,
@@ -85,16 +86,39 @@ impl LegFlags {
         self.count > 0
     }
 
-    /// The lowest region that is behind, of a leg that is not out.
-    pub(crate) fn lowest_behind(&self) -> Option<u64>
+    /// The lowest region behind that is not below `from`, of a leg that is not out. Goes over the
+    /// regions behind below `from`, and no others.
+    pub(crate) fn next_behind(&self, from: u64) -> Option<u64>
         requires attached { IsFalse self.now.out }
-        ensures { result ≡ lowest_behind self.now }
+        ensures { result ≡ next_behind from self.now }
     {
-        if (self.head as usize) < self.behind.len() {
-            Some(self.head as u64)
+        let regions = self.behind.len();
+        let next = match self.last_below(from.min(regions as u64) as usize) {
+            Some(last) => self.next[last],
+            None => self.head,
+        };
+        if (next as usize) < regions {
+            Some(next as u64)
         } else {
             None
         }
+    }
+
+    /// The last region behind below `from`, of a leg that is not out. Goes over the regions behind
+    /// below `from`.
+    fn last_below(&self, from: usize) -> Option<usize>
+        requires attached { IsFalse self.now.out }
+        requires within { from ≤ length self.now.behind }
+        ensures { IsLastBelow from self.now.behind result }
+    {
+        if self.head as usize >= from {
+            return None;
+        }
+        let mut last = self.head as usize;
+        while (self.next[last] as usize) < from {
+            last = self.next[last] as usize;
+        }
+        Some(last)
     }
 
     /// The leg goes out, and falls behind in each region with a write under way, beside those that
@@ -153,15 +177,20 @@ impl LegFlags {
         self.behind.fill(false);
     }
 
-    /// The region is no longer behind: it is the lowest one of a leg that is not out.
+    /// The region is no longer behind, on a leg that is not out. Goes over the regions behind below
+    /// it.
     pub(crate) fn clear(&mut self, region: usize)
         requires attached { IsFalse self.old.out }
-        requires lowest { lowest_behind self.old ≡ Some region }
+        requires behind { IsTrue (is_behind region self.old) }
         ensures { self.new ≡ cleared region self.old }
     {
+        let next = self.next[region];
+        match self.last_below(region) {
+            Some(last) => self.next[last] = next,
+            None => self.head = next,
+        }
         self.behind[region] = false;
         self.count -= 1;
-        self.head = self.next[region];
     }
 }
 
@@ -218,6 +247,22 @@ fn mark_dirty(behind: &mut [bool], writes: &[u16]) -> u64
         count += u64::from(is_behind);
     }
     count
+}
+
+/// The legs of a table as it opens, one a flag.
+pub(crate) fn open_legs(
+    alloc: Global,
+    regions: usize,
+    in_sync: &[bool],
+) -> Result<Vec<LegFlags>, AllocError>
+    requires few { regions ≤ 2 ^ 31 }
+    ensures ok { IfOk result (λ legs. legs.items ≡ map (opened_leg regions) in_sync.now) }
+{
+    let mut legs = Vec::with_capacity(alloc, in_sync.len())?;
+    for named in in_sync {
+        legs.push(LegFlags::new(alloc, regions, *named)?)?;
+    }
+    Ok(legs)
 }
 
 /// The region is behind from now on, for each of the legs that is out.

@@ -1,9 +1,9 @@
 ghost use Rattle.std.specs.Prelude.{◌≡◌, ◌+◌, ◌-◌, ◌*◌, ◌<◌, ◌≤◌, ◌^◌, if◌then◌else◌, length, map};
 ghost use Rattle.std.specs.Prelude.{replicate, Some, None, IsTrue, IsFalse, IsSome, IfOk};
-ghost use Rattle.nm_regions.specs.LegFlags.{opened_leg, is_behind};
+ghost use Rattle.nm_regions.specs.LegFlags.{is_behind};
 ghost use Rattle.nm_regions.specs.Table.{region_of, length_of, writes_in, is_quiet, state, is_out};
 ghost use Rattle.nm_regions.specs.Table.{leg_at, has_region, is_current_at, is_current, targets};
-ghost use Rattle.nm_regions.specs.Table.{blocks_behind, copied, left, lowest_behind, has_behind};
+ghost use Rattle.nm_regions.specs.Table.{blocks_behind, copied, left, next_behind, has_behind};
 ghost use Rattle.nm_regions.specs.Table.{copy_rest};
 ghost use Rattle.nm_regions.specs.Changes.{opened, begun_run, finished_run, gone_out, marked};
 ghost use Rattle.nm_regions.specs.Changes.{all_marked, all_set_aside, attached, replaced};
@@ -11,7 +11,7 @@ ghost use Rattle.nm_regions.specs.Changes.{copy_opened, advanced, region_finishe
 ghost use Rattle.nm_regions.specs.Sound.{AreSizes, IsRegionTable};
 
 use crate::copy_place::{CopyPlace, blocks_copied, copies, copy_but_of, has_copied, move_on};
-use crate::leg_flags::{LegFlags, mark_where_out, set_aside_all};
+use crate::leg_flags::{LegFlags, mark_where_out, open_legs, set_aside_all};
 use crate::region_state::RegionState;
 use std::alloc::{AllocError, Global};
 use std::marker::Model;
@@ -30,7 +30,8 @@ pub const MOST_REGION: u64 = 65_536;
 /// A region holds so many blocks of the stripe, one after the other; only the last may be shorter.
 /// For each region the table counts the writes under way, and for each region and leg it says
 /// whether the leg is behind, that is, out of sync there. At most one copy is open: it goes through
-/// the lowest region behind of a leg that is not out. No query grows with blocks or regions.
+/// a region behind of a leg that is not out. No query grows with blocks or regions, but that of
+/// `next_behind` with the regions behind that it passes over.
 #[derive(Drop)]
 pub struct Regions {
     blocks: u64,
@@ -241,14 +242,15 @@ impl Regions {
         }
     }
 
-    /// The lowest region that the leg is behind in, of a leg that is not out.
-    pub fn lowest_behind(&self, leg: u8) -> Option<u64>
+    /// The lowest region behind that is not below `from`, of a leg that is not out. Goes over its
+    /// regions behind below `from`.
+    pub fn next_behind(&self, leg: u8, from: u64) -> Option<u64>
         requires leg { leg < length self.now.legs }
         requires attached { IsFalse (is_out leg self.now) }
-        ensures lowest { result ≡ lowest_behind leg self.now }
+        ensures next { result ≡ next_behind leg from self.now }
         ensures table { IsRegionTable self.now }
     {
-        self.legs[leg as usize].lowest_behind()
+        self.legs[leg as usize].next_behind(from)
     }
 
     /// Whether the leg is behind in some region.
@@ -346,12 +348,12 @@ impl Regions {
         self.attach(leg);
     }
 
-    /// A copy of the leg's lowest region behind is opened. No copy is open yet.
+    /// A copy of a region where the leg is behind is opened. No copy is open yet.
     pub fn open_copy(&mut self, leg: u8, region: u64)
         requires leg { leg < length self.old.legs }
         requires attached { IsFalse (is_out leg self.old) }
         requires none_open { self.old.copy ≡ None }
-        requires lowest { lowest_behind leg self.old ≡ Some region }
+        requires behind { IsTrue (is_behind region (leg_at leg self.old)) }
         ensures { self.new ≡ copy_opened leg region self.old }
     {
         self.copy = Some(CopyPlace {
@@ -369,7 +371,8 @@ impl Regions {
         self.copy = move_on(self.copy, blocks);
     }
 
-    /// The whole region is copied: its leg is no longer behind in it, and the copy ends.
+    /// The whole region is copied: its leg is no longer behind in it, and the copy ends. Goes over
+    /// the leg's regions behind below it.
     pub fn finish_region(&mut self)
         requires open { IsSome self.old.copy }
         requires whole { copy_rest self.old ≡ 0 }
@@ -380,18 +383,6 @@ impl Regions {
             self.legs[copy.leg as usize].clear(copy.region as usize);
         }
     }
-}
-
-/// The legs of a table as it opens, one a flag.
-fn open_legs(alloc: Global, regions: usize, in_sync: &[bool]) -> Result<Vec<LegFlags>, AllocError>
-    requires few { regions ≤ 2 ^ 31 }
-    ensures ok { IfOk result (λ legs. legs.items ≡ map (opened_leg regions) in_sync.now) }
-{
-    let mut legs = Vec::with_capacity(alloc, in_sync.len())?;
-    for named in in_sync {
-        legs.push(LegFlags::new(alloc, regions, *named)?)?;
-    }
-    Ok(legs)
 }
 
 /// No write under way in so many regions.

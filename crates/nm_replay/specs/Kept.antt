@@ -1,6 +1,8 @@
 -- A kept history, as contracts see it.
-use Rattle.std.specs.Prelude.{ℕ, ◌-◌, List, length, drop}
+use Rattle.std.specs.Prelude.{ℕ, zero, suc, ◌+◌, ◌-◌, List, [], ◌∷◌, length, take, drop}
 use Rattle.nm_replay.specs.declared.entry.Entry.{Entry}
+use Rattle.nm_replay.specs.declared.entry.Kind.{Kind}
+use Rattle.nm_replay.specs.declared.entry.Kind.TheVariants.{Read, Write, Patch}
 
 -- the last 1,024 of the entries; all of them where there are fewer
 abbrev pub last_kept : List Entry → List Entry
@@ -10,3 +12,22 @@ last_kept entries = drop (length entries - 1024) entries
 pub record KeptHistory : Type 0 where
   pub entries : List Entry
   pub total : ℕ
+
+-- the ticket in this kind, and 0 at a read
+abbrev pub ticket_in : Kind → ℕ
+ticket_in Read = 0
+ticket_in (Write ticket) = ticket
+ticket_in (Patch ticket from len) = ticket
+
+-- the kind of the entry of a run's next block, which is written under the next ticket
+abbrev pub next_kind : Kind → Kind
+next_kind Read = Read
+next_kind (Write ticket) = Write (ticket + 1)
+next_kind (Patch ticket from len) = Patch (ticket + 1) from len
+
+-- the entries of a run of so many blocks with these bytes, from this number, kind and block on
+abbrev pub run_from : ℕ → ℕ → Kind → ℕ → List ℕ → List Entry
+run_from zero number kind block bytes = []
+run_from (suc n) number kind block bytes =
+    record { seq = number; kind = kind; block = block; bytes = record { 0 = take 512 bytes } }
+    ∷ run_from n (number + 1) (next_kind kind) (block + 1) (drop 512 bytes)

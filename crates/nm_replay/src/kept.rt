@@ -1,10 +1,11 @@
-ghost use Rattle.std.specs.Prelude.{◌≡◌, ◌+◌, ◌*◌, ◌^◌, ◌<◌, [], ◌∷◌, ◌++◌, length, min};
-ghost use Rattle.std.specs.Prelude.{IsOk, IfOk};
-ghost use Rattle.nm_replay.specs.Heads.{joined};
-ghost use Rattle.nm_replay.specs.Kept.{last_kept};
+ghost use Rattle.std.specs.Prelude.{◌≡◌, ◌+◌, ◌*◌, ◌/◌, ◌^◌, ◌<◌, ◌≤◌, [], ◌∷◌, ◌++◌};
+ghost use Rattle.std.specs.Prelude.{length, min, IsOk, IfOk};
+ghost use Rattle.circular_buffer.specs.Buffer.{keep_last};
+ghost use Rattle.nm_replay.specs.Heads.{heads_from, joined};
+ghost use Rattle.nm_replay.specs.Kept.{last_kept, run_from, ticket_in};
 
 use crate::block::BLOCK_BYTES;
-use crate::entry::Entry;
+use crate::entry::{Entry, Kind};
 use crate::head::Head;
 use crate::memory::Memory;
 use circular_buffer::HeapCircularBuffer;
@@ -56,6 +57,23 @@ fn joined(alloc: Global, heads: &[Head], bytes: &[u8]) -> Result<Vec<Entry>, All
     Ok(entries)
 }
 
+/// Adds the heads of a run of so many blocks, of which this is the first.
+fn add_heads(heads: &mut HeapCircularBuffer<Head>, first: Head, count: usize)
+    requires few { length heads.old.items ≤ heads.old.capacity }
+    requires numbers { first.seq + count < 2 ^ 64 }
+    requires tickets { ticket_in first.kind + count < 2 ^ 64 }
+    requires blocks { first.block + count < 2 ^ 64 }
+    ensures items { heads.new.items
+        ≡ keep_last heads.old.capacity (heads.old.items ++ heads_from count first) }
+    ensures capacity { heads.new.capacity ≡ heads.old.capacity }
+{
+    let mut next = first;
+    for _ in 0..count {
+        heads.push_back(next);
+        next = next.next();
+    }
+}
+
 impl Kept {
     /// The empty history, with memory for all the entries that it will ever keep.
     pub fn new(alloc: Global) -> Result<Self, Memory>
@@ -79,6 +97,24 @@ impl Kept {
         self.heads.push_back(Head::of(entry));
         self.bytes.extend_from_slice(&entry.bytes.0);
         self.total += 1;
+    }
+
+    /// Adds the entries of a run at the end, one for each block of the bytes: the numbers, kinds and
+    /// blocks are those from these on. The last 1,024 entries stay. The bytes are copied once.
+    pub fn push_run(&mut self, number: u64, kind: Kind, block: u64, bytes: &[u8])
+        requires whole { length bytes.now ≡ 512 * (length bytes.now / 512) }
+        requires total { self.old.total + length bytes.now / 512 ≤ 2 ^ 63 }
+        requires numbers { number + length bytes.now / 512 < 2 ^ 64 }
+        requires tickets { ticket_in kind + length bytes.now / 512 < 2 ^ 64 }
+        requires blocks { block + length bytes.now / 512 < 2 ^ 64 }
+        ensures entries { self.new.entries ≡ last_kept (self.old.entries
+            ++ run_from (length bytes.now / 512) number kind block bytes.now) }
+        ensures total { self.new.total ≡ self.old.total + length bytes.now / 512 }
+    {
+        let count = bytes.len() / BLOCK_BYTES;
+        add_heads(&mut self.heads, Head::new(number, kind, block), count);
+        self.bytes.extend_from_slice(bytes);
+        self.total += count as u64;
     }
 
     /// How many entries were pushed in all.

@@ -10,11 +10,15 @@ use std::alloc::AllocError;
 // After a payload longer than this a new block begins.
 const LONG_PAYLOAD: usize = 64 * 1024;
 
+// A piece as long as this may begin a block of its own.
+const LONG_PIECE: usize = 16 * 1024;
+
 // Once one part in this many of a request has come, its block is made as long as the request.
 const FIRST_PART: usize = 16;
 
 // Appends the piece. The block doubles as bytes come, and once, after the first part of a request,
-// it grows to the request's end and one more piece.
+// it grows to the request's end and one more piece. A long piece that ends its request begins a
+// block that the two fill: room that is left is zeroed first, and the payload takes most of it.
 pub(crate) fn append(buffer: &mut BytesMut, piece: &[u8]) -> Result<(), AllocError>
     ensures ok { OnOk result (buffer.new.items ≡ buffer.old.items ++ piece.now) }
     ensures room { OnOk result (buffer.old.spare ≤ buffer.new.spare + length piece.now) }
@@ -23,6 +27,9 @@ pub(crate) fn append(buffer: &mut BytesMut, piece: &[u8]) -> Result<(), AllocErr
 {
     if buffer.capacity() - buffer.len() < piece.len() {
         let missing = missing_len(buffer.as_slice());
+        if missing <= piece.len() && LONG_PIECE <= piece.len() && buffer.len() <= piece.len() {
+            return append_anew(buffer, piece);
+        }
         let part = (buffer.len() + missing) / FIRST_PART;
         let has_come = part <= buffer.len() && buffer.len() - part < piece.len();
         if has_come && piece.len() < missing {
@@ -30,6 +37,20 @@ pub(crate) fn append(buffer: &mut BytesMut, piece: &[u8]) -> Result<(), AllocErr
         }
     }
     buffer.extend_from_slice(piece)
+}
+
+// Appends the piece in a new block with memory for both and no more.
+fn append_anew(buffer: &mut BytesMut, piece: &[u8]) -> Result<(), AllocError>
+    requires { buffer.old.spare < length piece.now }
+    ensures ok { OnOk result (buffer.new.items ≡ buffer.old.items ++ piece.now) }
+    ensures err { OnErr result (buffer.new.items ≡ buffer.old.items) }
+{
+    let alloc = *buffer.allocator();
+    let mut block = Vec::with_capacity(alloc, buffer.len() + piece.len())?;
+    block.extend_from_slice(buffer.as_slice())?;
+    block.extend_from_slice(piece)?;
+    *buffer = BytesMut::from_vec(block);
+    Ok(())
 }
 
 // Moves the bytes to a block with memory for this many more and no others, if that is there.

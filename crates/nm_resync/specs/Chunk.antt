@@ -1,5 +1,5 @@
 -- The open chunk of a copy, and the buffer that it is read into.
-use Rattle.std.specs.Prelude.{◌≡◌, ℕ, ◌-◌, ◌<◌, ◌≤◌, Option, None, Some, IfSome}
+use Rattle.std.specs.Prelude.{◌≡◌, ℕ, ◌-◌, ◌*◌, ◌<◌, ◌≤◌, Option, None, Some, IfSome}
 use Rattle.std.specs.Prelude.{List, [], length, replicate}
 use Rattle.nm_replay.specs.declared.block.Block.{Block}
 
@@ -9,12 +9,12 @@ pub record Chunk : Type 0 where
   pub blocks : List Block
   pub written : ℕ
 
--- the most blocks that a chunk may have, the open chunk, and what stands in the buffer where the
--- next block is read into
+-- the most blocks that a chunk may have, the open chunk, and the bytes that stand in the buffer where
+-- the next blocks are read into
 pub record CopyBuffer : Type 0 where
   pub most : ℕ
   pub chunk : Option Chunk
-  pub slot : Block
+  pub rest : List ℕ
 
 -- a chunk closes with its last block, and all of it is read before any of it is written
 pub record IsChunk (most : ℕ) (chunk : Chunk) : Type 0 where
@@ -34,13 +34,9 @@ pub record IsCopyBuffer (c : CopyBuffer) : Type 0 where
   pub size : IsChunkSize c.most
   pub chunk : IfSome c.chunk (IsChunk c.most)
 
--- a block of zeros
-abbrev pub zero_block : Block
-zero_block = record { 0 = replicate 512 0 }
-
 -- a buffer for chunks of so many blocks, before the first
 abbrev pub empty : ℕ → CopyBuffer
-empty most = record { most = most; chunk = None; slot = zero_block }
+empty most = record { most = most; chunk = None; rest = replicate (512 * most) 0 }
 
 -- how many blocks the open chunk has: none where no chunk is open
 abbrev pub length_of : Option Chunk → ℕ

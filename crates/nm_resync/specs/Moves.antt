@@ -1,7 +1,8 @@
 -- What a copy does next, and the buffer that each move leaves.
 use Rattle.std.specs.Prelude.{ℕ, ◌+◌, ◌==◌, nat_lt, if◌then◌else◌, Option, None, Some}
-use Rattle.std.specs.Prelude.{[], ◌∷◌, ◌++◌, length}
+use Rattle.std.specs.Prelude.{List, [], ◌++◌, length}
 use Rattle.nm_replay.specs.declared.block.Block.{Block}
+use Rattle.nm_leg.specs.Leg.{cut_into}
 use Rattle.nm_resync.specs.declared.copy_move.Move.{Move}
 use Rattle.nm_resync.specs.declared.copy_move.Move.TheVariants.{Open, Read, Write}
 use Rattle.nm_resync.specs.Chunk.{Chunk, CopyBuffer}
@@ -40,31 +41,31 @@ abbrev pub opened : ℕ → CopyBuffer → CopyBuffer
 opened blocks c =
     record c { chunk = Some (record { length = blocks; blocks = []; written = 0 }) }
 
--- the chunk once this block of it is read too
-abbrev pub after_read : Block → Option Chunk → Option Chunk
-after_read bytes None = None
-after_read bytes (Some chunk) = Some (record chunk { blocks = chunk.blocks ++ bytes ∷ [] })
+-- the chunk once these blocks of it are read too
+abbrev pub after_read : List Block → Option Chunk → Option Chunk
+after_read found None = None
+after_read found (Some chunk) = Some (record chunk { blocks = chunk.blocks ++ found })
 
--- the block in the slot is the chunk's next one
-abbrev pub filled : CopyBuffer → CopyBuffer
-filled c = record c { chunk = after_read c.slot c.chunk }
+-- so many blocks that stand in the buffer are the chunk's next ones
+abbrev pub filled : ℕ → CopyBuffer → CopyBuffer
+filled count c = record c { chunk = after_read (cut_into count c.rest) c.chunk }
 
--- the chunk once one more block of it is written: it closes with its last one
-abbrev pub after_write : Option Chunk → Option Chunk
-after_write None = None
-after_write (Some chunk) =
-    if chunk.written + 1 == chunk.length then None
-    else Some (record chunk { written = chunk.written + 1 })
+-- the chunk once so many more blocks of it are written: it closes with its last one
+abbrev pub after_write : ℕ → Option Chunk → Option Chunk
+after_write count None = None
+after_write count (Some chunk) =
+    if chunk.written + count == chunk.length then None
+    else Some (record chunk { written = chunk.written + count })
 
--- one more block of the chunk is written
-abbrev pub block_written : CopyBuffer → CopyBuffer
-block_written c = record c { chunk = after_write c.chunk }
+-- so many more blocks of the chunk are written
+abbrev pub blocks_written : ℕ → CopyBuffer → CopyBuffer
+blocks_written count c = record c { chunk = after_write count c.chunk }
 
--- the length of the chunk that closes as one more block of it is written
-abbrev pub closed_by_write : Option Chunk → Option ℕ
-closed_by_write None = None
-closed_by_write (Some chunk) =
-    if chunk.written + 1 == chunk.length then Some chunk.length else None
+-- the length of the chunk that closes as so many more blocks of it are written
+abbrev pub closed_by_write : ℕ → Option Chunk → Option ℕ
+closed_by_write count None = None
+closed_by_write count (Some chunk) =
+    if chunk.written + count == chunk.length then Some chunk.length else None
 
 -- no chunk is open
 abbrev pub dropped : CopyBuffer → CopyBuffer

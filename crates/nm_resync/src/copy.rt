@@ -1,14 +1,17 @@
-ghost use Rattle.std.specs.Prelude.{◌≡◌, ◌<◌, ◌≤◌, None, Some, slice_get, IfOk};
+#![tactic(auto, using(crate::proofs::BytesLemmas::cut_long, crate::proofs::BytesLemmas::is_buffer))]
+
+ghost use Rattle.std.specs.Prelude.{◌≡◌, ◌+◌, ◌*◌, ◌<◌, ◌≤◌, None, length, take, drop, IfOk};
 ghost use Rattle.std.specs.Borrow.{sem};
+ghost use Rattle.nm_leg.specs.Leg.{cut_into};
 ghost use Rattle.nm_resync.specs.Chunk.{IsChunkSize, IsCopyBuffer, empty, length_of, blocks_of};
 ghost use Rattle.nm_resync.specs.Chunk.{written_of, buffered_of};
 ghost use Rattle.nm_resync.specs.Moves.{next_move, IsRead, IsWrite, Reads, opened, filled};
-ghost use Rattle.nm_resync.specs.Moves.{block_written, closed_by_write, dropped};
+ghost use Rattle.nm_resync.specs.Moves.{blocks_written, closed_by_write, dropped};
 ghost use Rattle.nm_resync.specs.Work.{chunk_length};
 
 use crate::copy_move::Move;
 use crate::open_chunk::OpenChunk;
-use nm_replay::{Block, Memory};
+use nm_replay::{BLOCK_BYTES, Memory};
 use std::alloc::Global;
 use std::marker::Model;
 
@@ -21,8 +24,10 @@ pub const MOST_CHUNK: u64 = 65_536;
 /// before the first is written to the leg, and the chunk closes with its last block.
 #[derive(Drop)]
 pub struct Copy {
-    /// A place for each block of a chunk: one that is read stays there until the chunk closes.
-    slots: Vec<Block>,
+    /// How many blocks a chunk has at most.
+    most: u64,
+    /// Places for so many blocks: one that is read stays there until the chunk closes.
+    bytes: Vec<u8>,
     chunk: Option<OpenChunk>,
 }
 
@@ -32,22 +37,27 @@ impl Model for Copy {
 
     ghost Value = { CopyBuffer };
 
-    ghost view = { λ c. buffer_of c.slots.items c.chunk };
+    ghost view = { λ c. buffer_of c.most c.bytes.items c.chunk };
 
-    ghost invariant = { λ c. IsInside c.slots.items c.chunk };
+    ghost invariant = { λ c. IsInside c.most c.bytes.items c.chunk };
 }
 
 impl Copy {
-    ghost use Rattle.nm_resync.specs.Lending.{LendsSlot};
+    ghost use Rattle.nm_resync.specs.Lending.{LendsSlots};
 
     /// A buffer for chunks of at most so many blocks. No later call takes memory.
     pub fn new(alloc: Global, most: u64) -> Result<Copy, Memory>
         requires size { IsChunkSize most }
         ensures ok { IfOk result (λ copy. copy ≡ empty most) }
     {
-        let mut slots = Vec::with_capacity(alloc, most as usize)?;
-        slots.resize(most as usize, Block::ZERO)?;
-        Ok(Copy { slots, chunk: None })
+        let long = BLOCK_BYTES * most as usize;
+        let mut bytes = Vec::with_capacity(alloc, long)?;
+        bytes.resize(long, 0)?;
+        Ok(Copy {
+            most,
+            bytes,
+            chunk: None,
+        })
     }
 
     /// How many blocks a chunk has at most.
@@ -55,7 +65,7 @@ impl Copy {
         ensures most { result ≡ self.now.most }
         ensures buffer { IsCopyBuffer self.now }
     {
-        self.slots.len() as u64
+        self.most
     }
 
     /// How many blocks a chunk has that opens at the cursor of a region of so many blocks.
@@ -91,6 +101,17 @@ impl Copy {
         }
     }
 
+    /// How many blocks of the open chunk are read.
+    fn blocks_read(&self) -> u64
+        ensures read { result ≡ length (blocks_of self.now.chunk) }
+        ensures buffer { IsCopyBuffer self.now }
+    {
+        match self.chunk {
+            None => 0,
+            Some(chunk) => chunk.read,
+        }
+    }
+
     /// How many blocks of the open chunk are written.
     pub fn blocks_written(&self) -> u64
         ensures written { result ≡ written_of self.now.chunk }
@@ -113,12 +134,17 @@ impl Copy {
         }
     }
 
-    /// The chunk's block of this number, which is to be written next.
-    pub fn block(&self, number: u64) -> &Block
+    /// So many of the chunk's blocks, from the one of this number on, which is to be written next.
+    pub fn blocks(&self, number: u64, count: u64) -> &[u8]
         requires next { next_move self.now ≡ Move.Write number }
-        ensures { slice_get (blocks_of self.now.chunk) number ≡ Some result.now }
+        requires within { number + count ≤ length_of self.now.chunk }
+        ensures blocks { cut_into count result.now
+            ≡ take count (drop number (blocks_of self.now.chunk)) }
+        ensures long { length result.now ≡ 512 * count }
     {
-        &self.slots[number as usize]
+        let bytes = &self.bytes;
+        let from = BLOCK_BYTES * number as usize;
+        &bytes[from..from + BLOCK_BYTES * count as usize]
     }
 
     /// A chunk of so many blocks is opened. None is open yet.
@@ -137,46 +163,51 @@ impl Copy {
         });
     }
 
-    /// Lends the place that the next block is read into, also before its chunk is opened. What is
-    /// written there counts for nothing until `fill`: so after a read that fails nothing is undone.
-    pub fn slot(&mut self) -> &mut Block
+    /// Lends the places that the next blocks are read into, so many, also before their chunk is
+    /// opened. What is written there counts for nothing until `fill`: so after a read that fails
+    /// nothing is undone.
+    pub fn read_slots(&mut self, count: u64) -> &mut [u8]
         requires reads { Reads (next_move self.old) }
-        ensures* slot { sem 𝓛 (LendsSlot self.entry result) }
-        ensures was { result.now ≡ self.old.slot }
+        requires within { length (blocks_of self.old.chunk) + count ≤ self.old.most }
+        ensures* slots { sem 𝓛 (LendsSlots self.entry result) }
+        ensures was { result.now ≡ take (512 * count) self.old.rest }
+        ensures long { length result.now ≡ 512 * count }
     {
-        let at = match self.chunk {
-            None => 0,
-            Some(chunk) => chunk.read as usize,
-        };
-        &mut self.slots[at]
+        let from = BLOCK_BYTES * self.blocks_read() as usize;
+        self.bytes
+            .slice_mut(from..from + BLOCK_BYTES * count as usize)
     }
 
-    /// The chunk's next block is read: it stands in the slot. Nothing is said of the slot after it.
-    pub fn fill(&mut self)
+    /// So many of the chunk's next blocks are read: they stand in the first places. Nothing is said
+    /// of the places after them.
+    pub fn fill(&mut self, count: u64)
         requires reads { IsRead (next_move self.old) }
-        ensures filled { self.new ≡ record (filled self.old) { slot = self.new.slot } }
+        requires within { length (blocks_of self.old.chunk) + count ≤ length_of self.old.chunk }
+        ensures filled { self.new ≡ record (filled count self.old) { rest = self.new.rest } }
         ensures buffer { IsCopyBuffer self.new }
     {
         if let Some(chunk) = self.chunk {
             self.chunk = Some(OpenChunk {
-                read: chunk.read + 1,
+                read: chunk.read + count,
                 ..chunk
             });
         }
     }
 
-    /// The chunk's next block is written. Where that was its last one the chunk closes, and its
-    /// length is the result. Nothing is said of the slot after it.
-    pub fn wrote(&mut self) -> Option<u64>
+    /// So many of the chunk's next blocks are written. Where its last one is among them the chunk
+    /// closes, and its length is the result. Nothing is said of the places after it.
+    pub fn wrote(&mut self, count: u64) -> Option<u64>
         requires writes { IsWrite (next_move self.old) }
-        ensures closed { result ≡ closed_by_write self.old.chunk }
-        ensures written { self.new ≡ record (block_written self.old) { slot = self.new.slot } }
+        requires within { written_of self.old.chunk + count ≤ length_of self.old.chunk }
+        ensures closed { result ≡ closed_by_write count self.old.chunk }
+        ensures written { self.new ≡ record (blocks_written count self.old)
+            { rest = self.new.rest } }
         ensures buffer { IsCopyBuffer self.new }
     {
         match self.chunk {
-            Some(chunk) if chunk.written + 1 < chunk.blocks => {
+            Some(chunk) if chunk.written + count < chunk.blocks => {
                 self.chunk = Some(OpenChunk {
-                    written: chunk.written + 1,
+                    written: chunk.written + count,
                     ..chunk
                 });
                 None
@@ -189,9 +220,9 @@ impl Copy {
         }
     }
 
-    /// Drops the open chunk, where one is open. Nothing is said of the slot after it.
+    /// Drops the open chunk, where one is open. Nothing is said of the places after it.
     pub fn drop_chunk(&mut self)
-        ensures dropped { self.new ≡ record (dropped self.old) { slot = self.new.slot } }
+        ensures dropped { self.new ≡ record (dropped self.old) { rest = self.new.rest } }
         ensures buffer { IsCopyBuffer self.new }
     {
         self.chunk = None;

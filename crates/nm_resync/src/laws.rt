@@ -8,19 +8,19 @@ pub fn open_keeps_work()
     ensures { OpenKeepsWork }
 {}
 
-/// A block that is read lowers the work by one, and leaves what is left to copy.
+/// Blocks that are read lower the work by as many, and leave what is left to copy.
 pub fn read_lowers_work()
     ensures work { ReadLowersWork }
     ensures left { ReadKeepsLeft }
 {}
 
-/// A block that is written lowers the work by one, also where it closes the chunk.
+/// Blocks that are written lower the work by as many, also where they close the chunk.
 pub fn write_lowers_work()
     ensures stays_open { WriteLowersWork }
     ensures closes { CloseLowersWork }
 {}
 
-/// A block that is written lowers what is left to copy by one, also where it closes the chunk.
+/// Blocks that are written lower what is left to copy by as many, also where they close the chunk.
 pub fn write_lowers_left()
     ensures stays_open { WriteLowersLeft }
     ensures closes { CloseLowersLeft }

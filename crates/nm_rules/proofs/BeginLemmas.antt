@@ -167,7 +167,7 @@ module _ {L : Type 0} (type : LegType L) (old : StripeState L) (run block : ℕ)
   begin-chunk has_legs k = chunk-stays old begun_state old.copy old.chunk
       (λ c is. record {
         joining = is.joining;
-        lowest = ap (λ (l : LegRegions). leg_flags.lowest_behind l) (begin-attached c.leg (joining_attached type.model old has_legs c.leg is.joining)) ∙ is.lowest;
+        behind = ap (λ (l : LegRegions). leg_flags.is_behind c.region l) (begin-attached c.leg (joining_attached type.model old has_legs c.leg is.joining)) ∙ is.behind;
         within = is.within;
       })
       (λ c h is. record { long = is.long; some = is.some; most = is.most; more = is.more; read_first = is.read_first })

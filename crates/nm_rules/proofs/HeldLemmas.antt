@@ -58,7 +58,7 @@ module _ {A B : Type 0} (mine : A → Leg) (other : B → Leg) (honest : Bool) (
   held-array = ap (λ xs. laid_from 0 s.records xs) (h.contents s.master)
 
   held-copy : (c : CopyPlace) → IsCopy c s → IsCopy c z
-  held-copy c is = record { joining = is.joining; lowest = is.lowest; within = is.within }
+  held-copy c is = record { joining = is.joining; behind = is.behind; within = is.within }
 
   held-chunk : (c : Option CopyPlace) (k : Option Chunk) → HasChunk c k s → HasChunk c k z
   held-chunk None None has = tt

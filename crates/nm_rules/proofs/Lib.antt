@@ -42,6 +42,7 @@ pub mod LostLemmas
 pub mod LostStepLemmas
 pub mod LowLemmas
 pub mod MarkLemmas
+pub mod MoreLemmas
 pub mod MovedLemmas
 pub mod OpeningLemmas
 pub mod OutLemmas

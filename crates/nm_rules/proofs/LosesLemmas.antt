@@ -2,7 +2,6 @@
 -- for it once it has gone out.
 use Rattle.std.proofs.Common.{◌≡◌, ⊎_elim, inl, inr, ℕ, ◌≤◌, ◌+◌, ◌/◌, ◌*◌, ◌<◌, ◌&&◌, ◌||◌, zero, suc, Bool, true, false, not, IsTrue, List, [], ◌∷◌, length, Some, get_or, refl, sym, ap, ◌∙◌, subst, arith, cond, slice_get}
 use Rattle.std.proofs.lemmas.Bool.{cases_lt}
-use Rattle.std.proofs.lemmas.List.Quantifiers.{position-Some}
 use Rattle.std.proofs.lemmas.Nat.{div-mul-add}
 use Rattle.std.proofs.lemmas.Option.{same_Some}
 use Rattle.nm_replay.specs.declared.block.Block.{Block}
@@ -135,5 +134,5 @@ module _ {L : Type 0} (type : LegType L) (old : StripeState L) (legs : List L) (
       let in_region : copy.cursor + chunk.written < old.place.region = omega (arith, r.more, r.long) in
       let region_is : at / old.place.region ≡ copy.region =
       ap (λ (n : ℕ). n / old.place.region) (let e : at ≡ copy.region * old.place.region + (copy.cursor + chunk.written) = omega arith in e) ∙ div-mul-add copy.region old.place.region (copy.cursor + chunk.written) in_region in
-      let behind : is_behind copy.region (leg_at copy.leg (table old)) ≡ true = (position-Some (λ behind. behind) (leg_at copy.leg (table old)).behind copy.region false r.is_copy.lowest).1 in
+      let behind : is_behind copy.region (leg_at copy.leg (table old)) ≡ true = r.is_copy.behind in
       write-loses type succeeded old legs copy.leg at bytes.0 (marks.behind (at / old.place.region) (subst (λ (n : ℕ). is_behind n (leg_at copy.leg (table old)) ≡ true) (sym region_is) behind)) c.writes

@@ -128,7 +128,7 @@ module _ {L : Type 0} (type : LegType L) (old : StripeState L) (legs : List L) (
         records = record { in_order = mid.records.in_order; tickets = mid.records.tickets; one_writer = mid.records.one_writer; inside = mid.records.inside; landed = mid.records.landed; settling = mid.records.settling };
         writes = record { owed = mid.writes.owed; apart = mid.writes.apart; marked = mid.writes.marked };
         chunk = chunk-stays (with_legs type old legs) new old.copy old.chunk
-            (λ c is. record { joining = is.joining; lowest = is.lowest; within = is.within })
+            (λ c is. record { joining = is.joining; behind = is.behind; within = is.within })
             (λ c h is. record { long = is.long; some = is.some; most = is.most; more = is.more; read_first = is.read_first })
             mid.chunk;
         numbers = read-numbers;

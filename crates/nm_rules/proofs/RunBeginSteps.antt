@@ -1,5 +1,5 @@
 -- A begin of a run is a begin of each of its blocks, in order.
-use Rattle.std.proofs.Common.{◌≡◌, ◌≢◌, ℕ, suc, ◌+◌, ◌^◌, ◌<◌, ◌≤◌, ◌==◌, ◌&&◌, Bool, true, false, List, [], ◌∷◌, ◌++◌, length, None, Some, refl, sym, ap, ◌∙◌, subst, arith, cond, ne_eqb, length-append}
+use Rattle.std.proofs.Common.{◌≡◌, ◌≢◌, ℕ, suc, ◌+◌, ◌^◌, ◌<◌, ◌≤◌, ◌==◌, ◌&&◌, Bool, true, false, List, [], ◌∷◌, ◌++◌, length, None, Some, refl, sym, ap, ◌∙◌, subst, arith, cond, ne_eqb}
 use Rattle.nm_replay.specs.Array.{Entire, Span}
 use Rattle.nm_replay.specs.Events.{BeginsWrite, Event}
 use Rattle.nm_replay.specs.Events.{write_kind}

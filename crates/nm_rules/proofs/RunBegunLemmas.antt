@@ -10,7 +10,7 @@ use Rattle.nm_regions.specs.declared.copy_place.CopyPlace.{CopyPlace}
 use Rattle.nm_regions.specs.LegFlags.{LegRegions, marked, marked_if_out}
 use Rattle.nm_regions.specs.Table.{targets}
 use Rattle.nm_rules.specs.Begin.{after_begin}
-use Rattle.nm_rules.specs.RunBegin.{after_begin_run, begun_each, meets_copy}
+use Rattle.nm_rules.specs.RunBegin.{begun_each, meets_copy}
 use Rattle.nm_rules.specs.State.{Chunk, StripeState, is_current, table}
 use Rattle.nm_rules.proofs.BeginLemmas.{begin-current}
 use Rattle.nm_rules.proofs.RunBeginSteps.{begin_each}

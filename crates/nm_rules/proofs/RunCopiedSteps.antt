@@ -46,9 +46,9 @@ not-last old legs chunk more =
     ap (λ (v : Bool). cond v (record (with_table (chunk_copied chunk.length (table old)) old) { legs = legs; chunk = None }) (record old { legs = legs; chunk = Some (further chunk) })) other
 
 -- and its copy goes on
-goes-further : {L : Type 0} (old : StripeState L) (legs : List L) (leg : ℕ) (copy : CopyPlace) (chunk : Chunk) → GoesOn old leg copy chunk → GoesOn (written_on old legs chunk) leg copy (further chunk)
-goes-further old legs leg copy chunk on =
-    let rows = none_holds (copy_more_rows old leg) on.no_more_cause in
+goes-further : {L : Type 0} {from : ℕ} (old : StripeState L) (legs : List L) (leg : ℕ) (copy : CopyPlace) (chunk : Chunk) → GoesOn old leg from copy chunk → GoesOn (written_on old legs chunk) leg from copy (further chunk)
+goes-further {L} {from} old legs leg copy chunk on =
+    let rows = none_holds (copy_more_rows old leg from) on.no_more_cause in
     record {
       no_cause = on.no_cause;
       somewhere = on.somewhere;
@@ -64,14 +64,14 @@ module _ (honest : Bool) (leg : ℕ) (copy : CopyPlace) where
   abbrev here : StripeState Leg → Chunk → ℕ
   here s chunk = copy_start s.place.region copy + chunk.written
 
-  pub run-written : (bs : List Block) (b : Block) (s : StripeState Leg) (legs : List Leg) (chunk : Chunk) → Keeps T s → GoesOn s leg copy chunk → nat_lt (length chunk.blocks) chunk.length ≡ false
+  pub run-written : {from : ℕ} (bs : List Block) (b : Block) (s : StripeState Leg) (legs : List Leg) (chunk : Chunk) → Keeps T s → GoesOn s leg from copy chunk → nat_lt (length chunk.blocks) chunk.length ≡ false
       → HoldsRun chunk.written (b ∷ bs) chunk.blocks → chunk.written + suc (length bs) ≤ chunk.length → WritesRunAt T true copy.leg (here s chunk) (b ∷ bs) s.legs legs
       → RunCopied T s (copy_write_each s legs chunk (b ∷ bs)) leg (suc (length bs))
-  run-written [] b s legs chunk k on filled next room w =
+  run-written {from} [] b s legs chunk k on filled next room w =
       let new : StripeState Leg = after_copy_write s legs chunk in
       let called : CallsToCopyWrite T true s legs copy chunk b = record { filled = filled; next = next.0; writes = last-writes_at honest copy.leg (here s chunk) b s.legs legs w } in
       let same : new.legs ≡ legs = written-legs s legs chunk in
-      let c : CopiesWrite T s new leg = record {
+      let c : CopiesWrite T s new leg from = record {
         copy = copy;
         chunk = chunk;
         bytes = b;
@@ -80,10 +80,10 @@ module _ (honest : Bool) (leg : ℕ) (copy : CopyPlace) where
         after = ap (λ (ls : List Leg). after_copy_write s ls chunk) (sym same);
       } in
       record { keeps = copies-write-keeps T s new leg k c; acts = λ is_honest. copies-write-acts T s new leg k c; work_less = (copies-write-work T s new leg k c).work_less }
-  run-written (d ∷ bs) b s legs chunk k on filled next room w =
+  run-written {from} (d ∷ bs) b s legs chunk k on filled next room w =
       let mid : List Leg = mid_legs honest copy.leg (here s chunk) b (d ∷ bs) s.legs legs w in
       let new : StripeState Leg = written_on s mid chunk in
-      let c : CopiesWrite T s new leg = record {
+      let c : CopiesWrite T s new leg from = record {
         copy = copy;
         chunk = chunk;
         bytes = b;

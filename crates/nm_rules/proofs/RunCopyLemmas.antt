@@ -2,7 +2,6 @@
 -- piece. One whose read failed is a failed read of one block.
 use Rattle.std.proofs.Common.{◌≡◌, ⊎_elim, inl, ℕ, zero, suc, ◌+◌, ◌-◌, ◌*◌, ◌/◌, ◌<◌, ◌≤◌, ◌==◌, true, false, IsTrue, List, [], ◌∷◌, append_assoc, drop, length, length-drop, length-take-le, map, min, take, None, Some, refl, sym, ap, ◌∙◌, subst, arith, cond, slice_get}
 use Rattle.std.proofs.lemmas.Bool.Decides.{nat_tests}
-use Rattle.std.proofs.lemmas.List.Quantifiers.{position-Some}
 use Rattle.std.proofs.lemmas.Nat.{div-mul-add}
 use Rattle.nm_replay.specs.declared.block.Block.{Block}
 use Rattle.nm_choice.specs.declared.leg_state.LegState.{LegState}
@@ -68,7 +67,7 @@ held-taken at n xs = from at n (drop at xs) (λ i. slice_get-drop at i xs)
 
 module _ {L : Type 0} (type : LegType L) (old new : StripeState L) (leg most : ℕ) (k : Keeps type old) (some : 0 < most) where
   -- a step that read blocks
-  pub copies_read_run : (c : CopiesReadRun type old new leg most) → RunCopied type old new leg (length c.found)
+  pub copies_read_run : {from : ℕ} (c : CopiesReadRun type old new leg most from) → RunCopied type old new leg (length c.found)
   copies_read_run c = each c.found (omega (arith, some, short, c.called.count)) (omega (arith, short, c.called.count)) c.called.reads c.after
     where
       short : length c.chunk.blocks < c.chunk.length
@@ -83,13 +82,13 @@ module _ {L : Type 0} (type : LegType L) (old new : StripeState L) (leg most : �
           (run-copied type leg c.copy b bs old new.legs c.chunk k c.on room reads)
 
   -- it read at least one
-  pub copies_read_run-some : (c : CopiesReadRun type old new leg most) → 0 < length c.found
+  pub copies_read_run-some : {from : ℕ} (c : CopiesReadRun type old new leg most from) → 0 < length c.found
   copies_read_run-some c =
       let short : length c.chunk.blocks < c.chunk.length = grind (arith, nat_tests, c.called.not_filled) in
       omega (arith, some, short, c.called.count)
 
   -- a step that wrote blocks
-  module _ (c : CopiesWriteRun type old new leg most) where
+  module _ {from : ℕ} (c : CopiesWriteRun type old new leg most from) where
     abbrev bs : List Block
     bs = next_blocks most c.chunk
 
@@ -103,7 +102,7 @@ module _ {L : Type 0} (type : LegType L) (old new : StripeState L) (leg most : �
         length-take-le (min most (c.chunk.length - c.chunk.written)) (drop c.chunk.written c.chunk.blocks) (omega (arith, full, length-drop c.chunk.written c.chunk.blocks))
 
     -- as the legs are seen, the copy goes on too
-    on-seen : GoesOn (seen type.model old) leg c.copy c.chunk
+    on-seen : GoesOn (seen type.model old) leg from c.copy c.chunk
     on-seen = record { no_cause = c.on.no_cause; somewhere = c.on.somewhere; no_more_cause = c.on.no_more_cause; copy_is = c.on.copy_is; chunk_is = c.on.chunk_is }
 
     each : (cs : List Block) → 0 < length cs → c.chunk.written + length cs ≤ c.chunk.length → HoldsRun c.chunk.written cs c.chunk.blocks
@@ -142,7 +141,7 @@ any_block = block_of []
 
 module _ {L : Type 0} (type : LegType L) (old new : StripeState L) (leg most : ℕ) (k : Keeps type old) where
   -- a step whose read failed is one of a single block
-  read-lost : (gone : ℕ) (l : LosesInCopyRun type old new leg gone most) → gone ≡ old.master → CallsToCopyReadRun type false old new.legs l.copy l.chunk most l.found → LosesInCopy type old new leg gone
+  read-lost : {from : ℕ} (gone : ℕ) (l : LosesInCopyRun type old new leg gone most from) → gone ≡ old.master → CallsToCopyReadRun type false old new.legs l.copy l.chunk most l.found → LosesInCopy type old new leg gone from
   read-lost gone l is c = record {
     copy = l.copy;
     chunk = l.chunk;
@@ -160,7 +159,7 @@ module _ {L : Type 0} (type : LegType L) (old new : StripeState L) (leg most : �
   }
 
   -- also where the master was the last leg in sync
-  pub fails_in_copy_run-one : FailsInCopyRun type old new leg most → FailsInCopy type old new leg
+  pub fails_in_copy_run-one : {from : ℕ} → FailsInCopyRun type old new leg most from → FailsInCopy type old new leg from
   fails_in_copy_run-one f = record {
     copy = f.copy;
     chunk = f.chunk;
@@ -180,7 +179,7 @@ module _ {L : Type 0} (type : LegType L) (old new : StripeState L) (leg most : �
       let at : ℕ = copy_start old.place.region copy + chunk.written in
       let attached : is_out (leg_state copy.leg old) ≡ false = ap (λ (s : LegState). is_out s) r.is_copy.joining in
       let marks = dirty-marks type.model old copy.leg k.legs k.records (attached_inside type.model old k.legs copy.leg attached) in
-      let behind : is_behind copy.region (leg_at copy.leg (table old)) ≡ true = (position-Some (λ behind. behind) (leg_at copy.leg (table old)).behind copy.region false r.is_copy.lowest).1 in
+      let behind : is_behind copy.region (leg_at copy.leg (table old)) ≡ true = r.is_copy.behind in
       let few : length (next_blocks most chunk) ≤ chunk.length - chunk.written = omega (arith, take-most (min most (chunk.length - chunk.written)) (drop chunk.written chunk.blocks)) in
       run-loses type false old new.legs copy.leg at (next_blocks most chunk)
       (λ b low high.
@@ -191,7 +190,7 @@ module _ {L : Type 0} (type : LegType L) (old new : StripeState L) (leg most : �
       marks.behind (b / old.place.region) (subst (λ (n : ℕ). is_behind n (leg_at copy.leg (table old)) ≡ true) (sym region_is) behind))
       c.writes
 
-  module _ (gone : ℕ) (l : LosesInCopyRun type old new leg gone most) where
+  module _ {from : ℕ} (gone : ℕ) (l : LosesInCopyRun type old new leg gone most from) where
     known-of : Ready type old leg l.copy l.chunk
     known-of = ready-on type old leg l.copy l.chunk k l.on
 

@@ -1,5 +1,5 @@
 -- A read of several blocks of a chunk is a read of each of them, in order.
-use Rattle.std.proofs.Common.{◌≡◌, ℕ, suc, ◌+◌, ◌<◌, ◌≤◌, ◌==◌, Bool, true, not, IsTrue, List, [], ◌∷◌, ◌++◌, length, length-append, None, Some, refl, sym, ap, ◌∙◌, subst, arith, slice_get, slice_set, eq-eqb}
+use Rattle.std.proofs.Common.{◌≡◌, ℕ, suc, ◌+◌, ◌<◌, ◌≤◌, ◌==◌, ◌||◌, Bool, true, not, IsTrue, List, [], ◌∷◌, ◌++◌, length, length-append, None, Some, is_some, refl, sym, ap, ◌∙◌, subst, arith, slice_get, slice_set, eq-eqb}
 use Rattle.std.proofs.lemmas.Bool.Decides.{nat_tests}
 use Rattle.std.proofs.lemmas.List.{set-set}
 use Rattle.std.proofs.lemmas.Option.{slice_get_within}
@@ -9,6 +9,7 @@ use Rattle.nm_replay.proofs.Arrays.{slice_get-set_same}
 use Rattle.nm_leg.specs.Leg.{HoldsRun, LegType}
 use Rattle.nm_rules.specs.BlockCalls.{ReadsBlockAt}
 use Rattle.nm_regions.specs.declared.copy_place.CopyPlace.{CopyPlace}
+use Rattle.nm_regions.specs.Table.{next_behind}
 use Rattle.std.specs.Option.{option_or}
 use Rattle.nm_rules.specs.declared.refusal.Refusal.TheVariants.{OtherCopy}
 use Rattle.nm_rules.specs.Acts.{Acts}
@@ -16,7 +17,7 @@ use Rattle.nm_rules.specs.Cause.{when}
 use Rattle.nm_rules.specs.Copy.{CopiesRead, GoesOn, after_copy_read}
 use Rattle.nm_rules.specs.Invariant.{Keeps}
 use Rattle.nm_rules.specs.RunCalls.{ReadsRunAt}
-use Rattle.nm_rules.specs.State.{Chunk, StripeState, copy_start, work}
+use Rattle.nm_rules.specs.State.{Chunk, StripeState, copy_start, table, work}
 use Rattle.nm_rules.proofs.ActsLemmas.{acts-append, acts-none}
 use Rattle.nm_rules.proofs.CopySteps.{copies-read-acts, copies-read-keeps, goes-ready}
 use Rattle.nm_rules.proofs.RunCallLemmas.{first-read}
@@ -37,13 +38,13 @@ abbrev pub longer : Chunk → Block → Chunk
 longer chunk b = record chunk { blocks = chunk.blocks ++ b ∷ [] }
 
 -- once a chunk is open its copy goes on, with the next block
-goes-next : {L : Type 0} (type : LegType L) (old : StripeState L) (legs : List L) (leg : ℕ) (copy : CopyPlace) (chunk : Chunk) (b : Block) → Keeps type old → GoesOn old leg copy chunk → GoesOn (after_copy_read old legs copy chunk b) leg copy (longer chunk b)
-goes-next type old legs leg copy chunk b k on =
+goes-next : {L : Type 0} {from : ℕ} (type : LegType L) (old : StripeState L) (legs : List L) (leg : ℕ) (copy : CopyPlace) (chunk : Chunk) (b : Block) → Keeps type old → GoesOn old leg from copy chunk → GoesOn (after_copy_read old legs copy chunk b) leg from copy (longer chunk b)
+goes-next {L} {from} type old legs leg copy chunk b k on =
     let ready = goes-ready type old leg copy chunk k on in
     let own : (copy.leg == leg) ≡ true = eq-eqb copy.leg leg ready.leg_is in
     record {
       no_cause = on.no_cause;
-      somewhere = on.somewhere;
+      somewhere = ap (λ (v : Bool). v || is_some (next_behind leg from (table old))) own;
       no_more_cause = ap (λ (v : Bool). option_or (when (not v) (OtherCopy copy.leg)) None) own;
       copy_is = refl;
       chunk_is = refl;
@@ -60,13 +61,13 @@ module _ {L : Type 0} (type : LegType L) (leg : ℕ) (copy : CopyPlace) where
   here s chunk = copy_start s.place.region copy + length chunk.blocks
 
   -- a block that is read, and then the others
-  then-rest : (s : StripeState L) (legs : List L) (chunk : Chunk) (b : Block) (bs : List Block) → Keeps type s → GoesOn s leg copy chunk → length chunk.blocks + suc (length bs) ≤ chunk.length
+  then-rest : {from : ℕ} (s : StripeState L) (legs : List L) (chunk : Chunk) (b : Block) (bs : List Block) → Keeps type s → GoesOn s leg from copy chunk → length chunk.blocks + suc (length bs) ≤ chunk.length
       → ReadsBlockAt type true s.master (here s chunk) s.legs legs b
       → (Keeps type (after_copy_read s legs copy chunk b) → RunCopied type (after_copy_read s legs copy chunk b) (copy_read_each s legs copy chunk (b ∷ bs)) leg (length bs))
       → RunCopied type s (copy_read_each s legs copy chunk (b ∷ bs)) leg (suc (length bs))
-  then-rest s legs chunk b bs k on room reads go =
+  then-rest {from} s legs chunk b bs k on room reads go =
       let short : length chunk.blocks < chunk.length = omega (arith, room) in
-      let c : CopiesRead type s (after_copy_read s legs copy chunk b) leg = record {
+      let c : CopiesRead type s (after_copy_read s legs copy chunk b) leg from = record {
         copy = copy;
         chunk = chunk;
         bytes = b;
@@ -86,7 +87,7 @@ module _ {L : Type 0} (type : LegType L) (leg : ℕ) (copy : CopyPlace) where
   place-next : (s : StripeState L) (chunk : Chunk) (b : Block) → here s chunk + 1 ≡ here s (longer chunk b)
   place-next s chunk b = omega (arith, length-append chunk.blocks (b ∷ []))
 
-  rest-copied : (bs : List Block) (s : StripeState L) (chunk : Chunk) → Keeps type s → GoesOn s leg copy chunk → length chunk.blocks + length bs ≤ chunk.length → AtRest type s.master 0 some_turn (here s chunk) bs s.legs
+  rest-copied : {from : ℕ} (bs : List Block) (s : StripeState L) (chunk : Chunk) → Keeps type s → GoesOn s leg from copy chunk → length chunk.blocks + length bs ≤ chunk.length → AtRest type s.master 0 some_turn (here s chunk) bs s.legs
       → RunCopied type s (copy_read_each s s.legs copy chunk bs) leg (length bs)
   rest-copied [] s chunk k on room r = record { keeps = k; acts = λ is_honest. acts-none type.model s k.numbers.most; work_less = omega arith }
   rest-copied (b ∷ bs) s chunk k on room r =
@@ -96,7 +97,7 @@ module _ {L : Type 0} (type : LegType L) (leg : ℕ) (copy : CopyPlace) where
       (record { after = r.after; now = r.now; same = r.same; holds = λ is_honest. (r.holds is_honest).1 })))
 
   -- the master is called once for all of them
-  pub run-copied : (b : Block) (bs : List Block) (s : StripeState L) (legs : List L) (chunk : Chunk) → Keeps type s → GoesOn s leg copy chunk → length chunk.blocks + suc (length bs) ≤ chunk.length
+  pub run-copied : {from : ℕ} (b : Block) (bs : List Block) (s : StripeState L) (legs : List L) (chunk : Chunk) → Keeps type s → GoesOn s leg from copy chunk → length chunk.blocks + suc (length bs) ≤ chunk.length
       → ReadsRunAt type true s.master (here s chunk) (b ∷ bs) s.legs legs
       → RunCopied type s (copy_read_each s legs copy chunk (b ∷ bs)) leg (suc (length bs))
   run-copied b bs s legs chunk k on room w =

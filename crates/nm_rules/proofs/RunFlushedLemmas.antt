@@ -154,7 +154,7 @@ module _ {L : Type 0} (type : LegType L) (old new : StripeState L) (b : ℕ) (wa
         (parts-of_new f.after (record { free = was_free; master = refl; states = refl }))
 
     -- a copy's read of the master
-    pub copies_read_run-durable : (leg most : ℕ) → CopiesReadRun type old new leg most → KeepsDurable type.model b old new
+    pub copies_read_run-durable : {from : ℕ} (leg most : ℕ) → CopiesReadRun type old new leg most from → KeepsDurable type.model b old new
     copies_read_run-durable leg most c =
         let r = c.called.reads in
         called-same old.master r.before r.after r.change (ap (λ xs. slice_get xs b) (r.reads.contents is_honest)) (ap (λ xs. slice_get xs b) (r.reads.durable is_honest))
@@ -162,7 +162,7 @@ module _ {L : Type 0} (type : LegType L) (old new : StripeState L) (b : ℕ) (wa
 
   module _ (k : Keeps type old) where
     -- a copy writes to a leg that is joining, so neither to the master nor to any leg in sync
-    pub copies_write_run-durable : (leg most : ℕ) → CopiesWriteRun type old new leg most → KeepsDurable type.model b old new
+    pub copies_write_run-durable : {from : ℕ} (leg most : ℕ) → CopiesWriteRun type old new leg most from → KeepsDurable type.model b old new
     copies_write_run-durable leg most c =
         let w = c.called.writes in
         let joins = (ready-on type old leg c.copy c.chunk k c.on).is_copy.joining in
@@ -183,7 +183,7 @@ module _ {L : Type 0} (type : LegType L) (old new : StripeState L) (b : ℕ) (wa
           called-durable type old new b was_free k kn is_honest inside leg w.before w.after w.change (may_push_run old ticket leg l.called.no_cause).runs
           (parts-of type old new b was_free k kn is_honest inside leg new.legs l.after)
 
-      pub loses_in_copy_run-durable : (leg gone most : ℕ) → LosesInCopyRun type old new leg gone most → KeepsDurable type.model b old new
+      pub loses_in_copy_run-durable : {from : ℕ} (leg gone most : ℕ) → LosesInCopyRun type old new leg gone most from → KeepsDurable type.model b old new
       loses_in_copy_run-durable leg gone most l =
           let runs = (may_copy old leg l.on.no_cause).runs in
           let parts = parts-of type old new b was_free k kn is_honest inside gone new.legs l.after in

@@ -85,17 +85,17 @@ module _ {L : Type 0} (type : LegType L) (old new : StripeState L) where
       let r = f.called.reads in
       record { place = ap (λ (s : StripeState L). s.place) f.after; legs = calls-length type.model old.legs new.legs f.leg r.before r.after r.change }
 
-  pub copies_read_run-shape : (leg most : ℕ) → CopiesReadRun type old new leg most → SameShape old new
+  pub copies_read_run-shape : {from : ℕ} (leg most : ℕ) → CopiesReadRun type old new leg most from → SameShape old new
   copies_read_run-shape leg most c =
       let r = c.called.reads in
       record { place = ap (λ (s : StripeState L). s.place) c.after; legs = calls-length type.model old.legs new.legs old.master r.before r.after r.change }
 
-  pub copies_write_run-shape : (leg most : ℕ) → CopiesWriteRun type old new leg most → SameShape old new
+  pub copies_write_run-shape : {from : ℕ} (leg most : ℕ) → CopiesWriteRun type old new leg most from → SameShape old new
   copies_write_run-shape leg most c =
       let w = c.called.writes in
       record { place = ap (λ (s : StripeState L). s.place) c.after ∙ copied-place old new.legs c.chunk (length (next_blocks most c.chunk)); legs = calls-length type.model old.legs new.legs c.copy.leg w.before w.after w.change }
 
-  pub loses_in_copy_run-shape : (leg gone most : ℕ) → LosesInCopyRun type old new leg gone most → SameShape old new
+  pub loses_in_copy_run-shape : {from : ℕ} (leg gone most : ℕ) → LosesInCopyRun type old new leg gone most from → SameShape old new
   loses_in_copy_run-shape leg gone most l =
       lost-shape type old new gone
       (⊎_elim (λ read. calls-length type.model old.legs new.legs old.master read.1.reads.before read.1.reads.after read.1.reads.change)
@@ -126,15 +126,15 @@ module _ {L : Type 0} (type : LegType L) (old new : StripeState L) where
     finds_run-work block bs names f = same-parts j old new f.after refl refl refl refl
 
     -- a step of the copy of another leg
-    pub copies_read_run-work : (leg most : ℕ) → Keeps type old → j ≢ leg → CopiesReadRun type old new leg most → KeepsWork j old new
+    pub copies_read_run-work : {from : ℕ} (leg most : ℕ) → Keeps type old → j ≢ leg → CopiesReadRun type old new leg most from → KeepsWork j old new
     copies_read_run-work leg most k ne c =
         let leg_is : c.copy.leg ≡ leg = (ready-on type old leg c.copy c.chunk k c.on).leg_is in
         subst (λ (s : StripeState L). KeepsWork j old s) (sym c.after)
         (others-work j old (after_copy_read_run old new.legs c.copy c.chunk c.found) refl refl (goes-others j old new leg c.copy c.chunk ne c.on) (λ d is e. ne (sym e ∙ ap (λ (x : CopyPlace). x.leg) (sym (same_Some c.copy d is)) ∙ leg_is)))
 
-    pub copies_write_run-work : (leg most : ℕ) → j ≢ leg → CopiesWriteRun type old new leg most → KeepsWork j old new
+    pub copies_write_run-work : {from : ℕ} (leg most : ℕ) → j ≢ leg → CopiesWriteRun type old new leg most from → KeepsWork j old new
     copies_write_run-work leg most ne c =
         subst (λ (s : StripeState L). KeepsWork j old s) (sym c.after) (written-work j old new.legs c.chunk (length (next_blocks most c.chunk)) (goes-others j old new leg c.copy c.chunk ne c.on))
 
-    pub loses_in_copy_run-work : (leg gone most : ℕ) → leg_state j new ≡ Joining → LosesInCopyRun type old new leg gone most → KeepsWork j old new
+    pub loses_in_copy_run-work : {from : ℕ} (leg gone most : ℕ) → leg_state j new ≡ Joining → LosesInCopyRun type old new leg gone most from → KeepsWork j old new
     loses_in_copy_run-work leg gone most joins l = lost-step j old new new.legs gone joins l.after

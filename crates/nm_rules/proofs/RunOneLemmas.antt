@@ -1,6 +1,6 @@
 -- A run of one block may begin where the block may, and be read where the block may: so steps on a part of
 -- a block are steps on a run.
-use Rattle.std.proofs.Common.{◌≡◌, ℕ, ◌+◌, ◌^◌, ◌<◌, Bool, false, length, Option, None, refl, ap, ◌∙◌, arith, cond, nat_le}
+use Rattle.std.proofs.Common.{◌≡◌, ℕ, ◌+◌, ◌^◌, ◌<◌, Bool, false, Option, None, refl, ap, ◌∙◌, arith, cond, nat_le}
 use Rattle.std.specs.Option.{option_map, option_or}
 use Rattle.std.proofs.lemmas.Bool.Decides.{nat_tests}
 use Rattle.nm_fanout.specs.declared.write_record.Record.{Record}

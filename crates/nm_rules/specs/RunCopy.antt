@@ -53,30 +53,30 @@ pub record CallsToCopyWriteRun {L : Type 0} (type : LegType L) (succeeded : Bool
 
 -- a step that read blocks
 pub record CopiesReadRun {L : Type 0} (type : LegType L) (old new : StripeState L)
-    (leg most : ℕ) : Type 0 where
+    (leg most from : ℕ) : Type 0 where
   pub copy : CopyPlace
   pub chunk : Chunk
   pub found : List Block
-  pub on : GoesOn old leg copy chunk
+  pub on : GoesOn old leg from copy chunk
   pub called : CallsToCopyReadRun type true old new.legs copy chunk most found
   pub after : new ≡ after_copy_read_run old new.legs copy chunk found
 
 -- a step that wrote blocks
 pub record CopiesWriteRun {L : Type 0} (type : LegType L) (old new : StripeState L)
-    (leg most : ℕ) : Type 0 where
+    (leg most from : ℕ) : Type 0 where
   pub copy : CopyPlace
   pub chunk : Chunk
-  pub on : GoesOn old leg copy chunk
+  pub on : GoesOn old leg from copy chunk
   pub called : CallsToCopyWriteRun type true old new.legs copy chunk most
   pub after : new ≡ after_copy_write_run old new.legs chunk (length (next_blocks most chunk))
 
 -- a step whose call failed, of which this leg has gone out: the master in a read, else the leg
 pub record LosesInCopyRun {L : Type 0} (type : LegType L) (old new : StripeState L)
-    (leg gone most : ℕ) : Type 0 where
+    (leg gone most from : ℕ) : Type 0 where
   pub copy : CopyPlace
   pub chunk : Chunk
   pub found : List Block
-  pub on : GoesOn old leg copy chunk
+  pub on : GoesOn old leg from copy chunk
   pub called :
       ((gone ≡ old.master) × CallsToCopyReadRun type false old new.legs copy chunk most found)
       ⊎ ((gone ≡ leg) × CallsToCopyWriteRun type false old new.legs copy chunk most)
@@ -85,11 +85,11 @@ pub record LosesInCopyRun {L : Type 0} (type : LegType L) (old new : StripeState
 
 -- a step whose read failed at the master, the last leg in sync: no more than the leg changed
 pub record FailsInCopyRun {L : Type 0} (type : LegType L) (old new : StripeState L)
-    (leg most : ℕ) : Type 0 where
+    (leg most from : ℕ) : Type 0 where
   pub copy : CopyPlace
   pub chunk : Chunk
   pub found : List Block
-  pub on : GoesOn old leg copy chunk
+  pub on : GoesOn old leg from copy chunk
   pub called : CallsToCopyReadRun type false old new.legs copy chunk most found
   pub last : is_last old.master old ≡ true
   pub after : new ≡ record old { legs = new.legs }

@@ -1,7 +1,7 @@
 -- The records of a run. Each block has a record of its own, and says to which run it belongs: `run`
 -- gives the first ticket of a record's run.
 use Rattle.std.specs.Prelude.{◌≡◌, ℕ, ◌+◌, ◌%◌, ◌<◌, ◌≤◌, ◌^◌, ◌==◌, Bool, true, false}
-use Rattle.std.specs.Prelude.{List, [], ◌∷◌, count_by, filter, find, nat_lt, Option, Some}
+use Rattle.std.specs.Prelude.{List, [], ◌∷◌, filter, find, nat_lt, Option, Some}
 use Rattle.nm_fanout.specs.declared.write_record.Record.{Record}
 use Rattle.nm_fanout.specs.Record.{is_under_way, owes}
 use Rattle.nm_fanout.specs.Records.{find_record, unlanded}

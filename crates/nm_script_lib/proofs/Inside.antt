@@ -144,7 +144,7 @@ may_ask m (Get block count) asked stripe has inside is =
     rw (is, has.place) (room_fits m block count inside, filled_whole count 0)
 may_ask m (Fail leg) asked stripe has inside is = rw (is, has.legs) inside
 may_ask m (Attach leg) asked stripe has inside is = rw (is, has.legs) inside
-may_ask m (Copy leg) asked stripe has inside is = rw (is, has.legs) inside
+may_ask m (Copy leg most) asked stripe has inside is = rw (is, has.legs) inside
 may_ask m (Promote leg) asked stripe has inside is = rw (is, has.legs) inside
 may_ask m (Sync leg) asked stripe has inside is = rw (is, has.legs) inside
 may_ask m (Replace leg fill) asked stripe has inside is =
@@ -185,7 +185,13 @@ leg_steps_fit m = (
     (λ leg small. small),
     (
       (λ leg small fill byte. small),
-      ((λ leg small. small), ((λ leg small. small), ((λ leg small. small), looks_fit m))),
+      (
+        (λ leg small. (small, omega arith)),
+        (
+          (λ leg small most within. (small, omega (arith, within.0))),
+          ((λ leg small. small), ((λ leg small. small), looks_fit m)),
+        ),
+      ),
     ),
   ),
 )

@@ -12,8 +12,10 @@ use Rattle.nm_leg.specs.TestLegs.{of_fuse}
 use Rattle.nm_leg.specs.declared.fuse_leg.FuseLeg.{FuseLeg}
 use Rattle.nm_rules.specs.Array.{contents_at}
 use Rattle.nm_rules.specs.BlockCalls.{WritesBlockAt}
-use Rattle.nm_rules.specs.Comparing.{comparing, OpensCompared}
-use Rattle.nm_rules.proofs.ComparingLemmas.{Stage, blocks-moved, starts}
+use Rattle.nm_rules.specs.Comparing.{comparing}
+use Rattle.nm_rules.specs.RunComparing.{OpensComparedRuns}
+use Rattle.nm_rules.proofs.ComparingLemmas.{Stage, starts}
+use Rattle.nm_rules.proofs.RunComparingLemmas.{runs-moved}
 use Rattle.nm_rules.proofs.LegLemmas.{calls-length}
 use Rattle.nm_rules.proofs.OpeningLemmas.{opened-lengths}
 use Rattle.nm_script_lib.specs.declared.load.Load.{Load}
@@ -145,15 +147,14 @@ load_inside m loads load legs are fits = λ leg found.
 -- a stripe that was opened by comparing has the mirror's shape
 pub compared_shape : (m : MirrorLine) (loads : List Load) (legs : List FuseLeg) (master : ℕ)
     (stripe : MemStripe) → InRange m → AreLoadedLegs m loads legs → master < m.legs →
-    OpensCompared fuse_legs (comparing (place_of m) legs master m.first m.policy) stripe →
+    OpensComparedRuns fuse_legs (comparing (place_of m) legs master m.first m.policy) stripe →
     HasShape m stripe
 compared_shape m loads legs master stripe range are inside opens =
     let start : MemStripe = comparing (place_of m) legs master m.first m.policy in
     let stage : Stage fuse_legs (place_of m) legs master m.first m.policy m.blocks 0 opens.end =
-    blocks-moved fuse_legs (place_of m) legs master m.first m.policy range.region.0 m.blocks start opens.end
-    (omega arith)
-    (starts fuse_legs (place_of m) legs master m.first m.policy (omega (arith, inside, are.count)))
-    opens.compares in
+    subst (λ (n : ℕ). Stage fuse_legs (place_of m) legs master m.first m.policy n 0 opens.end) opens.all
+    (runs-moved fuse_legs (place_of m) legs master m.first m.policy range.region.0 opens.counts start opens.end
+    (starts fuse_legs (place_of m) legs master m.first m.policy (omega (arith, inside, are.count))) opens.compares) in
     subst (λ (s : MemStripe). HasShape m s) (sym opens.opens) (record {
       region = omega (arith, range.region.0);
       place = ap (λ (s : MemStripe). s.place) stage.rest;

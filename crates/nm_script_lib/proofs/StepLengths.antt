@@ -74,9 +74,9 @@ read_refused : (blocks : ℕ) (old new : MemStripe) (block : ℕ) (was left : Li
 read_refused blocks old new block was left given (ReadCause cause is stays) long = same blocks old new is long
 read_refused blocks old new block was left given (ReadFault is fails) long = fails.called.reads.change.lengths blocks long
 
-copy_refused : (blocks : ℕ) (old new : MemStripe) (leg : ℕ) (given : Refusal) → RefusesCopy fuse_legs old new leg given → Long blocks old → Long blocks new
-copy_refused blocks old new leg given (CopyCause cause is) long = same blocks old new is long
-copy_refused blocks old new leg given (CopyFault is fails) long = fails.called.reads.change.lengths blocks long
+copy_refused : (blocks : ℕ) (old new : MemStripe) (leg most from : ℕ) (given : Refusal) → RefusesCopy fuse_legs old new leg most from given → Long blocks old → Long blocks new
+copy_refused blocks old new leg most from given (CopyCause cause is) long = same blocks old new is long
+copy_refused blocks old new leg most from given (CopyFault is fails) long = fails.called.reads.change.lengths blocks long
 
 sync_refused : (blocks : ℕ) (old new : MemStripe) (leg : ℕ) (given : Refusal) → RefusesSync fuse_legs old new leg given → Long blocks old → Long blocks new
 sync_refused blocks old new leg given (SyncCause cause is) long = same blocks old new is long
@@ -107,10 +107,10 @@ step_lengths blocks (Replace leg part) (Joining left) old new size may is long =
     subst (λ (legs : List FuseLeg). EachHas of_fuse legs blocks) (sym (ap (λ (s : MemStripe). s.legs) is.0.after))
     (set_long blocks old.legs leg part may.0 (may.1 ∙ size) long)
 step_lengths blocks (Replace leg part) (Refused cause handed) old new size may is long = same blocks old new is.2 long
-step_lengths blocks (Copy leg) (Copied left) old new size may is long = ⊎_elim (λ read. read.called.reads.change.lengths blocks long) (λ write. write.called.writes.change.lengths blocks long) is.0
-step_lengths blocks (Copy leg) Nothing old new size may is long = same blocks old new is.1 long
-step_lengths blocks (Copy leg) (LegLost gone handed) old new size may is long = ⊎_elim (λ read. read.1.reads.change.lengths blocks long) (λ write. write.1.writes.change.lengths blocks long) is.0.called
-step_lengths blocks (Copy leg) (Refused cause handed) old new size may is long = copy_refused blocks old new leg cause is.0 long
+step_lengths blocks (Copy leg most from) (Copied moved left) old new size may is long = ⊎_elim (λ read. read.reads.called.reads.change.lengths blocks long) (λ write. write.writes.called.writes.change.lengths blocks long) is.0
+step_lengths blocks (Copy leg most from) Nothing old new size may is long = same blocks old new is.1 long
+step_lengths blocks (Copy leg most from) (LegLost gone handed) old new size may is long = ⊎_elim (λ read. read.1.reads.change.lengths blocks long) (λ write. write.1.writes.change.lengths blocks long) is.0.called
+step_lengths blocks (Copy leg most from) (Refused cause handed) old new size may is long = copy_refused blocks old new leg most from cause is.0 long
 step_lengths blocks (Promote leg) InSync old new size may is long = is.called.syncs.change.lengths blocks long
 step_lengths blocks (Promote leg) (LegLost gone handed) old new size may is long = is.0.1.called.syncs.change.lengths blocks long
 step_lengths blocks (Promote leg) (Refused cause handed) old new size may is long = same blocks old new is.2 long

@@ -36,7 +36,8 @@ leg_form m = keywords (
     (codes "fail", one (Below m.legs) (λ leg. Ask (Fail leg))) ∷
     (codes "attach", one (Below m.legs) (λ leg. Ask (Attach leg))) ∷
     (codes "replace", two (Below m.legs) Byte (λ leg fill. Ask (Replace leg fill))) ∷
-    (codes "copy", one (Below m.legs) (λ leg. Ask (Copy leg))) ∷
+    (codes "copy", one (Below m.legs) (λ leg. Ask (Copy leg 1))) ∷
+    (codes "copies", two (Below m.legs) (Within 1 (2 ^ 64 - 1)) (λ leg most. Ask (Copy leg most))) ∷
     (codes "promote", one (Below m.legs) (λ leg. Ask (Promote leg))) ∷
     (codes "sync", one (Below m.legs) (λ leg. Ask (Sync leg))) ∷ [])
     (look_form m)

@@ -19,7 +19,8 @@ use Rattle.nm_stripe.specs.declared.step.Step.TheVariants.{Fail as FailStep, Att
 use Rattle.nm_stripe.specs.declared.step.Step.TheVariants.{Replace as ReplaceStep, Copy as CopyStep}
 use Rattle.nm_stripe.specs.declared.step.Step.TheVariants.{Promote as PromoteStep, Sync as SyncStep}
 use Rattle.nm_rules.specs.State.{StripeState}
-use Rattle.nm_rules.specs.Comparing.{comparing, OpensCompared}
+use Rattle.nm_rules.specs.Comparing.{comparing}
+use Rattle.nm_rules.specs.RunComparing.{OpensComparedRuns}
 use Rattle.nm_rules.specs.Opening.{opened}
 use Rattle.nm_script_lib.specs.declared.fused_call.FusedCall.{FusedCall}
 use Rattle.nm_script_lib.specs.declared.load.Load.{Load}
@@ -107,7 +108,7 @@ abbrev pub IsOpened : MirrorLine → List Load → Option ℕ → MemStripe → 
 IsOpened m loads None stripe = IsNew m stripe
 IsOpened m loads (Some master) stripe =
     (legs : List FuseLeg) × AreLoadedLegs m loads legs
-    × OpensCompared fuse_legs (comparing (place_of m) legs master m.first m.policy) stripe
+    × OpensComparedRuns fuse_legs (comparing (place_of m) legs master m.first m.policy) stripe
 
 -- A load names a leg and a block that the mirror has.
 abbrev pub FitsLoad : MirrorLine → Load → Type 0
@@ -141,7 +142,7 @@ IsInside m (Ask (Get block count)) = FitsRun (place_of m) block count
 IsInside m (Ask (Fail leg)) = leg < m.legs
 IsInside m (Ask (Attach leg)) = leg < m.legs
 IsInside m (Ask (Replace leg fill)) = leg < m.legs
-IsInside m (Ask (Copy leg)) = leg < m.legs
+IsInside m (Ask (Copy leg most)) = (leg < m.legs) × (0 < most)
 IsInside m (Ask (Promote leg)) = leg < m.legs
 IsInside m (Ask (Sync leg)) = leg < m.legs
 IsInside m (Fuse leg call) = (leg < m.legs) × (0 < call)
@@ -166,7 +167,7 @@ IsAsked m (Read block) asked = asked ≡ ReadStep block (filled 1 0)
 IsAsked m (Get block count) asked = asked ≡ ReadStep block (filled count 0)
 IsAsked m (Fail leg) asked = asked ≡ FailStep leg
 IsAsked m (Attach leg) asked = asked ≡ AttachStep leg
-IsAsked m (Copy leg) asked = asked ≡ CopyStep leg
+IsAsked m (Copy leg most) asked = asked ≡ CopyStep leg most 0
 IsAsked m (Promote leg) asked = asked ≡ PromoteStep leg
 IsAsked m (Sync leg) asked = asked ≡ SyncStep leg
 IsAsked m (Replace leg fill) asked =

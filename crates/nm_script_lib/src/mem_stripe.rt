@@ -234,7 +234,7 @@ fn step_for(alloc: Global, mirror: &MirrorLine, step: StripeStep) -> Result<Step
         StripeStep::Get { block, count } => read_run(alloc, block, count),
         StripeStep::Fail { leg } => Ok(Step::Fail(leg)),
         StripeStep::Attach { leg } => Ok(Step::Attach(leg)),
-        StripeStep::Copy { leg } => Ok(Step::Copy(leg)),
+        StripeStep::Copy { leg, most } => Ok(Step::Copy(leg, most, 0)),
         StripeStep::Promote { leg } => Ok(Step::Promote(leg)),
         StripeStep::Sync { leg } => Ok(Step::Sync(leg)),
         StripeStep::Replace { leg, fill } => {

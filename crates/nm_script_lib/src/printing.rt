@@ -92,7 +92,7 @@ fn put_answer_text(text: &mut Vec<u8>, answer: &Answer<FuseLeg>) -> Result<(), A
         Answer::Failed => put(text, b"failed"),
         Answer::MasterChanged(master) => put_counted(text, b"master ", u64::from(*master)),
         Answer::Joining(blocks) => put_counted(text, b"joining ", *blocks),
-        Answer::Copied(blocks) => put_counted(text, b"copied ", *blocks),
+        Answer::Copied { moved: _, left } => put_counted(text, b"copied ", *left),
         Answer::Nothing => put(text, b"nothing"),
         Answer::InSync => put(text, b"insync"),
         Answer::Synced => put(text, b"synced"),

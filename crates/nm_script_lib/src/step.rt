@@ -75,9 +75,11 @@ pub enum StripeStep {
         leg: u8,
         fill: u8,
     },
-    /// `copy L`: one block is read or written for leg L, which is joining.
+    /// `copy L`, `copies L MOST`: one block, or up to MOST, are read or written for leg L, which is
+    /// joining.
     Copy {
         leg: u8,
+        most: u64,
     },
     /// `promote L`: leg L, which is joining, is called in sync.
     Promote {
@@ -128,7 +130,11 @@ fn leg_step_of(mirror: &MirrorLine, word: &[u8], words: &mut Words<'_>) -> Optio
         StripeStep::Replace { leg, fill }
     } else if is_word(word, b"copy") {
         let leg = words.below_u8(mirror.legs)?;
-        StripeStep::Copy { leg }
+        StripeStep::Copy { leg, most: 1 }
+    } else if is_word(word, b"copies") {
+        let leg = words.below_u8(mirror.legs)?;
+        let most = words.within(1, u64::MAX)?;
+        StripeStep::Copy { leg, most }
     } else if is_word(word, b"promote") {
         let leg = words.below_u8(mirror.legs)?;
         StripeStep::Promote { leg }

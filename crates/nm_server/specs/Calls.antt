@@ -3,7 +3,7 @@ use Rattle.std.specs.Prelude.{◌≡◌, ◌≤◌, ◌+◌, ◌*◌, ℕ, List,
 use Rattle.std.proofs.Common.{◌∙◌}
 use Rattle.nm_geometry.specs.declared.byte_range.ByteRange.{ByteRange}
 use Rattle.nm_geometry.specs.Geometry.{Geometry}
-use Rattle.nm_lanes.specs.declared.cause.Cause.{Cause}
+use Rattle.nm_lanes.specs.declared.call_error.CallError.{CallError}
 use Rattle.nm_lanes.specs.Cuts.{cuts_for, zeroes_for}
 use Rattle.nm_lanes.specs.Flushes.{HasFlushed, HasFlushedSome, IsStripeOf, Touches}
 use Rattle.nm_lanes.specs.Reads.{HasRead, HasReadSome}
@@ -57,7 +57,7 @@ Read L shape range bytes (Ok done) parts =
     HasRead {L = L} Follows shape (runs_of_range shape range) parts bytes
 Read L shape range bytes (Err Memory) parts = ⊥
 Read L shape range bytes (Err Io) parts =
-    (cause : Cause) × HasReadSome {L = L} Follows shape (runs_of_range shape range) parts cause
+    (cause : CallError) × HasReadSome {L = L} Follows shape (runs_of_range shape range) parts cause
 
 -- a write of these bytes to the runs of this range: all of it; nothing, out of memory; or some, and
 -- then a step ended it
@@ -66,7 +66,7 @@ Write L shape range bytes (Ok done) parts =
     HasWritten {L = L} Follows shape (cuts_for (runs_of_range shape range) bytes) parts
 Write L shape range bytes (Err Memory) parts = parts.1 ≡ parts.0
 Write L shape range bytes (Err Io) parts =
-    (cause : Cause)
+    (cause : CallError)
     × HasWrittenSome {L = L} Follows shape (cuts_for (runs_of_range shape range) bytes) parts cause
 
 -- zeroes written to the runs of this range, which takes no memory
@@ -75,7 +75,7 @@ Zero L shape range (Ok done) parts =
     HasWritten {L = L} Follows shape (zeroes_for (runs_of_range shape range)) parts
 Zero L shape range (Err Memory) parts = ⊥
 Zero L shape range (Err Io) parts =
-    (cause : Cause)
+    (cause : CallError)
     × HasWrittenSome {L = L} Follows shape (zeroes_for (runs_of_range shape range)) parts cause
 
 -- a sync, which takes no memory: each leg was synced in each of these stripes; or in some of them,
@@ -84,7 +84,7 @@ abbrev pub Sync : (L : Type 0) → Geometry → (ℕ → Type 0) → Answer → 
 Sync L shape Synced (Ok done) parts = HasFlushed {L = L} Follows shape.legs Synced parts
 Sync L shape Synced (Err Memory) parts = ⊥
 Sync L shape Synced (Err Io) parts =
-    (cause : Cause) × HasFlushedSome {L = L} Follows shape.legs Synced parts cause
+    (cause : CallError) × HasFlushedSome {L = L} Follows shape.legs Synced parts cause
 
 -- what a call does, answered so, through a pass that has a part for each stripe
 abbrev pub Acts : (L : Type 0) → Geometry → TargetCall → Parts → Type 0

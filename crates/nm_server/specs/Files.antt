@@ -15,4 +15,4 @@ pub record AreFiles (files : Files) : Type 0 where
 -- for, or one a region where there are fewer regions
 abbrev pub laid_over : (stripes : ℕ) → Files → Geometry
 laid_over stripes files =
-    geometry files.blocks 128 8 (min stripes (regions_for 128 files.blocks)) files.legs
+    geometry files.blocks 128 128 (min stripes (regions_for 128 files.blocks)) files.legs

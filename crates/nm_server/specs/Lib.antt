@@ -3,5 +3,7 @@ pub mod Calls
 pub mod Files
 pub mod Handshake
 pub mod Replies
+pub mod Rounds
 pub mod StartFault
 pub mod Starting
+pub mod Unread

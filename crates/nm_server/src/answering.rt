@@ -1,6 +1,7 @@
 //! The control port: lines in, lines out.
 
 use crate::ending::Quit;
+use crate::unread::UnreadList;
 use nm_commands::{ControlCommand, Fed, LineRoom, control_line};
 use nm_lanes::Gate;
 use nm_leg::LegPart;
@@ -84,12 +85,14 @@ fn say_bye(quit: Quit, text: &mut String) -> After {
 fn do_line<R: Wait + Clock, L: LegPart, G: Gate + Drop>(
     rt: &R,
     alloc: Global,
-    mirror: &Mirror<L, G>,
     line: &[u8],
+    mirror: &Mirror<L, G>,
+    unread: &UnreadList,
     text: &mut String,
 ) -> After {
     let put = match control_line(line) {
         ControlCommand::Status => put_status(rt, alloc, mirror, text),
+        ControlCommand::Unread => unread.put(rt, mirror.shape(), text),
         ControlCommand::Fail(leg) => put_fail(rt, mirror, leg.min(255) as u8, text),
         ControlCommand::Attach(leg) => put_attach(rt, mirror, leg.min(255) as u8, text),
         ControlCommand::Quit => return say_bye(Quit::WhenTheyLeave, text),
@@ -116,6 +119,7 @@ fn take_byte<R: Wait + Clock, O: Write, L: LegPart, G: Gate + Drop>(
     byte: u8,
     writer: &mut O,
     mirror: &Mirror<L, G>,
+    unread: &UnreadList,
 ) -> After {
     match room.feed(byte) {
         Fed::More => return After::GoOn,
@@ -123,7 +127,7 @@ fn take_byte<R: Wait + Clock, O: Write, L: LegPart, G: Gate + Drop>(
         Fed::Whole => (),
     }
     let mut text = String::new(alloc);
-    let after = do_line(rt, alloc, mirror, room.line(), &mut text);
+    let after = do_line(rt, alloc, room.line(), mirror, unread, &mut text);
     room.clear();
     if after == After::Close {
         return After::Close;
@@ -147,6 +151,7 @@ pub fn control<R: Wait + Clock, I: Read, O: Write, L: LegPart, G: Gate + Drop>(
     reader: &mut I,
     writer: &mut O,
     mirror: &Mirror<L, G>,
+    unread: &UnreadList,
 ) -> Option<Quit> {
     let mut room = LineRoom::new();
     let mut piece = [0u8; ROOM];
@@ -158,7 +163,7 @@ pub fn control<R: Wait + Clock, I: Read, O: Write, L: LegPart, G: Gate + Drop>(
             return None;
         }
         for byte in &piece[..count] {
-            match take_byte(rt, alloc, &mut room, *byte, writer, mirror) {
+            match take_byte(rt, alloc, &mut room, *byte, writer, mirror, unread) {
                 After::GoOn => (),
                 After::Close => return None,
                 After::Quit(quit) => return Some(quit),

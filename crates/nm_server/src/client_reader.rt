@@ -1,9 +1,9 @@
+use crate::client_stream::ClientStream;
 use crate::timed_stream::MOST_TRIES;
 use nm_workers::BusyPoll;
 use std::hint::spin_loop;
 use std::io;
 use std::io::{ErrorKind, Read};
-use std::net::TcpStream;
 use std::sync::atomic::{AtomicBool, Ordering};
 
 // How often a connection is asked for bytes before its reader sleeps: for about as long as a client
@@ -11,22 +11,22 @@ use std::sync::atomic::{AtomicBool, Ordering};
 const POLLS: u32 = 100;
 
 /// Reads a client's bytes, and can be polled for them. Once the server closes what is left, there
-/// are no more of them.
+/// are no more of them. A client whose bytes cannot be read has gone.
 #[derive(Drop)]
 pub struct ClientReader<'a> {
-    stream: &'a TcpStream,
+    client: &'a ClientStream,
     is_over: &'a AtomicBool,
 }
 
 impl<'a> ClientReader<'a> {
-    /// Reads from this stream. Nobody writes to it while it is polled.
-    pub fn new(stream: &'a TcpStream, is_over: &'a AtomicBool) -> Self {
-        ClientReader { stream, is_over }
+    /// Reads what this client sends. Nobody writes to it while it is polled.
+    pub fn new(client: &'a ClientStream, is_over: &'a AtomicBool) -> Self {
+        ClientReader { client, is_over }
     }
 
     // Whether a read would not wait.
     fn is_ready(&self) -> bool {
-        match self.stream.peek(&mut [0u8; 1]) {
+        match self.client.stream.peek(&mut [0u8; 1]) {
             Ok(_) => true,
             Err(fault) => !matches!(fault.kind(), ErrorKind::WouldBlock | ErrorKind::Interrupted),
         }
@@ -51,10 +51,14 @@ impl Read for ClientReader<'_> {
             if self.is_over.load(Ordering::SeqCst) {
                 return Ok(0);
             }
-            let mut stream = self.stream;
+            let mut stream = &self.client.stream;
             match stream.read(into) {
                 Err(fault) if fault.kind() == ErrorKind::Interrupted => (),
-                ended => return ended,
+                Err(fault) => {
+                    self.client.note_gone();
+                    return Err(fault);
+                }
+                Ok(count) => return Ok(count),
             }
         }
         Err(io::Error::from(ErrorKind::Interrupted))
@@ -65,11 +69,11 @@ impl BusyPoll for ClientReader<'_> {
     // The session's own thread polls, which writes the replies too: none meets a stream that does
     // not block.
     fn busy_poll(&mut self) -> bool {
-        if self.stream.set_nonblocking(true).is_err() {
+        if self.client.stream.set_nonblocking(true).is_err() {
             return false;
         }
         let ready = self.poll();
-        let _ = self.stream.set_nonblocking(false);
+        let _ = self.client.stream.set_nonblocking(false);
         ready
     }
 }

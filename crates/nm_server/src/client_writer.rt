@@ -1,28 +1,33 @@
+use crate::client_stream::ClientStream;
 use crate::timed_stream::MOST_TRIES;
 use std::io;
 use std::io::{ErrorKind, Write};
-use std::net::TcpStream;
 
-/// Writes a client's replies. A write that is interrupted is made again.
+/// Writes a client's replies. A write that is interrupted is made again. A client to which nothing
+/// can be written has gone.
 #[derive(Drop)]
 pub struct ClientWriter<'a> {
-    stream: &'a TcpStream,
+    client: &'a ClientStream,
 }
 
 impl<'a> ClientWriter<'a> {
-    /// Writes to this stream.
-    pub fn new(stream: &'a TcpStream) -> Self {
-        ClientWriter { stream }
+    /// Writes to this client.
+    pub fn new(client: &'a ClientStream) -> Self {
+        ClientWriter { client }
     }
 }
 
 impl Write for ClientWriter<'_> {
     fn write(&mut self, bytes: &[u8]) -> io::Result<usize> {
         for _ in 0..MOST_TRIES {
-            let mut stream = self.stream;
+            let mut stream = &self.client.stream;
             match stream.write(bytes) {
                 Err(fault) if fault.kind() == ErrorKind::Interrupted => (),
-                ended => return ended,
+                Err(fault) => {
+                    self.client.note_gone();
+                    return Err(fault);
+                }
+                Ok(count) => return Ok(count),
             }
         }
         Err(io::Error::from(ErrorKind::Interrupted))

@@ -5,6 +5,7 @@ use crate::control_places::{CONNECTIONS, ControlPlaces};
 use crate::control_stream::ControlStream;
 use crate::ending::{Ending, Quit};
 use crate::timed_stream::TimedStream;
+use crate::unread::UnreadList;
 use nm_lanes::Gate;
 use nm_leg::LegPart;
 use nm_mirror::Mirror;
@@ -74,11 +75,12 @@ fn serve_connection<R: Wait + Clock, L: LegPart, G: Gate + Drop>(
     places: &ControlPlaces,
     number: usize,
     mirror: &Mirror<L, G>,
+    unread: &UnreadList,
 ) -> Option<Quit> {
     let begun = Cell::new(Instant::now(rt).ok()?);
     let mut reader = one_way(rt, stream, &begun, places, number);
     let mut writer = one_way(rt, stream, &begun, places, number);
-    control(rt, alloc, &mut reader, &mut writer, mirror)
+    control(rt, alloc, &mut reader, &mut writer, mirror, unread)
 }
 
 /// Serves the connections that get the place of this number, one after the other, until the places
@@ -90,6 +92,7 @@ fn serve_seat<R, L: LegPart, G: Gate + Drop>(
     number: usize,
     clients: &TcpListener,
     mirror: &Mirror<L, G>,
+    unread: &UnreadList,
     ending: &Ending,
 )
 where
@@ -99,7 +102,7 @@ where
         let Some(stream) = places.take(rt, number) else {
             return;
         };
-        let asked = serve_connection(rt, alloc, &stream, places, number, mirror);
+        let asked = serve_connection(rt, alloc, &stream, places, number, mirror, unread);
         places.free(rt, number);
         let _ = stream.shutdown(Shutdown::Write);
         if let Some(quit) = asked {
@@ -137,6 +140,7 @@ pub fn serve_control<R, L: LegPart + Send, G: Gate + Drop + Sync>(
     listeners: (&TcpListener, &TcpListener),
     places: &ControlPlaces,
     mirror: &Mirror<L, G>,
+    unread: &UnreadList,
     ending: &Ending,
     has_ended: &AtomicBool,
 ) -> bool
@@ -147,7 +151,7 @@ where
     thread::scope(thread::scope_env(), rt, |scope| {
         for number in 0..CONNECTIONS {
             let start = scope.spawn(move || {
-                serve_seat(rt, alloc, places, number, clients, mirror, ending)
+                serve_seat(rt, alloc, places, number, clients, mirror, unread, ending)
             });
             if start.is_err() {
                 places.close(rt);

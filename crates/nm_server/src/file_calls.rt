@@ -13,6 +13,7 @@ use nm_session::TargetFault;
 use std::alloc::Global;
 use std::marker::{Send, Sync};
 use std::sync::Wait;
+use std::sync::atomic::AtomicBool;
 use std::thread::Threads;
 
 /// The mirror of the program, with the runtime whose threads are at work in its stripes.
@@ -39,13 +40,15 @@ impl<'a, R: Threads + Wait + Sync + Copy> MirrorCalls<Leg> for FileCalls<'a, R> 
         pass: &mut Pass<Leg>,
         call: MirrorCall,
         into: &mut [u8],
+        is_gone: Option<&AtomicBool>,
     ) -> Result<(), TargetFault> {
-        call_mirror(self.rt, self.alloc, self.mirror, pass, call, into)
+        call_mirror(self.rt, self.alloc, self.mirror, pass, call, into, is_gone)
     }
 }
 
 /// Makes this call of the mirror through the pass, a read's into the buffer. Refused memory is told
-/// as such, and a fault of the mirror as an I/O fault.
+/// as such, and a fault of the mirror as an I/O fault; so are zeroes that ended before their next
+/// region, since their client `is_gone`.
 pub fn call_mirror<R: Threads + Wait + Sync, L: LegPart + Send, G: Gate + Drop + Sync>(
     rt: &R,
     alloc: Global,
@@ -53,6 +56,7 @@ pub fn call_mirror<R: Threads + Wait + Sync, L: LegPart + Send, G: Gate + Drop +
     pass: &mut Pass<L>,
     call: MirrorCall,
     into: &mut [u8],
+    is_gone: Option<&AtomicBool>,
 ) -> Result<(), TargetFault>
     requires even { IsEven mirror.now.shape pass.old.parts.items }
     requires inside { IsInside mirror.now.shape call (length into.old) }
@@ -71,7 +75,7 @@ pub fn call_mirror<R: Threads + Wait + Sync, L: LegPart + Send, G: Gate + Drop +
                 Err(WriteFault::Io(_)) => Err(TargetFault::Io),
             }
         }
-        MirrorCall::Zero(offset, count) => match mirror.zero_at(rt, pass, offset, count) {
+        MirrorCall::Zero(offset, count) => match mirror.zero_at(rt, pass, offset, count, is_gone) {
             Ok(()) => Ok(()),
             Err(_) => Err(TargetFault::Io),
         },

@@ -5,9 +5,11 @@ ghost use Rattle.nm_geometry.specs.Geometry.{IsGeometry};
 ghost use Rattle.nm_server.specs.Files.{laid_over};
 
 use crate::counting_file::{BytesRead, CountingFile};
+use crate::leg_lines::LegLines;
+use crate::leg_trouble::LegTrouble;
 use crate::reason::Unopened;
 use crate::start_fault::StartFault;
-use nm_file_leg::{FileLeg, FileUser, ReadAhead, SharedFile};
+use nm_file_leg::{FileLeg, FileUser, SharedFile};
 use nm_geometry::{MOST_STRIPES, Shape};
 use nm_lanes::NoGate;
 use nm_mirror::Mirror;
@@ -28,24 +30,28 @@ const MOST_BLOCKS: u64 = 1 << 31;
 /// How many blocks a region has.
 const REGION: u64 = 128;
 
-/// How many blocks a chunk of a copy has.
-const CHUNK: u64 = 8;
-
-/// How many bytes are read at once where reads follow one another. A region has a whole number of
-/// these, so that none is read which belongs to another stripe.
-const AHEAD: u64 = 32 * BLOCK_BYTES;
+/// How many blocks a chunk of a copy has: a region, so that two calls copy it, and a copy that has
+/// no open chunk never stands inside a region.
+const CHUNK: u64 = REGION;
 
 /// A leg on a file.
-pub type Leg = FileLeg<ReadAhead<CountingFile>>;
+pub type Leg = FileLeg<CountingFile>;
 
 /// The mirror that the program serves.
 pub type FileMirror = Mirror<Leg, NoGate>;
+
+// A leg's file, and what of it failed last.
+#[derive(Drop)]
+struct LegFile {
+    shared: Arc<SharedFile<File>>,
+    trouble: Arc<LegTrouble>,
+}
 
 /// The legs' files, each opened once for all stripes and locked, so that no other server and no
 /// other leg uses it. Contracts see how many there are, and how many blocks each has.
 #[derive(Drop)]
 pub struct LegFiles {
-    files: Vec<Arc<SharedFile<File>>>,
+    files: Vec<LegFile>,
     blocks: u64,
 }
 
@@ -134,9 +140,12 @@ fn check_length<'a>(
 }
 
 // A leg's file for the stripes, of which there are at most so many.
-fn share(alloc: Global, file: File) -> Result<Arc<SharedFile<File>>, AllocError> {
+fn share(alloc: Global, file: File) -> Result<LegFile, AllocError> {
     let shared = SharedFile::new(alloc, file, MOST_STRIPES as usize)?;
-    Ok(Arc::new(alloc, shared)?)
+    Ok(LegFile {
+        shared: Arc::new(alloc, shared)?,
+        trouble: Arc::new(alloc, LegTrouble::new())?,
+    })
 }
 
 impl LegFiles {
@@ -177,6 +186,16 @@ impl LegFiles {
         Ok(LegFiles { files, blocks })
     }
 
+    /// The lines on these legs, by these names of their files.
+    pub fn lines(&self, alloc: Global, names: &[&str]) -> Result<Vec<LegLines>, AllocError> {
+        let mut lines = Vec::new(alloc);
+        for (leg, (file, name)) in self.files.iter().zip(names).enumerate() {
+            let trouble = Arc::try_clone(&file.trouble)?;
+            lines.push(LegLines::new(leg, format!(in alloc; "{name}")?, trouble))?;
+        }
+        Ok(lines)
+    }
+
     /// How many bytes all the files have.
     pub fn bytes(&self) -> u64
         ensures { result ≡ min (512 * self.now.blocks * self.now.legs) (2 ^ 64 - 1) }
@@ -204,8 +223,7 @@ impl LegFiles {
 
 // The leg of a stripe on this file.
 fn stripe_leg<'a>(
-    alloc: Global,
-    file: &Arc<SharedFile<File>>,
+    file: &LegFile,
     number: usize,
     shape: &Shape,
     stripe: u32,
@@ -214,16 +232,14 @@ fn stripe_leg<'a>(
     requires { stripe < shape.now.stripes }
     ensures own { IfOk result (λ leg. (leg.shape ≡ shape.now) × (leg.stripe ≡ stripe)) }
 {
-    let Ok(user) = FileUser::new(file, stripe as usize) else {
+    let bytes = shape.blocks.saturating_mul(BLOCK_BYTES);
+    let Ok(user) = FileUser::new(&file.shared, stripe as usize) else {
         return Err(StartFault::Memory);
     };
-    let Ok(counting) = CountingFile::new(user, read) else {
+    let Ok(counting) = CountingFile::new(user, bytes, read, &file.trouble) else {
         return Err(StartFault::Memory);
     };
-    let Ok(medium) = ReadAhead::new(alloc, counting, AHEAD) else {
-        return Err(StartFault::Memory);
-    };
-    match FileLeg::new(medium, shape, stripe) {
+    match FileLeg::new(counting, shape, stripe) {
         Ok(leg) => Ok(leg),
         Err(_) => Err(StartFault::CannotOpen(number, Unopened::Cut)),
     }
@@ -244,7 +260,7 @@ pub fn stripe_legs<'a>(
 {
     let mut legs = Vec::new(alloc);
     for number in 0..files.files.len() {
-        let leg = match stripe_leg(alloc, &files.files[number], number, shape, stripe, read) {
+        let leg = match stripe_leg(&files.files[number], number, shape, stripe, read) {
             Ok(leg) => leg,
             Err(fault) => return Err(fault),
         };

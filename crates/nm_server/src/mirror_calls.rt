@@ -9,6 +9,7 @@ use nm_mirror::Pass;
 use nm_session::TargetFault;
 use std::marker::{Model, PhantomData};
 use std::sync::Mutex;
+use std::sync::atomic::AtomicBool;
 
 /// The calls of a mirror, each through a pass of its shape.
 pub trait MirrorCalls<L> {
@@ -22,12 +23,14 @@ pub trait MirrorCalls<L> {
     fn layout(&self) -> &Shape
         ensures { result.now ≡ shape self.now };
 
-    /// Makes this call, a read's into the buffer. Any other call leaves the buffer alone.
+    /// Makes this call, a read's into the buffer. Any other call leaves the buffer alone. Zeroes may
+    /// end before their end once `is_gone`, where that is told.
     fn call_through(
         &self,
         pass: &mut Pass<L>,
         call: MirrorCall,
         into: &mut [u8],
+        is_gone: Option<&AtomicBool>,
     ) -> Result<(), TargetFault>
         requires ready { ready self.now }
         requires even { IsEven (shape self.now) pass.old.parts.items }

@@ -9,23 +9,27 @@ use bytes::Bytes;
 use nm_geometry::Shape;
 use nm_mirror::Pass;
 use nm_session::{Target, TargetFault};
+use std::sync::atomic::AtomicBool;
 
 /// A mirror as a session's target, through a pass that has a part for each of its stripes.
 #[derive(Drop)]
 pub struct MirrorTarget<'a, L, C: MirrorCalls<L> + Drop, H> {
     mirror: &'a ReadyMirror<L, C>,
     pass: &'a mut Pass<L>,
+    // Set once the client has gone, for which zeroes need not be written to their end.
+    is_gone: Option<&'a AtomicBool>,
     // Dropped with the target, once its session asks for nothing more.
     hang_up: H,
     ghost even: { IsEven mirror.now pass.now.parts.items },
 }
 
 impl<'a, L, C: MirrorCalls<L> + Drop, H: Drop> MirrorTarget<'a, L, C, H> {
-    /// The mirror through this pass; none where the pass is of another shape. `hang_up` is dropped
-    /// with the target.
+    /// The mirror through this pass; none where the pass is of another shape. Zeroes end before
+    /// their next region once `is_gone`. `hang_up` is dropped with the target.
     pub fn new(
         mirror: &'a ReadyMirror<L, C>,
         pass: &'a mut Pass<L>,
+        is_gone: Option<&'a AtomicBool>,
         hang_up: H,
     ) -> Option<MirrorTarget<'a, L, C, H>>
         ensures some { IsSome result ↔ IsEven mirror.now pass.old.parts.items }
@@ -38,6 +42,7 @@ impl<'a, L, C: MirrorCalls<L> + Drop, H: Drop> MirrorTarget<'a, L, C, H> {
         Some(MirrorTarget {
             mirror,
             pass,
+            is_gone,
             hang_up,
         })
     }
@@ -58,7 +63,8 @@ impl<'a, L, C: MirrorCalls<L> + Drop, H> MirrorTarget<'a, L, C, H> {
             (answered call into.new result ∷ [])
             (state_of self.new.mirror.now self.new.pass.now) }
     {
-        self.mirror.calls().call_through(self.pass, call, into)
+        let calls = self.mirror.calls();
+        calls.call_through(self.pass, call, into, self.is_gone)
     }
 }
 

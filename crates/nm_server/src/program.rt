@@ -4,6 +4,7 @@ ghost use Rattle.clap.specs.Values.{kind_of};
 ghost use Rattle.nm_server.specs.StartFault.{status_of, status_of_words};
 
 use crate::address::Address;
+use crate::copier::Copier;
 use crate::counting_file::BytesRead;
 use crate::leg_files::{FileMirror, Leg, LegFiles, stripe_legs};
 use crate::log_lines::LogLines;
@@ -77,7 +78,11 @@ fn open_mirror<'a>(
     }
     let stripes = open_asked(alloc, settings, &shape, legs)?;
     match Mirror::new(alloc, shape, stripes, NoGate) {
-        Ok(mirror) => Ok(mirror),
+        Ok(mirror) => {
+            // A thread for half of a request pays at no size over files (docs/PERFORMANCE.md).
+            mirror.keep_to_one_thread();
+            Ok(mirror)
+        }
         Err(_) => Err(StartFault::Memory),
     }
 }
@@ -148,6 +153,22 @@ fn passes_of<'a, R: Wait>(
     Ok(passes)
 }
 
+// The copier of the mirror, which tells of its legs by these names.
+fn copier_of<'a>(
+    alloc: Global,
+    mirror: &FileMirror,
+    files: &LegFiles,
+    names: &[&str],
+) -> Result<Copier, StartFault<'a>> {
+    let Ok(legs) = files.lines(alloc, names) else {
+        return Err(StartFault::Memory);
+    };
+    match Copier::new(alloc, mirror.shape(), legs) {
+        Ok(copier) => Ok(copier),
+        Err(_) => Err(StartFault::Memory),
+    }
+}
+
 // Tells where a socket listens, with the port that it got where any was asked for.
 fn tell_address<O: Write>(out: &mut O, words: &str, listener: &TcpListener, asked: Address<'_>) {
     let _ = match listener.local_addr() {
@@ -204,6 +225,7 @@ where
         settings.sessions,
     )?;
     let mirror = open_watched(rt, alloc, settings, &files, lines)?;
+    let copier = copier_of(alloc, &mirror, &files, &settings.legs)?;
     let mut passes = passes_of(rt, alloc, &mirror, settings.sessions)?;
     try_threads(
         rt,
@@ -233,6 +255,7 @@ where
         &mirror,
         passes.as_mut_slice(),
         reply_bytes_of(&limits, settings.sessions) as usize,
+        copier,
         lines,
     )?;
     close(alloc, mirror, passes, out)

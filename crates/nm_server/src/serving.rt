@@ -2,6 +2,7 @@
 
 use crate::control_places::ControlPlaces;
 use crate::control_port::{serve_control, wake_listener};
+use crate::copier::Copier;
 use crate::ending::Ending;
 use crate::leg_files::{FileMirror, Leg};
 use crate::log_lines::LogLines;
@@ -9,6 +10,7 @@ use crate::resync::resynchronise;
 use crate::session_places::SessionPlaces;
 use crate::sessions::{AT_ONCE, ExportName, see_off, serve_place, take_clients};
 use crate::start_fault::StartFault;
+use crate::unread::UnreadList;
 use nm_mirror::Pass;
 use std::alloc::Global;
 use std::net::{Net, TcpListener, TcpStream};
@@ -51,44 +53,48 @@ where
     })
 }
 
-/// Serves until the last session has ended, while one thread copies legs and others serve the
-/// control port. The replies to what is outstanding in a session carry at most so many bytes.
-pub fn serve_and_copy<'a, R>(
-    rt: &R,
+/// Serves until the last session has ended, while one thread copies legs and tells what happens to
+/// them, and others serve the control port. The replies to what is outstanding in a session carry
+/// at most so many bytes.
+pub fn serve_and_copy<'a, 'x, R>(
+    rt: &'x R,
     alloc: Global,
-    named: &ExportName<'_>,
-    listeners: (&TcpListener, &TcpListener),
-    mirror: &FileMirror,
+    named: &'x ExportName<'_>,
+    listeners: (&'x TcpListener, &'x TcpListener),
+    mirror: &'x FileMirror,
     passes: &mut [Pass<Leg>],
     reply_bytes: usize,
-    lines: &LogLines,
+    copier: Copier,
+    lines: &'x LogLines,
 ) -> Result<(), StartFault<'a>>
 where
     R: Threads + Wait + Sync + Copy + Clock + Net<Listener = TcpListener, Stream = TcpStream>,
 {
-    let (Ok(places), Ok(control_places)) = (
+    let (Ok(own_places), Ok(control_places), Ok(unread_list)) = (
         SessionPlaces::new(alloc, passes.len() / AT_ONCE, reply_bytes),
         ControlPlaces::new(alloc),
+        UnreadList::new(alloc),
     ) else {
         return Err(StartFault::Memory);
     };
     let (ending, has_ended) = (Ending::new(), AtomicBool::new(false));
     let (asked, ended, seats) = (&ending, &has_ended, &control_places);
+    let (places, unread) = (&own_places, &unread_list);
     let (clients, control) = listeners;
     let is_served = thread::scope(thread::scope_env(), rt, |scope| {
-        if scope
-            .spawn(move || resynchronise(rt, mirror, ended))
-            .is_err()
-        {
+        let copying = scope.spawn(move || resynchronise(
+            rt, copier, mirror, places, unread, lines, ended,
+        ));
+        if copying.is_err() {
             return false;
         }
         let control_port = scope.spawn(move || serve_control(
-            rt, alloc, listeners, seats, mirror, asked, ended,
+            rt, alloc, listeners, seats, mirror, unread, asked, ended,
         ));
         let is_served = match control_port {
             Ok(control_port) => {
                 let is_served = serve_sessions(
-                    rt, alloc, named, clients, mirror, passes, &places, asked, lines,
+                    rt, alloc, named, clients, mirror, passes, places, asked, lines,
                 );
                 ended.store(true, Ordering::SeqCst);
                 wake_listener(rt, control);

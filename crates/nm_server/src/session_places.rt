@@ -1,19 +1,12 @@
 //! The places of sessions: who is served now, and who is served next.
 
+use crate::client_stream::ClientStream;
 use nm_replay::Memory;
 use nm_workers::SpinToken;
 use std::alloc::Global;
-use std::net::{Shutdown, SocketAddr, TcpStream};
 use std::sync::atomic::{AtomicBool, Ordering};
 use std::sync::{Arc, Condvar, Mutex, Wait};
 use std::time::{Clock, Duration};
-
-/// A client's connection, and where it comes from.
-#[derive(Drop)]
-pub struct ClientStream {
-    pub stream: TcpStream,
-    pub address: SocketAddr,
-}
 
 // Connections that have a place and are not served yet, those that are served, each at its place's
 // number, and the places that are free.
@@ -150,13 +143,24 @@ impl SessionPlaces {
         waiting.free >= count
     }
 
-    /// Closes the connections that are served: nothing more is read from them or written to them.
+    /// Asks of each client that is served whether it has gone.
+    pub fn look<R: Wait>(&self, rt: &R) {
+        let waiting = self.waiting.lock(rt);
+        for place in &waiting.served {
+            if let Some(client) = place {
+                client.look();
+            }
+        }
+    }
+
+    /// Closes the connections that are served: nothing more is read from them or written to them,
+    /// and each of their clients counts as gone.
     pub fn hang_up<R: Wait>(&self, rt: &R) {
         self.is_over.store(true, Ordering::SeqCst);
         let waiting = self.waiting.lock(rt);
         for place in &waiting.served {
             if let Some(client) = place {
-                let _ = client.stream.shutdown(Shutdown::Both);
+                client.hang_up();
             }
         }
     }

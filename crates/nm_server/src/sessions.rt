@@ -1,11 +1,12 @@
 //! Sessions over TCP: who listens, who serves.
 ghost use Rattle.std.specs.Prelude.{◌≡◌, ◌*◌, ◌≤◌, ◌^◌, ◌↔◌, [], length, map, true, All};
 ghost use Rattle.std.specs.Prelude.{IsSome, IfSome, IfOk, IfErr};
-ghost use Rattle.nm_server.specs.Handshake.{HasGreeted};
+ghost use Rattle.nm_server.specs.Handshake.{HasNegotiated};
 ghost use Rattle.nm_session.specs.declared.serve_fault.ServeFault.TheVariants.{Memory};
 ghost use Rattle.nm_wire.specs.Export.{size_of};
 
 use crate::client_reader::ClientReader;
+use crate::client_stream::ClientStream;
 use crate::client_writer::ClientWriter;
 use crate::ending::Ending;
 use crate::file_calls::FileCalls;
@@ -14,7 +15,7 @@ use crate::leg_files::{FileMirror, Leg};
 use crate::log_lines::LogLines;
 use crate::mirror_calls::{MirrorCalls, ReadyMirror};
 use crate::mirror_target::MirrorTarget;
-use crate::session_places::{ClientStream, SessionPlaces};
+use crate::session_places::SessionPlaces;
 use crate::timed_stream::TimedStream;
 use nm_leg::LegPart;
 use nm_mirror::Pass;
@@ -22,7 +23,7 @@ use nm_replies::ReplyWriter;
 use nm_service::Refusals;
 use nm_session::{Limit, ServeFault, SessionCore};
 use nm_wire::{Export, Name};
-use nm_workers::{SpinToken, greet, transmit};
+use nm_workers::{SpinToken, negotiate, transmit};
 use std::alloc::Global;
 use std::cell::Cell;
 use std::net::{Shutdown, SocketAddr, TcpListener, TcpStream};
@@ -85,16 +86,16 @@ fn export_of(alloc: Global, named: &ExportName<'_>, blocks: u64) -> Option<Expor
     })
 }
 
-// Haggles with a client within its time, and tells whether requests follow. After it no limit
+// Negotiates with a client within its time, and tells whether requests follow. After it no limit
 // stands.
-fn shake_hands<R: Wait + Clock>(
+fn negotiate_in_time<R: Wait + Clock>(
     rt: &R,
     alloc: Global,
     stream: &TcpStream,
     core: &mut SessionCore,
 ) -> Result<bool, ServeFault>
     requires idle { core.old.outstanding ≡ [] }
-    ensures greeted { IfOk result (λ goes_on. HasGreeted goes_on core.old core.new) }
+    ensures negotiated { IfOk result (λ goes_on. HasNegotiated goes_on core.old core.new) }
     ensures export { IfOk result (λ goes_on. goes_on ≡ true
         → core.new.haggling.export ≡ core.old.haggling.export) }
 {
@@ -108,7 +109,7 @@ fn shake_hands<R: Wait + Clock>(
     let begun = Cell::new(begun);
     let mut reader = TimedStream::new(rt, stream, &begun, within);
     let mut sender = ReplyWriter::new(TimedStream::new(rt, stream, &begun, within));
-    match greet(rt, alloc, core, &mut room, &mut reader, &mut sender) {
+    match negotiate(rt, alloc, core, &mut room, &mut reader, &mut sender) {
         Ok(None) => {
             let _ = stream.set_read_timeout(None);
             let _ = stream.set_write_timeout(None);
@@ -127,7 +128,7 @@ fn targets_of<'a, L, C: MirrorCalls<L> + Drop>(
     alloc: Global,
     mirror: &'a ReadyMirror<L, C>,
     passes: &'a mut [Pass<L>],
-    stream: &'a TcpStream,
+    client: &'a ClientStream,
 ) -> Result<Vec<MirrorTarget<'a, L, C, HangUp<'a>>>, ServeFault>
     ensures mirror { IfOk result (λ targets.
         All (λ target. target.mirror.now ≡ mirror.now) targets.items) }
@@ -137,7 +138,11 @@ fn targets_of<'a, L, C: MirrorCalls<L> + Drop>(
 {
     let mut targets = Vec::new(alloc);
     'passes: for pass in passes.iter_mut() {
-        let Some(target) = MirrorTarget::new(mirror, pass, HangUp { stream }) else {
+        let hang_up = HangUp {
+            stream: &client.stream,
+        };
+        let is_gone = Some(client.is_gone());
+        let Some(target) = MirrorTarget::new(mirror, pass, is_gone, hang_up) else {
             return Err(ServeFault::Memory);
         };
         if targets.push(target).is_err() {
@@ -151,7 +156,7 @@ fn targets_of<'a, L, C: MirrorCalls<L> + Drop>(
 fn answer_requests<R, L: LegPart + Send, C: MirrorCalls<L> + Sync + Drop>(
     rt: &R,
     alloc: Global,
-    stream: &TcpStream,
+    client: &ClientStream,
     mirror: &ReadyMirror<L, C>,
     passes: &mut [Pass<L>],
     core: SessionCore,
@@ -162,9 +167,9 @@ where
     R: Threads + Wait + Sync,
     requires size { size_of core.haggling.export ≤ 512 * mirror.now.blocks }
 {
-    let targets = targets_of(alloc, mirror, passes, stream)?;
-    let reader = ClientReader::new(stream, is_over);
-    let sender = ReplyWriter::new(ClientWriter::new(stream));
+    let targets = targets_of(alloc, mirror, passes, client)?;
+    let reader = ClientReader::new(client, is_over);
+    let sender = ReplyWriter::new(ClientWriter::new(client));
     transmit(rt, alloc, core, reader, sender, targets, lookout).result?;
     Ok(())
 }
@@ -173,13 +178,13 @@ where
 fn serve_client<R: Threads + Wait + Sync + Copy + Clock>(
     rt: &R,
     alloc: Global,
-    stream: &TcpStream,
+    client: &ClientStream,
     named: &ExportName<'_>,
     mirror: &FileMirror,
     passes: &mut [Pass<Leg>],
     places: &SessionPlaces,
 ) -> Result<(), ServeFault> {
-    let _ = stream.set_nodelay(true);
+    let _ = client.stream.set_nodelay(true);
     let Some(export) = export_of(alloc, named, mirror.shape().blocks) else {
         return Err(ServeFault::Memory);
     };
@@ -190,12 +195,12 @@ fn serve_client<R: Threads + Wait + Sync + Copy + Clock>(
     let Ok(mut core) = SessionCore::new(alloc, export, limit) else {
         return Err(ServeFault::Memory);
     };
-    if !shake_hands(rt, alloc, stream, &mut core)? {
+    if !negotiate_in_time(rt, alloc, &client.stream, &mut core)? {
         return Ok(());
     }
     let ready = ReadyMirror::new(FileCalls { rt, alloc, mirror });
     let (is_over, lookout) = (places.is_over(), places.lookout());
-    answer_requests(rt, alloc, stream, &ready, passes, core, is_over, lookout)
+    answer_requests(rt, alloc, client, &ready, passes, core, is_over, lookout)
 }
 
 /// Serves the clients that get the place of this number, one after the other, until the places are
@@ -219,15 +224,15 @@ where
         let Some(client) = places.take(rt, number) else {
             return;
         };
-        let ClientStream { stream, address } = &*client;
-        if let Err(fault) = serve_client(rt, alloc, stream, named, mirror, passes, places) {
+        if let Err(fault) = serve_client(rt, alloc, &client, named, mirror, passes, places) {
+            let address = client.address;
             lines.warn(
                 rt,
                 format!(in alloc; "client {address}: a session broke off: {fault}"),
             );
         }
         places.free(rt, number);
-        let _ = stream.shutdown(Shutdown::Write);
+        let _ = client.stream.shutdown(Shutdown::Write);
     }
 }
 
@@ -277,7 +282,7 @@ pub fn take_clients<R: Wait + Clock>(
         }
         match accepted {
             Ok((stream, address)) => {
-                if !places.offer(rt, ClientStream { stream, address }) {
+                if !places.offer(rt, ClientStream::new(stream, address)) {
                     let count = places.count();
                     refuse(rt, alloc, &mut refusals, &begun, &address, count, lines);
                 }
@@ -287,13 +292,15 @@ pub fn take_clients<R: Wait + Clock>(
     }
 }
 
-/// Waits until the sessions have ended, or closes those that are left once their time is over.
+/// Waits until the sessions have ended, or closes those that are left once their time is over. Looks
+/// for clients that have gone meanwhile.
 pub fn see_off<R: Wait + Clock>(rt: &R, places: &SessionPlaces, ending: &Ending) {
     for _ in rt.forever() {
         if ending.is_due(rt) {
             places.hang_up(rt);
             return;
         }
+        places.look(rt);
         let within = Duration::from_millis(BETWEEN_LOOKS_MILLISECONDS);
         if places.wait_until_free(rt, within) {
             return;

@@ -4,7 +4,7 @@ use nm_geometry::Shape;
 use nm_lanes::NoGate;
 use nm_leg::MemLeg;
 use nm_mirror::{Mirror, Start, open_stripes};
-use nm_server::{Quit, control};
+use nm_server::{Quit, UnreadList, control};
 use nm_stripe::Policy;
 use std::alloc::Global;
 use std::process::Abort;
@@ -118,7 +118,10 @@ fn goes<R: Wait + Abort + Clock>(
 ) -> bool {
     let mut reader = sent;
     let mut writer = Vec::new(alloc);
-    let quit = control(rt, alloc, &mut reader, &mut writer, mirror);
+    let Ok(unread) = UnreadList::new(alloc) else {
+        return false;
+    };
+    let quit = control(rt, alloc, &mut reader, &mut writer, mirror, &unread);
     quit.is_some() == ends && writer.as_slice() == answered
 }
 
@@ -149,6 +152,7 @@ fn equal_legs_that_are_compared_have_nothing_to_copy(rt: HostRuntime) -> Result<
 fn a_quit_has_its_time(rt: HostRuntime) -> Result<(), Fail> {
     let alloc = rt.alloc();
     let mirror = mirror(alloc, Start::Full)?;
+    let unread = UnreadList::new(alloc)?;
     let lines: [(&[u8], Quit); 3] = [
         (b"quit\n", Quit::WhenTheyLeave),
         (b"quit 0\n", Quit::Within(0)),
@@ -156,7 +160,7 @@ fn a_quit_has_its_time(rt: HostRuntime) -> Result<(), Fail> {
     ];
     for (line, quit) in lines {
         let (mut reader, mut writer) = (line, Vec::new(alloc));
-        let asked = control(&rt, alloc, &mut reader, &mut writer, &mirror);
+        let asked = control(&rt, alloc, &mut reader, &mut writer, &mirror, &unread);
         assert_eq!(rt; asked, Some(quit));
         assert_eq!(rt; writer.as_slice(), b"bye\n".as_slice());
     }

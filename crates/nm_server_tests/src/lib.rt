@@ -6,4 +6,6 @@ mod command_lines;
 #[cfg(test)]
 mod control_lines;
 #[cfg(test)]
+mod gone_clients;
+#[cfg(test)]
 mod mirror_sessions;

@@ -25,7 +25,7 @@ use std::io::{Read, Write};
 use std::marker::{Send, Sync};
 use std::process::Abort;
 use std::sync::Wait;
-use std::sync::atomic::{AtomicUsize, Ordering};
+use std::sync::atomic::{AtomicBool, AtomicUsize, Ordering};
 use std::test::Fail;
 use std::thread::{Threads, yield_now};
 use std::time::Clock;
@@ -84,8 +84,9 @@ impl<'a, R: Threads + Wait + Sync + Copy> MirrorCalls<MemLeg> for MemoryCalls<'a
         pass: &mut Pass<MemLeg>,
         call: MirrorCall,
         into: &mut [u8],
+        is_gone: Option<&AtomicBool>,
     ) -> Result<(), TargetFault> {
-        call_mirror(self.rt, self.alloc, self.mirror, pass, call, into)
+        call_mirror(self.rt, self.alloc, self.mirror, pass, call, into, is_gone)
     }
 }
 
@@ -140,7 +141,7 @@ where
 {
     let mut targets = Vec::new(alloc);
     for pass in passes.iter_mut() {
-        let Some(target) = MirrorTarget::new(mirror, pass, Nothing) else {
+        let Some(target) = MirrorTarget::new(mirror, pass, None, Nothing) else {
             return Err(Memory);
         };
         if targets.push(target).is_err() {

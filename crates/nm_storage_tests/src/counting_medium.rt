@@ -1,15 +1,11 @@
-//! A medium for tests that counts the reads and writes that are asked of it, and may fail to tell its
-//! length.
+//! A medium for tests that counts the reads and writes that are asked of it.
 ghost use Rattle.std.specs.Prelude.{false};
 ghost use Rattle.nm_file_leg.specs.Media.{unknown};
 
 use nm_file_leg::{Medium, MemMedium};
-use std::cell::Cell;
 use std::io;
-use std::io::ErrorKind;
 
-/// A medium in memory that counts its reads and writes, and tells its length only while it is to.
-/// Zeroes are holes of it.
+/// A medium in memory that counts its reads and writes. Zeroes are holes of it.
 #[derive(Drop)]
 pub struct CountingMedium {
     medium: MemMedium,
@@ -17,7 +13,6 @@ pub struct CountingMedium {
     writes: u64,
     last_at: u64,
     last_bytes: usize,
-    tells_length: Cell<bool>,
 }
 
 impl CountingMedium {
@@ -29,13 +24,7 @@ impl CountingMedium {
             writes: 0,
             last_at: 0,
             last_bytes: 0,
-            tells_length: Cell::new(true),
         }
-    }
-
-    /// Lets it tell its length from now on, or fail to.
-    pub fn set_tells_length(&self, tells: bool) {
-        self.tells_length.set(tells);
     }
 
     /// How many reads were asked for.
@@ -81,9 +70,6 @@ impl Medium for CountingMedium {
     }
 
     fn len(&self) -> io::Result<u64> {
-        if !self.tells_length.get() {
-            return Err(io::Error::from(ErrorKind::Other));
-        }
         self.medium.len()
     }
 

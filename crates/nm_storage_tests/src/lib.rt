@@ -3,8 +3,6 @@
 #![tactic(auto)]
 
 #[cfg(test)]
-mod ahead;
-#[cfg(test)]
 mod choices;
 #[cfg(test)]
 mod counting_medium;
@@ -21,6 +19,8 @@ mod legs;
 #[cfg(test)]
 mod media;
 #[cfg(test)]
+mod reads;
+#[cfg(test)]
 mod records;
 #[cfg(test)]
 mod regions;
@@ -32,3 +32,5 @@ pub mod shared_medium;
 pub mod shared_syncs;
 #[cfg(test)]
 mod shares;
+#[cfg(test)]
+mod superblocks;

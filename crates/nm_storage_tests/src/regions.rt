@@ -1,4 +1,5 @@
-//! The region table: a leg that goes out, comes back and is copied, with a short last region.
+//! The region table: a leg that goes out, comes back and is copied, with a short last region; regions
+//! that a copy passes over.
 use nm_regions::{CopyPlace, RegionState, Regions};
 use std::alloc::{AllocError, Global};
 use std::process::Abort;
@@ -22,7 +23,7 @@ fn a_leg_that_comes_back_is_behind_where_writes_began(rt: HostRuntime) -> Result
     let table = come_back(&rt, rt.alloc())?;
     assert!(rt; table.legs() == 2 && !table.is_out(1));
     assert_eq!(rt; table.left(1), 6);
-    assert_eq!(rt; table.lowest_behind(1), Some(0));
+    assert_eq!(rt; table.next_behind(1, 0), Some(0));
     assert_eq!(rt; table.left(0), 0);
     assert!(rt; !table.has_behind(0));
     Ok(())
@@ -44,14 +45,57 @@ fn a_joining_leg_is_copied_region_by_region(rt: HostRuntime) -> Result<(), Fail>
     assert!(rt; table.legs() == 2 && !table.is_out(1));
     assert_eq!(rt; table.copy(), None);
     assert_eq!(rt; table.left(1), 4);
-    assert_eq!(rt; table.lowest_behind(1), Some(1));
+    assert_eq!(rt; table.next_behind(1, 0), Some(1));
     assert!(rt; table.regions() == 2 && table.length_of(1) == 4);
     table.open_copy(1, 1);
     table.advance(4);
     table.finish_region();
     assert_eq!(rt; table.left(1), 0);
-    assert_eq!(rt; table.lowest_behind(1), None);
+    assert_eq!(rt; table.next_behind(1, 0), None);
     assert!(rt; !table.has_behind(1));
+    Ok(())
+}
+
+#[test]
+fn a_copy_passes_over_a_region(rt: HostRuntime) -> Result<(), Fail> {
+    let mut table = Regions::new(rt.alloc(), 10, 4, &[true, false])?;
+    assert_eq!(rt; table.next_behind(1, 1), Some(1));
+    assert_eq!(rt; table.next_behind(1, 2), Some(2));
+    assert_eq!(rt; table.next_behind(1, 3), None);
+    assert_eq!(rt; table.next_behind(1, u64::MAX), None);
+    table.open_copy(1, 1);
+    assert!(rt; matches!(table.state(1), RegionState::Recovering));
+    table.advance(4);
+    table.finish_region();
+    assert_eq!(rt; table.left(1), 6);
+    assert_eq!(rt; table.next_behind(1, 0), Some(0));
+    assert_eq!(rt; table.next_behind(1, 1), Some(2));
+    assert!(rt; table.is_current(1, 7) && !table.is_current(1, 8));
+    Ok(())
+}
+
+#[test]
+fn regions_are_copied_in_any_order(rt: HostRuntime) -> Result<(), Fail> {
+    let mut table = Regions::new(rt.alloc(), 4, 1, &[true, false])?;
+    table.open_copy(1, 2);
+    table.advance(1);
+    table.finish_region();
+    assert_eq!(rt; table.next_behind(1, 1), Some(1));
+    assert_eq!(rt; table.next_behind(1, 2), Some(3));
+    table.open_copy(1, 0);
+    table.advance(1);
+    table.finish_region();
+    assert_eq!(rt; table.next_behind(1, 0), Some(1));
+    table.open_copy(1, 3);
+    table.advance(1);
+    table.finish_region();
+    assert_eq!(rt; table.next_behind(1, 0), Some(1));
+    assert_eq!(rt; table.next_behind(1, 2), None);
+    table.open_copy(1, 1);
+    table.advance(1);
+    table.finish_region();
+    assert_eq!(rt; table.next_behind(1, 0), None);
+    assert_eq!(rt; table.left(1), 0);
     Ok(())
 }
 
@@ -63,6 +107,6 @@ fn the_largest_stripe_has_its_table(rt: HostRuntime) -> Result<(), Fail> {
     assert_eq!(rt; table.regions(), 32_768);
     assert_eq!(rt; table.legs(), 8);
     assert_eq!(rt; table.left(7), 1 << 31);
-    assert_eq!(rt; table.lowest_behind(7), Some(0));
+    assert_eq!(rt; table.next_behind(7, 0), Some(0));
     Ok(())
 }

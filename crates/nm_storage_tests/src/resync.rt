@@ -13,16 +13,16 @@ fn block_of(byte: u8) -> Block {
 // Reads the chunk's block of this number, with one byte in every place.
 fn read_block(rt: &impl Abort, copy: &mut Copy, number: u64, byte: u8) {
     assert_eq!(rt; copy.next_move(), Move::Read(number));
-    *copy.slot() = block_of(byte);
-    copy.fill();
+    copy.read_slots(1).copy_from_slice(&block_of(byte).0);
+    copy.fill(1);
 }
 
 // Writes the chunk's block of this number, which must have this byte in every place: the length of
 // the chunk, where it closes.
 fn write_block(rt: &impl Abort, copy: &mut Copy, number: u64, byte: u8) -> Option<u64> {
     assert_eq!(rt; copy.next_move(), Move::Write(number));
-    assert_eq!(rt; *copy.block(number), block_of(byte));
-    copy.wrote()
+    assert_eq!(rt; *copy.blocks(number, 1), block_of(byte).0[..]);
+    copy.wrote(1)
 }
 
 #[test]
@@ -49,12 +49,12 @@ fn a_chunk_of_one_block_goes_from_leg_to_leg(rt: HostRuntime) -> Result<(), Fail
     let mut master = MemLeg::with_byte(rt.alloc(), 1, 0xaa)?;
     let mut leg = MemLeg::new(rt.alloc(), 1)?;
     let mut copy = Copy::new(rt.alloc(), 1)?;
-    master.read(0, &mut copy.slot().0)?;
+    master.read(0, copy.read_slots(1))?;
     copy.open(1);
-    copy.fill();
+    copy.fill(1);
     assert_eq!(rt; copy.next_move(), Move::Write(0));
-    leg.write(0, &copy.block(0).0)?;
-    assert_eq!(rt; copy.wrote(), Some(1));
+    leg.write(0, copy.blocks(0, 1))?;
+    assert_eq!(rt; copy.wrote(1), Some(1));
     assert_eq!(rt; *leg.block(0), block_of(0xaa));
     Ok(())
 }
@@ -62,10 +62,10 @@ fn a_chunk_of_one_block_goes_from_leg_to_leg(rt: HostRuntime) -> Result<(), Fail
 #[test]
 fn a_read_that_fails_leaves_the_chunk(rt: HostRuntime) -> Result<(), Fail> {
     let mut copy = Copy::new(rt.alloc(), 2)?;
-    *copy.slot() = block_of(9);
+    copy.read_slots(1).copy_from_slice(&block_of(9).0);
     assert_eq!(rt; copy.next_move(), Move::Open);
     copy.open(2);
-    *copy.slot() = block_of(9);
+    copy.read_slots(1).copy_from_slice(&block_of(9).0);
     assert_eq!(rt; copy.next_move(), Move::Read(0));
     assert_eq!(rt; copy.length(), 2);
     assert_eq!(rt; copy.blocks_buffered(), 0);

@@ -1,11 +1,11 @@
 -- A read of a run: its call, and the entries that are kept.
-use Rattle.std.proofs.Common.{Vec, Bool, subst, ◌≡◌, ℕ, suc, ◌+◌, ◌-◌, ◌*◌, ◌<◌, List, [], ◌∷◌, ◌++◌, length, take, drop, sym, ap, ◌∙◌, arith, append_assoc}
+use Rattle.std.proofs.Common.{Vec, Bool, subst, ◌≡◌, ℕ, zero, suc, ◌+◌, List, ◌∷◌, length, take, drop, ap, ◌∙◌, refl}
 use Rattle.std.specs.Vec.{with_items}
-use Rattle.std.proofs.lemmas.List.{drop-drop, length-set}
+use Rattle.std.proofs.lemmas.List.{length-set}
 use Rattle.nm_replay.specs.declared.entry.Entry.{Entry}
 use Rattle.nm_replay.specs.Events.{entry_of_read}
-use Rattle.nm_replay.specs.Kept.{last_kept}
-use Rattle.nm_replay.proofs.Dropping.{last_kept-append}
+use Rattle.nm_replay.specs.declared.entry.Kind.TheVariants.{Read}
+use Rattle.nm_replay.specs.Kept.{run_from}
 use Rattle.nm_leg.specs.Leg.{LegType, blocks_of, cut_into}
 use Rattle.nm_leg.specs.LegCalls.{ReadsLegAt}
 use Rattle.nm_rules.specs.RunCalls.{ReadsRunAt}
@@ -26,30 +26,10 @@ read-done {L} type legs lent new ok leg at bytes r whole =
     subst (λ (xs : List L). ReadsRunAt type ok leg at (blocks_of bytes) legs.items xs)
     (stored legs new same) two
 
--- one entry more is kept
-pub read-step : (n at number block : ℕ) (bytes own : List ℕ) (kept new : List Entry) → at < n
-    → own ≡ take 512 (drop (512 * at) bytes)
-    → new ≡ last_kept (kept ++ entry_of_read (number + at) (block + at) (record { 0 = own }) ∷ [])
-    → last_kept (new ++ read_entries (number + (at + 1)) (block + (at + 1)) (cut_into (n - (at + 1)) (drop (512 * (at + 1)) bytes)))
-    ≡ last_kept (kept ++ read_entries (number + at) (block + at) (cut_into (n - at) (drop (512 * at) bytes)))
-read-step n at number block bytes own kept new below is pushed =
-    let m : ℕ = n - (at + 1) in
-    let rest : List Entry = read_entries (number + (at + 1)) (block + (at + 1)) (cut_into m (drop (512 * (at + 1)) bytes)) in
-    let first : List ℕ → Entry = λ ys. entry_of_read (number + at) (block + at) (record { 0 = ys }) in
-    let e : suc m ≡ n - at = omega (arith, below) in
-    let a : number + at + 1 ≡ number + (at + 1) = omega arith in
-    let b : block + at + 1 ≡ block + (at + 1) = omega arith in
-    let h : 512 * at + 512 ≡ 512 * (at + 1) = omega arith in
-    let f : drop 512 (drop (512 * at) bytes) ≡ drop (512 * (at + 1)) bytes =
-    drop-drop 512 (512 * at) bytes ∙ ap (λ (k : ℕ). drop k bytes) h in
-    let here : List ℕ = take 512 (drop (512 * at) bytes) in
-    let same : read_entries (number + at) (block + at) (cut_into (n - at) (drop (512 * at) bytes)) ≡ first here ∷ rest =
-    ap (λ (k : ℕ). read_entries (number + at) (block + at) (cut_into k (drop (512 * at) bytes))) (sym e)
-    ∙ ap (λ (k : ℕ). first here ∷ read_entries k (block + at + 1) (cut_into m (drop 512 (drop (512 * at) bytes)))) a
-    ∙ ap (λ (k : ℕ). first here ∷ read_entries (number + (at + 1)) k (cut_into m (drop 512 (drop (512 * at) bytes)))) b
-    ∙ ap (λ (ys : List ℕ). first here ∷ read_entries (number + (at + 1)) (block + (at + 1)) (cut_into m ys)) f in
-    ap (λ (es : List Entry). last_kept (es ++ rest)) pushed
-    ∙ last_kept-append (kept ++ first own ∷ []) rest
-    ∙ ap (λ (es : List Entry). last_kept es) (append_assoc kept (first own ∷ []) rest)
-    ∙ ap (λ (ys : List ℕ). last_kept (kept ++ first ys ∷ rest)) is
-    ∙ ap (λ (es : List Entry). last_kept (kept ++ es)) (sym same)
+-- the entries of a read's blocks are those of a run that is read
+pub reads-run : (n number block : ℕ) (bytes : List ℕ)
+    → run_from n number Read block bytes ≡ read_entries number block (cut_into n bytes)
+reads-run zero number block bytes = refl
+reads-run (suc n) number block bytes =
+    ap (λ (es : List Entry). entry_of_read number block (record { 0 = take 512 bytes }) ∷ es)
+    (reads-run n (number + 1) (block + 1) (drop 512 bytes))

@@ -1,5 +1,6 @@
 pub mod BlockCalls
 pub mod Comparing
+pub mod CopyPlace
 pub mod Copying
 pub mod Counting
 pub mod Inside

@@ -1,48 +1,62 @@
 //! The copy to a leg that joins.
-ghost use Rattle.std.specs.Prelude.{◌≡◌, ◌⊎◌, ◌<◌, ◌≤◌, [], length, nat_lt, is_ok, true, false};
-ghost use Rattle.std.specs.Prelude.{None, Some, IsFalse, OnOk, IfErr};
+ghost use Rattle.std.specs.Prelude.{◌≡◌, ◌+◌, ◌<◌, ◌≤◌, length, nat_lt, is_ok, true, false};
+ghost use Rattle.std.specs.Prelude.{None, Some, IsFalse, IfOk, IfErr};
 ghost use Rattle.std.specs.Option.{option_map};
-ghost use Rattle.nm_leg.specs.Leg.{leg_type};
-ghost use Rattle.nm_regions.specs.Table.{has_behind, length_of, is_out, copy_rest};
-ghost use Rattle.nm_resync.specs.Chunk.{Chunk};
+ghost use Rattle.nm_leg.specs.Leg.{cut_into, leg_type};
+ghost use Rattle.nm_regions.specs.Table.{length_of, is_out, copy_rest};
+ghost use Rattle.nm_resync.specs.Chunk.{blocks_of};
 ghost use Rattle.nm_resync.specs.Moves.{Reads, next_move, after_read};
-ghost use Rattle.nm_rules.specs.BlockCalls.{ReadsBlockAt};
+ghost use Rattle.nm_rules.specs.RunCalls.{ReadsRunAt};
 ghost use Rattle.nm_rules.specs.declared.refusal.Refusal.TheVariants.{Busy};
-ghost use Rattle.nm_rules.specs.Copy.{CopiesRead, CopiesWrite, GoesOn};
-ghost use Rattle.nm_rules.specs.Copy.{copy_cause, copy_more_cause, copy_of, chunk_of, chunk_or};
-ghost use Rattle.nm_rules.specs.Copy.{chunk_copied, new_chunk, busy_new_chunk};
+ghost use Rattle.nm_rules.specs.Copy.{copy_cause, copy_more_cause, copy_of, has_more, chunk_of};
+ghost use Rattle.nm_rules.specs.Copy.{chunk_copied, chunk_or, new_chunk, busy_new_chunk};
 ghost use Rattle.nm_rules.specs.Invariant.{Keeps};
 ghost use Rattle.nm_rules.specs.State.{table};
-ghost use Rattle.nm_store.specs.BlockCalls.{HasBlock};
-ghost use Rattle.nm_store.specs.Copying.{FailsToCopy};
+ghost use Rattle.nm_store.specs.BlockCalls.{HasBlocks};
+ghost use Rattle.nm_store.specs.Copying.{FailsToCopy, MovesRun, next_region, unread};
+ghost use Rattle.nm_store.specs.CopyPlace.{FailsAt, IsCopyPlace, ReadsAt, WritesAt};
 
-use crate::block_calls::{read_block_at, write_block_at};
 use crate::store::Store;
-use nm_leg::{LegFault, LegPart};
+use nm_leg::{LegFault, LegPart, read_leg_at, write_leg_at};
 use nm_regions::{CopyPlace, Regions};
 use nm_resync::{Copy as CopyBuffer, Move};
 use nm_rules::Refusal;
 
 impl<L: LegPart> Store<L> {
-    /// Whether the leg is behind in some region.
-    pub fn is_behind(&self, leg: u8) -> bool
-        requires { leg < length self.now.legs }
-        ensures { result ≡ has_behind leg (table self.now) }
+    /// The region that a step copies to the leg: that of its open copy, else its lowest region
+    /// behind that is not below `from`.
+    pub fn next_region(&self, leg: u8, from: u64) -> Option<u64>
+        requires leg { leg < length self.now.legs }
+        requires attached { IsFalse (is_out leg (table self.now)) }
+        ensures { result ≡ next_region leg from self.now }
     {
-        self.regions.has_behind(leg)
+        match self.regions.copy() {
+            Some(copy) if copy.leg == leg => Some(copy.region),
+            _ => self.regions.next_behind(leg, from),
+        }
+    }
+
+    /// Whether a step has something to copy to the leg: its copy is open, or it is behind in a
+    /// region that is not below `from`.
+    pub fn has_more(&self, leg: u8, from: u64) -> bool
+        requires leg { leg < length self.now.legs }
+        requires attached { IsFalse (is_out leg (table self.now)) }
+        ensures { result ≡ has_more leg from self.now }
+    {
+        self.next_region(leg, from).is_some()
     }
 
     /// The copy of the leg that a step goes on with: the open one, else one of its lowest region
-    /// behind.
-    fn copy_of(&self, leg: u8) -> Option<CopyPlace>
+    /// behind that is not below `from`.
+    fn copy_of(&self, leg: u8, from: u64) -> Option<CopyPlace>
         requires leg { leg < length self.now.legs }
         requires attached { IsFalse (is_out leg (table self.now)) }
-        ensures { result ≡ copy_of leg self.now }
+        ensures { result ≡ copy_of leg from self.now }
     {
         if let Some(copy) = self.regions.copy() {
             return Some(copy);
         }
-        let region = self.regions.lowest_behind(leg)?;
+        let region = self.regions.next_behind(leg, from)?;
         Some(CopyPlace {
             leg,
             region,
@@ -71,13 +85,13 @@ impl<L: LegPart> Store<L> {
         Some(Refusal::Busy(ticket))
     }
 
-    /// Why the copy of a leg that is behind cannot go on.
-    pub fn copy_more_cause(&self, leg: u8) -> Option<Refusal>
+    /// Why the copy to a leg cannot go on.
+    pub fn copy_more_cause(&self, leg: u8, from: u64) -> Option<Refusal>
         requires keeps { Keeps (leg_type L.model L.honest) self.now }
         requires asked { copy_cause self.now leg ≡ None }
-        ensures { result ≡ copy_more_cause self.now leg }
+        ensures { result ≡ copy_more_cause self.now leg from }
     {
-        let copy = self.copy_of(leg)?;
+        let copy = self.copy_of(leg, from)?;
         if copy.leg != leg {
             return Some(Refusal::OtherCopy(copy.leg));
         }
@@ -87,107 +101,135 @@ impl<L: LegPart> Store<L> {
         self.busy_new_chunk(copy)
     }
 
-    /// Reads the block of this number in the chunk from the master. With the first block of a chunk
-    /// the chunk opens, and with the first block of a region the copy.
-    fn copy_read(&mut self, copy: CopyPlace, number: u64) -> Result<(), u8>
+    /// How many blocks the chunk has that a copy at this place goes on with: the open one, else the
+    /// one that it opens.
+    fn chunk_length(&self, copy: CopyPlace) -> u64
+        requires within { copy.cursor < length_of copy.region (table self.now) }
+        ensures length { result ≡ (chunk_of copy self.now).length }
+        ensures some { 0 < result }
+        ensures most { result ≤ self.now.place.chunk }
+    {
+        let blocks = self.buffer.length();
+        if blocks > 0 {
+            return blocks;
+        }
+        self.new_length(copy)
+    }
+
+    /// Reads up to `most` blocks of the chunk from the master, from that of this number on, and
+    /// gives how many. With the first block of a chunk the chunk opens, and with the first block of
+    /// a region the copy.
+    fn copy_read(&mut self, copy: CopyPlace, number: u64, most: u64) -> Result<u64, u8>
         requires keeps { Keeps (leg_type L.model L.honest) self.old }
-        requires on { GoesOn self.old copy.leg copy (chunk_of copy self.old) }
+        requires place { IsCopyPlace copy self.old }
         requires short { nat_lt number (chunk_of copy self.old).length ≡ true }
         requires next { number ≡ length (chunk_of copy self.old).blocks }
-        ensures read { OnOk result
-            (CopiesRead (leg_type L.model L.honest) self.old self.new copy.leg) }
+        requires some { 0 < most }
+        ensures read { IfOk result
+            (ReadsAt (leg_type L.model L.honest) self.old self.new copy most) }
         ensures failed { IfErr result
-            (FailsToCopy (leg_type L.model L.honest) self.old self.new copy.leg) }
+            (FailsAt (leg_type L.model L.honest) self.old self.new copy most) }
     {
-        let blocks = self.new_length(copy);
+        let blocks = self.chunk_length(copy);
+        let count = most.min(blocks - number);
         let at = self.block_of(copy) + number;
-        if read_slot(&mut self.legs, self.master, at, &mut self.buffer).is_err() {
+        if read_slots(&mut self.legs, self.master, at, &mut self.buffer, count).is_err() {
             return Err(self.master);
         }
-        keep_slot(&mut self.buffer, blocks);
+        keep_slots(&mut self.buffer, blocks, count);
         if self.regions.copy().is_none() {
             self.regions.open_copy(copy.leg, copy.region);
         }
-        Ok(())
+        Ok(count)
     }
 
-    /// Writes the block of this number in the chunk to the leg. With its last block the chunk
-    /// closes.
-    fn copy_write(&mut self, copy: CopyPlace, number: u64) -> Result<(), u8>
+    /// Writes up to `most` blocks of the chunk to the leg, from that of this number on, and gives
+    /// how many. With its last block the chunk closes.
+    fn copy_write(&mut self, copy: CopyPlace, number: u64, most: u64) -> Result<u64, u8>
         requires keeps { Keeps (leg_type L.model L.honest) self.old }
-        requires on { GoesOn self.old copy.leg copy (chunk_of copy self.old) }
+        requires place { IsCopyPlace copy self.old }
         requires open { self.old.chunk ≡ Some (chunk_of copy self.old) }
         requires filled { let chunk = chunk_of copy self.old in
             nat_lt (length chunk.blocks) chunk.length ≡ false }
         requires next { number ≡ (chunk_of copy self.old).written }
-        ensures written { OnOk result
-            (CopiesWrite (leg_type L.model L.honest) self.old self.new copy.leg) }
+        requires some { 0 < most }
+        ensures written { IfOk result
+            (WritesAt (leg_type L.model L.honest) self.old self.new copy most) }
         ensures failed { IfErr result
-            (FailsToCopy (leg_type L.model L.honest) self.old self.new copy.leg) }
+            (FailsAt (leg_type L.model L.honest) self.old self.new copy most) }
     {
+        let count = most.min(self.buffer.length() - number);
         let at = self.block_of(copy) + number;
-        let bytes = &self.buffer.block(number).0;
-        if write_block_at(&mut self.legs, copy.leg, at, bytes).is_err() {
+        let bytes = self.buffer.blocks(number, count);
+        if write_leg_at(&mut self.legs, copy.leg, at, bytes).is_err() {
             return Err(copy.leg);
         }
-        if let Some(blocks) = self.buffer.wrote() {
+        if let Some(blocks) = self.buffer.wrote(count) {
             end_chunk(&mut self.regions, copy, blocks);
         }
-        Ok(())
+        Ok(count)
     }
 
-    /// One step of the copy to the leg, which is behind: the chunk's next block is read from the
-    /// master or, once all of them are read, written to the leg. At a fault, which leg failed.
-    pub fn copy(&mut self, leg: u8) -> Result<(), u8>
+    /// One step of the copy to the leg, to which there is something to copy: up to `most` of the
+    /// chunk's next blocks are read from the master or, once all of them are read, written to the
+    /// leg. Gives how many; at a fault, which leg failed.
+    pub fn copy(&mut self, leg: u8, most: u64, from: u64) -> Result<u64, u8>
         requires keeps { Keeps (leg_type L.model L.honest) self.old }
         requires asked { copy_cause self.old leg ≡ None }
-        requires behind { has_behind leg (table self.old) ≡ true }
-        requires free { copy_more_cause self.old leg ≡ None }
-        ensures copied { OnOk result (CopiesRead (leg_type L.model L.honest) self.old self.new leg
-            ⊎ CopiesWrite (leg_type L.model L.honest) self.old self.new leg) }
+        requires more { has_more leg from self.old ≡ true }
+        requires free { copy_more_cause self.old leg from ≡ None }
+        requires some { 0 < most }
+        ensures copied { IfOk result
+            (MovesRun (leg_type L.model L.honest) self.old self.new leg most from) }
         ensures failed { IfErr result
-            (FailsToCopy (leg_type L.model L.honest) self.old self.new leg) }
+            (FailsToCopy (leg_type L.model L.honest) self.old self.new leg most from) }
     {
-        let copy = self.copy_of(leg).unwrap();
+        let copy = self.copy_of(leg, from).unwrap();
         match self.buffer.next_move() {
-            Move::Open => self.copy_read(copy, 0),
-            Move::Read(number) => self.copy_read(copy, number),
-            Move::Write(number) => self.copy_write(copy, number),
+            Move::Open => self.copy_read(copy, 0, most),
+            Move::Read(number) => self.copy_read(copy, number, most),
+            Move::Write(number) => self.copy_write(copy, number, most),
         }
     }
 }
 
-/// Reads a block of a leg into the buffer's slot.
-fn read_slot<L: LegPart>(
+/// Reads so many blocks of a leg, from this one on, into the buffer's places, in one call.
+fn read_slots<L: LegPart>(
     legs: &mut [L],
     leg: u8,
     at: u64,
     buffer: &mut CopyBuffer,
+    count: u64,
 ) -> Result<(), LegFault>
     requires leg { leg < length legs.old }
-    requires block { HasBlock L.model legs.old leg at }
+    requires some { 0 < count }
+    requires blocks { HasBlocks L.model legs.old leg at count }
     requires reads { Reads (next_move buffer.old) }
-    ensures reads { ReadsBlockAt (leg_type L.model L.honest) (is_ok result) leg at
-        legs.old legs.new buffer.new.slot }
-    ensures others { buffer.new ≡ record buffer.old { slot = buffer.new.slot } }
+    requires within { length (blocks_of buffer.old.chunk) + count ≤ buffer.old.most }
+    ensures reads { ReadsRunAt (leg_type L.model L.honest) (is_ok result) leg at
+        (cut_into count buffer.new.rest) legs.old legs.new }
+    ensures long { length (cut_into count buffer.new.rest) ≡ count }
+    ensures others { buffer.new ≡ record buffer.old { rest = buffer.new.rest } }
 {
-    read_block_at(legs, leg, at, buffer.slot())
+    read_leg_at(legs, leg, at, buffer.read_slots(count))
 }
 
-/// Keeps the block in the buffer's slot as the chunk's next one. Where no chunk is open, one of so
-/// many blocks opens with it.
-fn keep_slot(buffer: &mut CopyBuffer, blocks: u64)
+/// Keeps so many blocks in the buffer's places as the chunk's next ones. Where no chunk is open, one
+/// of so many blocks opens with them.
+fn keep_slots(buffer: &mut CopyBuffer, blocks: u64, count: u64)
     requires reads { Reads (next_move buffer.old) }
     requires some { 0 < blocks }
     requires most { blocks ≤ buffer.old.most }
-    ensures kept { let new : Chunk = record { length = blocks; blocks = []; written = 0 } in
-        buffer.new.chunk ≡ after_read buffer.old.slot (Some (chunk_or buffer.old.chunk new)) }
+    requires within { let chunk = chunk_or buffer.old.chunk (unread blocks) in
+        length chunk.blocks + count ≤ chunk.length }
+    ensures kept { buffer.new.chunk ≡ after_read (cut_into count buffer.old.rest)
+        (Some (chunk_or buffer.old.chunk (unread blocks))) }
     ensures most { buffer.new.most ≡ buffer.old.most }
 {
     if buffer.next_move() == Move::Open {
         buffer.open(blocks);
     }
-    buffer.fill();
+    buffer.fill(count);
 }
 
 /// A chunk of so many blocks of this copy's region is copied. Where that was its last one, the

@@ -41,7 +41,6 @@ impl<L: LegPart> Store<L> {
         ensures { self.new ≡ failed_over self.old }
     {
         self.regions.is_sound();
-        self.records.is_sound();
         self.master = elect(&self.states).unwrap_or(self.master);
         land_all(&mut self.records, &mut self.kept, self.first);
         self.settling = true;

@@ -14,7 +14,6 @@ pub use standing::{Claimed, Standing};
 pub use store::Store;
 
 mod beginning;
-mod block_calls;
 mod causes;
 mod comparing;
 mod copying;

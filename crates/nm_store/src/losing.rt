@@ -18,7 +18,7 @@ use nm_resync::Copy as CopyBuffer;
 fn drop_chunk_of(buffer: &mut CopyBuffer, copy: Option<CopyPlace>, leg: u8)
     ensures { buffer.new ≡ record buffer.old {
       chunk = chunk_but_of leg copy buffer.old.chunk;
-      slot = buffer.new.slot;
+      rest = buffer.new.rest;
     } }
 {
     if let Some(copy) = copy {

@@ -15,7 +15,7 @@ use arrayvec::ArrayVec;
 use nm_choice::{next_turn, pick};
 use nm_leg::{LegFault, LegPart, read_leg_at};
 use nm_regions::LEGS;
-use nm_replay::{BLOCK_BYTES, Block, Entry, Kept, Kind};
+use nm_replay::{Kept, Kind};
 
 /// Adds the numbers of the places that are true to an empty list, by rising number. The list is
 /// filled where it lies: a move right after stores of single bytes stalls the processor.
@@ -41,18 +41,7 @@ fn keep_blocks(kept: &mut Kept, number: u64, block: u64, bytes: &[u8])
         ≡ kept_with (read_entries number block (blocks_of bytes.now)) kept.old.entries }
     ensures total { kept.new.total ≡ kept.old.total + blocks_in bytes.now }
 {
-    let _total = kept.total();
-    for at in 0..bytes.len() / BLOCK_BYTES {
-        let from = at * BLOCK_BYTES;
-        let mut own = Block::ZERO;
-        own.0.copy_from_slice(&bytes[from..from + BLOCK_BYTES]);
-        kept.push(&Entry {
-            seq: number + at as u64,
-            kind: Kind::Read,
-            block: block + at as u64,
-            bytes: own,
-        });
-    }
+    kept.push_run(number, Kind::Read, block, bytes);
 }
 
 impl<L: LegPart> Store<L> {

@@ -73,7 +73,6 @@ impl<L: LegPart> Store<L> {
         ensures { self.new ≡ after_push_run self.old self.old.legs
             (of_run ticket self.old.records) leg }
     {
-        self.regions.is_sound();
         let place = self.records.find(ticket).unwrap();
         let lands = lands_at(self.records.at(place), leg, self.master);
         reach_run(&mut self.regions, &mut self.records, place, leg);

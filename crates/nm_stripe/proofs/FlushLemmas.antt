@@ -1,5 +1,5 @@
 -- What legs in sync hold durably stays in each step, and a sync makes it so: so a flush is a flush.
-use Rattle.std.proofs.Common.{length, ◌∙◌, ap, arith, sym, subst, ◌<◌, ◌≡◌, ◌⊎◌, ⊎_elim, ℕ, Bool, true, false, IsTrue, List, [], ◌∷◌, None, Some, refl}
+use Rattle.std.proofs.Common.{length, ◌∙◌, ap, arith, sym, subst, ◌<◌, ◌≡◌, ⊎_elim, ℕ, Bool, true, false, IsTrue, List, [], ◌∷◌, None, Some, refl}
 use Rattle.nm_choice.specs.declared.leg_state.LegState.{LegState}
 use Rattle.nm_choice.specs.declared.leg_state.LegState.TheVariants.{Out}
 use Rattle.nm_choice.specs.declared.leg_state.LegState.TheVariants as state
@@ -9,16 +9,17 @@ use Rattle.nm_leg.specs.Leg.{LegType, block_of, blocks_of}
 use Rattle.nm_rules.specs.declared.refusal.Refusal.{Refusal}
 use Rattle.nm_rules.specs.declared.refusal.Refusal.TheVariants.{AlreadyOut, Fault, Stopped}
 use Rattle.nm_rules.specs.Cause.{first_cause, when}
-use Rattle.nm_rules.specs.Copy.{CopiesRead, CopiesWrite}
 use Rattle.nm_rules.specs.Flushed.{DurableAt, KeepsDurable}
 use Rattle.nm_rules.specs.Invariant.{Keeps}
 use Rattle.nm_rules.specs.State.{StripeState, is_out, leg_state}
-use Rattle.nm_rules.proofs.FlushedLemmas.{fails_in_begin-durable, fails_in_read-durable, copies_read-durable, fails_in_copy-durable}
-use Rattle.nm_rules.proofs.FlushedLostLemmas.{loses_in_begin-durable, loses_in_read-durable, loses_in_copy-durable, loses_in_promote-durable, loses_in_sync-durable, goes_out-durable, loses_in_sync-makes, attaches-durable, replaces-durable}
-use Rattle.nm_rules.proofs.FlushedSyncLemmas.{copies_write-durable, synchronizes-durable, synchronizes-makes, fails_in_sync-durable, promotes-durable, out-durable}
-use Rattle.nm_rules.proofs.RunFlushedLemmas.{claims_run-durable, finds_run-durable, halts_run-durable, loses_in_push_run-durable, pushes_run-durable}
+use Rattle.nm_rules.proofs.FlushedLemmas.{fails_in_begin-durable, fails_in_read-durable, fails_in_copy-durable}
+use Rattle.nm_rules.proofs.FlushedLostLemmas.{loses_in_begin-durable, loses_in_read-durable, loses_in_promote-durable, loses_in_sync-durable, goes_out-durable, loses_in_sync-makes, attaches-durable, replaces-durable}
+use Rattle.nm_rules.proofs.FlushedSyncLemmas.{synchronizes-durable, synchronizes-makes, fails_in_sync-durable, promotes-durable, out-durable}
+use Rattle.nm_rules.proofs.RunCopyLemmas.{fails_in_copy_run-one}
+use Rattle.nm_rules.proofs.RunFlushedLemmas.{claims_run-durable, copies_read_run-durable, copies_write_run-durable, loses_in_copy_run-durable, finds_run-durable, halts_run-durable, loses_in_push_run-durable, pushes_run-durable}
 use Rattle.nm_rules.proofs.RunReadLemmas.{fails_in_read_run-last, loses_in_read_run-last}
 use Rattle.nm_rules.proofs.StateLemmas.{in_sync_inside}
+use Rattle.nm_store.specs.Copying.{MovesRun}
 use Rattle.nm_stripe.specs.declared.answer.Answer.{Answer}
 use Rattle.nm_stripe.specs.declared.answer.Answer.TheVariants.{Begun, Pushed, Complete, Halted, Written, Value, Failed, MasterChanged, Joining, Copied, InSync, Synced, LegLost, Refused}
 use Rattle.nm_stripe.specs.declared.answer.Answer.TheVariants.{Nothing as NothingLeft}
@@ -59,16 +60,16 @@ module _ {L : Type 0} (type : LegType L) (old new : StripeState L) (b : ℕ) (wa
     read-refused block was bytes given (ReadCause cause is stays) = same is
     read-refused block was bytes given (ReadFault is fails) = fails_in_read-durable type old new b was_free is_honest _ (block_of []) (fails_in_read_run-last type old new block (blocks_of bytes) fails)
 
-    copy-refused : (leg : ℕ) (given : Refusal) → RefusesCopy type old new leg given → KeepsDurable type.model b old new
-    copy-refused leg given (CopyCause cause is) = same is
-    copy-refused leg given (CopyFault is fails) = fails_in_copy-durable type old new b was_free is_honest leg fails
+    copy-refused : (leg most from : ℕ) (given : Refusal) → RefusesCopy type old new leg most from given → KeepsDurable type.model b old new
+    copy-refused leg most from given (CopyCause cause is) = same is
+    copy-refused leg most from given (CopyFault is fails) = fails_in_copy-durable type old new b was_free is_honest leg (fails_in_copy_run-one type old new leg most k fails)
 
     sync-refused : (leg : ℕ) (given : Refusal) → RefusesSync type old new leg given → KeepsDurable type.model b old new
     sync-refused leg given (SyncCause cause is) = same is
     sync-refused leg given (SyncFault is fails) = fails_in_sync-durable type old new b was_free k is_honest inside leg fails
 
-    copied : (leg : ℕ) → (CopiesRead type old new leg ⊎ CopiesWrite type old new leg) → KeepsDurable type.model b old new
-    copied leg half = ⊎_elim (λ read. copies_read-durable type old new b was_free is_honest leg read) (λ write. copies_write-durable type old new b was_free k leg write) half
+    copied : (leg most from moved : ℕ) → MovesRun type old new leg most from moved → KeepsDurable type.model b old new
+    copied leg most from moved moves = ⊎_elim (λ read. copies_read_run-durable type old new b was_free is_honest leg most read.reads) (λ write. copies_write_run-durable type old new b was_free k leg most write.writes) moves
 
     -- each step that begins no write of the block keeps what is durable of it
     pub step-durable : (step : Step L) (answer : Answer L) → LeavesBlock b step answer → StepOf type step answer old new → KeepsDurable type.model b old new
@@ -92,10 +93,10 @@ module _ {L : Type 0} (type : LegType L) (old new : StripeState L) (b : ℕ) (wa
     step-durable (Attach leg) (Refused cause handed) leaves is = same is.2
     step-durable (Replace leg part) (Joining blocks) leaves is = replaces-durable type old new b was_free k leg part is.0
     step-durable (Replace leg part) (Refused cause handed) leaves is = same is.2
-    step-durable (Copy leg) (Copied blocks) leaves is = copied leg is.0
-    step-durable (Copy leg) NothingLeft leaves is = same is.1
-    step-durable (Copy leg) (LegLost gone handed) leaves is = loses_in_copy-durable type old new b was_free k kn is_honest inside leg gone is.0
-    step-durable (Copy leg) (Refused cause handed) leaves is = copy-refused leg cause is.0
+    step-durable (Copy leg most from) (Copied moved blocks) leaves is = copied leg most from moved is.0
+    step-durable (Copy leg most from) NothingLeft leaves is = same is.1
+    step-durable (Copy leg most from) (LegLost gone handed) leaves is = loses_in_copy_run-durable type old new b was_free k kn is_honest inside leg gone most is.0
+    step-durable (Copy leg most from) (Refused cause handed) leaves is = copy-refused leg most from cause is.0
     step-durable (Promote leg) InSync leaves is = promotes-durable type old new b was_free k is_honest inside leg kn is
     step-durable (Promote leg) (LegLost gone handed) leaves is = loses_in_promote-durable type old new b was_free k kn is_honest inside leg is.0.1
     step-durable (Promote leg) (Refused cause handed) leaves is = same is.2

@@ -10,10 +10,11 @@ use Rattle.nm_rules.specs.Acts.{Acts, IsExplainedStep}
 use Rattle.nm_rules.specs.Shape.{SameShape}
 use Rattle.nm_rules.specs.State.{StripeState}
 use Rattle.nm_rules.proofs.ActsLemmas.{acts-none, acts-append}
-use Rattle.nm_rules.proofs.RunJoiningLemmas.{claims_run-shape, finds_run-shape, halts_run-shape, loses_in_push_run-shape, pushes_run-shape}
+use Rattle.nm_rules.proofs.LegLemmas.{calls-length}
+use Rattle.nm_rules.proofs.RunJoiningLemmas.{claims_run-shape, copies_read_run-shape, copies_write_run-shape, finds_run-shape, halts_run-shape, loses_in_copy_run-shape, loses_in_push_run-shape, pushes_run-shape}
 use Rattle.nm_rules.proofs.RunReadLemmas.{fails_in_read_run-last, loses_in_read_run-last}
 use Rattle.nm_rules.proofs.ShapeLemmas.{loses_in_begin-shape, fails_in_begin-shape, loses_in_read-shape, fails_in_read-shape, goes_out-shape, attaches-shape, replaces-shape}
-use Rattle.nm_rules.proofs.ShapeLemmas.{copies_read-shape, copies_write-shape, loses_in_copy-shape, fails_in_copy-shape, promotes-shape, loses_in_promote-shape, synchronizes-shape, loses_in_sync-shape, fails_in_sync-shape}
+use Rattle.nm_rules.proofs.ShapeLemmas.{promotes-shape, loses_in_promote-shape, synchronizes-shape, loses_in_sync-shape, fails_in_sync-shape}
 use Rattle.nm_stripe.specs.declared.answer.Answer.{Answer}
 use Rattle.nm_stripe.specs.declared.answer.Answer.TheVariants.{Begun, Pushed, Complete, Halted, Written, Value, Failed, MasterChanged, Joining, Copied, InSync, Synced, LegLost, Refused}
 use Rattle.nm_stripe.specs.declared.answer.Answer.TheVariants.{Nothing as NothingLeft}
@@ -72,7 +73,7 @@ halted-front (Value v ∷ answers) answer none = halted-front answers answer non
 halted-front (Failed ∷ answers) answer none = halted-front answers answer none
 halted-front (MasterChanged m ∷ answers) answer none = halted-front answers answer none
 halted-front (Joining n ∷ answers) answer none = halted-front answers answer none
-halted-front (Copied n ∷ answers) answer none = halted-front answers answer none
+halted-front (Copied m n ∷ answers) answer none = halted-front answers answer none
 halted-front (NothingLeft ∷ answers) answer none = halted-front answers answer none
 halted-front (InSync ∷ answers) answer none = halted-front answers answer none
 halted-front (Synced ∷ answers) answer none = halted-front answers answer none
@@ -90,7 +91,7 @@ halted-last (Value v ∷ answers) answer none = halted-last answers answer none
 halted-last (Failed ∷ answers) answer none = halted-last answers answer none
 halted-last (MasterChanged m ∷ answers) answer none = halted-last answers answer none
 halted-last (Joining n ∷ answers) answer none = halted-last answers answer none
-halted-last (Copied n ∷ answers) answer none = halted-last answers answer none
+halted-last (Copied m n ∷ answers) answer none = halted-last answers answer none
 halted-last (NothingLeft ∷ answers) answer none = halted-last answers answer none
 halted-last (InSync ∷ answers) answer none = halted-last answers answer none
 halted-last (Synced ∷ answers) answer none = halted-last answers answer none
@@ -117,9 +118,11 @@ read-refused : {L : Type 0} (type : LegType L) (old new : StripeState L) (block 
 read-refused type old new block was bytes given (ReadCause cause is stays) = same old new is
 read-refused type old new block was bytes given (ReadFault is fails) = fails_in_read-shape type old new _ (block_of []) (fails_in_read_run-last type old new block (blocks_of bytes) fails)
 
-copy-refused : {L : Type 0} (type : LegType L) (old new : StripeState L) (leg : ℕ) (given : Refusal) → RefusesCopy type old new leg given → SameShape old new
-copy-refused type old new leg given (CopyCause cause is) = same old new is
-copy-refused type old new leg given (CopyFault is fails) = fails_in_copy-shape type old new leg fails
+copy-refused : {L : Type 0} (type : LegType L) (old new : StripeState L) (leg most from : ℕ) (given : Refusal) → RefusesCopy type old new leg most from given → SameShape old new
+copy-refused type old new leg most from given (CopyCause cause is) = same old new is
+copy-refused type old new leg most from given (CopyFault is fails) =
+    let r = fails.called.reads in
+    record { place = ap (λ (s : StripeState _). s.place) fails.after; legs = calls-length type.model old.legs new.legs old.master r.before r.after r.change }
 
 sync-refused : {L : Type 0} (type : LegType L) (old new : StripeState L) (leg : ℕ) (given : Refusal) → RefusesSync type old new leg given → SameShape old new
 sync-refused type old new leg given (SyncCause cause is) = same old new is
@@ -146,10 +149,10 @@ step-shape type (Attach leg) (Joining blocks) old new is = attaches-shape type o
 step-shape type (Attach leg) (Refused cause handed) old new is = same old new is.2
 step-shape type (Replace leg part) (Joining blocks) old new is = replaces-shape type old new leg part is.0
 step-shape type (Replace leg part) (Refused cause handed) old new is = same old new is.2
-step-shape type (Copy leg) (Copied blocks) old new is = ⊎_elim (λ read. copies_read-shape type old new leg read) (λ write. copies_write-shape type old new leg write) is.0
-step-shape type (Copy leg) NothingLeft old new is = same old new is.1
-step-shape type (Copy leg) (LegLost gone handed) old new is = loses_in_copy-shape type old new leg gone is.0
-step-shape type (Copy leg) (Refused cause handed) old new is = copy-refused type old new leg cause is.0
+step-shape type (Copy leg most from) (Copied moved blocks) old new is = ⊎_elim (λ read. copies_read_run-shape type old new leg most read.reads) (λ write. copies_write_run-shape type old new leg most write.writes) is.0
+step-shape type (Copy leg most from) NothingLeft old new is = same old new is.1
+step-shape type (Copy leg most from) (LegLost gone handed) old new is = loses_in_copy_run-shape type old new leg gone most is.0
+step-shape type (Copy leg most from) (Refused cause handed) old new is = copy-refused type old new leg most from cause is.0
 step-shape type (Promote leg) InSync old new is = promotes-shape type old new leg is
 step-shape type (Promote leg) (LegLost gone handed) old new is = loses_in_promote-shape type old new leg is.0.1
 step-shape type (Promote leg) (Refused cause handed) old new is = same old new is.2
@@ -167,7 +170,7 @@ asked-later model (Read block room) old new shape asked = (rw shape.place asked.
 asked-later model (Fail leg) old new shape asked = rw shape.legs asked
 asked-later model (Attach leg) old new shape asked = rw shape.legs asked
 asked-later model (Replace leg part) old new shape asked = (rw shape.legs asked.0, rw shape.place asked.1)
-asked-later model (Copy leg) old new shape asked = rw shape.legs asked
+asked-later model (Copy leg most from) old new shape asked = (rw shape.legs asked.0, asked.1)
 asked-later model (Promote leg) old new shape asked = rw shape.legs asked
 asked-later model (Sync leg) old new shape asked = rw shape.legs asked
 

@@ -8,9 +8,10 @@ use Rattle.nm_rules.specs.Invariant.{Keeps}
 use Rattle.nm_rules.specs.State.{StripeState}
 use Rattle.nm_rules.proofs.AttachLemmas.{may_attach, attach-keeps}
 use Rattle.nm_rules.proofs.HaltLemmas.{begin_fault-keeps, sync_fault-keeps, copy_fault-keeps}
-use Rattle.nm_rules.proofs.LostStepLemmas.{begin_lost-keeps, sync_lost-keeps, promote_lost-keeps, copy_lost-keeps, fail-keeps}
+use Rattle.nm_rules.proofs.LostStepLemmas.{begin_lost-keeps, sync_lost-keeps, promote_lost-keeps, fail-keeps}
 use Rattle.nm_rules.proofs.ReplaceLemmas.{replace-keeps}
 use Rattle.nm_rules.proofs.RunClaimLemmas.{claims_run-keeps}
+use Rattle.nm_rules.proofs.RunCopyLemmas.{copy_run_lost-keeps, fails_in_copy_run-one}
 use Rattle.nm_rules.proofs.RunPushLemmas.{halts_run-keeps, push_run_lost-keeps, pushes_run-keeps}
 use Rattle.nm_rules.proofs.RunReadLemmas.{finds_run-keeps}
 use Rattle.nm_stripe.specs.declared.answer.Answer.{Answer}
@@ -24,7 +25,7 @@ use Rattle.nm_stripe.specs.Read.{RefusesRead, ForCause as ReadCause, ForFault as
 use Rattle.nm_stripe.specs.Sync.{RefusesSync, ForCause as SyncCause, ForFault as SyncFault}
 use Rattle.nm_stripe.specs.Run.{StepOf, MayBeAsked}
 use Rattle.nm_stripe.proofs.BeginLemmas.{begun-keeps}
-use Rattle.nm_stripe.proofs.CopyLemmas.{copied-keeps}
+use Rattle.nm_stripe.proofs.CopyLemmas.{moved-run}
 use Rattle.nm_stripe.proofs.ReadLemmas.{failed_read-keeps, lost_read-keeps}
 use Rattle.nm_stripe.proofs.SyncLemmas.{synced-keeps, promoted-keeps}
 
@@ -41,9 +42,9 @@ module _ {L : Type 0} (type : LegType L) (old new : StripeState L) (k : Keeps ty
   read-refused block was bytes given (ReadCause cause is stays) = same is
   read-refused block was bytes given (ReadFault is fails) = failed_read-keeps type old new k block (blocks_of bytes) fails
 
-  copy-refused : (leg : ℕ) (given : Refusal) → RefusesCopy type old new leg given → Keeps type new
-  copy-refused leg given (CopyCause cause is) = same is
-  copy-refused leg given (CopyFault is fails) = copy_fault-keeps type old new k leg fails
+  copy-refused : (leg most from : ℕ) (given : Refusal) → RefusesCopy type old new leg most from given → Keeps type new
+  copy-refused leg most from given (CopyCause cause is) = same is
+  copy-refused leg most from given (CopyFault is fails) = copy_fault-keeps type old new k leg (fails_in_copy_run-one type old new leg most k fails)
 
   sync-refused : (leg : ℕ) (given : Refusal) → RefusesSync type old new leg given → Keeps type new
   sync-refused leg given (SyncCause cause is) = same is
@@ -76,10 +77,10 @@ step-keeps type (Attach leg) (Joining blocks) old new k asked is = attaches type
 step-keeps type (Attach leg) (Refused cause handed) old new k asked is = same type old new k is.2
 step-keeps type (Replace leg part) (Joining blocks) old new k asked is = replaces type old new k leg part asked.0 asked.1 is.0
 step-keeps type (Replace leg part) (Refused cause handed) old new k asked is = same type old new k is.2
-step-keeps type (Copy leg) (Copied blocks) old new k asked is = copied-keeps type old new leg k is.0
-step-keeps type (Copy leg) NothingLeft old new k asked is = same type old new k is.1
-step-keeps type (Copy leg) (LegLost gone handed) old new k asked is = copy_lost-keeps type old new k leg gone is.0
-step-keeps type (Copy leg) (Refused cause handed) old new k asked is = copy-refused type old new k leg cause is.0
+step-keeps type (Copy leg most from) (Copied moved blocks) old new k asked is = (moved-run type old new leg most from k asked.1 moved is.0).keeps
+step-keeps type (Copy leg most from) NothingLeft old new k asked is = same type old new k is.1
+step-keeps type (Copy leg most from) (LegLost gone handed) old new k asked is = copy_run_lost-keeps type old new leg most k gone is.0
+step-keeps type (Copy leg most from) (Refused cause handed) old new k asked is = copy-refused type old new k leg most from cause is.0
 step-keeps type (Promote leg) InSync old new k asked is = promoted-keeps type old new leg new.legs k is.called asked is.after
 step-keeps type (Promote leg) (LegLost gone handed) old new k asked is = promote_lost-keeps type old new k leg is.0.1
 step-keeps type (Promote leg) (Refused cause handed) old new k asked is = same type old new k is.2

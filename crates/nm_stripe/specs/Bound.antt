@@ -14,12 +14,12 @@ use Rattle.nm_stripe.specs.declared.answer.Answer.TheVariants.{InSync, LegLost}
 use Rattle.nm_stripe.specs.declared.step.Step.{Step}
 use Rattle.nm_stripe.specs.declared.step.Step.TheVariants.{Fail, Copy, Promote}
 
--- 1 for a step that copied to this leg, 0 for any other
+-- how many blocks the step read or wrote for the copy to this leg
 abbrev pub copies : {L : Type 0} → ℕ → Step L → Answer L → ℕ
-copies leg (Copy other) (Copied blocks) = if other == leg then 1 else 0
+copies leg (Copy other most from) (Copied moved left) = if other == leg then moved else 0
 copies leg step answer = 0
 
--- how many of the steps copied to this leg
+-- how many the steps read or wrote for it
 abbrev pub copied_count : {L : Type 0} → ℕ → List (Step L) → List (Answer L) → ℕ
 copied_count leg (step ∷ steps) (answer ∷ answers) =
     copies leg step answer + copied_count leg steps answers
@@ -39,8 +39,8 @@ StaysJoining leg (step ∷ steps) (answer ∷ answers) =
     StaysBehind leg step answer × StaysJoining leg steps answers
 StaysJoining leg steps answers = Unit {0}
 
--- the leg still joins, each step that copied to it was one call of a leg fewer to make, and there
--- were at most two for each block that was left
+-- the leg still joins, each block that was read or written for it was one fewer to read or write,
+-- and these were at most two for each block that was left
 pub record IsBounded {L : Type 0} (leg : ℕ) (steps : List (Step L)) (answers : List (Answer L))
     (old new : StripeState L) : Type 0 where
   pub joining : leg_state leg new ≡ state.Joining
@@ -59,6 +59,7 @@ BoundsCopies steps answers old new =
 pub record IsCopied {L : Type 0} (leg : ℕ) (stripe : StripeState L) : Type 0 where
   pub nowhere : has_behind leg (table stripe) ≡ false
   pub promotes : stripe.stopped ≡ false → promote_cause stripe leg ≡ None
-  pub refused : (refusal : Refusal) → CopyRefused stripe leg refusal
+  pub refused : (from : ℕ) (refusal : Refusal) → CopyRefused stripe leg from refusal
       → (refusal ≡ Stopped) ⊎ (refusal ≡ Settling)
-  pub nothing : stripe.stopped ≡ false → stripe.settling ≡ false → HasNothing stripe leg
+  pub nothing : (from : ℕ) → stripe.stopped ≡ false → stripe.settling ≡ false
+      → HasNothing stripe leg from

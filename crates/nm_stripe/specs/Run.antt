@@ -39,7 +39,7 @@ use Rattle.nm_stripe.specs.Read.{Reads, RefusesRead}
 use Rattle.nm_stripe.specs.Sync.{EndsJoining, Syncs, RefusesSync}
 
 -- a step that may be asked for: its blocks are a run of the stripe, its leg is there, its data and
--- its room fit the blocks, and a new leg is as long as the stripe
+-- its room fit the blocks, a new leg is as long as the stripe, and a copy may move some block
 abbrev pub MayBeAsked : {L : Type 0} → (L → Leg) → StripeState L → Step L → Type 0
 MayBeAsked model stripe (Begin block bytes) =
     FitsRun stripe.place block (data_blocks bytes) × FitsBlocks bytes
@@ -51,7 +51,7 @@ MayBeAsked model stripe (Fail leg) = leg < length stripe.legs
 MayBeAsked model stripe (Attach leg) = leg < length stripe.legs
 MayBeAsked model stripe (Replace leg part) =
     (leg < length stripe.legs) × (length (model part).contents ≡ stripe.place.blocks)
-MayBeAsked model stripe (Copy leg) = leg < length stripe.legs
+MayBeAsked model stripe (Copy leg most from) = (leg < length stripe.legs) × (0 < most)
 MayBeAsked model stripe (Promote leg) = leg < length stripe.legs
 MayBeAsked model stripe (Sync leg) = leg < length stripe.legs
 
@@ -106,12 +106,14 @@ StepOf type (Replace leg part) (Joining blocks) old new =
     Replaces old new leg part × (blocks ≡ left leg new)
 StepOf type (Replace leg part) (Refused refusal handed) old new =
     (attach_cause old leg ≡ Some refusal) × (handed ≡ Replacement part) × (new ≡ old)
-StepOf type (Copy leg) (Copied blocks) old new = Copies type old new leg (copying.Copied blocks)
-StepOf type (Copy leg) NothingLeft old new = Copies type old new leg copying.Nothing
-StepOf type (Copy leg) (LegLost gone handed) old new =
-    Copies type old new leg (copying.LegLost gone) × (handed ≡ Nothing)
-StepOf type (Copy leg) (Refused refusal handed) old new =
-    RefusesCopy type old new leg refusal × (handed ≡ Nothing)
+StepOf type (Copy leg most from) (Copied moved blocks) old new =
+    Copies type old new leg most from (copying.Copied moved blocks)
+StepOf type (Copy leg most from) NothingLeft old new =
+    Copies type old new leg most from copying.Nothing
+StepOf type (Copy leg most from) (LegLost gone handed) old new =
+    Copies type old new leg most from (copying.LegLost gone) × (handed ≡ Nothing)
+StepOf type (Copy leg most from) (Refused refusal handed) old new =
+    RefusesCopy type old new leg most from refusal × (handed ≡ Nothing)
 StepOf type (Promote leg) InSync old new = EndsJoining type old new leg promotion.InSync
 StepOf type (Promote leg) (LegLost gone handed) old new =
     EndsJoining type old new leg (promotion.LegLost gone) × (handed ≡ Nothing)

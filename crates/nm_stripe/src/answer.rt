@@ -25,8 +25,8 @@ pub enum Answer<L> {
     MasterChanged(u8),
     /// The leg joins, and so many blocks are left to copy to it.
     Joining(u64),
-    /// A block was copied halfway or whole; so many are left.
-    Copied(u64),
+    /// So many blocks were copied halfway or whole; so many are left.
+    Copied { moved: u64, left: u64 },
     /// The leg is behind in no region.
     Nothing,
     /// The leg is in sync.

@@ -5,8 +5,9 @@ ghost use Rattle.nm_leg.specs.LegCalls.{EachHas};
 ghost use Rattle.nm_regions.specs.Sound.{AreSizes};
 ghost use Rattle.nm_resync.specs.Chunk.{IsChunkSize};
 ghost use Rattle.nm_rules.specs.Array.{contents_of, stripe_array};
-ghost use Rattle.nm_rules.specs.Comparing.{comparing, BehindWhereDiffers, OpensCompared};
-ghost use Rattle.nm_rules.specs.Comparing.{FailsToOpen};
+ghost use Rattle.nm_rules.specs.Comparing.{comparing, BehindWhereDiffers};
+ghost use Rattle.nm_rules.specs.RunComparing.{OpensComparedRuns};
+ghost use Rattle.nm_store.specs.Comparing.{FailsToOpenRuns};
 
 use crate::stripe::Stripe;
 use nm_choice::Policy;
@@ -21,9 +22,10 @@ impl<L: LegPart> Stripe<L> {
     /// are honest: so `left` is the number of blocks in these. A leg of which a read fails is out,
     /// behind in all regions, and is not read again.
     ///
-    /// All the memory that the stripe will ever need is taken first. Then each block is read, by
-    /// rising number: on the master, and then on each other leg that is not out, by rising number.
-    /// `first` is the number of the first entry.
+    /// All the memory that the stripe will ever need is taken first, and room for two runs until it
+    /// is open. Then all blocks are read, by runs of up to 128 blocks of one region, by rising
+    /// number: on the master, and then on each other leg that is not out, by rising number. `first`
+    /// is the number of the first entry.
     ///
     /// `Memory` where an allocation fails: no leg was called. `MasterFault` where a read of the
     /// master fails: no leg was called after it. The legs come back.
@@ -39,12 +41,12 @@ impl<L: LegPart> Stripe<L> {
         requires chunk { IsChunkSize place.chunk }
         requires lengths { EachHas L.model legs.items place.blocks }
         requires master { master < length legs.items }
-        ensures opened { IfOk result (OpensCompared (leg_type L.model L.honest)
+        ensures opened { IfOk result (OpensComparedRuns (leg_type L.model L.honest)
             (comparing place legs.items master first policy)) }
         ensures differing { IsTrue L.honest → IfOk result (BehindWhereDiffers L.model) }
         ensures array { IsTrue L.honest → IfOk result (λ stripe.
             stripe_array L.model stripe ≡ contents_of L.model legs.items master) }
-        ensures handed_back { IfErr result (λ refused. FailsToOpen (leg_type L.model L.honest)
+        ensures handed_back { IfErr result (λ refused. FailsToOpenRuns (leg_type L.model L.honest)
             (comparing place legs.items master first policy) refused.0 refused.1.items) }
     {
         let store = Store::open_compared(alloc, place, legs, master, first, policy)?;

@@ -37,8 +37,9 @@ pub enum Step<L> {
     Attach(u8),
     /// Puts another leg in the place of this one, which is out.
     Replace(u8, L),
-    /// Copies to this joining leg: one block is read or written.
-    Copy(u8),
+    /// Copies to this joining leg: up to so many blocks, at least one, are read or written. Where
+    /// no copy is open, of its lowest region behind that is not below this one.
+    Copy(u8, u64, u64),
     /// Calls this joining leg in sync, after a sync.
     Promote(u8),
     /// Syncs this leg.
@@ -133,15 +134,16 @@ impl<L: LegPart> Stripe<L> {
     }
 
     /// A step of a copy.
-    fn step_copy(&mut self, leg: u8) -> Answer<L>
-        requires { leg < length self.old.legs }
-        ensures step { StepOf (leg_type L.model L.honest) (Step.Copy leg) result
+    fn step_copy(&mut self, leg: u8, most: u64, from: u64) -> Answer<L>
+        requires leg { leg < length self.old.legs }
+        requires some { 0 < most }
+        ensures step { StepOf (leg_type L.model L.honest) (Step.Copy leg most from) result
             self.old self.new }
         ensures acts { IsTrue L.honest
-            → IsExplainedStep L.model (marks (Step.Copy leg) result) self.old self.new }
+            → IsExplainedStep L.model (marks (Step.Copy leg most from) result) self.old self.new }
     {
-        match self.copy(leg) {
-            Ok(Copying::Copied(left)) => Answer::Copied(left),
+        match self.copy(leg, most, from) {
+            Ok(Copying::Copied { moved, left }) => Answer::Copied { moved, left },
             Ok(Copying::Nothing) => Answer::Nothing,
             Ok(Copying::LegLost(leg)) => loss_answer(leg),
             Err(refusal) => refusal_answer(refusal),
@@ -207,7 +209,7 @@ impl<L: LegPart> Stripe<L> {
                 Ok(left) => Answer::Joining(left),
                 Err((refusal, part)) => Answer::Refused(refusal, Handed::Replacement(part)),
             },
-            Step::Copy(leg) => self.step_copy(leg),
+            Step::Copy(leg, most, from) => self.step_copy(leg, most, from),
             Step::Promote(leg) => self.step_promote(leg),
             Step::Sync(leg) => self.step_sync(leg),
         }

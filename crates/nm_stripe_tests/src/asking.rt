@@ -94,7 +94,7 @@ pub fn step_of<L: LegPart>(alloc: Global, spare: &mut Vec<L>, ask: Ask) -> Resul
         Ask::Fail(leg) => Step::Fail(leg),
         Ask::Attach(leg) => Step::Attach(leg),
         Ask::Replace(leg) => Step::Replace(leg, spare.pop().ok_or("no spare leg")?),
-        Ask::Copy(leg) => Step::Copy(leg),
+        Ask::Copy(leg) => Step::Copy(leg, 1, 0),
         Ask::Promote(leg) => Step::Promote(leg),
         Ask::Sync(leg) => Step::Sync(leg),
     })
@@ -136,7 +136,7 @@ pub fn may_ask<L: LegPart>(rt: &impl Abort, stripe: &Stripe<L>, step: &Step<L>)
         Step::Push(_, leg)
         | Step::Fail(leg)
         | Step::Attach(leg)
-        | Step::Copy(leg)
+        | Step::Copy(leg, _, _)
         | Step::Promote(leg)
         | Step::Sync(leg) => assert!(rt; (*leg as usize) < stripe.legs()),
     }
@@ -158,7 +158,7 @@ pub fn summary_of<L: LegPart>(answer: &Answer<L>) -> Summary {
         Answer::Failed => Summary::Failed,
         Answer::MasterChanged(master) => Summary::MasterChanged(*master),
         Answer::Joining(left) => Summary::Joining(*left),
-        Answer::Copied(left) => Summary::Copied(*left),
+        Answer::Copied { moved: _, left } => Summary::Copied(*left),
         Answer::Nothing => Summary::Nothing,
         Answer::InSync => Summary::InSync,
         Answer::Synced => Summary::Synced,

@@ -87,7 +87,7 @@ fn joins(rt: &impl Abort, stripe: &Stripe<FuseLeg>) {
 
 fn copies(rt: &impl Abort, stripe: &mut Stripe<FuseLeg>, leg: u8, want: Result<Copying, Refusal>) {
     assert!(rt; (leg as usize) < stripe.legs());
-    assert_eq!(rt; stripe.copy(leg), want);
+    assert_eq!(rt; stripe.copy(leg, 1, 0), want);
 }
 
 fn is_not_promoted(rt: &impl Abort, stripe: &mut Stripe<FuseLeg>, why: Refusal) {
@@ -203,7 +203,12 @@ fn a_leg_goes_out_and_comes_back(rt: HostRuntime) -> Result<(), Fail> {
 fn a_leg_that_joins_is_copied_first(rt: HostRuntime) -> Result<(), Fail> {
     let mut stripe = open_fused(&rt, rt.alloc(), JOINING)?;
     is_not_promoted(&rt, &mut stripe, Refusal::NotYet);
-    copies(&rt, &mut stripe, 1, Ok(Copying::Copied(8)));
+    copies(
+        &rt,
+        &mut stripe,
+        1,
+        Ok(Copying::Copied { moved: 1, left: 8 }),
+    );
     copies(&rt, &mut stripe, 0, Err(Refusal::NotJoining));
     Ok(())
 }

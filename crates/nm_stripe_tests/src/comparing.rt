@@ -67,7 +67,7 @@ fn stands(rt: &impl Abort, stripe: &Stripe<FuseLeg>, leg: u8) -> (LegState, u64)
 fn a_leg_whose_read_fails_is_out_and_not_read_again(rt: HostRuntime) -> Result<(), Fail> {
     let legs = three_legs(&rt, rt.alloc())?;
     assert!(rt; 1 < legs.len());
-    legs[1].set(4);
+    legs[1].set(2);
     let mut stripe = compare(&rt, rt.alloc(), legs, 0).ok().ok_or("open")?;
     assert_eq!(rt; stands(&rt, &stripe, 1), (LegState::Out, 10));
     assert_eq!(rt; stands(&rt, &stripe, 2), (LegState::Joining, 8));

@@ -1,22 +1,9 @@
-use Rattle.std.proofs.Common.{◌≡◌, ℕ, ◌+◌, ◌-◌, ◌*◌, ◌/◌, ◌∷◌, [], ◌++◌, List, length, take, drop, ap, ◌∙◌, arith}
-use Rattle.nm_replay.specs.declared.entry.Entry.{Entry}
-use Rattle.nm_replay.proofs.Dropping.{length-last_kept}
-use Rattle.nm_replay.specs.Array.{Entire}
-use Rattle.nm_replay.specs.Events.{entry_of_write}
-use Rattle.nm_fanout.proofs.KeepLemmas.{keep-step}
+use Rattle.std.proofs.Common.{◌/◌, ◌++◌, length, ap, ◌∙◌}
+use Rattle.nm_replay.specs.Kept.{last_kept}
+use Rattle.nm_fanout.proofs.KeepLemmas.{writes-run}
 use Rattle.nm_fanout.proofs.keeping.keep_run.Goals as goal
 
-pub loop-at-preserved : goal.loop-at-preserved
-loop-at-preserved c =
-    let at = c.loop-at.at in
-    let bytes = c.args.bytes.now in
-    let span : at * 512 + 512 - at * 512 ≡ 512 = omega arith in
-    let from : at * 512 ≡ 512 * at = omega arith in
-    let own : c.copy_from_slice.new.self ≡ take 512 (drop (512 * at) bytes) =
-    c.copy_from_slice.ensures.after ∙ ap (λ (m : ℕ). take m (drop (at * 512) bytes)) span ∙ ap (λ (m : ℕ). take 512 (drop m bytes)) from in
-    let entry : Entry = entry_of_write (c.args.number + at) (c.args.ticket + at) (c.args.block + at) Entire (record { 0 = c.copy_from_slice.new.self }) in
-    record {
-      total = omega (arith, c.push.ensures.total, c.loop-at.invariant.total);
-      few = omega (arith, ap (λ (es : List Entry). length es) c.push.ensures.entries, length-last_kept (c.loop-at.kept.entries ++ entry ∷ []));
-      entries = keep-step (length bytes / 512) at c.args.number c.args.ticket c.args.block bytes c.copy_from_slice.new.self c.loop-at.kept.entries c.push.new.self.entries c.loop-at-test.true own c.push.ensures.entries ∙ c.loop-at.invariant.entries;
-    }
+pub returns-clause-entries : goal.returns-clause-entries
+returns-clause-entries c =
+    c.push_run.ensures.entries
+    ∙ ap (λ es. last_kept (c.args.kept.now.entries ++ es)) (writes-run (length c.args.bytes.now / 512) c.args.number c.args.ticket c.args.block c.args.bytes.now)

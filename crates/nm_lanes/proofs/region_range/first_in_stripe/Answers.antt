@@ -1,7 +1,7 @@
 -- The blocks follow one another in the stripe as well.
 use Rattle.std.proofs.Common.{◌+◌, ◌≤◌, ℕ, ap, ◌∙◌, subst, sym}
 use Rattle.nm_geometry.specs.Geometry.{block_in_stripe}
-use Rattle.nm_lanes.specs.Stretches.{block_of}
+use Rattle.nm_lanes.specs.PieceRanges.{block_of}
 use Rattle.nm_lanes.proofs.RegionLemmas.{range-follows, in_stripe-le}
 use Rattle.nm_lanes.proofs.region_range.first_in_stripe.Goals as goal
 
@@ -14,5 +14,5 @@ returns-clause-follow c = λ at below.
 pub returns-clause-most : goal.returns-clause-most
 returns-clause-most c =
     let first = ap (λ b. block_in_stripe b c.args.shape.now) c.block.ensures in
-    subst (λ (n : ℕ). n ≤ block_of c.args.regions.stretch) (sym (c.block_in_stripe.ensures.block ∙ first))
-    (in_stripe-le c.args.shape.now (block_of c.args.regions.stretch))
+    subst (λ (n : ℕ). n ≤ block_of c.args.regions.pieces) (sym (c.block_in_stripe.ensures.block ∙ first))
+    (in_stripe-le c.args.shape.now (block_of c.args.regions.pieces))

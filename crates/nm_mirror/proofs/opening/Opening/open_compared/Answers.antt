@@ -2,7 +2,8 @@
 use Rattle.std.proofs.Common.{◌≡◌, ◌<◌, ℕ, [], ◌∷◌, ◌++◌, length, ap, subst, ◌∙◌, rules, arith}
 use Rattle.nm_leg.specs.Leg.{leg_type}
 use Rattle.nm_rules.specs.declared.at.At.{At}
-use Rattle.nm_rules.specs.Comparing.{comparing, OpensCompared}
+use Rattle.nm_rules.specs.Comparing.{comparing}
+use Rattle.nm_rules.specs.RunComparing.{OpensComparedRuns}
 use Rattle.nm_mirror.specs.Stripes.{place_of}
 use Rattle.nm_mirror.proofs.OpeningLemmas.{compared_is_new, new_more}
 use Rattle.nm_mirror.proofs.opening.Opening.open_compared.Goals as goal
@@ -38,7 +39,7 @@ returns-clause-opened g c =
     record {
       stripe = c.in_ok-stripe.stripe;
       opens = subst (λ (p : At).
-          OpensCompared type (comparing p c.args.legs.items c.args.master 0 c.args.policy) c.in_ok-stripe.stripe)
+          OpensComparedRuns type (comparing p c.args.legs.items c.args.master 0 c.args.policy) c.in_ok-stripe.stripe)
           at c.in_ok-stripe.ensures.opened;
       added = more;
     }

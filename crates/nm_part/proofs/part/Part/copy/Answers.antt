@@ -9,11 +9,11 @@ use Rattle.nm_part.proofs.part.Part.copy.Goals as goal
 
 pub returns-clause-step : goal.returns-clause-step
 returns-clause-step g c =
-    GoesOn (search rules) (copy-step (leg_type g.L.LegPart.model g.L.LegPart.honest) c.args.stripe.now c.copy.new.self c.args.leg c.copy.result c.copy.ensures.ok c.copy.ensures.refused)
+    GoesOn (search rules) (copy-step (leg_type g.L.LegPart.model g.L.LegPart.honest) c.args.stripe.now c.copy.new.self c.args.leg c.args.most c.args.from c.copy.result c.copy.ensures.ok c.copy.ensures.refused)
 
 pub returns-clause-acts : goal.returns-clause-acts
 returns-clause-acts g c =
-    λ honest. subst (λ (marked : List Event). IsExplainedStep g.L.LegPart.model marked c.args.stripe.now c.copy.new.self) (sym (copy-marks g.row.L.Denot c.args.leg c.copy.result)) (c.copy.ensures.acts honest)
+    λ honest. subst (λ (marked : List Event). IsExplainedStep g.L.LegPart.model marked c.args.stripe.now c.copy.new.self) (sym (copy-marks g.row.L.Denot c.args.leg c.args.most c.args.from c.copy.result)) (c.copy.ensures.acts honest)
 
 pub returns-clause-counted : goal.returns-clause-counted
 returns-clause-counted g c = copy-counts g.row.L.Denot c.args.self.now c.copy.result

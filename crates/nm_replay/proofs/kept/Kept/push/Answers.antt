@@ -1,4 +1,5 @@
 use Rattle.std.proofs.Common.{◌≡◌, ◌-◌, [], ◌∷◌, ◌++◌, length, drop, ap, ◌∙◌, arith}
+use Rattle.std.proofs.lemmas.List.{take_all}
 use Rattle.nm_replay.specs.Heads.{entry_of, joined}
 use Rattle.nm_replay.specs.Kept.{last_kept}
 use Rattle.nm_replay.proofs.Heads.{joined-kept}
@@ -15,6 +16,7 @@ returns-clause-entries c =
     ∙ ap (λ bytes. joined (drop (length (hs ++ h ∷ []) - c.self.inside.heads.capacity) (hs ++ h ∷ [])) bytes.items) c.extend_from_slice.ensures
     ∙ ap (λ n. joined (drop (length (hs ++ h ∷ []) - n) (hs ++ h ∷ [])) (drop (length (bs ++ b) - c.self.inside.bytes.capacity) (bs ++ b))) c.self.invariant.0
     ∙ ap (λ n. joined (drop (length (hs ++ h ∷ []) - 1024) (hs ++ h ∷ [])) (drop (length (bs ++ b) - n) (bs ++ b))) c.self.invariant.1
-    ∙ joined-kept hs h bs b c.self.invariant.3 block
+    ∙ joined-kept hs (h ∷ []) bs b c.self.invariant.3 (omega (arith, block))
+    ∙ ap (λ x. last_kept (joined hs bs ++ entry_of h x ∷ [])) (take_all 512 b (omega (arith, block)))
     ∙ ap (λ head. last_kept (joined hs bs ++ entry_of head b ∷ [])) c.of.ensures
     ∙ ap (λ k. last_kept (k.entries ++ c.args.entry.now ∷ [])) c.self.view_is

@@ -6,4 +6,4 @@ use Rattle.nm_store.proofs.store.Store.copy_more_cause.Goals as goal
 pub busy_new_chunk-requires : goal.busy_new_chunk-requires
 busy_new_chunk-requires g c =
     let copy = c.in_ok-copy.copy in
-    record { within = (goes-copy _ c.args.self.now c.args.leg c.requires.keeps c.requires.asked copy (sym c.copy_of.ensures ∙ c.in_ok-copy.was)).within }
+    record { within = (goes-copy _ c.args.self.now c.args.leg c.requires.keeps c.requires.asked c.args.from copy (sym c.copy_of.ensures ∙ c.in_ok-copy.was)).within }

@@ -1,11 +1,21 @@
--- A read that failed leaves all but the master.
-use Rattle.std.proofs.Common.{rules, ◌≡◌, ◌+◌, false, length, is_ok, inl, refl, sym, subst, ◌∙◌, ap, true, nat_lt, arith}
+-- A read leaves its blocks in the chunk; one that failed leaves all but the master.
+use Rattle.std.proofs.Common.{rules, ◌≡◌, ℕ, ◌++◌, Option, Some, is_none, ◌+◌, ◌-◌, false, length, min, is_ok, inl, IsTrue, refl, sym, subst, ◌∙◌, ap, true, nat_lt, arith}
 use Rattle.std.specs.Vec.{with_items}
-use Rattle.nm_resync.specs.Chunk.{CopyBuffer}
-use Rattle.nm_rules.specs.Copy.{GoesOn, chunk_of}
+use Rattle.nm_leg.specs.Leg.{cut_into, leg_type}
+use Rattle.nm_regions.specs.declared.copy_place.CopyPlace.{CopyPlace}
+use Rattle.nm_regions.specs.Changes.{copy_opened}
+use Rattle.nm_regions.specs.LegFlags.{is_behind}
+use Rattle.nm_regions.specs.Table.{RegionTable, leg_at}
+use Rattle.nm_resync.specs.Chunk.{Chunk, CopyBuffer}
+use Rattle.nm_resync.specs.Moves.{after_read}
+use Rattle.nm_rules.specs.Copy.{chunk_of, chunk_or}
+use Rattle.nm_rules.specs.Invariant.{Keeps}
+use Rattle.nm_rules.specs.RunCopy.{after_copy_read_run}
 use Rattle.nm_rules.specs.State.{StripeState, copy_start}
+use Rattle.nm_store.specs.CopyPlace.{IsCopyPlace}
+use Rattle.nm_store.specs.Copying.{unread}
 use Rattle.nm_store.specs.Inside.{state_of}
-use Rattle.nm_store.proofs.CopyLemmas.{read-failed}
+use Rattle.nm_store.proofs.CopyLemmas.{goes-copy, kept-chunk, open-at, opens-at, read-in}
 use Rattle.nm_store.proofs.store.Store.copy_read.Goals as goal
 
 pub returns-then-is_err-clause-failed : goal.returns-then-is_err-clause-failed
@@ -17,19 +27,121 @@ returns-then-is_err-clause-failed g c =
     let next : c.args.number ≡ length chunk.blocks = here (λ s. c.args.number ≡ length (chunk_of copy s).blocks) c.requires.next in
     let short : nat_lt c.args.number chunk.length ≡ true = here (λ s. nat_lt c.args.number (chunk_of copy s).length ≡ true) c.requires.short in
     let start : c.block_of.result ≡ copy_start old.place.region copy = here (λ s. c.block_of.result ≡ copy_start s.place.region copy) c.block_of.ensures.start in
-    let failed : is_ok c.read_slot.result ≡ false = search rules in
+    let long : c.chunk_length-blocks.result ≡ chunk.length = here (λ s. c.chunk_length-blocks.result ≡ (chunk_of copy s).length) c.chunk_length-blocks.ensures.length in
+    let failed : is_ok c.read_slots.result ≡ false = search rules in
     let at : c.block_of.result + c.args.number ≡ copy_start old.place.region copy + length chunk.blocks = omega (arith, start, next) in
-    rw (← c.self.view_is) (record {
+    let found = cut_into c.min-count.result c.read_slots.new.buffer.rest in
+    let count : c.min-count.result ≡ min c.args.most (chunk.length - length chunk.blocks) =
+    c.min-count.ensures ∙ ap (λ (n : ℕ). min c.args.most (n - c.args.number)) long ∙ ap (λ (n : ℕ). min c.args.most (chunk.length - n)) next in
+    rw (← c.self.view_is) (λ from on. record {
       copy = copy;
       chunk = chunk;
-      bytes = c.read_slot.new.buffer.slot;
-      on = here (λ s. GoesOn s copy.leg copy (chunk_of copy s)) c.requires.on;
+      found = found;
+      on = on;
       called = inl (
         refl,
         record {
           not_filled = ap (λ n. nat_lt n chunk.length) (sym next) ∙ short;
-          reads = read-failed _ c.self.inside.legs c.deref_mut.result.now c.read_slot.new.legs (is_ok c.read_slot.result) old.master _ _ c.read_slot.new.buffer.slot c.read_slot.ensures.reads c.deref_mut.ensures.value failed at;
+          count = c.read_slots.ensures.long ∙ count;
+          reads = read-in _ c.self.inside.legs c.deref_mut.result.now c.read_slots.new.legs (is_ok c.read_slots.result) false old.master _ _ c.deref_mut.ensures.value failed at found c.read_slots.ensures.reads;
         },
       );
-      after = ap (λ (b : CopyBuffer). let s : StripeState _ = record old { legs = (with_items c.self.inside.legs c.read_slot.new.legs).items; chunk = b.chunk } in s) c.read_slot.ensures.others;
+      after = ap (λ (b : CopyBuffer). let s : StripeState _ = record old { legs = (with_items c.self.inside.legs c.read_slots.new.legs).items; chunk = b.chunk } in s) c.read_slots.ensures.others;
     })
+
+pub returns-then-is_none-clause-read : goal.returns-then-is_none-clause-read
+returns-then-is_none-clause-read g c =
+    let old = state_of c.self.inside in
+    let copy = c.args.copy in
+    let chunk = chunk_of copy old in
+    let here : (P : StripeState _ → Type 0) → P c.args.self.now → P old = λ P p. subst P (sym c.self.view_is) p in
+    let next : c.args.number ≡ length chunk.blocks = here (λ s. c.args.number ≡ length (chunk_of copy s).blocks) c.requires.next in
+    let short : nat_lt c.args.number chunk.length ≡ true = here (λ s. nat_lt c.args.number (chunk_of copy s).length ≡ true) c.requires.short in
+    let start : c.block_of.result ≡ copy_start old.place.region copy = here (λ s. c.block_of.result ≡ copy_start s.place.region copy) c.block_of.ensures.start in
+    let long : c.chunk_length-blocks.result ≡ chunk.length = here (λ s. c.chunk_length-blocks.result ≡ (chunk_of copy s).length) c.chunk_length-blocks.ensures.length in
+    let done : is_ok c.read_slots.result ≡ true = search rules in
+    let at : c.block_of.result + c.args.number ≡ copy_start old.place.region copy + length chunk.blocks = omega (arith, start, next) in
+    let found = cut_into c.min-count.result c.read_slots.new.buffer.rest in
+    let count : c.min-count.result ≡ min c.args.most (chunk.length - length chunk.blocks) =
+    c.min-count.ensures ∙ ap (λ (n : ℕ). min c.args.most (n - c.args.number)) long ∙ ap (λ (n : ℕ). min c.args.most (chunk.length - n)) next in
+    let legs = (with_items c.self.inside.legs c.read_slots.new.legs).items in
+    let kept : c.keep_slots.new.buffer.chunk ≡ Some (record chunk { blocks = chunk.blocks ++ found }) =
+    c.keep_slots.ensures.kept ∙ ap (λ (b : CopyBuffer). after_read found (Some (chunk_or b.chunk (unread c.chunk_length-blocks.result)))) c.read_slots.ensures.others
+    ∙ ap (λ (k : Chunk). after_read found (Some k)) (kept-chunk old copy c.chunk_length-blocks.result long) in
+    let state : RegionTable → Option Chunk → StripeState _ = λ t k. record old { legs = legs; flags = t.legs; copy = t.copy; chunk = k } in
+    let told : is_none c.copy.result ≡ true = search rules in
+    let none : is_none old.copy ≡ true = ap (λ (o : Option CopyPlace). is_none o) (sym c.copy.ensures.copy) ∙ told in
+    let new = state c.open_copy.new.self c.keep_slots.new.buffer.chunk in
+    let place : IsCopyPlace copy old = here (λ s. IsCopyPlace copy s) c.requires.place in
+    let after : new ≡ after_copy_read_run old legs copy chunk found =
+    ap (λ (t : RegionTable). state t c.keep_slots.new.buffer.chunk) c.open_copy.ensures
+    ∙ ap (λ (k : Option Chunk). state (copy_opened copy.leg copy.region c.self.inside.regions) k) kept
+    ∙ ap (λ (o : Option CopyPlace). let s : StripeState _ = record old { legs = legs; copy = o; chunk = Some (record chunk { blocks = chunk.blocks ++ found }) } in s) (opens-at old place.0 copy none place.1.copy_is) in
+    rw (← c.self.view_is) (λ from on. record {
+      reads = record {
+        copy = copy;
+        chunk = chunk;
+        found = found;
+        on = on;
+        called = record {
+          not_filled = ap (λ n. nat_lt n chunk.length) (sym next) ∙ short;
+          count = c.read_slots.ensures.long ∙ count;
+          reads = read-in _ c.self.inside.legs c.deref_mut.result.now c.read_slots.new.legs (is_ok c.read_slots.result) true old.master _ _ c.deref_mut.ensures.value done at found c.read_slots.ensures.reads;
+        };
+        after = after;
+      };
+      moved_is = sym c.read_slots.ensures.long;
+    })
+
+pub returns-else-is_none-clause-read : goal.returns-else-is_none-clause-read
+returns-else-is_none-clause-read g c =
+    let old = state_of c.self.inside in
+    let copy = c.args.copy in
+    let chunk = chunk_of copy old in
+    let here : (P : StripeState _ → Type 0) → P c.args.self.now → P old = λ P p. subst P (sym c.self.view_is) p in
+    let next : c.args.number ≡ length chunk.blocks = here (λ s. c.args.number ≡ length (chunk_of copy s).blocks) c.requires.next in
+    let short : nat_lt c.args.number chunk.length ≡ true = here (λ s. nat_lt c.args.number (chunk_of copy s).length ≡ true) c.requires.short in
+    let start : c.block_of.result ≡ copy_start old.place.region copy = here (λ s. c.block_of.result ≡ copy_start s.place.region copy) c.block_of.ensures.start in
+    let long : c.chunk_length-blocks.result ≡ chunk.length = here (λ s. c.chunk_length-blocks.result ≡ (chunk_of copy s).length) c.chunk_length-blocks.ensures.length in
+    let done : is_ok c.read_slots.result ≡ true = search rules in
+    let at : c.block_of.result + c.args.number ≡ copy_start old.place.region copy + length chunk.blocks = omega (arith, start, next) in
+    let found = cut_into c.min-count.result c.read_slots.new.buffer.rest in
+    let count : c.min-count.result ≡ min c.args.most (chunk.length - length chunk.blocks) =
+    c.min-count.ensures ∙ ap (λ (n : ℕ). min c.args.most (n - c.args.number)) long ∙ ap (λ (n : ℕ). min c.args.most (chunk.length - n)) next in
+    let legs = (with_items c.self.inside.legs c.read_slots.new.legs).items in
+    let kept : c.keep_slots.new.buffer.chunk ≡ Some (record chunk { blocks = chunk.blocks ++ found }) =
+    c.keep_slots.ensures.kept ∙ ap (λ (b : CopyBuffer). after_read found (Some (chunk_or b.chunk (unread c.chunk_length-blocks.result)))) c.read_slots.ensures.others
+    ∙ ap (λ (k : Chunk). after_read found (Some k)) (kept-chunk old copy c.chunk_length-blocks.result long) in
+    let state : RegionTable → Option Chunk → StripeState _ = λ t k. record old { legs = legs; flags = t.legs; copy = t.copy; chunk = k } in
+    let told : is_none c.copy.result ≡ false = search rules in
+    let some : is_none old.copy ≡ false = ap (λ (o : Option CopyPlace). is_none o) (sym c.copy.ensures.copy) ∙ told in
+    let new = state c.self.inside.regions c.keep_slots.new.buffer.chunk in
+    let place : IsCopyPlace copy old = here (λ s. IsCopyPlace copy s) c.requires.place in
+    let after : new ≡ after_copy_read_run old legs copy chunk found =
+    ap (λ (k : Option Chunk). state c.self.inside.regions k) kept
+    ∙ ap (λ (o : Option CopyPlace). let s : StripeState _ = record old { legs = legs; copy = o; chunk = Some (record chunk { blocks = chunk.blocks ++ found }) } in s) (open-at old place.0 copy some place.1.copy_is) in
+    rw (← c.self.view_is) (λ from on. record {
+      reads = record {
+        copy = copy;
+        chunk = chunk;
+        found = found;
+        on = on;
+        called = record {
+          not_filled = ap (λ n. nat_lt n chunk.length) (sym next) ∙ short;
+          count = c.read_slots.ensures.long ∙ count;
+          reads = read-in _ c.self.inside.legs c.deref_mut.result.now c.read_slots.new.legs (is_ok c.read_slots.result) true old.master _ _ c.deref_mut.ensures.value done at found c.read_slots.ensures.reads;
+        };
+        after = after;
+      };
+      moved_is = sym c.read_slots.ensures.long;
+    })
+
+-- a copy that opens is one of a region that is behind
+pub open_copy-requires-clause-behind : goal.open_copy-requires-clause-behind
+open_copy-requires-clause-behind g c =
+    let old = state_of c.self.inside in
+    let copy = c.args.copy in
+    let here : (P : StripeState _ → Type 0) → P c.args.self.now → P old = λ P p. subst P (sym c.self.view_is) p in
+    let place : IsCopyPlace copy old = here (λ s. IsCopyPlace copy s) c.requires.place in
+    subst (λ (t : RegionTable). IsTrue (is_behind copy.region (leg_at copy.leg t))) (sym c.self.invariant.regions)
+    (goes-copy _ old copy.leg (here (λ s. Keeps (leg_type g.L.LegPart.model g.L.LegPart.honest) s) c.requires.keeps) place.1.no_cause place.0 copy place.1.copy_is).behind

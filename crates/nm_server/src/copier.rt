@@ -1,0 +1,90 @@
+//! Who copies legs, and tells what happens to them.
+ghost use Rattle.nm_server.specs.Rounds.{IsRoundOf};
+
+use crate::leg_lines::LegLines;
+use crate::leg_story::LegStory;
+use crate::log_lines::LogLines;
+use crate::unread::UnreadList;
+use nm_geometry::Shape;
+use nm_lanes::Gate;
+use nm_leg::LegPart;
+use nm_mirror::{CopyRound, Mirror};
+use std::alloc::{AllocError, Global};
+use std::sync::Wait;
+use std::time::Clock;
+
+/// Copies the legs of a mirror of this shape, and tells what happens to them and what could not be
+/// read.
+#[derive(Drop)]
+pub struct Copier {
+    alloc: Global,
+    shape: Shape,
+    round: CopyRound,
+    story: LegStory,
+    ghost fits: { IsRoundOf shape round },
+}
+
+impl Copier {
+    /// A copier of mirrors of this shape, before its first turn, which tells of these legs. It takes
+    /// no more memory but for lines.
+    pub fn new(alloc: Global, shape: &Shape, legs: Vec<LegLines>) -> Result<Copier, AllocError> {
+        let round = CopyRound::new(alloc, shape.stripes, shape.legs)?;
+        let story = LegStory::new(alloc, shape, legs)?;
+        Ok(Copier {
+            alloc,
+            shape: *shape,
+            round,
+            story,
+        })
+    }
+
+    /// Takes a turn at copying. Whether it did anything, which it does for mirrors of its shape.
+    pub fn turn<R: Wait, L: LegPart, G: Gate + Drop>(
+        &mut self,
+        rt: &R,
+        mirror: &Mirror<L, G>,
+    ) -> bool {
+        let shape = mirror.shape();
+        if shape.stripes != self.shape.stripes || shape.legs != self.shape.legs {
+            return false;
+        }
+        mirror.resync_turn(rt, &mut self.round) > 0
+    }
+
+    /// Tells how each leg stands, as the server begins or ends.
+    pub fn tell_all<R: Wait + Clock, L: LegPart, G: Gate + Drop>(
+        &mut self,
+        rt: &R,
+        mirror: &Mirror<L, G>,
+        lines: &LogLines,
+        when: &str,
+    ) {
+        self.story.tell_all(rt, self.alloc, lines, mirror, when);
+    }
+
+    /// Tells what has happened by this time, in milliseconds.
+    pub fn tell<R: Wait + Clock, L: LegPart, G: Gate + Drop>(
+        &mut self,
+        rt: &R,
+        mirror: &Mirror<L, G>,
+        unread: &UnreadList,
+        lines: &LogLines,
+        now: u64,
+    ) {
+        unread.set(rt, &self.round);
+        let known = self.round.unread();
+        self.story
+            .tell_unread(rt, self.alloc, lines, mirror.shape(), known);
+        self.story.tell_changes(rt, self.alloc, lines, mirror, now);
+    }
+
+    /// Whether something could not be read.
+    pub fn has_unread(&self) -> bool {
+        self.round.unread_count() > 0
+    }
+
+    /// Has all that could not be read be tried again.
+    pub fn begin_again(&mut self) {
+        self.round.begin_again();
+    }
+}
