@@ -1,0 +1,58 @@
+-- The bytes of a superblock: eight sectors of 512 bytes, each a header and a piece of the payload.
+use Rattle.std.specs.Prelude.{ℕ, zero, suc, ◌*◌, if◌then◌else◌, List, [], ◌∷◌, ◌++◌}
+use Rattle.std.specs.Prelude.{take, drop, replicate}
+use Rattle.std.specs.List.{flat_map}
+use Rattle.std.specs.Int.{bytes_high_first}
+use Rattle.sha2.specs.Sha256.{sha256}
+use Rattle.nm_superblock.specs.declared.superblock.Superblock.{Superblock}
+
+-- a number as this many bytes, the highest first
+unfoldable pub be : ℕ → ℕ → List ℕ
+be width number = bytes_high_first width number
+
+-- numbers of 8 bytes, one after the other
+abbrev pub table_bytes : List ℕ → List ℕ
+table_bytes numbers = flat_map (bytes_high_first 8) numbers
+
+-- so many bytes of zero
+unfoldable pub zeroes : ℕ → List ℕ
+zeroes count = replicate count 0
+
+-- the payload before its digest, 424 bytes
+unfoldable pub head_bytes : Superblock → List ℕ
+head_bytes s =
+    be 16 s.mirror ++ be 8 s.blocks ++ be 4 s.region_blocks ++ be 4 s.span_regions
+    ++ (s.stripes ∷ s.legs ∷ s.leg ∷ (if s.clean then 1 else 0) ∷ 0 ∷ 0 ∷ 0 ∷ 0 ∷ [])
+    ++ table_bytes s.leg_ids ++ table_bytes s.seen ++ s.sets.bytes
+
+-- the payload after its digest, 3,536 bytes
+unfoldable pub tail_bytes : Superblock → List ℕ
+tail_bytes s = table_bytes s.lineages ++ zeroes 32 ++ s.marked.bytes ++ zeroes 1424
+
+-- the digest, 8 bytes: the first of the SHA-256 of the payload with zeroes in its place
+unfoldable pub digest_bytes : Superblock → List ℕ
+digest_bytes s = take 8 (sha256 (head_bytes s ++ zeroes 8 ++ tail_bytes s))
+
+-- the payload, 3,968 bytes
+unfoldable pub payload_bytes : Superblock → List ℕ
+payload_bytes s = head_bytes s ++ digest_bytes s ++ tail_bytes s
+
+-- a sector's header, 16 bytes: "NMRS", version 1, the sector's number, two zeroes, and the stamp
+unfoldable pub header_bytes : (generation number : ℕ) → List ℕ
+header_bytes generation number =
+    (0x4e ∷ 0x4d ∷ 0x52 ∷ 0x53 ∷ 1 ∷ number ∷ 0 ∷ 0 ∷ []) ++ be 8 generation
+
+-- the piece of the payload that a sector has, 496 bytes
+abbrev pub piece_bytes : (number : ℕ) → List ℕ → List ℕ
+piece_bytes number payload = take 496 (drop (496 * number) payload)
+
+-- the first sectors of a payload under a stamp
+unfoldable pub sectors_bytes : (generation count : ℕ) → List ℕ → List ℕ
+sectors_bytes generation zero payload = []
+sectors_bytes generation (suc number) payload =
+    sectors_bytes generation number payload
+    ++ (header_bytes generation number ++ piece_bytes number payload)
+
+-- the slot of a superblock, 4,096 bytes
+unfoldable pub slot_bytes : Superblock → List ℕ
+slot_bytes s = sectors_bytes s.generation 8 (payload_bytes s)

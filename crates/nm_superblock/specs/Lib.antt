@@ -1,0 +1,5 @@
+pub mod Layout
+pub mod Bounds
+pub mod Sectors
+pub mod Slots
+pub mod Spans

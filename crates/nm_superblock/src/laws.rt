@@ -1,0 +1,14 @@
+//! What holds of the bytes and of torn saves, as laws.
+ghost use Rattle.nm_superblock.specs.Slots.{SlotsAreRead, TornIsOldOrNew};
+
+/// A slot has the bytes of one superblock at most.
+pub fn slots_are_read()
+    ensures { SlotsAreRead }
+{}
+
+/// A crash at any moment of a save leaves a place that is read as before, or as the new superblock.
+///
+/// The premise is that a sector is written whole or not at all.
+pub fn torn_is_old_or_new()
+    ensures { TornIsOldOrNew }
+{}

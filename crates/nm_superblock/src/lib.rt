@@ -1,0 +1,19 @@
+//! The superblock beside each leg: what it says of the legs, and its bytes in two slots of sectors.
+//!
+//! Each sector of a slot has the superblock's generation as its stamp. So a save that is cut off
+//! leaves a slot that is read as it was, as the new superblock, or as nothing.
+#![tactic(auto)]
+
+pub use leg_sets::LegSets;
+pub use place::{highest_stamp, is_second_written, newer};
+pub use span_map::SpanMap;
+pub use superblock::Superblock;
+
+mod bytes;
+pub mod laws;
+mod leg_sets;
+mod payload;
+mod place;
+mod sectors;
+mod span_map;
+mod superblock;

@@ -1,0 +1,49 @@
+//! A place: which of its two slots is read, which is written, and under which stamp.
+ghost use Rattle.std.specs.Prelude.{◌≡◌, ◌⊎◌, ◌≤◌};
+ghost use Rattle.nm_superblock.specs.Slots.{IsHighestStamp, newer_of, writes_second};
+
+use crate::sectors::read_stamp;
+use crate::superblock::Superblock;
+
+/// Of the superblocks in a place's two slots the newer one, which is the place's.
+pub fn newer(first: Option<Superblock>, second: Option<Superblock>) -> Option<Superblock>
+    ensures { result ≡ newer_of first second }
+{
+    match (&first, &second) {
+        (None, _) => second,
+        (Some(a), Some(b)) if a.generation < b.generation => second,
+        _ => first,
+    }
+}
+
+/// Whether a save writes the second slot: the one that the place's superblock is not in.
+pub fn is_second_written(first: &Option<Superblock>, second: &Option<Superblock>) -> bool
+    ensures { result ≡ writes_second first.now second.now }
+{
+    match (first, second) {
+        (None, _) => false,
+        (Some(_), None) => true,
+        (Some(a), Some(b)) => a.generation >= b.generation,
+    }
+}
+
+/// The highest stamp in a slot's sectors, whatever the slot holds. A save's generation has to be
+/// above those of both slots.
+pub fn highest_stamp(slot: &[u8; 4096]) -> u64
+    ensures { IsHighestStamp 8 slot.now result }
+{
+    let mut highest = read_stamp(slot, 0);
+    'sectors: for number in 1..8 {
+        highest = higher(highest, read_stamp(slot, number));
+    }
+    highest
+}
+
+// The higher one of two stamps.
+fn higher(first: u64, second: u64) -> u64
+    ensures first { first ≤ result }
+    ensures second { second ≤ result }
+    ensures one { (result ≡ first) ⊎ (result ≡ second) }
+{
+    if first < second { second } else { first }
+}

@@ -1,0 +1,57 @@
+//! The sectors of a slot: a header with the stamp, and a piece of the payload.
+ghost use Rattle.std.specs.Prelude.{◌≡◌, ◌+◌, ◌*◌, ◌<◌, ◌++◌, length, take};
+ghost use Rattle.nm_superblock.specs.Layout.{header_bytes, sectors_bytes};
+ghost use Rattle.nm_superblock.specs.Sectors.{pieces_of, stamp_of};
+
+use crate::bytes::{get_u64, put_bytes, put_u64};
+
+const SECTORS: usize = 8;
+
+const SECTOR: usize = 512;
+
+const HEADER: usize = 16;
+
+const PIECE: usize = SECTOR - HEADER;
+
+// The header of this sector.
+fn header(generation: u64, number: u8) -> [u8; 16]
+    ensures { result ≡ header_bytes generation number }
+{
+    let mut header = [
+        0x4e, 0x4d, 0x52, 0x53, 1, number, 0, 0, 0, 0, 0, 0, 0, 0, 0, 0,
+    ];
+    put_u64(&mut header, 8, generation);
+    header
+}
+
+// Writes the sectors of this payload under this stamp.
+pub(crate) fn write_sectors(generation: u64, payload: &[u8; 3968], slot: &mut [u8; 4096])
+    ensures { slot.new ≡ sectors_bytes generation 8 payload.now }
+{
+    'sectors: for number in 0..SECTORS {
+        let header = header(generation, number as u8);
+        put_bytes(slot, SECTOR * number, &header);
+        let piece = &payload[PIECE * number..PIECE * number + PIECE];
+        put_bytes(slot, SECTOR * number + HEADER, piece);
+    }
+}
+
+// The stamp in this sector, whatever else stands there.
+pub(crate) fn read_stamp(slot: &[u8; 4096], number: usize) -> u64
+    requires { number < 8 }
+    ensures { result ≡ stamp_of number slot.now }
+{
+    get_u64(slot, SECTOR * number + 8)
+}
+
+// What stands in the sectors after their headers, whatever these are.
+pub(crate) fn read_pieces(slot: &[u8; 4096]) -> [u8; 3968]
+    ensures { result ≡ pieces_of 8 slot.now }
+{
+    let mut payload = [0; 3968];
+    'sectors: for number in 0..SECTORS {
+        let piece = &slot[SECTOR * number + HEADER..SECTOR * number + SECTOR];
+        put_bytes(&mut payload, PIECE * number, piece);
+    }
+    payload
+}

@@ -1,0 +1,36 @@
+ghost use Rattle.std.specs.Prelude.{◌≡◌, ◌<◌, ◌↔◌, IsTrue};
+ghost use Rattle.nm_superblock.specs.Spans.{SetsMark, mark_of};
+
+/// The spans in which legs may differ: bit `i % 8` of byte `i / 8` is span number `i` of each
+/// stripe.
+#[derive(Clone, Copy, Debug, PartialEq, Eq)]
+pub struct SpanMap {
+    /// The bits.
+    pub bytes: [u8; 2048],
+}
+
+impl SpanMap {
+    /// Whether the span is marked.
+    pub fn is_marked(&self, span: usize) -> bool
+        requires { span < 16384 }
+        ensures { IsTrue result ↔ (mark_of span self.now ≡ 1) }
+    {
+        (self.bytes[span / 8] >> (span % 8)) & 1 == 1
+    }
+
+    /// Marks the span.
+    pub fn mark(&mut self, span: usize)
+        requires { span < 16384 }
+        ensures { SetsMark span 1 self.old self.new }
+    {
+        self.bytes[span / 8] |= 1 << (span % 8);
+    }
+
+    /// Takes the span's mark away.
+    pub fn unmark(&mut self, span: usize)
+        requires { span < 16384 }
+        ensures { SetsMark span 0 self.old self.new }
+    {
+        self.bytes[span / 8] &= !(1 << (span % 8));
+    }
+}

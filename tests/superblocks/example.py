@@ -1,0 +1,57 @@
+#!/usr/bin/env python3
+"""The slot of one superblock, made from the text of docs/FORMATS.md, "Superblock", alone.
+
+    tests/superblocks/example.py > slot          its 4,096 bytes
+    tests/superblocks/example.py --hex           the same as text, as in example.hex
+"""
+import hashlib
+import struct
+import sys
+
+GENERATION = 57
+MIRROR = bytes.fromhex("0123456789abcdef0011223344556677")
+BLOCKS, REGION_BLOCKS, SPAN_REGIONS = 2**21, 128, 128
+STRIPES, LEGS, LEG, FLAGS = 8, 2, 1, 0
+LEG_IDS = [0x1111111111111111, 0x2222222222222222]
+SEEN = [56, 57]
+# for each stripe: in sync, about to be, lacks no more than marked spans
+SETS = [(0b11, 0, 0)] * 5 + [(0b10, 0b01, 0)] + [(0b10, 0, 0b01)] * 2
+LINEAGES = [0xA0A0A0A0A0A0A0A0, 0xB0B0B0B0B0B0B0B0]
+MARKED = [0, 9, 15]
+
+
+def table(numbers, count):
+    return b"".join(n.to_bytes(8, "big") for n in numbers).ljust(8 * count, b"\0")
+
+
+def payload():
+    head = MIRROR
+    head += struct.pack(">QII", BLOCKS, REGION_BLOCKS, SPAN_REGIONS)
+    head += bytes([STRIPES, LEGS, LEG, FLAGS, 0, 0, 0, 0])
+    head += table(LEG_IDS, 8) + table(SEEN, 8)
+    head += b"".join(bytes([*sets, 0]) for sets in SETS).ljust(256, b"\0")
+    marks = bytearray(2048)
+    for span in MARKED:
+        marks[span // 8] |= 1 << span % 8
+    tail = table(LINEAGES, 4) + bytes(32) + bytes(marks) + bytes(1424)
+    digest = hashlib.sha256(head + bytes(8) + tail).digest()[:8]
+    return head + digest + tail
+
+
+def slot():
+    whole = payload()
+    assert len(whole) == 8 * 496
+    return b"".join(
+        b"NMRS" + bytes([1, number, 0, 0]) + GENERATION.to_bytes(8, "big")
+        + whole[496 * number:496 * number + 496]
+        for number in range(8))
+
+
+if __name__ == "__main__":
+    made = slot()
+    assert len(made) == 4096
+    if sys.argv[1:] == ["--hex"]:
+        for at in range(0, 4096, 32):
+            print(made[at:at + 32].hex())
+    else:
+        sys.stdout.buffer.write(made)
