@@ -17,6 +17,7 @@ SEEN = [56, 57]
 # for each stripe: in sync, about to be, lacks no more than marked spans
 SETS = [(0b11, 0, 0)] * 5 + [(0b10, 0b01, 0)] + [(0b10, 0, 0b01)] * 2
 LINEAGES = [0xA0A0A0A0A0A0A0A0, 0xB0B0B0B0B0B0B0B0]
+FORKS = [40]
 MARKED = [0, 9, 15]
 
 
@@ -33,7 +34,7 @@ def payload():
     marks = bytearray(2048)
     for span in MARKED:
         marks[span // 8] |= 1 << span % 8
-    tail = table(LINEAGES, 4) + bytes(32) + bytes(marks) + bytes(1424)
+    tail = table(LINEAGES, 4) + table(FORKS, 4) + bytes(marks) + bytes(1424)
     digest = hashlib.sha256(head + bytes(8) + tail).digest()[:8]
     return head + digest + tail
 

@@ -28,10 +28,11 @@ pub record HasTables (s : Superblock) : Type 0 where
   pub seen : length s.seen ≡ 8
   pub sets : length s.sets.bytes ≡ 256
   pub lineages : length s.lineages ≡ 4
+  pub forks : length s.forks ≡ 4
   pub marked : length s.marked.bytes ≡ 2048
 
 pub fits-tables : (s : Superblock) → Fits s → HasTables s
-fits-tables s fits = record { leg_ids = fits.leg_ids.size; seen = fits.seen.size; sets = fits.sets; lineages = fits.lineages.size; marked = fits.marked }
+fits-tables s fits = record { leg_ids = fits.leg_ids.size; seen = fits.seen.size; sets = fits.sets; lineages = fits.lineages.size; forks = fits.forks.size; marked = fits.marked }
 
 -- the digest has 8 bytes
 pub length-digest : (s : Superblock) → length (digest_bytes s) ≡ 8
@@ -56,6 +57,7 @@ pub record Stands (s : Superblock) (payload : List ℕ) : Type 0 where
   pub sets : (rest : List ℕ) × (drop 168 payload ≡ s.sets.bytes ++ rest)
   pub digest : (rest : List ℕ) × (drop 424 payload ≡ digest_bytes s ++ rest)
   pub lineages : (rest : List ℕ) × (drop 432 payload ≡ table_bytes s.lineages ++ rest)
+  pub forks : (rest : List ℕ) × (drop 464 payload ≡ table_bytes s.forks ++ rest)
   pub marked : (rest : List ℕ) × (drop 496 payload ≡ s.marked.bytes ++ rest)
   pub whole : length payload ≡ 3968
 
@@ -63,7 +65,7 @@ pub record Stands (s : Superblock) (payload : List ℕ) : Type 0 where
 pub stands : (s : Superblock) (payload : List ℕ) → HasTables s → payload ≡ payload_bytes s → Stands s payload
 unfolding payload_bytes head_bytes tail_bytes
 stands s payload has is =
-    let z1 = zeroes 32 ++ (s.marked.bytes ++ zeroes 1424) in
+    let z1 = table_bytes s.forks ++ (s.marked.bytes ++ zeroes 1424) in
     let z2 = table_bytes s.lineages ++ z1 in
     let z3 = digest_bytes s ++ z2 in
     let z4 = s.sets.bytes ++ z3 in
@@ -85,7 +87,7 @@ stands s payload has is =
     let d424 : drop 424 payload ≡ z3 = next 168 256 payload s.sets.bytes z3 d168 has.sets in
     let d432 : drop 432 payload ≡ z2 = next 424 8 payload (digest_bytes s) z2 d424 (length-digest s) in
     let d464 : drop 464 payload ≡ z1 = next 432 32 payload (table_bytes s.lineages) z1 d432 (length-table s.lineages ∙ ap (λ (n : ℕ). 8 * n) has.lineages) in
-    let d496 : drop 496 payload ≡ s.marked.bytes ++ zeroes 1424 = next 464 32 payload (zeroes 32) (s.marked.bytes ++ zeroes 1424) d464 (length-zeroes 32) in
+    let d496 : drop 496 payload ≡ s.marked.bytes ++ zeroes 1424 = next 464 32 payload (table_bytes s.forks) (s.marked.bytes ++ zeroes 1424) d464 (length-table s.forks ∙ ap (λ (n : ℕ). 8 * n) has.forks) in
     record {
       mirror = (z10, apart);
       export_blocks = (z9, d16);
@@ -97,6 +99,7 @@ stands s payload has is =
       sets = (z3, d168);
       digest = (z2, d424);
       lineages = (z1, d432);
+      forks = (s.marked.bytes ++ zeroes 1424, d464);
       marked = (zeroes 1424, d496);
       whole =
           let left = length-drop 496 payload in

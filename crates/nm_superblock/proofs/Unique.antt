@@ -66,7 +66,7 @@ same-fields : (s t : Superblock) (payload : List ℕ) → IsSuperblock s → IsS
     → Stands s payload → Stands t payload → s ≡ t
 same-fields s t payload is_s is_t generation a b =
     let small = sym a.small.1 ∙ b.small.1 in
-    same t s.generation s.mirror s.blocks s.region_blocks s.span_regions s.stripes s.legs s.leg s.clean s.leg_ids s.seen s.sets.bytes s.lineages s.marked.bytes
+    same t s.generation s.mirror s.blocks s.region_blocks s.span_regions s.stripes s.legs s.leg s.clean s.leg_ids s.seen s.sets.bytes s.lineages s.forks s.marked.bytes
     generation
     (one-number 16 s.mirror t.mirror payload a.mirror.0 b.mirror.0 is_s.fits.mirror is_t.fits.mirror a.mirror.1 b.mirror.1)
     (one-number 8 s.blocks t.blocks (drop 16 payload) a.export_blocks.0 b.export_blocks.0 is_s.fits.blocks is_t.fits.blocks a.export_blocks.1 b.export_blocks.1)
@@ -80,6 +80,7 @@ same-fields s t payload is_s is_t generation a b =
     (same-tables 8 s.seen t.seen (drop 104 payload) a.seen.0 b.seen.0 is_s.fits.seen is_t.fits.seen a.seen.1 b.seen.1)
     (sym (bytes-at 256 (drop 168 payload) s.sets.bytes a.sets.0 is_s.fits.sets a.sets.1) ∙ bytes-at 256 (drop 168 payload) t.sets.bytes b.sets.0 is_t.fits.sets b.sets.1)
     (same-tables 4 s.lineages t.lineages (drop 432 payload) a.lineages.0 b.lineages.0 is_s.fits.lineages is_t.fits.lineages a.lineages.1 b.lineages.1)
+    (same-tables 4 s.forks t.forks (drop 464 payload) a.forks.0 b.forks.0 is_s.fits.forks is_t.fits.forks a.forks.1 b.forks.1)
     (sym (bytes-at 2048 (drop 496 payload) s.marked.bytes a.marked.0 is_s.fits.marked a.marked.1) ∙ bytes-at 2048 (drop 496 payload) t.marked.bytes b.marked.0 is_t.fits.marked b.marked.1)
 
 pub slots-are_read : SlotsAreRead

@@ -28,6 +28,7 @@ pub record Fits (s : Superblock) : Type 0 where
   pub seen : AreNumbers 8 s.seen
   pub sets : length s.sets.bytes ≡ 256
   pub lineages : AreNumbers 4 s.lineages
+  pub forks : AreNumbers 4 s.forks
   pub marked : length s.marked.bytes ≡ 2048
 
 -- a superblock that can be kept

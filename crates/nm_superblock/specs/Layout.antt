@@ -27,7 +27,8 @@ head_bytes s =
 
 -- the payload after its digest, 3,536 bytes
 unfoldable pub tail_bytes : Superblock → List ℕ
-tail_bytes s = table_bytes s.lineages ++ zeroes 32 ++ s.marked.bytes ++ zeroes 1424
+tail_bytes s =
+    table_bytes s.lineages ++ table_bytes s.forks ++ s.marked.bytes ++ zeroes 1424
 
 -- the digest, 8 bytes: the first of the SHA-256 of the payload with zeroes in its place
 unfoldable pub digest_bytes : Superblock → List ℕ

@@ -1,5 +1,5 @@
 //! A superblock's payload, field by field.
-ghost use Rattle.std.specs.Prelude.{◌≡◌, ◌++◌, take, if◌then◌else◌};
+ghost use Rattle.std.specs.Prelude.{◌≡◌, ◌++◌, length, take, if◌then◌else◌};
 ghost use Rattle.sha2.specs.Sha256.{sha256};
 ghost use Rattle.nm_superblock.specs.Bounds.{Fits};
 ghost use Rattle.nm_superblock.specs.Layout.{payload_bytes};
@@ -27,7 +27,8 @@ impl Superblock {
 
     // Writes the payload with zeroes in place of its digest.
     fn put_fields(&self, payload: &mut [u8; 3968])
-        ensures { payload.new ≡ head_bytes self.now ++ zeroes 8 ++ tail_bytes self.now }
+        ensures written { payload.new ≡ head_bytes self.now ++ zeroes 8 ++ tail_bytes self.now }
+        ensures sets { length self.now.sets.bytes ≡ 256 }
     {
         let flags = flags(self.clean);
         put_u128(payload, 0, self.mirror);
@@ -44,7 +45,7 @@ impl Superblock {
         put_bytes(payload, 168, &self.sets.bytes);
         put_zeroes(payload, 424, 8);
         put_table(payload, 432, &self.lineages);
-        put_zeroes(payload, 464, 32);
+        put_table(payload, 464, &self.forks);
         put_bytes(payload, 496, &self.marked.bytes);
         put_zeroes(payload, 2544, 1424);
     }
@@ -64,6 +65,8 @@ pub(crate) fn read_payload(generation: u64, payload: &[u8; 3968]) -> Superblock
     sets.copy_from_slice(&payload[168..424]);
     let mut lineages = [0; 4];
     get_table(payload, 432, &mut lineages);
+    let mut forks = [0; 4];
+    get_table(payload, 464, &mut forks);
     let mut marked = [0; 2048];
     marked.copy_from_slice(&payload[496..2544]);
     Superblock {
@@ -80,6 +83,7 @@ pub(crate) fn read_payload(generation: u64, payload: &[u8; 3968]) -> Superblock
         seen,
         sets: LegSets { bytes: sets },
         lineages,
+        forks,
         marked: SpanMap { bytes: marked },
     }
 }

@@ -37,6 +37,9 @@ pub struct Superblock {
     pub sets: LegSets,
     /// The lineage's id, and those of its ancestors, the youngest first; 0 for none.
     pub lineages: [u64; 4],
+    /// For each of these lineages the generation that it went on from: the greatest one of its
+    /// parent that was found when it began.
+    pub forks: [u64; 4],
     /// The spans in which legs may differ.
     pub marked: SpanMap,
 }

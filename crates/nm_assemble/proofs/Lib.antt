@@ -1,0 +1,3 @@
+pub mod NewestLemmas
+pub mod SaveLemmas
+pub mod SureLemmas

@@ -1,0 +1,6 @@
+pub mod Assembly
+pub mod Lineages
+pub mod Masters
+pub mod Saves
+pub mod Start
+pub mod Sure

@@ -1,0 +1,69 @@
+ghost use Rattle.std.specs.Prelude.{IfOk, IfErr, IfSome, IfNone};
+ghost use Rattle.nm_assemble.specs.Assembly.{IsAssembly, IsRefused, IsUnsure, MayGoBy};
+
+use crate::fresh::fresh_legs;
+use crate::masters::closed_stripe;
+use crate::misfit::{Misfit, first_misfit};
+use crate::missing::missing_leg;
+use crate::newest::newest_of;
+use nm_superblock::Superblock;
+
+/// What a start goes by.
+#[derive(Clone, Copy, Debug, PartialEq, Eq)]
+pub struct Assembly {
+    /// The newest superblock.
+    pub newest: Superblock,
+    /// Which legs' contents are what it says of them.
+    pub fresh: [bool; 8],
+}
+
+/// Why a start cannot go by what it found.
+#[derive(Clone, Copy, Debug, PartialEq, Eq)]
+pub enum AssembleFault {
+    /// No superblock was found.
+    NoSuperblock,
+    /// This leg's superblock does not go with the newest one.
+    Unfit(usize, Misfit),
+    /// This leg may have a newer superblock, and none was found beside it.
+    MayBeNewer(usize),
+    /// No leg that is in sync in this stripe is fresh.
+    NoneInSync(usize),
+}
+
+/// What a start goes by, from the superblocks that it found and the legs whose files are here; or
+/// the first reason why it cannot. A start that is not sure goes on only where it is told to.
+pub fn assemble(
+    found: &[Option<Superblock>; 8],
+    here: &[bool; 8],
+    degraded: bool,
+) -> Result<Assembly, AssembleFault>
+    ensures ok { IfOk result (λ a. IsAssembly a found.now here.now degraded) }
+    ensures refused { IfErr result (λ fault. IsRefused fault found.now here.now degraded) }
+{
+    let Some(newest) = newest_of(found) else {
+        return Err(AssembleFault::NoSuperblock);
+    };
+    if let Some((leg, why)) = first_misfit(found, &newest) {
+        return Err(AssembleFault::Unfit(leg, why));
+    }
+    if let Some(leg) = unsure_leg(&newest, found, degraded) {
+        return Err(AssembleFault::MayBeNewer(leg));
+    }
+    let fresh = fresh_legs(&newest, found, here);
+    if let Some(stripe) = closed_stripe(&newest, &fresh) {
+        return Err(AssembleFault::NoneInSync(stripe));
+    }
+    Ok(Assembly { newest, fresh })
+}
+
+// The first leg that may have a newer superblock, unless the start was told to go on without.
+fn unsure_leg(newest: &Superblock, found: &[Option<Superblock>; 8], degraded: bool) -> Option<usize>
+    ensures some { IfSome result (λ leg. IsUnsure leg newest.now found.now degraded) }
+    ensures none { IfNone result (MayGoBy newest.now found.now degraded) }
+{
+    if degraded {
+        None
+    } else {
+        missing_leg(newest, found)
+    }
+}
