@@ -44,6 +44,22 @@ pub record IsHighestStamp (count : ℕ) (slot : List ℕ) (stamp : ℕ) : Type 0
   pub bound : (number : ℕ) → number < count → stamp_of number slot ≤ stamp
   pub stands : (number : ℕ) × (number < count) × (stamp_of number slot ≡ stamp)
 
+-- the generation is above this one, and above each stamp of a place
+pub record IsAbove (generation after : ℕ) (first second : List ℕ) : Type 0 where
+  pub above : after < generation
+  pub first_below : HasStampsBelow generation first
+  pub second_below : HasStampsBelow generation second
+
+-- there is none lower than this number
+abbrev pub IsPastAll : (bound after : ℕ) → (first second : List ℕ) → Type 0
+IsPastAll bound after first second =
+    (generation : ℕ) → IsAbove generation after first second → bound ≤ generation
+
+-- the first such generation
+pub record IsNextGeneration (generation after : ℕ) (first second : List ℕ) : Type 0 where
+  pub above : IsAbove generation after first second
+  pub least : IsPastAll generation after first second
+
 -- what a crash in a write of a slot may leave: each sector old or new, in any mixture
 pub record IsTorn (old new left : List ℕ) : Type 0 where
   pub size : length left ≡ 4096

@@ -5,7 +5,7 @@
 #![tactic(auto)]
 
 pub use leg_sets::LegSets;
-pub use place::{highest_stamp, is_second_written, newer};
+pub use place::{highest_stamp, is_second_written, newer, next_generation};
 pub use span_map::SpanMap;
 pub use superblock::Superblock;
 

@@ -1,6 +1,6 @@
 //! A place: which of its two slots is read, which is written, and under which stamp.
-ghost use Rattle.std.specs.Prelude.{◌≡◌, ◌⊎◌, ◌≤◌};
-ghost use Rattle.nm_superblock.specs.Slots.{IsHighestStamp, newer_of, writes_second};
+ghost use Rattle.std.specs.Prelude.{◌≡◌, ◌⊎◌, ◌≤◌, ◌^◌, IfSome, IfNone};
+ghost use Rattle.nm_superblock.specs.Slots.{IsHighestStamp, IsNextGeneration, IsPastAll, newer_of, writes_second};
 
 use crate::sectors::read_stamp;
 use crate::superblock::Superblock;
@@ -27,8 +27,17 @@ pub fn is_second_written(first: &Option<Superblock>, second: &Option<Superblock>
     }
 }
 
-/// The highest stamp in a slot's sectors, whatever the slot holds. A save's generation has to be
-/// above those of both slots.
+/// The first generation above this one and above each stamp in a place's slots, whatever they hold:
+/// a save of it is told from all that was tried there. None where there is no number left.
+pub fn next_generation(after: u64, first: &[u8; 4096], second: &[u8; 4096]) -> Option<u64>
+    ensures some { IfSome result (λ n. IsNextGeneration n after first.now second.now) }
+    ensures none { IfNone result (IsPastAll (2 ^ 64) after first.now second.now) }
+{
+    let stamps = higher(highest_stamp(first), highest_stamp(second));
+    higher(after, stamps).checked_add(1)
+}
+
+/// The highest stamp in a slot's sectors, whatever the slot holds.
 pub fn highest_stamp(slot: &[u8; 4096]) -> u64
     ensures { IsHighestStamp 8 slot.now result }
 {

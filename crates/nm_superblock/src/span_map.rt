@@ -1,5 +1,5 @@
 ghost use Rattle.std.specs.Prelude.{◌≡◌, ◌<◌, ◌↔◌, IsTrue};
-ghost use Rattle.nm_superblock.specs.Spans.{SetsMark, mark_of};
+ghost use Rattle.nm_superblock.specs.Spans.{IsUnmarked, SetsMark, mark_of};
 
 /// The spans in which legs may differ: bit `i % 8` of byte `i / 8` is span number `i` of each
 /// stripe.
@@ -16,6 +16,18 @@ impl SpanMap {
         ensures { IsTrue result ↔ (mark_of span self.now ≡ 1) }
     {
         (self.bytes[span / 8] >> (span % 8)) & 1 == 1
+    }
+
+    /// Whether no span is marked.
+    pub fn is_empty(&self) -> bool
+        ensures { IsTrue result ↔ IsUnmarked 16384 self.now }
+    {
+        'spans: for span in 0..16384 {
+            if self.is_marked(span) {
+                return false;
+            }
+        }
+        true
     }
 
     /// Marks the span.
