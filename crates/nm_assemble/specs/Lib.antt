@@ -1,4 +1,5 @@
 pub mod Assembly
+pub mod Legs
 pub mod Lineages
 pub mod Masters
 pub mod Saves

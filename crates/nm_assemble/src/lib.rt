@@ -4,6 +4,7 @@
 
 pub use assembly::{AssembleFault, Assembly, assemble};
 pub use fresh::fresh_legs;
+pub use leg_start::LegStart;
 pub use masters::master_of;
 pub use misfit::{Misfit, first_misfit};
 pub use missing::missing_leg;
@@ -12,6 +13,7 @@ pub use newest::newest_of;
 mod assembly;
 mod fresh;
 pub mod laws;
+mod leg_start;
 mod lineages;
 mod masters;
 mod misfit;

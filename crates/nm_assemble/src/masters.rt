@@ -42,7 +42,7 @@ fn is_closed(newest: &Superblock, fresh: &[bool; 8], stripe: usize) -> bool
 }
 
 // Whether the leg is in sync in the stripe, and fresh.
-fn may_open_on(newest: &Superblock, fresh: &[bool; 8], stripe: usize, leg: usize) -> bool
+pub(crate) fn may_open_on(newest: &Superblock, fresh: &[bool; 8], stripe: usize, leg: usize) -> bool
     requires leg { leg < 8 }
     requires stripe { stripe < 64 }
     ensures { IsTrue result ↔ MayOpenOn leg stripe newest.now fresh.now }
