@@ -3,10 +3,16 @@
 
     tests/superblocks/example.py > slot          its 4,096 bytes
     tests/superblocks/example.py --hex           the same as text, as in example.hex
+    tests/superblocks/example.py --rows          its rows of 16 bytes that are not zero, as in the test of nm_storage_tests
+    tests/superblocks/example.py --check         fails where example.hex or that test has others
 """
 import hashlib
+import os
 import struct
 import sys
+
+FOLDER = os.path.dirname(os.path.abspath(__file__))
+TEST = os.path.join(FOLDER, "../../crates/nm_storage_tests/src/superblocks.rt")
 
 GENERATION = 57
 MIRROR = bytes.fromhex("0123456789abcdef0011223344556677")
@@ -48,11 +54,40 @@ def slot():
         for number in range(8))
 
 
+def as_hex(made):
+    return "".join(made[at:at + 32].hex() + "\n" for at in range(0, len(made), 32))
+
+
+def rows(made):
+    """The rows of 16 bytes that are not all zero, a line each."""
+    return "".join(
+        f"    ({at}, 0x{made[at:at + 16].hex()}),\n"
+        for at in range(0, len(made), 16) if any(made[at:at + 16]))
+
+
+def contents(path):
+    with open(path, encoding="utf-8") as file:
+        return file.read()
+
+
+def check(made):
+    wrong = []
+    if contents(os.path.join(FOLDER, "example.hex")) != as_hex(made):
+        wrong.append("example.hex")
+    if rows(made) not in contents(TEST):
+        wrong.append(os.path.basename(TEST))
+    return ", ".join(wrong)
+
+
 if __name__ == "__main__":
     made = slot()
     assert len(made) == 4096
     if sys.argv[1:] == ["--hex"]:
-        for at in range(0, 4096, 32):
-            print(made[at:at + 32].hex())
+        print(as_hex(made), end="")
+    elif sys.argv[1:] == ["--rows"]:
+        print(rows(made), end="")
+    elif sys.argv[1:] == ["--check"]:
+        wrong = check(made)
+        sys.exit(f"other bytes: {wrong}" if wrong else 0)
     else:
         sys.stdout.buffer.write(made)

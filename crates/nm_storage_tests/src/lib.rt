@@ -32,3 +32,5 @@ pub mod shared_medium;
 pub mod shared_syncs;
 #[cfg(test)]
 mod shares;
+#[cfg(test)]
+mod superblocks;
