@@ -5,6 +5,8 @@
 #[cfg(test)]
 mod ahead;
 #[cfg(test)]
+mod assembling;
+#[cfg(test)]
 mod choices;
 #[cfg(test)]
 mod counting_medium;

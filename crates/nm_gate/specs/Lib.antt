@@ -1,0 +1,4 @@
+pub mod Durable
+pub mod Gate
+pub mod Moves
+pub mod Saves

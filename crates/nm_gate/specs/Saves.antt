@@ -1,0 +1,65 @@
+-- What a save does to the bounds, from its begin to its end.
+use Rattle.std.specs.Prelude.{◌≡◌, ◌⊎◌, ℕ, ◌||◌, ◌&&◌, true, List, [], ◌∷◌}
+use Rattle.nm_choice.specs.declared.leg_state.LegState.TheVariants.{InSync}
+use Rattle.nm_rules.specs.State.{StripeState, leg_state}
+use Rattle.nm_gate.specs.Durable.{Durable, is_lacking, is_listed, is_marked, is_named}
+
+-- the leg may be called in sync, or said to lack no more than marked spans, or is in sync
+abbrev pub IsCovered : {L : Type 0} → StripeState L → Durable → ℕ → Type 0
+IsCovered stripe d leg =
+    (is_named leg d ≡ true) ⊎ ((is_lacking leg d ≡ true) ⊎ (leg_state leg stripe ≡ InSync))
+
+-- The bounds may become these: a leg that may be called in sync might have been before, or is in
+-- sync; one that may be said to lack marked spans alone was covered; each leg in sync is listed;
+-- and no span is unmarked.
+pub record Resaves {L : Type 0} (stripe : StripeState L) (old new : Durable) : Type 0 where
+  pub named : (leg : ℕ) → is_named leg new ≡ true
+      → (is_named leg old ≡ true) ⊎ (leg_state leg stripe ≡ InSync)
+  pub lacking : (leg : ℕ) → is_lacking leg new ≡ true → IsCovered stripe old leg
+  pub listed : (leg : ℕ) → leg_state leg stripe ≡ InSync → is_listed leg new ≡ true
+  pub marked : (region : ℕ) → is_marked region old ≡ true → is_marked region new ≡ true
+
+-- they bound what a superblock says: what it calls in sync or lacking may be, what is surely listed
+-- or marked it lists and marks
+pub record Bounds (d superblock : Durable) : Type 0 where
+  pub named : (leg : ℕ) → is_named leg superblock ≡ true → is_named leg d ≡ true
+  pub lacking : (leg : ℕ) → is_lacking leg superblock ≡ true → is_lacking leg d ≡ true
+  pub listed : (leg : ℕ) → is_listed leg d ≡ true → is_listed leg superblock ≡ true
+  pub marked : (region : ℕ) → is_marked region d ≡ true → is_marked region superblock ≡ true
+
+-- they bound each of them
+abbrev pub AllBounded : Durable → List Durable → Type 0
+AllBounded d [] = Unit {0}
+AllBounded d (superblock ∷ more) = Bounds d superblock × AllBounded d more
+
+-- each leg in sync is surely listed
+abbrev pub AllListed : {L : Type 0} → StripeState L → Durable → Type 0
+AllListed stripe d = (leg : ℕ) → leg_state leg stripe ≡ InSync → is_listed leg d ≡ true
+
+-- What is taken from a stripe to be saved: it calls legs in sync that are, says of covered legs alone
+-- that they lack marked spans, lists each leg in sync, and marks what is marked.
+pub record IsTaken {L : Type 0} (stripe : StripeState L) (d superblock : Durable)
+    : Type 0 where
+  pub named : (leg : ℕ) → is_named leg superblock ≡ true → leg_state leg stripe ≡ InSync
+  pub lacking : (leg : ℕ) → is_lacking leg superblock ≡ true → IsCovered stripe d leg
+  pub listed : (leg : ℕ) → leg_state leg stripe ≡ InSync → is_listed leg superblock ≡ true
+  pub marked : (region : ℕ) → is_marked region d ≡ true → is_marked region superblock ≡ true
+
+-- the bounds once a save of this superblock has begun
+pub record IsWidened (old superblock new : Durable) : Type 0 where
+  pub named : (leg : ℕ) → is_named leg new ≡ (is_named leg old || is_named leg superblock)
+  pub lacking : (leg : ℕ) → is_lacking leg new ≡ (is_lacking leg old || is_lacking leg superblock)
+  pub listed : (leg : ℕ) → is_listed leg new ≡ (is_listed leg old && is_listed leg superblock)
+  pub marked : (region : ℕ) → is_marked region new ≡ is_marked region old
+
+-- A save that begins widens the bounds, which may become so, and then bound its superblock too. One
+-- that ends leaves that superblock as the only one, and the bounds may become what it says; one that
+-- fails leaves them wide.
+pub record SavesAreSafe (L : Type 0) : Type 0 where
+  pub begins : (stripe : StripeState L) (old superblock new : Durable) (images : List Durable)
+      → AllListed stripe old → AllBounded old images → IsTaken stripe old superblock
+      → IsWidened old superblock new
+      → Resaves stripe old new × AllBounded new (superblock ∷ images)
+  pub ends : (stripe : StripeState L) (old superblock : Durable) (images : List Durable)
+      → AllListed stripe old → AllBounded old (superblock ∷ images)
+      → Resaves stripe old superblock × AllBounded superblock (superblock ∷ [])
