@@ -2,13 +2,13 @@
 use Rattle.std.specs.Prelude.{Bool, true, false, Some, None}
 use Rattle.nm_session.specs.declared.served.Served.{Served}
 use Rattle.nm_session.specs.Session.{Session}
-use Rattle.nm_workers.specs.Serving.{Wires, wires, Greets}
+use Rattle.nm_workers.specs.Serving.{Io, io, Negotiates}
 
--- the wires of a socket: of its bytes nothing is known
-abbrev pub untold : Wires
-untold = wires None None
+-- the input and output of a socket: of its bytes nothing is known
+abbrev pub untold : Io
+untold = io None None
 
 -- true where requests follow, false where the session has ended
-abbrev pub HasGreeted : Bool → (from to : Session) → Type 0
-HasGreeted true from to = Greets None from to untold untold
-HasGreeted false from to = (served : Served) × Greets (Some served) from to untold untold
+abbrev pub HasNegotiated : Bool → (from to : Session) → Type 0
+HasNegotiated true from to = Negotiates None from to untold untold
+HasNegotiated false from to = (served : Served) × Negotiates (Some served) from to untold untold

@@ -1,7 +1,7 @@
 //! Sessions over TCP: who listens, who serves.
 ghost use Rattle.std.specs.Prelude.{◌≡◌, ◌*◌, ◌≤◌, ◌^◌, ◌↔◌, [], length, map, true, All};
 ghost use Rattle.std.specs.Prelude.{IsSome, IfSome, IfOk, IfErr};
-ghost use Rattle.nm_server.specs.Handshake.{HasGreeted};
+ghost use Rattle.nm_server.specs.Handshake.{HasNegotiated};
 ghost use Rattle.nm_session.specs.declared.serve_fault.ServeFault.TheVariants.{Memory};
 ghost use Rattle.nm_wire.specs.Export.{size_of};
 
@@ -22,7 +22,7 @@ use nm_replies::ReplyWriter;
 use nm_service::Refusals;
 use nm_session::{Limit, ServeFault, SessionCore};
 use nm_wire::{Export, Name};
-use nm_workers::{SpinToken, greet, transmit};
+use nm_workers::{SpinToken, negotiate, transmit};
 use std::alloc::Global;
 use std::cell::Cell;
 use std::net::{Shutdown, SocketAddr, TcpListener, TcpStream};
@@ -85,16 +85,16 @@ fn export_of(alloc: Global, named: &ExportName<'_>, blocks: u64) -> Option<Expor
     })
 }
 
-// Haggles with a client within its time, and tells whether requests follow. After it no limit
+// Negotiates with a client within its time, and tells whether requests follow. After it no limit
 // stands.
-fn shake_hands<R: Wait + Clock>(
+fn negotiate_in_time<R: Wait + Clock>(
     rt: &R,
     alloc: Global,
     stream: &TcpStream,
     core: &mut SessionCore,
 ) -> Result<bool, ServeFault>
     requires idle { core.old.outstanding ≡ [] }
-    ensures greeted { IfOk result (λ goes_on. HasGreeted goes_on core.old core.new) }
+    ensures negotiated { IfOk result (λ goes_on. HasNegotiated goes_on core.old core.new) }
     ensures export { IfOk result (λ goes_on. goes_on ≡ true
         → core.new.haggling.export ≡ core.old.haggling.export) }
 {
@@ -108,7 +108,7 @@ fn shake_hands<R: Wait + Clock>(
     let begun = Cell::new(begun);
     let mut reader = TimedStream::new(rt, stream, &begun, within);
     let mut sender = ReplyWriter::new(TimedStream::new(rt, stream, &begun, within));
-    match greet(rt, alloc, core, &mut room, &mut reader, &mut sender) {
+    match negotiate(rt, alloc, core, &mut room, &mut reader, &mut sender) {
         Ok(None) => {
             let _ = stream.set_read_timeout(None);
             let _ = stream.set_write_timeout(None);
@@ -190,7 +190,7 @@ fn serve_client<R: Threads + Wait + Sync + Copy + Clock>(
     let Ok(mut core) = SessionCore::new(alloc, export, limit) else {
         return Err(ServeFault::Memory);
     };
-    if !shake_hands(rt, alloc, stream, &mut core)? {
+    if !negotiate_in_time(rt, alloc, stream, &mut core)? {
         return Ok(());
     }
     let ready = ReadyMirror::new(FileCalls { rt, alloc, mirror });

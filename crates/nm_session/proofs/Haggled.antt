@@ -11,7 +11,7 @@ use Rattle.nm_haggle.specs.Laws.{GoesOn, EndsThere}
 use Rattle.nm_requests.specs.Message.{Message}
 use Rattle.nm_requests.specs.Stream.{Begins}
 use Rattle.nm_wire.specs.declared.export.Export.{Export}
-use Rattle.nm_session.specs.declared.held.Held.{Held}
+use Rattle.nm_session.specs.declared.outstanding.Outstanding.{Outstanding}
 use Rattle.nm_session.specs.declared.limit.Limit.{Limit}
 use Rattle.nm_session.specs.declared.stage.Stage.TheVariants as stage
 use Rattle.nm_session.specs.Event.{Event, Fed, Asked, Stopped, Answered, Took, Runs, fed_bytes, taken_bytes, messages}
@@ -131,7 +131,7 @@ same_export : (export : Export) (text replied : List ℕ) (old new : Haggling) (
 same_export export text replied old new piece out used shown so_far from =
     from.export_is ∙ so_far.export_is
 
-nothing_answered : (before after : List Held) (held : Held) → [] ≡ before ++ held ∷ after → ⊥
+nothing_answered : (before after : List Outstanding) (held : Outstanding) → [] ≡ before ++ held ∷ after → ⊥
 nothing_answered [] after held e = cc
 nothing_answered (x ∷ before) after held e = cc
 

@@ -7,27 +7,27 @@ use Rattle.nm_haggle.proofs.Pieces.{all_append}
 use Rattle.nm_requests.specs.declared.request.Request.{Request}
 use Rattle.nm_requests.specs.declared.task.Task.{Task}
 use Rattle.nm_requests.specs.declared.task.Task.TheVariants.{Read, Write, Zero, Flush, Nothing, Disconnect}
-use Rattle.nm_session.specs.declared.held.Held.{Held}
-use Rattle.nm_session.specs.Asking.{held_for}
+use Rattle.nm_session.specs.declared.outstanding.Outstanding.{Outstanding}
+use Rattle.nm_session.specs.Asking.{outstanding_for}
 use Rattle.nm_session.specs.Text.{cookie_of}
 
 -- the request was read, and has this cookie
-pub record Knows (before : List Request) (count : ℕ) (held : Held) : Type 0 where
+pub record Knows (before : List Request) (count : ℕ) (held : Outstanding) : Type 0 where
   pub cookie : cookie_of held.index before ≡ held.cookie
   pub read : held.index < count
 
-abbrev pub AreKnown : List Request → ℕ → List Held → Type 0
+abbrev pub AreKnown : List Request → ℕ → List Outstanding → Type 0
 AreKnown before count outstanding = AllByRecursion (Knows before count) outstanding
 
 -- a request that is read later has another index
-later : (before : List Request) (count : ℕ) (request : Request) (held : Held)
+later : (before : List Request) (count : ℕ) (request : Request) (held : Outstanding)
     → request.index ≡ count → Knows before count held → Knows (request ∷ before) (count + 1) held
 later before count request held is knows = record {
   cookie = rw (ne_eqb request.index held.index (λ e. omega (arith, knows.read, is, e))) knows.cookie;
   read = omega (arith, knows.read);
 }
 
-all_later : (before : List Request) (count : ℕ) (request : Request) (xs : List Held)
+all_later : (before : List Request) (count : ℕ) (request : Request) (xs : List Outstanding)
     → request.index ≡ count → AreKnown before count xs → AreKnown (request ∷ before) (count + 1) xs
 all_later before count request [] is known = tt
 all_later before count request (held ∷ xs) is known =
@@ -51,7 +51,7 @@ one before count request task is = record {
 }
 
 issue : (before : List Request) (count : ℕ) (request : Request) (judged : Result Task ℕ)
-    → request.index ≡ count → AreKnown (request ∷ before) (count + 1) (held_for request judged)
+    → request.index ≡ count → AreKnown (request ∷ before) (count + 1) (outstanding_for request judged)
 issue before count request (Ok (Read offset n)) is =
     (one before count request (Read offset n) is, tt)
 issue before count request (Ok (Write offset n fua)) is =
@@ -64,15 +64,15 @@ issue before count request (Ok Disconnect) is = tt
 issue before count request (Err code) is = tt
 
 pub known_asked : (before : List Request) (count : ℕ) (request : Request)
-    (judged : Result Task ℕ) (xs : List Held) → request.index ≡ count
+    (judged : Result Task ℕ) (xs : List Outstanding) → request.index ≡ count
     → AreKnown before count xs
-    → AreKnown (request ∷ before) (count + 1) (xs ++ held_for request judged)
+    → AreKnown (request ∷ before) (count + 1) (xs ++ outstanding_for request judged)
 known_asked before count request judged xs is known =
-    all_append (Knows (request ∷ before) (count + 1)) xs (held_for request judged)
+    all_append (Knows (request ∷ before) (count + 1)) xs (outstanding_for request judged)
     (all_later before count request xs is known) (issue before count request judged is)
 
 -- one that is taken out of the list, and the others
-pub taken_out : (P : Held → Type 0) (xs : List Held) (held : Held) (ys : List Held)
+pub taken_out : (P : Outstanding → Type 0) (xs : List Outstanding) (held : Outstanding) (ys : List Outstanding)
     → AllByRecursion P (xs ++ held ∷ ys) → P held × AllByRecursion P (xs ++ ys)
 taken_out P [] held ys all = all
 taken_out P (x ∷ xs) held ys all =

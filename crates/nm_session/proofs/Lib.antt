@@ -11,7 +11,7 @@ pub mod Once
 pub mod Changing
 pub mod Reading
 pub mod Motion
-pub mod OneTurn
+pub mod OneRequest
 pub mod Pieces
 pub mod WholeSessions
 pub mod ReadEvents

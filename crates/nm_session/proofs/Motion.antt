@@ -7,7 +7,7 @@ use Rattle.nm_session.specs.declared.serve_fault.ServeFault.TheVariants as fault
 use Rattle.nm_session.specs.Session.{Session}
 use Rattle.nm_session.specs.Event.{Event, Fed, Asked, Stopped, Answered, Took, Runs, fed_bytes, taken_bytes}
 use Rattle.nm_session.specs.Target.{TargetCall}
-use Rattle.nm_session.specs.Moving.{Moment, Waiting, InTurn, waiting_for, Moves, BreaksOff, IsCause}
+use Rattle.nm_session.specs.Moving.{SessionState, Waiting, InTurn, waiting_for, Moves, BreaksOff, IsCause}
 
 -- calls that follow one another are one list, and no call leads from a state to itself
 pub record IsPath {T : Type 0} (follows : T → List TargetCall → T → Type 0) : Type 0 where
@@ -68,7 +68,7 @@ in_turn-append (Some w) after (Answered index outcome ∷ xs) ys calls more firs
 
 -- one move after the other
 pub moves_on : {T : Type 0} (follows : T → List TargetCall → T → Type 0) → IsPath follows
-    → (a b c : Moment T) → Moves follows a b → Moves follows b c → Moves follows a c
+    → (a b c : SessionState T) → Moves follows a b → Moves follows b c → Moves follows a c
 moves_on follows path a b c first second = record {
   events = first.events ++ second.events;
   calls = first.calls ++ second.calls;
@@ -102,7 +102,7 @@ cause_on (fault.Write sent) before taken written unfed cause = (
 
 -- a move, and then a break
 pub breaks_on : {T : Type 0} (follows : T → List TargetCall → T → Type 0) → IsPath follows
-    → (a b c : Moment T) (found : ServeFault) → Moves follows a b → BreaksOff follows b c found
+    → (a b c : SessionState T) (found : ServeFault) → Moves follows a b → BreaksOff follows b c found
     → BreaksOff follows a c found
 breaks_on follows path a b c found first second = record {
   events = first.events ++ second.events;
@@ -129,7 +129,7 @@ breaks_on follows path a b c found first second = record {
 
 -- no move at all
 pub moves_nowhere : {T : Type 0} (follows : T → List TargetCall → T → Type 0) → IsPath follows
-    → (a : Moment T) → Moves follows a a
+    → (a : SessionState T) → Moves follows a a
 moves_nowhere follows path a = record {
   events = [];
   calls = [];

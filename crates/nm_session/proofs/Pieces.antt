@@ -13,12 +13,12 @@ use Rattle.nm_session.specs.Session.{Session}
 use Rattle.nm_session.specs.Feeding.{Feeds, FeedsAt, IsEnded}
 use Rattle.nm_session.specs.Event.{Fed, Took, Takes}
 use Rattle.nm_session.specs.Target.{TargetCall}
-use Rattle.nm_session.specs.Moving.{Moment, moment, Moves, BreaksOff}
-use Rattle.nm_session.specs.MovingBytes.{FeedsPiece, FeedsNone, SendsOut, SendsPart}
-use Rattle.nm_session.specs.Turning.{IsIdle, IsStarved}
-use Rattle.nm_session.specs.Serving.{CoreEnds, IsEnd, EndsAt, Transmits, ShakesHands, no_target}
+use Rattle.nm_session.specs.Moving.{SessionState, state, Moves, BreaksOff}
+use Rattle.nm_session.specs.Io.{FeedsPiece, FeedsNone, SendsOut, SendsPart}
+use Rattle.nm_session.specs.Batch.{IsIdle, IsStarved}
+use Rattle.nm_session.specs.Serving.{CoreEnds, IsEnd, EndsAt, Transmits, Negotiates, no_target}
 use Rattle.nm_session.specs.declared.phase.Phase.TheVariants as phase
-use Rattle.nm_session.specs.declared.held.Held.{Held}
+use Rattle.nm_session.specs.declared.outstanding.Outstanding.{Outstanding}
 use Rattle.nm_session.specs.Session.{phase_at}
 use Rattle.nm_session.proofs.Motion.{IsPath, moves_on, breaks_on}
 
@@ -66,7 +66,7 @@ pub none_after_send : (old new : Session) (bytes : List ℕ) → Takes old bytes
 none_after_send old new bytes takes = ap (λ (s : Session). s.out) takes.new_is
 
 -- the end of a core is the end of the session
-pub core_ends : {T : Type 0} (told : End) (at : Moment T) (served : Served) → CoreEnds told at.core.stage
+pub core_ends : {T : Type 0} (told : End) (at : SessionState T) (served : Served) → CoreEnds told at.core.stage
     → served ≡ record { requests = at.core.count; end = told } → EndsAt served at
 core_ends told at served ends is = subst (λ (s : Served). EndsAt s at) (sym is) (record {
   requests = refl;
@@ -80,19 +80,19 @@ core_ends told at served ends is = subst (λ (s : Served). EndsAt s at) (sym is)
     as_told end.Protocol ends = ends
 
 -- the end of the input is the end of the session
-pub input_ends : {T : Type 0} (at : Moment T) (served : Served) → IsStarved at.core → IsAtEnd at.input
+pub input_ends : {T : Type 0} (at : SessionState T) (served : Served) → IsStarved at.core → IsAtEnd at.input
     → served ≡ record { requests = at.core.count; end = end.EndOfInput } → EndsAt served at
 input_ends at served starved ended is = subst (λ (s : Served). EndsAt s at) (sym is)
     (record { requests = refl; end_is = (starved, ended) })
 
 -- the phase tells the stage
-pub haggling_stage : (at : Stage) (outstanding : List Held) → phase.Haggling ≡ phase_at at outstanding → at ≡ stage.Haggling
+pub haggling_stage : (at : Stage) (outstanding : List Outstanding) → phase.Haggling ≡ phase_at at outstanding → at ≡ stage.Haggling
 haggling_stage stage.Haggling outstanding is = refl
 haggling_stage stage.Serving outstanding is = absurd (cc)
 haggling_stage (stage.Ended by) [] is = absurd (cc)
 haggling_stage (stage.Ended by) (held ∷ outstanding) is = absurd (cc)
 
-pub serving_stage : (at : Stage) (outstanding : List Held) → phase.Serving ≡ phase_at at outstanding → at ≡ stage.Serving
+pub serving_stage : (at : Stage) (outstanding : List Outstanding) → phase.Serving ≡ phase_at at outstanding → at ≡ stage.Serving
 serving_stage stage.Haggling outstanding is = absurd (cc)
 serving_stage stage.Serving outstanding is = refl
 serving_stage (stage.Ended by) [] is = absurd (cc)
@@ -117,7 +117,7 @@ no_target_path = record {
 module _ {T : Type 0} (follows : T → List TargetCall → T → Type 0) (path : IsPath follows) where
   -- replies are taken out and written
   pub sends : (old new : Session) (target : T) (input output written : Option (List ℕ)) → SendsOut old new output written
-      → Moves follows (moment old target input output) (moment new target input written)
+      → Moves follows (state old target input output) (state new target input written)
   sends old new target input output written sent = record {
     events = Took old.out ∷ [];
     calls = [];
@@ -131,7 +131,7 @@ module _ {T : Type 0} (follows : T → List TargetCall → T → Type 0) (path :
   -- not all of them are written
   pub sends_part : (found : ServeFault) (old new : Session) (target : T) (input output written : Option (List ℕ))
       → SendsPart found old new output written
-      → BreaksOff follows (moment old target input output) (moment new target input written) found
+      → BreaksOff follows (state old target input output) (state new target input written) found
   sends_part fault.Memory old new target input output written part = absurd part
   sends_part fault.Read old new target input output written part = absurd part
   sends_part (fault.Write sent) old new target input output written part = record {
@@ -151,7 +151,7 @@ module _ {T : Type 0} (follows : T → List TargetCall → T → Type 0) (path :
   -- a piece is read and fed
   pub feeds : (old new : Session) (target : T) (input unread output : Option (List ℕ))
       → FeedsPiece true old new input unread
-      → Moves follows (moment old target input output) (moment new target unread output)
+      → Moves follows (state old target input output) (state new target unread output)
   feeds old new target input unread output piece = record {
     events = Fed piece.0 ∷ [];
     calls = [];
@@ -165,7 +165,7 @@ module _ {T : Type 0} (follows : T → List TargetCall → T → Type 0) (path :
   -- the input has ended
   pub feeds_nothing : (old new : Session) (target : T) (input unread output : Option (List ℕ))
       → FeedsPiece false old new input unread
-      → Moves follows (moment old target input output) (moment new target unread output)
+      → Moves follows (state old target input output) (state new target unread output)
   feeds_nothing old new target input unread output none = record {
     events = [];
     calls = [];
@@ -179,7 +179,7 @@ module _ {T : Type 0} (follows : T → List TargetCall → T → Type 0) (path :
   -- a piece is not read, or not fed
   pub feeds_none : (found : ServeFault) (old new : Session) (target : T) (input unread output : Option (List ℕ))
       → FeedsNone found old new input unread
-      → BreaksOff follows (moment old target input output) (moment new target unread output) found
+      → BreaksOff follows (state old target input output) (state new target unread output) found
   feeds_none (fault.Write sent) old new target input unread output none = absurd none
   feeds_none fault.Memory old new target input unread output none = record {
     events = [];
@@ -209,62 +209,62 @@ module _ {T : Type 0} (follows : T → List TargetCall → T → Type 0) (path :
   }
 
   -- moves, after which all was sent
-  pub record SentOn (from to : Moment T) : Type 0 where
+  pub record SentOn (from to : SessionState T) : Type 0 where
     pub moves : Moves follows from to
     pub idle : IsIdle from.core to.core
     pub none : to.core.out ≡ []
 
-  pub sent_on : (from : Moment T) (old new : Session) (target : T) (input output written : Option (List ℕ))
-      → Moves follows from (moment old target input output) → IsIdle from.core old
-      → SendsOut old new output written → SentOn from (moment new target input written)
+  pub sent_on : (from : SessionState T) (old new : Session) (target : T) (input output written : Option (List ℕ))
+      → Moves follows from (state old target input output) → IsIdle from.core old
+      → SendsOut old new output written → SentOn from (state new target input written)
   sent_on from old new target input output written moves idle sent = record {
-    moves = moves_on follows path from (moment old target input output) (moment new target input written)
+    moves = moves_on follows path from (state old target input output) (state new target input written)
         moves (sends old new target input output written sent);
     idle = idle_after_send from.core old new old.out idle sent.takes;
     none = none_after_send old new old.out sent.takes;
   }
 
-  pub sent_breaks : (from : Moment T) (old new : Session) (target : T) (input output written : Option (List ℕ))
-      (found : ServeFault) → Moves follows from (moment old target input output)
-      → SendsPart found old new output written → BreaksOff follows from (moment new target input written) found
+  pub sent_breaks : (from : SessionState T) (old new : Session) (target : T) (input output written : Option (List ℕ))
+      (found : ServeFault) → Moves follows from (state old target input output)
+      → SendsPart found old new output written → BreaksOff follows from (state new target input written) found
   sent_breaks from old new target input output written found moves part =
-      breaks_on follows path from (moment old target input output) (moment new target input written) found
+      breaks_on follows path from (state old target input output) (state new target input written) found
       moves (sends_part found old new target input output written part)
 
   -- a piece is read after that
-  pub fed_on : (from : Moment T) (old new : Session) (target : T) (input unread output : Option (List ℕ))
-      → SentOn from (moment old target input output) → FeedsPiece true old new input unread
-      → Moves follows from (moment new target unread output) × IsIdle from.core new
+  pub fed_on : (from : SessionState T) (old new : Session) (target : T) (input unread output : Option (List ℕ))
+      → SentOn from (state old target input output) → FeedsPiece true old new input unread
+      → Moves follows from (state new target unread output) × IsIdle from.core new
   fed_on from old new target input unread output sent piece = (
-    moves_on follows path from (moment old target input output) (moment new target unread output)
+    moves_on follows path from (state old target input output) (state new target unread output)
         sent.moves (feeds old new target input unread output piece),
     idle_after_feed from.core old new piece.0 sent.idle piece.2,
   )
 
-  pub fed_breaks : (from : Moment T) (old new : Session) (target : T) (input unread output : Option (List ℕ))
-      (found : ServeFault) → SentOn from (moment old target input output) → FeedsNone found old new input unread
-      → BreaksOff follows from (moment new target unread output) found
+  pub fed_breaks : (from : SessionState T) (old new : Session) (target : T) (input unread output : Option (List ℕ))
+      (found : ServeFault) → SentOn from (state old target input output) → FeedsNone found old new input unread
+      → BreaksOff follows from (state new target unread output) found
   fed_breaks from old new target input unread output found sent none =
-      breaks_on follows path from (moment old target input output) (moment new target unread output) found
+      breaks_on follows path from (state old target input output) (state new target unread output) found
       sent.moves (feeds_none found old new target input unread output none)
 
   -- the input has ended after that
-  pub input_over : (from : Moment T) (old new : Session) (target : T) (input unread output : Option (List ℕ))
-      (served : Served) → SentOn from (moment old target input output) → IsStarved old
+  pub input_over : (from : SessionState T) (old new : Session) (target : T) (input unread output : Option (List ℕ))
+      (served : Served) → SentOn from (state old target input output) → IsStarved old
       → FeedsPiece false old new input unread
       → served ≡ record { requests = new.count; end = end.EndOfInput }
-      → Transmits follows served from (moment new target unread output)
+      → Transmits follows served from (state new target unread output)
   input_over from old new target input unread output served sent starved over is = record {
-    moves = moves_on follows path from (moment old target input output) (moment new target unread output)
+    moves = moves_on follows path from (state old target input output) (state new target unread output)
         sent.moves (feeds_nothing old new target input unread output over);
     idle = subst (λ (s : Session). IsIdle from.core s) (sym over.2) sent.idle;
     sent = ap (λ (s : Session). s.out) over.2 ∙ sent.none;
-    ends = input_ends (moment new target unread output) served
+    ends = input_ends (state new target unread output) served
         (subst IsStarved (sym over.2) starved) over.1 is;
   }
 
   -- the core has ended after that
-  pub core_over : (from to : Moment T) (told : End) (served : Served) → SentOn from to
+  pub core_over : (from to : SessionState T) (told : End) (served : Served) → SentOn from to
       → CoreEnds told to.core.stage → served ≡ record { requests = to.core.count; end = told }
       → Transmits follows served from to
   core_over from to told served sent ends is = record {
@@ -275,7 +275,7 @@ module _ {T : Type 0} (follows : T → List TargetCall → T → Type 0) (path :
   }
 
   -- rounds, and then the last one
-  pub transmits_on : (a b c : Moment T) (served : Served) → Moves follows a b → IsIdle a.core b.core
+  pub transmits_on : (a b c : SessionState T) (served : Served) → Moves follows a b → IsIdle a.core b.core
       → Transmits follows served b c → Transmits follows served a c
   transmits_on a b c served moves idle last = record {
     moves = moves_on follows path a b c moves last.moves;
@@ -285,8 +285,8 @@ module _ {T : Type 0} (follows : T → List TargetCall → T → Type 0) (path :
   }
 
 -- a session that ends in the handshake
-pub hands_of : (served : Served) (from to : Moment (Unit {0})) → Transmits no_target served from to
-    → ShakesHands (Some served) from to
+pub hands_of : (served : Served) (from to : SessionState (Unit {0})) → Transmits no_target served from to
+    → Negotiates (Some served) from to
 hands_of served from to transmits = record {
   moves = transmits.moves;
   idle = transmits.idle;

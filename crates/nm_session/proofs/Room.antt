@@ -10,28 +10,28 @@ use Rattle.nm_requests.specs.First.{message_of}
 use Rattle.nm_requests.specs.Judging.{LiesInside}
 use Rattle.nm_requests.specs.Message.{read_length}
 use Rattle.nm_requests.specs.Stream.{StartsWith}
-use Rattle.nm_session.specs.declared.held.Held.{Held}
-use Rattle.nm_session.specs.Asking.{IsJudged, held_for, no_memory, refuse_long}
+use Rattle.nm_session.specs.declared.outstanding.Outstanding.{Outstanding}
+use Rattle.nm_session.specs.Asking.{IsJudged, outstanding_for, no_memory, refuse_long}
 use Rattle.nm_session.specs.Outcome.{reply_length}
 use Rattle.nm_session.specs.Session.{Session, HasRoom, bytes_asked}
 
-bytes_append : (xs ys : List Held) → bytes_asked (xs ++ ys) ≡ bytes_asked xs + bytes_asked ys
+bytes_append : (xs ys : List Outstanding) → bytes_asked (xs ++ ys) ≡ bytes_asked xs + bytes_asked ys
 bytes_append [] ys = omega arith
 bytes_append (held ∷ xs) ys = omega (arith, bytes_append xs ys)
 
 -- those of a request that is taken out of the list
-pub bytes_split : (xs before after : List Held) (held : Held) → xs ≡ before ++ held ∷ after
+pub bytes_split : (xs before after : List Outstanding) (held : Outstanding) → xs ≡ before ++ held ∷ after
     → bytes_asked xs ≡ bytes_asked (before ++ after) + reply_length held.task
 bytes_split xs before after held is =
-    subst (λ (all : List Held). bytes_asked all ≡ bytes_asked (before ++ after) + reply_length held.task)
+    subst (λ (all : List Outstanding). bytes_asked all ≡ bytes_asked (before ++ after) + reply_length held.task)
     (sym is)
     (omega (arith, bytes_append before (held ∷ after), bytes_append before after))
 
 -- those of requests of which one more follows
-pub bytes_more : (xs ys all : List Held) → all ≡ xs ++ ys
+pub bytes_more : (xs ys all : List Outstanding) → all ≡ xs ++ ys
     → bytes_asked all ≡ bytes_asked xs + bytes_asked ys
 bytes_more xs ys all is =
-    subst (λ (all : List Held). bytes_asked all ≡ bytes_asked xs + bytes_asked ys) (sym is)
+    subst (λ (all : List Outstanding). bytes_asked all ≡ bytes_asked xs + bytes_asked ys) (sym is)
     (bytes_append xs ys)
 
 -- a READ that was not refused is short
@@ -59,22 +59,22 @@ pub fits_beside : (session : Session) (request : Request) (after : List ℕ) (ju
     → StartsWith session.count session.rest (message_of request) after
     → IsJudged session.haggling.export session.limit request judged
     → IfOk judged (LiesInside request session.haggling.export)
-    → bytes_asked (session.outstanding ++ held_for request judged) ≤ session.limit.bytes
+    → bytes_asked (session.outstanding ++ outstanding_for request judged) ≤ session.limit.bytes
 fits_beside session request after (Ok (Read offset length)) room few starts is inside =
     let same : read_length (message_of request).head ≡ length = rw inside.1.1 (sym inside.0.length_is) in
     let short = is_short session.limit.bytes offset length is.by_table is.judged_is in
     omega (
       arith,
-      bytes_append session.outstanding (held_for request (Ok (Read offset length))),
+      bytes_append session.outstanding (outstanding_for request (Ok (Read offset length))),
       room (message_of request) after starts (omega (arith, same, short)),
       same,
     )
 fits_beside session request after (Ok (Write offset length fua)) room few starts is inside =
-    omega (arith, few, bytes_append session.outstanding (held_for request (Ok (Write offset length fua))))
+    omega (arith, few, bytes_append session.outstanding (outstanding_for request (Ok (Write offset length fua))))
 fits_beside session request after (Ok (Zero offset length fua)) room few starts is inside =
-    omega (arith, few, bytes_append session.outstanding (held_for request (Ok (Zero offset length fua))))
+    omega (arith, few, bytes_append session.outstanding (outstanding_for request (Ok (Zero offset length fua))))
 fits_beside session request after (Ok Flush) room few starts is inside =
-    omega (arith, few, bytes_append session.outstanding (held_for request (Ok Flush)))
+    omega (arith, few, bytes_append session.outstanding (outstanding_for request (Ok Flush)))
 fits_beside session request after (Ok Nothing) room few starts is inside =
     omega (arith, few, bytes_append session.outstanding [])
 fits_beside session request after (Ok Disconnect) room few starts is inside =

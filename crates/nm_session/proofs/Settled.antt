@@ -3,7 +3,7 @@ use Rattle.std.proofs.Common.{◌≡◌, ℕ, zero, suc, ◌+◌, List, ◌++◌
 use Rattle.std.specs.Prelude.{◌<◌, ◌≤◌, [], ◌∷◌, All, IfOk, IfSome}
 use Rattle.std.proofs.Common.{arith}
 use Rattle.std.proofs.lemmas.List.Elements.{All-append, All-nil}
-use Rattle.nm_session.specs.declared.held.Held.{Held}
+use Rattle.nm_session.specs.declared.outstanding.Outstanding.{Outstanding}
 use Rattle.nm_requests.specs.declared.request.Request.{Request}
 use Rattle.nm_requests.specs.declared.task.Task.{Task}
 use Rattle.nm_requests.specs.declared.task.Task.TheVariants.{Read, Write, Zero, Flush, Nothing, Disconnect}
@@ -14,7 +14,7 @@ use Rattle.nm_wire.specs.declared.export.Export.{Export}
 use Rattle.nm_session.specs.declared.next.Next.{Next}
 use Rattle.nm_session.specs.declared.stage.Stage.TheVariants as stage
 use Rattle.nm_session.specs.Session.{Session, IsReading, bytes_asked}
-use Rattle.nm_session.specs.Asking.{Asks, IsJudged, held_for, own_reply, stage_after, next_after}
+use Rattle.nm_session.specs.Asking.{Asks, IsJudged, outstanding_for, own_reply, stage_after, next_after}
 use Rattle.nm_session.specs.Reading.{Tells}
 use Rattle.nm_session.proofs.Sessions.{same_session}
 
@@ -26,7 +26,7 @@ pub record IsFound (old : Session) (rest : List ℕ) (request : Request) (judged
   pub first : StartsWith old.count old.rest (message_of request) rest
   pub is_judged : IsJudged old.haggling.export old.limit request judged
   pub inside : IfOk judged (LiesInside request old.haggling.export)
-  pub within : bytes_asked (old.outstanding ++ held_for request judged) ≤ old.limit.bytes
+  pub within : bytes_asked (old.outstanding ++ outstanding_for request judged) ≤ old.limit.bytes
 
 -- what was done with it
 pub record IsSettled (old new : Session) (request : Request) (judged : Result Task ℕ)
@@ -35,7 +35,7 @@ pub record IsSettled (old new : Session) (request : Request) (judged : Result Ta
   pub stage : new.stage ≡ stage_after judged
   pub haggling : new.haggling ≡ old.haggling
   pub count : new.count ≡ old.count + 1
-  pub outstanding : new.outstanding ≡ old.outstanding ++ held_for request judged
+  pub outstanding : new.outstanding ≡ old.outstanding ++ outstanding_for request judged
   pub out : new.out ≡ old.out ++ own_reply request judged
 
 pub asked : (old new : Session) (request : Request) (judged : Result Task ℕ)
@@ -52,7 +52,7 @@ asked old new request judged found settled = record {
     stage = stage_after judged;
     rest = new.rest;
     count = old.count + 1;
-    outstanding = old.outstanding ++ held_for request judged;
+    outstanding = old.outstanding ++ outstanding_for request judged;
     out = old.out ++ own_reply request judged;
   }) settled.limit settled.stage settled.haggling refl settled.count settled.outstanding
       settled.out;
@@ -105,27 +105,27 @@ goes_on (Ok Disconnect) e = cc
 goes_on (Err code) e = cc
 
 -- every request that is kept was read
-later : (xs : List Held) (count : ℕ) → All (λ held. held.index < count) xs
+later : (xs : List Outstanding) (count : ℕ) → All (λ held. held.index < count) xs
     → All (λ held. held.index < count + 1) xs
 later xs count all k d below = omega (arith, all k d below)
 
-one : (held : Held) (count : ℕ) → held.index ≡ count
+one : (held : Outstanding) (count : ℕ) → held.index ≡ count
     → All (λ h. h.index < count + 1) (held ∷ [])
 one held count is zero d below = omega (arith, is)
 one held count is (suc k) d below = absurd (omega arith)
 
-joined : (xs ys : List Held) (count : ℕ) → All (λ held. held.index < count) xs
+joined : (xs ys : List Outstanding) (count : ℕ) → All (λ held. held.index < count) xs
     → All (λ held. held.index < count + 1) ys
     → All (λ held. held.index < count + 1) (xs ++ ys)
 joined xs ys count all more =
     All-append (λ held. held.index < count + 1) xs ys (later xs count all) more
 
-none : (count : ℕ) → All (λ (held : Held). held.index < count + 1) []
+none : (count : ℕ) → All (λ (held : Outstanding). held.index < count + 1) []
 none count = All-nil (λ held. held.index < count + 1)
 
-pub known_after : (xs : List Held) (request : Request) (judged : Result Task ℕ) (count : ℕ)
+pub known_after : (xs : List Outstanding) (request : Request) (judged : Result Task ℕ) (count : ℕ)
     → request.index ≡ count → All (λ held. held.index < count) xs
-    → All (λ held. held.index < count + 1) (xs ++ held_for request judged)
+    → All (λ held. held.index < count + 1) (xs ++ outstanding_for request judged)
 known_after xs request (Ok (Read offset n)) count is all =
     joined xs _ count all (one (record {
       index = request.index;

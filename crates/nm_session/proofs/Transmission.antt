@@ -11,12 +11,12 @@ use Rattle.nm_requests.specs.Message.{Message, message_bytes}
 use Rattle.nm_requests.specs.Stream.{Begins, StartsWith, most_requests}
 use Rattle.nm_session.specs.declared.ended_by.EndedBy.{EndedBy}
 use Rattle.nm_session.specs.declared.ended_by.EndedBy.TheVariants as by
-use Rattle.nm_session.specs.declared.held.Held.{Held}
+use Rattle.nm_session.specs.declared.outstanding.Outstanding.{Outstanding}
 use Rattle.nm_session.specs.declared.limit.Limit.{Limit}
 use Rattle.nm_session.specs.declared.outcome.Outcome.{Outcome}
 use Rattle.nm_session.specs.declared.stage.Stage.{Stage}
 use Rattle.nm_session.specs.declared.stage.Stage.TheVariants as stage
-use Rattle.nm_session.specs.Asking.{IsJudged, held_for, own_reply, stage_after}
+use Rattle.nm_session.specs.Asking.{IsJudged, outstanding_for, own_reply, stage_after}
 use Rattle.nm_session.specs.Event.{Event, Fed, Asked, Stopped, Answered, Took, Runs, fed_bytes, taken_bytes, messages}
 use Rattle.nm_session.specs.Feeding.{FeedsAt}
 use Rattle.nm_session.specs.Outcome.{says, reply_frame}
@@ -70,7 +70,7 @@ over (Stopped fault ∷ events) before old new by ended known runs =
 over (Answered index outcome ∷ events) before old new by ended known runs =
     let step = runs.1 in
     let out = taken_out (Knows before old.count) step.before step.held step.after
-    (subst (λ (xs : List Held). AreKnown before old.count xs) step.found known) in
+    (subst (λ (xs : List Outstanding). AreKnown before old.count xs) step.found known) in
     let rest = over events before (record old {
       outstanding = step.before ++ step.after;
       out = old.out ++ reply_frame step.held.cookie (says outcome);
@@ -195,7 +195,7 @@ asked_state old request judged rest = record old {
   stage = stage_after judged;
   rest = rest;
   count = old.count + 1;
-  outstanding = old.outstanding ++ held_for request judged;
+  outstanding = old.outstanding ++ outstanding_for request judged;
   out = old.out ++ own_reply request judged;
 }
 
@@ -286,7 +286,7 @@ served (Stopped fault ∷ events) before old new serving few known runs =
 served (Answered index outcome ∷ events) before old new serving few known runs =
     let step = runs.1 in
     let out = taken_out (Knows before old.count) step.before step.held step.after
-    (subst (λ (xs : List Held). AreKnown before old.count xs) step.found known) in
+    (subst (λ (xs : List Outstanding). AreKnown before old.count xs) step.found known) in
     let more = served events before (record old {
       outstanding = step.before ++ step.after;
       out = old.out ++ reply_frame step.held.cookie (says outcome);

@@ -13,7 +13,7 @@ use Rattle.nm_session.specs.Event.{Event, Fed, Asked, Stopped, Answered, Took, R
 use Rattle.nm_session.specs.Text.{GoesOut}
 use Rattle.nm_session.specs.Laws.{SoFar}
 use Rattle.nm_session.specs.Target.{TargetCall}
-use Rattle.nm_session.specs.Moving.{Moment, moment, InTurn, Moves, BreaksOff, IsCause}
+use Rattle.nm_session.specs.Moving.{SessionState, state, InTurn, Moves, BreaksOff, IsCause}
 use Rattle.nm_session.specs.declared.end.End.{End}
 use Rattle.nm_session.specs.declared.end.End.TheVariants as end
 use Rattle.nm_session.specs.Serving.{no_target, IsEnd, EndsAt, Transmits, IsServed, IsBrokenOff}
@@ -65,12 +65,12 @@ unwritten_of (fault.Write sent) all written unfed cause = (
 )
 
 -- an end is the same whatever the target
-pub ends_with_target : {T : Type 0} (served : Served) (at : Moment (Unit {0})) (target : T)
-    → EndsAt served at → EndsAt served (moment at.core target at.input at.output)
+pub ends_with_target : {T : Type 0} (served : Served) (at : SessionState (Unit {0})) (target : T)
+    → EndsAt served at → EndsAt served (state at.core target at.input at.output)
 ends_with_target served at target ends =
     record { requests = ends.requests; end_is = end_with served.end ends.end_is }
   where
-    end_with : (told : End) → IsEnd told at → IsEnd told (moment at.core target at.input at.output)
+    end_with : (told : End) → IsEnd told at → IsEnd told (state at.core target at.input at.output)
     end_with end.EndOfInput is = is
     end_with end.Disc is = is
     end_with end.Aborted is = is
@@ -78,8 +78,8 @@ ends_with_target served at target ends =
 
 module _ {T : Type 0} (follows : T → List TargetCall → T → Type 0) (path : IsPath follows) where
   -- moves without a target leave each target as it is
-  pub with_target : (from to : Moment (Unit {0})) (target : T) → Moves no_target from to
-      → Moves follows (moment from.core target from.input from.output) (moment to.core target to.input to.output)
+  pub with_target : (from to : SessionState (Unit {0})) (target : T) → Moves no_target from to
+      → Moves follows (state from.core target from.input from.output) (state to.core target to.input to.output)
   with_target from to target moves = record {
     events = moves.events;
     calls = [];
@@ -90,9 +90,9 @@ module _ {T : Type 0} (follows : T → List TargetCall → T → Type 0) (path :
     appends = moves.appends;
   }
 
-  pub breaks_with_target : (from to : Moment (Unit {0})) (target : T) (found : ServeFault)
+  pub breaks_with_target : (from to : SessionState (Unit {0})) (target : T) (found : ServeFault)
       → BreaksOff no_target from to found
-      → BreaksOff follows (moment from.core target from.input from.output) (moment to.core target to.input to.output) found
+      → BreaksOff follows (state from.core target from.input from.output) (state to.core target to.input to.output) found
   breaks_with_target from to target found breaks = record {
     events = breaks.events;
     calls = [];
@@ -110,8 +110,8 @@ module _ {T : Type 0} (follows : T → List TargetCall → T → Type 0) (path :
 
   -- a session that came to its end
   pub whole : SoFar → (export : Export) (core : Session) (from to : T) (input unread output written : Option (List ℕ))
-      (served : Served) → Transmits follows served (moment (session_of export (so_many 1)) from input output) (moment core to unread written)
-      → IsServed follows served (moment (session_of export (so_many 1)) from input output) (λ core. moment core to unread written)
+      (served : Served) → Transmits follows served (state (session_of export (so_many 1)) from input output) (state core to unread written)
+      → IsServed follows served (state (session_of export (so_many 1)) from input output) (λ core. state core to unread written)
   whole so_far export core from to input unread output written served transmits = record {
     core = core;
     transmits = transmits;
@@ -125,8 +125,8 @@ module _ {T : Type 0} (follows : T → List TargetCall → T → Type 0) (path :
 
   -- a session that broke off
   pub broken : SoFar → (export : Export) (core : Session) (from to : T) (input unread output written : Option (List ℕ))
-      (found : ServeFault) → BreaksOff follows (moment (session_of export (so_many 1)) from input output) (moment core to unread written) found
-      → IsBrokenOff follows found (moment (session_of export (so_many 1)) from input output) (λ core. moment core to unread written)
+      (found : ServeFault) → BreaksOff follows (state (session_of export (so_many 1)) from input output) (state core to unread written) found
+      → IsBrokenOff follows found (state (session_of export (so_many 1)) from input output) (λ core. state core to unread written)
   broken so_far export core from to input unread output written found breaks =
       let rest = unwritten_of found (taken_bytes breaks.events) breaks.written breaks.unfed breaks.cause in
       record {
@@ -141,7 +141,7 @@ module _ {T : Type 0} (follows : T → List TargetCall → T → Type 0) (path :
 
   -- a session that broke off before its first byte
   pub broken_at_once : SoFar → (export : Export) (target : T) (input output : Option (List ℕ))
-      → IsBrokenOff follows fault.Memory (moment (session_of export (so_many 1)) target input output) (λ core. moment core target input output)
+      → IsBrokenOff follows fault.Memory (state (session_of export (so_many 1)) target input output) (λ core. state core target input output)
   broken_at_once so_far export target input output =
       broken so_far export (session_of export (so_many 1)) target target input input output output fault.Memory (record {
         events = [];

@@ -10,7 +10,7 @@ use Rattle.nm_requests.specs.Judging.{IsFirst, LiesInside, table}
 use Rattle.nm_requests.specs.Stream.{StartsWith, EndsAs}
 use Rattle.nm_wire.specs.declared.export.Export.{Export}
 use Rattle.nm_session.specs.declared.ended_by.EndedBy.TheVariants as by
-use Rattle.nm_session.specs.declared.held.Held.{Held}
+use Rattle.nm_session.specs.declared.outstanding.Outstanding.{Outstanding}
 use Rattle.nm_session.specs.declared.limit.Limit.{Limit}
 use Rattle.nm_session.specs.declared.next.Next.{Next}
 use Rattle.nm_session.specs.declared.next.Next.TheVariants as next
@@ -38,12 +38,12 @@ pub record IsJudged (export : Export) (limit : Limit) (request : Request) (judge
   pub judged_is : judged ≡ refuse_long limit.bytes by_table
 
 -- what is kept of a request that has a task for a target
-abbrev pub held_for : Request → Result Task ℕ → List Held
-held_for request (Ok task.Nothing) = []
-held_for request (Ok task.Disconnect) = []
-held_for request (Ok task) =
+abbrev pub outstanding_for : Request → Result Task ℕ → List Outstanding
+outstanding_for request (Ok task.Nothing) = []
+outstanding_for request (Ok task.Disconnect) = []
+outstanding_for request (Ok task) =
     (record { index = request.index; task = task; cookie = request.cookie }) ∷ []
-held_for request (Err code) = []
+outstanding_for request (Err code) = []
 
 -- the reply to a request that needs no target: a refusal's error, or done where nothing is to be
 -- done; a DISC has none
@@ -74,12 +74,12 @@ pub record Asks (old : Session) (request : Request) (judged : Result Task ℕ) (
   pub first : StartsWith old.count old.rest (message_of request) new.rest
   pub is_judged : IsJudged old.haggling.export old.limit request judged
   pub inside : IfOk judged (LiesInside request old.haggling.export)
-  pub within : bytes_asked (old.outstanding ++ held_for request judged) ≤ old.limit.bytes
+  pub within : bytes_asked (old.outstanding ++ outstanding_for request judged) ≤ old.limit.bytes
   pub new_is : new ≡ record old {
     stage = stage_after judged;
     rest = new.rest;
     count = old.count + 1;
-    outstanding = old.outstanding ++ held_for request judged;
+    outstanding = old.outstanding ++ outstanding_for request judged;
     out = old.out ++ own_reply request judged;
   }
 
@@ -90,16 +90,16 @@ pub record Stops (old : Session) (fault : Fault) (new : Session) : Type 0 where
   pub new_is : new ≡ record old { stage = stage.Ended by.Protocol }
 
 -- the outcome is one that the task of the request with this index can have
-abbrev pub FitsAt : ℕ → Outcome → List Held → Type 0
+abbrev pub FitsAt : ℕ → Outcome → List Outstanding → Type 0
 FitsAt index outcome outstanding =
     All (λ held. held.index ≡ index → Fits held.task outcome) outstanding
 
 -- an outstanding request is answered with this outcome of its task
 pub record Answers (old : Session) (index : ℕ) (outcome : Outcome) (new : Session)
     : Type 0 where
-  pub before : List Held
-  pub held : Held
-  pub after : List Held
+  pub before : List Outstanding
+  pub held : Outstanding
+  pub after : List Outstanding
   pub found : old.outstanding ≡ before ++ held ∷ after
   pub index_is : held.index ≡ index
   pub fits : Fits held.task outcome

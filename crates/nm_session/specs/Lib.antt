@@ -14,6 +14,6 @@ pub mod Calling
 pub mod MemTarget
 pub mod ServeFault
 pub mod Moving
-pub mod Turning
-pub mod MovingBytes
+pub mod Batch
+pub mod Io
 pub mod Serving

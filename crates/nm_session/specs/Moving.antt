@@ -16,15 +16,15 @@ use Rattle.nm_session.specs.Calling.{TaskResult, AreCallsOf}
 
 -- a session at one moment: its core, its target, what its reader has left and what its writer
 -- holds, where they tell it
-pub record Moment (T : Type 0) : Type 0 where
+pub record SessionState (T : Type 0) : Type 0 where
   pub core : Session
   pub target : T
   pub input : Option (List ℕ)
   pub output : Option (List ℕ)
 
--- the moment with these parts
-abbrev pub moment : {T : Type 0} → Session → T → Option (List ℕ) → Option (List ℕ) → Moment T
-moment core target input output =
+-- the state with these parts
+abbrev pub state : {T : Type 0} → Session → T → Option (List ℕ) → Option (List ℕ) → SessionState T
+state core target input output =
     record { core = core; target = target; input = input; output = output }
 
 -- a request that was read and is not answered yet, with its task
@@ -62,8 +62,8 @@ InTurn (Some waiting) (_ ∷ events) calls after = ⊥
 
 -- from one moment to another: events of the core and calls of the target, each request in its turn;
 -- what was read was fed, and what was taken out was written
-pub record Moves {T : Type 0} (follows : T → List TargetCall → T → Type 0) (from to : Moment T)
-    : Type 0 where
+pub record Moves {T : Type 0} (follows : T → List TargetCall → T → Type 0)
+    (from to : SessionState T) : Type 0 where
   pub events : List Event
   pub calls : List TargetCall
   pub runs : Runs from.core events to.core
@@ -82,7 +82,7 @@ IsCause (fault.Write sent) taken written unfed =
 
 -- from one moment to that at which a fault broke the session off
 pub record BreaksOff {T : Type 0} (follows : T → List TargetCall → T → Type 0)
-    (from to : Moment T) (fault : ServeFault) : Type 0 where
+    (from to : SessionState T) (fault : ServeFault) : Type 0 where
   pub events : List Event
   pub calls : List TargetCall
   pub waiting : Option Waiting

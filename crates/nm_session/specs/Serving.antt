@@ -13,8 +13,8 @@ use Rattle.nm_session.specs.Session.{Session}
 use Rattle.nm_session.specs.Event.{taken_bytes, messages}
 use Rattle.nm_session.specs.Text.{GoesOut}
 use Rattle.nm_session.specs.Target.{TargetCall}
-use Rattle.nm_session.specs.Moving.{Moment, Moves, BreaksOff}
-use Rattle.nm_session.specs.Turning.{IsIdle, IsStarved}
+use Rattle.nm_session.specs.Moving.{SessionState, Moves, BreaksOff}
+use Rattle.nm_session.specs.Batch.{IsIdle, IsStarved}
 
 -- while the client and the server haggle no target is called
 abbrev pub no_target : Unit {0} → List TargetCall → Unit {0} → Type 0
@@ -34,19 +34,19 @@ CoreEnds end.Aborted at = at ≡ stage.Ended by.Abort
 CoreEnds end.Protocol at = at ≡ stage.Ended by.Protocol
 
 -- the input ended, and no whole request is left; or the core came to this end
-abbrev pub IsEnd : {T : Type 0} → End → Moment T → Type 0
+abbrev pub IsEnd : {T : Type 0} → End → SessionState T → Type 0
 IsEnd end.EndOfInput at = IsStarved at.core × IsAtEnd at.input
 IsEnd end.Disc at = CoreEnds end.Disc at.core.stage
 IsEnd end.Aborted at = CoreEnds end.Aborted at.core.stage
 IsEnd end.Protocol at = CoreEnds end.Protocol at.core.stage
 
 -- a session that came to its end at this moment
-pub record EndsAt {T : Type 0} (served : Served) (at : Moment T) : Type 0 where
+pub record EndsAt {T : Type 0} (served : Served) (at : SessionState T) : Type 0 where
   pub requests : served.requests ≡ at.core.count
   pub end_is : IsEnd served.end at
 
 -- the haggling leads to transmission, or to the session's end
-pub record ShakesHands (served : Option Served) (from to : Moment (Unit {0})) : Type 0 where
+pub record Negotiates (served : Option Served) (from to : SessionState (Unit {0})) : Type 0 where
   pub moves : Moves no_target from to
   pub idle : IsIdle from.core to.core
   pub sent : to.core.out ≡ []
@@ -54,7 +54,7 @@ pub record ShakesHands (served : Option Served) (from to : Moment (Unit {0})) : 
 
 -- requests are served up to the session's end
 pub record Transmits {T : Type 0} (follows : T → List TargetCall → T → Type 0) (served : Served)
-    (from to : Moment T) : Type 0 where
+    (from to : SessionState T) : Type 0 where
   pub moves : Moves follows from to
   pub idle : IsIdle from.core to.core
   pub sent : to.core.out ≡ []
@@ -62,13 +62,13 @@ pub record Transmits {T : Type 0} (follows : T → List TargetCall → T → Typ
 
 -- a round leads to the next one, or to the session's end
 abbrev pub IsRound : {T : Type 0} → (T → List TargetCall → T → Type 0) → Option Served
-    → Moment T → Moment T → Type 0
+    → SessionState T → SessionState T → Type 0
 IsRound follows None from to = Moves follows from to × IsIdle from.core to.core
 IsRound follows (Some served) from to = Transmits follows served from to
 
 -- a whole session, to the moment with its last core: what was written is what goes out
 pub record IsServed {T : Type 0} (follows : T → List TargetCall → T → Type 0) (served : Served)
-    (from : Moment T) (to : Session → Moment T) : Type 0 where
+    (from : SessionState T) (to : Session → SessionState T) : Type 0 where
   pub core : Session
   pub transmits : Transmits follows served from (to core)
   pub requests : served.requests ≡ length (messages transmits.moves.events)
@@ -77,7 +77,7 @@ pub record IsServed {T : Type 0} (follows : T → List TargetCall → T → Type
 
 -- a session that a fault broke off: what was written is a beginning of what goes out
 pub record IsBrokenOff {T : Type 0} (follows : T → List TargetCall → T → Type 0)
-    (fault : ServeFault) (from : Moment T) (to : Session → Moment T) : Type 0 where
+    (fault : ServeFault) (from : SessionState T) (to : Session → SessionState T) : Type 0 where
   pub core : Session
   pub breaks : BreaksOff follows from (to core) fault
   pub unwritten : List ℕ

@@ -8,7 +8,7 @@ use Rattle.nm_requests.specs.First.{BeginsRead}
 use Rattle.nm_requests.specs.Message.{Message, read_length}
 use Rattle.nm_requests.specs.Stream.{StartsWith}
 use Rattle.nm_session.specs.declared.ended_by.EndedBy.{EndedBy}
-use Rattle.nm_session.specs.declared.held.Held.{Held}
+use Rattle.nm_session.specs.declared.outstanding.Outstanding.{Outstanding}
 use Rattle.nm_session.specs.declared.limit.Limit.{Limit}
 use Rattle.nm_session.specs.declared.phase.Phase.{Phase}
 use Rattle.nm_session.specs.declared.phase.Phase.TheVariants as phase
@@ -25,7 +25,7 @@ pub record Session : Type 0 where
   pub haggling : Haggling
   pub rest : List ℕ
   pub count : ℕ
-  pub outstanding : List Held
+  pub outstanding : List Outstanding
   pub out : List ℕ
 
 -- a new session over an export: the greeting waits to go out
@@ -45,7 +45,7 @@ abbrev pub so_many : ℕ → Limit
 so_many requests = record { requests = requests; bytes = requests * max_payload }
 
 -- how many bytes the replies to these requests carry at most
-abbrev pub bytes_asked : List Held → ℕ
+abbrev pub bytes_asked : List Outstanding → ℕ
 bytes_asked [] = 0
 bytes_asked (held ∷ others) = reply_length held.task + bytes_asked others
 
@@ -86,12 +86,12 @@ ended_by stage.Serving = None
 ended_by (stage.Ended by) = Some by
 
 -- how far a session is, once nothing more is read
-abbrev pub ended_phase : List Held → Phase
+abbrev pub ended_phase : List Outstanding → Phase
 ended_phase [] = phase.Closed
 ended_phase (held ∷ others) = phase.Draining
 
 -- how far a session is, by its stage and the requests that are not answered
-abbrev pub phase_at : Stage → List Held → Phase
+abbrev pub phase_at : Stage → List Outstanding → Phase
 phase_at stage.Haggling outstanding = phase.Haggling
 phase_at stage.Serving outstanding = phase.Serving
 phase_at (stage.Ended by) outstanding = ended_phase outstanding

@@ -2,11 +2,11 @@ ghost use Rattle.std.specs.Prelude.{◌≡◌, ◌≤◌, [], IfOk, IfErr};
 ghost use Rattle.nm_replies.specs.Sending.{device_of};
 ghost use Rattle.nm_wire.specs.Export.{size_of};
 ghost use Rattle.nm_session.specs.Session.{session_of, so_many};
-ghost use Rattle.nm_session.specs.Moving.{moment, BreaksOff};
-ghost use Rattle.nm_session.specs.Serving.{no_target, ShakesHands, Transmits};
+ghost use Rattle.nm_session.specs.Moving.{state, BreaksOff};
+ghost use Rattle.nm_session.specs.Serving.{no_target, Negotiates, Transmits};
 
-use crate::handshake::shake_hands;
 use crate::limit::Limit;
+use crate::negotiation::negotiate;
 use crate::rounds::serve_requests;
 use crate::serve_fault::ServeFault;
 use crate::served::Served;
@@ -62,7 +62,7 @@ impl Connection {
 
     /// Haggles over the export, from the greeting until transmission begins, where it answers
     /// `None`, or the session ends. All that is to go out is sent.
-    pub fn handshake<R: Wait, I: Read, O: Write>(
+    pub fn negotiate<R: Wait, I: Read, O: Write>(
         &mut self,
         rt: &R,
         alloc: Global,
@@ -71,15 +71,15 @@ impl Connection {
     ) -> Result<Option<Served>, ServeFault>
         requires idle { self.old.outstanding ≡ [] }
         requires limit { self.old.limit.requests ≡ 1 }
-        ensures ok { IfOk result (λ served. ShakesHands served
-            (moment self.old tt (I.remaining reader.old) (O.contents (device_of sender.old)))
-            (moment self.new tt (I.remaining reader.new) (O.contents (device_of sender.new)))) }
+        ensures ok { IfOk result (λ served. Negotiates served
+            (state self.old tt (I.remaining reader.old) (O.contents (device_of sender.old)))
+            (state self.new tt (I.remaining reader.new) (O.contents (device_of sender.new)))) }
         ensures err { IfErr result (λ fault. BreaksOff no_target
-            (moment self.old tt (I.remaining reader.old) (O.contents (device_of sender.old)))
-            (moment self.new tt (I.remaining reader.new) (O.contents (device_of sender.new)))
+            (state self.old tt (I.remaining reader.old) (O.contents (device_of sender.old)))
+            (state self.new tt (I.remaining reader.new) (O.contents (device_of sender.new)))
             fault) }
     {
-        shake_hands(rt, alloc, &mut self.core, &mut self.room, reader, sender)
+        negotiate(rt, alloc, &mut self.core, &mut self.room, reader, sender)
     }
 
     /// Serves requests one after the other, each by a call of the target, until the session ends.
@@ -98,14 +98,14 @@ impl Connection {
         requires limit { self.old.limit.requests ≡ 1 }
         requires size { size_of self.old.haggling.export ≤ T.size target.old }
         ensures ok { IfOk result (λ served. Transmits T.follows served
-            (moment self.old target.old (I.remaining reader.old)
+            (state self.old target.old (I.remaining reader.old)
             (O.contents (device_of sender.old)))
-            (moment self.new target.new (I.remaining reader.new)
+            (state self.new target.new (I.remaining reader.new)
             (O.contents (device_of sender.new)))) }
         ensures err { IfErr result (λ fault. BreaksOff T.follows
-            (moment self.old target.old (I.remaining reader.old)
+            (state self.old target.old (I.remaining reader.old)
             (O.contents (device_of sender.old)))
-            (moment self.new target.new (I.remaining reader.new)
+            (state self.new target.new (I.remaining reader.new)
             (O.contents (device_of sender.new))) fault) }
     {
         serve_requests(

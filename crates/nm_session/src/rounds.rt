@@ -2,17 +2,17 @@
 ghost use Rattle.std.specs.Prelude.{◌≡◌, ◌<◌, ◌≤◌, [], length, IfOk, IfErr};
 ghost use Rattle.nm_replies.specs.Sending.{device_of};
 ghost use Rattle.nm_wire.specs.Export.{size_of};
-ghost use Rattle.nm_session.specs.Moving.{moment, BreaksOff};
+ghost use Rattle.nm_session.specs.Moving.{state, BreaksOff};
 ghost use Rattle.nm_session.specs.Serving.{Transmits, IsRound};
 
+use crate::batch::serve_batch;
 use crate::end::End;
-use crate::moving_bytes::{feed_piece, send_out};
+use crate::io::{feed_piece, send_out};
 use crate::serve_fault::ServeFault;
 use crate::served::Served;
 use crate::session_core::SessionCore;
+use crate::stop::Stop;
 use crate::target::Target;
-use crate::turn::Turn;
-use crate::turning::gather;
 use nm_replies::ReplyWriter;
 use std::alloc::Global;
 use std::io::{Read, Write};
@@ -33,11 +33,11 @@ pub(crate) fn serve_requests<R: Wait, I: Read, O: Write, T: Target>(
     requires size { size_of core.old.haggling.export ≤ T.size target.old }
     requires room { 0 < length room.old }
     ensures ok { IfOk result (λ served. Transmits T.follows served
-        (moment core.old target.old (I.remaining reader.old) (O.contents (device_of sender.old)))
-        (moment core.new target.new (I.remaining reader.new) (O.contents (device_of sender.new)))) }
+        (state core.old target.old (I.remaining reader.old) (O.contents (device_of sender.old)))
+        (state core.new target.new (I.remaining reader.new) (O.contents (device_of sender.new)))) }
     ensures err { IfErr result (λ fault. BreaksOff T.follows
-        (moment core.old target.old (I.remaining reader.old) (O.contents (device_of sender.old)))
-        (moment core.new target.new (I.remaining reader.new) (O.contents (device_of sender.new)))
+        (state core.old target.old (I.remaining reader.old) (O.contents (device_of sender.old)))
+        (state core.new target.new (I.remaining reader.new) (O.contents (device_of sender.new)))
         fault) }
 {
     'rounds: for _ in rt.forever() {
@@ -65,24 +65,24 @@ fn serve_round<I: Read, O: Write, T: Target>(
     requires size { size_of core.old.haggling.export ≤ T.size target.old }
     requires room { 0 < length room.old }
     ensures ok { IfOk result (λ served. IsRound T.follows served
-        (moment core.old target.old (I.remaining reader.old) (O.contents (device_of sender.old)))
-        (moment core.new target.new (I.remaining reader.new) (O.contents (device_of sender.new)))) }
+        (state core.old target.old (I.remaining reader.old) (O.contents (device_of sender.old)))
+        (state core.new target.new (I.remaining reader.new) (O.contents (device_of sender.new)))) }
     ensures err { IfErr result (λ fault. BreaksOff T.follows
-        (moment core.old target.old (I.remaining reader.old) (O.contents (device_of sender.old)))
-        (moment core.new target.new (I.remaining reader.new) (O.contents (device_of sender.new)))
+        (state core.old target.old (I.remaining reader.old) (O.contents (device_of sender.old)))
+        (state core.new target.new (I.remaining reader.new) (O.contents (device_of sender.new)))
         fault) }
     ensures size { T.size target.new ≡ T.size target.old }
 {
-    let Ok(turn) = gather(alloc, core, target) else {
+    let Ok(stop) = serve_batch(alloc, core, target) else {
         return Err(ServeFault::Memory);
     };
     if let Err(fault) = send_out(core, sender) {
         return Err(fault);
     }
-    match turn {
-        Turn::Answered => Ok(None),
-        Turn::Ended => Ok(Some(core.report(core.end()))),
-        Turn::Starved => match feed_piece(alloc, core, room, reader) {
+    match stop {
+        Stop::Answered => Ok(None),
+        Stop::Ended => Ok(Some(core.report(core.end()))),
+        Stop::Starved => match feed_piece(alloc, core, room, reader) {
             Ok(true) => Ok(None),
             Ok(false) => Ok(Some(core.report(End::EndOfInput))),
             Err(fault) => Err(fault),

@@ -2,7 +2,7 @@ ghost use Rattle.std.specs.Prelude.{◌≤◌, IfOk, IfErr};
 ghost use Rattle.nm_replies.specs.Sending.{device_of};
 ghost use Rattle.nm_wire.specs.Export.{size_of};
 ghost use Rattle.nm_session.specs.Session.{session_of, so_many};
-ghost use Rattle.nm_session.specs.Moving.{moment};
+ghost use Rattle.nm_session.specs.Moving.{state};
 ghost use Rattle.nm_session.specs.Serving.{IsServed, IsBrokenOff};
 
 use crate::connection::Connection;
@@ -31,21 +31,21 @@ pub fn serve<R: Wait, I: Read, O: Write, T: Target>(
 ) -> Result<Served, ServeFault>
     requires { size_of export ≤ T.size target.old }
     ensures ok { IfOk result (λ served. IsServed T.follows served
-        (moment (session_of export (so_many 1)) target.old (I.remaining reader.old)
+        (state (session_of export (so_many 1)) target.old (I.remaining reader.old)
         (O.contents (device_of sender.old)))
-        (λ core. moment core target.new (I.remaining reader.new)
+        (λ core. state core target.new (I.remaining reader.new)
         (O.contents (device_of sender.new)))) }
     ensures err { IfErr result (λ fault. IsBrokenOff T.follows fault
-        (moment (session_of export (so_many 1)) target.old (I.remaining reader.old)
+        (state (session_of export (so_many 1)) target.old (I.remaining reader.old)
         (O.contents (device_of sender.old)))
-        (λ core. moment core target.new (I.remaining reader.new)
+        (λ core. state core target.new (I.remaining reader.new)
         (O.contents (device_of sender.new)))) }
 {
     laws::so_far();
     let Ok(mut connection) = Connection::new(alloc, export) else {
         return Err(ServeFault::Memory);
     };
-    match connection.handshake(rt, alloc, reader, sender) {
+    match connection.negotiate(rt, alloc, reader, sender) {
         Ok(None) => connection.transmit(rt, alloc, reader, sender, target),
         Ok(Some(served)) => Ok(served),
         Err(fault) => Err(fault),

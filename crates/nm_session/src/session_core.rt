@@ -9,20 +9,20 @@ ghost use Rattle.nm_session.specs.Session as session;
 ghost use Rattle.nm_session.specs.Feeding.{Feeds, Responds, IsEnded};
 ghost use Rattle.nm_session.specs.Asking.{Answers, FitsAt};
 ghost use Rattle.nm_session.specs.Reading.{Reads, ReadsOn, RepliesItself, Tells};
-ghost use Rattle.nm_session.specs.declared.held.Held.{Held};
+ghost use Rattle.nm_session.specs.declared.outstanding.Outstanding.{Outstanding};
 ghost use Rattle.nm_session.specs.declared.stage.Stage.TheVariants as stage;
 
+use crate::dispatch::{
+    asked_by, dispatch, is_fit, is_same, judge_within, put_outcome, reply_length, stage_after,
+    sum_within,
+};
 use crate::ended_by::EndedBy;
-use crate::held::Held;
 use crate::limit::Limit;
 use crate::next::Next;
 use crate::outcome::Outcome;
+use crate::outstanding::Outstanding;
 use crate::phase::Phase;
 use crate::refused::Refused;
-use crate::settling::{
-    asked_by, is_fit, is_same, judge_within, put_outcome, reply_length, settle, stage_after,
-    sum_within,
-};
 use crate::stage::Stage;
 use nm_haggle::Haggle;
 use nm_requests::{Fault, RequestReader, Task};
@@ -43,7 +43,7 @@ pub struct SessionCore {
     stage: Stage,
     haggle: Haggle,
     reader: RequestReader,
-    outstanding: Vec<Held>,
+    outstanding: Vec<Outstanding>,
     // How many bytes the replies to the outstanding requests carry at most.
     asked: usize,
     out: Vec<u8>,
@@ -174,7 +174,7 @@ impl SessionCore {
                 let asked = sum_within(self.asked, asked_by(&judged), self.limit.bytes);
                 self.asked = asked;
                 self.stage = stage_after(&judged);
-                Ok(settle(request, judged, &mut self.outstanding, &mut self.out))
+                Ok(dispatch(request, judged, &mut self.outstanding, &mut self.out))
             }
             Err(Fault::Memory) => Err(Refused::Memory),
             Err(Fault::Magic) => {
@@ -322,16 +322,16 @@ fn closed_by(aborted: bool) -> EndedBy
 }
 
 // Where the outstanding request with this index stands.
-fn find(outstanding: &[Held], index: u64) -> Option<usize>
+fn find(outstanding: &[Outstanding], index: u64) -> Option<usize>
     ensures some { IfSome result (λ at. (at < length outstanding.now)
-        × ((other : Held) → (slice_index_or outstanding.now at other).index ≡ index)) }
+        × ((other : Outstanding) → (slice_index_or outstanding.now at other).index ≡ index)) }
     ensures none { IfNone result (All (λ held. held.index ≢ index) outstanding.now) }
 {
     outstanding.iter().position(|held| held.index == index)
 }
 
 // Room for so many outstanding requests, and the greeting.
-fn make_room(alloc: Global, limit: usize) -> Result<(Vec<Held>, Vec<u8>), AllocError>
+fn make_room(alloc: Global, limit: usize) -> Result<(Vec<Outstanding>, Vec<u8>), AllocError>
     ensures held { IfOk result (λ room. room.0.items ≡ []) }
     ensures capacity { IfOk result (λ room. vec_capacity room.0 ≡ limit) }
     ensures out { IfOk result (λ room. room.1.items ≡ greeting_bytes) }

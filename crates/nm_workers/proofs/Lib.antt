@@ -5,6 +5,6 @@ pub mod Requests
 pub mod Rounds
 pub mod ReadPieces
 pub mod WholeSessions
-pub mod Greetings
+pub mod Negotiations
 pub mod Owning
 pub mod Working

@@ -19,7 +19,7 @@ use Rattle.nm_wire.specs.declared.export.Export.{Export}
 use Rattle.nm_wire.specs.Export.{size_of}
 use Rattle.nm_workers.specs.Moving.{owner_state, Attends, BreaksOff}
 use Rattle.nm_workers.specs.Reading.{HasRead}
-use Rattle.nm_workers.specs.Serving.{wires, Ends, Breaks, IsServed, IsBrokenOff}
+use Rattle.nm_workers.specs.Serving.{io, Ends, Breaks, IsServed, IsBrokenOff}
 use Rattle.nm_workers.proofs.Requests.{export_stays}
 use Rattle.nm_workers.proofs.WholeSessions.{ends_there, breaks_there, breaks_at_once, whole, broken}
 
@@ -30,18 +30,18 @@ module _ (F : Task → TaskResult → Type 0) where
       (result : Result Served ServeFault) where
     -- a session that came to its end
     pub owned_ends : IfOk result (λ served. Attends F served (owner_state core first output) (owner_state last heard after))
-        → IfOk result (λ served. Ends F served core (wires bytes output) after)
+        → IfOk result (λ served. Ends F served core (io bytes output) after)
     owned_ends holds = if_ok result (λ served. Attends F served (owner_state core first output) (owner_state last heard after))
-        (λ served. Ends F served core (wires bytes output) after)
+        (λ served. Ends F served core (io bytes output) after)
         (λ served attends. ends_there bytes unread output after pieces core last heard read begins served
         (subst (λ (f : List (Message CalledValue)). Attends F served (owner_state core f output) (owner_state last heard after)) fresh attends))
         holds
 
     -- a session that broke off
     pub owned_breaks : IfErr result (λ found. BreaksOff F found (owner_state core first output) (owner_state last heard after))
-        → IfErr result (λ found. Breaks F found core (wires bytes output) after)
+        → IfErr result (λ found. Breaks F found core (io bytes output) after)
     owned_breaks holds = if_err result (λ found. BreaksOff F found (owner_state core first output) (owner_state last heard after))
-        (λ found. Breaks F found core (wires bytes output) after)
+        (λ found. Breaks F found core (io bytes output) after)
         (λ found breaks. breaks_there bytes unread output after pieces core last heard read begins found
         (subst (λ (f : List (Message CalledValue)). BreaksOff F found (owner_state core f output) (owner_state last heard after)) fresh breaks))
         holds
@@ -50,11 +50,11 @@ module _ (F : Task → TaskResult → Type 0) where
   module _ {O : Type 0} (contents : O → Option (List ℕ)) (core : Session) (bytes : Option (List ℕ))
       (sent sender : ReplyWriter O) (result : Result Served ServeFault) where
     pub failed_err : result ≡ Err fault.Memory → sent ≡ sender
-        → IfErr result (λ found. Breaks F found core (wires bytes (contents (device_of sender))) (contents (device_of sent)))
+        → IfErr result (λ found. Breaks F found core (io bytes (contents (device_of sender))) (contents (device_of sent)))
     failed_err is same = rw (is, same) (breaks_at_once core bytes (contents (device_of sender)))
 
     pub failed_ok : result ≡ Err fault.Memory
-        → IfOk result (λ served. Ends F served core (wires bytes (contents (device_of sender))) (contents (device_of sent)))
+        → IfOk result (λ served. Ends F served core (io bytes (contents (device_of sender))) (contents (device_of sent)))
     failed_ok is = rw is tt
 
 -- a target that has the bytes of the export has them still
@@ -68,11 +68,11 @@ sizes_stay size old new events targets runs large =
 module _ {F : Task → TaskResult → Type 0} where
   -- the session of a new core is a whole one
   pub whole_at : SoFar → (served : Served) (export : Export) (core : Session) (bytes output written : Option (List ℕ))
-      → core ≡ session_of export (so_many 16) → Ends F served core (wires bytes output) written → IsServed F served export (wires bytes output) written
+      → core ≡ session_of export (so_many 16) → Ends F served core (io bytes output) written → IsServed F served export (io bytes output) written
   whole_at so_far served export core bytes output written is ends = whole so_far served export bytes output written
-      (subst (λ (c : Session). Ends F served c (wires bytes output) written) is ends)
+      (subst (λ (c : Session). Ends F served c (io bytes output) written) is ends)
 
   pub broken_at : SoFar → (found : ServeFault) (export : Export) (core : Session) (bytes output after : Option (List ℕ))
-      → core ≡ session_of export (so_many 16) → Breaks F found core (wires bytes output) after → IsBrokenOff F found export (wires bytes output) after
+      → core ≡ session_of export (so_many 16) → Breaks F found core (io bytes output) after → IsBrokenOff F found export (io bytes output) after
   broken_at so_far found export core bytes output after is breaks = broken so_far found export bytes output after
-      (subst (λ (c : Session). Breaks F found c (wires bytes output) after) is breaks)
+      (subst (λ (c : Session). Breaks F found c (io bytes output) after) is breaks)

@@ -5,7 +5,7 @@ use Rattle.std.proofs.KnownBytes.{Consumes-trans, Consumes-nil}
 use Rattle.nm_mailbox.specs.declared.message.Piece.{Piece}
 use Rattle.nm_mailbox.specs.declared.message.Piece.TheVariants.{Bytes, Ended, Failed}
 use Rattle.nm_workers.specs.Pieces.{bytes_of}
-use Rattle.nm_workers.specs.Reading.{Gives, AreBytes, ReadsOn, HasRead, Goes, brings_bytes}
+use Rattle.nm_workers.specs.Reading.{Gives, AreBytes, ReadsOn, HasRead, Reads, brings_bytes}
 use Rattle.nm_workers.proofs.Steps.{bytes-append}
 
 bytes_on : (pieces : List Piece) (more : List Piece) → AreBytes pieces → AreBytes more → AreBytes (pieces ++ more)
@@ -49,7 +49,7 @@ last_end (Failed ∷ pieces) before after are same = absurd are
 
 module _ (input old new : Option (List ℕ)) (before : List Piece) (reads : ReadsOn input old before) where
   -- a piece that was read and sent
-  pub sent_goes : (piece : Piece) → Gives piece old new → Goes (brings_bytes piece) input new (before ++ piece ∷ [])
+  pub sent_goes : (piece : Piece) → Gives piece old new → Reads (brings_bytes piece) input new (before ++ piece ∷ [])
   sent_goes (Bytes bytes) gives = record {
     are_bytes = bytes_on before (Bytes bytes ∷ []) reads.are_bytes tt;
     consumes = subst (Consumes input new)
@@ -100,11 +100,11 @@ stops_reading input unread pieces reads = record {
 
 -- nothing was read yet
 pub reads_first : (input : Option (List ℕ)) (pieces : List Piece) (goes : Bool) → pieces ≡ [] → goes ≡ true
-    → Goes goes input input pieces
+    → Reads goes input input pieces
 reads_first input pieces goes none is = rw (none, is) record { are_bytes = tt; consumes = Consumes-nil input }
 
 -- whether it would go on or not, that is what was read
-pub has_read : (goes : Bool) (input unread : Option (List ℕ)) (pieces : List Piece) → Goes goes input unread pieces
+pub has_read : (goes : Bool) (input unread : Option (List ℕ)) (pieces : List Piece) → Reads goes input unread pieces
     → HasRead input unread pieces
 has_read true input unread pieces reads = stops_reading input unread pieces reads
 has_read false input unread pieces read = read
@@ -113,9 +113,9 @@ module _ (bytes old new : Option (List ℕ)) (before after : List Piece) (result
     (reads : ReadsOn bytes old before) where
   -- the same, by what was found of the sending
   pub sent_at : (piece : Piece) → Gives piece old new → result ≡ brings_bytes piece → after ≡ before ++ piece ∷ []
-      → Goes result bytes new after
+      → Reads result bytes new after
   sent_at piece gives is sent =
       rw (is, sent) (sent_goes bytes old new before reads piece gives)
 
-  pub unsent_at : (piece : Piece) → Gives piece old new → result ≡ false → after ≡ before → Goes result bytes new after
+  pub unsent_at : (piece : Piece) → Gives piece old new → result ≡ false → after ≡ before → Reads result bytes new after
   unsent_at piece gives is same = rw (is, same) (unsent_ends bytes old new before reads piece gives)

@@ -2,7 +2,7 @@
 use Rattle.std.proofs.Common.{◌≡◌, ℕ, ◌≤◌, List, [], ◌∷◌, ◌++◌, sym, ap, ◌∙◌, subst, ◌⊎◌, inl, inr}
 use Rattle.nm_requests.specs.declared.task.Task.{Task}
 use Rattle.nm_session.proofs.Motion.{runs-append}
-use Rattle.nm_session.proofs.OneTurn.{callable}
+use Rattle.nm_session.proofs.OneRequest.{callable}
 use Rattle.nm_session.proofs.ReadEvents.{next_reads_on}
 use Rattle.nm_session.specs.declared.next.Next.TheVariants as next
 use Rattle.nm_session.specs.declared.stage.Stage.{Stage}
@@ -13,7 +13,7 @@ use Rattle.nm_session.specs.Feeding.{FeedsAt, IsEnded}
 use Rattle.nm_session.specs.Laws.{AreReadings, IsRead}
 use Rattle.nm_session.specs.Reading.{Reads, StaysEnded, Disconnects, Breaks}
 use Rattle.nm_session.specs.Session.{Session, IsFull}
-use Rattle.nm_session.specs.Turning.{IsStarved}
+use Rattle.nm_session.specs.Batch.{IsStarved}
 use Rattle.nm_wire.specs.declared.export.Export.{Export}
 use Rattle.nm_wire.specs.Export.{size_of}
 

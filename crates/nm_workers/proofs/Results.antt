@@ -2,7 +2,7 @@
 use Rattle.std.proofs.Common.{◌≡◌, ℕ, All, List, [], ◌∷◌, ◌++◌, sym, ap, ◌∙◌, subst, inl}
 use Rattle.std.proofs.lemmas.List.Elements.{All-head, All-tail}
 use Rattle.nm_requests.specs.declared.task.Task.{Task}
-use Rattle.nm_session.specs.declared.held.Held.{Held}
+use Rattle.nm_session.specs.declared.outstanding.Outstanding.{Outstanding}
 use Rattle.nm_session.specs.declared.outcome.Outcome.{Outcome}
 use Rattle.nm_session.specs.Asking.{Answers}
 use Rattle.nm_session.specs.CalledValue.{CalledValue}
@@ -13,7 +13,7 @@ use Rattle.nm_workers.specs.Hearing.{Settles}
 use Rattle.nm_workers.specs.Results.{AnswersWith}
 
 -- what holds of each holds of one in the middle
-at_held : (P : Held → Type 0) (before after : List Held) (held : Held) → All P (before ++ held ∷ after) → P held
+at_held : (P : Outstanding → Type 0) (before after : List Outstanding) (held : Outstanding) → All P (before ++ held ∷ after) → P held
 at_held P [] after held all = All-head P held after all
 at_held P (x ∷ before) after held all = at_held P before after held (All-tail P x (before ++ held ∷ after) all)
 

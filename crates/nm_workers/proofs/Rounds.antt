@@ -9,9 +9,9 @@ use Rattle.nm_requests.specs.declared.task.Task.{Task}
 use Rattle.nm_session.specs.CalledValue.{CalledValue}
 use Rattle.nm_session.specs.Calling.{TaskResult}
 use Rattle.nm_session.specs.Laws.{IsRead}
-use Rattle.nm_session.specs.MovingBytes.{SendsOut, SendsPart}
+use Rattle.nm_session.specs.Io.{SendsOut, SendsPart}
 use Rattle.nm_session.specs.Session.{IsFull, IsReading, LacksRoom, Session}
-use Rattle.nm_session.specs.Turning.{IsStarved}
+use Rattle.nm_session.specs.Batch.{IsStarved}
 use Rattle.nm_workers.specs.declared.round.NoRequest.{NoRequest}
 use Rattle.nm_workers.specs.declared.round.NoRequest.TheVariants as why
 use Rattle.nm_workers.specs.declared.round.Round.{Round}

@@ -16,7 +16,7 @@ use Rattle.nm_session.specs.CalledValue.{CalledValue}
 use Rattle.nm_session.specs.Calling.{TaskResult}
 use Rattle.nm_session.specs.Event.{Event, Fed, Asked, Stopped, Answered, Took, fed_bytes, taken_bytes}
 use Rattle.nm_session.specs.Laws.{AreReadings, IsRead}
-use Rattle.nm_session.specs.MovingBytes.{SendsOut, SendsPart}
+use Rattle.nm_session.specs.Io.{SendsOut, SendsPart}
 use Rattle.nm_session.specs.Session.{Session}
 use Rattle.nm_workers.specs.declared.round.ReadState.{ReadState}
 use Rattle.nm_workers.specs.declared.round.ReadState.TheVariants as state

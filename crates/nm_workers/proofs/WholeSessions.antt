@@ -20,7 +20,7 @@ use Rattle.nm_session.specs.Calling.{TaskResult}
 use Rattle.nm_session.specs.Event.{Event, Fed, Asked, Stopped, Answered, Took, Runs, fed_bytes, taken_bytes, messages}
 use Rattle.nm_session.specs.Feeding.{FeedsAt}
 use Rattle.nm_session.specs.Laws.{SoFar}
-use Rattle.nm_session.specs.Moving.{moment}
+use Rattle.nm_session.specs.Moving.{state}
 use Rattle.nm_session.specs.Serving.{IsEnd}
 use Rattle.nm_session.specs.Session.{Session, session_of, so_many}
 use Rattle.nm_session.specs.Text.{GoesOut}
@@ -29,14 +29,14 @@ use Rattle.nm_workers.specs.declared.round.ReadState.{ReadState}
 use Rattle.nm_workers.specs.Moving.{owner_state, Attends, BreaksOff, ComesTo, IsCause, IsKnown}
 use Rattle.nm_workers.specs.Pieces.{bytes_of, HasEnded}
 use Rattle.nm_workers.specs.Reading.{HasRead}
-use Rattle.nm_workers.specs.Serving.{Wires, wires, Goes, Ends, Breaks, IsServed, IsBrokenOff}
+use Rattle.nm_workers.specs.Serving.{Io, io, Goes, Ends, Breaks, IsServed, IsBrokenOff}
 use Rattle.nm_workers.specs.Results.{no_result}
 use Rattle.nm_workers.proofs.ResultRuns.{runs_with-append, runs_of, unanswered_with}
 use Rattle.nm_workers.proofs.Steps.{bytes-append, heard-append, cause_on}
 
 module _ {F : Task → TaskResult → Type 0} where
   -- one part of a session after the other
-  pub goes_on : (a b c : Session) (u v w : Wires) → Goes F a b u v → Goes F b c v w → Goes F a c u w
+  pub goes_on : (a b c : Session) (u v w : Io) → Goes F a b u v → Goes F b c v w → Goes F a c u w
   goes_on a b c u v w first second = record {
     events = first.events ++ second.events;
     runs = runs_with-append F a b c first.events second.events first.runs second.runs;
@@ -54,7 +54,7 @@ fed_on xs ys unfed = sym (append_assoc (fed_bytes xs) (fed_bytes ys) unfed)
     ∙ ap (λ (all : List ℕ). all ++ unfed) (sym (fed-append xs ys))
 
 module _ {F : Task → TaskResult → Type 0} where
-  pub ends_on : (served : Served) (a b : Session) (u v : Wires) (written : Option (List ℕ)) → Goes F a b u v
+  pub ends_on : (served : Served) (a b : Session) (u v : Io) (written : Option (List ℕ)) → Goes F a b u v
       → Ends F served b v written → Ends F served a u written
   ends_on served a b u v written first second = record {
     events = first.events ++ second.events;
@@ -75,7 +75,7 @@ module _ {F : Task → TaskResult → Type 0} where
     end_is = second.end_is;
   }
 
-  pub breaks_on : (found : ServeFault) (a b : Session) (u v : Wires) (after : Option (List ℕ)) → Goes F a b u v
+  pub breaks_on : (found : ServeFault) (a b : Session) (u v : Io) (after : Option (List ℕ)) → Goes F a b u v
       → Breaks F found b v after → Breaks F found a u after
   breaks_on found a b u v after first second = record {
     events = first.events ++ second.events;
@@ -95,7 +95,7 @@ module _ {F : Task → TaskResult → Type 0} where
   }
 
   -- a session that broke off before anything happened
-  pub breaks_at_once : (core : Session) (bytes output : Option (List ℕ)) → Breaks F fault.Memory core (wires bytes output) output
+  pub breaks_at_once : (core : Session) (bytes output : Option (List ℕ)) → Breaks F fault.Memory core (io bytes output) output
   breaks_at_once core bytes output = record {
     events = [];
     last = core;
@@ -133,7 +133,7 @@ module _ (bytes unread output after : Option (List ℕ)) (pieces : List Piece)
       )
 
   come_to : (told : End) (known : ReadState) → IsKnown known heard → ComesTo told last known
-      → IsEnd told (moment last (tt {0}) unread after) × (told ≡ end.EndOfInput → bytes_of begins.0 ++ read.unsent ≡ [])
+      → IsEnd told (state last (tt {0}) unread after) × (told ≡ end.EndOfInput → bytes_of begins.0 ++ read.unsent ≡ [])
   come_to end.EndOfInput known is_known comes =
       let all = told_end (subst (λ (i : ReadState). IsKnown i heard) comes.1 is_known) in
       ((comes.0, all.0), λ same. all.1)
@@ -143,7 +143,7 @@ module _ (bytes unread output after : Option (List ℕ)) (pieces : List Piece)
 
   -- requests were answered to the end
   pub ends_there : {F : Task → TaskResult → Type 0} → (served : Served)
-      → Attends F served (owner_state core [] output) (owner_state last heard after) → Ends F served core (wires bytes output) after
+      → Attends F served (owner_state core [] output) (owner_state last heard after) → Ends F served core (io bytes output) after
   ends_there served attends =
       let to = come_to served.end attends.known attends.is_known attends.is_over.end_is in
       record {
@@ -166,7 +166,7 @@ module _ (bytes unread output after : Option (List ℕ)) (pieces : List Piece)
 
   -- a fault broke the session off
   pub breaks_there : {F : Task → TaskResult → Type 0} → (found : ServeFault)
-      → BreaksOff F found (owner_state core [] output) (owner_state last heard after) → Breaks F found core (wires bytes output) after
+      → BreaksOff F found (owner_state core [] output) (owner_state last heard after) → Breaks F found core (io bytes output) after
   breaks_there found breaks = record {
     events = breaks.events;
     last = last;
@@ -221,7 +221,7 @@ unwritten_of (fault.Write sent) all written cause = (
 module _ {F : Task → TaskResult → Type 0} where
   -- a whole session that came to its end
   pub whole : SoFar → (served : Served) (export : Export) (bytes output written : Option (List ℕ))
-      → Ends F served (session_of export (so_many 16)) (wires bytes output) written → IsServed F served export (wires bytes output) written
+      → Ends F served (session_of export (so_many 16)) (io bytes output) written → IsServed F served export (io bytes output) written
   whole so_far served export bytes output written ends = record {
     ends = ends;
     requests = ends.requests ∙ omega (
@@ -237,7 +237,7 @@ module _ {F : Task → TaskResult → Type 0} where
 
   -- a session that broke off
   pub broken : SoFar → (found : ServeFault) (export : Export) (bytes output after : Option (List ℕ))
-      → Breaks F found (session_of export (so_many 16)) (wires bytes output) after → IsBrokenOff F found export (wires bytes output) after
+      → Breaks F found (session_of export (so_many 16)) (io bytes output) after → IsBrokenOff F found export (io bytes output) after
   broken so_far found export bytes output after breaks =
       let rest = unwritten_of found (taken_bytes breaks.events) breaks.written breaks.cause in
       record {
@@ -251,7 +251,7 @@ module _ {F : Task → TaskResult → Type 0} where
       }
 
   -- the haggling, after which nothing is answered yet
-  pub haggled : (a b : Session) (u v : Wires) → Goes no_result a b u v → Goes F a b u v
+  pub haggled : (a b : Session) (u v : Io) → Goes no_result a b u v → Goes F a b u v
   haggled a b u v goes = record {
     events = goes.events;
     runs = unanswered_with F a b goes.events goes.runs;
@@ -260,7 +260,7 @@ module _ {F : Task → TaskResult → Type 0} where
   }
 
   -- a session that ends in it
-  pub haggled_ends : (served : Served) (core : Session) (u : Wires) (written : Option (List ℕ))
+  pub haggled_ends : (served : Served) (core : Session) (u : Io) (written : Option (List ℕ))
       → Ends no_result served core u written → Ends F served core u written
   haggled_ends served core u written ends = record {
     events = ends.events;
@@ -278,7 +278,7 @@ module _ {F : Task → TaskResult → Type 0} where
   }
 
   -- or breaks off
-  pub haggled_breaks : (found : ServeFault) (core : Session) (u : Wires) (after : Option (List ℕ))
+  pub haggled_breaks : (found : ServeFault) (core : Session) (u : Io) (after : Option (List ℕ))
       → Breaks no_result found core u after → Breaks F found core u after
   haggled_breaks found core u after breaks = record {
     events = breaks.events;

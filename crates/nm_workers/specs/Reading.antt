@@ -40,13 +40,13 @@ pub record HasRead (input unread : Option (List ℕ)) (pieces : List Piece) : Ty
       → IsAtEnd unread × (after ≡ []) × (unsent ≡ [])
 
 -- a piece was read and sent, after which more may be; or no more will be
-abbrev pub Goes : Bool → (input unread : Option (List ℕ)) → List Piece → Type 0
-Goes true input unread pieces = ReadsOn input unread pieces
-Goes false input unread pieces = HasRead input unread pieces
+abbrev pub Reads : Bool → (input unread : Option (List ℕ)) → List Piece → Type 0
+Reads true input unread pieces = ReadsOn input unread pieces
+Reads false input unread pieces = HasRead input unread pieces
 
 -- what was read by then and sent, and more
 abbrev pub ReadsFurther : {I M : Type 0} → (I → Option (List ℕ)) → (old new : Reader I M)
     → Type 0
 ReadsFurther remaining old new = (input : Option (List ℕ))
-    → Goes old.is_open input (remaining old.source) (pieces_by old.pieces)
-    → Goes new.is_open input (remaining new.source) (pieces_by new.pieces)
+    → Reads old.is_open input (remaining old.source) (pieces_by old.pieces)
+    → Reads new.is_open input (remaining new.source) (pieces_by new.pieces)

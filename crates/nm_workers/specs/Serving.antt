@@ -8,7 +8,7 @@ use Rattle.nm_session.specs.declared.served.Served.{Served}
 use Rattle.nm_requests.specs.declared.task.Task.{Task}
 use Rattle.nm_session.specs.Calling.{TaskResult}
 use Rattle.nm_session.specs.Event.{Event, fed_bytes, taken_bytes, messages}
-use Rattle.nm_session.specs.Moving.{moment}
+use Rattle.nm_session.specs.Moving.{state}
 use Rattle.nm_session.specs.Serving.{IsEnd}
 use Rattle.nm_session.specs.Session.{Session, session_of, so_many}
 use Rattle.nm_session.specs.Text.{GoesOut}
@@ -16,17 +16,17 @@ use Rattle.nm_workers.specs.Moving.{IsCause}
 use Rattle.nm_workers.specs.Results.{RunsWith, no_result}
 
 -- what the reader has left and what the writer holds, where they tell it
-pub record Wires : Type 0 where
+pub record Io : Type 0 where
   pub input : Option (List ℕ)
   pub output : Option (List ℕ)
 
-abbrev pub wires : (input output : Option (List ℕ)) → Wires
-wires input output = record { input = input; output = output }
+abbrev pub io : (input output : Option (List ℕ)) → Io
+io input output = record { input = input; output = output }
 
 -- the session goes from one core to another: what is read is fed, what is taken out is written, and
 -- each answer is a result of its own request's task
 pub record Goes (HasResult : Task → TaskResult → Type 0) (from to : Session)
-    (before after : Wires) : Type 0 where
+    (before after : Io) : Type 0 where
   pub events : List Event
   pub runs : RunsWith HasResult from events to
   pub consumes : Consumes before.input after.input (fed_bytes events)
@@ -36,7 +36,7 @@ pub record Goes (HasResult : Task → TaskResult → Type 0) (from to : Session)
 -- are read, all where they ended; all that goes out is written, and each request is answered with a
 -- result of its own task
 pub record Ends (HasResult : Task → TaskResult → Type 0) (served : Served) (core : Session)
-    (before : Wires) (written : Option (List ℕ)) : Type 0 where
+    (before : Io) (written : Option (List ℕ)) : Type 0 where
   pub events : List Event
   pub last : Session
   pub unread : Option (List ℕ)
@@ -48,11 +48,11 @@ pub record Ends (HasResult : Task → TaskResult → Type 0) (served : Served) (
   pub answered : last.outstanding ≡ []
   pub sent : last.out ≡ []
   pub requests : served.requests ≡ last.count
-  pub end_is : IsEnd served.end (moment last (tt {0}) unread written)
+  pub end_is : IsEnd served.end (state last (tt {0}) unread written)
 
 -- from this core on a fault breaks the session off
 pub record Breaks (HasResult : Task → TaskResult → Type 0) (fault : ServeFault) (core : Session)
-    (before : Wires) (after : Option (List ℕ)) : Type 0 where
+    (before : Io) (after : Option (List ℕ)) : Type 0 where
   pub events : List Event
   pub last : Session
   pub unread : Option (List ℕ)
@@ -64,21 +64,21 @@ pub record Breaks (HasResult : Task → TaskResult → Type 0) (fault : ServeFau
   pub cause : IsCause fault (taken_bytes events) written
 
 -- the haggling leads to transmission, with no request outstanding, or to the session's end
-abbrev pub Greets : Option Served → (from to : Session) → (before after : Wires) → Type 0
-Greets None from to before after =
+abbrev pub Negotiates : Option Served → (from to : Session) → (before after : Io) → Type 0
+Negotiates None from to before after =
     Goes no_result from to before after × (to.outstanding ≡ []) × (to.out ≡ [])
-Greets (Some served) from to before after = Ends no_result served from before after.output
+Negotiates (Some served) from to before after = Ends no_result served from before after.output
 
 -- a whole session over an export: what was written is what goes out
 pub record IsServed (HasResult : Task → TaskResult → Type 0) (served : Served) (export : Export)
-    (before : Wires) (written : Option (List ℕ)) : Type 0 where
+    (before : Io) (written : Option (List ℕ)) : Type 0 where
   pub ends : Ends HasResult served (session_of export (so_many 16)) before written
   pub requests : served.requests ≡ length (messages ends.events)
   pub goes_out : GoesOut export (so_many 16) ends.events (taken_bytes ends.events)
 
 -- a session that a fault broke off: what was written is a beginning of what goes out
 pub record IsBrokenOff (HasResult : Task → TaskResult → Type 0) (fault : ServeFault)
-    (export : Export) (before : Wires) (after : Option (List ℕ)) : Type 0 where
+    (export : Export) (before : Io) (after : Option (List ℕ)) : Type 0 where
   pub breaks : Breaks HasResult fault (session_of export (so_many 16)) before after
   pub unwritten : List ℕ
   pub goes_out : GoesOut export (so_many 16) breaks.events (breaks.written ++ unwritten)

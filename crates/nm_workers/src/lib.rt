@@ -5,15 +5,15 @@
 //! order in which the requests are done.
 #![tactic(auto)]
 
-pub use greeting::greet;
+pub use negotiation::negotiate;
 pub use session::{Finished, serve_many, transmit};
 pub use spin_wait::{BusyPoll, SpinToken};
 
 mod dispatcher;
-mod greeting;
 mod inline;
 mod job;
 mod messages;
+mod negotiation;
 mod permits;
 mod phases;
 mod pool;

@@ -101,4 +101,6 @@ where
 }
 
 // Lets the workers go.
-fn dismiss<S, E: Extent, T: Target + Drop>(_desk: Dispatcher<'_, WorkerPool<'_, '_, S, E, T>>) {}
+fn dismiss<S, E: Extent, T: Target + Drop>(
+    _dispatcher: Dispatcher<'_, WorkerPool<'_, '_, S, E, T>>,
+) {}

@@ -1,7 +1,7 @@
 //! Reading what the client sends: on a thread of its own, or on that of the session's owner.
 ghost use Rattle.std.specs.Prelude.{◌≡◌, true, ℕ, List, Option, IfOk, IfErr};
 ghost use Rattle.nm_mailbox.specs.Ends.{pieces_by, IsSameEnd};
-ghost use Rattle.nm_workers.specs.Reading.{Gives, ReadsOn, Goes, ReadsFurther};
+ghost use Rattle.nm_workers.specs.Reading.{Gives, ReadsOn, Reads, ReadsFurther};
 ghost use Rattle.nm_workers.specs.Reading as reading;
 
 use crate::permits::{PermitReceiver, PermitSender, ReadPermit, permit_channel};
@@ -123,7 +123,7 @@ fn read_piece<R: Wait, I: Read, M: Drop>(
 ) -> bool
     ensures goes { (input : Option (List ℕ))
         → ReadsOn input (I.remaining source.old) (pieces_by pieces.old)
-        → Goes result input (I.remaining source.new) (pieces_by pieces.new) }
+        → Reads result input (I.remaining source.new) (pieces_by pieces.new) }
     ensures channel { IsSameEnd pieces.new pieces.old }
 {
     let piece = take_piece(source, permit);

@@ -3,12 +3,12 @@ ghost use Rattle.std.specs.Prelude.{◌≡◌, ◌≤◌, [], All, IfOk, IfErr, 
 ghost use Rattle.nm_replies.specs.Sending.{device_of};
 ghost use Rattle.nm_wire.specs.Export.{size_of};
 ghost use Rattle.nm_workers.specs.Results.{IsResult};
-ghost use Rattle.nm_workers.specs.Serving.{wires, Ends, Breaks, IsServed, IsBrokenOff};
+ghost use Rattle.nm_workers.specs.Serving.{io, Ends, Breaks, IsServed, IsBrokenOff};
 ghost use Rattle.nm_mailbox.specs.Ends.{pieces_by, received_by, SendsTo};
 
 use crate::dispatcher::{Dispatcher, SerialClient};
-use crate::greeting::greet;
 use crate::job::{Extent, JobResult};
+use crate::negotiation::negotiate;
 use crate::phases::{AllServed, serve_requests};
 use crate::pool::{IdleWorkers, WorkerPool};
 use crate::read_buffer::ReadBuffer;
@@ -67,10 +67,10 @@ where
     requires few { vec_len targets ≤ 16 }
     requires size { All (λ target. size_of export ≤ T.size target) targets.items }
     ensures ok { IfOk result.result (λ served. IsServed (IsResult T.follows) served export
-        (wires (I.remaining reader) (O.contents (device_of sender)))
+        (io (I.remaining reader) (O.contents (device_of sender)))
         (O.contents (device_of result.sender))) }
     ensures err { IfErr result.result (λ fault. IsBrokenOff (IsResult T.follows) fault export
-        (wires (I.remaining reader) (O.contents (device_of sender)))
+        (io (I.remaining reader) (O.contents (device_of sender)))
         (O.contents (device_of result.sender))) }
 {
     laws::so_far();
@@ -102,10 +102,10 @@ where
     requires few { vec_len targets ≤ 16 }
     requires size { All (λ target. size_of core.haggling.export ≤ T.size target) targets.items }
     ensures ok { IfOk result.result (λ served. Ends (IsResult T.follows) served core
-        (wires (I.remaining reader) (O.contents (device_of sender)))
+        (io (I.remaining reader) (O.contents (device_of sender)))
         (O.contents (device_of result.sender))) }
     ensures err { IfErr result.result (λ fault. Breaks (IsResult T.follows) fault core
-        (wires (I.remaining reader) (O.contents (device_of sender)))
+        (io (I.remaining reader) (O.contents (device_of sender)))
         (O.contents (device_of result.sender))) }
 {
     let (mut core, mut reader, mut sender) = (core, reader, sender);
@@ -115,7 +115,7 @@ where
             sender,
         };
     };
-    match greet(rt, alloc, &mut core, &mut room, &mut reader, &mut sender) {
+    match negotiate(rt, alloc, &mut core, &mut room, &mut reader, &mut sender) {
         Ok(None) => {
             let reader = Unpolled(reader);
             transmit(rt, alloc, core, reader, sender, targets, &SpinToken::new())
@@ -133,7 +133,7 @@ where
 
 /// Serves the requests of a session whose haggling has ended, up to its end, as `serve_many` does.
 ///
-/// A program that does something between the two parts, as to clear a timeout, calls `greet` and
+/// A program that does something between the two parts, as to clear a timeout, calls `negotiate` and
 /// then this. Over no target the first request that needs one breaks the session off. Sessions that
 /// share a token do not all spin at once.
 pub fn transmit<R, I, O, T>(
@@ -152,10 +152,10 @@ where
     T: Target + Send + Drop,
     requires size { All (λ target. size_of core.haggling.export ≤ T.size target) targets.items }
     ensures ok { IfOk result.result (λ served. Ends (IsResult T.follows) served core
-        (wires (I.remaining reader) (O.contents (device_of sender)))
+        (io (I.remaining reader) (O.contents (device_of sender)))
         (O.contents (device_of result.sender))) }
     ensures err { IfErr result.result (λ fault. Breaks (IsResult T.follows) fault core
-        (wires (I.remaining reader) (O.contents (device_of sender)))
+        (io (I.remaining reader) (O.contents (device_of sender)))
         (O.contents (device_of result.sender))) }
 {
     start_session::<Brand, R, I, O, T>(rt, alloc, core, reader, sender, targets, token)
@@ -180,10 +180,10 @@ where
     requires size { size_of core.haggling.export ≤ E.bytes }
     requires sizes { All (λ target. E.bytes ≤ T.size target) targets.items }
     ensures ok { IfOk result.result (λ served. Ends (IsResult T.follows) served core
-        (wires (I.remaining reader) (O.contents (device_of sender)))
+        (io (I.remaining reader) (O.contents (device_of sender)))
         (O.contents (device_of result.sender))) }
     ensures err { IfErr result.result (λ fault. Breaks (IsResult T.follows) fault core
-        (wires (I.remaining reader) (O.contents (device_of sender)))
+        (io (I.remaining reader) (O.contents (device_of sender)))
         (O.contents (device_of result.sender))) }
 {
     let Ok((pieces, ends, inbox)) = mailbox::<JobResult<T>>(alloc, targets.len()) else {
@@ -200,10 +200,10 @@ where
             requires fresh { (pieces_by pieces ≡ []) × (received_by inbox ≡ []) }
             requires channel { SendsTo pieces inbox }
             ensures ok { IfOk result.result (λ served. Ends (IsResult T.follows) served core
-                (wires (I.remaining reader) (O.contents (device_of sender)))
+                (io (I.remaining reader) (O.contents (device_of sender)))
                 (O.contents (device_of result.sender))) }
             ensures err { IfErr result.result (λ fault. Breaks (IsResult T.follows) fault core
-                (wires (I.remaining reader) (O.contents (device_of sender)))
+                (io (I.remaining reader) (O.contents (device_of sender)))
                 (O.contents (device_of result.sender))) }
         {
             let dispatcher = Dispatcher {
@@ -250,10 +250,10 @@ where
     requires is_open { reader.is_open ≡ true }
     requires channel { SendsTo reader.pieces inbox }
     ensures ok { IfOk result.result (λ served. Ends (IsResult T.follows) served core
-        (wires (I.remaining reader.source) (O.contents (device_of sender)))
+        (io (I.remaining reader.source) (O.contents (device_of sender)))
         (O.contents (device_of result.sender))) }
     ensures err { IfErr result.result (λ fault. Breaks (IsResult T.follows) fault core
-        (wires (I.remaining reader.source) (O.contents (device_of sender)))
+        (io (I.remaining reader.source) (O.contents (device_of sender)))
         (O.contents (device_of result.sender))) }
 {
     let (mut core, mut sender, mut inbox) = (core, sender, inbox);

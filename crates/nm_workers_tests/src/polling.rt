@@ -8,7 +8,7 @@ use crate::texts::{DISC, SIZE, Talk, export};
 use nm_replies::ReplyWriter;
 use nm_session::{Limit, ServeFault, Served, SessionCore};
 use nm_wire::{Export, Memory};
-use nm_workers::{BusyPoll, SpinToken, greet, transmit};
+use nm_workers::{BusyPoll, SpinToken, negotiate, transmit};
 use std::alloc::Global;
 use std::io::{self, Read, Write};
 use std::sync::Wait;
@@ -65,7 +65,7 @@ where
         return Err(Memory);
     };
     let mut sender = ReplyWriter::new(writer);
-    match greet(rt, alloc, &mut core, &mut room, &mut reader, &mut sender) {
+    match negotiate(rt, alloc, &mut core, &mut room, &mut reader, &mut sender) {
         Ok(None) => {
             let token = SpinToken::new();
             Ok(transmit(rt, alloc, core, reader, sender, targets, &token).result)

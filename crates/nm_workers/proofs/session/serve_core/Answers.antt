@@ -2,7 +2,7 @@
 use Rattle.std.proofs.Common.{None}
 use Rattle.nm_replies.specs.Sending.{device_of}
 use Rattle.nm_session.proofs.WholeSessions.{if_ok, if_err}
-use Rattle.nm_workers.specs.Serving.{wires, Greets, Ends, Breaks}
+use Rattle.nm_workers.specs.Serving.{io, Negotiates, Ends, Breaks}
 use Rattle.nm_workers.proofs.Owning.{sizes_stay}
 use Rattle.nm_workers.specs.Results.{IsResult, no_result}
 use Rattle.nm_workers.proofs.ResultRuns.{runs_of}
@@ -15,36 +15,36 @@ returns-in_default-clause-err g c =
 
 pub transmit-requires-clause-size : goal.transmit-requires-clause-size
 transmit-requires-clause-size g c κs within =
-    let greets : Greets None c.args.core c.greet.new.core
-    (wires (g.I.Read.remaining c.args.reader) (g.O.Write.contents (device_of c.args.sender)))
-    (wires (g.I.Read.remaining c.greet.new.reader) (g.O.Write.contents (device_of c.greet.new.sender))) =
+    let greets : Negotiates None c.args.core c.negotiate.new.core
+    (io (g.I.Read.remaining c.args.reader) (g.O.Write.contents (device_of c.args.sender)))
+    (io (g.I.Read.remaining c.negotiate.new.reader) (g.O.Write.contents (device_of c.negotiate.new.sender))) =
     rw c.in-Ok-None.field-0-is at c.in-Ok-None.ensures.ok in
-    sizes_stay g.T.Target.size c.args.core c.greet.new.core greets.0.events c.args.targets.items
-    (runs_of no_result c.args.core c.greet.new.core greets.0.events greets.0.runs)
+    sizes_stay g.T.Target.size c.args.core c.negotiate.new.core greets.0.events c.args.targets.items
+    (runs_of no_result c.args.core c.negotiate.new.core greets.0.events greets.0.runs)
     c.requires.size
 
 pub returns-in-Ok-None-clause-ok : goal.returns-in-Ok-None-clause-ok
 returns-in-Ok-None-clause-ok g c =
-    let u = wires (g.I.Read.remaining c.args.reader) (g.O.Write.contents (device_of c.args.sender)) in
-    let v = wires (g.I.Read.remaining c.greet.new.reader) (g.O.Write.contents (device_of c.greet.new.sender)) in
+    let u = io (g.I.Read.remaining c.args.reader) (g.O.Write.contents (device_of c.args.sender)) in
+    let v = io (g.I.Read.remaining c.negotiate.new.reader) (g.O.Write.contents (device_of c.negotiate.new.sender)) in
     let written = g.O.Write.contents (device_of c.transmit.result.sender) in
-    let greets : Greets None c.args.core c.greet.new.core u v =
+    let greets : Negotiates None c.args.core c.negotiate.new.core u v =
     rw c.in-Ok-None.field-0-is at c.in-Ok-None.ensures.ok in
-    if_ok c.transmit.result.result (λ served. Ends (IsResult g.T.Target.follows) served c.greet.new.core v written)
+    if_ok c.transmit.result.result (λ served. Ends (IsResult g.T.Target.follows) served c.negotiate.new.core v written)
     (λ served. Ends (IsResult g.T.Target.follows) served c.args.core u written)
-    (λ served ends. ends_on served c.args.core c.greet.new.core u v written (haggled _ _ _ _ greets.0) ends)
+    (λ served ends. ends_on served c.args.core c.negotiate.new.core u v written (haggled _ _ _ _ greets.0) ends)
     c.transmit.ensures.ok
 
 pub returns-in-Ok-None-clause-err : goal.returns-in-Ok-None-clause-err
 returns-in-Ok-None-clause-err g c =
-    let u = wires (g.I.Read.remaining c.args.reader) (g.O.Write.contents (device_of c.args.sender)) in
-    let v = wires (g.I.Read.remaining c.greet.new.reader) (g.O.Write.contents (device_of c.greet.new.sender)) in
+    let u = io (g.I.Read.remaining c.args.reader) (g.O.Write.contents (device_of c.args.sender)) in
+    let v = io (g.I.Read.remaining c.negotiate.new.reader) (g.O.Write.contents (device_of c.negotiate.new.sender)) in
     let written = g.O.Write.contents (device_of c.transmit.result.sender) in
-    let greets : Greets None c.args.core c.greet.new.core u v =
+    let greets : Negotiates None c.args.core c.negotiate.new.core u v =
     rw c.in-Ok-None.field-0-is at c.in-Ok-None.ensures.ok in
-    if_err c.transmit.result.result (λ found. Breaks (IsResult g.T.Target.follows) found c.greet.new.core v written)
+    if_err c.transmit.result.result (λ found. Breaks (IsResult g.T.Target.follows) found c.negotiate.new.core v written)
     (λ found. Breaks (IsResult g.T.Target.follows) found c.args.core u written)
-    (λ found breaks. breaks_on found c.args.core c.greet.new.core u v written (haggled _ _ _ _ greets.0) breaks)
+    (λ found breaks. breaks_on found c.args.core c.negotiate.new.core u v written (haggled _ _ _ _ greets.0) breaks)
     c.transmit.ensures.err
 
 pub returns-in-Ok-Some-clause-ok : goal.returns-in-Ok-Some-clause-ok

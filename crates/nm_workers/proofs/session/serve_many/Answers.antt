@@ -4,7 +4,7 @@ use Rattle.nm_session.proofs.WholeSessions.{if_ok, if_err}
 use Rattle.nm_session.specs.declared.serve_fault.ServeFault.TheVariants as fault
 use Rattle.nm_session.specs.Session.{session_of, so_many}
 use Rattle.nm_workers.specs.Results.{IsResult}
-use Rattle.nm_workers.specs.Serving.{wires, Ends, Breaks, IsServed, IsBrokenOff}
+use Rattle.nm_workers.specs.Serving.{io, Ends, Breaks, IsServed, IsBrokenOff}
 use Rattle.nm_workers.proofs.Owning.{whole_at, broken_at}
 use Rattle.nm_workers.proofs.WholeSessions.{breaks_at_once, broken}
 use Rattle.nm_workers.proofs.session.serve_many.Goals as goal
@@ -21,8 +21,8 @@ returns-clause-ok g c =
     let bytes = g.I.Read.remaining c.args.reader in
     let output = g.O.Write.contents (device_of c.args.sender) in
     let written = g.O.Write.contents (device_of c.serve_core.result.sender) in
-    if_ok c.serve_core.result.result (λ served. Ends (IsResult g.T.Target.follows) served c.in-Ok.core (wires bytes output) written)
-    (λ served. IsServed (IsResult g.T.Target.follows) served c.args.export (wires bytes output) written)
+    if_ok c.serve_core.result.result (λ served. Ends (IsResult g.T.Target.follows) served c.in-Ok.core (io bytes output) written)
+    (λ served. IsServed (IsResult g.T.Target.follows) served c.args.export (io bytes output) written)
     (λ served ends. whole_at c.so_far.ensures served c.args.export c.in-Ok.core bytes output written
     c.in-Ok.ensures.ok ends)
     c.serve_core.ensures.ok
@@ -32,8 +32,8 @@ returns-clause-err g c =
     let bytes = g.I.Read.remaining c.args.reader in
     let output = g.O.Write.contents (device_of c.args.sender) in
     let written = g.O.Write.contents (device_of c.serve_core.result.sender) in
-    if_err c.serve_core.result.result (λ found. Breaks (IsResult g.T.Target.follows) found c.in-Ok.core (wires bytes output) written)
-    (λ found. IsBrokenOff (IsResult g.T.Target.follows) found c.args.export (wires bytes output) written)
+    if_err c.serve_core.result.result (λ found. Breaks (IsResult g.T.Target.follows) found c.in-Ok.core (io bytes output) written)
+    (λ found. IsBrokenOff (IsResult g.T.Target.follows) found c.args.export (io bytes output) written)
     (λ found breaks. broken_at c.so_far.ensures found c.args.export c.in-Ok.core bytes output written
     c.in-Ok.ensures.ok breaks)
     c.serve_core.ensures.err

@@ -1,6 +1,6 @@
 -- The request that is taken out of the list is the one that was found.
 use Rattle.std.proofs.Common.{◌≡◌, ◌+◌, take, drop, refl, sym, ap, subst, ◌∙◌, arith, rules}
-use Rattle.nm_session.specs.declared.held.Held.{Held}
+use Rattle.nm_session.specs.declared.outstanding.Outstanding.{Outstanding}
 use Rattle.nm_session.specs.CoreFields.{session_in}
 use Rattle.nm_session.specs.Outcome.{Fits}
 use Rattle.nm_session.specs.Session.{bytes_asked}
@@ -46,12 +46,12 @@ returns-clause-ok c =
     let xs = c.self.inside.outstanding.items in
     let below = rw c.as_slice.ensures.value at c.in-Some.ensures.some.0 in
     let all = rw c.as_slice.ensures.value at c.in-Some.ensures.some.1 in
-    let index_is = ap (λ (h : Held). h.index) c.index.ensures ∙ all held in
+    let index_is = ap (λ (h : Outstanding). h.index) c.index.ensures ∙ all held in
     let fits = rw (← c.self.view_is) at c.requires in
     rw (← c.self.view_is)
     (answers (session_in c.self.inside) _ c.args.index c.args.outcome (take c.in-Some.at xs)
     (drop (c.in-Some.at + 1) xs) held (split_at xs c.in-Some.at held below (sym c.index.ensures))
     index_is
-    (subst (λ (h : Held). h.index ≡ c.args.index → Fits h.task c.args.outcome)
+    (subst (λ (h : Outstanding). h.index ≡ c.args.index → Fits h.task c.args.outcome)
     (sym c.index.ensures) (fits c.in-Some.at held below) index_is)
     refl refl refl refl refl c.remove-held.ensures.by_index.2 (search rules))

@@ -1,4 +1,4 @@
--- Each turn reads one request more that needs no target.
+-- Each round of the loop reads one request more that needs no target.
 use Rattle.std.proofs.Common.{◌≡◌, zero, suc, ◌+◌, ◌<◌, ◌^◌, refl, ap, sym, subst, arith}
 use Rattle.nm_session.specs.Session.{Session}
 use Rattle.nm_session.specs.Reading.{ReadsOn, RepliesItself}

@@ -1,5 +1,5 @@
 use Rattle.std.proofs.Common.{ℕ, List, ◌++◌, refl, sym, ap, subst, ◌∙◌, arith}
-use Rattle.nm_session.specs.Asking.{held_for, own_reply}
+use Rattle.nm_session.specs.Asking.{outstanding_for, own_reply}
 use Rattle.nm_session.specs.CoreFields.{session_in}
 use Rattle.nm_session.specs.Session.{Session, HasRoom}
 use Rattle.nm_session.proofs.Room.{bytes_more, fits_beside}
@@ -18,7 +18,7 @@ sum_within-asked-requires c =
       arith,
       fits,
       bytes_more c.self.inside.outstanding.items
-          (held_for c.in-Ok-Some.request c.judge_within-judged.result) _ refl,
+          (outstanding_for c.in-Ok-Some.request c.judge_within-judged.result) _ refl,
       c.asked_by.ensures c.in-Ok-Some.request,
       c.self.invariant.asked,
     )
@@ -33,14 +33,14 @@ invariant_of-self-in-Ok-Some c =
     (rw c.export.ensures at c.judge_within-judged.ensures.judged)
     (rw c.export.ensures at c.judge_within-judged.ensures.inside) in
     let sum = bytes_more c.self.inside.outstanding.items
-    (held_for c.in-Ok-Some.request c.judge_within-judged.result) _ refl in
+    (outstanding_for c.in-Ok-Some.request c.judge_within-judged.result) _ refl in
     let now = bytes_more c.self.inside.outstanding.items
-    (held_for c.in-Ok-Some.request c.judge_within-judged.result) _ c.settle.ensures.outstanding in
+    (outstanding_for c.in-Ok-Some.request c.judge_within-judged.result) _ c.dispatch.ensures.outstanding in
     record {
       haggles = λ e. absurd (goes_on c.judge_within-judged.result (sym c.stage_after-self-inside.ensures ∙ e));
       going = λ _. handed.fault;
-      few = omega (arith, c.settle.ensures.one, c.self.invariant.few, c.len.ensures, c.if-len-self.false);
-      room = omega (arith, c.settle.ensures.capacity, c.self.invariant.room);
+      few = omega (arith, c.dispatch.ensures.one, c.self.invariant.few, c.len.ensures, c.if-len-self.false);
+      room = omega (arith, c.dispatch.ensures.capacity, c.self.invariant.room);
       asked = omega (
         arith,
         now,
@@ -56,7 +56,7 @@ invariant_of-self-in-Ok-Some c =
         c.asked_by.ensures c.in-Ok-Some.request,
         c.self.invariant.asked,
       );
-      known = rw (c.settle.ensures.outstanding, handed.count)
+      known = rw (c.dispatch.ensures.outstanding, handed.count)
           (known_after c.self.inside.outstanding.items c.in-Ok-Some.request
           c.judge_within-judged.result c.self.inside.reader.count index c.self.invariant.known);
     }
@@ -84,6 +84,6 @@ returns-in-Ok-Some-clause-tells c =
       stage = c.stage_after-self-inside.ensures;
       haggling = refl;
       count = handed.count;
-      outstanding = c.settle.ensures.outstanding;
-      out = c.settle.ensures.out ∙ ap (λ (xs : List ℕ). xs ++ own_reply c.in-Ok-Some.request c.judge_within-judged.result) c.reserve.ensures.items;
-    })) c.settle.ensures.next)
+      outstanding = c.dispatch.ensures.outstanding;
+      out = c.dispatch.ensures.out ∙ ap (λ (xs : List ℕ). xs ++ own_reply c.in-Ok-Some.request c.judge_within-judged.result) c.reserve.ensures.items;
+    })) c.dispatch.ensures.next)
