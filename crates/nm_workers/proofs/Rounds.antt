@@ -1,5 +1,5 @@
 -- What the parts of a round do together.
-use Rattle.std.proofs.Common.{◌≡◌, ℕ, List, [], Option, inl, inr, Result, Ok, Err, IfOk, IfErr, refl, sym, subst}
+use Rattle.std.proofs.Common.{◌≡◌, ℕ, List, [], Option, inl, inr, refl, sym, subst}
 use Rattle.nm_mailbox.specs.declared.message.Message.{Message}
 use Rattle.nm_session.proofs.Pieces.{none_after_send}
 use Rattle.nm_session.specs.declared.serve_fault.ServeFault.{ServeFault}
@@ -14,11 +14,9 @@ use Rattle.nm_session.specs.Session.{IsFull, IsReading, LacksRoom, Session}
 use Rattle.nm_session.specs.Batch.{IsStarved}
 use Rattle.nm_workers.specs.declared.round.NoRequest.{NoRequest}
 use Rattle.nm_workers.specs.declared.round.NoRequest.TheVariants as why
-use Rattle.nm_workers.specs.declared.round.Round.{Round}
-use Rattle.nm_workers.specs.declared.round.Round.TheVariants as round
 use Rattle.nm_workers.specs.declared.round.ReadState.{ReadState}
 use Rattle.nm_workers.specs.declared.round.ReadState.TheVariants as state
-use Rattle.nm_workers.specs.Moving.{OwnerState, owner_state, Moves, BreaksOff, HasNoRequest, IsKnown, IsOverAt, Attends, IsRound, EndsAs}
+use Rattle.nm_workers.specs.Moving.{OwnerState, owner_state, Moves, BreaksOff, HasNoRequest, IsKnown, IsOverAt, Attends}
 use Rattle.nm_workers.proofs.Steps.{moves_on, breaks_on, stops, reads, sends, sends_part}
 
 module _ {F : Task → TaskResult → Type 0} where
@@ -31,18 +29,6 @@ module _ {F : Task → TaskResult → Type 0} where
     is_known = second.is_known;
     is_over = second.is_over;
   }
-
-  -- a move, and then a round
-  pub round_on : (round : Round) (a b c : OwnerState) → Moves F a b → IsRound F round b c
-      → IsRound F round a c
-  round_on (round.Continue next) a b c first (second, known) = (moves_on a b c first second, known)
-  round_on (round.SwitchReader next) a b c first (second, known) = (moves_on a b c first second, known)
-  round_on (round.Done served) a b c first second = attends_on served a b c first second
-
-  -- a move, and then the session's end
-  pub ends_on : (result : Result Served ServeFault) (a b c : OwnerState) → Moves F a b → EndsAs F result b c → EndsAs F result a c
-  ends_on (Ok served) a b c first second = attends_on served a b c first second
-  ends_on (Err found) a b c first second = breaks_on found a b c first second
 
   -- there is no memory, after a move
   pub stops_there : (found : ServeFault) → found ≡ fault.Memory → (a b : OwnerState) → Moves F a b → BreaksOff F found a b
@@ -107,14 +93,3 @@ module _ {F : Task → TaskResult → Type 0} where
       is_known = is_known;
       is_over = over;
     }
-
-module _ (F : Task → TaskResult → Type 0) where
-  pub ends_ok : (result : Result Served ServeFault) (a b : OwnerState) → EndsAs F result a b
-      → IfOk result (λ served. Attends F served a b)
-  ends_ok (Ok served) a b ends = ends
-  ends_ok (Err found) a b ends = tt
-
-  pub ends_err : (result : Result Served ServeFault) (a b : OwnerState) → EndsAs F result a b
-      → IfErr result (λ found. BreaksOff F found a b)
-  ends_err (Ok served) a b ends = tt
-  ends_err (Err found) a b ends = ends

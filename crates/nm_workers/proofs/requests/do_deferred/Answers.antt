@@ -3,7 +3,7 @@ use Rattle.nm_replies.specs.Sending.{device_of}
 use Rattle.nm_workers.specs.Moving.{owner_state}
 use Rattle.nm_workers.proofs.Rounds.{stops_there}
 use Rattle.nm_workers.proofs.Steps.{moves_on, breaks_on, stays, settles, sends, sends_part}
-use Rattle.nm_workers.proofs.inline.do_deferred.Goals as goal
+use Rattle.nm_workers.proofs.requests.do_deferred.Goals as goal
 
 pub returns-in-Err-clause-err : goal.returns-in-Err-clause-err
 returns-in-Err-clause-err g c heard =
