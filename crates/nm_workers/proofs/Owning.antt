@@ -21,7 +21,7 @@ use Rattle.nm_workers.specs.Moving.{owner_state, Attends, BreaksOff, EndsAs}
 use Rattle.nm_workers.specs.Reading.{HasRead, ReadsFurther}
 use Rattle.nm_workers.specs.Serving.{io, Ends, Breaks, IsServed, IsBrokenOff}
 use Rattle.nm_workers.proofs.ReadPieces.{reads_first, has_read}
-use Rattle.nm_workers.proofs.Requests.{export_stays}
+use Rattle.nm_workers.proofs.RequestLemmas.{export_stays}
 use Rattle.nm_workers.proofs.WholeSessions.{ends_there, breaks_there, breaks_at_once, whole, broken}
 
 module _ (F : Task → TaskResult → Type 0) where

@@ -5,22 +5,18 @@ use Rattle.nm_workers.specs.declared.round.Round.TheVariants as round
 use Rattle.nm_workers.specs.Moving.{state_of, Leads}
 use Rattle.nm_workers.specs.Results.{IsResult}
 use Rattle.nm_workers.proofs.ReadPieces.{more_on}
-use Rattle.nm_workers.proofs.Requests.{size_stays}
+use Rattle.nm_workers.proofs.RequestLemmas.{size_stays}
 use Rattle.nm_workers.proofs.ResultRuns.{runs_of}
 use Rattle.nm_workers.proofs.Rounds.{attends_on}
 use Rattle.nm_workers.proofs.Steps.{moves_on, moves_nowhere, breaks_on, stops}
 use Rattle.nm_workers.proofs.requests.serve_requests.Goals as goal
-
-pub returns-in-Err-clause-ends : goal.returns-in-Err-clause-ends
-returns-in-Err-clause-ends g c =
-    stops fault.Memory tt _ _ (moves_nowhere (state_of g.O.Write.contents c.args.owner.now))
 
 pub rounds-init : goal.rounds-init
 rounds-init g c = record {
   moves = moves_nowhere (state_of g.O.Write.contents c.args.owner.now);
   known = tt;
   channel = refl;
-  reads = c.in-Ok.ensures.ok;
+  reads = (λ input goes. goes, refl);
 }
 
 pub one_round-requires-clause-size : goal.one_round-requires-clause-size
