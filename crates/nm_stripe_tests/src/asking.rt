@@ -133,10 +133,12 @@ pub fn may_ask<L: LegPart>(rt: &impl Abort, stripe: &Stripe<L>, step: &Step<L>)
         Step::Replace(leg, part) => {
             assert!(rt; (*leg as usize) < stripe.legs() && part.len() == stripe.blocks());
         }
+        Step::Copy(leg, most, _) => {
+            assert!(rt; (*leg as usize) < stripe.legs() && *most > 0);
+        }
         Step::Push(_, leg)
         | Step::Fail(leg)
         | Step::Attach(leg)
-        | Step::Copy(leg, _, _)
         | Step::Promote(leg)
         | Step::Sync(leg) => assert!(rt; (*leg as usize) < stripe.legs()),
     }
