@@ -7,19 +7,25 @@ import socket
 import time
 
 DEFAULT = "127.0.0.1:10810"
+# What stands before the path of a Unix socket, and where the one of packaging/ is.
+UNIX = "unix:"
+SERVICE = "/run/nbdmirror/control"
+# What each line of an answer begins with while the server opens its mirror.
+STARTING = "starting: "
 # The server gives a line and its answer 60 seconds.
 TIMEOUT_SECONDS = 70
 # After so long without an answer a person is told what that may mean.
 QUIET_SECONDS = 2
 # What it means that none comes. An older server serves one connection at a time, and none after a quit.
 NO_ANSWER = "a leg hangs, or the control port is busy"
-# What no server sends more of: bytes in a line, and stripes.
-MOST_BYTES, MOST_STRIPES = 4096, 1024
+# What no server sends more of: bytes in a line, stripes, and lines of metrics.
+MOST_BYTES, MOST_STRIPES, MOST_METRICS = 4096, 1024, 4096
 STRIPE = re.compile(r"stripe (\d{1,20}): (.*)")
 RUNNING = re.compile(r"master (\d{1,20}) settling (yes|no) legs((?: (?:in|out|join\(\d{1,20}\)))+)")
 FAILED = re.compile(r"fail (\d+): failed (\d+) last (\d+) out (\d+) stopped (\d+)")
 UNREAD = re.compile(r"unread (\d{1,20}) (\d{1,20}) (\d{1,20}) (\d{1,20})")
 UNREAD_END = re.compile(r"end (\d{1,20})")
+COPY_RATE = re.compile(r"copy-rate (\d{1,5}|default)")
 ATTACHED = re.compile(r"attach (\d+): joining (\d+) left (\d+) notout (\d+) stopped (\d+)")
 
 
@@ -27,20 +33,34 @@ class Trouble(Exception):
     """Why there is no answer that can be used."""
 
 
+def open_socket(address, timeout):
+    """A connection to an address and a port, or to the path of a Unix socket."""
+    if not isinstance(address, str):
+        return socket.create_connection(address, timeout=timeout)
+    stream = socket.socket(socket.AF_UNIX)
+    try:
+        stream.settimeout(timeout)
+        stream.connect(address)
+    except BaseException:
+        stream.close()
+        raise
+    return stream
+
+
 class Control:
-    """One connection to the control port, which is an address and a port."""
+    """One connection to the control port, which is an address and a port, or the path of a Unix socket."""
 
     def __init__(self, address, timeout=TIMEOUT_SECONDS, tell=None):
         """`tell` is called with a text where an answer takes long, once."""
         self.timeout, self.tell, self.data = timeout, tell, b""
         self.end = time.monotonic() + timeout
+        name = f"{UNIX}{address}" if isinstance(address, str) else f"{address[0]}:{address[1]}"
         try:
-            self.socket = socket.create_connection(address, timeout=timeout)
-        except ConnectionRefusedError as error:
-            raise Trouble(f"cannot reach {address[0]}:{address[1]}: the server does not run, or still compares its "
-                          "legs") from error
+            self.socket = open_socket(address, timeout)
+        except (ConnectionRefusedError, FileNotFoundError) as error:
+            raise Trouble(f"cannot reach {name}: the server does not run") from error
         except (OSError, UnicodeError) as error:
-            raise Trouble(f"cannot reach {address[0]}:{address[1]}: {error}") from error
+            raise Trouble(f"cannot reach {name}: {error}") from error
 
     def __enter__(self):
         return self
@@ -77,7 +97,14 @@ class Control:
             return data
 
     def next_line(self):
-        """The next line of an answer."""
+        """The next line of an answer of a server that serves."""
+        line = self.any_line()
+        if line.startswith(STARTING):
+            raise Trouble(f"the server is {line}")
+        return line
+
+    def any_line(self):
+        """The next line that the server sends."""
         while b"\n" not in self.data:
             if len(self.data) > MOST_BYTES:
                 raise Trouble(f"the server answered {self.data[:40]} and no end of the line")
@@ -91,6 +118,11 @@ class Control:
         """The first line of the answer to a line."""
         self.send(line)
         return self.next_line()
+
+    def info(self):
+        """What the server says of itself, also while it opens its mirror."""
+        self.send("info")
+        return self.any_line()
 
     def status_lines(self):
         """The lines of a status that was asked for, without the last one, which says `end`."""
@@ -114,6 +146,28 @@ class Control:
             regions.append(dict(zip(("stripe", "region", "offset", "length"), map(int, found.groups()))))
         end = UNREAD_END.fullmatch(line)
         return {"count": int(end[1]), "regions": regions} if end else None
+
+    def metrics(self):
+        """What the server has counted, as lines in the text form that Prometheus reads."""
+        self.send("metrics")
+        lines = []
+        while (line := self.next_line()) != "end":
+            if line == "bad command":
+                raise Trouble("the server knows no metrics")
+            lines.append(line)
+            if len(lines) > MOST_METRICS:
+                raise Trouble("the server answered with no end of metrics")
+        return lines
+
+    def copy_rate(self):
+        """At how many MiB a second legs are copied. None where that is not set, or the server does not tell."""
+        return rate_of(self.ask("copy-rate")) or None
+
+
+def rate_of(answer):
+    """The rate that an answer tells, in MiB a second: 0 where copies have the default, None where it tells none."""
+    found = COPY_RATE.fullmatch(answer)
+    return found and (0 if found[1] == "default" else int(found[1]))
 
 
 def leg_of(word):

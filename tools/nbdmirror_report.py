@@ -245,6 +245,11 @@ def unread_sentence(unread):
     return f"{count} {'region' if count == 1 else 'regions'} cannot be read: {', '.join(named_ones + more)}"
 
 
+def copy_rate_sentence(rate):
+    """At what rate legs are copied: MiB a second, or 0 or None for the default."""
+    return f"copies go at {rate} MiB/s" if rate else "copies go as fast as clients leave room for"
+
+
 def health(stripes, unread=None):
     """What a monitoring check says: its level, and why in a line."""
     found, count = [], len(stripes)

@@ -22,30 +22,37 @@ pub enum Kind {
     Write(u64),
 }
 
-pub struct Entry {
+// What is kept of a block that was written or read, but for its bytes.
+pub struct Head {
     pub seq: u64,
     pub kind: Kind,
     pub block: u64,
-    pub bytes: Block,
 }
 
+// The data of a run of blocks.
 pub enum Data {
     Cut(Arc<[u8]>, Range<usize>),
-    Zero,
+    Zero(u64),
 }
 
 impl Data {
     pub fn bytes(&self) -> &[u8] {
         match self {
             Data::Cut(received, range) => &received[range.clone()],
-            Data::Zero => &[0; 512],
+            Data::Zero(count) => &[0; 65_536][..*count as usize * 512],
         }
+    }
+
+    pub fn blocks(&self) -> u64 {
+        self.bytes().len() as u64 / 512
     }
 }
 
+// A write of a run of blocks: its first ticket, its first block, and how many they are.
 pub struct Record {
     pub ticket: u64,
     pub block: u64,
+    pub blocks: u64,
     pub data: Data,
     pub owed: [bool; LEGS],
     pub entry: Option<u64>,
@@ -76,26 +83,54 @@ pub struct Receipt {
     pub number: u64,
 }
 
-// The last entries, and the count of all.
+// The last entries, their bytes, and the count of all.
 pub struct Kept {
-    pub ring: VecDeque<Entry>,
+    heads: VecDeque<Head>,
+    bytes: Vec<u8>,
     pub total: u64,
 }
 
 impl Kept {
-    pub fn push(&mut self, entry: Entry) {
-        if self.ring.len() == MOST_ENTRIES {
-            self.ring.pop_front();
+    fn new() -> Kept {
+        Kept {
+            heads: VecDeque::with_capacity(MOST_ENTRIES),
+            bytes: vec![0; MOST_ENTRIES * 512],
+            total: 0,
         }
-        self.ring.push_back(entry);
-        self.total += 1;
+    }
+
+    // An entry for each block of a run; the bytes of all go in one copy, or two at the ring's end.
+    fn push_run(&mut self, block: u64, bytes: &[u8], kind: impl Fn(u64) -> Kind) {
+        let start = self.total as usize % MOST_ENTRIES * 512;
+        for at in 0..bytes.len() as u64 / 512 {
+            if self.heads.len() == MOST_ENTRIES {
+                self.heads.pop_front();
+            }
+            self.heads.push_back(Head {
+                seq: self.total,
+                kind: kind(at),
+                block: block + at,
+            });
+            self.total += 1;
+        }
+        let (before_end, behind) = bytes.split_at(bytes.len().min(self.bytes.len() - start));
+        self.bytes[start..start + before_end.len()].copy_from_slice(before_end);
+        self.bytes[..behind.len()].copy_from_slice(behind);
+    }
+
+    // The entries that are kept, with the bytes of each.
+    pub fn entries(&self) -> impl Iterator<Item = (&Head, &[u8])> {
+        self.heads.iter().map(|head| {
+            let start = head.seq as usize % MOST_ENTRIES * 512;
+            (head, &self.bytes[start..start + 512])
+        })
     }
 }
 
 // The records by rising ticket. Each stays in its slot; a search reads tickets and blocks alone.
 pub struct Records {
     pub tickets: Vec<u64>,
-    pub blocks: Vec<u64>,
+    pub blocks: Vec<Range<u64>>,
     pub slots: Vec<u8>,
     pub stored: Vec<Option<Record>>,
     pub free: Vec<u8>,
@@ -128,7 +163,10 @@ impl Records {
 
     pub fn busy_among(&self, blocks: Range<u64>) -> Option<u64> {
         let under_way = |place: &usize| {
-            blocks.contains(&self.blocks[*place]) && self.at(*place).owed.contains(&true)
+            let held = &self.blocks[*place];
+            held.start < blocks.end
+                && blocks.start < held.end
+                && self.at(*place).owed.contains(&true)
         };
         let place = (0..self.blocks.len()).find(under_way)?;
         Some(self.tickets[place])
@@ -141,10 +179,10 @@ impl Records {
     pub fn push(&mut self, record: Record) {
         let slot = self.free.pop().unwrap();
         self.tickets.push(record.ticket);
-        self.blocks.push(record.block);
+        self.blocks.push(record.block..record.block + record.blocks);
         self.slots.push(slot);
+        self.unlanded += record.blocks;
         self.stored[slot as usize] = Some(record);
-        self.unlanded += 1;
     }
 
     pub fn remove(&mut self, place: usize) -> Record {
@@ -268,7 +306,7 @@ pub enum LegState {
 }
 
 pub struct Stripe {
-    pub legs: Vec<Vec<Block>>,
+    pub legs: Vec<Vec<u8>>,
     pub states: Vec<LegState>,
     pub regions: Regions,
     pub buffer: Buffer,
@@ -281,9 +319,9 @@ pub struct Stripe {
 }
 
 impl Stripe {
-    pub fn open(legs: Vec<Vec<Block>>, in_sync: [bool; 2]) -> Stripe {
+    pub fn open(legs: Vec<Vec<u8>>, in_sync: [bool; 2]) -> Stripe {
         let state = |in_sync| if in_sync { LegState::InSync } else { LegState::Joining };
-        let blocks = legs[0].len() as u64;
+        let blocks = legs[0].len() as u64 / 512;
         Stripe {
             legs,
             states: in_sync.map(state).into(),
@@ -296,10 +334,7 @@ impl Stripe {
             },
             records: Records::new(),
             tickets: 0,
-            kept: Kept {
-                ring: VecDeque::with_capacity(MOST_ENTRIES),
-                total: 0,
-            },
+            kept: Kept::new(),
             turn: 0,
             settling: false,
             stopped: false,
@@ -310,23 +345,23 @@ impl Stripe {
         self.kept.total + self.records.unlanded >= NUMBERS
     }
 
-    pub fn copying_on(&self, block: u64) -> Option<u8> {
+    pub fn copying_on(&self, run: &Range<u64>) -> Option<u8> {
         let copy = self.regions.copy?;
         let start = copy.region * self.regions.region + copy.cursor;
-        (start..start + self.buffer.blocks).contains(&block).then_some(copy.leg)
+        (start < run.end && run.start < start + self.buffer.blocks).then_some(copy.leg)
     }
 
-    pub fn begin_cause(&self, block: u64) -> Option<Refusal> {
+    pub fn begin_cause(&self, run: Range<u64>) -> Option<Refusal> {
         if self.stopped {
             return Some(Refusal::Stopped);
         }
         if self.settling {
             return Some(Refusal::Settling);
         }
-        if let Some(ticket) = self.records.busy_among(block..block + 1) {
+        if let Some(ticket) = self.records.busy_among(run.clone()) {
             return Some(Refusal::Busy(ticket));
         }
-        if let Some(leg) = self.copying_on(block) {
+        if let Some(leg) = self.copying_on(&run) {
             return Some(Refusal::Copying(leg));
         }
         if self.records.is_full() {
@@ -336,7 +371,8 @@ impl Stripe {
     }
 
     pub fn begin(&mut self, block: u64, data: Data) -> Result<u64, (Refusal, Data)> {
-        if let Some(refusal) = self.begin_cause(block) {
+        let blocks = data.blocks();
+        if let Some(refusal) = self.begin_cause(block..block + blocks) {
             return Err((refusal, data));
         }
         let ticket = self.tickets;
@@ -345,11 +381,12 @@ impl Stripe {
         self.records.push(Record {
             ticket,
             block,
+            blocks,
             data,
             owed,
             entry: None,
         });
-        self.tickets += 1;
+        self.tickets += blocks;
         Ok(ticket)
     }
 
@@ -362,23 +399,20 @@ impl Stripe {
         if record.owed.get(leg) != Some(&true) {
             return Err(Refusal::NotOwed);
         }
-        let bytes: &[u8; 512] = record.data.bytes().try_into().unwrap();
-        self.legs[leg][record.block as usize].0 = *bytes;
-        let lands = leg == 0 && record.entry.is_none();
-        if lands {
-            let number = self.kept.total;
-            self.kept.push(Entry {
-                seq: number,
-                kind: Kind::Write(ticket),
-                block: record.block,
-                bytes: Block(*bytes),
-            });
-            record.entry = Some(number);
-        }
+        let bytes = record.data.bytes();
+        let start = record.block as usize * 512;
+        self.legs[leg][start..start + bytes.len()].copy_from_slice(bytes);
+        let landed = if leg == 0 && record.entry.is_none() {
+            record.entry = Some(self.kept.total);
+            self.kept.push_run(record.block, bytes, |at| Kind::Write(ticket + at));
+            record.blocks
+        } else {
+            0
+        };
         record.owed[leg] = false;
         let (block, entry) = (record.block, record.entry);
         let owed = record.owed.iter().filter(|owed| **owed).count();
-        self.records.unlanded -= u64::from(lands);
+        self.records.unlanded -= landed;
         if owed > 0 {
             return Ok(Reach::Pushed(owed));
         }
@@ -412,7 +446,7 @@ impl Stripe {
         legs.nth(self.turn as usize % count).unwrap()
     }
 
-    pub fn read(&mut self, block: u64, into: &mut Block) -> Result<Receipt, Refusal> {
+    pub fn read(&mut self, block: u64, into: &mut [u8]) -> Result<Receipt, Refusal> {
         if self.stopped {
             return Err(Refusal::Stopped);
         }
@@ -423,13 +457,9 @@ impl Stripe {
             return Err(Refusal::Exhausted);
         }
         let number = self.kept.total;
-        *into = self.legs[self.leg_to_read(block)][block as usize];
-        self.kept.push(Entry {
-            seq: number,
-            kind: Kind::Read,
-            block,
-            bytes: *into,
-        });
+        let start = block as usize * 512;
+        into.copy_from_slice(&self.legs[self.leg_to_read(block)][start..start + into.len()]);
+        self.kept.push_run(block, into, |_| Kind::Read);
         if self.regions.is_quiet(block) {
             self.turn = (self.turn + 1) % 840;
         }
@@ -474,12 +504,13 @@ impl Stripe {
         }
         let buffer = &mut self.buffer;
         if buffer.read < buffer.blocks {
-            let block = self.legs[0][(start + buffer.read) as usize];
-            buffer.slots[buffer.read as usize] = block;
+            let at = (start + buffer.read) as usize * 512;
+            let slot = &mut buffer.slots[buffer.read as usize];
+            slot.0.copy_from_slice(&self.legs[0][at..at + 512]);
             buffer.read += 1;
         } else {
-            let block = buffer.slots[buffer.written as usize];
-            self.legs[leg][(start + buffer.written) as usize] = block;
+            let at = (start + buffer.written) as usize * 512;
+            self.legs[leg][at..at + 512].copy_from_slice(&buffer.slots[buffer.written as usize].0);
             buffer.written += 1;
             if buffer.written == buffer.blocks {
                 self.regions.advance(copy, buffer.blocks);

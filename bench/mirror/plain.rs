@@ -10,7 +10,7 @@ use std::time::Instant;
 
 #[path = "../common/stripe.rs"]
 mod stripe;
-use stripe::{Block, Data, Kind, LEGS, NUMBERS, REGION, Reach, Stripe};
+use stripe::{Data, Kind, LEGS, NUMBERS, REGION, Reach, Stripe};
 
 const BLOCKS: u64 = 16_384;
 const BYTES: u64 = 512 * BLOCKS;
@@ -21,7 +21,7 @@ const MOST_AT_ONCE: usize = 8;
 
 // A stripe of so many blocks, which two legs have.
 fn open_stripe(blocks: u64) -> Stripe {
-    let leg = || vec![Block([0; 512]); blocks as usize];
+    let leg = || vec![0; blocks as usize * 512];
     Stripe::open(vec![leg(), leg()], [true, true])
 }
 
@@ -33,9 +33,10 @@ struct Part {
 }
 
 impl Part {
-    fn note(&mut self, number: u64) {
-        self.count += 1;
-        self.front = self.front.max(number + 1);
+    // So many blocks got numbers, of which this is the first.
+    fn note(&mut self, number: u64, blocks: u64) {
+        self.count += blocks;
+        self.front = self.front.max(number + blocks);
     }
 }
 
@@ -105,7 +106,9 @@ impl Mirror {
         step(&mut held)
     }
 
-    fn write_block(&self, part: &mut Part, block: u64, data: Data) {
+    // Writes a run of blocks that lies in one region.
+    fn write_run(&self, part: &mut Part, block: u64, data: Data) {
+        let blocks = data.blocks();
         let (stripe, block) = self.place(block);
         let ticket = match self.step(stripe, part, |held| held.begin(block, data)) {
             Ok(ticket) => ticket,
@@ -121,50 +124,41 @@ impl Mirror {
             }
         }
         let receipt = self.step(stripe, part, |held| held.claim(ticket)).unwrap();
-        part.note(receipt.number);
+        part.note(receipt.number, blocks);
     }
 
-    fn write_round(&self, parts: &mut [Part], block: u64, cuts: &mut [Option<Data>]) {
+    fn write_round(&self, parts: &mut [Part], block: u64, received: &Arc<[u8]>, cut: Range<usize>) {
         if let [part] = parts {
-            for (block, data) in (block..).zip(cuts) {
-                self.write_block(part, block, data.take().unwrap());
-            }
+            self.write_run(part, block, Data::Cut(received.clone(), cut));
             return;
         }
         let half = parts.len() / 2;
         let low = self.lower_half(block, half);
         let (front, back) = parts.split_at_mut(half);
-        let (own, rest) = cuts.split_at_mut(low);
-        let (count, high) = (own.len(), rest.len());
-        let lower = || self.write_round(front, block, own);
-        let upper = || self.write_round(back, block + low as u64, rest);
-        self.do_both(count, high, lower, upper);
+        let middle = cut.start + low * 512;
+        let high = (cut.end - middle) / 512;
+        let lower = || self.write_round(front, block, received, cut.start..middle);
+        let upper = || self.write_round(back, block + low as u64, received, middle..cut.end);
+        self.do_both(low, high, lower, upper);
     }
 
-    // The payload is cut before the first block is written.
     fn write(&self, parts: &mut [Part], offset: u64, received: &Arc<[u8]>, len: usize) {
-        let cut = |start| Some(Data::Cut(received.clone(), start..start + 512));
-        let mut cuts: Vec<Option<Data>> = (0..len).step_by(512).map(cut).collect();
-        let (mut block, mut left) = (offset / 512, &mut cuts[..]);
-        while !left.is_empty() {
-            let (stripes, blocks) = self.round(block, left.len());
-            let (own, rest) = left.split_at_mut(blocks);
-            self.write_round(&mut parts[stripes], block, own);
-            (block, left) = (block + blocks as u64, rest);
+        let (mut block, mut at) = (offset / 512, 0);
+        while at < len {
+            let (stripes, blocks) = self.round(block, (len - at) / 512);
+            let end = at + blocks * 512;
+            self.write_round(&mut parts[stripes], block, received, at..end);
+            (block, at) = (block + blocks as u64, end);
         }
     }
 
     fn read_round(&self, parts: &mut [Part], block: u64, into: &mut [u8]) {
         if let [part] = parts {
-            for (block, into) in (block..).zip(into.chunks_mut(512)) {
-                let (stripe, block) = self.place(block);
-                let mut found = Block([0; 512]);
-                let receipt = self
-                    .step(stripe, part, |held| held.read(block, &mut found))
-                    .unwrap();
-                into.copy_from_slice(&found.0);
-                part.note(receipt.number);
-            }
+            let (stripe, block) = self.place(block);
+            let receipt = self
+                .step(stripe, part, |held| held.read(block, into))
+                .unwrap();
+            part.note(receipt.number, into.len() as u64 / 512);
             return;
         }
         let half = parts.len() / 2;
@@ -294,12 +288,12 @@ fn round(row: Row, side_by_side: bool) -> (u64, u64) {
     assert_eq!(had, counted);
     // The history is kept, though nobody reads it here.
     for stripe in &mirror.stripes {
-        for entry in &stripe.lock().unwrap().kept.ring {
+        for (entry, bytes) in stripe.lock().unwrap().kept.entries() {
             let ticket = match entry.kind {
                 Kind::Read => 0,
                 Kind::Write(ticket) => ticket,
             };
-            black_box((entry.seq, ticket, entry.block, entry.bytes));
+            black_box((entry.seq, ticket, entry.block, bytes));
         }
     }
     (nanos, told ^ there ^ had)

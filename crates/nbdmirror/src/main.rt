@@ -3,7 +3,7 @@
 //! `nbdmirror --help` lists its words; docs/OPERATING.md says how to run it.
 #![tactic(auto)]
 
-use nm_server::{refuse_words, start};
+use nm_server::{LegOpener, refuse_words, start};
 use std::env;
 use std::process::ExitCode;
 
@@ -25,6 +25,7 @@ fn main(rt: HostRuntime) -> ExitCode {
     let status = start(
         &rt,
         alloc,
+        &LegOpener::new(&rt),
         words.as_slice(),
         &mut rt.stdout(),
         &mut rt.stderr(),

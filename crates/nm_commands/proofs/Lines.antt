@@ -5,9 +5,13 @@ use Rattle.std.specs.Str.Parse.{digits_value}
 use Rattle.std.proofs.lemmas.Str.{IsUtf8-from_ascii}
 use Rattle.std.proofs.lemmas.Fmt.{IsAscii-from_digits}
 use Rattle.std.proofs.Math.Seq.{take-append_seam}
-use Rattle.nm_commands.specs.ControlLine.{Asks, IsNumeralOf, IsQuitWithin, IsWithNumber}
+use Rattle.nm_commands.specs.ControlLine.{Asks, IsCopyRate, IsNumeralOf, IsQuitWithin, IsWithNumber}
 use Rattle.nm_commands.specs.declared.control_command.ControlCommand.{ControlCommand}
-use Rattle.nm_commands.specs.declared.control_command.ControlCommand.TheVariants.{Status, Unread, Fail, Attach, Quit, QuitWithin, Bad}
+use Rattle.nm_commands.specs.declared.control_command.ControlCommand.TheVariants.{Status, Unread, Info, Fail}
+use Rattle.nm_commands.specs.declared.control_command.ControlCommand.TheVariants.{Metrics, Clients, Kick, Bad}
+use Rattle.nm_commands.specs.declared.control_command.ControlCommand.TheVariants.{Attach, Quit, QuitWithin}
+use Rattle.nm_commands.specs.declared.control_command.ControlCommand.TheVariants.{CopyRate, SetCopyRate}
+use Rattle.nm_commands.specs.declared.control_command.ControlCommand.TheVariants.{DefaultCopyRate}
 
 -- a word of digits is text
 pub named_is_text : (word : List ℕ) (leg : ℕ) → IsNumeralOf word leg → IsUtf8 word
@@ -43,22 +47,43 @@ no_end_within line found named late seconds within =
     let bound : seconds ≤ 86400 = within.bound in
     absurd (omega (arith, late, same, bound))
 
+pub no_such_rate : (line : List ℕ) (found : ℕ) → IsWithNumber (codes "copy-rate ") line found →
+    (0 < found → found ≤ 65535 → ⊥) → (mib : ℕ) → IsCopyRate line mib → ⊥
+no_such_rate line found named out mib asked =
+    let same : mib ≡ found =
+    one_number (codes "copy-rate ") line mib found asked.number named in
+    out (rw (← same) asked.some) (rw (← same) asked.most)
+
 pub other_start : (start line word : List ℕ) → (take (length start) line ≡ start → ⊥) →
     line ≡ start ++ word → ⊥
 other_start start line word other e =
     other (ap (take (length start)) e ∙ take-append_seam start word)
 
 pub asks_nothing : (line : List ℕ) → (line ≡ codes "status" → ⊥) → (line ≡ codes "unread" → ⊥) →
-    (line ≡ codes "quit" → ⊥) →
+    (line ≡ codes "info" → ⊥) → (line ≡ codes "metrics" → ⊥) →
+    (line ≡ codes "copy-rate" → ⊥) → (line ≡ codes "copy-rate default" → ⊥) →
+    (line ≡ codes "clients" → ⊥) → (line ≡ codes "quit" → ⊥) →
     ((leg : ℕ) → IsWithNumber (codes "fail ") line leg → ⊥) →
     ((leg : ℕ) → IsWithNumber (codes "attach ") line leg → ⊥) →
+    ((client : ℕ) → IsWithNumber (codes "kick ") line client → ⊥) →
+    ((mib : ℕ) → IsCopyRate line mib → ⊥) →
     ((seconds : ℕ) → IsQuitWithin line seconds → ⊥) →
     (command : ControlCommand) → Asks line command → ⊥
-asks_nothing line status unread quit fail attach within Status asks = status asks
-asks_nothing line status unread quit fail attach within Unread asks = unread asks
-asks_nothing line status unread quit fail attach within (Fail leg) asks = fail leg asks
-asks_nothing line status unread quit fail attach within (Attach leg) asks = attach leg asks
-asks_nothing line status unread quit fail attach within Quit asks = quit asks
-asks_nothing line status unread quit fail attach within (QuitWithin seconds) asks =
-    within seconds asks
-asks_nothing line status unread quit fail attach within Bad asks = asks
+asks_nothing line status unread info metrics rate default clients quit fail attach kick mib within =
+    go
+  where
+    go : (command : ControlCommand) → Asks line command → ⊥
+    go Status asks = status asks
+    go Unread asks = unread asks
+    go Info asks = info asks
+    go Metrics asks = metrics asks
+    go (Fail leg) asks = fail leg asks
+    go (Attach leg) asks = attach leg asks
+    go CopyRate asks = rate asks
+    go (SetCopyRate number) asks = mib number asks
+    go DefaultCopyRate asks = default asks
+    go Clients asks = clients asks
+    go (Kick client) asks = kick client asks
+    go Quit asks = quit asks
+    go (QuitWithin seconds) asks = within seconds asks
+    go Bad asks = asks

@@ -75,10 +75,23 @@ mirror_command policies starts = with_rule (with_rule (with_rule (with_rule base
     (bare_number_rule (codes "master") (pos 0) (pos 7)))
     (parsed_rule (codes "start") (codes "compare") (vp.Names starts))
 
+-- The same, and the options that say how legs are copied.
+abbrev pub copying_command : (policies starts : Bor (List (Bor Text))) → App
+copying_command policies starts = with_rule (with_rule (mirror_command policies starts)
+    (flag_rule (codes "auto-attach")))
+    (bare_number_rule (codes "copy-rate") (pos 1) (pos 65535))
+
+-- The same, and the options that say what the server does with its clients. `v` is 118.
+abbrev pub with_client_options : App → App
+with_client_options app = with_rule (with_rule app
+    (bare_number_rule (codes "idle-limit") (pos 1) (pos 86400)))
+    (lettered 118 (flag_rule (codes "verbose")))
+
 -- The command line, with its options' defaults and ranges. `r` is 114.
 abbrev pub nbdmirror : (policies starts : Bor (List (Bor Text))) → App
 nbdmirror policies starts =
-    with_rule (with_rule (with_rule (with_rule (mirror_command policies starts)
+    with_rule (with_rule (with_rule (with_rule
+    (with_client_options (copying_command policies starts))
     (number_rule (codes "sessions") (codes "16") (pos 1) (pos 64)))
     (lettered 114 (flag_rule (codes "read-only"))))
     (flag_rule (codes "force-in-use")))

@@ -3,8 +3,13 @@ use Rattle.std.specs.Prelude.{◌≡◌, ◌<◌, ◌≤◌, ℕ, ◌^◌, List,
 use Rattle.std.specs.Str.Parse.{IsNumeral, digits_value}
 use Rattle.nm_commands.specs.declared.control_command.ControlCommand.{ControlCommand}
 use Rattle.nm_commands.specs.declared.control_command.ControlCommand.TheVariants.{Status, Unread, Fail}
+use Rattle.nm_commands.specs.declared.control_command.ControlCommand.TheVariants.{Info, Metrics}
 use Rattle.nm_commands.specs.declared.control_command.ControlCommand.TheVariants.{Attach, Quit}
 use Rattle.nm_commands.specs.declared.control_command.ControlCommand.TheVariants.{QuitWithin, Bad}
+use Rattle.nm_commands.specs.declared.control_command.ControlCommand.TheVariants.{Clients, Kick}
+use Rattle.nm_commands.specs.declared.control_command.ControlCommand.TheVariants.{CopyRate}
+use Rattle.nm_commands.specs.declared.control_command.ControlCommand.TheVariants.{SetCopyRate}
+use Rattle.nm_commands.specs.declared.control_command.ControlCommand.TheVariants.{DefaultCopyRate}
 
 -- The word is this number: 1 to 20 decimal digits of it, and it fits 64 bits.
 pub record IsNumeralOf (word : List ℕ) (number : ℕ) : Type 0 where
@@ -23,14 +28,27 @@ pub record IsQuitWithin (line : List ℕ) (seconds : ℕ) : Type 0 where
   pub number : IsWithNumber (codes "quit ") line seconds
   pub bound : seconds ≤ 86400
 
+-- The line asks for copies of so many MiB a second, 1 to 65,535.
+pub record IsCopyRate (line : List ℕ) (mib : ℕ) : Type 0 where
+  pub number : IsWithNumber (codes "copy-rate ") line mib
+  pub some : 0 < mib
+  pub most : mib ≤ 65535
+
 -- The line asks for this.
 abbrev pub Asks : List ℕ → ControlCommand → Type 0
 Asks line Status = line ≡ codes "status"
 Asks line Unread = line ≡ codes "unread"
+Asks line Info = line ≡ codes "info"
+Asks line Metrics = line ≡ codes "metrics"
 Asks line (Fail leg) = IsWithNumber (codes "fail ") line leg
 Asks line (Attach leg) = IsWithNumber (codes "attach ") line leg
+Asks line CopyRate = line ≡ codes "copy-rate"
+Asks line (SetCopyRate mib) = IsCopyRate line mib
+Asks line DefaultCopyRate = line ≡ codes "copy-rate default"
 Asks line Quit = line ≡ codes "quit"
 Asks line (QuitWithin seconds) = IsQuitWithin line seconds
+Asks line Clients = line ≡ codes "clients"
+Asks line (Kick client) = IsWithNumber (codes "kick ") line client
 Asks line Bad = ⊥
 
 -- The line is read as what it asks for, or as bad where it asks for nothing.

@@ -66,7 +66,11 @@ pub record HasSettings (rows : List Row) (s : Settings) : Type 0 where
   pub policy : first_of (codes "policy") rows ≡ Some (policy_text s.policy)
   pub master : HasNumber rows (codes "master") s.master
   pub start : first_of (codes "start") rows ≡ Some (start_text s.start)
+  pub auto_attach : HasFlag rows (codes "auto-attach") s.auto_attach
+  pub copy_rate : HasNumber rows (codes "copy-rate") s.copy_rate
   pub sessions : IsNumber (one_of (codes "sessions") rows) s.sessions
+  pub idle_limit : HasNumber rows (codes "idle-limit") s.idle_limit
+  pub verbose : HasFlag rows (codes "verbose") s.verbose
   pub read_only : HasFlag rows (codes "read-only") s.read_only
   pub force_in_use : HasFlag rows (codes "force-in-use") s.force_in_use
   pub legs : all_of (codes "leg") rows ≡ Some (map (λ leg. leg.now) s.legs.items)

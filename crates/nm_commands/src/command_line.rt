@@ -6,14 +6,15 @@ ghost use Rattle.clap.specs.Words.{app_of, kind_of, first_value, found_of, one_t
 ghost use Rattle.clap.specs.Words.{matched_of, raw_values, rows_of};
 ghost use Rattle.clap.specs.declared.error.kind.ErrorKind.TheVariants.{OutOfMemory};
 ghost use Rattle.nm_commands.specs.CommandLine.{ArePolicies, AreStarts, base_command};
-ghost use Rattle.nm_commands.specs.CommandLine.{mirror_command, nbdmirror};
+ghost use Rattle.nm_commands.specs.CommandLine.{copying_command, mirror_command, nbdmirror};
 ghost use Rattle.nm_commands.specs.Settings.{AsksFor, HasSettings, IsNumber, IsRefusal};
 ghost use Rattle.nm_commands.specs.Settings.{IsNamed, NamesTwo};
 ghost use Rattle.nm_commands.specs.Settings.{policy_text, start_text};
 
+use crate::client_options::{idle_limit, with_client_options};
 use crate::options::{
-    bare_number_option, flag, lettered_flag, number_option, option, policy_option, port_option,
-    start_option, words,
+    bare_number_option, copy_rate_option, flag, lettered_flag, number_option, option,
+    policy_option, port_option, start_option, words,
 };
 use crate::server_settings::Settings;
 use crate::start::Start;
@@ -41,7 +42,7 @@ fn base_command<'a>(alloc: Global) -> Result<Command<'a>, Error>
         "listen",
         "127.0.0.1:10809",
         "ADDRESS",
-        "where clients connect",
+        "where clients connect, or unix:PATH",
     );
     let with_address = program.arg(listen)?;
     let port = port_option(alloc);
@@ -51,7 +52,7 @@ fn base_command<'a>(alloc: Global) -> Result<Command<'a>, Error>
         "control",
         "127.0.0.1:10810",
         "ADDRESS",
-        "the control port",
+        "the control port, or unix:PATH",
     );
     let with_control = with_listen.arg(control)?;
     let name = option(alloc, "name", "disk", "NAME", "the export's name");
@@ -83,13 +84,33 @@ fn mirror_command<'a>(alloc: Global) -> Result<Command<'a>, Error>
     Ok(command)
 }
 
+// The same, and the options that say how legs are copied.
+fn copying_command<'a>(alloc: Global) -> Result<Command<'a>, Error>
+    ensures ok { IfOk result (λ command. (policies : _) × ArePolicies policies
+        × ((starts : _) × AreStarts starts
+        × (app_of command ≡ copying_command policies starts))) }
+    ensures memory { IfErr result (λ error. kind_of error ≡ OutOfMemory) }
+{
+    let program = mirror_command(alloc)?;
+    let auto_attach = flag(
+        alloc,
+        "auto-attach",
+        "attach a leg again by itself after a call of it failed",
+    );
+    let with_auto_attach = program.arg(auto_attach)?;
+    let rate = copy_rate_option(alloc);
+    let command = with_auto_attach.arg(rate)?;
+    Ok(command)
+}
+
 // The options and the legs, as clap is told of them.
 fn command_line<'a>(alloc: Global) -> Result<Command<'a>, Error>
     ensures ok { IfOk result (λ command. (policies : _) × ArePolicies policies
         × ((starts : _) × AreStarts starts × (app_of command ≡ nbdmirror policies starts))) }
     ensures memory { IfErr result (λ error. kind_of error ≡ OutOfMemory) }
 {
-    let program = mirror_command(alloc)?;
+    let mirror = copying_command(alloc)?;
+    let program = with_client_options(alloc, mirror)?;
     let sessions = number_option(alloc, "sessions", "16", 1, 64, "how many clients at once");
     let with_sessions = program.arg(sessions)?;
     let read_only = lettered_flag(alloc, "read-only", 'r', "refuse writes");
@@ -143,6 +164,23 @@ fn port(matches: &ArgMatches<'_>) -> Result<Option<u16>, Error>
         None => return Ok(None),
         Some(_) => match matches.get_one::<u16>("port") {
             Some(port) => Ok(Some(port)),
+            None => Err(Error::from(AllocError)),
+        },
+    }
+}
+
+// At how many MiB a second legs are copied, if that is named.
+fn copy_rate(matches: &ArgMatches<'_>) -> Result<Option<u16>, Error>
+    ensures some { IfOk result (λ rate. IfSome rate (λ mib.
+        IsNumber (one_text (found_of matches.now) (codes "copy-rate")) mib)) }
+    ensures none { IfOk result (λ rate. rate ≡ None
+        → first_value (found_of matches.now) (codes "copy-rate") ≡ None) }
+    ensures memory { IfErr result (λ error. kind_of error ≡ OutOfMemory) }
+{
+    match matches.get_str("copy-rate") {
+        None => return Ok(None),
+        Some(_) => match matches.get_one::<u16>("copy-rate") {
+            Some(mib) => Ok(Some(mib)),
             None => Err(Error::from(AllocError)),
         },
     }
@@ -234,7 +272,11 @@ fn settings_of<'a>(alloc: Global, matches: &ArgMatches<'a>) -> Result<Settings<'
     let policy = policy(matches)?;
     let master = master(matches)?;
     let start = start_of(matches)?;
+    let auto_attach = matches.get_flag("auto-attach");
+    let copy_rate = copy_rate(matches)?;
     let sessions = number(matches, "sessions")?;
+    let idle_limit = idle_limit(matches)?;
+    let verbose = matches.get_flag("verbose");
     let read_only = matches.get_flag("read-only");
     let force_in_use = matches.get_flag("force-in-use");
     let legs = legs_of(alloc, matches)?;
@@ -247,7 +289,11 @@ fn settings_of<'a>(alloc: Global, matches: &ArgMatches<'a>) -> Result<Settings<'
         policy,
         master,
         start,
+        auto_attach,
+        copy_rate,
         sessions,
+        idle_limit,
+        verbose,
         read_only,
         force_in_use,
         legs,

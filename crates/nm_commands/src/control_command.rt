@@ -1,11 +1,15 @@
 //! The lines of the control port.
 ghost use Rattle.std.specs.Prelude.{◌≡◌, ℕ, List, ◌++◌, IfSome, IsNone};
-ghost use Rattle.nm_commands.specs.ControlLine.{IsNumeralOf, IsQuitWithin, IsReadAs, IsWithNumber};
+ghost use Rattle.nm_commands.specs.ControlLine.{IsCopyRate, IsNumeralOf, IsQuitWithin, IsReadAs};
+ghost use Rattle.nm_commands.specs.ControlLine.{IsWithNumber};
 
 use std::str::from_utf8;
 
 /// How many seconds a `quit` gives the clients at most: a day.
 const MOST_SECONDS: u64 = 86_400;
+
+/// At how many MiB a second legs are copied at most.
+const MOST_MIB: u64 = 65_535;
 
 /// What a line asks for.
 #[derive(Clone, Copy, Debug, PartialEq, Eq)]
@@ -14,14 +18,28 @@ pub enum ControlCommand {
     Status,
     /// The regions that could not be read, so that they were not copied.
     Unread,
+    /// What the server tells of itself.
+    Info,
+    /// What the server has counted.
+    Metrics,
     /// The leg goes out in every stripe.
     Fail(u64),
     /// The leg is to be copied again in every stripe.
     Attach(u64),
+    /// At what rate legs are copied.
+    CopyRate,
+    /// Legs are copied at so many MiB a second.
+    SetCopyRate(u64),
+    /// Legs are copied at the rate that clients leave.
+    DefaultCopyRate,
     /// The server ends once its clients have left.
     Quit,
     /// The server ends, and after so many seconds closes what is left of its clients.
     QuitWithin(u64),
+    /// The clients that are connected.
+    Clients,
+    /// The session of this number is closed.
+    Kick(u64),
     /// Nothing that is known.
     Bad,
 }
@@ -73,6 +91,18 @@ fn quit_within(line: &[u8]) -> Option<u64>
     Some(seconds)
 }
 
+// The rate, in MiB a second, that a line asks for.
+fn copy_rate(line: &[u8]) -> Option<u64>
+    ensures some { IfSome result (IsCopyRate line.now) }
+    ensures none { IsNone result → (mib : ℕ) → IsCopyRate line.now mib → ⊥ }
+{
+    let mib = number_after(line, b"copy-rate ")?;
+    if mib == 0 || mib > MOST_MIB {
+        return None;
+    }
+    Some(mib)
+}
+
 /// Reads a line, without its LF.
 pub fn control_line(line: &[u8]) -> ControlCommand
     ensures { IsReadAs line.now result }
@@ -83,6 +113,21 @@ pub fn control_line(line: &[u8]) -> ControlCommand
     if line == b"unread".as_slice() {
         return ControlCommand::Unread;
     }
+    if line == b"info".as_slice() {
+        return ControlCommand::Info;
+    }
+    if line == b"metrics".as_slice() {
+        return ControlCommand::Metrics;
+    }
+    if line == b"copy-rate".as_slice() {
+        return ControlCommand::CopyRate;
+    }
+    if line == b"copy-rate default".as_slice() {
+        return ControlCommand::DefaultCopyRate;
+    }
+    if line == b"clients".as_slice() {
+        return ControlCommand::Clients;
+    }
     if line == b"quit".as_slice() {
         return ControlCommand::Quit;
     }
@@ -91,6 +136,12 @@ pub fn control_line(line: &[u8]) -> ControlCommand
     }
     if let Some(leg) = number_after(line, b"attach ") {
         return ControlCommand::Attach(leg);
+    }
+    if let Some(client) = number_after(line, b"kick ") {
+        return ControlCommand::Kick(client);
+    }
+    if let Some(mib) = copy_rate(line) {
+        return ControlCommand::SetCopyRate(mib);
     }
     match quit_within(line) {
         Some(seconds) => ControlCommand::QuitWithin(seconds),

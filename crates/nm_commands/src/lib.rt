@@ -4,6 +4,7 @@
 //! cuts; what each gives is proved.
 #![tactic(auto)]
 
+mod client_options;
 mod command_line;
 mod control_command;
 mod line_room;

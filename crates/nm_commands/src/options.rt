@@ -95,6 +95,21 @@ pub fn start_option<'a>(alloc: Global) -> Arg<'a>
     .value_parser(ValueParser::Names(starts))
 }
 
+/// The option that says at what rate legs are copied.
+pub fn copy_rate_option<'a>(alloc: Global) -> Arg<'a>
+    ensures rule { rule_of result ≡ bare_number_rule (codes "copy-rate") (pos 1) (pos 65535) }
+    ensures own { result.global ≡ false }
+{
+    bare_number_option(
+        alloc,
+        "copy-rate",
+        1,
+        65_535,
+        "copy so many MiB a second, and not what clients leave",
+    )
+    .value_name("MIB")
+}
+
 /// The option that names a port of 127.0.0.1 for clients.
 pub fn port_option<'a>(alloc: Global) -> Arg<'a>
     ensures rule { rule_of result

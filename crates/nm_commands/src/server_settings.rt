@@ -20,8 +20,16 @@ pub struct Settings<'a> {
     pub master: Option<u8>,
     /// How the other legs stand at the start.
     pub start: Start,
+    /// Whether a leg that went out by a failed call is attached again by itself.
+    pub auto_attach: bool,
+    /// At how many MiB a second legs are copied, where that was named.
+    pub copy_rate: Option<u16>,
     /// How many sessions may be served at once.
     pub sessions: u8,
+    /// After how many seconds without a request a client is closed, where it is.
+    pub idle_limit: Option<u32>,
+    /// Whether sessions that begin and end are logged.
+    pub verbose: bool,
     /// Whether clients may only read.
     pub read_only: bool,
     /// Whether legs are served that the system has in use.

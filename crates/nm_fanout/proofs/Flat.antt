@@ -1,20 +1,16 @@
 -- The records of the blocks of all runs, through every change of the runs.
-use Rattle.std.proofs.Common.{◌≡◌, ◌⊎◌, inl, inr, ℕ, zero, suc, ◌+◌, ◌<◌, ◌≤◌, ◌==◌, Bool, true, false, cond, not, List, [], ◌∷◌, ◌++◌, length, map, filter, set, Option, None, Some, refl, sym, ap, ◌∙◌, subst, arith, eq-eqb, ne_eqb, append_assoc, append-nil}
+use Rattle.std.proofs.Common.{◌≡◌, inl, inr, ℕ, zero, suc, ◌+◌, ◌<◌, ◌≤◌, ◌==◌, Bool, true, false, cond, List, [], ◌∷◌, ◌++◌, length, set, Option, Some, refl, sym, ap, ◌∙◌, subst, arith, eq-eqb, ne_eqb, append_assoc, append-nil}
 use Rattle.std.specs.List.{slice_get}
-use Rattle.std.proofs.lemmas.Bool.Decides.{eqb_tells}
 use Rattle.std.proofs.lemmas.Option.{same_Some}
 use Rattle.nm_fanout.specs.declared.record_data.RecordData.{RecordData}
 use Rattle.nm_fanout.specs.declared.write_record.Record.{Record}
-use Rattle.nm_fanout.specs.Record.{IsRun, without_leg, with_entry}
+use Rattle.nm_fanout.specs.Record.{without_leg, with_entry}
 use Rattle.nm_fanout.specs.RecordData.{blocks_in}
-use Rattle.nm_fanout.specs.Records.{AllAbove, AllBelow, AllWhole, AreInOrder, Ascends, IsAt, changed, left_by, reached, landed, runs_in, with_new, without}
-use Rattle.nm_fanout.specs.Runs.{AllFound, AllFrom, AllRuns, AreRuns, RunsRise, each_block, each_changed, flat, laid_from, laid_out, next_entry}
+use Rattle.nm_fanout.specs.Records.{AllAbove, AllBelow, Ascends, changed, reached, with_new}
+use Rattle.nm_fanout.specs.Runs.{AllFound, AllFrom, RunsRise, each_block, each_changed, flat, laid_from, laid_out, next_entry}
 use Rattle.nm_fanout.proofs.InOrder.{AllBelow-rise}
-use Rattle.nm_fanout.proofs.Indexed.{some-at}
-use Rattle.nm_fanout.proofs.Laying.{TicketsFollow, above-follow, ascends-follow, below-follow, from-follow, length-run, run-follows, run-one, run-whole}
+use Rattle.nm_fanout.proofs.Laying.{TicketsFollow, above-follow, ascends-follow, below-follow, from-follow, length-run, run-follows}
 use Rattle.nm_fanout.proofs.Members.{Member, Member-find_record}
-use Rattle.nm_fanout.proofs.Places.{set-at}
-use Rattle.nm_fanout.proofs.RunOrder.{ascends-runs, run-at}
 use Rattle.nm_fanout.proofs.Tickets.{changed-above}
 
 -- one run more
@@ -62,31 +58,6 @@ flat-ascends [] h = tt
 flat-ascends (r ∷ rs) h = ascends-append (r.ticket + blocks_in r.data) (laid_out r) (flat rs)
     (ascends-follow r.ticket (laid_out r) (run-follows r)) (run-below r) (flat-ascends rs h.1)
     (flat-from (r.ticket + blocks_in r.data) rs h.0)
-
-whole-append : (xs ys : List Record) → AllWhole xs → AllWhole ys → AllWhole (xs ++ ys)
-whole-append [] ys front back = back
-whole-append (x ∷ xs) ys front back = (front.0, whole-append xs ys front.1 back)
-
-flat-whole : (rs : List Record) → AllRuns rs → AllWhole (flat rs)
-flat-whole [] h = tt
-flat-whole (r ∷ rs) h = whole-append (laid_out r) (flat rs) (run-whole r h.0) (flat-whole rs h.1)
-
-runs-append : (xs ys : List Record) → runs_in (xs ++ ys) ≡ runs_in xs + runs_in ys
-runs-append [] ys = omega arith
-runs-append (x ∷ xs) ys = omega (arith, runs-append xs ys)
-
-flat-runs : (rs : List Record) → AllRuns rs → runs_in (flat rs) ≡ length rs
-flat-runs [] h = refl
-flat-runs (r ∷ rs) h = omega
-    (arith, runs-append (laid_out r) (flat rs), run-one r h.0, flat-runs rs h.1)
-
--- the records of the blocks are whole, in order, and of as many runs
-pub flat-in_order : (rs : List Record) → AreRuns rs → AreInOrder (flat rs)
-flat-in_order rs h = record {
-  few = omega (arith, h.few, flat-runs rs h.runs);
-  ascending = flat-ascends rs h.rise;
-  whole = flat-whole rs h.runs;
-}
 
 -- each block's record is among them
 member-front : (x : Record) (xs ys : List Record) → Member x xs → Member x (xs ++ ys)
@@ -250,12 +221,3 @@ laid-entry run number ticket block owed entry (d ∷ ds) =
 pub run-entry : (number : ℕ) (r : Record)
     → laid_out (with_entry number r) ≡ each_mapped with_entry number (laid_out r)
 run-entry number r = laid-entry r.run number r.ticket r.block r.owed r.entry (each_block r.data)
-
--- what is done to the run of a ticket, at its place, is done to each of its blocks
-pub record Doing (f : ℕ → Record → Record) (F : Record → Record) (n ticket : ℕ)
-    (rs : List Record) : Type 0 where
-  pub run : Record
-  pub named : run.ticket ≡ ticket
-  pub is_run : IsRun run
-  pub found : AllFound (laid_out run) (flat rs)
-  pub after : flat (changed F ticket rs) ≡ each_changed f n (laid_out run) (flat rs)

@@ -1,50 +1,17 @@
 -- Each change of the runs, and each search among them, as one of the records of their blocks.
-use Rattle.std.proofs.Common.{◌≡◌, ℕ, zero, suc, ◌+◌, ◌<◌, ◌==◌, ◌&&◌, Bool, true, false, cond, not, nat_lt, List, [], ◌∷◌, ◌++◌, length, map, filter, set, Option, None, Some, is_none, refl, sym, ap, ◌∙◌, arith, eq-eqb, inl, inr}
-use Rattle.std.specs.List.{list_any, slice_get}
+use Rattle.std.proofs.Common.{◌≡◌, ℕ, zero, suc, ◌+◌, ◌<◌, ◌&&◌, Bool, true, false, cond, not, nat_lt, List, [], ◌∷◌, ◌++◌, length, map, filter, set, Option, None, Some, is_none, refl, sym, ap, ◌∙◌, arith}
+use Rattle.std.specs.List.{list_any}
 use Rattle.std.specs.Option.{option_map}
-use Rattle.std.proofs.lemmas.Bool.Decides.{eqb_tells, nat_tests}
+use Rattle.std.proofs.lemmas.Bool.Decides.{nat_tests}
 use Rattle.std.proofs.lemmas.List.Sums.{sum_by-cons}
 use Rattle.nm_fanout.specs.declared.record_data.RecordData.{RecordData}
 use Rattle.nm_fanout.specs.declared.write_record.Record.{Record}
-use Rattle.nm_fanout.specs.Record.{IsRun, is_under_way, without_leg, with_entry}
+use Rattle.nm_fanout.specs.Record.{is_under_way, without_leg, with_entry}
 use Rattle.nm_fanout.specs.RecordData.{blocks_in}
-use Rattle.nm_fanout.specs.Records.{IsAt, busy_among, changed, is_among, landed, landed_all, left_by, reached, unlanded, without}
-use Rattle.nm_fanout.specs.Runs.{AllRuns, AreRuns, each_block, each_changed, flat, laid_from, laid_out, meets, next_entry, run_busy_among, runs_landed, unlanded_blocks}
-use Rattle.nm_fanout.proofs.Finding.{find_record-ticket}
-use Rattle.nm_fanout.proofs.Flat.{Doing, each_mapped, each-set, found-run, run-entry, run-without}
-use Rattle.nm_fanout.proofs.Indexed.{some-at}
+use Rattle.nm_fanout.specs.Records.{busy_among, is_among, landed_all, left_by, unlanded, without}
+use Rattle.nm_fanout.specs.Runs.{AllRuns, each_block, flat, laid_from, laid_out, next_entry, run_busy_among, runs_landed, unlanded_blocks}
 use Rattle.nm_fanout.proofs.Laying.{length-each}
-use Rattle.nm_fanout.proofs.Landing.{missing, waits}
-use Rattle.nm_fanout.proofs.Places.{set-at}
-use Rattle.nm_fanout.proofs.RunOrder.{ascends-runs, run-at}
-
-doing : (f : ℕ → Record → Record) (keeps : (n : ℕ) (o : Record) → (f n o).ticket ≡ o.ticket)
-    (F : Record → Record) (n ticket place : ℕ) (rs : List Record)
-    → ((r : Record) → laid_out (F r) ≡ each_mapped f n (laid_out r)) → AreRuns rs
-    → IsAt ticket place rs → Doing f F n ticket rs
-doing f keeps F n ticket place rs does h at =
-    let x = some-at rs place at.within in
-    record {
-      run = x.0;
-      named = find_record-ticket ticket rs x.0 (at.found ∙ x.1);
-      is_run = run-at rs place x.0 h.runs x.1;
-      found = found-run place rs x.0 x.1 h.rise;
-      after = ap (λ (l : List Record). flat l)
-          (sym (set-at F ticket place rs x.0 (ascends-runs rs h) at x.2))
-          ∙ sym (each-set f keeps F n place rs x.0 x.1 (does x.0) h.rise);
-    }
-
--- a run reaches a leg: each of its blocks does
-pub flat-reached : (leg ticket place : ℕ) (rs : List Record) → AreRuns rs → IsAt ticket place rs
-    → Doing (λ n. without_leg leg) (without_leg leg) 0 ticket rs
-flat-reached leg ticket place rs h at = doing (λ n. without_leg leg) (λ n o. refl) (without_leg leg)
-    0 ticket place rs (λ r. run-without leg 0 r) h at
-
--- a run lands: each of its blocks gets its entry, by rising number
-pub flat-landed : (number ticket place : ℕ) (rs : List Record) → AreRuns rs → IsAt ticket place rs
-    → Doing with_entry (with_entry number) number ticket rs
-flat-landed number ticket place rs h at = doing with_entry (λ n o. refl) (with_entry number) number
-    ticket place rs (λ r. run-entry number r) h at
+use Rattle.nm_fanout.proofs.Landing.{waits}
 
 map-append : (f : Record → Record) (xs ys : List Record) → map f (xs ++ ys) ≡ map f xs ++ map f ys
 map-append f [] ys = refl
@@ -126,11 +93,6 @@ flat-chosen p (r ∷ rs) h =
         ≡ cond b (laid_out r) [] ++ flat (filter (λ x. p x.ticket) rs)
     chosen true = refl
     chosen false = refl
-
--- a run is claimed: all records that name it go
-pub flat-without : (ticket : ℕ) (rs : List Record) → AllRuns rs
-    → flat (without ticket rs) ≡ filter (λ o. not (o.run == ticket)) (flat rs)
-flat-without ticket rs h = flat-chosen (λ k. not (k == ticket)) rs h
 
 and_false : (a : Bool) → (a && false) ≡ false
 and_false true = refl

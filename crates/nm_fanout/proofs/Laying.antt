@@ -1,14 +1,13 @@
 -- The records of a run's blocks: their tickets follow one another, and each is one whole record.
-use Rattle.std.proofs.Common.{◌≡◌, ℕ, zero, suc, ◌+◌, ◌*◌, ◌/◌, ◌<◌, ◌≤◌, ◌==◌, Bool, false, cond, List, [], ◌∷◌, ◌++◌, length, set, take, drop, replicate, Option, None, Some, refl, sym, ap, ◌∙◌, subst, arith, eq-eqb, ne_eqb}
-use Rattle.std.proofs.lemmas.List.{length-drop, length-replicate, length-set, length-take}
+use Rattle.std.proofs.Common.{◌≡◌, ℕ, zero, suc, ◌+◌, ◌/◌, ◌<◌, ◌≤◌, ◌==◌, Bool, false, cond, List, [], ◌∷◌, length, drop, Option, refl, ap, ◌∙◌, arith, eq-eqb, ne_eqb}
+use Rattle.std.proofs.lemmas.List.{length-replicate}
 use Rattle.nm_fanout.specs.declared.record_data.RecordData.{RecordData}
 use Rattle.nm_fanout.specs.declared.record_data.RecordData.TheVariants.{Cut, Zero, Merged}
 use Rattle.nm_fanout.specs.declared.write_record.Record.{Record}
-use Rattle.nm_fanout.specs.Record.{IsRun, without_leg, with_entry}
-use Rattle.nm_fanout.specs.RecordData.{FillsBlock, FillsBlocks, LiesInside, blocks_in, span_of}
-use Rattle.nm_fanout.specs.Records.{AllAbove, AllBelow, AllWhole, Ascends, runs_in}
+use Rattle.nm_fanout.specs.Record.{IsRun}
+use Rattle.nm_fanout.specs.RecordData.{blocks_in}
+use Rattle.nm_fanout.specs.Records.{AllAbove, AllBelow, Ascends, runs_in}
 use Rattle.nm_fanout.specs.Runs.{AllFrom, cuts_of, each_block, laid_from, laid_out, next_entry}
-use Rattle.nm_fanout.proofs.DataLemmas.{length-zero_bytes}
 
 -- the tickets follow one another from this one on
 abbrev pub TicketsFollow : ℕ → List Record → Type 0
@@ -70,41 +69,6 @@ ascends-follow from (o ∷ os) h = (
   above-follow o.ticket (from + 1) os (omega (arith, h.0)) h.1,
   ascends-follow (from + 1) os h.1,
 )
-
--- each of the data fills a block, and changes bytes inside it
-abbrev AllFill : List RecordData → Type 0
-AllFill [] = Unit {0}
-AllFill (d ∷ ds) = FillsBlock d × LiesInside (span_of d) × AllFill ds
-
-cuts-fill : (n : ℕ) (bytes : List ℕ) → length bytes ≡ 512 * n → AllFill (cuts_of n bytes)
-cuts-fill zero bytes whole = tt
-cuts-fill (suc n) bytes whole = (
-  omega (arith, whole, length-take 512 bytes),
-  tt,
-  cuts-fill n (drop 512 bytes) (omega (arith, whole, length-drop 512 bytes)),
-)
-
-zeroes-fill : (n : ℕ) → AllFill (replicate n (Zero 1))
-zeroes-fill zero = tt
-zeroes-fill (suc n) = (length-zero_bytes (512 * 1), tt, zeroes-fill n)
-
-each-fills : (d : RecordData) → FillsBlocks d → LiesInside (span_of d) → AllFill (each_block d)
-each-fills (Cut cut) h inside = cuts-fill (length cut / 512) cut h.whole
-each-fills (Zero count) h inside = zeroes-fill count
-each-fills (Merged from len block) h inside = (h.whole, inside, tt)
-
-laid-whole : (run ticket block : ℕ) (owed : List Bool) (entry : Option ℕ) (ds : List RecordData)
-    → length owed ≡ 8 → AllFill ds → AllWhole (laid_from run ticket block owed entry ds)
-laid-whole run ticket block owed entry [] places h = tt
-laid-whole run ticket block owed entry (d ∷ ds) places h = (
-  record { filled = h.0; inside = h.1; places = places },
-  laid-whole run (ticket + 1) (block + 1) owed (next_entry entry) ds places h.2,
-)
-
--- each block of a run has a whole record
-pub run-whole : (r : Record) → IsRun r → AllWhole (laid_out r)
-run-whole r h = laid-whole r.run r.ticket r.block r.owed r.entry (each_block r.data) h.places
-    (each-fills r.data h.filled h.inside)
 
 -- no later block begins a run
 none-begins : (run ticket block : ℕ) (owed : List Bool) (entry : Option ℕ) (ds : List RecordData)

@@ -80,12 +80,6 @@ landed_all next (r ∷ rs) =
     if is_none r.entry then with_entry next r ∷ landed_all (next + 1) rs
     else r ∷ landed_all next rs
 
--- the writes that then land, each with its number, in the order in which they do
-abbrev pub landings : ℕ → List Record → List (ℕ × Record)
-landings next [] = []
-landings next (r ∷ rs) =
-    if is_none r.entry then (next, r) ∷ landings (next + 1) rs else landings next rs
-
 -- the records but that of this ticket
 abbrev pub without : ℕ → List Record → List Record
 without ticket list = filter (λ r. not (r.ticket == ticket)) list

@@ -1,5 +1,5 @@
--- The records of runs, and those of their blocks. Each block of a run has a record of its own, with a
--- ticket and a block of its own, that names its run by the run's first ticket.
+-- The records of runs, and those of their blocks. Each block of a run has a record of its own, with
+-- a ticket and a block of its own, that names its run by the run's first ticket.
 use Rattle.std.specs.Prelude.{◌≡◌, ℕ, zero, suc, ◌+◌, ◌/◌, ◌≤◌, ◌&&◌, Bool, nat_lt, is_none}
 use Rattle.std.specs.Prelude.{List, [], ◌∷◌, ◌++◌, length, find, take, drop, replicate}
 use Rattle.std.specs.Prelude.{Option, None, Some, if◌then◌else◌}

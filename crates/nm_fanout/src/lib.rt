@@ -1,8 +1,8 @@
 //! The records of writes under way: which legs each write has still to reach.
 //!
 //! A write is one of a run: blocks that follow one another, or a part of one block. Its record
-//! exists from its beginning until it is claimed, and keeps the first block, the data, the legs that
-//! the write has still to reach, and the number of its first entry once it took effect.
+//! exists from its beginning until it is claimed, and keeps the first block, the data, the legs
+//! that the write has still to reach, and the number of its first entry once it took effect.
 //! Every call on `Records` answers exactly what its list of records says, and only `new` takes
 //! memory.
 #![tactic(auto)]

@@ -22,8 +22,8 @@ OwnsRun held places count = (number : ℕ) → number < count → Owns held (pla
 abbrev pub KeepsRun : Held → (places : ℕ → ℕ) → (count : ℕ) → Type 0
 KeepsRun held places count = (number : ℕ) → number < count → Kept held (places number) 512
 
--- the first blocks of a run, so many, and the bytes from `from` on, `many` of them, have no place in
--- common
+-- the first blocks of a run, so many, and the bytes from `from` on, `many` of them, have no place
+-- in common
 abbrev pub IsApart : (places : ℕ → ℕ) → (count from many : ℕ) → Type 0
 IsApart places count from many =
     (number : ℕ) → number < count → Apart (places number) 512 from many

@@ -3,7 +3,8 @@ ghost use Rattle.std.specs.Prelude.{IsErr, OnOk, OnErr, IfOk};
 ghost use Rattle.nm_leg.specs.Leg.{IsRun, WritesLeg, SyncsLeg, blocks_in};
 ghost use Rattle.nm_geometry.specs.Geometry.{IsGeometry, stripe_blocks};
 ghost use Rattle.nm_file_leg.specs.Blocks.{leg_on, same_length};
-ghost use Rattle.nm_file_leg.specs.FileLeg.{OwnsBlocks, KeepsBlocks, FileRules, Reaches, cursor_after};
+ghost use Rattle.nm_file_leg.specs.FileLeg.{OwnsBlocks, KeepsBlocks, FileRules, Reaches};
+ghost use Rattle.nm_file_leg.specs.FileLeg.{cursor_after};
 
 use crate::Medium;
 use crate::runs::{read_run, write_run};
@@ -47,6 +48,7 @@ impl<M: Medium> FileLeg<M> {
             leg_on (M.held leg.medium) leg.stripe leg.shape leg.faults
             ≡ leg_on (M.held medium) stripe shape.now 0) }
         ensures laid { IfOk result (λ leg. (leg.shape ≡ shape.now) × (leg.stripe ≡ stripe)) }
+        ensures medium { IfOk result (λ leg. leg.medium ≡ medium) }
         ensures synced { IfOk result (λ leg. IsTrue leg.dirty
             × (leg.rewritten_below ≡ stripe_blocks stripe shape.now)) }
         ensures size { IsTrue M.honest

@@ -1,4 +1,5 @@
-ghost use Rattle.std.specs.Prelude.{false};
+ghost use Rattle.std.specs.Arc.{arc_value};
+ghost use Rattle.std.specs.Prelude.{◌≡◌, false, IfOk};
 ghost use Rattle.nm_file_leg.specs.Media.{unknown};
 
 use crate::Medium;
@@ -20,7 +21,10 @@ pub struct FileUser<F: BackingFile> {
 impl<F: BackingFile> FileUser<F> {
     /// The user of this number, which is to have bytes of its own and no other leg's. A number that
     /// the file does not have fails each write and sync.
-    pub fn new(file: &Arc<SharedFile<F>>, number: usize) -> Result<Self, AllocError> {
+    pub fn new(file: &Arc<SharedFile<F>>, number: usize) -> Result<Self, AllocError>
+        ensures file { IfOk result (λ user. arc_value user.file ≡ arc_value file.now) }
+        ensures number { IfOk result (λ user. user.number ≡ number) }
+    {
         let file = Arc::try_clone(file)?;
         Ok(FileUser { file, number })
     }

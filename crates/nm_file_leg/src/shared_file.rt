@@ -38,9 +38,9 @@ struct User {
 /// its blocks were written again, by writes that are later than F.
 ///
 /// Each order is that of one sequence of all these steps (`SeqCst`). A user's own calls come one
-/// after the other. A write that failed counts as one, since it may have left bytes. Zeroes that are
-/// not written, since the file has a hole there, count as none: they have stood there since the
-/// user's last write or the opening.
+/// after the other. A write that failed counts as one, since it may have left bytes. Zeroes that
+/// are not written, since the file has a hole there, count as none: they have stood there since
+/// the user's last write or the opening.
 #[derive(Drop)]
 pub struct SharedFile<F: BackingFile> {
     file: F,

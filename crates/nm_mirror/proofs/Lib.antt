@@ -1,3 +1,4 @@
+mod NumberLemmas
 mod OneInSync
 mod OpenedLemmas
 mod OpeningLemmas

@@ -1,18 +1,34 @@
--- What a part has counted after a list of steps.
+-- What a part has counted after a list of steps, each of which its stripe was asked for.
 use Rattle.std.specs.Prelude.{◌≡◌, List, [], ◌∷◌, ◌++◌, refl}
-use Rattle.std.proofs.Common.{sym, ap, ◌∙◌}
+use Rattle.std.proofs.Common.{sym, ap, subst, ◌∙◌}
+use Rattle.nm_leg.specs.Leg.{LegType}
 use Rattle.nm_lanes.specs.Done.{Done}
+use Rattle.nm_part.specs.Asking.{AsksStripe}
 use Rattle.nm_part.specs.PartState.{PartState}
 use Rattle.nm_part.specs.Parts.{part_after}
+use Rattle.nm_rules.specs.State.{StripeState}
 
 -- the part after these steps with their answers
 abbrev pub part_after_all : {L : Type 0} → List (Done L) → PartState → PartState
 part_after_all [] part = part
 part_after_all (done ∷ list) part = part_after_all list (part_after done.answer part)
 
--- these steps with their answers lead from one part to another
+-- a stripe, whatever its legs are, was asked for the step through the part, and answered so. It has
+-- the part's number, or it was found astray.
+pub record WasAsked {L : Type 0} (part : PartState) (done : Done L) : Type 0 where
+  pub type : LegType L
+  pub before : StripeState L
+  pub after : StripeState L
+  pub asks : AsksStripe type done.step done.answer part (before, after)
+
+-- so was each of these steps, one after the other
+abbrev pub AreAsked : {L : Type 0} → PartState → List (Done L) → Type 0
+AreAsked part [] = Unit {0}
+AreAsked part (done ∷ list) = WasAsked part done × AreAsked (part_after done.answer part) list
+
+-- these steps with their answers, which are a stripe's, lead from one part to another
 abbrev pub Follows : {L : Type 0} → PartState → List (Done L) → PartState → Type 0
-Follows part list later = later ≡ part_after_all list part
+Follows part list later = (later ≡ part_after_all list part) × AreAsked part list
 
 -- two lists, one after the other, are one
 pub after-append : {L : Type 0} (before after : List (Done L)) (part : PartState)
@@ -20,9 +36,27 @@ pub after-append : {L : Type 0} (before after : List (Done L)) (part : PartState
 after-append [] after part = refl
 after-append (done ∷ before) after part = after-append before after (part_after done.answer part)
 
+asked-append : {L : Type 0} (before after : List (Done L)) (part : PartState)
+    → AreAsked part before → AreAsked (part_after_all before part) after
+    → AreAsked part (before ++ after)
+asked-append [] after part here there = there
+asked-append (done ∷ before) after part here there =
+    (here.0, asked-append before after (part_after done.answer part) here.1 there)
+
 -- so lists of steps join
 pub part-joined : {L : Type 0} (first mid last : PartState) (before after : List (Done L))
-    → mid ≡ part_after_all before first → last ≡ part_after_all after mid
-    → last ≡ part_after_all (before ++ after) first
-part-joined first mid last before after here there =
-    there ∙ ap (part_after_all after) here ∙ sym (after-append before after first)
+    → Follows first before mid → Follows mid after last → Follows first (before ++ after) last
+part-joined first mid last before after here there = (
+  there.0 ∙ ap (part_after_all after) here.0 ∙ sym (after-append before after first),
+  asked-append before after first here.1
+      (subst (λ (part : PartState). AreAsked part after) here.0 there.1),
+)
+
+-- one step that the part asked a stripe for leads on
+pub one-asked : {L : Type 0} (type : LegType L) (part later : PartState) (done : Done L)
+    (before after : StripeState L) → AsksStripe type done.step done.answer part (before, after)
+    → later ≡ part_after done.answer part → Follows part (done ∷ []) later
+one-asked type part later done before after asks counted = (
+  counted,
+  (record { type = type; before = before; after = after; asks = asks }, tt),
+)

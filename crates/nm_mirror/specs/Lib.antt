@@ -2,6 +2,7 @@ pub mod Closing
 pub mod CopyRound
 pub mod Counting
 pub mod Counts
+pub mod Numbers
 pub mod OpenFault
 pub mod Opening
 pub mod Passes

@@ -1,7 +1,8 @@
 //! The end of a mirror: what its stripes have had is compared with what its passes counted.
-ghost use Rattle.std.specs.Prelude.{◌≡◌, ◌≤◌, ◌↔◌, length, IsTrue, IfOk, IfErr, IfSome};
+ghost use Rattle.std.specs.Prelude.{◌≡◌, ◌≤◌, ◌↔◌, length, map, IsTrue, IfOk, IfErr, IfSome};
 ghost use Rattle.nm_mirror.specs.Closing.{AreEven, IsEven, IsFirstUneven};
 ghost use Rattle.nm_mirror.specs.Closing.{RefusesClose, RefusesTotals, count_in, count_in_all};
+ghost use Rattle.nm_mirror.specs.Numbers.{AreInOrder};
 
 use crate::lock::Lock;
 use crate::mirror::Mirror;
@@ -59,22 +60,24 @@ fn even_totals<L>(ends: Vec<End<L>>, passes: &[Pass<L>]) -> Result<Totals<L>, En
     }
 }
 
-impl<L: LegPart> Lock<L> {
-    /// What the end of the stripe behind the lock tells.
-    fn end(&mut self) -> End<L> {
-        self.stripe.get_mut().end()
-    }
-}
-
-/// What the end of each stripe tells.
+/// What the end of each stripe tells, by rising number of the stripes.
+///
+/// Behind each lock is the stripe of its place. No contract can say so, so it is looked at: of
+/// another stripe no end is told, as where memory is refused.
 fn ends_of<L: LegPart>(alloc: Global, locks: &mut [Lock<L>]) -> Result<Vec<End<L>>, Memory>
     ensures each { IfOk result (λ ends. length ends.items ≡ length locks.old) }
+    ensures own { IfOk result (λ ends. AreInOrder (map (λ end. end.stripe) ends.items)) }
     ensures locks { length locks.new ≡ length locks.old }
+    ensures numbers { map (λ lock. lock.number) locks.new ≡ map (λ lock. lock.number) locks.old }
 {
     let mut ends = Vec::new(alloc);
     ends.reserve(locks.len())?;
     for place in 0..locks.len() {
-        ends.push_reserved(locks[place].end());
+        let end = locks[place].end();
+        if end.stripe() as usize != place {
+            return Err(Memory);
+        }
+        ends.push_reserved(end);
     }
     Ok(ends)
 }
@@ -83,6 +86,7 @@ fn ends_of<L: LegPart>(alloc: Global, locks: &mut [Lock<L>]) -> Result<Vec<End<L
 fn first_uneven<L: LegPart>(locks: &mut [Lock<L>], passes: &[Pass<L>]) -> Option<End<L>>
     ensures uneven { IfSome result (λ end. ¬ IsEven passes.now end) }
     ensures locks { length locks.new ≡ length locks.old }
+    ensures numbers { map (λ lock. lock.number) locks.new ≡ map (λ lock. lock.number) locks.old }
 {
     for stripe in 0..locks.len() {
         let end = locks[stripe].end();
@@ -104,10 +108,12 @@ fn totals_of<L: LegPart>(
     passes: &[Pass<L>],
 ) -> Result<Totals<L>, Refused<L>>
     ensures stripes { IfOk result (λ totals. length totals.ends.items ≡ length locks.old) }
+    ensures own { IfOk result (λ totals. AreInOrder (map (λ end. end.stripe) totals.ends.items)) }
     ensures enough { IfOk result (λ totals. made ≤ length passes.now) }
     ensures even { IfOk result (λ totals. AreEven passes.now totals.ends.items) }
     ensures refused { IfErr result (RefusesTotals made passes.now) }
     ensures locks { length locks.new ≡ length locks.old }
+    ensures numbers { map (λ lock. lock.number) locks.new ≡ map (λ lock. lock.number) locks.old }
 {
     if passes.len() < made as usize {
         return Err(Refused::PassesMissing);
@@ -125,8 +131,8 @@ fn totals_of<L: LegPart>(
 }
 
 impl<L: LegPart, G: Gate + Drop> Mirror<L, G> {
-    /// Ends the mirror, with all of its passes: for each stripe what it has had, which is what the
-    /// passes counted and its records have.
+    /// Ends the mirror, with all of its passes: for each stripe, by rising number, what it has had,
+    /// which is what the passes counted and its records have.
     ///
     /// Refused as `PassesMissing` where a pass was made that does not come with the others, as
     /// `Uneven` with the end of the first stripe that has had other entries, or as `Memory`, the
@@ -138,6 +144,8 @@ impl<L: LegPart, G: Gate + Drop> Mirror<L, G> {
     ) -> Result<Totals<L>, (Refused<L>, Self, Vec<Pass<L>>)>
         ensures stripes { IfOk result (λ totals.
             length totals.ends.items ≡ length self.locks.items) }
+        ensures own { IfOk result (λ totals.
+            AreInOrder (map (λ end. end.stripe) totals.ends.items)) }
         ensures even { IfOk result (λ totals. AreEven passes.items totals.ends.items) }
         ensures refused { IfErr result (λ back. RefusesClose passes.items back.0) }
         ensures handed_back { IfErr result (λ back. back.2.items ≡ passes.items) }

@@ -50,7 +50,7 @@ impl<L: LegPart, G: Gate + Drop> Mirror<L, G> {
     {
         let mut counts = FailCounts::default();
         for stripe in 0..self.shape.stripes {
-            let mut held = self.locks[stripe as usize].hold(rt);
+            let mut held = self.hold(rt, stripe);
             if (leg as usize) < held.legs() {
                 fail_in(&mut held, leg, &mut counts);
             }
@@ -66,7 +66,7 @@ impl<L: LegPart, G: Gate + Drop> Mirror<L, G> {
     {
         let mut counts = AttachCounts::default();
         for stripe in 0..self.shape.stripes {
-            let mut held = self.locks[stripe as usize].hold(rt);
+            let mut held = self.hold(rt, stripe);
             if (leg as usize) < held.legs() {
                 attach_in(&mut held, leg, &mut counts);
             }

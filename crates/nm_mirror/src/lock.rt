@@ -1,5 +1,8 @@
+ghost use Rattle.std.specs.Prelude.{◌≡◌, IfSome};
+ghost use Rattle.std.specs.Sync.Mutex.{mutex_guard_value};
+
 use nm_leg::LegPart;
-use nm_stripe::Stripe;
+use nm_stripe::{End, Stripe};
 use std::hint::spin_loop;
 use std::sync::atomic::{AtomicBool, AtomicU64, Ordering};
 use std::sync::{Mutex, MutexGuard, Wait};
@@ -16,15 +19,17 @@ type Line = [u64; 8];
 
 /// The lock of one stripe, with the stripe behind it.
 ///
-/// It lends the stripe to nobody outside: each step takes it once. Beside it stand whether
-/// something was written since the last sync began, and how many long calls are at work in the
-/// mirror where the stripe is its first, and how many threads have slept for it. No cache line has parts of two locks, since threads at
-/// work on two stripes would else take it from one another.
+/// It lends the stripe to nobody outside: each step takes it once. Beside it stand the stripe's
+/// number, whether something was written since the last sync began, how many long calls are at work
+/// in the mirror where the stripe is its first, and how many threads have slept for it. No cache
+/// line has parts of two locks, since threads at work on two stripes would else take it from one
+/// another.
 #[derive(Drop)]
 #[repr(C)]
 pub struct Lock<L: LegPart> {
     before: Line,
-    pub(crate) stripe: Mutex<Stripe<L>>,
+    stripe: Mutex<Stripe<L>>,
+    pub(crate) number: u32,
     unsynced: AtomicBool,
     calls: AtomicU64,
     got: AtomicU64,
@@ -32,10 +37,13 @@ pub struct Lock<L: LegPart> {
 }
 
 impl<L: LegPart> Lock<L> {
-    /// This stripe behind a lock. Nothing was written yet.
-    pub(crate) fn new(stripe: Stripe<L>) -> Self {
+    /// This stripe behind a lock, which has its number. Nothing was written yet.
+    pub(crate) fn new(stripe: Stripe<L>) -> Self
+        ensures { result.number ≡ stripe.place.stripe }
+    {
         Lock {
             before: [0; 8],
+            number: stripe.number(),
             stripe: Mutex::new(stripe),
             unsynced: AtomicBool::new(false),
             calls: AtomicU64::new(0),
@@ -50,32 +58,69 @@ impl<L: LegPart> Lock<L> {
     /// To be put to sleep and woken takes longer than many steps, so a thread tries for a while
     /// before it sleeps.
     #[inline(always)]
-    pub(crate) fn hold<R: Wait>(&self, rt: &R) -> MutexGuard<'_, Stripe<L>> {
-        match self.stripe.try_lock() {
+    pub(crate) fn hold<R: Wait>(&self, rt: &R) -> MutexGuard<'_, Stripe<L>>
+        ensures { (mutex_guard_value result).place.stripe ≡ self.now.number }
+    {
+        match self.try_hold() {
             Some(guard) => guard,
             None => self.hold_taken(rt),
         }
     }
 
-    // Waits for the stripe, which another thread has. A try takes the lock's cache line from the one
-    // that works on the stripe, so there are few.
-    fn hold_taken<R: Wait>(&self, rt: &R) -> MutexGuard<'_, Stripe<L>> {
+    // Waits for the stripe, which another thread has. A try takes the lock's cache line from the
+    // one that works on the stripe, so there are few.
+    fn hold_taken<R: Wait>(&self, rt: &R) -> MutexGuard<'_, Stripe<L>>
+        ensures { (mutex_guard_value result).place.stripe ≡ self.now.number }
+    {
         for _ in 0..TRIES {
             for _ in 0..PAUSES {
                 spin_loop();
             }
-            if let Some(guard) = self.stripe.try_lock() {
+            if let Some(guard) = self.try_hold() {
                 return guard;
             }
         }
-        let guard = self.stripe.lock(rt);
-        self.got.fetch_add(1, Ordering::SeqCst);
-        guard
+        self.sleep_for(rt)
+    }
+
+    // Sleeps until the stripe is to be had. What is behind the lock has its number from the first
+    // try on: no contract can say so, so it is looked at.
+    fn sleep_for<R: Wait>(&self, rt: &R) -> MutexGuard<'_, Stripe<L>>
+        ensures { (mutex_guard_value result).place.stripe ≡ self.now.number }
+    {
+        for _ in rt.forever() {
+            let guard = self.stripe.lock(rt);
+            if guard.number() == self.number {
+                self.got.fetch_add(1, Ordering::SeqCst);
+                return guard;
+            }
+        }
+        unreachable!()
     }
 
     /// Takes the stripe, unless somebody has it or waits for it right now.
-    pub(crate) fn try_hold(&self) -> Option<MutexGuard<'_, Stripe<L>>> {
-        self.stripe.try_lock()
+    #[inline(always)]
+    pub(crate) fn try_hold(&self) -> Option<MutexGuard<'_, Stripe<L>>>
+        ensures { IfSome result (λ guard.
+            (mutex_guard_value guard).place.stripe ≡ self.now.number) }
+    {
+        match self.stripe.try_lock() {
+            Some(held) => {
+                if held.number() == self.number {
+                    Some(held)
+                } else {
+                    None
+                }
+            }
+            None => None,
+        }
+    }
+
+    /// What the end of the stripe tells.
+    pub(crate) fn end(&mut self) -> End<L>
+        ensures { self.new.number ≡ self.old.number }
+    {
+        self.stripe.get_mut().end()
     }
 
     /// How many threads have slept for the stripe and got it. Where this goes up, the stripe goes

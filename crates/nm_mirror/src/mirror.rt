@@ -1,5 +1,7 @@
-ghost use Rattle.std.specs.Prelude.{◌≡◌, length, IfOk, IfErr};
+ghost use Rattle.std.specs.Prelude.{◌≡◌, ◌<◌, length, map, IfOk, IfErr};
+ghost use Rattle.std.specs.Sync.Mutex.{mutex_guard_value};
 ghost use Rattle.std.specs.Vec.{vec_len};
+ghost use Rattle.nm_mirror.specs.Numbers.{AreInOrder};
 ghost use Rattle.nm_mirror.specs.Stripes.{AreStripesOf};
 
 use crate::lock::Lock;
@@ -9,10 +11,11 @@ use nm_leg::LegPart;
 use nm_replay::Memory;
 use nm_stripe::Stripe;
 use std::alloc::Global;
-use std::sync::Mutex;
+use std::sync::{Mutex, MutexGuard, Wait};
 
-/// A mirror: its stripes, each behind a lock of its own, the gate that its calls pass between their
-/// steps, and how many passes it made. The lock of that number is taken by `pass` alone.
+/// A mirror: its stripes, by rising number, each behind a lock of its own that has its number; the
+/// gate that its calls pass between their steps; and how many passes it made. The lock of that
+/// count is taken by `pass` alone.
 #[derive(Drop)]
 pub struct Mirror<L: LegPart, G: Gate + Drop> {
     pub(crate) shape: Shape,
@@ -20,14 +23,17 @@ pub struct Mirror<L: LegPart, G: Gate + Drop> {
     pub(crate) gate: G,
     pub(crate) made: Mutex<u32>,
     ghost one_each: { vec_len locks ≡ shape.stripes },
+    ghost in_order: { AreInOrder (map (λ lock. lock.number) locks.items) },
 }
 
-/// Each stripe behind a lock of its own. Where memory is refused the stripes come back.
+/// Each stripe behind a lock of its own, in order. Where memory is refused the stripes come back.
 fn lock_each<L: LegPart>(
     alloc: Global,
     stripes: Vec<Stripe<L>>,
 ) -> Result<Vec<Lock<L>>, Vec<Stripe<L>>>
     ensures each { IfOk result (λ locks. length locks.items ≡ length stripes.items) }
+    ensures numbers { IfOk result (λ locks. map (λ lock. lock.number) locks.items
+        ≡ map (λ stripe. stripe.place.stripe) stripes.items) }
     ensures handed_back { IfErr result (λ back. back.items ≡ stripes.items) }
 {
     let mut locks = Vec::new(alloc);
@@ -69,9 +75,18 @@ impl<L: LegPart, G: Gate + Drop> Mirror<L, G> {
 
     /// The locks, by rising number of their stripes. No lock stands round them.
     pub fn locks(&self) -> &[Lock<L>]
-        ensures { length result.now ≡ self.now.shape.stripes }
+        ensures all { length result.now ≡ self.now.shape.stripes }
+        ensures numbers { AreInOrder (map (λ lock. lock.number) result.now) }
     {
         self.locks.as_slice()
+    }
+
+    /// Waits for the stripe of this number, and takes it until the guard is dropped.
+    pub(crate) fn hold<R: Wait>(&self, rt: &R, stripe: u32) -> MutexGuard<'_, Stripe<L>>
+        requires { stripe < self.now.shape.stripes }
+        ensures { (mutex_guard_value result).place.stripe ≡ stripe }
+    {
+        self.locks[stripe as usize].hold(rt)
     }
 
     /// From now on no call of this mirror starts threads: for legs whose calls cost less than a

@@ -6,7 +6,7 @@ ghost use Rattle.nm_lanes.specs.Answers.{answer_of_begin, answer_of_claim, answe
 ghost use Rattle.nm_lanes.specs.Answers.{answer_of_push, answer_of_read, answer_of_sync, HandsBack};
 ghost use Rattle.nm_lanes.specs.Done.{done_as};
 ghost use Rattle.nm_part.specs.Parts.{part_of};
-ghost use Rattle.nm_mirror.specs.Counting.{part_after_all};
+ghost use Rattle.nm_mirror.specs.Counting.{Follows};
 
 use crate::lock::Lock;
 use nm_fanout::Data;
@@ -65,8 +65,8 @@ impl<L: LegPart> Lane<L, Lock<L>> for PartLane<L> {
         block: u64,
         data: Data,
     ) -> Result<Beginning, (Refusal, Data)>
-        ensures follows { self.new ≡ part_after_all {L = L}
-            (done_as (step.Begin block «data») (answer_of_begin result) ∷ []) self.old }
+        ensures follows { Follows {L = L} self.old
+            (done_as (step.Begin block «data») (answer_of_begin result) ∷ []) self.new }
         ensures handed_back { HandsBack «data» result }
     {
         self.part.begin(&mut lock.hold(rt), block, data)
@@ -80,8 +80,8 @@ impl<L: LegPart> Lane<L, Lock<L>> for PartLane<L> {
         ticket: u64,
         leg: u8,
     ) -> Result<Reach, Refusal>
-        ensures follows { self.new ≡ part_after_all {L = L}
-            (done_as (step.Push ticket leg) (answer_of_push result) ∷ []) self.old }
+        ensures follows { Follows {L = L} self.old
+            (done_as (step.Push ticket leg) (answer_of_push result) ∷ []) self.new }
     {
         let mut stripe = lock.hold(rt);
         lock.note_write();
@@ -90,8 +90,8 @@ impl<L: LegPart> Lane<L, Lock<L>> for PartLane<L> {
 
     #[inline(always)]
     fn claim<R: Wait>(&mut self, rt: &R, lock: &Lock<L>, ticket: u64) -> Result<Written<L>, Refusal>
-        ensures follows { self.new ≡ part_after_all {L = L}
-            (done_as (step.Claim ticket) (answer_of_claim result) ∷ []) self.old }
+        ensures follows { Follows {L = L} self.old
+            (done_as (step.Claim ticket) (answer_of_claim result) ∷ []) self.new }
     {
         self.part.claim(&mut lock.hold(rt), ticket)
     }
@@ -104,16 +104,16 @@ impl<L: LegPart> Lane<L, Lock<L>> for PartLane<L> {
         block: u64,
         into: &mut [u8],
     ) -> Result<Reading<L>, Refusal>
-        ensures follows { self.new ≡ part_after_all
-            (done_as (step.Read block into.old) (answer_of_read result into.new) ∷ []) self.old }
+        ensures follows { Follows self.old
+            (done_as (step.Read block into.old) (answer_of_read result into.new) ∷ []) self.new }
         ensures target { LeavesTarget result into.old into.new }
     {
         self.part.read(&mut lock.hold(rt), block, into)
     }
 
     fn sync<R: Wait>(&mut self, rt: &R, lock: &Lock<L>, leg: u8) -> Result<Syncing, Refusal>
-        ensures follows { self.new ≡ part_after_all {L = L}
-            (done_as (step.Sync leg) (answer_of_sync result) ∷ []) self.old }
+        ensures follows { Follows {L = L} self.old
+            (done_as (step.Sync leg) (answer_of_sync result) ∷ []) self.new }
     {
         let mut stripe = lock.hold(rt);
         lock.note_sync();
@@ -128,8 +128,8 @@ impl<L: LegPart> Lane<L, Lock<L>> for PartLane<L> {
         most: u64,
         from: u64,
     ) -> Result<Copying, Refusal>
-        ensures follows { self.new ≡ part_after_all {L = L}
-            (done_as (step.Copy leg most from) (answer_of_copy result) ∷ []) self.old }
+        ensures follows { Follows {L = L} self.old
+            (done_as (step.Copy leg most from) (answer_of_copy result) ∷ []) self.new }
     {
         let mut stripe = lock.hold(rt);
         lock.note_write();
@@ -160,7 +160,7 @@ impl<L: LegPart> Lane<L, Lock<L>> for PartLane<L> {
         lock.leave();
     }
 
-    ghost stays = { λ part. refl };
+    ghost stays = { λ part. (refl, tt) };
 
     ghost joins = { λ first mid last before after p q.
         part-joined first mid last before after p q };

@@ -1,6 +1,7 @@
 //! One client's way through a mirror.
-ghost use Rattle.std.specs.Prelude.{◌≡◌, ◌+◌, ◌≤◌, [], length, vec_capacity};
+ghost use Rattle.std.specs.Prelude.{◌≡◌, ◌+◌, ◌≤◌, [], length, map, vec_capacity};
 ghost use Rattle.std.specs.Prelude.{IfOk, IfErr, OnErr, OnOk};
+ghost use Rattle.nm_mirror.specs.Numbers.{AreInOrder};
 ghost use Rattle.nm_mirror.specs.Passes.{HasCountedNothing, RefusesOneMore, RefusesPass};
 
 use crate::mirror::Mirror;
@@ -55,13 +56,15 @@ fn begin_pass<L>(alloc: Global, made: &mut u32, stripes: usize) -> Result<Pass<L
 }
 
 impl<L: LegPart, G: Gate + Drop> Mirror<L, G> {
-    /// A new pass, which has counted nothing.
+    /// A new pass, which has a part for each stripe, in order, and has counted nothing.
     ///
     /// Refused as `TooMany` where 1,024 passes were made, or as `Memory`, the first whose condition
     /// holds. Then no pass is counted.
     pub fn pass<R: Wait>(&self, rt: &R, alloc: Global) -> Result<Pass<L>, Refused<L>>
         ensures stripes { IfOk result (λ pass.
             length pass.parts.items ≡ length self.now.locks.items) }
+        ensures numbers { IfOk result (λ pass.
+            AreInOrder (map (λ part. part.stripe) pass.parts.items)) }
         ensures counted { IfOk result (λ pass. HasCountedNothing pass.parts.items) }
         ensures refused { IfErr result RefusesPass }
     {

@@ -152,7 +152,8 @@ impl Helped {
 impl<L: LegPart, G: Gate + Drop> Mirror<L, G> {
     /// In every stripe, for each joining leg, does what brings it nearer to being in sync: calls it
     /// so where nothing is left to copy to it, and else copies to it, by a run of blocks or half of
-    /// that. Where a write or another copy stands in the way of the copy, it helps that by one step.
+    /// that. Where a write or another copy stands in the way of the copy, it helps that by one
+    /// step.
     ///
     /// A region that the last leg in sync cannot be read in is passed over, until `begin_again`.
     /// Answers how many steps were not refused.
@@ -198,7 +199,7 @@ impl<L: LegPart, G: Gate + Drop> Mirror<L, G> {
         requires in_round { (stripe < round.old.stripes) × (leg < round.old.legs) }
         ensures round { (visit : Visit) × (round.new ≡ visited stripe leg visit round.old) }
     {
-        let mut held = self.locks[stripe as usize].hold(rt);
+        let mut held = self.hold(rt, stripe);
         if (leg as usize) >= held.legs() {
             round.visit(stripe, leg, Visit::Rests);
             return None;
@@ -215,13 +216,12 @@ impl<L: LegPart, G: Gate + Drop> Mirror<L, G> {
         requires { stripe < self.now.shape.stripes }
         ensures { result ≤ 1 }
     {
-        let lock = &self.locks[stripe as usize];
-        lock.note_write();
+        self.locks[stripe as usize].note_write();
         self.pass_gate(CallKind::ResyncTurn, stripe, first.step);
         let Some(refusal) = first.refusal else {
             return 1;
         };
-        let helped = help(&mut lock.hold(rt), refusal);
+        let helped = help(&mut self.hold(rt, stripe), refusal);
         let Some(second) = helped.step() else {
             return 0;
         };

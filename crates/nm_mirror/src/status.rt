@@ -114,6 +114,6 @@ impl<L: LegPart, G: Gate + Drop> Mirror<L, G> {
     pub fn kept<R: Wait>(&self, rt: &R, alloc: Global, stripe: u32) -> Result<Vec<Entry>, Memory>
         requires { stripe < self.now.shape.stripes }
     {
-        self.locks[stripe as usize].hold(rt).entries(alloc)
+        self.hold(rt, stripe).entries(alloc)
     }
 }

@@ -95,8 +95,8 @@ impl<L: LegPart + Send, G: Gate + Drop + Sync> Mirror<L, G> {
     /// once, in order, up to 8 stripes side by side. It takes no memory.
     ///
     /// Before each region of a stripe it asks `is_gone`, where there is one: once that is true no
-    /// further region is begun, and the call ends as `CallErrorKind::Gone`; each write that began is
-    /// done. On another error the first blocks of each stripe were written, and the next one's
+    /// further region is begun, and the call ends as `CallErrorKind::Gone`; each write that began
+    /// is done. On another error the first blocks of each stripe were written, and the next one's
     /// write may have begun, as for `write_at`.
     pub fn zero_at<R: Threads + Wait + Sync>(
         &self,

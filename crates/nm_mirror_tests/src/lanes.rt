@@ -121,8 +121,8 @@ fn notes_of_writes(alloc: Global, writes: &[(u64, u64)]) -> Result<Vec<Note>, Fa
     Ok(notes)
 }
 
-// From the middle of block 3 to that of block 8: stripe 0 has blocks 3 and 8, each a run of its own,
-// stripe 1 has those between, which are one run.
+// From the middle of block 3 to that of block 8: stripe 0 has blocks 3 and 8, each a run of its
+// own, stripe 1 has those between, which are one run.
 #[test]
 fn a_write_claims_each_run_before_the_next_begins(rt: HostRuntime) -> Result<(), Fail> {
     let alloc = rt.alloc();

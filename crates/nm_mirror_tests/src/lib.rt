@@ -8,6 +8,8 @@ mod closing;
 #[cfg(test)]
 mod edges;
 #[cfg(test)]
+mod full;
+#[cfg(test)]
 mod gates;
 #[cfg(test)]
 mod gone;
@@ -27,6 +29,8 @@ mod mirrors;
 mod note_lane;
 #[cfg(test)]
 mod openings;
+#[cfg(test)]
+mod past;
 #[cfg(test)]
 mod reading;
 #[cfg(test)]

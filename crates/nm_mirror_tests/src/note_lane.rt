@@ -5,7 +5,7 @@ ghost use Rattle.nm_stripe.specs.Read.{LeavesTarget};
 ghost use Rattle.nm_lanes.specs.Answers.{answer_of_begin, answer_of_claim, answer_of_copy};
 ghost use Rattle.nm_lanes.specs.Answers.{answer_of_push, answer_of_read, answer_of_sync, HandsBack};
 ghost use Rattle.nm_lanes.specs.Done.{done_as};
-ghost use Rattle.nm_mirror.specs.Counting.{part_after_all};
+ghost use Rattle.nm_mirror.specs.Counting.{Follows};
 
 use nm_fanout::Data;
 use nm_lanes::{Lane, StepKind};
@@ -104,8 +104,8 @@ impl Lane<FuseLeg, Door> for NoteLane {
         block: u64,
         data: Data,
     ) -> Result<Beginning, (Refusal, Data)>
-        ensures follows { self.new ≡ part_after_all {L = FuseLeg}
-            (done_as (step.Begin block «data») (answer_of_begin result) ∷ []) self.old }
+        ensures follows { Follows {L = FuseLeg} self.old
+            (done_as (step.Begin block «data») (answer_of_begin result) ∷ []) self.new }
         ensures handed_back { HandsBack «data» result }
     {
         let begun = self.part.begin(&mut lock.lock(rt), block, data);
@@ -118,8 +118,8 @@ impl Lane<FuseLeg, Door> for NoteLane {
     }
 
     fn push<R: Wait>(&mut self, rt: &R, lock: &Door, ticket: u64, leg: u8) -> Result<Reach, Refusal>
-        ensures follows { self.new ≡ part_after_all {L = FuseLeg}
-            (done_as (step.Push ticket leg) (answer_of_push result) ∷ []) self.old }
+        ensures follows { Follows {L = FuseLeg} self.old
+            (done_as (step.Push ticket leg) (answer_of_push result) ∷ []) self.new }
     {
         let told = self.part.push(&mut lock.lock(rt), ticket, leg);
         self.note(StepKind::Push, ticket, told.as_ref().err().copied());
@@ -132,8 +132,8 @@ impl Lane<FuseLeg, Door> for NoteLane {
         lock: &Door,
         ticket: u64,
     ) -> Result<Written<FuseLeg>, Refusal>
-        ensures follows { self.new ≡ part_after_all {L = FuseLeg}
-            (done_as (step.Claim ticket) (answer_of_claim result) ∷ []) self.old }
+        ensures follows { Follows {L = FuseLeg} self.old
+            (done_as (step.Claim ticket) (answer_of_claim result) ∷ []) self.new }
     {
         let told = self.part.claim(&mut lock.lock(rt), ticket);
         self.note(StepKind::Claim, ticket, told.as_ref().err().copied());
@@ -147,8 +147,8 @@ impl Lane<FuseLeg, Door> for NoteLane {
         block: u64,
         into: &mut [u8],
     ) -> Result<Reading<FuseLeg>, Refusal>
-        ensures follows { self.new ≡ part_after_all {L = FuseLeg}
-            (done_as (step.Read block into.old) (answer_of_read result into.new) ∷ []) self.old }
+        ensures follows { Follows {L = FuseLeg} self.old
+            (done_as (step.Read block into.old) (answer_of_read result into.new) ∷ []) self.new }
         ensures target { LeavesTarget result into.old into.new }
     {
         let told = self.part.read(&mut lock.lock(rt), block, into);
@@ -157,8 +157,8 @@ impl Lane<FuseLeg, Door> for NoteLane {
     }
 
     fn sync<R: Wait>(&mut self, rt: &R, lock: &Door, leg: u8) -> Result<Syncing, Refusal>
-        ensures follows { self.new ≡ part_after_all {L = FuseLeg}
-            (done_as (step.Sync leg) (answer_of_sync result) ∷ []) self.old }
+        ensures follows { Follows {L = FuseLeg} self.old
+            (done_as (step.Sync leg) (answer_of_sync result) ∷ []) self.new }
     {
         let told = self.part.sync(&mut lock.lock(rt), leg);
         self.note(StepKind::Sync, leg as u64, told.as_ref().err().copied());
@@ -173,8 +173,8 @@ impl Lane<FuseLeg, Door> for NoteLane {
         most: u64,
         from: u64,
     ) -> Result<Copying, Refusal>
-        ensures follows { self.new ≡ part_after_all {L = FuseLeg}
-            (done_as (step.Copy leg most from) (answer_of_copy result) ∷ []) self.old }
+        ensures follows { Follows {L = FuseLeg} self.old
+            (done_as (step.Copy leg most from) (answer_of_copy result) ∷ []) self.new }
     {
         let told = self.part.copy(&mut lock.lock(rt), leg, most, from);
         self.note(StepKind::Copy, leg as u64, told.as_ref().err().copied());
@@ -205,7 +205,7 @@ impl Lane<FuseLeg, Door> for NoteLane {
         self.calls.fetch_sub(1, Ordering::SeqCst);
     }
 
-    ghost stays = { λ part. refl };
+    ghost stays = { λ part. (refl, tt) };
 
     ghost joins = { λ first mid last before after p q.
         part-joined first mid last before after p q };

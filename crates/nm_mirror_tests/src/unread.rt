@@ -1,10 +1,11 @@
 //! A copy whose master has regions that cannot be read, and copies of many legs and stripes.
 
 use crate::mirrors::{
-    byte_at, fill_bytes, mirror_of, pass_of, read_at, round_of, shape, turn, turn_until_idle,
-    write_at,
+    byte_at, close_even, fill_bytes, mirror_of, pass_of, read_at, round_of, shape, turn,
+    turn_until_idle, write_at,
 };
 use crate::spot_leg::{Spot, SpotLeg};
+use bytes::Bytes;
 use nm_geometry::Shape;
 use nm_lanes::NoGate;
 use nm_leg::{FuseLeg, LegPart};
@@ -37,8 +38,8 @@ fn numbered<R: Abort>(rt: &R, alloc: Global, shape: &Shape, stripe: u32) -> Resu
     Ok(leg)
 }
 
-/// A mirror of this shape whose master, leg 0 of each stripe, has a byte for each offset; the others
-/// join. The master of stripe 0 has this spot.
+/// A mirror of this shape whose master, leg 0 of each stripe, has a byte for each offset; the
+/// others join. The master of stripe 0 has this spot.
 fn spotted<R: Abort>(
     rt: &R,
     alloc: Global,
@@ -114,8 +115,8 @@ fn finds_numbers<R: Threads + Wait + Sync + Abort>(
     Ok(true)
 }
 
-/// Four regions of four blocks in one stripe, of which the second cannot be read at the master, once
-/// nothing more can be done in this round: all others are copied.
+/// Four regions of four blocks in one stripe, of which the second cannot be read at the master,
+/// once nothing more can be done in this round: all others are copied.
 fn passed_over<R: Wait + Abort>(
     rt: &R,
     alloc: Global,
@@ -264,25 +265,79 @@ fn sixty_four_regions_are_told(rt: HostRuntime) -> Result<(), Fail> {
     check_told(&rt, alloc, &mirror, 0, "master 0 settling no legs in in")
 }
 
-// 64 stripes of eight legs, and an export that is no multiple of a region: each leg of each stripe
-// is copied to, in one read and one write, and called in sync.
+/// The bytes of so many blocks, each of which tells its offset.
+fn numbers(alloc: Global, blocks: u16) -> Result<Bytes, Fail> {
+    let mut bytes = Vec::new(alloc);
+    for offset in 0..512 * u64::from(blocks) {
+        bytes.push(byte_at(offset))?;
+    }
+    Ok(Bytes::from_vec(bytes).ok().ok_or("no memory")?)
+}
+
+/// Looks at what is told of each of 64 stripes: of the last, and of the others.
+fn check_each<R: Wait + Abort>(
+    rt: &R,
+    alloc: Global,
+    mirror: &Spotted,
+    others: &str,
+    last: &str,
+) -> Result<(), Fail> {
+    let told = mirror.status(rt, alloc)?;
+    assert_eq!(rt; told.len(), 64);
+    for (stripe, one) in told.iter().enumerate() {
+        let text = one.to_string(alloc)?;
+        let want = if stripe == 63 { last } else { others };
+        assert!(rt; text.as_str().ends_with(want), "stripe {stripe}");
+    }
+    Ok(())
+}
+
+/// Looks at how many entries each of 64 stripes keeps, and has had: half as many in the last.
+fn check_entries<R: Wait + Abort>(
+    rt: &R,
+    alloc: Global,
+    mirror: Spotted,
+    pass: Pass<SpotLeg>,
+    many: u64,
+) -> Result<(), Fail> {
+    for stripe in 0..64 {
+        let want = if stripe == 63 { many / 2 } else { many };
+        assert!(rt; stripe < mirror.shape().stripes);
+        let kept = mirror.kept(rt, alloc, stripe)?;
+        assert_eq!(rt; kept.len() as u64, want, "stripe {stripe}");
+    }
+    let mut passes = Vec::new(alloc);
+    passes.push(pass)?;
+    let totals = close_even(alloc, mirror, passes)?;
+    assert_eq!(rt; totals.ends().len(), 64);
+    for (end, stripe) in totals.ends().iter().zip(0..) {
+        let want = if stripe == 63 { many / 2 } else { many };
+        assert_eq!(rt; (end.stripe(), end.total()), (stripe, want));
+    }
+    Ok(())
+}
+
+// 64 stripes of eight legs, and an export that is no multiple of a region: the last stripe has one
+// block, the others two. Each leg of each stripe is copied to, in one read and one write, and
+// called in sync; a write of all blocks leaves it so; and what is told of a stripe is its own.
 #[test]
 fn each_of_eight_legs_of_64_stripes_is_copied_to(rt: HostRuntime) -> Result<(), Fail> {
     let alloc = rt.alloc();
     let none = Arc::new(alloc, Spot::bad(0, 0))?;
     let mirror = spotted(&rt, alloc, shape(127, 2, 2, 64, 8)?, &none)?;
+    check_each(&rt, alloc, &mirror, "join(2) join(2)", "join(1) join(1)")?;
     let mut round = round_of(alloc, &mirror)?;
     turn_until_idle(&rt, &mirror, &mut round);
-    for stripe in 0..64 {
-        let text = "master 0 settling no legs in in in in in in in in";
-        check_told(&rt, alloc, &mirror, stripe, text)?;
-    }
+    let all = "master 0 settling no legs in in in in in in in in";
+    check_each(&rt, alloc, &mirror, all, all)?;
     assert_eq!(rt; round.unread_count(), 0);
-    // The eighth leg holds it all.
     let mut pass = pass_of(&rt, alloc, &mirror)?;
+    assert!(rt; write_at(&rt, alloc, &mirror, &mut pass, 0, numbers(alloc, 127)?).is_ok());
+    check_each(&rt, alloc, &mirror, all, all)?;
+    // The eighth leg holds it all.
     for leg in 0..7 {
         assert_eq!(rt; fail(&rt, &mirror, leg), 64);
     }
     assert!(rt; finds_numbers(&rt, alloc, &mirror, &mut pass, 127)?);
-    Ok(())
+    check_entries(&rt, alloc, mirror, pass, 4)
 }

@@ -29,19 +29,11 @@ begun_run block count t =
       writes = slice_set t.writes region (writes_in region t + count);
     }
 
--- one more write is under way there
-abbrev pub begun : ℕ → RegionTable → RegionTable
-begun block t = begun_run block 1 t
-
 -- so many writes fewer are under way in the block's region
 abbrev pub finished_run : ℕ → ℕ → RegionTable → RegionTable
 finished_run block count t =
     let region = region_of block t in
     record t { writes = slice_set t.writes region (writes_in region t - count) }
-
--- one write fewer is under way there
-abbrev pub finished : ℕ → RegionTable → RegionTable
-finished block t = finished_run block 1 t
 
 -- the copy, unless it is of this leg
 abbrev pub copy_but_of : ℕ → Option CopyPlace → Option CopyPlace

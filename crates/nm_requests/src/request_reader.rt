@@ -1,11 +1,12 @@
-ghost use Rattle.std.specs.Prelude.{◌≡◌, ◌+◌, ◌<◌, ◌≤◌, length, None, IfSome, IfNone, IfOk, OnOk};
-ghost use Rattle.std.specs.Prelude.{OnErr, List, ℕ};
+ghost use Rattle.std.specs.Prelude.{◌≡◌, ◌+◌, ◌<◌, ◌≤◌, ◌++◌, [], length, None, IfSome, IfNone, IfOk};
+ghost use Rattle.std.specs.Prelude.{OnOk, OnErr, List, ℕ};
+ghost use Rattle.nm_wire.specs.Sizes.{max_payload};
 ghost use Rattle.nm_requests.specs.First.{HasPayload, BeginsRead, message_of};
 ghost use Rattle.nm_requests.specs.Message.{Message, read_length};
 ghost use Rattle.nm_requests.specs.Stream.{StartsWith};
 
 use crate::blocks::append;
-use crate::cutting::{cut_first, first_read_len};
+use crate::cutting::{cut_first, first_read_len, missing_len};
 use crate::fault::Fault;
 use crate::request::Request;
 use bytes::BytesMut;
@@ -117,6 +118,18 @@ impl RequestReader {
     {
         match &self.buffer {
             Some(buffer) => first_read_len(buffer.as_slice()),
+            None => 0,
+        }
+    }
+
+    /// How many bytes of the next request have not come: 0 where its header has not.
+    pub fn missing(&self) -> usize
+        ensures capped { result ≤ 28 + max_payload }
+        ensures missing { (message : Message) (more : List ℕ) → 28 ≤ length self.now.rest
+            → StartsWith 0 (self.now.rest ++ more) message [] → result ≡ length more }
+    {
+        match &self.buffer {
+            Some(buffer) => missing_len(buffer.as_slice()),
             None => 0,
         }
     }

@@ -9,8 +9,8 @@ pub record Chunk : Type 0 where
   pub blocks : List Block
   pub written : ℕ
 
--- the most blocks that a chunk may have, the open chunk, and the bytes that stand in the buffer where
--- the next blocks are read into
+-- the most blocks that a chunk may have, the open chunk, and the bytes that stand in the buffer
+-- where the next blocks are read into
 pub record CopyBuffer : Type 0 where
   pub most : ℕ
   pub chunk : Option Chunk

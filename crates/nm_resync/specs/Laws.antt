@@ -53,4 +53,5 @@ CloseLowersLeft =
 -- blocks that are read leave what is left to copy
 abbrev pub ReadKeepsLeft : Type 0
 ReadKeepsLeft =
-    (from_cursor count : ℕ) (c : CopyBuffer) → left from_cursor (filled count c) ≡ left from_cursor c
+    (from_cursor count : ℕ) (c : CopyBuffer)
+    → left from_cursor (filled count c) ≡ left from_cursor c

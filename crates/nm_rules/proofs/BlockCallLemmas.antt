@@ -1,11 +1,11 @@
 -- A call of a leg for a run of one block is a call for that block.
-use Rattle.std.proofs.Common.{◌≡◌, ◌≢◌, ⊎_elim, inl, inr, ℕ, ◌/◌, Bool, List, [], ◌∷◌, length, ap, ◌∙◌, subst, arith}
+use Rattle.std.proofs.Common.{◌≡◌, ◌≢◌, ⊎_elim, inl, inr, ℕ, ◌/◌, Bool, List, [], ◌∷◌, length, ap, ◌∙◌, arith}
 use Rattle.std.proofs.lemmas.Bool.{cases_lt}
 use Rattle.std.proofs.lemmas.List.{take_all}
 use Rattle.nm_replay.specs.declared.block.Block.{Block}
-use Rattle.nm_leg.specs.Leg.{HoldsRun, IsOutside, Leg, LegType, ReadsLeg, WritesLeg, block_of, blocks_in, blocks_of, cut_into, set_run}
-use Rattle.nm_leg.specs.LegCalls.{ReadsLegAt, WritesLegAt}
-use Rattle.nm_rules.specs.BlockCalls.{ReadsBlock, ReadsBlockAt, WritesBlock, WritesBlockAt}
+use Rattle.nm_leg.specs.Leg.{IsOutside, Leg, LegType, WritesLeg, block_of, blocks_in, blocks_of, cut_into, set_run}
+use Rattle.nm_leg.specs.LegCalls.{WritesLegAt}
+use Rattle.nm_rules.specs.BlockCalls.{WritesBlock, WritesBlockAt}
 
 -- 512 bytes are one block
 one-in : (bytes : List ℕ) → length bytes ≡ 512 → blocks_in bytes ≡ 1
@@ -22,15 +22,6 @@ one-outside bytes whole at k other =
     ⊎_elim (λ low. inl low) (λ high. inr (omega (arith, high, other, one-in bytes whole))) (cases_lt k at)
 
 module _ (honest succeeded : Bool) (at : ℕ) (bytes : List ℕ) (old new : Leg) (whole : length bytes ≡ 512) where
-  -- a read of a run of one block reads the block
-  pub one-reads : ReadsLeg honest succeeded at old new bytes → ReadsBlock honest succeeded at old new (block_of bytes)
-  one-reads r = record {
-    calls = r.calls;
-    found = λ is_honest done. (subst (λ (bs : List Block). HoldsRun at bs old.contents) (one-of bytes whole) (r.found is_honest done)).0;
-    contents = r.contents;
-    durable = r.durable;
-  }
-
   -- and a write writes it
   pub one-writes : WritesLeg honest succeeded at bytes old new → WritesBlock honest succeeded at bytes old new
   one-writes w = record {
@@ -41,9 +32,5 @@ module _ (honest succeeded : Bool) (at : ℕ) (bytes : List ℕ) (old new : Leg)
   }
 
 module _ {L : Type 0} (type : LegType L) (succeeded : Bool) (place at : ℕ) (bytes : List ℕ) (old new : List L) (whole : length bytes ≡ 512) where
-  -- the same of one leg of a list
-  pub one-reads_at : ReadsLegAt type succeeded place at old new bytes → ReadsBlockAt type succeeded place at old new (block_of bytes)
-  one-reads_at r = record { before = r.before; after = r.after; change = r.change; reads = one-reads type.honest succeeded at bytes (type.model r.before) (type.model r.after) whole r.reads }
-
   pub one-writes_at : WritesLegAt type succeeded place at bytes old new → WritesBlockAt type succeeded place at bytes old new
   one-writes_at w = record { before = w.before; after = w.after; change = w.change; writes = one-writes type.honest succeeded at bytes (type.model w.before) (type.model w.after) whole w.writes }

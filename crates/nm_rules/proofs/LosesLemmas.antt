@@ -7,10 +7,6 @@ use Rattle.std.proofs.lemmas.Option.{same_Some}
 use Rattle.nm_replay.specs.declared.block.Block.{Block}
 use Rattle.nm_choice.specs.declared.leg_state.LegState.{LegState}
 use Rattle.nm_choice.specs.Choice.{place_of}
-use Rattle.nm_fanout.specs.declared.write_record.Record.{Record}
-use Rattle.nm_fanout.specs.RecordData.{bytes_of}
-use Rattle.nm_fanout.specs.Record.{owes}
-use Rattle.nm_fanout.proofs.Owed.{owes-under_way}
 use Rattle.nm_leg.specs.Leg.{CallsLeg, LegType}
 use Rattle.nm_leg.specs.LegCalls.{ChangesLeg, SyncsLegAt}
 use Rattle.nm_rules.specs.BlockCalls.{ReadsBlockAt, WritesBlockAt}
@@ -21,7 +17,6 @@ use Rattle.nm_regions.specs.Table as regions
 use Rattle.nm_rules.specs.Copy.{CallsToCopyWrite}
 use Rattle.nm_rules.specs.Invariant.{Keeps}
 use Rattle.nm_rules.specs.Lost.{dirty_and_out}
-use Rattle.nm_rules.specs.Push.{CallsToPush}
 use Rattle.nm_rules.specs.RunCalls.{WritesRunAt}
 use Rattle.nm_rules.specs.Read.{current_legs, read_leg, true_from}
 use Rattle.nm_rules.specs.State.{Chunk, StripeState, copy_start, is_current, is_out, is_quiet, leg_state, table}
@@ -118,13 +113,6 @@ pub none-loses : {L : Type 0} (type : LegType L) (old : StripeState L) (leg : �
 none-loses type old leg = record { count = refl; others = λ j ne. refl; lengths = λ j. refl; stays = λ is_honest b clear. refl }
 
 module _ {L : Type 0} (type : LegType L) (old : StripeState L) (legs : List L) (k : Keeps type old) where
-  -- a push: its block's region has a write under way
-  pub push-loses : (ticket leg : ℕ) (r : Record) (succeeded : Bool) → owes leg r ≡ true → CallsToPush type succeeded old legs ticket leg r → LosesLeg type old legs leg
-  push-loses ticket leg r succeeded owed c =
-      let attached = current_attached type old k leg r.block (k.writes.owed ticket r leg c.found owed) in
-      let marks = dirty-marks type.model old leg k.legs k.records (attached_inside type.model old k.legs leg attached) in
-      write-loses type succeeded old legs leg r.block (bytes_of r.data) (marks.dirty ticket r c.found (owes-under_way leg r owed)) c.writes
-
   -- a copy's write: its block lies in the region that is copied, which is behind
   pub copy_write-loses : (leg : ℕ) (copy : CopyPlace) (chunk : Chunk) (bytes : Block) (succeeded : Bool) → Ready type old leg copy chunk → CallsToCopyWrite type succeeded old legs copy chunk bytes → LosesLeg type old legs copy.leg
   copy_write-loses leg copy chunk bytes succeeded r c =

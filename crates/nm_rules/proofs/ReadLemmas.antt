@@ -1,5 +1,5 @@
 -- A read: it begins, finds its bytes at the entry that it gets, and is replied to with them.
-use Rattle.std.proofs.Common.{◌≡◌, ◌≢◌, ℕ, ◌+◌, ◌<◌, ◌^◌, ◌==◌, Bool, true, false, IsTrue, List, [], ◌∷◌, None, Some, refl, sym, ap, ◌∙◌, subst, arith, slice_get, nat_lt, cond, MatchBool}
+use Rattle.std.proofs.Common.{◌≡◌, ◌≢◌, ℕ, ◌+◌, ◌<◌, ◌^◌, ◌==◌, Bool, true, false, IsTrue, List, [], ◌∷◌, Some, refl, sym, ap, ◌∙◌, subst, arith, slice_get, nat_lt, cond, MatchBool}
 use Rattle.std.proofs.lemmas.Bool.Decides.{nat_tests}
 use Rattle.std.proofs.lemmas.Nat.{mod_below}
 use Rattle.nm_replay.specs.declared.block.Block.{Block}
@@ -11,21 +11,19 @@ use Rattle.nm_replay.proofs.Pushing.{consistent-read, ends-push_by}
 use Rattle.nm_choice.specs.Choice.{next_turn}
 use Rattle.nm_fanout.specs.Records.{unlanded}
 use Rattle.nm_leg.specs.Leg.{LegType}
-use Rattle.nm_rules.specs.declared.refusal.Refusal.TheVariants.{Stopped, Settling, Exhausted}
 use Rattle.nm_rules.specs.Acts.{Acts, IsExplainedStep}
 use Rattle.nm_rules.specs.Array.{laid_from, stripe_array, write_life, read_life}
 use Rattle.nm_rules.specs.Kept.{kept_with}
 use Rattle.nm_rules.specs.Invariant.{HasNumbers, LegsAgree, Keeps}
-use Rattle.nm_rules.specs.Read.{FailsInRead, Finds, after_read, read_cause, read_rows, turn_after}
+use Rattle.nm_rules.specs.Read.{FailsInRead}
 use Rattle.nm_rules.specs.BlockCalls.{ReadsBlockAt}
-use Rattle.nm_rules.specs.Receipt.{EntryName}
-use Rattle.nm_rules.specs.State.{StripeState, is_exhausted, is_quiet, next_number}
+use Rattle.nm_rules.specs.State.{StripeState, next_number}
 use Rattle.nm_rules.proofs.CalledLemmas.{SameContents, with_legs, called-keeps, called-acts, read-same}
-use Rattle.nm_rules.proofs.CauseLemmas.{none_holds, when_off, below}
+use Rattle.nm_rules.proofs.CauseLemmas.{below}
 use Rattle.nm_rules.proofs.ChunkLemmas.{chunk-stays}
 use Rattle.nm_rules.proofs.KeptLemmas.{kept_start, kept-starts, kept-numbered, kept-length, kept-consistent, kept-ends}
 use Rattle.nm_rules.proofs.LegLemmas.{reads-found}
-use Rattle.nm_rules.proofs.ReadLegLemmas.{ReadFrom, from_holds, read_from}
+use Rattle.nm_rules.proofs.ReadLegLemmas.{ReadFrom, from_holds}
 use Rattle.nm_rules.proofs.RecordLemmas.{same}
 
 -- the stripe after a read of a block, with this turn
@@ -42,15 +40,6 @@ pub record MayRead {L : Type 0} (stripe : StripeState L) : Type 0 where
   pub runs : stripe.stopped ≡ false
   pub not_settling : stripe.settling ≡ false
   pub below : next_number stripe + unlanded stripe.records < 2 ^ 63
-
-pub may_read : {L : Type 0} (stripe : StripeState L) → read_cause stripe ≡ None → MayRead stripe
-may_read stripe none =
-    let rows = none_holds (read_rows stripe) none in
-    record {
-      runs = when_off stripe.stopped Stopped rows.0;
-      not_settling = when_off stripe.settling Settling rows.1.0;
-      below = below (2 ^ 63) (next_number stripe + unlanded stripe.records) (when_off (is_exhausted stripe) Exhausted rows.1.1.0);
-    }
 
 -- the events of a read: its begin, its entry and its reply
 abbrev pub read_events : ℕ → ℕ → Block → List Event
@@ -168,28 +157,6 @@ module _ {L : Type 0} (type : LegType L) (old : StripeState L) (legs : List L) (
     total = refl;
     first = refl;
   }
-
-module _ {L : Type 0} (type : LegType L) (old new : StripeState L) (block : ℕ) (bytes : Block) (receipt : EntryName) (k : Keeps type old) (f : Finds type old new block bytes receipt) where
-  -- a read keeps what every stripe keeps
-  pub finds-keeps : block < old.place.blocks → Keeps type new
-  finds-keeps inside = subst (λ s. Keeps type s) (sym f.after) (read-keeps type old new.legs block f.leg bytes k (may_read old f.called.no_cause) (read_from type old block f.leg f.called.leg_is) f.called.reads (turn_after block old) (turn-below old.turn (is_quiet block old) k.turn) inside)
-
-  -- finds what the array has
-  pub finds-array : IsTrue type.honest → block < old.place.blocks → slice_get (stripe_array type.model old) block ≡ Some bytes
-  finds-array is_honest inside = read-array type old new.legs block f.leg bytes k (may_read old f.called.no_cause) (read_from type old block f.leg f.called.leg_is) f.called.reads (turn_after block old) (turn-below old.turn (is_quiet block old) k.turn) is_honest inside
-
-  receipt_number : receipt.number ≡ next_number old
-  receipt_number = ap (λ (e : EntryName). e.number) f.names
-
-  -- and is explained by its begin, its entry and its reply, under the receipt's number
-  pub finds-acts : IsTrue type.honest → block < old.place.blocks → Acts type.model old new (read_events receipt.number block bytes)
-  finds-acts is_honest inside =
-      subst (λ s. Acts type.model old s (read_events receipt.number block bytes)) (sym f.after)
-      (subst (λ (n : ℕ). Acts type.model old (after_read old new.legs block bytes) (read_events n block bytes)) (sym receipt_number)
-      (read-acts type old new.legs block f.leg bytes k (may_read old f.called.no_cause) (read_from type old block f.leg f.called.leg_is) f.called.reads (turn_after block old) (turn-below old.turn (is_quiet block old) k.turn) is_honest inside))
-
-  pub finds-explained : IsTrue type.honest → block < old.place.blocks → IsExplainedStep type.model (BeginsRead receipt.number block ∷ RepliesRead receipt.number bytes ∷ []) old new
-  finds-explained is_honest inside = record { events = read_events receipt.number block bytes; marked = refl; acts = finds-acts is_honest inside }
 
 pub fails_in_read-explained : {L : Type 0} (type : LegType L) (old new : StripeState L) (block : ℕ) (bytes : Block) → IsTrue type.honest → Keeps type old → FailsInRead type old new block bytes → IsExplainedStep type.model [] old new
 fails_in_read-explained type old new block bytes is_honest k f = record {

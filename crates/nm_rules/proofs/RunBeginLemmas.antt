@@ -11,7 +11,7 @@ use Rattle.nm_fanout.specs.Records.{busy_among, busy_on, is_among, runs_in, unla
 use Rattle.nm_leg.specs.Leg.{LegType}
 use Rattle.nm_regions.specs.declared.copy_place.CopyPlace.{CopyPlace}
 use Rattle.nm_rules.specs.declared.refusal.Refusal.TheVariants.{Busy, Copying, Exhausted, Full, Settling, Stopped}
-use Rattle.nm_rules.specs.Acts.{Acts, IsExplainedStep}
+use Rattle.nm_rules.specs.Acts.{IsExplainedStep}
 use Rattle.nm_rules.specs.Begin.{is_full}
 use Rattle.nm_rules.specs.Invariant.{Keeps}
 use Rattle.nm_rules.specs.RunBegin.{BeginsRun, after_begin_run, begin_run_cause, begin_run_rows, begins_of, meets_copy, puts_of}
@@ -101,10 +101,6 @@ module _ {L : Type 0} (type : LegType L) (old new : StripeState L) (block : ℕ)
   -- a begin of a run keeps what every stripe keeps
   pub begins_run-keeps : Keeps type new
   begins_run-keeps = begins.keeps
-
-  -- and begins each of its writes
-  pub begins_run-acts : Acts type.model old new (begins_of ticket block (puts_of ds))
-  begins_run-acts = begins.acts
 
   pub begins_run-explained : IsExplainedStep type.model (begins_of ticket block (puts_of ds)) old new
   begins_run-explained = record { events = begins_of ticket block (puts_of ds); marked = marks-begins ticket block (puts_of ds); acts = begins.acts }

@@ -64,9 +64,5 @@ module _ {L : Type 0} (type : LegType L) (old new : StripeState L) (ticket : ℕ
   pub claims_run-keeps : Keeps type new
   claims_run-keeps = claimed.keeps
 
-  -- and replies to each of its writes
-  pub claims_run-acts : Acts type.model old new (replies_of ticket answer.number answer.count)
-  claims_run-acts = claimed.acts
-
   pub claims_run-explained : IsExplainedStep type.model (replies_of ticket answer.number answer.count) old new
   claims_run-explained = record { events = replies_of ticket answer.number answer.count; marked = marks-replies ticket answer.number answer.count; acts = claimed.acts }

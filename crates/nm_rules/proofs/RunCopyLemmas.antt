@@ -81,12 +81,6 @@ module _ {L : Type 0} (type : LegType L) (old new : StripeState L) (leg most : �
           subst (λ (s : StripeState L). RunCopied type old s leg (length (b ∷ bs))) (read-form new.legs c.copy bs b old c.chunk ∙ sym after)
           (run-copied type leg c.copy b bs old new.legs c.chunk k c.on room reads)
 
-  -- it read at least one
-  pub copies_read_run-some : {from : ℕ} (c : CopiesReadRun type old new leg most from) → 0 < length c.found
-  copies_read_run-some c =
-      let short : length c.chunk.blocks < c.chunk.length = grind (arith, nat_tests, c.called.not_filled) in
-      omega (arith, some, short, c.called.count)
-
   -- a step that wrote blocks
   module _ {from : ℕ} (c : CopiesWriteRun type old new leg most from) where
     abbrev bs : List Block
@@ -120,10 +114,6 @@ module _ {L : Type 0} (type : LegType L) (old new : StripeState L) (leg most : �
           acts = λ is_honest. acts-seen type.model old new [] (there.acts is_honest);
           work_less = there.work_less;
         }
-
-    -- it wrote at least one
-    pub copies_write_run-some : 0 < length bs
-    copies_write_run-some = omega (arith, some, long, known.more)
 
     pub copies_write_run : RunCopied type old new leg (length bs)
     copies_write_run =

@@ -14,7 +14,7 @@ use Rattle.nm_regions.specs.Table.{has_copied, has_region}
 use Rattle.nm_regions.specs.Table as regions
 use Rattle.nm_rules.specs.declared.refusal.Refusal.{Refusal}
 use Rattle.nm_rules.specs.declared.refusal.Refusal.TheVariants.{Exhausted, Settling, Stopped}
-use Rattle.nm_rules.specs.Acts.{Acts, IsExplainedStep}
+use Rattle.nm_rules.specs.Acts.{IsExplainedStep}
 use Rattle.nm_rules.specs.Array.{contents_of, stripe_array}
 use Rattle.nm_rules.specs.Cause.{when}
 use Rattle.nm_rules.specs.Invariant.{Keeps}
@@ -160,10 +160,6 @@ module _ {L : Type 0} (type : LegType L) (old new : StripeState L) (block : ℕ)
     -- a read of a run keeps what every stripe keeps
     pub finds_run-keeps : Keeps type new
     finds_run-keeps = finds_run.keeps
-
-    -- begins, finds and replies to each of its reads
-    pub finds_run-acts : IsTrue type.honest → Acts type.model old new (reads_of names.number block bs)
-    finds_run-acts is_honest = finds_run.acts is_honest
 
     pub finds_run-explained : IsTrue type.honest → IsExplainedStep type.model (marks_of_reads names.number block bs) old new
     finds_run-explained is_honest = record { events = reads_of names.number block bs; marked = marks-reads names.number block bs; acts = finds_run.acts is_honest }

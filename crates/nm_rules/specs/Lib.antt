@@ -19,7 +19,6 @@ pub mod Opening
 pub mod Promote
 pub mod Push
 pub mod Read
-pub mod Receipt
 pub mod Refusal
 pub mod RunBegin
 pub mod RunCalls

@@ -1,6 +1,6 @@
 -- One target more, for one pass more.
 use Rattle.std.proofs.Common.{◌≡◌, ℕ, zero, suc, arith, ◌+◌, ◌<◌, List, [], ◌∷◌, ◌++◌, length, map, take, get_or, All, Bool, true, cond, ap, sym, ◌∙◌}
-use Rattle.std.proofs.lemmas.List.{map-append, take_more}
+use Rattle.std.proofs.lemmas.List.{map-append, map_more, take_more}
 use Rattle.std.proofs.lemmas.List.Elements.{All-append}
 
 -- where the push succeeded, the list has one element more
@@ -25,3 +25,19 @@ pub all-more : {A : Type 0} (was now : List A) (one : A) (P : A → Type 0) → 
     → All P was → P one → All P now
 all-more was now one P pushed all here =
     rw pushed (All-append P was (one ∷ []) all (all-one P one here))
+
+-- what each element tells, of one more, is one row more
+pub one-row-more : {A B : Type 0} (was now : List A) (one : A) (tells : A → B) (rows : List B) (row : B)
+    → now ≡ was ++ one ∷ [] → map tells was ≡ rows → tells one ≡ row → map tells now ≡ rows ++ row ∷ []
+one-row-more was now one tells rows row pushed so is =
+    rw pushed (map-append tells was (one ∷ []) ∙ (ap (λ list. list ++ tells one ∷ []) so
+    ∙ ap (λ last. rows ++ last ∷ []) is))
+
+-- elements that were made from those of another list, in its order, and one more from the next
+pub one-made-more : {A B C : Type 0} (was now : List A) (one : A) (tells : A → B) (wants : C → B) (all : List C) (next : C) (index : ℕ)
+    → now ≡ was ++ one ∷ [] → index < length all → map tells was ≡ map wants (take index all)
+    → next ≡ get_or all index next → tells one ≡ wants next
+    → map tells now ≡ map wants (take (index + 1) all)
+one-made-more was now one tells wants all next index pushed inside so here is =
+    one-row-more was now one tells (map wants (take index all)) (wants (get_or all index next)) pushed so (is ∙ ap wants here)
+    ∙ sym (map_more wants all index next inside)

@@ -1,3 +1,4 @@
+pub mod Address
 pub mod Alike
 pub mod Calls
 pub mod Files

@@ -1,7 +1,10 @@
 //! The control port: lines in, lines out.
 
+use crate::controlled::Controlled;
+use crate::copy_orders::CopyOrders;
 use crate::ending::Quit;
-use crate::unread::UnreadList;
+use crate::metrics_text::put_metrics;
+use crate::session_places::SessionPlaces;
 use nm_commands::{ControlCommand, Fed, LineRoom, control_line};
 use nm_lanes::Gate;
 use nm_leg::LegPart;
@@ -42,14 +45,14 @@ fn put_status<R: Wait + Clock, L: LegPart, G: Gate + Drop>(
 // The answer to `fail`.
 fn put_fail<R: Wait, L: LegPart, G: Gate + Drop>(
     rt: &R,
-    mirror: &Mirror<L, G>,
+    server: &Controlled<'_, L, G>,
     leg: u8,
     text: &mut String,
 ) -> Result<(), AllocError> {
-    if leg >= mirror.legs() {
+    if leg >= server.mirror.legs() {
         return text.push_str("bad command\n");
     }
-    let counts = mirror.fail_leg(rt, leg);
+    let counts = server.orders.fail(rt, server.mirror, leg);
     writeln!(
         text,
         "fail {leg}: failed {} last {} out {} stopped {}",
@@ -60,19 +63,51 @@ fn put_fail<R: Wait, L: LegPart, G: Gate + Drop>(
 // The answer to `attach`.
 fn put_attach<R: Wait, L: LegPart, G: Gate + Drop>(
     rt: &R,
-    mirror: &Mirror<L, G>,
+    server: &Controlled<'_, L, G>,
     leg: u8,
     text: &mut String,
 ) -> Result<(), AllocError> {
-    if leg >= mirror.legs() {
+    if leg >= server.mirror.legs() {
         return text.push_str("bad command\n");
     }
-    let counts = mirror.attach_leg(rt, leg);
+    let counts = server.orders.attach(rt, server.mirror, leg);
     writeln!(
         text,
         "attach {leg}: joining {} left {} notout {} stopped {}",
         counts.joining, counts.left, counts.not_out, counts.stopped
     )
+}
+
+// The answer to `kick`.
+fn put_kick<R: Wait>(
+    rt: &R,
+    sessions: &SessionPlaces,
+    client: u64,
+    text: &mut String,
+) -> Result<(), AllocError> {
+    if sessions.kick(rt, client) {
+        writeln!(text, "kick {client}: closed")
+    } else {
+        text.push_str("no such client\n")
+    }
+}
+
+// The answer to each form of `copy-rate`: the rate that is set by now.
+fn put_copy_rate(orders: &CopyOrders, text: &mut String) -> Result<(), AllocError> {
+    match orders.rate() {
+        Some(mib) => writeln!(text, "copy-rate {mib}"),
+        None => text.push_str("copy-rate default\n"),
+    }
+}
+
+// Has legs be copied at this rate, and puts the answer.
+fn set_copy_rate(
+    orders: &CopyOrders,
+    rate: Option<u16>,
+    text: &mut String,
+) -> Result<(), AllocError> {
+    orders.set_rate(rate);
+    put_copy_rate(orders, text)
 }
 
 // Puts the answer to a `quit`. Where there is no memory for it, the server ends all the same.
@@ -86,15 +121,26 @@ fn do_line<R: Wait + Clock, L: LegPart, G: Gate + Drop>(
     rt: &R,
     alloc: Global,
     line: &[u8],
-    mirror: &Mirror<L, G>,
-    unread: &UnreadList,
+    server: &Controlled<'_, L, G>,
     text: &mut String,
 ) -> After {
     let put = match control_line(line) {
-        ControlCommand::Status => put_status(rt, alloc, mirror, text),
-        ControlCommand::Unread => unread.put(rt, mirror.shape(), text),
-        ControlCommand::Fail(leg) => put_fail(rt, mirror, leg.min(255) as u8, text),
-        ControlCommand::Attach(leg) => put_attach(rt, mirror, leg.min(255) as u8, text),
+        ControlCommand::Status => put_status(rt, alloc, server.mirror, text),
+        ControlCommand::Unread => server.unread.put(rt, server.mirror.shape(), text),
+        ControlCommand::Info => server.info.put(rt, text),
+        ControlCommand::Metrics => {
+            let unread = server.unread.count(rt);
+            put_metrics(rt, alloc, server.mirror, unread, server.metrics, text)
+        }
+        ControlCommand::Fail(leg) => put_fail(rt, server, leg.min(255) as u8, text),
+        ControlCommand::Attach(leg) => put_attach(rt, server, leg.min(255) as u8, text),
+        ControlCommand::Clients => server.sessions.put(rt, text),
+        ControlCommand::CopyRate => put_copy_rate(server.orders, text),
+        ControlCommand::SetCopyRate(mib) => {
+            set_copy_rate(server.orders, Some(mib.min(65_535) as u16), text)
+        }
+        ControlCommand::DefaultCopyRate => set_copy_rate(server.orders, None, text),
+        ControlCommand::Kick(client) => put_kick(rt, server.sessions, client, text),
         ControlCommand::Quit => return say_bye(Quit::WhenTheyLeave, text),
         ControlCommand::QuitWithin(seconds) => return say_bye(Quit::Within(seconds), text),
         ControlCommand::Bad => text.push_str("bad command\n"),
@@ -118,8 +164,7 @@ fn take_byte<R: Wait + Clock, O: Write, L: LegPart, G: Gate + Drop>(
     room: &mut LineRoom,
     byte: u8,
     writer: &mut O,
-    mirror: &Mirror<L, G>,
-    unread: &UnreadList,
+    server: &Controlled<'_, L, G>,
 ) -> After {
     match room.feed(byte) {
         Fed::More => return After::GoOn,
@@ -127,7 +172,7 @@ fn take_byte<R: Wait + Clock, O: Write, L: LegPart, G: Gate + Drop>(
         Fed::Whole => (),
     }
     let mut text = String::new(alloc);
-    let after = do_line(rt, alloc, room.line(), mirror, unread, &mut text);
+    let after = do_line(rt, alloc, room.line(), server, &mut text);
     room.clear();
     if after == After::Close {
         return After::Close;
@@ -150,8 +195,7 @@ pub fn control<R: Wait + Clock, I: Read, O: Write, L: LegPart, G: Gate + Drop>(
     alloc: Global,
     reader: &mut I,
     writer: &mut O,
-    mirror: &Mirror<L, G>,
-    unread: &UnreadList,
+    server: &Controlled<'_, L, G>,
 ) -> Option<Quit> {
     let mut room = LineRoom::new();
     let mut piece = [0u8; ROOM];
@@ -163,7 +207,7 @@ pub fn control<R: Wait + Clock, I: Read, O: Write, L: LegPart, G: Gate + Drop>(
             return None;
         }
         for byte in &piece[..count] {
-            match take_byte(rt, alloc, &mut room, *byte, writer, mirror, unread) {
+            match take_byte(rt, alloc, &mut room, *byte, writer, server) {
                 After::GoOn => (),
                 After::Close => return None,
                 After::Quit(quit) => return Some(quit),

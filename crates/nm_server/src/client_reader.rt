@@ -10,8 +10,8 @@ use std::sync::atomic::{AtomicBool, Ordering};
 // on this machine takes from a reply to its next request.
 const POLLS: u32 = 100;
 
-/// Reads a client's bytes, and can be polled for them. Once the server closes what is left, there
-/// are no more of them. A client whose bytes cannot be read has gone.
+/// Reads a client's bytes, and can be polled for them. Once the server closes the connection, or
+/// what is left of all, there are no more of them. A client whose bytes cannot be read has gone.
 #[derive(Drop)]
 pub struct ClientReader<'a> {
     client: &'a ClientStream,
@@ -24,18 +24,10 @@ impl<'a> ClientReader<'a> {
         ClientReader { client, is_over }
     }
 
-    // Whether a read would not wait.
-    fn is_ready(&self) -> bool {
-        match self.client.stream.peek(&mut [0u8; 1]) {
-            Ok(_) => true,
-            Err(fault) => !matches!(fault.kind(), ErrorKind::WouldBlock | ErrorKind::Interrupted),
-        }
-    }
-
     // Asks for bytes for a while. Whether a read would not wait.
     fn poll(&self) -> bool {
         for _ in 0..POLLS {
-            if self.is_ready() {
+            if self.client.stream.is_ready() {
                 return true;
             }
             spin_loop();
@@ -48,7 +40,7 @@ impl Read for ClientReader<'_> {
     // A read that is interrupted is made again.
     fn read(&mut self, into: &mut [u8]) -> io::Result<usize> {
         for _ in 0..MOST_TRIES {
-            if self.is_over.load(Ordering::SeqCst) {
+            if self.is_over.load(Ordering::SeqCst) || self.client.is_closed() {
                 return Ok(0);
             }
             let mut stream = &self.client.stream;
@@ -58,7 +50,10 @@ impl Read for ClientReader<'_> {
                     self.client.note_gone();
                     return Err(fault);
                 }
-                Ok(count) => return Ok(count),
+                Ok(count) => {
+                    self.client.activity.note_request();
+                    return Ok(count);
+                }
             }
         }
         Err(io::Error::from(ErrorKind::Interrupted))

@@ -1,9 +1,8 @@
 //! A client's connection, and whether the client has gone.
 
-use libc::net::{POLLERR, POLLHUP, poll};
-use libc::types::pollfd;
-use std::net::{Shutdown, SocketAddr, TcpStream};
-use std::os::fd::AsRawFd;
+use crate::activity::Activity;
+use crate::stream::{Peer, Stream};
+use std::net::Shutdown;
 use std::sync::atomic::{AtomicBool, Ordering};
 
 /// A client's connection, where it comes from, and whether the client has gone.
@@ -12,29 +11,26 @@ use std::sync::atomic::{AtomicBool, Ordering};
 /// it: it may wait for its replies.
 #[derive(Drop)]
 pub struct ClientStream {
-    pub stream: TcpStream,
-    pub address: SocketAddr,
+    pub stream: Stream,
+    pub address: Peer,
+    /// The session's number, once it has a place.
+    pub number: u64,
+    /// What goes on in the session.
+    pub activity: Activity,
     is_gone: AtomicBool,
-}
-
-// Whether the system calls the connection broken, or closed both ways. The end of what a client
-// sends is neither.
-fn is_broken(stream: &TcpStream) -> bool {
-    let mut asked = [pollfd {
-        fd: stream.as_raw_fd(),
-        events: 0,
-        revents: 0,
-    }];
-    poll(&mut asked, 0) > 0 && asked[0].revents & (POLLERR | POLLHUP) != 0
+    is_closed: AtomicBool,
 }
 
 impl ClientStream {
     /// A connection that was just taken.
-    pub fn new(stream: TcpStream, address: SocketAddr) -> ClientStream {
+    pub fn new(stream: Stream, address: Peer) -> ClientStream {
         ClientStream {
             stream,
             address,
+            number: 0,
+            activity: Activity::new(),
             is_gone: AtomicBool::new(false),
+            is_closed: AtomicBool::new(false),
         }
     }
 
@@ -50,13 +46,19 @@ impl ClientStream {
 
     /// Asks the system whether the client has gone. It takes nothing of the connection's bytes.
     pub fn look(&self) {
-        if is_broken(&self.stream) {
+        if self.stream.is_broken() {
             self.note_gone();
         }
     }
 
+    /// Whether the server has closed the connection.
+    pub fn is_closed(&self) -> bool {
+        self.is_closed.load(Ordering::SeqCst)
+    }
+
     /// Closes the connection: nothing more is read from it or written to it.
     pub fn hang_up(&self) {
+        self.is_closed.store(true, Ordering::SeqCst);
         self.note_gone();
         let _ = self.stream.shutdown(Shutdown::Both);
     }

@@ -21,7 +21,10 @@ impl Write for ClientWriter<'_> {
     fn write(&mut self, bytes: &[u8]) -> io::Result<usize> {
         for _ in 0..MOST_TRIES {
             let mut stream = &self.client.stream;
-            match stream.write(bytes) {
+            self.client.activity.begin_send();
+            let written = stream.write(bytes);
+            self.client.activity.end_send();
+            match written {
                 Err(fault) if fault.kind() == ErrorKind::Interrupted => (),
                 Err(fault) => {
                     self.client.note_gone();

@@ -1,9 +1,10 @@
 //! The places of the control port: which connections are served, and which makes room.
 
+use crate::stream::Stream;
 use nm_replay::Memory;
 use nm_service::{Seat, idle_longest};
 use std::alloc::Global;
-use std::net::{Shutdown, TcpStream};
+use std::net::Shutdown;
 use std::sync::{Arc, Condvar, Mutex, Wait};
 
 /// How many connections are served at once.
@@ -13,8 +14,8 @@ pub const CONNECTIONS: usize = 4;
 #[derive(Drop)]
 struct Desk {
     seats: [Seat; CONNECTIONS],
-    served: Vec<Option<Arc<TcpStream>>>,
-    waiting: Vec<Arc<TcpStream>>,
+    served: Vec<Option<Arc<Stream>>>,
+    waiting: Vec<Arc<Stream>>,
     turn: u64,
     is_closed: bool,
 }
@@ -89,26 +90,28 @@ impl ControlPlaces {
 
     /// Gives a connection a place, for which the one that was idle longest is closed where none is
     /// free. Where no place is free or idle the connection waits for one, but the fifth is dropped.
-    pub fn offer<R: Wait>(&self, rt: &R, stream: TcpStream) {
+    /// Whether it is kept.
+    pub fn offer<R: Wait>(&self, rt: &R, stream: Stream) -> bool {
         let mut desk = self.desk.lock(rt);
         if desk.is_closed || desk.waiting.len() >= CONNECTIONS {
-            return;
+            return false;
         }
         let Ok(stream) = Arc::new(self.alloc, stream) else {
-            return;
+            return false;
         };
         if desk.waiting.push(stream).is_err() {
-            return;
+            return false;
         }
         if desk.free() < desk.waiting.len() {
             desk.make_room();
         }
         drop(desk);
         self.changed.notify_all();
+        true
     }
 
     /// Waits for a connection for the place of this number. None comes once the places are closed.
-    pub fn take<R: Wait>(&self, rt: &R, number: usize) -> Option<Arc<TcpStream>> {
+    pub fn take<R: Wait>(&self, rt: &R, number: usize) -> Option<Arc<Stream>> {
         let mut desk = self.changed.wait_while(rt, self.desk.lock(rt), |desk| {
             desk.waiting.is_empty() && !desk.is_closed
         });

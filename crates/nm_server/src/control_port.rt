@@ -3,15 +3,18 @@
 use crate::answering::control;
 use crate::control_places::{CONNECTIONS, ControlPlaces};
 use crate::control_stream::ControlStream;
+use crate::controlled::Controlled;
 use crate::ending::{Ending, Quit};
+use crate::incidents::Incident;
+use crate::listener::Listener;
+use crate::log_lines::LogLines;
+use crate::stream::Stream;
 use crate::timed_stream::TimedStream;
-use crate::unread::UnreadList;
 use nm_lanes::Gate;
 use nm_leg::LegPart;
-use nm_mirror::Mirror;
 use std::alloc::Global;
 use std::cell::Cell;
-use std::net::{IpAddr, Ipv4Addr, Ipv6Addr, Net, Shutdown, SocketAddr, TcpListener, TcpStream};
+use std::net::{Net, Shutdown, TcpListener, TcpStream};
 use std::sync::Wait;
 use std::sync::atomic::{AtomicBool, Ordering};
 use std::thread;
@@ -24,36 +27,10 @@ const LINE_SECONDS: u64 = 60;
 /// How many milliseconds pass after a call that failed.
 const AFTER_FAILURE_MILLISECONDS: u64 = 100;
 
-// Where the server's own listener is reached.
-fn own_address(listener: &TcpListener) -> Option<SocketAddr> {
-    let address = listener.local_addr().ok()?;
-    let ip = match address.ip() {
-        IpAddr::V4(ip) if ip.is_unspecified() => IpAddr::V4(Ipv4Addr::LOCALHOST),
-        IpAddr::V6(ip) if ip.is_unspecified() => IpAddr::V6(Ipv6Addr::LOCALHOST),
-        ip => ip,
-    };
-    Some(SocketAddr::new(ip, address.port()))
-}
-
-/// Wakes the thread that accepts connections, so that it sees that the server ends.
-pub fn wake_listener<R: Wait + Clock + Net<Listener = TcpListener, Stream = TcpStream>>(
-    rt: &R,
-    listener: &TcpListener,
-) {
-    for _ in rt.forever() {
-        if let Some(address) = own_address(listener) {
-            if TcpStream::connect(rt, address).is_ok() {
-                return;
-            }
-        }
-        thread::sleep(rt, Duration::from_millis(AFTER_FAILURE_MILLISECONDS));
-    }
-}
-
 // One way of a connection.
 fn one_way<'a, R: Clock>(
     rt: &'a R,
-    stream: &'a TcpStream,
+    stream: &'a Stream,
     begun: &'a Cell<Instant>,
     places: &'a ControlPlaces,
     number: usize,
@@ -71,16 +48,15 @@ fn one_way<'a, R: Clock>(
 fn serve_connection<R: Wait + Clock, L: LegPart, G: Gate + Drop>(
     rt: &R,
     alloc: Global,
-    stream: &TcpStream,
+    stream: &Stream,
     places: &ControlPlaces,
     number: usize,
-    mirror: &Mirror<L, G>,
-    unread: &UnreadList,
+    server: &Controlled<'_, L, G>,
 ) -> Option<Quit> {
     let begun = Cell::new(Instant::now(rt).ok()?);
     let mut reader = one_way(rt, stream, &begun, places, number);
     let mut writer = one_way(rt, stream, &begun, places, number);
-    control(rt, alloc, &mut reader, &mut writer, mirror, unread)
+    control(rt, alloc, &mut reader, &mut writer, server)
 }
 
 /// Serves the connections that get the place of this number, one after the other, until the places
@@ -90,9 +66,8 @@ fn serve_seat<R, L: LegPart, G: Gate + Drop>(
     alloc: Global,
     places: &ControlPlaces,
     number: usize,
-    clients: &TcpListener,
-    mirror: &Mirror<L, G>,
-    unread: &UnreadList,
+    clients: &Listener,
+    server: &Controlled<'_, L, G>,
     ending: &Ending,
 )
 where
@@ -102,12 +77,12 @@ where
         let Some(stream) = places.take(rt, number) else {
             return;
         };
-        let asked = serve_connection(rt, alloc, &stream, places, number, mirror, unread);
+        let asked = serve_connection(rt, alloc, &stream, places, number, server);
         places.free(rt, number);
         let _ = stream.shutdown(Shutdown::Write);
         if let Some(quit) = asked {
             ending.begin(rt, quit);
-            wake_listener(rt, clients);
+            clients.wake(rt);
         }
     }
 }
@@ -115,9 +90,11 @@ where
 // Takes the control port's connections and gives them places, until the server has ended.
 fn take_connections<R: Wait + Clock>(
     rt: &R,
-    listener: &TcpListener,
+    alloc: Global,
+    listener: &Listener,
     places: &ControlPlaces,
     has_ended: &AtomicBool,
+    lines: &LogLines,
 ) {
     for _ in rt.forever() {
         let accepted = listener.accept();
@@ -125,8 +102,19 @@ fn take_connections<R: Wait + Clock>(
             return;
         }
         match accepted {
-            Ok((stream, _)) => places.offer(rt, stream),
-            Err(_) => thread::sleep(rt, Duration::from_millis(AFTER_FAILURE_MILLISECONDS)),
+            Ok((stream, address)) => {
+                if !places.offer(rt, stream) {
+                    let text = format!(in alloc;
+                        "control port: {address}: refused: all {CONNECTIONS} places are taken"
+                    );
+                    lines.warn_of(rt, Incident::ControlDropped, text);
+                }
+            }
+            Err(error) => {
+                let text = format!(in alloc; "control port: a connection was not taken: {error}");
+                lines.warn_of(rt, Incident::ControlNotAccepted, text);
+                thread::sleep(rt, Duration::from_millis(AFTER_FAILURE_MILLISECONDS));
+            }
         }
     }
 }
@@ -137,30 +125,31 @@ fn take_connections<R: Wait + Clock>(
 pub fn serve_control<R, L: LegPart + Send, G: Gate + Drop + Sync>(
     rt: &R,
     alloc: Global,
-    listeners: (&TcpListener, &TcpListener),
+    listeners: (&Listener, &Listener),
     places: &ControlPlaces,
-    mirror: &Mirror<L, G>,
-    unread: &UnreadList,
+    controlled: Controlled<'_, L, G>,
     ending: &Ending,
     has_ended: &AtomicBool,
+    lines: &LogLines,
 ) -> bool
 where
     R: Threads + Wait + Sync + Clock + Net<Listener = TcpListener, Stream = TcpStream>,
 {
     let (clients, control) = listeners;
+    let server = &controlled;
     thread::scope(thread::scope_env(), rt, |scope| {
         for number in 0..CONNECTIONS {
             let start = scope.spawn(move || {
-                serve_seat(rt, alloc, places, number, clients, mirror, unread, ending)
+                serve_seat(rt, alloc, places, number, clients, server, ending)
             });
             if start.is_err() {
                 places.close(rt);
                 ending.begin(rt, Quit::WhenTheyLeave);
-                wake_listener(rt, clients);
+                clients.wake(rt);
                 return false;
             }
         }
-        take_connections(rt, control, places, has_ended);
+        take_connections(rt, alloc, control, places, has_ended, lines);
         places.close(rt);
         true
     })

@@ -1,7 +1,10 @@
 //! Who copies legs, and tells what happens to them.
 ghost use Rattle.nm_server.specs.Rounds.{IsRoundOf};
 
+use crate::copy_orders::CopyOrders;
+use crate::healing::Healing;
 use crate::leg_lines::LegLines;
+use crate::leg_opener::OpensLegs;
 use crate::leg_story::LegStory;
 use crate::log_lines::LogLines;
 use crate::unread::UnreadList;
@@ -21,13 +24,19 @@ pub struct Copier {
     shape: Shape,
     round: CopyRound,
     story: LegStory,
+    healing: Option<Healing>,
     ghost fits: { IsRoundOf shape round },
 }
 
 impl Copier {
-    /// A copier of mirrors of this shape, before its first turn, which tells of these legs. It takes
-    /// no more memory but for lines.
-    pub fn new(alloc: Global, shape: &Shape, legs: Vec<LegLines>) -> Result<Copier, AllocError> {
+    /// A copier of mirrors of this shape, before its first turn, which tells of these legs, and
+    /// attaches again those that are to heal. It takes no more memory but for lines.
+    pub fn new(
+        alloc: Global,
+        shape: &Shape,
+        legs: Vec<LegLines>,
+        healing: Option<Healing>,
+    ) -> Result<Copier, AllocError> {
         let round = CopyRound::new(alloc, shape.stripes, shape.legs)?;
         let story = LegStory::new(alloc, shape, legs)?;
         Ok(Copier {
@@ -35,20 +44,21 @@ impl Copier {
             shape: *shape,
             round,
             story,
+            healing,
         })
     }
 
-    /// Takes a turn at copying. Whether it did anything, which it does for mirrors of its shape.
+    /// Takes a turn at copying, in a mirror of its shape. How many steps were done.
     pub fn turn<R: Wait, L: LegPart, G: Gate + Drop>(
         &mut self,
         rt: &R,
         mirror: &Mirror<L, G>,
-    ) -> bool {
+    ) -> u32 {
         let shape = mirror.shape();
         if shape.stripes != self.shape.stripes || shape.legs != self.shape.legs {
-            return false;
+            return 0;
         }
-        mirror.resync_turn(rt, &mut self.round) > 0
+        mirror.resync_turn(rt, &mut self.round)
     }
 
     /// Tells how each leg stands, as the server begins or ends.
@@ -76,6 +86,30 @@ impl Copier {
         self.story
             .tell_unread(rt, self.alloc, lines, mirror.shape(), known);
         self.story.tell_changes(rt, self.alloc, lines, mirror, now);
+    }
+
+    /// Attaches the legs that are to heal and due at this time, in milliseconds, as last told.
+    pub fn heal<R: Wait, O: OpensLegs, L: LegPart, G: Gate + Drop>(
+        &mut self,
+        rt: &R,
+        opener: &O,
+        mirror: &Mirror<L, G>,
+        orders: &CopyOrders,
+        lines: &LogLines,
+        now: u64,
+    ) {
+        if let Some(healing) = &mut self.healing {
+            healing.look(
+                rt,
+                self.alloc,
+                opener,
+                &self.story,
+                mirror,
+                orders,
+                lines,
+                now,
+            );
+        }
     }
 
     /// Whether something could not be read.

@@ -1,8 +1,9 @@
-//! A leg's file of which the reads are counted, so that a long comparison can report its progress,
-//! and of which the calls that fail are noted.
-ghost use Rattle.std.specs.Prelude.{false};
+//! A leg's file of which the calls are counted, so that a long comparison can report its progress,
+//! and of which those that fail are noted.
+ghost use Rattle.std.specs.Prelude.{◌≡◌, false, IfOk};
 ghost use Rattle.nm_file_leg.specs.Media.{unknown};
 
+use crate::leg_counts::{LegCall, LegCounts};
 use crate::leg_trouble::{FileCall, LegTrouble};
 use nm_file_leg::{FileUser, Medium};
 use std::alloc::AllocError;
@@ -24,23 +25,46 @@ pub struct CountingFile {
     bytes: u64,
     read: BytesRead,
     trouble: Arc<LegTrouble>,
+    counts: Arc<LegCounts>,
 }
 
 impl CountingFile {
-    /// This user of a file of so many bytes, whose reads are counted and whose calls that fail are
+    /// This user of a file of so many bytes, whose calls are counted, and those that fail are
     /// noted here.
     pub fn new(
         file: FileUser<File>,
         bytes: u64,
         read: &BytesRead,
         trouble: &Arc<LegTrouble>,
-    ) -> Result<Self, AllocError> {
+        counts: &Arc<LegCounts>,
+    ) -> Result<Self, AllocError>
+        ensures { IfOk result (λ counting. counting.file ≡ file) }
+    {
         Ok(CountingFile {
             file,
             bytes,
             read: Arc::try_clone(read)?,
             trouble: Arc::try_clone(trouble)?,
+            counts: Arc::try_clone(counts)?,
         })
+    }
+}
+
+impl CountingFile {
+    // Notes a write that came short, as on a full file system: why is what a write of the rest is
+    // answered.
+    fn note_short(&mut self, at: u64, bytes: &[u8], moved: usize) {
+        let Some(rest) = bytes.get(moved..) else {
+            return;
+        };
+        if rest.is_empty() {
+            return;
+        }
+        let at = at.saturating_add(moved as u64);
+        match self.file.write_at(at, rest) {
+            Ok(_) => self.trouble.note(FileCall::Write, at, None),
+            Err(error) => self.trouble.note(FileCall::Write, at, Some(&error)),
+        }
     }
 }
 
@@ -56,10 +80,12 @@ impl Medium for CountingFile {
                     self.trouble.note(FileCall::Length, at, None);
                 }
                 self.read.fetch_add(found as u64, Ordering::SeqCst);
+                self.counts.note(LegCall::Read, Some(found));
                 Ok(found)
             }
             Err(error) => {
                 self.trouble.note(FileCall::Read, at, Some(&error));
+                self.counts.note(LegCall::Read, None);
                 Err(error)
             }
         }
@@ -67,16 +93,27 @@ impl Medium for CountingFile {
 
     fn write_at(&mut self, at: u64, bytes: &[u8]) -> io::Result<usize> {
         let written = self.file.write_at(at, bytes);
-        if let Err(error) = &written {
-            self.trouble.note(FileCall::Write, at, Some(error));
+        match &written {
+            Ok(moved) => {
+                self.counts.note(LegCall::Write, Some(*moved));
+                self.note_short(at, bytes, *moved);
+            }
+            Err(error) => {
+                self.trouble.note(FileCall::Write, at, Some(error));
+                self.counts.note(LegCall::Write, None);
+            }
         }
         written
     }
 
     fn sync(&mut self) -> io::Result<()> {
         let synced = self.file.sync();
-        if let Err(error) = &synced {
-            self.trouble.note(FileCall::Sync, 0, Some(error));
+        match &synced {
+            Ok(()) => self.counts.note(LegCall::Sync, Some(0)),
+            Err(error) => {
+                self.trouble.note(FileCall::Sync, 0, Some(error));
+                self.counts.note(LegCall::Sync, None);
+            }
         }
         synced
     }

@@ -2,9 +2,12 @@
 ghost use Rattle.std.specs.Prelude.{length};
 ghost use Rattle.nm_server.specs.Calls.{Acts, IsEven, IsInside, answered};
 
+use crate::call_counts::{CallCounts, CallKind, bytes_of};
+use crate::elapsed::microseconds_since;
 use crate::leg_files::{FileMirror, Leg};
 use crate::mirror_call::MirrorCall;
 use crate::mirror_calls::MirrorCalls;
+use crate::session_places::SessionPlaces;
 use nm_geometry::Shape;
 use nm_lanes::{Gate, WriteFault};
 use nm_leg::LegPart;
@@ -15,16 +18,20 @@ use std::marker::{Send, Sync};
 use std::sync::Wait;
 use std::sync::atomic::AtomicBool;
 use std::thread::Threads;
+use std::time::{Clock, Instant};
 
-/// The mirror of the program, with the runtime whose threads are at work in its stripes.
+/// The mirror of the program, with the runtime whose threads are at work in its stripes, and where
+/// its calls are counted: those of a place, and those of all places.
 #[derive(Drop)]
 pub struct FileCalls<'a, R> {
     pub(crate) rt: &'a R,
     pub(crate) alloc: Global,
     pub(crate) mirror: &'a FileMirror,
+    pub(crate) counts: Option<&'a CallCounts>,
+    pub(crate) places: &'a SessionPlaces,
 }
 
-impl<'a, R: Threads + Wait + Sync + Copy> MirrorCalls<Leg> for FileCalls<'a, R> {
+impl<'a, R: Threads + Wait + Sync + Copy + Clock> MirrorCalls<Leg> for FileCalls<'a, R> {
     ghost use Rattle.std.specs.Thread.{IsSync};
 
     ghost ready = { λ calls. IsSync R.row };
@@ -42,7 +49,19 @@ impl<'a, R: Threads + Wait + Sync + Copy> MirrorCalls<Leg> for FileCalls<'a, R> 
         into: &mut [u8],
         is_gone: Option<&AtomicBool>,
     ) -> Result<(), TargetFault> {
-        call_mirror(self.rt, self.alloc, self.mirror, pass, call, into, is_gone)
+        self.places.count_call();
+        let (kind, bytes) = (CallKind::of(&call), bytes_of(&call, into.len()));
+        let begun = Instant::now(self.rt).ok();
+        let answer = call_mirror(self.rt, self.alloc, self.mirror, pass, call, into, is_gone);
+        if let Some(counts) = self.counts {
+            counts.note(
+                kind,
+                bytes,
+                microseconds_since(self.rt, &begun),
+                answer.is_ok(),
+            );
+        }
+        answer
     }
 }
 

@@ -1,12 +1,13 @@
 //! The end of a session's reading.
-use std::net::{Shutdown, TcpStream};
+use crate::stream::Stream;
+use std::net::Shutdown;
 
 /// Ends the read of a client's bytes that is under way, once it is dropped.
 ///
 /// A session that broke off has no use for more of them, while its client may wait for a reply and
 /// send none.
 pub struct HangUp<'a> {
-    pub stream: &'a TcpStream,
+    pub stream: &'a Stream,
 }
 
 impl Drop for HangUp<'_> {

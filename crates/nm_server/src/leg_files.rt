@@ -1,11 +1,14 @@
 //! The files of the legs.
-ghost use Rattle.std.specs.Prelude.{◌≡◌, ◌<◌, ◌≤◌, ◌↔◌, ◌*◌, ◌-◌, ◌^◌, min, length};
-ghost use Rattle.std.specs.Prelude.{IsSome, IfSome, IfOk, All};
+ghost use Rattle.std.specs.Prelude.{◌≡◌, ◌<◌, ◌≤◌, ◌↔◌, ◌^◌, map};
+ghost use Rattle.std.specs.Prelude.{IsSome, IfSome, IfOk};
 ghost use Rattle.nm_geometry.specs.Geometry.{IsGeometry};
-ghost use Rattle.nm_server.specs.Files.{laid_over};
+ghost use Rattle.nm_server.specs.Files.{bytes_in, laid_over, leg_place, mirror_places, name_of};
+ghost use Rattle.nm_server.specs.Files.{names_of, place_on, stripe_places};
 
 use crate::counting_file::{BytesRead, CountingFile};
+use crate::leg_counts::LegCounts;
 use crate::leg_lines::LegLines;
+use crate::leg_place::LegPlace;
 use crate::leg_trouble::LegTrouble;
 use crate::reason::Unopened;
 use crate::start_fault::StartFault;
@@ -17,7 +20,6 @@ use nm_system::{Limits, is_in_use};
 use std::alloc::{AllocError, Global};
 use std::fs::{File, OpenOptions, TryLockError};
 use std::io::{Seek, SeekFrom};
-use std::marker::Model;
 use std::rt::Files;
 use std::sync::Arc;
 
@@ -40,30 +42,23 @@ pub type Leg = FileLeg<CountingFile>;
 /// The mirror that the program serves.
 pub type FileMirror = Mirror<Leg, NoGate>;
 
-// A leg's file, and what of it failed last.
+/// A leg's file by the name that it was opened by, what of it failed last, and how often it
+/// was called.
 #[derive(Drop)]
-struct LegFile {
+pub struct LegFile {
+    name: String,
     shared: Arc<SharedFile<File>>,
     trouble: Arc<LegTrouble>,
+    counts: Arc<LegCounts>,
 }
 
 /// The legs' files, each opened once for all stripes and locked, so that no other server and no
-/// other leg uses it. Contracts see how many there are, and how many blocks each has.
+/// other leg uses it.
 #[derive(Drop)]
 pub struct LegFiles {
     files: Vec<LegFile>,
+    // How many blocks each of them has.
     blocks: u64,
-}
-
-impl Model for LegFiles {
-    ghost use Rattle.std.specs.Prelude.{length};
-    ghost use Rattle.nm_server.specs.Files.{Files, AreFiles};
-
-    ghost Value = { Files };
-
-    ghost view = { λ f. record { legs = length f.files.items; blocks = f.blocks } };
-
-    ghost invariant = { λ f. AreFiles (record { legs = length f.files.items; blocks = f.blocks }) };
 }
 
 // Opens a leg's file for reading and writing, and locks it.
@@ -80,8 +75,8 @@ fn open_locked<R: Files<File = File>>(rt: &R, name: &str) -> Result<File, Unopen
     }
 }
 
-// How many bytes a leg's file has, where it has a length.
-fn bytes_of(file: &File) -> Option<u64> {
+/// How many bytes a leg's file has, where it has a length.
+pub fn bytes_of(file: &File) -> Option<u64> {
     let mut file = file;
     file.seek(SeekFrom::End(0)).ok()
 }
@@ -139,18 +134,63 @@ fn check_length<'a>(
     }
 }
 
-// A leg's file for the stripes, of which there are at most so many.
-fn share(alloc: Global, file: File) -> Result<LegFile, AllocError> {
+// The file of this name for the stripes, of which there are at most so many.
+fn share(alloc: Global, name: &str, file: File) -> Result<LegFile, AllocError>
+    ensures { IfOk result (λ leg. name_of leg ≡ name.now) }
+{
+    let name = String::from_str(alloc, name)?;
     let shared = SharedFile::new(alloc, file, MOST_STRIPES as usize)?;
     Ok(LegFile {
+        name,
         shared: Arc::new(alloc, shared)?,
         trouble: Arc::new(alloc, LegTrouble::new())?,
+        counts: Arc::new(alloc, LegCounts::new())?,
     })
 }
 
+// Opens, locks and measures the file of this leg, and says how many blocks it has, where leg 0 has
+// so many.
+fn open_leg<'a, R: Files<File = File>>(
+    rt: &R,
+    alloc: Global,
+    number: usize,
+    name: &str,
+    blocks: u64,
+    force_in_use: bool,
+    limits: &Limits,
+) -> Result<(LegFile, u64), StartFault<'a>>
+    requires { blocks ≤ 2 ^ 31 }
+    ensures name { IfOk result (λ opened. name_of opened.0 ≡ name.now) }
+    ensures blocks { IfOk result (λ opened. opened.1 ≤ 2 ^ 31) }
+{
+    let file = match open_locked(rt, name) {
+        Ok(file) => file,
+        Err(why) => return Err(StartFault::CannotOpen(number, why)),
+    };
+    if !force_in_use && is_in_use(rt, alloc, &file)? {
+        return Err(StartFault::InUse(number));
+    }
+    let bytes = bytes_of(&file);
+    let Some(own) = blocks_of(bytes) else {
+        return Err(StartFault::BadLength(number, bytes));
+    };
+    check_length(
+        &file,
+        number,
+        own,
+        blocks_of_leg_0(number, own, blocks),
+        limits,
+    )?;
+    match share(alloc, name, file) {
+        Ok(leg) => Ok((leg, own)),
+        Err(_) => Err(StartFault::Memory),
+    }
+}
+
 impl LegFiles {
-    /// Opens, locks and measures the legs' files, one after the other. One that the system has in
-    /// use is refused unless that is allowed, and one that is longer than files may be written.
+    /// Opens, locks and measures the legs' files, one after the other, leg 0's by the first name.
+    /// One that the system has in use is refused unless that is allowed, and one that is longer
+    /// than files may be written.
     pub fn open<'a, R: Files<File = File>>(
         rt: &R,
         alloc: Global,
@@ -158,47 +198,57 @@ impl LegFiles {
         force_in_use: bool,
         limits: &Limits,
     ) -> Result<LegFiles, StartFault<'a>>
-        ensures ok { IfOk result (λ files. files.legs ≡ length names.now) }
+        ensures { IfOk result (λ files. names_of files ≡ map (λ name. name.now) names.now) }
     {
         let mut files = Vec::new(alloc);
         let mut blocks = 0u64;
         for number in 0..names.len() {
-            let file = match open_locked(rt, names[number]) {
-                Ok(file) => file,
-                Err(why) => return Err(StartFault::CannotOpen(number, why)),
-            };
-            if !force_in_use && is_in_use(rt, alloc, &file)? {
-                return Err(StartFault::InUse(number));
-            }
-            let bytes = bytes_of(&file);
-            let Some(own) = blocks_of(bytes) else {
-                return Err(StartFault::BadLength(number, bytes));
-            };
-            blocks = blocks_of_leg_0(number, own, blocks);
-            check_length(&file, number, own, blocks, limits)?;
-            let Ok(shared) = share(alloc, file) else {
-                return Err(StartFault::Memory);
-            };
-            if files.push(shared).is_err() {
+            let name = names[number];
+            let (leg, own) = open_leg(rt, alloc, number, name, blocks, force_in_use, limits)?;
+            blocks = own;
+            if files.push(leg).is_err() {
                 return Err(StartFault::Memory);
             }
         }
         Ok(LegFiles { files, blocks })
     }
 
-    /// The lines on these legs, by these names of their files.
-    pub fn lines(&self, alloc: Global, names: &[&str]) -> Result<Vec<LegLines>, AllocError> {
+    /// The lines on these legs.
+    pub fn lines(&self, alloc: Global) -> Result<Vec<LegLines>, AllocError> {
         let mut lines = Vec::new(alloc);
-        for (leg, (file, name)) in self.files.iter().zip(names).enumerate() {
+        for (leg, file) in self.files.iter().enumerate() {
+            let name = String::from_str(alloc, file.name.as_str())?;
             let trouble = Arc::try_clone(&file.trouble)?;
-            lines.push(LegLines::new(leg, format!(in alloc; "{name}")?, trouble))?;
+            lines.push(LegLines::new(leg, name, trouble))?;
         }
         Ok(lines)
     }
 
+    /// Where the calls of each leg are counted.
+    pub fn counts(&self, alloc: Global) -> Result<Vec<Arc<LegCounts>>, AllocError> {
+        let mut counts = Vec::new(alloc);
+        for file in &self.files {
+            counts.push(Arc::try_clone(&file.counts)?)?;
+        }
+        Ok(counts)
+    }
+
+    /// The files as they were opened by their names.
+    pub fn places(&self, alloc: Global) -> Result<Vec<LegPlace>, AllocError> {
+        let mut places = Vec::new(alloc);
+        for file in &self.files {
+            let name = String::from_str(alloc, file.name.as_str())?;
+            let shared = Arc::try_clone(&file.shared)?;
+            let trouble = Arc::try_clone(&file.trouble)?;
+            let bytes = self.blocks.saturating_mul(BLOCK_BYTES);
+            places.push(LegPlace::new(name, shared, trouble, bytes))?;
+        }
+        Ok(places)
+    }
+
     /// How many bytes all the files have.
     pub fn bytes(&self) -> u64
-        ensures { result ≡ min (512 * self.now.blocks * self.now.legs) (2 ^ 64 - 1) }
+        ensures { result ≡ bytes_in self.now }
     {
         let own = self.blocks.saturating_mul(BLOCK_BYTES);
         own.saturating_mul(self.files.len() as u64)
@@ -221,7 +271,7 @@ impl LegFiles {
     }
 }
 
-// The leg of a stripe on this file.
+// The leg of a stripe on this file, whose user of that number it is.
 fn stripe_leg<'a>(
     file: &LegFile,
     number: usize,
@@ -230,13 +280,14 @@ fn stripe_leg<'a>(
     read: &BytesRead,
 ) -> Result<Leg, StartFault<'a>>
     requires { stripe < shape.now.stripes }
-    ensures own { IfOk result (λ leg. (leg.shape ≡ shape.now) × (leg.stripe ≡ stripe)) }
+    ensures { IfOk result (λ leg. leg_place leg.medium leg.stripe leg.shape
+        ≡ place_on stripe shape.now file.now) }
 {
     let bytes = shape.blocks.saturating_mul(BLOCK_BYTES);
     let Ok(user) = FileUser::new(&file.shared, stripe as usize) else {
         return Err(StartFault::Memory);
     };
-    let Ok(counting) = CountingFile::new(user, bytes, read, &file.trouble) else {
+    let Ok(counting) = CountingFile::new(user, bytes, read, &file.trouble, &file.counts) else {
         return Err(StartFault::Memory);
     };
     match FileLeg::new(counting, shape, stripe) {
@@ -245,8 +296,8 @@ fn stripe_leg<'a>(
     }
 }
 
-/// The legs of one stripe, one on each leg's file, and what is read of them counted.
-pub fn stripe_legs<'a>(
+// The legs of one stripe, one on each leg's file in their order, and what is read of them counted.
+fn stripe_legs<'a>(
     alloc: Global,
     files: &LegFiles,
     shape: &Shape,
@@ -254,13 +305,13 @@ pub fn stripe_legs<'a>(
     read: &BytesRead,
 ) -> Result<Vec<Leg>, StartFault<'a>>
     requires { stripe < shape.now.stripes }
-    ensures count { IfOk result (λ legs. length legs.items ≡ files.now.legs) }
-    ensures own { IfOk result (λ legs. All (λ leg.
-        (leg.shape ≡ shape.now) × (leg.stripe ≡ stripe)) legs.items) }
+    ensures { IfOk result (λ legs.
+        map (λ leg. leg_place leg.medium leg.stripe leg.shape) legs.items
+        ≡ stripe_places stripe shape.now files.now) }
 {
     let mut legs = Vec::new(alloc);
-    for number in 0..files.files.len() {
-        let leg = match stripe_leg(&files.files[number], number, shape, stripe, read) {
+    for (number, file) in files.files.iter().enumerate() {
+        let leg = match stripe_leg(file, number, shape, stripe, read) {
             Ok(leg) => leg,
             Err(fault) => return Err(fault),
         };
@@ -269,4 +320,29 @@ pub fn stripe_legs<'a>(
         }
     }
     Ok(legs)
+}
+
+/// The legs of all stripes of a mirror, one list a stripe: each is a user of its own of its leg's
+/// file, the first leg of each stripe of the first file.
+pub fn mirror_legs<'a>(
+    alloc: Global,
+    files: &LegFiles,
+    shape: &Shape,
+    read: &BytesRead,
+) -> Result<Vec<Vec<Leg>>, StartFault<'a>>
+    ensures { IfOk result (λ legs. map (λ own.
+        map (λ leg. leg_place leg.medium leg.stripe leg.shape) own.items) legs.items
+        ≡ mirror_places shape.now files.now) }
+{
+    let mut all = Vec::new(alloc);
+    for stripe in 0..shape.stripes {
+        let own = match stripe_legs(alloc, files, shape, stripe, read) {
+            Ok(own) => own,
+            Err(fault) => return Err(fault),
+        };
+        if all.push(own).is_err() {
+            return Err(StartFault::Memory);
+        }
+    }
+    Ok(all)
 }

@@ -113,7 +113,7 @@ impl LegLines {
         }
         if change.stops {
             let because = self.because();
-            lines.warn(
+            lines.alert(
                 rt,
                 format!(in alloc;
                     "{stopped} of {all} stripes have stopped: leg {leg} ({file}) failed as their \
@@ -196,7 +196,7 @@ impl LegLines {
         length: u64,
     ) {
         let (leg, file, because) = (self.leg, self.file.as_str(), self.because());
-        lines.warn(
+        lines.alert(
             rt,
             format!(in alloc;
                 "leg {leg} ({file}): {length} bytes of the export at {offset} cannot be read, and \

@@ -107,8 +107,8 @@ impl LegStory {
         }
     }
 
-    // How a leg stands in all stripes.
-    fn sight(&self, leg: usize) -> LegSight {
+    /// How a leg stands in all stripes, as they were last seen.
+    pub fn sight(&self, leg: usize) -> LegSight {
         let mut sight = UNSEEN;
         for view in &self.stripes {
             view.add(leg, &mut sight);

@@ -1,5 +1,6 @@
 //! What of a leg's file failed last.
 
+use std::io::ErrorKind;
 use std::sync::atomic::{AtomicBool, AtomicU32, AtomicU64, Ordering};
 use std::{fmt, io};
 
@@ -54,6 +55,9 @@ impl fmt::Display for Trouble {
             FileCall::Length => f.write_str("it has not the length that it had")?,
         }
         match &self.error {
+            Some(error) if error.kind() == ErrorKind::StorageFull => {
+                f.write_str(": no space left on its file system")
+            }
             Some(error) => write!(f, ": {error}"),
             None => Ok(()),
         }
@@ -67,6 +71,8 @@ pub struct LegTrouble {
     // Whether somebody is at the fields below.
     is_taken: AtomicBool,
     is_new: AtomicBool,
+    // Whether the file was ever found shorter than at the start.
+    was_cut: AtomicBool,
     call: AtomicU64,
     at: AtomicU64,
     // The system's number of the error, or 0.
@@ -79,6 +85,7 @@ impl LegTrouble {
         LegTrouble {
             is_taken: AtomicBool::new(false),
             is_new: AtomicBool::new(false),
+            was_cut: AtomicBool::new(false),
             call: AtomicU64::new(0),
             at: AtomicU64::new(0),
             error: AtomicU32::new(0),
@@ -87,6 +94,9 @@ impl LegTrouble {
 
     /// Notes a call that failed, at this byte. Of several at a time one is noted.
     pub fn note(&self, call: FileCall, at: u64, error: Option<&io::Error>) {
+        if call == FileCall::Length && error.is_none() {
+            self.was_cut.store(true, Ordering::SeqCst);
+        }
         if self.is_taken.swap(true, Ordering::SeqCst) {
             return;
         }
@@ -99,6 +109,11 @@ impl LegTrouble {
         self.error.store(number.cast_unsigned(), Ordering::SeqCst);
         self.is_new.store(true, Ordering::SeqCst);
         self.is_taken.store(false, Ordering::SeqCst);
+    }
+
+    /// Whether the file was ever found shorter than at the start.
+    pub fn was_cut(&self) -> bool {
+        self.was_cut.load(Ordering::SeqCst)
     }
 
     /// Takes what failed last, if something has since this was last asked.

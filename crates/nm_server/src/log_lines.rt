@@ -1,21 +1,27 @@
 //! Log lines that no session waits for.
 
-use log::{Level, Log, info, warn};
+use crate::elapsed::milliseconds_since;
+use crate::incidents::{Incident, Incidents};
+use crate::log_form::LogForm;
 use nm_replay::Memory;
-use nm_service::LineQueue;
+use nm_service::{LineQueue, Severity};
 use std::alloc::{AllocError, Global};
+use std::io::Eprint;
 use std::sync::{Arc, Condvar, Mutex, Wait};
 use std::thread;
 use std::thread::Threads;
-use std::time::{Clock, Duration};
+use std::time::{Clock, Duration, Instant};
 
 /// How many milliseconds the end of the server waits for the last lines.
 const LAST_MILLISECONDS: u64 = 1_000;
 
+/// How many incidents that were only counted are told at once, at most.
+const MOST_INCIDENTS: usize = 16;
+
 // A line that is not written yet.
 #[derive(Drop)]
 struct LogLine {
-    level: Level,
+    severity: Severity,
     text: String,
 }
 
@@ -60,29 +66,35 @@ impl Waiting {
 /// standard error takes nothing. Lines that find no room meanwhile are lost, and counted.
 #[derive(Drop)]
 pub struct LogLines {
+    alloc: Global,
+    begun: Option<Instant>,
     waiting: Mutex<Waiting>,
     changed: Condvar,
+    incidents: Mutex<Incidents>,
 }
 
 impl LogLines {
     /// No lines, with room for those that wait.
-    fn new(alloc: Global) -> Result<LogLines, AllocError> {
+    fn new(alloc: Global, begun: Option<Instant>) -> Result<LogLines, AllocError> {
         Ok(LogLines {
+            alloc,
+            begun,
             waiting: Mutex::new(Waiting {
                 queue: LineQueue::new(alloc)?,
                 is_writing: false,
                 is_closed: false,
             }),
             changed: Condvar::new(),
+            incidents: Mutex::new(Incidents::new(alloc)?),
         })
     }
 
-    /// No lines, and a thread that writes those that come until the lines are closed.
-    pub fn start<R>(rt: &R, alloc: Global) -> Result<Arc<LogLines>, Memory>
+    /// No lines, and a thread that writes those that come, in this form, until the lines are closed.
+    pub fn start<R>(rt: &R, alloc: Global, form: LogForm) -> Result<Arc<LogLines>, Memory>
     where
-        R: Threads + Wait + Log + Copy + Send + 'static,
+        R: Threads + Wait + Clock + Eprint + Copy + Send + 'static,
     {
-        let Ok(lines) = LogLines::new(alloc) else {
+        let Ok(lines) = LogLines::new(alloc, Instant::now(rt).ok()) else {
             return Err(Memory);
         };
         let Ok(lines) = Arc::new(alloc, lines) else {
@@ -92,17 +104,17 @@ impl LogLines {
             return Err(Memory);
         };
         let own = *rt;
-        match thread::spawn(rt, move || write_lines(&own, &theirs)) {
+        match thread::spawn(rt, move || write_lines(&own, &theirs, form)) {
             Ok(_) => Ok(lines),
             Err(_) => Err(Memory),
         }
     }
 
     // Takes a line, or counts it as lost.
-    fn put<R: Wait>(&self, rt: &R, level: Level, text: Result<String, AllocError>) {
+    fn put<R: Wait>(&self, rt: &R, severity: Severity, text: Result<String, AllocError>) {
         let mut waiting = self.waiting.lock(rt);
         match text {
-            Ok(text) => waiting.queue.put(LogLine { level, text }),
+            Ok(text) => waiting.queue.put(LogLine { severity, text }),
             Err(_) => waiting.queue.lose(),
         }
         drop(waiting);
@@ -111,12 +123,51 @@ impl LogLines {
 
     /// Takes a line that tells of progress.
     pub fn inform<R: Wait>(&self, rt: &R, text: Result<String, AllocError>) {
-        self.put(rt, Level::Info, text);
+        self.put(rt, Severity::Info, text);
     }
 
     /// Takes a line that warns.
     pub fn warn<R: Wait>(&self, rt: &R, text: Result<String, AllocError>) {
-        self.put(rt, Level::Warn, text);
+        self.put(rt, Severity::Warning, text);
+    }
+
+    /// Takes a line on what may cost data.
+    pub fn alert<R: Wait>(&self, rt: &R, text: Result<String, AllocError>) {
+        self.put(rt, Severity::Error, text);
+    }
+
+    /// Takes a line that warns of an incident, unless the last one on such was taken too short a
+    /// time ago: then it is counted.
+    pub fn warn_of<R: Wait + Clock>(
+        &self,
+        rt: &R,
+        incident: Incident,
+        text: Result<String, AllocError>,
+    ) {
+        let Ok(text) = text else {
+            return self.warn(rt, Err(AllocError));
+        };
+        let now = milliseconds_since(rt, &self.begun);
+        let due = self.incidents.lock(rt).note(incident, now, text);
+        if let Some(told) = due {
+            self.warn(rt, told.line(self.alloc));
+        }
+    }
+
+    /// Takes lines on the incidents that were only counted, where it is time for them.
+    pub fn flush_incidents<R: Wait + Clock>(&self, rt: &R) {
+        self.flush_until(rt, milliseconds_since(rt, &self.begun));
+    }
+
+    // Takes lines on the incidents that were only counted, where it is time for them by then.
+    fn flush_until<R: Wait>(&self, rt: &R, now: u64) {
+        for _ in 0..MOST_INCIDENTS {
+            let due = self.incidents.lock(rt).flush(now);
+            match due {
+                Some(told) => self.warn(rt, told.line(self.alloc)),
+                None => return,
+            }
+        }
     }
 
     // Waits for something to write, or the end.
@@ -133,6 +184,7 @@ impl LogLines {
     /// Ends the thread that writes, once the lines so far are written. Waits a second for that at
     /// most: where standard error takes nothing, they are lost.
     pub fn close<R: Wait + Clock>(&self, rt: &R) {
+        self.flush_until(rt, u64::MAX);
         let mut waiting = self.waiting.lock(rt);
         waiting.is_closed = true;
         self.changed.notify_all();
@@ -146,20 +198,18 @@ impl LogLines {
 }
 
 // Writes the lines that come, until they are closed.
-fn write_lines<R: Wait + Log>(rt: &R, lines: &LogLines) {
+fn write_lines<R: Wait + Clock + Eprint>(rt: &R, lines: &LogLines, form: LogForm) {
     for _ in rt.forever() {
-        match lines.next(rt) {
-            Next::Write(
-                LogLine {
-                    level: Level::Info,
-                    text,
-                },
-            ) => info!(rt; "{text}"),
-            Next::Write(LogLine { level: _, text }) => warn!(rt; "{text}"),
+        let _ = match lines.next(rt) {
+            Next::Write(LogLine { severity, text }) => {
+                let stamp = form.stamp(rt, severity);
+                eprintln!(rt; "{stamp}{text}")
+            }
             Next::TellLost(count) => {
-                warn!(rt; "{count} lines were lost: standard error took no more");
+                let stamp = form.stamp(rt, Severity::Warning);
+                eprintln!(rt; "{stamp}{count} lines were lost: standard error took no more")
             }
             Next::End => return,
-        }
+        };
     }
 }

@@ -4,22 +4,30 @@ ghost use Rattle.clap.specs.Values.{kind_of};
 ghost use Rattle.nm_server.specs.StartFault.{status_of, status_of_words};
 
 use crate::address::Address;
+use crate::answering_meanwhile::answer_meanwhile;
 use crate::copier::Copier;
+use crate::copy_orders::CopyOrders;
 use crate::counting_file::BytesRead;
-use crate::leg_files::{FileMirror, Leg, LegFiles, stripe_legs};
+use crate::healing::Healing;
+use crate::leg_files::{FileMirror, Leg, LegFiles};
+use crate::leg_opener::OpensLegs;
+use crate::listener::Listener;
+use crate::listening::listen;
+use crate::log_form::LogForm;
 use crate::log_lines::LogLines;
+use crate::metrics::Metrics;
 use crate::needs::{check_files, check_stack, reply_bytes_of};
 use crate::progress::{Comparison, tell_progress};
 use crate::reason::tell_reason;
 use crate::serving::serve_and_copy;
+use crate::session_rules::SessionRules;
 use crate::sessions::{AT_ONCE, ExportName};
 use crate::start_fault::StartFault;
-use crate::starting::{open_asked, start_for};
+use crate::starting::{open_on_files, start_for};
 use crate::thread_trial::try_threads;
 use clap::Error;
 use clap::error::ErrorKind;
 use crossbeam_channel::bounded;
-use log::Log;
 use nm_commands::{Settings, settings};
 use nm_lanes::NoGate;
 use nm_mirror::{Mirror, Pass, Start};
@@ -27,9 +35,9 @@ use nm_system::{Limits, take_standard_streams};
 use std::alloc::Global;
 use std::convert::AsStr;
 use std::fs::File;
-use std::io::{ErrorKind as IoErrorKind, Write};
+use std::io::{Eprint, ErrorKind as IoErrorKind, Write};
 use std::net::{Net, TcpListener, TcpStream};
-use std::rt::Files;
+use std::rt::{Env, Files};
 use std::sync::atomic::AtomicU64;
 use std::sync::{Arc, Wait};
 use std::thread::Threads;
@@ -69,14 +77,7 @@ fn open_mirror<'a>(
     let Some(shape) = files.shape(settings.stripes) else {
         return Err(StartFault::Memory);
     };
-    let mut legs = Vec::new(alloc);
-    for stripe in 0..shape.stripes {
-        let own = stripe_legs(alloc, files, &shape, stripe, read)?;
-        if legs.push(own).is_err() {
-            return Err(StartFault::Memory);
-        }
-    }
-    let stripes = open_asked(alloc, settings, &shape, legs)?;
+    let stripes = open_on_files(alloc, settings, files, &shape, read)?;
     match Mirror::new(alloc, shape, stripes, NoGate) {
         Ok(mirror) => {
             // A thread for half of a request pays at no size over files (docs/PERFORMANCE.md).
@@ -87,17 +88,18 @@ fn open_mirror<'a>(
     }
 }
 
-// Opens the mirror, while a thread tells how far the comparison of its legs is. Where no thread can
-// be had nothing is told.
+// Opens the mirror, while one thread tells how far the comparison of its legs is, and another one
+// answers the control port. Where no thread can be had nothing is told.
 fn open_watched<'a, R>(
     rt: &R,
     alloc: Global,
     settings: &Settings<'a>,
     files: &LegFiles,
+    control: &Listener,
     lines: &LogLines,
 ) -> Result<FileMirror, StartFault<'a>>
 where
-    R: Threads + Wait + Sync + Clock + Files<File = File>,
+    R: Threads + Wait + Sync + Clock,
 {
     let Ok(read) = Arc::new(alloc, AtomicU64::new(0)) else {
         return Err(StartFault::Memory);
@@ -105,33 +107,22 @@ where
     if start_for(settings.start) == Start::Full || settings.legs.len() < 2 {
         return open_mirror(alloc, settings, files, &read);
     }
-    let Ok((comparing, ended)) = bounded(alloc, 1) else {
+    let Ok((comparing, has_ended)) = bounded(alloc, 1) else {
         return Err(StartFault::Memory);
     };
-    let comparison = Comparison {
+    let own_comparison = Comparison {
         legs: settings.legs.len(),
         bytes: files.bytes(),
         read: &read,
     };
+    let (ended, comparison) = (&has_ended, &own_comparison);
     thread::scope(thread::scope_env(), rt, |scope| {
-        let _ = scope.spawn(move || tell_progress(rt, alloc, &ended, &comparison, lines));
+        let _ = scope.spawn(move || tell_progress(rt, alloc, ended, comparison, lines));
+        let _ = scope.spawn(move || answer_meanwhile(rt, alloc, control, ended, comparison));
         let mirror = open_mirror(alloc, settings, files, &read);
         drop(comparing);
         mirror
     })
-}
-
-// A listening socket.
-fn listen<'a, R: Net<Listener = TcpListener, Stream = TcpStream>>(
-    rt: &R,
-    alloc: Global,
-    address: Address<'a>,
-) -> Result<TcpListener, StartFault<'a>> {
-    let text = format!(in alloc; "{address}")?;
-    match TcpListener::bind(rt, text.as_str()) {
-        Ok(listener) => Ok(listener),
-        Err(error) => Err(StartFault::CannotListen(address, error)),
-    }
 }
 
 // The passes of so many sessions.
@@ -153,29 +144,49 @@ fn passes_of<'a, R: Wait>(
     Ok(passes)
 }
 
-// The copier of the mirror, which tells of its legs by these names.
+// What attaches legs again, where that is asked for.
+fn healing_of<'a>(
+    alloc: Global,
+    settings: &Settings<'a>,
+    files: &LegFiles,
+) -> Result<Option<Healing>, StartFault<'a>> {
+    if !settings.auto_attach {
+        return Ok(None);
+    }
+    let places = files.places(alloc)?;
+    Ok(Some(Healing::new(alloc, places)?))
+}
+
+// The copier of the mirror, which tells of its legs by their files' names.
 fn copier_of<'a>(
     alloc: Global,
     mirror: &FileMirror,
     files: &LegFiles,
-    names: &[&str],
+    settings: &Settings<'a>,
 ) -> Result<Copier, StartFault<'a>> {
-    let Ok(legs) = files.lines(alloc, names) else {
+    let Ok(legs) = files.lines(alloc) else {
         return Err(StartFault::Memory);
     };
-    match Copier::new(alloc, mirror.shape(), legs) {
+    let healing = healing_of(alloc, settings, files)?;
+    match Copier::new(alloc, mirror.shape(), legs, healing) {
         Ok(copier) => Ok(copier),
         Err(_) => Err(StartFault::Memory),
     }
 }
 
-// Tells where a socket listens, with the port that it got where any was asked for.
-fn tell_address<O: Write>(out: &mut O, words: &str, listener: &TcpListener, asked: Address<'_>) {
-    let _ = match listener.local_addr() {
-        Ok(address) => writeln!(out, "{words} {address}"),
-        Err(_) => writeln!(out, "{words} {asked}"),
+// What is counted of the clients of so many places, and of these files.
+fn metrics_of<'a>(
+    alloc: Global,
+    files: &LegFiles,
+    sessions: u8,
+) -> Result<Metrics, StartFault<'a>> {
+    let Ok(legs) = files.counts(alloc) else {
+        return Err(StartFault::Memory);
     };
-    let _ = out.flush();
+    match Metrics::new(alloc, sessions as usize, legs) {
+        Ok(metrics) => Ok(metrics),
+        Err(_) => Err(StartFault::Memory),
+    }
 }
 
 // Ends the mirror, and tells how many entries the history of each stripe has had.
@@ -195,10 +206,24 @@ fn close<'a, O: Write>(
     Ok(())
 }
 
+// Tells that other machines reach the control port, where they do.
+fn warn_if_open<R: Wait>(rt: &R, alloc: Global, control: &Listener, port: &str, lines: &LogLines) {
+    if control.is_local() {
+        return;
+    }
+    lines.warn(
+        rt,
+        format!(in alloc;
+            "the control port on {port} is open to other machines: it knows no passwords"
+        ),
+    );
+}
+
 // Serves what the settings ask for until a `quit`.
-fn run<'a, R, O: Write>(
+fn run<'a, R, P: OpensLegs + Sync, O: Write>(
     rt: &R,
     alloc: Global,
+    opener: &P,
     settings: &Settings<'a>,
     out: &mut O,
     lines: &LogLines,
@@ -224,46 +249,39 @@ where
         settings.legs.len().min(MOST_LEGS) as u8,
         settings.sessions,
     )?;
-    let mirror = open_watched(rt, alloc, settings, &files, lines)?;
-    let copier = copier_of(alloc, &mirror, &files, &settings.legs)?;
+    let clients = listen(rt, alloc, Address::of_clients(settings))?;
+    let control = listen(rt, alloc, Address::Named(settings.control))?;
+    let mirror = open_watched(rt, alloc, settings, &files, &control.listener, lines)?;
+    let copier = copier_of(alloc, &mirror, &files, settings)?;
+    let orders = CopyOrders::new(settings.copy_rate);
+    let metrics = metrics_of(alloc, &files, settings.sessions)?;
     let mut passes = passes_of(rt, alloc, &mirror, settings.sessions)?;
     try_threads(
         rt,
         alloc,
         settings.sessions as usize + AT_ONCE + OTHER_THREADS,
     )?;
-    let client_port = Address::of_clients(settings);
-    let control_port = Address::Named(settings.control);
-    let clients = listen(rt, alloc, client_port)?;
-    let control = listen(rt, alloc, control_port)?;
-    if !is_loopback(&control) {
-        let port = settings.control;
-        lines.warn(
-            rt,
-            format!(in alloc;
-                "the control port on {port} is open to other machines: it knows no passwords"
-            ),
-        );
-    }
-    tell_address(out, "listening on", &clients, client_port);
-    tell_address(out, "control on", &control, control_port);
+    warn_if_open(rt, alloc, &control.listener, settings.control, lines);
+    clients.tell(out, "listening on");
+    control.tell(out, "control on");
     serve_and_copy(
         rt,
         alloc,
+        opener,
         &named,
-        (&clients, &control),
+        (&clients.listener, &control.listener),
         &mirror,
         passes.as_mut_slice(),
-        reply_bytes_of(&limits, settings.sessions) as usize,
+        SessionRules::of(
+            settings,
+            reply_bytes_of(&limits, settings.sessions) as usize,
+        ),
         copier,
+        &metrics,
+        &orders,
         lines,
     )?;
     close(alloc, mirror, passes, out)
-}
-
-// Whether only this machine reaches the socket.
-fn is_loopback(listener: &TcpListener) -> bool {
-    matches!(listener.local_addr(), Ok(address) if address.ip().is_loopback())
 }
 
 // Tells why the server does not start or does not end well. What cannot be written is lost.
@@ -305,15 +323,16 @@ pub fn refuse_words<E: Write>(error: &io::Error, err: &mut E) -> u8 {
 }
 
 /// Runs the server that these words ask for, the first of them the program's name, and returns the
-/// exit status.
+/// exit status. The thread that attaches legs again opens their files by `opener`.
 ///
 /// 0 after a `quit`, or where the words ask for the help or the version, which `out` has then.
 /// Otherwise `err` says why: status 2 for words that are no command line, 3 for
 /// settings or legs that do not fit, 4 where it cannot listen, 5 out of memory, 6 where what the
 /// stripes have had is not what the sessions counted, 7 where no master is named and the legs differ.
-pub fn start<R, S: AsStr, O: Write, E: Write>(
+pub fn start<R, P: OpensLegs + Sync, S: AsStr, O: Write, E: Write>(
     rt: &R,
     alloc: Global,
+    opener: &P,
     words: &[S],
     out: &mut O,
     err: &mut E,
@@ -325,7 +344,8 @@ where
         + Copy
         + Send
         + Clock
-        + Log
+        + Eprint
+        + Env
         + Files<File = File>
         + Net<Listener = TcpListener, Stream = TcpStream>
         + 'static,
@@ -334,10 +354,10 @@ where
         Ok(settings) => settings,
         Err(error) => return tell_words(&error, out, err),
     };
-    let Ok(lines) = LogLines::start(rt, alloc) else {
+    let Ok(lines) = LogLines::start(rt, alloc, LogForm::of(rt, alloc)) else {
         return tell_fault(&StartFault::Memory, err);
     };
-    let ended = run(rt, alloc, &settings, out, &lines);
+    let ended = run(rt, alloc, opener, &settings, out, &lines);
     lines.close(rt);
     match ended {
         Ok(()) => 0,

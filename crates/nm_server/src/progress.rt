@@ -1,4 +1,5 @@
 //! Tells how far the comparison of the legs is.
+ghost use Rattle.std.specs.Prelude.{◌≤◌};
 
 use crate::log_lines::LogLines;
 use crossbeam_channel::{Receiver, RecvTimeoutError};
@@ -22,6 +23,22 @@ pub struct Comparison<'a> {
     pub bytes: u64,
     /// How many of these were read so far.
     pub read: &'a AtomicU64,
+}
+
+// How many per cent of all bytes were read.
+fn percent_of(read: u64, all: u64) -> u64
+    ensures { result ≤ 100 }
+{
+    (read / (all / 100).max(1)).min(100)
+}
+
+impl Comparison<'_> {
+    /// How many per cent of it are done.
+    pub fn percent(&self) -> u64
+        ensures { result ≤ 100 }
+    {
+        percent_of(self.read.load(Ordering::SeqCst), self.bytes)
+    }
 }
 
 // Tells in a line how much was read in so many seconds, and how long the rest will take at that

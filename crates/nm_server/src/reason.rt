@@ -1,6 +1,7 @@
 //! What a refusal does not say: which file or address, and why. It stands in the line before it.
 
 use crate::start_fault::StartFault;
+use crate::unbound::Unbound;
 use std::alloc::{AllocError, Global};
 use std::io;
 use std::io::{ErrorKind, Write};
@@ -70,7 +71,23 @@ fn put_unopened<E: Write>(
     Ok(())
 }
 
-// A line on this leg's file.
+// Why no socket listens at this address.
+fn put_unbound<E: Write>(
+    alloc: Global,
+    name: &str,
+    why: Unbound,
+    err: &mut E,
+) -> Result<(), AllocError> {
+    match why {
+        Unbound::System(error) => return put_system(alloc, name, error, err),
+        Unbound::NoPath => put_line(name, "has no path", err),
+        Unbound::NoSocket => put_line(name, "is no socket", err),
+        Unbound::Taken => put_line(name, "somebody listens there", err),
+    }
+    Ok(())
+}
+
+// A line on this leg's file, or on this address.
 fn put_line<E: Write>(name: &str, text: &str, err: &mut E) {
     let _ = writeln!(err, "nbdmirror: {name}: {text}");
 }
@@ -118,9 +135,9 @@ pub fn tell_reason<E: Write>(
         StartFault::CannotRead(leg) => {
             put_line(name_of(names, leg as usize), "a read failed", err);
         }
-        StartFault::CannotListen(address, error) => {
+        StartFault::CannotListen(address, why) => {
             let text = format!(in alloc; "{address}")?;
-            put_system(alloc, text.as_str(), error, err)?;
+            put_unbound(alloc, text.as_str(), why, err)?;
         }
         _ => (),
     }

@@ -1,6 +1,10 @@
 //! The thread that copies legs.
 
 use crate::copier::Copier;
+use crate::copy_orders::CopyOrders;
+use crate::copy_pacer::CopyPacer;
+use crate::elapsed::milliseconds_since;
+use crate::leg_opener::OpensLegs;
 use crate::log_lines::LogLines;
 use crate::session_places::SessionPlaces;
 use crate::unread::UnreadList;
@@ -22,32 +26,23 @@ const LOOK_MILLISECONDS: u64 = 100;
 /// How many milliseconds pass at least until regions that could not be read are tried again.
 const AGAIN_MILLISECONDS: u64 = 60_000;
 
-// How many milliseconds have passed since this moment: none, where the clock cannot be read.
-fn milliseconds_since<R: Clock>(rt: &R, begun: &Option<Instant>) -> u64 {
-    match begun {
-        Some(begun) => {
-            let passed = begun.elapsed(rt).unwrap_or(Duration::ZERO);
-            u64::try_from(passed.as_millis()).unwrap_or(u64::MAX)
-        }
-        None => 0,
-    }
-}
-
-/// Takes turns at copying until all sessions have ended, with a pause after a turn that did
-/// nothing.
+/// Takes turns at copying until all sessions have ended, at the pace that is ordered, with a pause
+/// after a turn that did nothing.
 ///
-/// Between them it looks for clients that have gone, has what could not be read tried again once a
-/// minute, and tells what happens.
-pub fn resynchronise<R: Wait + Clock, L: LegPart, G: Gate + Drop>(
+/// Between them it looks for clients that have gone or are idle, has what could not be read tried
+/// again once a minute, attaches legs that are to heal, and tells what happens.
+pub fn resynchronise<R: Wait + Clock, O: OpensLegs, L: LegPart, G: Gate + Drop>(
     rt: &R,
+    opener: &O,
     copier: Copier,
     mirror: &Mirror<L, G>,
     places: &SessionPlaces,
     unread: &UnreadList,
+    orders: &CopyOrders,
     lines: &LogLines,
     has_ended: &AtomicBool,
 ) {
-    let mut copier = copier;
+    let (mut copier, mut pacer) = (copier, CopyPacer::new());
     let begun = Instant::now(rt).ok();
     let mut looks = Interval::new(LOOK_MILLISECONDS);
     let mut tries = Interval::new(AGAIN_MILLISECONDS);
@@ -61,11 +56,13 @@ pub fn resynchronise<R: Wait + Clock, L: LegPart, G: Gate + Drop>(
         if looks.take(now) {
             places.look(rt);
             copier.tell(rt, mirror, unread, lines, now);
+            copier.heal(rt, opener, mirror, orders, lines, now);
+            lines.flush_incidents(rt);
         }
         if copier.has_unread() && tries.take(now) {
             copier.begin_again();
         }
-        if !copier.turn(rt, mirror) {
+        if !pacer.rest(rt) && !pacer.turn(rt, &mut copier, mirror, places, orders) {
             thread::sleep(rt, Duration::from_millis(PAUSE_MILLISECONDS));
         }
     }

@@ -1,13 +1,20 @@
 //! Everything that is at work while the server serves.
 
 use crate::control_places::ControlPlaces;
-use crate::control_port::{serve_control, wake_listener};
+use crate::control_port::serve_control;
+use crate::controlled::Controlled;
 use crate::copier::Copier;
+use crate::copy_orders::CopyOrders;
 use crate::ending::Ending;
 use crate::leg_files::{FileMirror, Leg};
+use crate::leg_opener::OpensLegs;
+use crate::listener::Listener;
 use crate::log_lines::LogLines;
+use crate::metrics::Metrics;
 use crate::resync::resynchronise;
+use crate::server_info::ServerInfo;
 use crate::session_places::SessionPlaces;
+use crate::session_rules::SessionRules;
 use crate::sessions::{AT_ONCE, ExportName, see_off, serve_place, take_clients};
 use crate::start_fault::StartFault;
 use crate::unread::UnreadList;
@@ -26,11 +33,12 @@ fn serve_sessions<R>(
     rt: &R,
     alloc: Global,
     named: &ExportName<'_>,
-    clients: &TcpListener,
+    clients: &Listener,
     mirror: &FileMirror,
     passes: &mut [Pass<Leg>],
     places: &SessionPlaces,
     ending: &Ending,
+    metrics: &Metrics,
     lines: &LogLines,
 ) -> bool
 where
@@ -39,14 +47,16 @@ where
     thread::scope(thread::scope_env(), rt, |scope| {
         for (number, own) in passes.chunks_mut(AT_ONCE).enumerate() {
             let start = scope.spawn(move || {
-                serve_place(rt, alloc, places, number, named, mirror, own, lines)
+                serve_place(
+                    rt, alloc, places, number, named, mirror, own, metrics, lines,
+                )
             });
             if start.is_err() {
                 places.close(rt);
                 return false;
             }
         }
-        take_clients(rt, alloc, clients, places, ending, lines);
+        take_clients(rt, alloc, clients, places, ending, metrics, lines);
         places.close(rt);
         see_off(rt, places, ending);
         true
@@ -54,24 +64,26 @@ where
 }
 
 /// Serves until the last session has ended, while one thread copies legs and tells what happens to
-/// them, and others serve the control port. The replies to what is outstanding in a session carry
-/// at most so many bytes.
-pub fn serve_and_copy<'a, 'x, R>(
+/// them, and others serve the control port. Copies begin as these orders say.
+pub fn serve_and_copy<'a, 'x, R, O: OpensLegs + Sync>(
     rt: &'x R,
     alloc: Global,
+    opener: &'x O,
     named: &'x ExportName<'_>,
-    listeners: (&'x TcpListener, &'x TcpListener),
+    listeners: (&'x Listener, &'x Listener),
     mirror: &'x FileMirror,
     passes: &mut [Pass<Leg>],
-    reply_bytes: usize,
+    rules: SessionRules,
     copier: Copier,
+    metrics: &'x Metrics,
+    orders: &'x CopyOrders,
     lines: &'x LogLines,
 ) -> Result<(), StartFault<'a>>
 where
     R: Threads + Wait + Sync + Copy + Clock + Net<Listener = TcpListener, Stream = TcpStream>,
 {
     let (Ok(own_places), Ok(control_places), Ok(unread_list)) = (
-        SessionPlaces::new(alloc, passes.len() / AT_ONCE, reply_bytes),
+        SessionPlaces::new(rt, alloc, passes.len() / AT_ONCE, rules),
         ControlPlaces::new(alloc),
         UnreadList::new(alloc),
     ) else {
@@ -79,25 +91,35 @@ where
     };
     let (ending, has_ended) = (Ending::new(), AtomicBool::new(false));
     let (asked, ended, seats) = (&ending, &has_ended, &control_places);
+    let own_info = ServerInfo::from_now(rt);
     let (places, unread) = (&own_places, &unread_list);
+    let info = &own_info;
     let (clients, control) = listeners;
     let is_served = thread::scope(thread::scope_env(), rt, |scope| {
         let copying = scope.spawn(move || resynchronise(
-            rt, copier, mirror, places, unread, lines, ended,
+            rt, opener, copier, mirror, places, unread, orders, lines, ended,
         ));
         if copying.is_err() {
             return false;
         }
+        let controlled = Controlled {
+            mirror,
+            unread,
+            sessions: places,
+            info,
+            metrics,
+            orders,
+        };
         let control_port = scope.spawn(move || serve_control(
-            rt, alloc, listeners, seats, mirror, unread, asked, ended,
+            rt, alloc, listeners, seats, controlled, asked, ended, lines,
         ));
         let is_served = match control_port {
             Ok(control_port) => {
                 let is_served = serve_sessions(
-                    rt, alloc, named, clients, mirror, passes, places, asked, lines,
+                    rt, alloc, named, clients, mirror, passes, places, asked, metrics, lines,
                 );
                 ended.store(true, Ordering::SeqCst);
-                wake_listener(rt, control);
+                control.wake(rt);
                 control_port.join(rt) && is_served
             }
             Err(_) => false,

@@ -1,32 +1,38 @@
-//! Sessions over TCP: who listens, who serves.
+//! Sessions: who takes clients, who serves them.
 ghost use Rattle.std.specs.Prelude.{◌≡◌, ◌*◌, ◌≤◌, ◌^◌, ◌↔◌, [], length, map, true, All};
 ghost use Rattle.std.specs.Prelude.{IsSome, IfSome, IfOk, IfErr};
 ghost use Rattle.nm_server.specs.Handshake.{HasNegotiated};
 ghost use Rattle.nm_session.specs.declared.serve_fault.ServeFault.TheVariants.{Memory};
 ghost use Rattle.nm_wire.specs.Export.{size_of};
 
+use crate::call_counts::CallCounts;
 use crate::client_reader::ClientReader;
 use crate::client_stream::ClientStream;
 use crate::client_writer::ClientWriter;
+use crate::counted_calls::CountedCalls;
 use crate::ending::Ending;
 use crate::file_calls::FileCalls;
 use crate::hang_up::HangUp;
+use crate::incidents::Incident;
 use crate::leg_files::{FileMirror, Leg};
+use crate::listener::Listener;
 use crate::log_lines::LogLines;
+use crate::metrics::Metrics;
 use crate::mirror_calls::{MirrorCalls, ReadyMirror};
 use crate::mirror_target::MirrorTarget;
+use crate::session_lines::{SessionEnd, tell_begin, tell_end};
 use crate::session_places::SessionPlaces;
+use crate::stream::{Peer, Stream};
 use crate::timed_stream::TimedStream;
 use nm_leg::LegPart;
 use nm_mirror::Pass;
 use nm_replies::ReplyWriter;
-use nm_service::Refusals;
-use nm_session::{Limit, ServeFault, SessionCore};
+use nm_session::{Limit, ServeFault, Served, SessionCore};
 use nm_wire::{Export, Name};
 use nm_workers::{SpinToken, negotiate, transmit};
 use std::alloc::Global;
 use std::cell::Cell;
-use std::net::{Shutdown, SocketAddr, TcpListener, TcpStream};
+use std::net::Shutdown;
 use std::sync::Wait;
 use std::sync::atomic::AtomicBool;
 use std::thread;
@@ -91,7 +97,7 @@ fn export_of(alloc: Global, named: &ExportName<'_>, blocks: u64) -> Option<Expor
 fn negotiate_in_time<R: Wait + Clock>(
     rt: &R,
     alloc: Global,
-    stream: &TcpStream,
+    stream: &Stream,
     core: &mut SessionCore,
 ) -> Result<bool, ServeFault>
     requires idle { core.old.outstanding ≡ [] }
@@ -162,7 +168,7 @@ fn answer_requests<R, L: LegPart + Send, C: MirrorCalls<L> + Sync + Drop>(
     core: SessionCore,
     is_over: &AtomicBool,
     lookout: &SpinToken,
-) -> Result<(), ServeFault>
+) -> Result<Served, ServeFault>
 where
     R: Threads + Wait + Sync,
     requires size { size_of core.haggling.export ≤ 512 * mirror.now.blocks }
@@ -170,8 +176,7 @@ where
     let targets = targets_of(alloc, mirror, passes, client)?;
     let reader = ClientReader::new(client, is_over);
     let sender = ReplyWriter::new(ClientWriter::new(client));
-    transmit(rt, alloc, core, reader, sender, targets, lookout).result?;
-    Ok(())
+    transmit(rt, alloc, core, reader, sender, targets, lookout).result
 }
 
 // Serves one client from its greeting to its end.
@@ -183,8 +188,9 @@ fn serve_client<R: Threads + Wait + Sync + Copy + Clock>(
     mirror: &FileMirror,
     passes: &mut [Pass<Leg>],
     places: &SessionPlaces,
-) -> Result<(), ServeFault> {
-    let _ = client.stream.set_nodelay(true);
+    counts: Option<&CallCounts>,
+) -> Result<SessionEnd, ServeFault> {
+    let _ = client.stream.set_nodelay();
     let Some(export) = export_of(alloc, named, mirror.shape().blocks) else {
         return Err(ServeFault::Memory);
     };
@@ -196,11 +202,22 @@ fn serve_client<R: Threads + Wait + Sync + Copy + Clock>(
         return Err(ServeFault::Memory);
     };
     if !negotiate_in_time(rt, alloc, &client.stream, &mut core)? {
-        return Ok(());
+        return Ok(SessionEnd::InHandshake);
     }
-    let ready = ReadyMirror::new(FileCalls { rt, alloc, mirror });
+    client.activity.note_negotiated();
+    let ready = ReadyMirror::new(CountedCalls {
+        calls: FileCalls {
+            rt,
+            alloc,
+            mirror,
+            counts,
+            places,
+        },
+        activity: &client.activity,
+    });
     let (is_over, lookout) = (places.is_over(), places.lookout());
-    answer_requests(rt, alloc, client, &ready, passes, core, is_over, lookout)
+    let served = answer_requests(rt, alloc, client, &ready, passes, core, is_over, lookout)?;
+    Ok(SessionEnd::By(served.end))
 }
 
 /// Serves the clients that get the place of this number, one after the other, until the places are
@@ -215,6 +232,7 @@ pub fn serve_place<R>(
     named: &ExportName<'_>,
     mirror: &FileMirror,
     passes: &mut [Pass<Leg>],
+    metrics: &Metrics,
     lines: &LogLines,
 )
 where
@@ -224,40 +242,17 @@ where
         let Some(client) = places.take(rt, number) else {
             return;
         };
-        if let Err(fault) = serve_client(rt, alloc, &client, named, mirror, passes, places) {
-            let address = client.address;
-            lines.warn(
-                rt,
-                format!(in alloc; "client {address}: a session broke off: {fault}"),
-            );
+        if places.is_verbose() {
+            tell_begin(rt, alloc, &client, lines);
         }
-        places.free(rt, number);
+        metrics.begin_session();
+        let counts = metrics.calls_of(number);
+        let ended = serve_client(rt, alloc, &client, named, mirror, passes, places, counts);
+        metrics.end_session(ended.is_ok());
+        let closing = places.free(rt, number);
+        let is_verbose = places.is_verbose();
+        tell_end(rt, alloc, &client, ended, closing, is_verbose, lines);
         let _ = client.stream.shutdown(Shutdown::Write);
-    }
-}
-
-// Notes that a connection was refused, and tells of it where a line is due.
-fn refuse<R: Wait + Clock>(
-    rt: &R,
-    alloc: Global,
-    refusals: &mut Refusals,
-    begun: &Option<Instant>,
-    address: &SocketAddr,
-    places: usize,
-    lines: &LogLines,
-) {
-    let now = match begun {
-        Some(begun) => begun.elapsed(rt).unwrap_or(Duration::ZERO).as_secs(),
-        None => 0,
-    };
-    if let Some(count) = refusals.note(now) {
-        lines.warn(
-            rt,
-            format!(in alloc;
-                "{count} connections refused since the last such line, the last from {address}: \
-                 all {places} places are taken (--sessions)"
-            ),
-        );
     }
 }
 
@@ -268,13 +263,12 @@ fn refuse<R: Wait + Clock>(
 pub fn take_clients<R: Wait + Clock>(
     rt: &R,
     alloc: Global,
-    listener: &TcpListener,
+    listener: &Listener,
     places: &SessionPlaces,
     ending: &Ending,
+    metrics: &Metrics,
     lines: &LogLines,
 ) {
-    let begun = Instant::now(rt).ok();
-    let mut refusals = Refusals::new();
     for _ in rt.forever() {
         let accepted = listener.accept();
         if ending.has_begun() {
@@ -283,17 +277,25 @@ pub fn take_clients<R: Wait + Clock>(
         match accepted {
             Ok((stream, address)) => {
                 if !places.offer(rt, ClientStream::new(stream, address)) {
+                    metrics.refuse_client();
                     let count = places.count();
-                    refuse(rt, alloc, &mut refusals, &begun, &address, count, lines);
+                    let text = format!(in alloc;
+                        "client {address}: refused: all {count} places are taken (--sessions)"
+                    );
+                    lines.warn_of(rt, Incident::ClientRefused, text);
                 }
             }
-            Err(_) => thread::sleep(rt, Duration::from_millis(AFTER_FAILURE_MILLISECONDS)),
+            Err(error) => {
+                let text = format!(in alloc; "a client's connection could not be taken: {error}");
+                lines.warn_of(rt, Incident::ClientNotAccepted, text);
+                thread::sleep(rt, Duration::from_millis(AFTER_FAILURE_MILLISECONDS));
+            }
         }
     }
 }
 
-/// Waits until the sessions have ended, or closes those that are left once their time is over. Looks
-/// for clients that have gone meanwhile.
+/// Waits until the sessions have ended, or closes those that are left once their time is over.
+/// Looks for clients that have gone or are idle meanwhile.
 pub fn see_off<R: Wait + Clock>(rt: &R, places: &SessionPlaces, ending: &Ending) {
     for _ in rt.forever() {
         if ending.is_due(rt) {

@@ -4,8 +4,8 @@ ghost use Rattle.nm_server.specs.declared.start_fault.StartFault.TheVariants.{Me
 
 use crate::address::Address;
 use crate::reason::Unopened;
+use crate::unbound::Unbound;
 use std::alloc::AllocError;
-use std::io;
 use thiserror::Error;
 
 /// Why the server does not start, or does not end well.
@@ -55,7 +55,7 @@ pub enum StartFault<'a> {
     LegsDiffer,
     /// No socket listens at this address.
     #[error("nbdmirror: cannot listen on {0}")]
-    CannotListen(Address<'a>, io::Error),
+    CannotListen(Address<'a>, Unbound),
     /// Out of memory, or out of threads.
     #[error("nbdmirror: no memory")]
     Memory,

@@ -4,12 +4,16 @@ ghost use Rattle.nm_leg.specs.Leg.{leg_type};
 ghost use Rattle.nm_mirror.specs.Opening.{AreAllOpened};
 ghost use Rattle.nm_mirror.specs.Stripes.{AreStripesOf};
 ghost use Rattle.nm_server.specs.Alike.{AreAlike};
+ghost use Rattle.nm_server.specs.Files.{AreOpenedOn, leg_place};
 ghost use Rattle.nm_server.specs.Starting.{RefusesStart, asked_by, master_or_first, start_for};
 ghost use Rattle.nm_server.specs.Starting.{unread_master};
 
 use crate::alike::are_alike;
+use crate::counting_file::{BytesRead, CountingFile};
+use crate::leg_files::{Leg, LegFiles, mirror_legs};
 use crate::start_fault::StartFault;
 use nm_commands::Settings;
+use nm_file_leg::FileLeg;
 use nm_geometry::Shape;
 use nm_leg::LegPart;
 use nm_mirror::{OpenFault, Start, open_stripes};
@@ -73,4 +77,29 @@ pub fn open_asked<'a, L: LegPart>(
         return Err(StartFault::LegsDiffer);
     }
     Ok(stripes)
+}
+
+/// Opens the stripes that the settings ask for on the legs' files: each stripe has a leg on each
+/// file, the first on the first.
+pub fn open_on_files<'a>(
+    alloc: Global,
+    settings: &Settings<'_>,
+    files: &LegFiles,
+    shape: &Shape,
+    read: &BytesRead,
+) -> Result<Vec<Stripe<Leg>>, StartFault<'a>>
+    ensures stripes { IfOk result (λ stripes. AreStripesOf shape.now stripes.items) }
+    ensures opened { IfOk result (λ stripes. AreOpenedOn
+        (leg_type ⟦<FileLeg<CountingFile> as LegPart>⟧.model
+        ⟦<FileLeg<CountingFile> as LegPart>⟧.honest)
+        (λ leg. leg_place leg.medium leg.stripe leg.shape)
+        files.now (asked_by settings.now shape.now) stripes.items) }
+    ensures alike { IfOk result (λ stripes. settings.now.master ≡ None
+        → AreAlike stripes.items) }
+{
+    let legs = match mirror_legs(alloc, files, shape, read) {
+        Ok(legs) => legs,
+        Err(fault) => return Err(fault),
+    };
+    open_asked(alloc, settings, shape, legs)
 }

@@ -1,7 +1,7 @@
+use crate::stream::Stream;
 use std::cell::Cell;
 use std::io;
 use std::io::{ErrorKind, Read, Write};
-use std::net::TcpStream;
 use std::time::{Clock, Duration, Instant};
 
 /// How often a call that was interrupted is made again, at most.
@@ -15,19 +15,14 @@ pub const MOST_TRIES: u32 = 10_000;
 #[derive(Drop)]
 pub struct TimedStream<'a, R: Clock> {
     rt: &'a R,
-    stream: &'a TcpStream,
+    stream: &'a Stream,
     begun: &'a Cell<Instant>,
     within: Duration,
 }
 
 impl<'a, R: Clock> TimedStream<'a, R> {
     /// This connection, for so long from that moment on.
-    pub fn new(
-        rt: &'a R,
-        stream: &'a TcpStream,
-        begun: &'a Cell<Instant>,
-        within: Duration,
-    ) -> Self {
+    pub fn new(rt: &'a R, stream: &'a Stream, begun: &'a Cell<Instant>, within: Duration) -> Self {
         TimedStream {
             rt,
             stream,

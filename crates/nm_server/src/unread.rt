@@ -68,6 +68,11 @@ impl UnreadList {
         known.count = round.unread_count();
     }
 
+    /// How many there are.
+    pub fn count<R: Wait>(&self, rt: &R) -> u64 {
+        self.known.lock(rt).count
+    }
+
     /// Puts a line for each region that is listed, and one that says how many there are.
     pub fn put<R: Wait>(&self, rt: &R, shape: &Shape, text: &mut String) -> Result<(), AllocError> {
         let known = self.known.lock(rt);

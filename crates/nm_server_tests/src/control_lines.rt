@@ -4,9 +4,12 @@ use nm_geometry::Shape;
 use nm_lanes::NoGate;
 use nm_leg::MemLeg;
 use nm_mirror::{Mirror, Start, open_stripes};
-use nm_server::{Quit, UnreadList, control};
+use nm_server::{
+    Controlled, CopyOrders, Metrics, Quit, ServerInfo, SessionPlaces, SessionRules, UnreadList,
+    control,
+};
 use nm_stripe::Policy;
-use std::alloc::Global;
+use std::alloc::{AllocError, Global};
 use std::process::Abort;
 use std::sync::Wait;
 use std::test::Fail;
@@ -16,7 +19,8 @@ use std::time::Clock;
 type Talk = (&'static [u8], &'static [u8], bool);
 
 /// One connection after the other, all to the same mirror.
-static TALKS: [Talk; 15] = [
+static TALKS: [Talk; 20] = [
+    (b"info\n", b"serving: up 0 s\n", false),
     (
         b"status\n",
         b"stripe 0: master 0 settling no legs in join(1024)\n\
@@ -83,6 +87,23 @@ static TALKS: [Talk; 15] = [
         b"bad command\nbad command\n",
         false,
     ),
+    // Without a client there is nothing to list, and none to close.
+    (b"clients\n", b"end\n", false),
+    (
+        b"kick 1\nkick\nkick +1\nclients \n",
+        b"no such client\nbad command\nbad command\nbad command\n",
+        false,
+    ),
+    (
+        b"copy-rate\ncopy-rate 8\ncopy-rate\ncopy-rate 65535\ncopy-rate default\n",
+        b"copy-rate default\ncopy-rate 8\ncopy-rate 8\ncopy-rate 65535\ncopy-rate default\n",
+        false,
+    ),
+    (
+        b"copy-rate 0\ncopy-rate 65536\ncopy-rate  1\ncopy-rate\n",
+        b"bad command\nbad command\nbad command\ncopy-rate default\n",
+        false,
+    ),
     // Lines after a quit are not run.
     (b"quit\nfail 0\n", b"bye\n", true),
 ];
@@ -107,6 +128,18 @@ fn mirror(alloc: Global, start: Start) -> Result<Mirror<MemLeg, NoGate>, Fail> {
     }
 }
 
+/// No sessions.
+static RULES: SessionRules = SessionRules {
+    reply_bytes: 1 << 20,
+    idle_limit: None,
+    is_verbose: false,
+};
+
+/// What nobody has counted anything in.
+fn metrics(alloc: Global) -> Result<Metrics, AllocError> {
+    Metrics::new(alloc, 0, Vec::new(alloc))
+}
+
 /// Whether a connection goes as it must.
 fn goes<R: Wait + Abort + Clock>(
     rt: &R,
@@ -118,10 +151,23 @@ fn goes<R: Wait + Abort + Clock>(
 ) -> bool {
     let mut reader = sent;
     let mut writer = Vec::new(alloc);
-    let Ok(unread) = UnreadList::new(alloc) else {
+    let (Ok(unread), Ok(metrics)) = (UnreadList::new(alloc), metrics(alloc)) else {
         return false;
     };
-    let quit = control(rt, alloc, &mut reader, &mut writer, mirror, &unread);
+    let orders = CopyOrders::new(None);
+    let Ok(sessions) = SessionPlaces::new(rt, alloc, 1, RULES) else {
+        return false;
+    };
+    let info = ServerInfo::from_now(rt);
+    let server = Controlled {
+        mirror,
+        unread: &unread,
+        sessions: &sessions,
+        info: &info,
+        metrics: &metrics,
+        orders: &orders,
+    };
+    let quit = control(rt, alloc, &mut reader, &mut writer, &server);
     quit.is_some() == ends && writer.as_slice() == answered
 }
 
@@ -152,7 +198,20 @@ fn equal_legs_that_are_compared_have_nothing_to_copy(rt: HostRuntime) -> Result<
 fn a_quit_has_its_time(rt: HostRuntime) -> Result<(), Fail> {
     let alloc = rt.alloc();
     let mirror = mirror(alloc, Start::Full)?;
-    let unread = UnreadList::new(alloc)?;
+    let orders = CopyOrders::new(None);
+    let (unread, metrics) = (UnreadList::new(alloc)?, metrics(alloc)?);
+    let info = ServerInfo::from_now(&rt);
+    let Ok(sessions) = SessionPlaces::new(&rt, alloc, 1, RULES) else {
+        return Err(Fail::new("no memory"));
+    };
+    let server = Controlled {
+        mirror: &mirror,
+        unread: &unread,
+        sessions: &sessions,
+        info: &info,
+        metrics: &metrics,
+        orders: &orders,
+    };
     let lines: [(&[u8], Quit); 3] = [
         (b"quit\n", Quit::WhenTheyLeave),
         (b"quit 0\n", Quit::Within(0)),
@@ -160,7 +219,7 @@ fn a_quit_has_its_time(rt: HostRuntime) -> Result<(), Fail> {
     ];
     for (line, quit) in lines {
         let (mut reader, mut writer) = (line, Vec::new(alloc));
-        let asked = control(&rt, alloc, &mut reader, &mut writer, &mirror, &unread);
+        let asked = control(&rt, alloc, &mut reader, &mut writer, &server);
         assert_eq!(rt; asked, Some(quit));
         assert_eq!(rt; writer.as_slice(), b"bye\n".as_slice());
     }

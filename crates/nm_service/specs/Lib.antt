@@ -1,5 +1,11 @@
+pub mod AutoAttaching
 pub mod Changes
+pub mod CopyPacing
+pub mod Idle
+pub mod Latency
 pub mod Lines
+pub mod MetricText
 pub mod Pacing
-pub mod Refused
+pub mod Repeating
 pub mod Seating
+pub mod Severities

@@ -1,4 +1,8 @@
-ghost use Rattle.std.specs.Prelude.{◌≡◌, ◌≢◌, ◌↔◌, ◌<◌, ◌≤◌, ◌⊎◌, if◌then◌else◌, [], length, All};
+ghost use Rattle.std.specs.Prelude.{◌≡◌, ◌≢◌, ◌↔◌, ◌<◌, ◌≤◌, ◌+◌, ◌++◌, ◌⊎◌, ℕ, List, [], length};
+ghost use Rattle.std.specs.Prelude.{if◌then◌else◌, All};
+ghost use Rattle.nm_requests.specs.Message.{Message};
+ghost use Rattle.nm_requests.specs.Stream.{StartsWith};
+ghost use Rattle.nm_wire.specs.Sizes.{max_payload};
 ghost use Rattle.std.specs.Prelude.{slice_index_or, vec_capacity};
 ghost use Rattle.std.specs.Prelude.{IfOk, IfErr, IfSome, IfNone, OnOk, OnErr, IsTrue, IsFalse};
 ghost use Rattle.nm_session.specs.declared.ended_by.EndedBy.TheVariants as by;
@@ -86,6 +90,15 @@ impl SessionCore {
             }),
             Err(_) => Err((Refused::Memory, export)),
         }
+    }
+
+    /// How many bytes of the next request have not come: 0 where its header has not.
+    pub fn missing(&self) -> usize
+        ensures capped { result ≤ 28 + max_payload }
+        ensures missing { (message : Message) (more : List ℕ) → 28 ≤ length self.now.rest
+            → StartsWith 0 (self.now.rest ++ more) message [] → result ≡ length more }
+    {
+        self.reader.missing()
     }
 
     /// Takes the next piece of what the client sends.

@@ -2,14 +2,17 @@
 //!
 //! `is_in_use` says whether a leg is mounted or otherwise in use, `Limits` what the process may use
 //! at most, and `take_standard_streams` keeps standard input, output and error from becoming legs.
+//! `is_journal` says whether standard error goes to the system's journal.
 #![tactic(auto)]
 
 mod in_use;
+mod journal;
 mod kernel_tables;
 mod limits;
 mod standard_streams;
 mod system_files;
 
 pub use crate::in_use::is_in_use;
+pub use crate::journal::is_journal;
 pub use crate::limits::{Limits, is_below};
 pub use crate::standard_streams::take_standard_streams;

@@ -32,7 +32,7 @@ const ENOUGH: u16 = 16;
 // replies is noticed.
 const MOST: u16 = 1024;
 
-// How many requests in a row were small and came alone: no other one was outstanding then. A client
+// How many requests in a row were short and came alone: no other one was outstanding then. A client
 // that waits for each reply before it sends the next request is serial.
 #[derive(Clone, Copy, Drop)]
 pub struct SerialClient {
@@ -50,7 +50,7 @@ impl SerialClient {
         self.alone >= ENOUGH
     }
 
-    // Notes a request, which was small and alone or not.
+    // Notes a request, which was short and alone or not.
     pub(crate) fn note(&mut self, alone: bool) {
         self.alone = if alone && self.alone < MOST {
             self.alone + 1

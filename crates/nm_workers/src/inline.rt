@@ -1,5 +1,5 @@
 //! A session without threads, while its client waits for each reply before it sends the next
-//! request: the owner of the core reads, does small requests and replies on its own thread. To hand
+//! request: the owner of the core reads, does short requests and replies on its own thread. To hand
 //! these on and to wait for their results would take longer than to do them.
 ghost use Rattle.std.specs.Prelude.{◌≡◌, ◌≤◌, ◌<◌, List, [], IfOk, IfErr, OnOk, IsSome, vec_len};
 ghost use Rattle.nm_mailbox.specs.declared.message.Message.{Message};
@@ -32,7 +32,7 @@ use std::io::Write;
 use std::sync::Wait;
 use std::thread::Threads;
 
-// Notes whether the request that was read last is small and came alone.
+// Notes whether the request that was read last is short and came alone.
 pub(crate) fn note_request<S, E: Extent, T: Target>(
     core: &SessionCore,
     dispatcher: &mut Dispatcher<'_, WorkerPool<'_, '_, S, E, T>>,
@@ -44,7 +44,7 @@ pub(crate) fn note_request<S, E: Extent, T: Target>(
 }
 
 // Reads requests, does them and sends their replies until the session ends, or a thread is needed:
-// one is not small, or came with others, or many were done here.
+// one is not short, or came with others, or many were done here.
 pub(crate) fn serve_inline<'s, S, E, R, I, O, T>(
     rt: &'s R,
     alloc: Global,

@@ -16,8 +16,8 @@ impl Extent for Brand {
     ghost bytes = { 0 };
 }
 
-// How many bytes a small job reads or writes at most.
-const SMALL: u32 = 16 * 1024;
+// How many bytes a short job reads or writes at most.
+const SHORT: u32 = 128 * 1024;
 
 // A task on its way to a worker, with its payload and the index of its request. Each target of the
 // session has its bytes. `next` alone makes one, so that a worker only calls for what was read.
@@ -86,15 +86,17 @@ impl<E: Extent> Job<E> {
         }
     }
 
-    // Whether it takes little time: some blocks are read or written, and nothing is synced.
-    pub(crate) fn is_small(&self) -> bool {
+    // Whether the session's owner may do it itself for a client that waits for each reply: to hand it
+    // on takes longer than to read or write so much, and who waits for a sync waits for nothing else.
+    pub(crate) fn is_short(&self) -> bool {
         match self.task {
-            Task::Read { offset: _, length } => length <= SMALL,
+            Task::Read { offset: _, length } => length <= SHORT,
             Task::Write {
                 offset: _,
                 length,
-                fua,
-            } => length <= SMALL && !fua,
+                fua: _,
+            } => length <= SHORT,
+            Task::Flush => true,
             _ => false,
         }
     }

@@ -46,14 +46,14 @@ impl ReadPermit {
     // A permit with this room, where no whole request is there and no read is under way.
     fn new(
         alloc: Global,
-        _core: &SessionCore,
+        core: &SessionCore,
         _state: ReadState,
         room: &mut ReadBuffer,
     ) -> Result<ReadPermit, Memory>
-        requires starved { IsStarved _core.now }
+        requires starved { IsStarved core.now }
         requires idle { _state ≡ Idle }
     {
-        let room = room.take(alloc)?;
+        let room = room.take(alloc, core.missing())?;
         Ok(ReadPermit { room })
     }
 

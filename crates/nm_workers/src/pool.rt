@@ -94,13 +94,13 @@ impl<'a, 's, S, E: Extent, T: Target> WorkerPool<'a, 's, S, E, T> {
         self.deferred.is_some()
     }
 
-    // Whether the job that is deferred is small, and a worker is left to do it here.
+    // Whether the job that is deferred is short, and a worker is left to do it here.
     pub(crate) fn can_do_it_here(&self) -> bool
         ensures deferred { IsTrue result → IsSome self.now.deferred }
         ensures spare { IsTrue result → 0 < vec_len self.now.idle.spare }
     {
         match &self.deferred {
-            Some(job) => job.is_small() && !self.idle.spare.is_empty(),
+            Some(job) => job.is_short() && !self.idle.spare.is_empty(),
             None => false,
         }
     }

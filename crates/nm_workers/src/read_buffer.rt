@@ -10,6 +10,13 @@ const MOST: usize = 128 * 1024;
 // How many at least.
 const LEAST: usize = 4 * 1024;
 
+// A request of which so many bytes have not come is read to its end, and the header behind it: the
+// next request's payload then begins a block, and is copied once.
+const LONG: usize = 16 * 1024;
+
+// How many bytes a header has.
+const HEADER: usize = 28;
+
 // The buffer for the next piece. It is filled up with zeroes, 128 KiB of which take longer than a
 // small request; so it follows what the client sends, and is that of the last piece while it has
 // the size.
@@ -30,12 +37,17 @@ impl ReadBuffer {
         }
     }
 
-    // Takes its bytes.
-    pub(crate) fn take(&mut self, alloc: Global) -> Result<Vec<u8>, Memory>
+    // Takes its bytes, while so many of the next request have not come.
+    pub(crate) fn take(&mut self, alloc: Global, missing: usize) -> Result<Vec<u8>, Memory>
         ensures some { IfOk result (λ room. 0 < vec_len room) }
     {
+        let bytes = if LONG <= missing && missing <= MOST {
+            missing + HEADER
+        } else {
+            self.bytes
+        };
         let mut room = replace(&mut self.last, Vec::new(alloc));
-        room.resize(self.bytes, 0)?;
+        room.resize(bytes, 0)?;
         Ok(room)
     }
 

@@ -45,7 +45,7 @@ const LIMIT: Limit = Limit {
 
 /// Serves one client's session from the greeting to its end, up to 16 requests at once: each of the
 /// targets, 1 to 16 of them with at least the export's bytes, is called by a thread of its own, and
-/// small requests of a client that waits for each reply are done on the caller's.
+/// short requests of a client that waits for each reply are done on the caller's.
 ///
 /// Requests are replied to in the order in which they are done. No thread is started before the
 /// haggling has ended, a target's once a request needs it, and none is left when it returns. It

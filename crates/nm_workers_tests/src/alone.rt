@@ -27,6 +27,16 @@ fn put_small_pairs(talk: &mut Talk, pairs: usize) -> Result<(), AllocError> {
     Ok(())
 }
 
+// So many WRITEs of block 4, each followed by a FLUSH.
+fn put_flushed_writes(talk: &mut Talk, writes: usize) -> Result<(), AllocError> {
+    for turn in 0..writes {
+        let byte = (turn % 256) as u8;
+        talk.write(byte, 2_048, 512, byte, 0)?;
+        talk.flush(byte)?;
+    }
+    Ok(())
+}
+
 // The session of this client over so many targets has these requests and this end, and what goes
 // out is what the client wants.
 fn expect_session<R: Threads + Wait + Clock + Sync + Abort>(
@@ -53,7 +63,8 @@ fn expect_session<R: Threads + Wait + Clock + Sync + Abort>(
 fn two_thousand_one_after_the_other(rt: HostRuntime) -> Result<(), Fail> {
     let alloc = rt.alloc();
     let mut talk = Talk::new(alloc)?;
-    put_small_pairs(&mut talk, 1_100)?;
+    put_small_pairs(&mut talk, 550)?;
+    put_flushed_writes(&mut talk, 550)?;
     talk.stream.extend_from_slice(&DISC)?;
     for count in [1, 3] {
         expect_session(&rt, alloc, &talk, count, (2_201, End::Disc))?;
@@ -66,11 +77,11 @@ fn two_thousand_one_after_the_other(rt: HostRuntime) -> Result<(), Fail> {
 fn large_requests_after_forty_small_ones(rt: HostRuntime) -> Result<(), Fail> {
     let alloc = rt.alloc();
     let mut talk = Talk::new(alloc)?;
-    let large = vec![in alloc; 0xee; 32_768]?;
+    let large = vec![in alloc; 0xee; 196_608]?;
     for _ in 0..2 {
         put_small_pairs(&mut talk, 20)?;
-        talk.write(0x31, 65_536, 32_768, 0xee, 0)?;
-        talk.read(0x32, 65_536, 32_768, 0, large.as_slice())?;
+        talk.write(0x31, 65_536, 196_608, 0xee, 0)?;
+        talk.read(0x32, 65_536, 196_608, 0, large.as_slice())?;
     }
     talk.stream.extend_from_slice(&DISC)?;
     expect_session(&rt, alloc, &talk, 3, (85, End::Disc))?;

@@ -24,6 +24,8 @@ pub const READ: u8 = 0;
 
 pub const WRITE: u8 = 1;
 
+pub const FLUSH: u8 = 3;
+
 /// How many bytes the export has.
 pub const SIZE: usize = 1_048_576;
 
@@ -80,6 +82,13 @@ impl Talk {
             out: concat(alloc, &[&GREETING, &DESCRIBED])?,
             gates: Vec::new(alloc),
         })
+    }
+
+    /// A FLUSH that is done.
+    pub fn flush(&mut self, cookie: u8) -> Result<(), AllocError> {
+        put_request(&mut self.stream, FLUSH, cookie, 0, 0)?;
+        put_reply(&mut self.out, 0, cookie)?;
+        self.wait()
     }
 
     /// A READ that finds these bytes, or an error.

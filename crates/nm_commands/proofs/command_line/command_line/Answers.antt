@@ -1,13 +1,14 @@
-use Rattle.std.proofs.Common.{◌∙◌, ◌≡◌, ap₂}
+use Rattle.std.proofs.Common.{◌∙◌, ◌≡◌, ap, ap₂}
 use Rattle.clap.specs.Words.{app_of, with_rule}
-use Rattle.nm_commands.specs.CommandLine.{nbdmirror}
+use Rattle.nm_commands.specs.CommandLine.{nbdmirror, with_client_options}
 use Rattle.nm_commands.proofs.command_line.command_line.Goals as goal
 
 pub returns-clause-ok : goal.returns-clause-ok
 returns-clause-ok c =
-    let line = c.in_ok-program.ensures.ok in
+    let line = c.in_ok-mirror.ensures.ok in
+    let served = c.in_ok-program.ensures.ok ∙ ap with_client_options line.2.2 in
     let one = c.in_ok-with_sessions.ensures.shape c.number_option-sessions.ensures.own
-    ∙ ap₂ with_rule line.2.2 c.number_option-sessions.ensures.rule in
+    ∙ ap₂ with_rule served c.number_option-sessions.ensures.rule in
     let two = c.in_ok-with_read_only.ensures.shape c.lettered_flag-read_only.ensures.own
     ∙ ap₂ with_rule one c.lettered_flag-read_only.ensures.rule in
     let three = c.in_ok-with_flags.ensures.shape c.flag-force_in_use.ensures.own

@@ -17,7 +17,15 @@ returns-clause-ok c =
       policy = said_text f rows (codes "policy") _ refl c.in_ok-policy.ensures.ok;
       master = said_number_if_any f rows (codes "master") _ refl c.in_ok-master.ensures.some c.in_ok-master.ensures.none;
       start = said_text f rows (codes "start") _ refl c.in_ok-start.ensures.ok;
+      auto_attach = said_flag f rows (codes "auto-attach") _ refl
+          c.get_flag-auto_attach.ensures.value c.get_flag-auto_attach.ensures.other;
+      copy_rate = said_number_if_any f rows (codes "copy-rate") _ refl
+          c.in_ok-copy_rate.ensures.some c.in_ok-copy_rate.ensures.none;
       sessions = said_number f rows (codes "sessions") _ refl c.in_ok-sessions.ensures.ok;
+      idle_limit = said_number_if_any f rows (codes "idle-limit") _ refl
+          c.in_ok-idle_limit.ensures.some c.in_ok-idle_limit.ensures.none;
+      verbose = said_flag f rows (codes "verbose") _ refl c.get_flag-verbose.ensures.value
+          c.get_flag-verbose.ensures.other;
       read_only = said_flag f rows (codes "read-only") _ refl c.get_flag-read_only.ensures.value
           c.get_flag-read_only.ensures.other;
       force_in_use = said_flag f rows (codes "force-in-use") _ refl

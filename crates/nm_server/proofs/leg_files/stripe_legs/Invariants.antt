@@ -1,9 +1,9 @@
--- So far there is a leg for each file, and each is the stripe's.
-use Rattle.std.proofs.Common.{◌≡◌, length, All}
+-- So far there is a leg on each of the first files.
+use Rattle.std.proofs.Common.{◌≡◌, map, take}
+use Rattle.nm_server.specs.Files.{leg_place, place_on}
 use Rattle.nm_server.proofs.leg_files.stripe_legs.Given as goal
 
 abbrev pub invariant-loop-number : goal.invariant-loop-number
-invariant-loop-number l = record {
-  count : length l.legs.items ≡ l.number;
-  each : All (λ leg. (leg.shape ≡ l.fn.shape) × (leg.stripe ≡ l.fn.stripe)) l.legs.items;
-}
+invariant-loop-number l =
+    map (λ leg. leg_place leg.medium leg.stripe leg.shape) l.legs.items
+    ≡ map (place_on l.fn.stripe l.fn.shape) (take l.number l.fn.files.files.items)

@@ -1,10 +1,10 @@
-use Rattle.std.proofs.Common.{◌≡◌, ◌≤◌, ◌^◌, length, ℕ}
+-- So far there is a file for each of the first names, and none is longer than an export may be.
+use Rattle.std.proofs.Common.{◌≡◌, ◌≤◌, ◌^◌, map, take}
+use Rattle.nm_server.specs.Files.{name_of}
 use Rattle.nm_server.proofs.leg_files.LegFiles.open.Given as goal
 
--- a file for each leg so far, and none longer than an export may be
-pub record Opened (count blocks number : ℕ) : Type 0 where
-  pub all : count ≡ number
-  pub most : blocks ≤ 2 ^ 31
-
 abbrev pub invariant-loop-number : goal.invariant-loop-number
-invariant-loop-number g l = Opened (length l.files.items) l.blocks l.number
+invariant-loop-number g l = record {
+  named : map name_of l.files.items ≡ map (λ name. name.now) (take l.number l.names);
+  most : l.blocks ≤ 2 ^ 31;
+}

@@ -1,0 +1,13 @@
+pub mod Acknowledged
+pub mod Added
+pub mod Bounded
+pub mod Guarded
+pub mod LegParts
+pub mod LegsLeft
+pub mod Listed
+pub mod Reopened
+pub mod Runs
+pub mod Spans
+pub mod StepsLeft
+pub mod Unmarked
+pub mod Untouched

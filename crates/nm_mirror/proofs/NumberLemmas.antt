@@ -1,0 +1,71 @@
+-- The numbers of the locks of a mirror, and of the parts of a pass, are those of their places.
+use Rattle.std.proofs.Common.{◌≡◌, ℕ, zero, suc, ◌<◌, List, [], ◌∷◌, ◌++◌, length, map, reverse, get_or, set, slice_get, None, Some, inl, inr, sym, ap, subst, ◌∙◌, arith}
+use Rattle.std.proofs.lemmas.List.{length-map, reverse-append, reverse-reverse}
+use Rattle.std.proofs.lemmas.Option.{same_Some, slice_get-map, slice_get_cases, slice_get_past}
+use Rattle.nm_geometry.specs.Geometry.{Geometry}
+use Rattle.nm_part.specs.PartState.{PartState}
+use Rattle.nm_rules.specs.State.{StripeState}
+use Rattle.nm_mirror.proofs.OpenedLemmas.{mapped}
+use Rattle.nm_mirror.proofs.Places.{one_more}
+use Rattle.nm_mirror.specs.Numbers.{AreInOrder}
+use Rattle.nm_mirror.specs.Passes.{HasCountedNothing}
+use Rattle.nm_mirror.specs.Stripes.{EachIsNew}
+
+-- no lock yet: all stripes are left, last first
+pub none-locked : {A B : Type 0} (f : A → ℕ) (g : B → ℕ) (xs : List A) (left all : List B) → xs ≡ [] → left ≡ reverse all → map f xs ++ map g (reverse left) ≡ map g all
+none-locked f g xs left all none is = rw (none, is) (ap (map g) (reverse-reverse all))
+
+append-one : {A : Type 0} (xs ys : List A) (x : A) → (xs ++ x ∷ []) ++ ys ≡ xs ++ x ∷ ys
+append-one [] ys x = cc
+append-one (z ∷ xs) ys x = ap (λ r. z ∷ r) (append-one xs ys x)
+
+map-one : {A : Type 0} (f : A → ℕ) (xs : List A) (x : A) → map f (xs ++ x ∷ []) ≡ map f xs ++ f x ∷ []
+map-one f [] x = cc
+map-one f (z ∷ xs) x = ap (λ r. f z ∷ r) (map-one f xs x)
+
+-- one lock more, of the last stripe that was left
+pub one-locked : {A B : Type 0} (f : A → ℕ) (g : B → ℕ) (xs new : List A) (x : A) (left rest : List B) (y : B) (all : List ℕ) → map f xs ++ map g (reverse left) ≡ all → left ≡ rest ++ y ∷ [] → f x ≡ g y → new ≡ xs ++ x ∷ [] → map f new ++ map g (reverse rest) ≡ all
+one-locked f g xs new x left rest y all before is number added =
+    let front : map g (reverse left) ≡ g y ∷ map g (reverse rest) =
+    ap (λ l. map g (reverse l)) is ∙ ap (map g) (reverse-append rest (y ∷ [])) in
+    let here : map f new ≡ map f xs ++ g y ∷ [] = ap (map f) added ∙ map-one f xs x ∙ ap (λ n. map f xs ++ n ∷ []) number in
+    ap (λ l. l ++ map g (reverse rest)) here ∙ append-one (map f xs) (map g (reverse rest)) (g y) ∙ ap (λ l. map f xs ++ l) (sym front) ∙ before
+
+-- the numbers of a shape's stripes are in order
+pub stripes-in-order : {L : Type 0} (shape : Geometry) (stripes : List (StripeState L)) → EachIsNew shape stripes → AreInOrder (map (λ stripe. stripe.place.stripe) stripes)
+stripes-in-order {L} shape stripes new = λ place number at.
+    let number_of : StripeState L → ℕ = λ stripe. stripe.place.stripe in
+    elim (slice_get_cases stripes place).1 [
+      | inl found ↦
+          let is : number_of found.0 ≡ number = same_Some (number_of found.0) number (sym (mapped number_of stripes place found.0 found.2) ∙ at) in
+          sym is ∙ ap (λ p. p.stripe) (new place found.0 found.2).place
+      | inr past ↦
+          let none : slice_get (map number_of stripes) place ≡ None = slice_get_past (map number_of stripes) place (omega (arith, length-map stripes number_of, past.0)) in
+          cc
+    ]
+
+-- one number more, that of the next place
+pub one-in-order : {A : Type 0} (f : A → ℕ) (xs new : List A) (x : A) → AreInOrder (map f xs) → f x ≡ length xs → new ≡ xs ++ x ∷ [] → AreInOrder (map f new)
+one-in-order f xs new x each number added =
+    let long : f x ≡ length (map f xs) = number ∙ sym (length-map xs f) in
+    rw (added, map-one f xs x) (one_more (λ place n. n ≡ place) (map f xs) (f x) (λ place n at. each place n at) long)
+
+-- the number at a place
+pub number-at : {A : Type 0} (f : A → ℕ) (xs : List A) (place : ℕ) (x : A) → AreInOrder (map f xs) → slice_get xs place ≡ Some x → f x ≡ place
+number-at f xs place x each at = each place (f x) (mapped f xs place x at)
+
+-- a lock in the place of one of its number leaves the numbers
+pub kept-number : {A : Type 0} (f : A → ℕ) (xs : List A) (place : ℕ) (x d : A) → f x ≡ f (get_or xs place d) → map f (set xs place x) ≡ map f xs
+kept-number f [] place x d same = cc
+kept-number f (z ∷ xs) zero x d same = ap (λ n. n ∷ map f xs) same
+kept-number f (z ∷ xs) (suc place) x d same = ap (λ l. f z ∷ l) (kept-number f xs place x d same)
+
+append-counted : (parts : List PartState) (part : PartState) → ((k : ℕ) (d : PartState) → k < length parts → (get_or parts k d).count ≡ 0) → part.count ≡ 0 → (k : ℕ) (d : PartState) → k < length (parts ++ part ∷ []) → (get_or (parts ++ part ∷ []) k d).count ≡ 0
+append-counted [] part none counted zero d inside = counted
+append-counted [] part none counted (suc k) d inside = absurd (omega arith)
+append-counted (p ∷ parts) part none counted zero d inside = none zero d (omega arith)
+append-counted (p ∷ parts) part none counted (suc k) d inside = append-counted parts part (λ j e within. none (suc j) e (omega (arith, within))) counted k d (omega (arith, inside))
+
+-- one part more that has counted nothing
+pub one-counted : (parts new : List PartState) (part : PartState) → HasCountedNothing parts → part.count ≡ 0 → new ≡ parts ++ part ∷ [] → HasCountedNothing new
+one-counted parts new part none counted added = rw added (append-counted parts part none counted)

@@ -1,0 +1,168 @@
+//! Attaches legs again that went out by a failed call.
+
+use crate::copy_orders::CopyOrders;
+use crate::leg_opener::OpensLegs;
+use crate::leg_place::{Hindrance, LegPlace};
+use crate::leg_story::LegStory;
+use crate::log_lines::LogLines;
+use nm_lanes::Gate;
+use nm_leg::LegPart;
+use nm_mirror::Mirror;
+use nm_service::{AttachTime, AutoAttach, LegEvent, event_of};
+use std::alloc::{AllocError, Global};
+use std::sync::Wait;
+
+// A leg, when it is attached again, and the time of the next try that was told.
+#[derive(Drop)]
+struct HealingLeg {
+    number: u8,
+    place: LegPlace,
+    tries: AutoAttach,
+    told: Option<u64>,
+}
+
+// How many seconds it is from now until then.
+fn seconds_until(due: u64, now: u64) -> u64 {
+    due.saturating_sub(now) / 1_000
+}
+
+impl HealingLeg {
+    // Takes how the leg stands, and tells when the next try comes where that is new.
+    fn note<R: Wait>(
+        &mut self,
+        rt: &R,
+        alloc: Global,
+        event: LegEvent,
+        lines: &LogLines,
+        now: u64,
+    ) {
+        let AttachTime::At(due) = self.tries.take(event, now) else {
+            self.told = None;
+            return;
+        };
+        if self.told == Some(due) {
+            return;
+        }
+        self.told = Some(due);
+        let (leg, name, seconds) = (self.number, self.place.name(), seconds_until(due, now));
+        lines.inform(
+            rt,
+            format!(in alloc; "leg {leg} ({name}): to be attached again in {seconds} s"),
+        );
+    }
+
+    // Checks the leg's file, and attaches the leg.
+    fn attach<R: Wait, O: OpensLegs, L: LegPart, G: Gate + Drop>(
+        &self,
+        rt: &R,
+        opener: &O,
+        mirror: &Mirror<L, G>,
+        orders: &CopyOrders,
+    ) -> Result<(), Hindrance> {
+        self.place.check(opener)?;
+        let Some(counts) = orders.attach_by_itself(rt, mirror, self.number) else {
+            return Err(Hindrance::Command);
+        };
+        if counts.joining == 0 && counts.stopped > 0 {
+            return Err(Hindrance::Stopped);
+        }
+        Ok(())
+    }
+
+    // Tells that the try of this number was in vain, and when the next one comes.
+    fn tell_hindrance<R: Wait>(
+        &mut self,
+        rt: &R,
+        alloc: Global,
+        number: u64,
+        why: Hindrance,
+        lines: &LogLines,
+        now: u64,
+    ) {
+        let AttachTime::At(due) = self.tries.take(LegEvent::OutByFault, now) else {
+            return;
+        };
+        self.told = Some(due);
+        let (leg, name, seconds) = (self.number, self.place.name(), seconds_until(due, now));
+        lines.warn(
+            rt,
+            format!(in alloc;
+                "leg {leg} ({name}): not attached again, try {number}: {why}; the next try comes \
+                 in {seconds} s"
+            ),
+        );
+    }
+
+    // Attaches the leg where that is due at this time.
+    fn try_now<R: Wait, O: OpensLegs, L: LegPart, G: Gate + Drop>(
+        &mut self,
+        rt: &R,
+        alloc: Global,
+        opener: &O,
+        mirror: &Mirror<L, G>,
+        orders: &CopyOrders,
+        lines: &LogLines,
+        now: u64,
+    ) {
+        let AttachTime::Now(number) = self.tries.take(LegEvent::Time, now) else {
+            return;
+        };
+        if let Err(why) = self.attach(rt, opener, mirror, orders) {
+            self.tell_hindrance(rt, alloc, number, why, lines, now);
+            return;
+        }
+        self.told = None;
+        let (leg, name) = (self.number, self.place.name());
+        lines.inform(
+            rt,
+            format!(in alloc; "leg {leg} ({name}): attached again by itself, try {number}"),
+        );
+    }
+}
+
+/// The legs that are attached again by themselves.
+#[derive(Drop)]
+pub struct Healing {
+    legs: Vec<HealingLeg>,
+}
+
+impl Healing {
+    /// The legs on these files, from leg 0 on.
+    pub fn new(alloc: Global, places: Vec<LegPlace>) -> Result<Healing, AllocError> {
+        let mut legs = Vec::new(alloc);
+        for (number, place) in places.into_iter().enumerate() {
+            legs.push(HealingLeg {
+                number: number.min(255) as u8,
+                place,
+                tries: AutoAttach::new(),
+                told: None,
+            })?;
+        }
+        Ok(Healing { legs })
+    }
+
+    /// Looks at how each leg stands at this time, in milliseconds, and attaches those that are due.
+    /// While somebody takes a leg out or attaches one nothing is done.
+    pub fn look<R: Wait, O: OpensLegs, L: LegPart, G: Gate + Drop>(
+        &mut self,
+        rt: &R,
+        alloc: Global,
+        opener: &O,
+        story: &LegStory,
+        mirror: &Mirror<L, G>,
+        orders: &CopyOrders,
+        lines: &LogLines,
+        now: u64,
+    ) {
+        let Some(by_hand) = orders.by_hand() else {
+            return;
+        };
+        for leg in self.legs.iter_mut() {
+            let number = leg.number as usize;
+            let is_out = by_hand.get(number).copied().unwrap_or(false);
+            let event = event_of(&story.sight(number), is_out);
+            leg.note(rt, alloc, event, lines, now);
+            leg.try_now(rt, alloc, opener, mirror, orders, lines, now);
+        }
+    }
+}
