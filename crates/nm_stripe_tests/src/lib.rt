@@ -9,6 +9,8 @@ mod calls;
 #[cfg(test)]
 mod comparing;
 #[cfg(test)]
+mod file_stripes;
+#[cfg(test)]
 mod lists;
 #[cfg(test)]
 mod memory;
