@@ -57,7 +57,8 @@ ReadsAt leg generation [] = Unit {0}
 ReadsAt leg generation (e ∷ saves) =
     (e.reached leg ≡ true → e.generation ≤ generation) × ReadsAt leg generation saves
 
--- A start is sure: the place of each leg that the superblock lists was read, and none had a newer one.
+-- A start is sure: the place of each leg that the superblock lists was read, and none had a newer
+-- one.
 pub record IsSure (found : Save) (saves : List Save) : Type 0 where
   pub saved : IsOneOf found saves
   pub read : (leg : ℕ) → found.listed leg ≡ true

@@ -72,7 +72,8 @@ AreSeen count s found =
 abbrev pub IsSureStart : Superblock → List (Option Superblock) → Type 0
 IsSureStart s found = AreSeen 8 s found
 
--- this leg is the first that may have a newer superblock: it is listed, and none was found beside it
+-- this leg is the first that may have a newer superblock: it is listed, and none was found
+-- beside it
 pub record IsMissing (leg : ℕ) (s : Superblock) (found : List (Option Superblock)) : Type 0 where
   pub bound : leg < 8
   pub unfound : beside leg found ≡ None
