@@ -18,6 +18,7 @@ end_of refusal.Fault = Some cause.Fault
 end_of refusal.Stopped = Some cause.Stopped
 end_of refusal.Exhausted = Some cause.Exhausted
 end_of refusal.Astray = Some cause.Astray
+end_of refusal.SaveFailed = Some cause.SaveFailed
 end_of other = None
 
 -- the refusals that end a call where a claim met them: these, and that the record is gone
