@@ -145,7 +145,8 @@ class Server:
                 return
         raise AssertionError(f"the server does not start: {self.errors()}")
 
-    def try_start(self, options):
+    def launch(self, options=()):
+        """Starts it at free ports, and does not wait."""
         self.port, self.control_port = free_port(), free_port()
         words = [self.program, "--listen", f"127.0.0.1:{self.port}",
                  "--control", f"127.0.0.1:{self.control_port}", *self.options, *options, *self.files]
@@ -161,6 +162,9 @@ class Server:
         with open(f"{self.room}/out", "wb") as out, open(f"{self.room}/err", "wb") as err:
             self.process = subprocess.Popen(words, stdin=subprocess.DEVNULL, stdout=out, stderr=err,
                                             preexec_fn=bound if any(self.bounds.values()) else None, env=own)
+
+    def try_start(self, options):
+        self.launch(options)
         end = time.monotonic() + 60 * PATIENCE
         while time.monotonic() < end and self.process.poll() is None:
             if "control on" in self.printed():

@@ -250,9 +250,25 @@ def copy_rate_sentence(rate):
     return f"copies go at {rate} MiB/s" if rate else "copies go as fast as clients leave room for"
 
 
-def health(stripes, unread=None):
+def superblock_sentence(superblock):
+    """How the superblocks stand, or nothing where there are none."""
+    if not superblock:
+        return ""
+    if superblock["failed"]:
+        return "superblocks cannot be written: the mirror is read-only"
+    marked, unsaved = superblock["marked_spans"], superblock["unsaved_stripes"]
+    parts = [f"superblock: generation {superblock['generation']}",
+             f"{marked} {'span is' if marked == 1 else 'spans are'} marked"]
+    if unsaved:
+        parts.append(f"a loss in {unsaved} {'stripe' if unsaved == 1 else 'stripes'} is being saved")
+    return ", ".join(parts)
+
+
+def health(stripes, unread=None, superblock=None):
     """What a monitoring check says: its level, and why in a line."""
     found, count = [], len(stripes)
+    if superblock and superblock["failed"]:
+        found.append((CRITICAL, superblock_sentence(superblock)))
     if text := unread_sentence(unread):
         found.append((CRITICAL, text))
     if stopped := [stripe["stripe"] for stripe in stripes if stripe["stopped"]]:

@@ -1,3 +1,4 @@
 pub mod NewestLemmas
 pub mod SaveLemmas
 pub mod SureLemmas
+mod SetLemmas

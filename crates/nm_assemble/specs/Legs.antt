@@ -1,33 +1,35 @@
--- How a leg starts in a stripe: by a table whose first row that applies decides.
-use Rattle.std.specs.Prelude.{◌≡◌, ◌⊎◌, ℕ, Bool, true, false, List, IsTrue, slice_index_or}
+-- How a leg starts in a stripe by an image: by a table whose first row that applies decides.
+use Rattle.std.specs.Prelude.{◌≡◌, ◌<◌, ℕ, Bool, true, false}
 use Rattle.std.specs.Int.{bit_at}
 use Rattle.nm_superblock.specs.declared.superblock.Superblock.{Superblock}
-use Rattle.nm_superblock.specs.Spans.{IsUnmarked, in_sync_of, partial_of}
-use Rattle.nm_assemble.specs.declared.assembly.Assembly.{Assembly}
-use Rattle.nm_assemble.specs.declared.leg_start.LegStart.{LegStart}
-use Rattle.nm_assemble.specs.declared.leg_start.LegStart.TheVariants.{InSync, Marked, Out, Whole}
-use Rattle.nm_assemble.specs.Masters.{IsMaster, MayOpenOn}
+use Rattle.nm_superblock.specs.Spans.{in_sync_of, partial_of}
+use Rattle.nm_assemble.specs.declared.image_legs.LegStart.{LegStart}
+use Rattle.nm_assemble.specs.declared.image_legs.LegStart.TheVariants.{Master, Missing, Partial}
+use Rattle.nm_assemble.specs.declared.image_legs.LegStart.TheVariants.{Whole}
 
--- the leg is fresh, and in sync in the stripe or out of sync in no more than marked spans
-abbrev pub IsCurrent : (leg stripe : ℕ) → Superblock → List Bool → Type 0
-IsCurrent leg stripe newest fresh =
-    IsTrue (slice_index_or fresh leg false)
-    × ((bit_at (in_sync_of stripe newest.sets) leg ≡ 1)
-    ⊎ (bit_at (partial_of stripe newest.sets) leg ≡ 1))
+-- the image names the leg in the stripe
+abbrev pub Names : (leg stripe : ℕ) → Superblock → Type 0
+Names leg stripe image = bit_at (in_sync_of stripe image.sets) leg ≡ 1
 
--- the leg is equal to the master: it is the master, or in sync where no span is marked
-abbrev pub IsEqual : (leg stripe : ℕ) → Superblock → List Bool → Type 0
-IsEqual leg stripe newest fresh =
-    IsMaster leg stripe newest fresh
-    ⊎ (MayOpenOn leg stripe newest fresh × IsUnmarked 16384 newest.marked)
+-- the image names none of the first legs in the stripe
+abbrev pub IsNameless : (count stripe : ℕ) → Superblock → Type 0
+IsNameless count stripe image = (leg : ℕ) → leg < count → Names leg stripe image → ⊥
+
+-- the leg is the first that the image names in the stripe
+pub record IsFirstNamed (leg stripe : ℕ) (image : Superblock) : Type 0 where
+  pub bound : leg < 8
+  pub named : Names leg stripe image
+  pub first : IsNameless leg stripe image
+
+-- the image says of the leg that it lacks no more than marked spans in the stripe
+abbrev pub Lacks : (leg stripe : ℕ) → Superblock → Type 0
+Lacks leg stripe image = bit_at (partial_of stripe image.sets) leg ≡ 1
 
 -- how a leg starts, whose file is here or not
-abbrev pub IsLegStart : (leg stripe : ℕ) → Assembly → (is_here : Bool) → LegStart → Type 0
-IsLegStart leg stripe a is_here Out = is_here ≡ false
-IsLegStart leg stripe a is_here InSync = (is_here ≡ true) × IsEqual leg stripe a.newest a.fresh
-IsLegStart leg stripe a is_here Marked =
-    (is_here ≡ true) × (IsEqual leg stripe a.newest a.fresh → ⊥)
-    × IsCurrent leg stripe a.newest a.fresh
-IsLegStart leg stripe a is_here Whole =
-    (is_here ≡ true) × (IsEqual leg stripe a.newest a.fresh → ⊥)
-    × (IsCurrent leg stripe a.newest a.fresh → ⊥)
+abbrev pub IsLegStart : (leg stripe : ℕ) → Superblock → (is_here : Bool) → LegStart → Type 0
+IsLegStart leg stripe image is_here Missing = is_here ≡ false
+IsLegStart leg stripe image is_here Master = (is_here ≡ true) × Names leg stripe image
+IsLegStart leg stripe image is_here Partial =
+    (is_here ≡ true) × (Names leg stripe image → ⊥) × Lacks leg stripe image
+IsLegStart leg stripe image is_here Whole =
+    (is_here ≡ true) × (Names leg stripe image → ⊥) × (Lacks leg stripe image → ⊥)

@@ -1,7 +1,9 @@
 pub mod Assembly
+pub mod Image
 pub mod Legs
 pub mod Lineages
 pub mod Masters
 pub mod Saves
 pub mod Start
 pub mod Sure
+pub mod StripeSets

@@ -3,19 +3,23 @@
 #![tactic(auto)]
 
 pub use assembly::{AssembleFault, Assembly, assemble};
+pub use first::{NewMirror, begin_lineage, first_superblock, forced_image};
 pub use fresh::fresh_legs;
-pub use leg_start::LegStart;
+pub use image_legs::{LegStart, leg_start, named_leg};
 pub use masters::master_of;
 pub use misfit::{Misfit, first_misfit};
 pub use missing::missing_leg;
 pub use newest::newest_of;
 
 mod assembly;
+mod first;
 mod fresh;
+mod image;
+mod image_legs;
 pub mod laws;
-mod leg_start;
 mod lineages;
 mod masters;
 mod misfit;
 mod missing;
 mod newest;
+mod stripe_sets;

@@ -50,3 +50,15 @@ pub(crate) fn may_open_on(newest: &Superblock, fresh: &[bool; 8], stripe: usize,
     let in_sync = (newest.sets.in_sync(stripe) >> leg) & 1 == 1;
     in_sync && fresh[leg]
 }
+
+// Whether the stripe opens on the leg.
+pub(crate) fn is_master(newest: &Superblock, fresh: &[bool; 8], leg: usize, stripe: usize) -> bool
+    requires leg { leg < 8 }
+    requires stripe { stripe < 64 }
+    ensures { IsTrue result ↔ IsMaster leg stripe newest.now fresh.now }
+{
+    match master_of(newest, fresh, stripe) {
+        Some(master) => master == leg,
+        None => false,
+    }
+}

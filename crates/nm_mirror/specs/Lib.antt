@@ -1,7 +1,9 @@
+pub mod Asks
 pub mod Closing
 pub mod CopyRound
 pub mod Counting
 pub mod Counts
+pub mod Marked
 pub mod Numbers
 pub mod OpenFault
 pub mod Opening
@@ -10,5 +12,6 @@ pub mod Refused
 pub mod Resync
 pub mod RoundChanges
 pub mod RoundInside
+pub mod Saves
 pub mod Status
 pub mod Stripes

@@ -5,6 +5,7 @@ ghost use Rattle.nm_rules.specs.Failing.{fail_cause};
 ghost use Rattle.nm_rules.specs.State.{left};
 ghost use Rattle.nm_mirror.specs.Counts.{attached_so, attaches, failed_so, fails};
 
+use crate::ask::Ask;
 use crate::counts::{AttachCounts, FailCounts};
 use crate::mirror::Mirror;
 use nm_lanes::{CallKind, Gate, StepKind};
@@ -44,33 +45,40 @@ fn attach_in<L: LegPart>(stripe: &mut Stripe<L>, leg: u8, counts: &mut AttachCou
 }
 
 impl<L: LegPart, G: Gate + Drop> Mirror<L, G> {
-    /// Takes the leg out of every stripe, and counts what came of it.
+    /// Takes the leg out of every stripe, and counts what came of it. It waits for no superblock,
+    /// but wants the loss to be saved.
     pub fn fail_leg<R: Wait>(&self, rt: &R, leg: u8) -> FailCounts
         requires { leg < self.now.shape.legs }
     {
         let mut counts = FailCounts::default();
         for stripe in 0..self.shape.stripes {
             let mut held = self.hold(rt, stripe);
-            if (leg as usize) < held.legs() {
-                fail_in(&mut held, leg, &mut counts);
+            if (leg as usize) < held.stripe.legs() {
+                fail_in(&mut held.stripe, leg, &mut counts);
             }
             drop(held);
             self.pass_gate(CallKind::FailLeg, stripe, StepKind::Fail);
         }
+        self.want_save(rt);
         counts
     }
 
-    /// Lets the leg join every stripe again, and counts what came of it.
+    /// Lets the leg join every stripe again, and counts what came of it. Where a superblock may
+    /// still call it in sync it waits for the next one. A stripe for which no superblock can be
+    /// saved counts as stopped.
     pub fn attach_leg<R: Wait>(&self, rt: &R, leg: u8) -> AttachCounts
         requires { leg < self.now.shape.legs }
     {
         let mut counts = AttachCounts::default();
         for stripe in 0..self.shape.stripes {
-            let mut held = self.hold(rt, stripe);
-            if (leg as usize) < held.legs() {
-                attach_in(&mut held, leg, &mut counts);
+            match self.locks[stripe as usize].hold_for(rt, Ask::Attach(leg)) {
+                Some(mut held) => {
+                    if (leg as usize) < held.stripe.legs() {
+                        attach_in(&mut held.stripe, leg, &mut counts);
+                    }
+                }
+                None => counts.stopped += 1,
             }
-            drop(held);
             self.pass_gate(CallKind::AttachLeg, stripe, StepKind::Attach);
         }
         counts

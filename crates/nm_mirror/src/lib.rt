@@ -8,8 +8,10 @@
 
 pub use copy_round::{CopyRound, UnreadRegion};
 pub use counts::{AttachCounts, FailCounts};
+pub use gating::{gated, ungated};
 pub use glance::Glance;
 pub use lock::Lock;
+pub use marked_opening::{StripeStart, open_marked_stripes};
 pub use mirror::Mirror;
 pub use nm_geometry::Shape;
 pub use nm_lanes::{
@@ -21,18 +23,22 @@ pub use opening::{Opening, open_stripes};
 pub use part_lane::PartLane;
 pub use pass::Pass;
 pub use refused::Refused;
+pub use save_order::SaveOrder;
 pub use start::Start;
 pub use status::{LegStatus, StripeStatus};
 pub use totals::Totals;
 
+mod ask;
 mod bounds;
 mod calls;
 mod closing;
 mod copy_round;
 mod counts;
+mod gating;
 mod glance;
 mod legs;
 mod lock;
+mod marked_opening;
 mod mirror;
 mod open_fault;
 mod opening;
@@ -40,6 +46,10 @@ mod part_lane;
 mod pass;
 mod refused;
 mod resync;
+mod save_desk;
+mod save_order;
+mod saving;
+mod settling;
 mod start;
 mod status;
 mod totals;

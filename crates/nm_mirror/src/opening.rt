@@ -27,8 +27,8 @@ use std::alloc::Global;
 /// The stripes of a mirror while they are opened, by rising number.
 #[derive(Drop)]
 pub struct Opening<L: LegPart> {
-    shape: Shape,
-    stripes: Vec<Stripe<L>>,
+    pub(crate) shape: Shape,
+    pub(crate) stripes: Vec<Stripe<L>>,
     ghost so_far: { AreFirst shape stripes.items },
 }
 
@@ -91,6 +91,23 @@ impl<L: LegPart> Opening<L> {
         ensures { result.now ≡ self.now.shape }
     {
         &self.shape
+    }
+
+    /// How many stripes are open.
+    pub(crate) fn count(&self) -> usize
+        ensures { result ≡ length self.now.stripes.items }
+    {
+        self.stripes.len()
+    }
+
+    /// The place of the stripe to be opened next, where one is left.
+    pub(crate) fn place(&self) -> At
+        requires { length self.now.stripes.items < self.now.shape.stripes }
+        ensures place { result ≡ place_of (length self.now.stripes.items) self.now.shape }
+        ensures sizes { AreSizes result.blocks result.region self.now.shape.legs }
+        ensures chunk { IsChunkSize result.chunk }
+    {
+        place_of(&self.shape, self.stripes.len())
     }
 
     /// The place of the stripe to be opened next; none once all are open.

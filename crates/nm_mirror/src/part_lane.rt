@@ -8,6 +8,7 @@ ghost use Rattle.nm_lanes.specs.Done.{done_as};
 ghost use Rattle.nm_part.specs.Parts.{part_of};
 ghost use Rattle.nm_mirror.specs.Counting.{Follows};
 
+use crate::ask::Ask;
 use crate::lock::Lock;
 use nm_fanout::Data;
 use nm_lanes::Lane;
@@ -18,6 +19,9 @@ use std::marker::Model;
 use std::sync::Wait;
 
 /// The part of a pass in one stripe, as a lane over the stripe's lock.
+///
+/// A begin, a claim, a sync and a copy wait until the stripe's gate lets them pass. Where no
+/// superblock can be saved any more, what the gate refuses is refused as `SaveFailed`.
 #[derive(Drop)]
 pub struct PartLane<L> {
     part: Part<L>,
@@ -69,7 +73,10 @@ impl<L: LegPart> Lane<L, Lock<L>> for PartLane<L> {
             (done_as (step.Begin block «data») (answer_of_begin result) ∷ []) self.new }
         ensures handed_back { HandsBack «data» result }
     {
-        self.part.begin(&mut lock.hold(rt), block, data)
+        match lock.hold_for(rt, Ask::Begin(block)) {
+            Some(mut held) => self.part.begin(&mut held.stripe, block, data),
+            None => Err((Refusal::SaveFailed, data)),
+        }
     }
 
     #[inline(always)]
@@ -83,9 +90,9 @@ impl<L: LegPart> Lane<L, Lock<L>> for PartLane<L> {
         ensures follows { Follows {L = L} self.old
             (done_as (step.Push ticket leg) (answer_of_push result) ∷ []) self.new }
     {
-        let mut stripe = lock.hold(rt);
+        let mut held = lock.hold(rt);
         lock.note_write();
-        self.part.push(&mut stripe, ticket, leg)
+        self.part.push(&mut held.stripe, ticket, leg)
     }
 
     #[inline(always)]
@@ -93,7 +100,10 @@ impl<L: LegPart> Lane<L, Lock<L>> for PartLane<L> {
         ensures follows { Follows {L = L} self.old
             (done_as (step.Claim ticket) (answer_of_claim result) ∷ []) self.new }
     {
-        self.part.claim(&mut lock.hold(rt), ticket)
+        match lock.hold_for(rt, Ask::Answer) {
+            Some(mut held) => self.part.claim(&mut held.stripe, ticket),
+            None => Err(Refusal::SaveFailed),
+        }
     }
 
     #[inline(always)]
@@ -108,16 +118,18 @@ impl<L: LegPart> Lane<L, Lock<L>> for PartLane<L> {
             (done_as (step.Read block into.old) (answer_of_read result into.new) ∷ []) self.new }
         ensures target { LeavesTarget result into.old into.new }
     {
-        self.part.read(&mut lock.hold(rt), block, into)
+        self.part.read(&mut lock.hold(rt).stripe, block, into)
     }
 
     fn sync<R: Wait>(&mut self, rt: &R, lock: &Lock<L>, leg: u8) -> Result<Syncing, Refusal>
         ensures follows { Follows {L = L} self.old
             (done_as (step.Sync leg) (answer_of_sync result) ∷ []) self.new }
     {
-        let mut stripe = lock.hold(rt);
+        let Some(mut held) = lock.hold_for(rt, Ask::Answer) else {
+            return Err(Refusal::SaveFailed);
+        };
         lock.note_sync();
-        self.part.sync(&mut stripe, leg)
+        self.part.sync(&mut held.stripe, leg)
     }
 
     fn copy<R: Wait>(
@@ -131,16 +143,18 @@ impl<L: LegPart> Lane<L, Lock<L>> for PartLane<L> {
         ensures follows { Follows {L = L} self.old
             (done_as (step.Copy leg most from) (answer_of_copy result) ∷ []) self.new }
     {
-        let mut stripe = lock.hold(rt);
+        let Some(mut held) = lock.hold_for(rt, Ask::Copy(leg, from)) else {
+            return Err(Refusal::SaveFailed);
+        };
         lock.note_write();
-        self.part.copy(&mut stripe, leg, most, from)
+        self.part.copy(&mut held.stripe, leg, most, from)
     }
 
     fn owed<R: Wait>(&self, rt: &R, lock: &Lock<L>, ticket: Option<u64>) -> Option<(u64, u8)> {
-        let stripe = lock.hold(rt);
+        let held = lock.hold(rt);
         match ticket {
-            Some(ticket) => Some((ticket, stripe.next_owed(ticket)?)),
-            None => stripe.first_owed(),
+            Some(ticket) => Some((ticket, held.stripe.next_owed(ticket)?)),
+            None => held.stripe.first_owed(),
         }
     }
 

@@ -70,7 +70,8 @@ impl<L: LegPart, G: Gate + Drop> Mirror<L, G> {
     {
         let mut pass = begin_pass(alloc, &mut self.made.lock(rt), self.locks.len())?;
         for lock in &self.locks {
-            pass.parts.push_reserved(PartLane::of(&lock.hold(rt)));
+            pass.parts
+                .push_reserved(PartLane::of(&lock.hold(rt).stripe));
         }
         Ok(pass)
     }

@@ -22,6 +22,8 @@ mod leaving;
 #[cfg(test)]
 mod legs;
 #[cfg(test)]
+mod losing;
+#[cfg(test)]
 mod meeting;
 #[cfg(test)]
 mod mirrors;
@@ -37,6 +39,8 @@ mod reading;
 mod rounds;
 #[cfg(test)]
 mod row;
+#[cfg(test)]
+mod saves;
 #[cfg(test)]
 mod spot_leg;
 #[cfg(test)]

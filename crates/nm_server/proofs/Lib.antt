@@ -1,2 +1,3 @@
 mod Evenness
 mod Pushing
+mod Telling

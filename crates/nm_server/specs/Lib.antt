@@ -5,6 +5,10 @@ pub mod Files
 pub mod Handshake
 pub mod Replies
 pub mod Rounds
+pub mod Saving
 pub mod StartFault
 pub mod Starting
+pub mod SuperblockChoice
+pub mod SuperblockNames
+pub mod SuperblockSets
 pub mod Unread

@@ -20,11 +20,22 @@ status_of (fault.InUse leg) = 3
 status_of (fault.BadLength leg bytes) = 3
 status_of (fault.OtherLength leg bytes first) = 3
 status_of (fault.OverFileLimit leg bytes limit) = 3
+status_of (fault.HasSuperblock leg) = 3
+status_of (fault.NoPlaceBeside leg) = 3
+status_of (fault.CannotSave leg why) = 3
+status_of (fault.OtherMirror leg) = 3
+status_of (fault.OtherLeg leg said) = 3
+status_of fault.NotFirstStart = 3
+status_of (fault.NotInSync leg) = 3
+status_of fault.NoRandomNumbers = 3
 status_of (fault.CannotRead leg) = 3
 status_of (fault.CannotListen address error) = 4
 status_of fault.Memory = 5
 status_of fault.CannotClose = 6
 status_of fault.LegsDiffer = 7
+status_of (fault.MayBeNewer leg) = 7
+status_of (fault.WentApart leg other) = 7
+status_of (fault.NoneInSync stripe) = 7
 
 -- the exit status where the words of the command line are none, or ask for the help or the version
 abbrev pub status_of_words : ErrorKind → ℕ

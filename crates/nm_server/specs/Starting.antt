@@ -14,10 +14,19 @@ use Rattle.nm_server.specs.Alike.{AreAlike}
 use Rattle.nm_server.specs.declared.start_fault.StartFault.{StartFault}
 use Rattle.nm_server.specs.declared.start_fault.StartFault.TheVariants as fault
 
--- the mirror's word for a start
+-- the mirror's word for a start; legs that are taken to be equal are not compared
 abbrev pub start_for : asked.Start → mirror.Start
 start_for asked_start.Compare = mirror_start.Compare
 start_for asked_start.Full = mirror_start.Full
+start_for asked_start.Equal = mirror_start.Full
+
+-- the leg that was named as the one with the newest contents: by force, or else as the master
+abbrev pub forced_or_named : (forced master : Option ℕ) → Option ℕ
+forced_or_named (Some leg) master = Some leg
+forced_or_named None master = master
+
+abbrev pub named_master : Settings → Option ℕ
+named_master settings = forced_or_named settings.force_master settings.master
 
 -- the leg that was named as the master, and leg 0 where none was
 abbrev pub master_or_first : Option ℕ → ℕ
@@ -28,7 +37,7 @@ master_or_first None = 0
 abbrev pub asked_by : Settings → Geometry → Asked
 asked_by settings shape = record {
   shape = shape;
-  master = master_or_first settings.master;
+  master = master_or_first (named_master settings);
   policy = settings.policy;
   start = start_for settings.start;
 }

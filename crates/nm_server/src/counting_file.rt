@@ -51,6 +51,12 @@ impl CountingFile {
 }
 
 impl CountingFile {
+    // Notes a call that failed: for whoever tells of the leg, and for what clients are answered.
+    fn note_fault(&self, call: FileCall, at: u64, error: Option<&io::Error>) {
+        self.trouble.note(call, at, error);
+        self.counts.note_fault(error);
+    }
+
     // Notes a write that came short, as on a full file system: why is what a write of the rest is
     // answered.
     fn note_short(&mut self, at: u64, bytes: &[u8], moved: usize) {
@@ -62,8 +68,8 @@ impl CountingFile {
         }
         let at = at.saturating_add(moved as u64);
         match self.file.write_at(at, rest) {
-            Ok(_) => self.trouble.note(FileCall::Write, at, None),
-            Err(error) => self.trouble.note(FileCall::Write, at, Some(&error)),
+            Ok(_) => self.note_fault(FileCall::Write, at, None),
+            Err(error) => self.note_fault(FileCall::Write, at, Some(&error)),
         }
     }
 }
@@ -77,14 +83,14 @@ impl Medium for CountingFile {
         match self.file.read_at(at, into) {
             Ok(found) => {
                 if found == 0 && !into.is_empty() {
-                    self.trouble.note(FileCall::Length, at, None);
+                    self.note_fault(FileCall::Length, at, None);
                 }
                 self.read.fetch_add(found as u64, Ordering::SeqCst);
                 self.counts.note(LegCall::Read, Some(found));
                 Ok(found)
             }
             Err(error) => {
-                self.trouble.note(FileCall::Read, at, Some(&error));
+                self.note_fault(FileCall::Read, at, Some(&error));
                 self.counts.note(LegCall::Read, None);
                 Err(error)
             }
@@ -99,7 +105,7 @@ impl Medium for CountingFile {
                 self.note_short(at, bytes, *moved);
             }
             Err(error) => {
-                self.trouble.note(FileCall::Write, at, Some(error));
+                self.note_fault(FileCall::Write, at, Some(error));
                 self.counts.note(LegCall::Write, None);
             }
         }
@@ -111,7 +117,7 @@ impl Medium for CountingFile {
         match &synced {
             Ok(()) => self.counts.note(LegCall::Sync, Some(0)),
             Err(error) => {
-                self.trouble.note(FileCall::Sync, 0, Some(error));
+                self.note_fault(FileCall::Sync, 0, Some(error));
                 self.counts.note(LegCall::Sync, None);
             }
         }
@@ -122,8 +128,8 @@ impl Medium for CountingFile {
         let length = self.file.len();
         match &length {
             Ok(bytes) if *bytes >= self.bytes => (),
-            Ok(_) => self.trouble.note(FileCall::Length, 0, None),
-            Err(error) => self.trouble.note(FileCall::Length, 0, Some(error)),
+            Ok(_) => self.note_fault(FileCall::Length, 0, None),
+            Err(error) => self.note_fault(FileCall::Length, 0, Some(error)),
         }
         length
     }

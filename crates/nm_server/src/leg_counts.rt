@@ -1,5 +1,6 @@
 //! The calls of a leg's file, counted.
 
+use std::io;
 use std::sync::atomic::{AtomicU64, Ordering};
 
 /// What a call of a leg's file does.
@@ -64,6 +65,9 @@ pub struct LegCounts {
     reads: Counts,
     writes: Counts,
     syncs: Counts,
+    // How many calls failed since the file system had no space left, and how many for another reason.
+    full: AtomicU64,
+    other_faults: AtomicU64,
 }
 
 impl LegCounts {
@@ -73,6 +77,8 @@ impl LegCounts {
             reads: Counts::new(),
             writes: Counts::new(),
             syncs: Counts::new(),
+            full: AtomicU64::new(0),
+            other_faults: AtomicU64::new(0),
         }
     }
 
@@ -98,6 +104,28 @@ impl LegCounts {
                 own.errors.fetch_add(1, Ordering::SeqCst);
             }
         }
+    }
+
+    /// Notes why a call failed: with this error of the system, or with none, as where the file was
+    /// found shorter than it was.
+    pub fn note_fault(&self, error: Option<&io::Error>) {
+        let is_full = error.is_some_and(|error| error.kind() == io::ErrorKind::StorageFull);
+        let faults = if is_full {
+            &self.full
+        } else {
+            &self.other_faults
+        };
+        faults.fetch_add(1, Ordering::SeqCst);
+    }
+
+    /// Whether a call failed since the file system had no space left.
+    pub fn was_full(&self) -> bool {
+        self.full.load(Ordering::SeqCst) > 0
+    }
+
+    /// Whether a call failed for another reason.
+    pub fn failed_otherwise(&self) -> bool {
+        self.other_faults.load(Ordering::SeqCst) > 0
     }
 
     /// This number of the calls of one kind.

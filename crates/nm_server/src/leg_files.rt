@@ -19,7 +19,10 @@ use nm_mirror::Mirror;
 use nm_system::{Limits, is_in_use};
 use std::alloc::{AllocError, Global};
 use std::fs::{File, OpenOptions, TryLockError};
+use std::io;
 use std::io::{Seek, SeekFrom};
+use std::os::fd::AsRawFd;
+use std::os::unix::fs::FileTypeExt;
 use std::rt::Files;
 use std::sync::Arc;
 
@@ -30,7 +33,7 @@ const BLOCK_BYTES: u64 = nm_replay::BLOCK_BYTES as u64;
 const MOST_BLOCKS: u64 = 1 << 31;
 
 /// How many blocks a region has.
-const REGION: u64 = 128;
+pub const REGION: u64 = 128;
 
 /// How many blocks a chunk of a copy has: a region, so that two calls copy it, and a copy that has
 /// no open chunk never stands inside a region.
@@ -61,9 +64,13 @@ pub struct LegFiles {
     blocks: u64,
 }
 
-// Opens a leg's file for reading and writing, and locks it.
-fn open_locked<R: Files<File = File>>(rt: &R, name: &str) -> Result<File, Unopened> {
-    let opened = OpenOptions::new().read(true).write(true).open(rt, name);
+/// Opens a file for reading and writing, and locks it.
+pub fn open_locked<R: Files<File = File>>(rt: &R, name: &str) -> Result<File, Unopened> {
+    lock_opened(OpenOptions::new().read(true).write(true).open(rt, name))
+}
+
+/// Locks a file that was opened, if it was.
+pub fn lock_opened(opened: io::Result<File>) -> Result<File, Unopened> {
     let file = match opened {
         Ok(file) => file,
         Err(error) => return Err(Unopened::by(error)),
@@ -244,6 +251,44 @@ impl LegFiles {
             places.push(LegPlace::new(name, shared, trouble, bytes))?;
         }
         Ok(places)
+    }
+
+    /// Which legs there are.
+    pub fn here(&self) -> [bool; 8] {
+        let mut here = [false; 8];
+        for (leg, _) in self.files.iter().enumerate() {
+            if let Some(is_here) = here.get_mut(leg) {
+                *is_here = true;
+            }
+        }
+        here
+    }
+
+    /// Makes each leg's file durable as it is, and drops what the system's cache has of it, so that
+    /// what is read from now on is what a loss of power would leave. Of which legs that succeeded:
+    /// another one may have lost what was written to it.
+    pub fn settle(&self) -> [bool; 8] {
+        let mut settled = [false; 8];
+        for (leg, file) in self.files.iter().enumerate() {
+            let own = file.shared.file();
+            if let Some(is_settled) = settled.get_mut(leg) {
+                *is_settled = own.sync_data().is_ok();
+            }
+            let _ = libc::posix_fadvise(own.as_raw_fd(), 0, 0, libc::POSIX_FADV_DONTNEED);
+        }
+        settled
+    }
+
+    /// The first leg that is a block device.
+    pub fn block_device(&self) -> Option<usize> {
+        for (leg, file) in self.files.iter().enumerate() {
+            if let Ok(metadata) = file.shared.file().metadata() {
+                if metadata.file_type().is_block_device() {
+                    return Some(leg);
+                }
+            }
+        }
+        None
     }
 
     /// How many bytes all the files have.

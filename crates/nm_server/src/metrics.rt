@@ -58,6 +58,12 @@ impl Metrics {
         &self.legs
     }
 
+    /// Whether legs have failed since there was no space left, and for no other reason.
+    pub fn is_full_alone(&self) -> bool {
+        self.legs.iter().any(|leg| leg.was_full())
+            && !self.legs.iter().any(|leg| leg.failed_otherwise())
+    }
+
     /// Notes that a session begins.
     pub fn begin_session(&self) {
         self.sessions_begun.fetch_add(1, Ordering::SeqCst);

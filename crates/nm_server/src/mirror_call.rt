@@ -1,3 +1,6 @@
+ghost use Rattle.std.specs.Prelude.{◌≡◌};
+ghost use Rattle.nm_server.specs.Calls.{changes};
+
 use bytes::Bytes;
 
 /// A call of a mirror, in bytes: offsets count from the export's first byte.
@@ -13,4 +16,13 @@ pub enum MirrorCall {
     Flush,
     /// Makes durable what was written before from this offset on, to so many bytes.
     Sync(u64, u64),
+}
+
+impl MirrorCall {
+    /// Whether it changes what the export holds.
+    pub fn changes(&self) -> bool
+        ensures { result ≡ changes self.now }
+    {
+        matches!(self, MirrorCall::Write(_, _) | MirrorCall::Zero(_, _))
+    }
 }

@@ -4,11 +4,10 @@ ghost use Rattle.clap.specs.Values.{kind_of};
 ghost use Rattle.nm_server.specs.StartFault.{status_of, status_of_words};
 
 use crate::address::Address;
-use crate::answering_meanwhile::answer_meanwhile;
 use crate::copier::Copier;
 use crate::copy_orders::CopyOrders;
-use crate::counting_file::BytesRead;
 use crate::healing::Healing;
+use crate::kept_mirror::open_asked_for;
 use crate::leg_files::{FileMirror, Leg, LegFiles};
 use crate::leg_opener::OpensLegs;
 use crate::listener::Listener;
@@ -17,112 +16,52 @@ use crate::log_form::LogForm;
 use crate::log_lines::LogLines;
 use crate::metrics::Metrics;
 use crate::needs::{check_files, check_stack, reply_bytes_of};
-use crate::progress::{Comparison, tell_progress};
 use crate::reason::tell_reason;
 use crate::serving::serve_and_copy;
 use crate::session_rules::SessionRules;
 use crate::sessions::{AT_ONCE, ExportName};
 use crate::start_fault::StartFault;
-use crate::starting::{open_on_files, start_for};
 use crate::thread_trial::try_threads;
 use clap::Error;
 use clap::error::ErrorKind;
-use crossbeam_channel::bounded;
 use nm_commands::{Settings, settings};
-use nm_lanes::NoGate;
-use nm_mirror::{Mirror, Pass, Start};
+use nm_mirror::Pass;
 use nm_system::{Limits, take_standard_streams};
 use std::alloc::Global;
 use std::convert::AsStr;
 use std::fs::File;
+use std::io;
 use std::io::{Eprint, ErrorKind as IoErrorKind, Write};
 use std::net::{Net, TcpListener, TcpStream};
+use std::random::RandomSource;
 use std::rt::{Env, Files};
-use std::sync::atomic::AtomicU64;
-use std::sync::{Arc, Wait};
+use std::sync::Wait;
 use std::thread::Threads;
 use std::time::Clock;
-use std::{io, thread};
 
 /// How many legs a mirror has at most.
 const MOST_LEGS: usize = 8;
 
 /// How many threads there are beside those of sessions: the control port's, the one that copies,
-/// and one that reads for a session.
-const OTHER_THREADS: usize = 8;
+/// the one that saves superblocks, and one that reads for a session.
+const OTHER_THREADS: usize = 9;
 
 // The export that the settings ask for, unless they are wrong by themselves.
 fn export_asked<'a>(settings: &Settings<'a>) -> Result<ExportName<'a>, StartFault<'a>> {
     if settings.legs.len() > MOST_LEGS {
         return Err(StartFault::TooManyLegs);
     }
-    if let Some(master) = settings.master {
-        if master as usize >= settings.legs.len() {
-            return Err(StartFault::NoMaster(master));
+    for named in [settings.master, settings.force_master] {
+        if let Some(master) = named {
+            if master as usize >= settings.legs.len() {
+                return Err(StartFault::NoMaster(master));
+            }
         }
     }
     match ExportName::new(settings.name, settings.read_only) {
         Some(named) => Ok(named),
         None => Err(StartFault::BadName),
     }
-}
-
-// The mirror over the legs' files, which its stripes share.
-fn open_mirror<'a>(
-    alloc: Global,
-    settings: &Settings<'a>,
-    files: &LegFiles,
-    read: &BytesRead,
-) -> Result<FileMirror, StartFault<'a>> {
-    let Some(shape) = files.shape(settings.stripes) else {
-        return Err(StartFault::Memory);
-    };
-    let stripes = open_on_files(alloc, settings, files, &shape, read)?;
-    match Mirror::new(alloc, shape, stripes, NoGate) {
-        Ok(mirror) => {
-            // A thread for half of a request pays at no size over files (docs/PERFORMANCE.md).
-            mirror.keep_to_one_thread();
-            Ok(mirror)
-        }
-        Err(_) => Err(StartFault::Memory),
-    }
-}
-
-// Opens the mirror, while one thread tells how far the comparison of its legs is, and another one
-// answers the control port. Where no thread can be had nothing is told.
-fn open_watched<'a, R>(
-    rt: &R,
-    alloc: Global,
-    settings: &Settings<'a>,
-    files: &LegFiles,
-    control: &Listener,
-    lines: &LogLines,
-) -> Result<FileMirror, StartFault<'a>>
-where
-    R: Threads + Wait + Sync + Clock,
-{
-    let Ok(read) = Arc::new(alloc, AtomicU64::new(0)) else {
-        return Err(StartFault::Memory);
-    };
-    if start_for(settings.start) == Start::Full || settings.legs.len() < 2 {
-        return open_mirror(alloc, settings, files, &read);
-    }
-    let Ok((comparing, has_ended)) = bounded(alloc, 1) else {
-        return Err(StartFault::Memory);
-    };
-    let own_comparison = Comparison {
-        legs: settings.legs.len(),
-        bytes: files.bytes(),
-        read: &read,
-    };
-    let (ended, comparison) = (&has_ended, &own_comparison);
-    thread::scope(thread::scope_env(), rt, |scope| {
-        let _ = scope.spawn(move || tell_progress(rt, alloc, ended, comparison, lines));
-        let _ = scope.spawn(move || answer_meanwhile(rt, alloc, control, ended, comparison));
-        let mirror = open_mirror(alloc, settings, files, &read);
-        drop(comparing);
-        mirror
-    })
 }
 
 // The passes of so many sessions.
@@ -234,6 +173,7 @@ where
         + Sync
         + Copy
         + Clock
+        + RandomSource
         + Files<File = File>
         + Net<Listener = TcpListener, Stream = TcpStream>,
 {
@@ -251,7 +191,8 @@ where
     )?;
     let clients = listen(rt, alloc, Address::of_clients(settings))?;
     let control = listen(rt, alloc, Address::Named(settings.control))?;
-    let mirror = open_watched(rt, alloc, settings, &files, &control.listener, lines)?;
+    let opened = open_asked_for(rt, alloc, settings, &files, &control.listener, lines)?;
+    let (mirror, superblocks) = (opened.mirror, opened.superblocks);
     let copier = copier_of(alloc, &mirror, &files, settings)?;
     let orders = CopyOrders::new(settings.copy_rate);
     let metrics = metrics_of(alloc, &files, settings.sessions)?;
@@ -280,6 +221,7 @@ where
         &metrics,
         &orders,
         lines,
+        superblocks,
     )?;
     close(alloc, mirror, passes, out)
 }
@@ -346,6 +288,7 @@ where
         + Clock
         + Eprint
         + Env
+        + RandomSource
         + Files<File = File>
         + Net<Listener = TcpListener, Stream = TcpStream>
         + 'static,
@@ -362,7 +305,7 @@ where
     match ended {
         Ok(()) => 0,
         Err(fault) => {
-            let _ = tell_reason(alloc, &fault, &settings.legs, err);
+            let _ = tell_reason(alloc, &fault, &settings, err);
             tell_fault(&fault, err)
         }
     }

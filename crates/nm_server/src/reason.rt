@@ -1,7 +1,9 @@
 //! What a refusal does not say: which file or address, and why. It stands in the line before it.
 
 use crate::start_fault::StartFault;
+use crate::superblock_names::superblock_name;
 use crate::unbound::Unbound;
+use nm_commands::{Settings, SuperblockPlace};
 use std::alloc::{AllocError, Global};
 use std::io;
 use std::io::{ErrorKind, Write};
@@ -103,15 +105,37 @@ fn put_length<E: Write>(name: &str, bytes: Option<u64>, err: &mut E) {
     };
 }
 
-/// Tells which file or address is meant by a refusal, and why it is refused. `names` are those of
-/// the legs' files. A refusal that says all by itself has no such line.
+// The name of the file of this leg's superblock: beside the leg, where there is to be none.
+fn superblock_of(alloc: Global, settings: &Settings<'_>, leg: usize) -> Result<String, AllocError> {
+    let place = match settings.superblock {
+        SuperblockPlace::Nowhere => SuperblockPlace::Beside,
+        place => place,
+    };
+    match superblock_name(alloc, place, leg, name_of(&settings.legs, leg))? {
+        Some(name) => Ok(name),
+        None => Ok(String::new(alloc)),
+    }
+}
+
+/// Tells which file or address is meant by a refusal, and why it is refused. A refusal that says
+/// all by itself has no such line.
 pub fn tell_reason<E: Write>(
     alloc: Global,
     fault: &StartFault<'_>,
-    names: &[&str],
+    settings: &Settings<'_>,
     err: &mut E,
 ) -> Result<(), AllocError> {
+    let names = settings.legs.as_slice();
     match *fault {
+        StartFault::HasSuperblock(leg) => {
+            let name = superblock_of(alloc, settings, leg)?;
+            let text = "give --superblock beside, or name the newest leg by --force-master";
+            put_line(name.as_str(), text, err);
+        }
+        StartFault::CannotSave(leg, why) => {
+            let name = superblock_of(alloc, settings, leg)?;
+            put_unopened(alloc, name.as_str(), why, err)?;
+        }
         StartFault::CannotOpen(leg, why) => put_unopened(alloc, name_of(names, leg), why, err)?,
         StartFault::InUse(leg) => {
             let text = "is mounted, swapped to, held by another device, or behind a loop device";

@@ -26,11 +26,15 @@ const LOOK_MILLISECONDS: u64 = 100;
 /// How many milliseconds pass at least until regions that could not be read are tried again.
 const AGAIN_MILLISECONDS: u64 = 60_000;
 
+/// How many milliseconds pass at least from one look at stripes that are at rest to the next.
+const SETTLE_MILLISECONDS: u64 = 5_000;
+
 /// Takes turns at copying until all sessions have ended, at the pace that is ordered, with a pause
 /// after a turn that did nothing.
 ///
 /// Between them it looks for clients that have gone or are idle, has what could not be read tried
-/// again once a minute, attaches legs that are to heal, and tells what happens.
+/// again once a minute, attaches legs that are to heal, and tells what happens. Marks of stripes in
+/// which nothing was written for five seconds are cleared.
 pub fn resynchronise<R: Wait + Clock, O: OpensLegs, L: LegPart, G: Gate + Drop>(
     rt: &R,
     opener: &O,
@@ -46,6 +50,7 @@ pub fn resynchronise<R: Wait + Clock, O: OpensLegs, L: LegPart, G: Gate + Drop>(
     let begun = Instant::now(rt).ok();
     let mut looks = Interval::new(LOOK_MILLISECONDS);
     let mut tries = Interval::new(AGAIN_MILLISECONDS);
+    let mut settles = Interval::new(SETTLE_MILLISECONDS);
     let _ = tries.take(0);
     copier.tell_all(rt, mirror, lines, "serving");
     for _ in rt.forever() {
@@ -61,6 +66,9 @@ pub fn resynchronise<R: Wait + Clock, O: OpensLegs, L: LegPart, G: Gate + Drop>(
         }
         if copier.has_unread() && tries.take(now) {
             copier.begin_again();
+        }
+        if settles.take(now) {
+            mirror.settle_turn(rt);
         }
         if !pacer.rest(rt) && !pacer.turn(rt, &mut copier, mirror, places, orders) {
             thread::sleep(rt, Duration::from_millis(PAUSE_MILLISECONDS));

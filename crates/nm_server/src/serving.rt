@@ -17,9 +17,12 @@ use crate::session_places::SessionPlaces;
 use crate::session_rules::SessionRules;
 use crate::sessions::{AT_ONCE, ExportName, see_off, serve_place, take_clients};
 use crate::start_fault::StartFault;
+use crate::superblock_writer::SuperblockWriter;
 use crate::unread::UnreadList;
+use nm_lanes::NoGate;
 use nm_mirror::Pass;
 use std::alloc::Global;
+use std::fs::File;
 use std::net::{Net, TcpListener, TcpStream};
 use std::sync::Wait;
 use std::sync::atomic::{AtomicBool, Ordering};
@@ -63,70 +66,168 @@ where
     })
 }
 
-/// Serves until the last session has ended, while one thread copies legs and tells what happens to
-/// them, and others serve the control port. Copies begin as these orders say.
-pub fn serve_and_copy<'a, 'x, R, O: OpensLegs + Sync>(
-    rt: &'x R,
+// Serves the control port and sessions, until the last of these has ended. False where a thread
+// could not be started.
+fn serve_both<R>(
+    rt: &R,
     alloc: Global,
-    opener: &'x O,
-    named: &'x ExportName<'_>,
-    listeners: (&'x Listener, &'x Listener),
-    mirror: &'x FileMirror,
+    named: &ExportName<'_>,
+    listeners: (&Listener, &Listener),
+    passes: &mut [Pass<Leg>],
+    seats: &ControlPlaces,
+    controlled: Controlled<'_, Leg, NoGate>,
+    has_ended: &AtomicBool,
+    lines: &LogLines,
+) -> bool
+where
+    R: Threads + Wait + Sync + Copy + Clock + Net<Listener = TcpListener, Stream = TcpStream>,
+{
+    let own_ending = Ending::new();
+    let ending = &own_ending;
+    let (mirror, places, metrics) = (controlled.mirror, controlled.sessions, controlled.metrics);
+    let (clients, control) = listeners;
+    let is_served = thread::scope(thread::scope_env(), rt, |scope| {
+        let control_port = scope.spawn(move || serve_control(
+            rt, alloc, listeners, seats, controlled, ending, has_ended, lines,
+        ));
+        let Ok(control_port) = control_port else {
+            return false;
+        };
+        let is_served = serve_sessions(
+            rt, alloc, named, clients, mirror, passes, places, ending, metrics, lines,
+        );
+        has_ended.store(true, Ordering::SeqCst);
+        control.wake(rt);
+        control_port.join(rt) && is_served
+    });
+    has_ended.store(true, Ordering::SeqCst);
+    is_served
+}
+
+// Serves until the last session has ended, while one thread copies legs. False where a thread could
+// not be started.
+fn serve_copying<R, O: OpensLegs + Sync>(
+    rt: &R,
+    alloc: Global,
+    opener: &O,
+    named: &ExportName<'_>,
+    listeners: (&Listener, &Listener),
+    passes: &mut [Pass<Leg>],
+    copier: Copier,
+    controlled: Controlled<'_, Leg, NoGate>,
+    lines: &LogLines,
+) -> bool
+where
+    R: Threads + Wait + Sync + Copy + Clock + Net<Listener = TcpListener, Stream = TcpStream>,
+{
+    let Ok(seats) = ControlPlaces::new(alloc) else {
+        return false;
+    };
+    let has_ended = AtomicBool::new(false);
+    let ended = &has_ended;
+    let (mirror, places) = (controlled.mirror, controlled.sessions);
+    let (unread, orders) = (controlled.unread, controlled.orders);
+    thread::scope(thread::scope_env(), rt, |scope| {
+        let copying = scope.spawn(move || resynchronise(
+            rt, opener, copier, mirror, places, unread, orders, lines, ended,
+        ));
+        copying.is_ok()
+            && serve_both(
+                rt, alloc, named, listeners, passes, &seats, controlled, ended, lines,
+            )
+    })
+}
+
+// Saves superblocks until that is over, and gives their writer back.
+fn write_superblocks<R: Wait>(
+    rt: &R,
+    writer: SuperblockWriter<File>,
+    mirror: &FileMirror,
+    info: &ServerInfo,
+    lines: &LogLines,
+) -> SuperblockWriter<File> {
+    let mut writer = writer;
+    writer.save_until_closed(rt, mirror, info.saves(), lines);
+    writer
+}
+
+// Serves as above, while one thread saves superblocks. The last of them is saved in the end.
+fn serve_saving<R, O: OpensLegs + Sync>(
+    rt: &R,
+    alloc: Global,
+    opener: &O,
+    named: &ExportName<'_>,
+    listeners: (&Listener, &Listener),
+    passes: &mut [Pass<Leg>],
+    copier: Copier,
+    controlled: Controlled<'_, Leg, NoGate>,
+    lines: &LogLines,
+    writer: SuperblockWriter<File>,
+) -> bool
+where
+    R: Threads + Wait + Sync + Copy + Clock + Net<Listener = TcpListener, Stream = TcpStream>,
+{
+    let (mirror, info) = (controlled.mirror, controlled.info);
+    writer.tell_start(rt, info.saves(), lines);
+    thread::scope(thread::scope_env(), rt, |scope| {
+        let saving = scope.spawn(move || write_superblocks(rt, writer, mirror, info, lines));
+        let Ok(saving) = saving else {
+            return false;
+        };
+        let is_served = serve_copying(
+            rt, alloc, opener, named, listeners, passes, copier, controlled, lines,
+        );
+        mirror.close_saves(rt);
+        let mut writer = saving.join(rt);
+        writer.end(rt, mirror, info.saves(), lines);
+        is_served
+    })
+}
+
+/// Serves until the last session has ended, while one thread copies legs and tells what happens
+/// to them, one saves superblocks where there are some, and others serve the control port. Copies
+/// begin as these orders say.
+pub fn serve_and_copy<'a, R, O: OpensLegs + Sync>(
+    rt: &R,
+    alloc: Global,
+    opener: &O,
+    named: &ExportName<'_>,
+    listeners: (&Listener, &Listener),
+    mirror: &FileMirror,
     passes: &mut [Pass<Leg>],
     rules: SessionRules,
     copier: Copier,
-    metrics: &'x Metrics,
-    orders: &'x CopyOrders,
-    lines: &'x LogLines,
+    metrics: &Metrics,
+    orders: &CopyOrders,
+    lines: &LogLines,
+    superblocks: Option<SuperblockWriter<File>>,
 ) -> Result<(), StartFault<'a>>
 where
     R: Threads + Wait + Sync + Copy + Clock + Net<Listener = TcpListener, Stream = TcpStream>,
 {
-    let (Ok(own_places), Ok(control_places), Ok(unread_list)) = (
+    let (Ok(places), Ok(unread)) = (
         SessionPlaces::new(rt, alloc, passes.len() / AT_ONCE, rules),
-        ControlPlaces::new(alloc),
         UnreadList::new(alloc),
     ) else {
         return Err(StartFault::Memory);
     };
-    let (ending, has_ended) = (Ending::new(), AtomicBool::new(false));
-    let (asked, ended, seats) = (&ending, &has_ended, &control_places);
-    let own_info = ServerInfo::from_now(rt);
-    let (places, unread) = (&own_places, &unread_list);
-    let info = &own_info;
-    let (clients, control) = listeners;
-    let is_served = thread::scope(thread::scope_env(), rt, |scope| {
-        let copying = scope.spawn(move || resynchronise(
-            rt, opener, copier, mirror, places, unread, orders, lines, ended,
-        ));
-        if copying.is_err() {
-            return false;
-        }
-        let controlled = Controlled {
-            mirror,
-            unread,
-            sessions: places,
-            info,
-            metrics,
-            orders,
-        };
-        let control_port = scope.spawn(move || serve_control(
-            rt, alloc, listeners, seats, controlled, asked, ended, lines,
-        ));
-        let is_served = match control_port {
-            Ok(control_port) => {
-                let is_served = serve_sessions(
-                    rt, alloc, named, clients, mirror, passes, places, asked, metrics, lines,
-                );
-                ended.store(true, Ordering::SeqCst);
-                control.wake(rt);
-                control_port.join(rt) && is_served
-            }
-            Err(_) => false,
-        };
-        ended.store(true, Ordering::SeqCst);
-        is_served
-    });
+    let info = ServerInfo::from_now(rt);
+    let controlled = Controlled {
+        mirror,
+        unread: &unread,
+        sessions: &places,
+        info: &info,
+        metrics,
+        orders,
+    };
+    let is_served = match superblocks {
+        Some(writer) => serve_saving(
+            rt, alloc, opener, named, listeners, passes, copier, controlled, lines, writer,
+        ),
+        None => serve_copying(
+            rt, alloc, opener, named, listeners, passes, copier, controlled, lines,
+        ),
+    };
     if is_served {
         Ok(())
     } else {

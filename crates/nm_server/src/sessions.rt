@@ -5,7 +5,6 @@ ghost use Rattle.nm_server.specs.Handshake.{HasNegotiated};
 ghost use Rattle.nm_session.specs.declared.serve_fault.ServeFault.TheVariants.{Memory};
 ghost use Rattle.nm_wire.specs.Export.{size_of};
 
-use crate::call_counts::CallCounts;
 use crate::client_reader::ClientReader;
 use crate::client_stream::ClientStream;
 use crate::client_writer::ClientWriter;
@@ -188,7 +187,8 @@ fn serve_client<R: Threads + Wait + Sync + Copy + Clock>(
     mirror: &FileMirror,
     passes: &mut [Pass<Leg>],
     places: &SessionPlaces,
-    counts: Option<&CallCounts>,
+    metrics: &Metrics,
+    place: usize,
 ) -> Result<SessionEnd, ServeFault> {
     let _ = client.stream.set_nodelay();
     let Some(export) = export_of(alloc, named, mirror.shape().blocks) else {
@@ -210,7 +210,8 @@ fn serve_client<R: Threads + Wait + Sync + Copy + Clock>(
             rt,
             alloc,
             mirror,
-            counts,
+            metrics,
+            place,
             places,
         },
         activity: &client.activity,
@@ -246,8 +247,9 @@ where
             tell_begin(rt, alloc, &client, lines);
         }
         metrics.begin_session();
-        let counts = metrics.calls_of(number);
-        let ended = serve_client(rt, alloc, &client, named, mirror, passes, places, counts);
+        let ended = serve_client(
+            rt, alloc, &client, named, mirror, passes, places, metrics, number,
+        );
         metrics.end_session(ended.is_ok());
         let closing = places.free(rt, number);
         let is_verbose = places.is_verbose();

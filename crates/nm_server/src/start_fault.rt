@@ -47,12 +47,45 @@ pub enum StartFault<'a> {
     /// This leg's file is so many bytes long, and the process may write shorter files alone.
     #[error("nbdmirror: leg {0}: is longer than the file size limit")]
     OverFileLimit(usize, u64, u64),
+    /// This leg has a superblock, and the server was asked to keep none.
+    #[error("nbdmirror: leg {0}: has a superblock")]
+    HasSuperblock(usize),
+    /// This leg is a block device, beside which no superblock would outlive a restart.
+    #[error("nbdmirror: leg {0}: is a block device: give --superblock FOLDER")]
+    NoPlaceBeside(usize),
+    /// The file of this leg's superblock cannot be opened for reading and writing, made or removed.
+    #[error("nbdmirror: leg {0}: cannot write its superblock")]
+    CannotSave(usize, Unopened),
+    /// This leg's superblock is of another mirror, or of a mirror of another shape.
+    #[error("nbdmirror: leg {0}: its superblock is of another mirror")]
+    OtherMirror(usize),
+    /// This leg's superblock says that it is that leg's.
+    #[error("nbdmirror: leg {0}: its superblock says leg {1}")]
+    OtherLeg(usize, u8),
+    /// There are superblocks, and the legs were to be taken for equal.
+    #[error("nbdmirror: --start equal: the legs have superblocks")]
+    NotFirstStart,
+    /// This leg was named as the master, and is not in sync by the superblocks.
+    #[error("nbdmirror: master {0} is not in sync by the superblocks")]
+    NotInSync(u8),
+    /// No random number can be had.
+    #[error("nbdmirror: no random numbers")]
+    NoRandomNumbers,
     /// This leg, the master, cannot be read.
     #[error("nbdmirror: leg {0}: cannot read")]
     CannotRead(u8),
     /// No master is named, and the legs are not known to hold the same.
     #[error("nbdmirror: legs differ: name the newest by --master")]
     LegsDiffer,
+    /// This leg may have a newer superblock, and none was found.
+    #[error("nbdmirror: leg {0} may be newer, and its superblock is not here")]
+    MayBeNewer(usize),
+    /// Both legs have superblocks of which neither came after the other.
+    #[error("nbdmirror: legs {0} and {1} went on apart: name one by --force-master")]
+    WentApart(usize, usize),
+    /// No leg that is in sync in this stripe by the superblocks is here.
+    #[error("nbdmirror: stripe {0}: no leg in sync is here")]
+    NoneInSync(usize),
     /// No socket listens at this address.
     #[error("nbdmirror: cannot listen on {0}")]
     CannotListen(Address<'a>, Unbound),
@@ -82,11 +115,22 @@ impl StartFault<'_> {
             | StartFault::BadLength(_, _)
             | StartFault::OtherLength(_, _, _)
             | StartFault::OverFileLimit(_, _, _)
+            | StartFault::HasSuperblock(_)
+            | StartFault::NoPlaceBeside(_)
+            | StartFault::CannotSave(_, _)
+            | StartFault::OtherMirror(_)
+            | StartFault::OtherLeg(_, _)
+            | StartFault::NotFirstStart
+            | StartFault::NotInSync(_)
+            | StartFault::NoRandomNumbers
             | StartFault::CannotRead(_) => 3,
             StartFault::CannotListen(_, _) => 4,
             StartFault::Memory => 5,
             StartFault::CannotClose => 6,
-            StartFault::LegsDiffer => 7,
+            StartFault::LegsDiffer
+            | StartFault::MayBeNewer(_)
+            | StartFault::WentApart(_, _)
+            | StartFault::NoneInSync(_) => 7,
         }
     }
 }

@@ -5,8 +5,8 @@ ghost use Rattle.nm_mirror.specs.Opening.{AreAllOpened};
 ghost use Rattle.nm_mirror.specs.Stripes.{AreStripesOf};
 ghost use Rattle.nm_server.specs.Alike.{AreAlike};
 ghost use Rattle.nm_server.specs.Files.{AreOpenedOn, leg_place};
-ghost use Rattle.nm_server.specs.Starting.{RefusesStart, asked_by, master_or_first, start_for};
-ghost use Rattle.nm_server.specs.Starting.{unread_master};
+ghost use Rattle.nm_server.specs.Starting.{RefusesStart, asked_by, master_or_first, named_master};
+ghost use Rattle.nm_server.specs.Starting.{start_for, unread_master};
 
 use crate::alike::are_alike;
 use crate::counting_file::{BytesRead, CountingFile};
@@ -20,13 +20,24 @@ use nm_mirror::{OpenFault, Start, open_stripes};
 use nm_stripe::Stripe;
 use std::alloc::Global;
 
-/// How the mirror's legs stand as it is opened.
+/// How the mirror's legs stand as it is opened. Those that are taken to be equal are not compared.
 pub fn start_for(start: nm_commands::Start) -> Start
     ensures { result ≡ start_for start }
 {
     match start {
         nm_commands::Start::Compare => Start::Compare,
         nm_commands::Start::Full => Start::Full,
+        nm_commands::Start::Equal => Start::Full,
+    }
+}
+
+/// The leg that was named as the one with the newest contents: by force, or else as the master.
+pub fn named_master(settings: &Settings<'_>) -> Option<u8>
+    ensures { result ≡ named_master settings.now }
+{
+    match settings.force_master {
+        Some(leg) => Some(leg),
+        None => settings.master,
     }
 }
 
@@ -60,20 +71,22 @@ pub fn open_asked<'a, L: LegPart>(
     ensures stripes { IfOk result (λ stripes. AreStripesOf shape.now stripes.items) }
     ensures opened { IfOk result (λ stripes. AreAllOpened (leg_type L.model L.honest)
         (asked_by settings.now shape.now) (map (λ own. own.items) legs.items) stripes.items) }
-    ensures alike { IfOk result (λ stripes. settings.now.master ≡ None
+    ensures alike { IfOk result (λ stripes. named_master settings.now ≡ None
         → AreAlike stripes.items) }
-    ensures refused { IfErr result (RefusesStart (leg_type L.model L.honest) settings.now.master
+    ensures refused { IfErr result (RefusesStart (leg_type L.model L.honest)
+        (named_master settings.now)
         (asked_by settings.now shape.now) (map (λ own. own.items) legs.items)) }
 {
-    let master = master_or_first(settings.master);
+    let named = named_master(settings);
+    let master = master_or_first(named);
     let start = start_for(settings.start);
     let stripes = match open_stripes(alloc, shape, legs, master, settings.policy, start) {
         Ok(stripes) => stripes,
-        Err(OpenFault::MasterFault) => return Err(unread_master(settings.master)),
+        Err(OpenFault::MasterFault) => return Err(unread_master(named)),
         // That they do not fit cannot be: each leg was made with the blocks of its stripe.
         Err(OpenFault::Memory | OpenFault::Misfit) => return Err(StartFault::Memory),
     };
-    if settings.master.is_none() && !are_alike(&stripes) {
+    if named.is_none() && !are_alike(&stripes) {
         return Err(StartFault::LegsDiffer);
     }
     Ok(stripes)
@@ -94,7 +107,7 @@ pub fn open_on_files<'a>(
         ⟦<FileLeg<CountingFile> as LegPart>⟧.honest)
         (λ leg. leg_place leg.medium leg.stripe leg.shape)
         files.now (asked_by settings.now shape.now) stripes.items) }
-    ensures alike { IfOk result (λ stripes. settings.now.master ≡ None
+    ensures alike { IfOk result (λ stripes. named_master settings.now ≡ None
         → AreAlike stripes.items) }
 {
     let legs = match mirror_legs(alloc, files, shape, read) {

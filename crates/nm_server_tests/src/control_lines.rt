@@ -3,7 +3,7 @@
 use nm_geometry::Shape;
 use nm_lanes::NoGate;
 use nm_leg::MemLeg;
-use nm_mirror::{Mirror, Start, open_stripes};
+use nm_mirror::{Mirror, Start, open_stripes, ungated};
 use nm_server::{
     Controlled, CopyOrders, Metrics, Quit, ServerInfo, SessionPlaces, SessionRules, UnreadList,
     control,
@@ -20,7 +20,7 @@ type Talk = (&'static [u8], &'static [u8], bool);
 
 /// One connection after the other, all to the same mirror.
 static TALKS: [Talk; 20] = [
-    (b"info\n", b"serving: up 0 s\n", false),
+    (b"info\n", b"serving: up 0 s\nsuperblock: none\n", false),
     (
         b"status\n",
         b"stripe 0: master 0 settling no legs in join(1024)\n\
@@ -121,6 +121,9 @@ fn mirror(alloc: Global, start: Start) -> Result<Mirror<MemLeg, NoGate>, Fail> {
     }
     let Ok(stripes) = open_stripes(alloc, &shape, legs, 0, Policy::RoundRobin, start) else {
         return Err(Fail::new("no stripes"));
+    };
+    let Ok(stripes) = ungated(alloc, stripes) else {
+        return Err(Fail::new("no memory"));
     };
     match Mirror::new(alloc, shape, stripes, NoGate) {
         Ok(mirror) => Ok(mirror),

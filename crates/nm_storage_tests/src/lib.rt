@@ -27,6 +27,8 @@ mod regions;
 #[cfg(test)]
 mod resync;
 #[cfg(test)]
+mod saves;
+#[cfg(test)]
 mod shared_files;
 pub mod shared_medium;
 pub mod shared_syncs;

@@ -54,7 +54,7 @@ fn worked_sets() -> LegSets {
 }
 
 // The superblock, under this generation.
-fn worked(generation: u64) -> Superblock {
+pub(crate) fn worked(generation: u64) -> Superblock {
     let mut marked = SpanMap { bytes: [0; 2048] };
     marked.mark(0);
     marked.mark(9);

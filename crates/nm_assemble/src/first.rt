@@ -1,0 +1,126 @@
+//! The images of starts that no superblock decides: a first one, and one that a person forced.
+ghost use Rattle.std.specs.Prelude.{◌≡◌, ◌<◌, ◌↔◌, IsTrue};
+ghost use Rattle.nm_assemble.specs.Image.{IsEqualTo, IsFirst, IsForced, IsFork, IsSetOf};
+ghost use Rattle.nm_assemble.specs.Image.{NamesAlone};
+ghost use Rattle.nm_superblock.specs.Spans.{IsUnmarked};
+
+use crate::stripe_sets::{put, with_leg};
+use nm_superblock::{LegSets, SpanMap, Superblock};
+
+/// A mirror that has no superblock yet.
+#[derive(Clone, Copy, Debug, PartialEq, Eq)]
+pub struct NewMirror {
+    /// Its id, drawn at random.
+    pub mirror: u128,
+    /// Its blocks.
+    pub blocks: u64,
+    /// The blocks of a region.
+    pub region_blocks: u32,
+    /// The regions of a span.
+    pub span_regions: u32,
+    /// Its stripes.
+    pub stripes: u8,
+    /// Its legs.
+    pub legs: u8,
+    /// For each leg its id, drawn at random; 0 where there is no leg.
+    pub leg_ids: [u64; 8],
+    /// The id of its first lineage, drawn at random.
+    pub lineage: u64,
+}
+
+/// The first image of a mirror: this leg is the master, and these others are taken to be equal to
+/// it.
+pub fn first_superblock(new: &NewMirror, master: usize, equal: &[bool; 8]) -> Superblock
+    ensures { IsFirst new.now master equal.now result }
+{
+    Superblock {
+        generation: 0,
+        mirror: new.mirror,
+        blocks: new.blocks,
+        region_blocks: new.region_blocks,
+        span_regions: new.span_regions,
+        stripes: new.stripes,
+        legs: new.legs,
+        leg: 0,
+        clean: false,
+        leg_ids: new.leg_ids,
+        seen: [0; 8],
+        sets: sets_alone(new.stripes, master, equal),
+        lineages: [new.lineage, 0, 0, 0],
+        forks: [0; 4],
+        marked: no_marks(),
+    }
+}
+
+/// The image of a start that a person forced on this leg, whatever superblocks say: a new lineage,
+/// in which no other leg is known.
+pub fn forced_image(newest: &Superblock, leg: usize, lineage: u64) -> Superblock
+    ensures { IsForced leg lineage newest.now result }
+{
+    let fork = begin_lineage(newest, lineage);
+    Superblock {
+        leg: 0,
+        clean: false,
+        sets: sets_alone(newest.stripes, leg, &[false; 8]),
+        marked: no_marks(),
+        ..fork
+    }
+}
+
+/// The image in a lineage of its own.
+pub fn begin_lineage(image: &Superblock, lineage: u64) -> Superblock
+    ensures fork { IsFork lineage image.now result }
+    ensures others { result
+        ≡ record image.now { lineages = result.lineages; forks = result.forks } }
+{
+    let [parent, second, third, _] = image.lineages;
+    let [from, second_from, third_from, _] = image.forks;
+    let mut new = *image;
+    new.lineages = [lineage, parent, second, third];
+    new.forks = [image.generation, from, second_from, third_from];
+    new
+}
+
+// No span is marked.
+fn no_marks() -> SpanMap
+    ensures { IsUnmarked 16384 result }
+{
+    SpanMap { bytes: [0; 2048] }
+}
+
+// The sets of so many stripes, in each of which this leg is named alone.
+fn sets_alone(stripes: u8, master: usize, equal: &[bool; 8]) -> LegSets
+    ensures { NamesAlone 64 stripes master equal.now result }
+{
+    let named = alone(master);
+    let others = others_of(master, equal);
+    let mut sets = LegSets { bytes: [0; 256] };
+    'stripes: for stripe in 0..64 {
+        if stripe < stripes as usize {
+            put(&mut sets, stripe, named, others, others);
+        }
+    }
+    sets
+}
+
+// The set of this leg alone.
+fn alone(master: usize) -> u8
+    ensures { IsSetOf (λ leg. leg ≡ master) result }
+{
+    let mut set = 0;
+    'legs: for leg in 0..8 {
+        set = with_leg(set, leg, leg == master);
+    }
+    set
+}
+
+// The set of these legs without the master.
+fn others_of(master: usize, equal: &[bool; 8]) -> u8
+    ensures { IsSetOf (IsEqualTo master equal.now) result }
+{
+    let mut set = 0;
+    'legs: for leg in 0..8 {
+        set = with_leg(set, leg, equal[leg] && leg != master);
+    }
+    set
+}

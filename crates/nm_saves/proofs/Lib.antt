@@ -1,0 +1,4 @@
+pub mod Settling
+pub mod Written
+pub mod Rounds
+pub mod Saved

@@ -1,0 +1,27 @@
+-- One leg more is passed.
+use Rattle.std.proofs.Common.{length, List, Option, subst, not, sym, ap, ◌∙◌, arith}
+use Rattle.std.proofs.lemmas.List.{length-set}
+use Rattle.nm_saves.specs.FileState.{FileState}
+use Rattle.nm_saves.specs.Files.{SavesAt}
+use Rattle.nm_saves.proofs.Rounds.{goes-by, goes-to, rest-fine, still-fine}
+use Rattle.nm_saves.proofs.saving.save_to.Goals as goal
+use Rattle.nm_saves.proofs.saving.save_to.Goals.{then-to-leg, else-to-leg}
+
+pub legs-preserved : goal.legs-preserved
+legs-preserved g c =
+    let invariant = c.legs.invariant in
+    elim c.if-to-leg.branch [
+      | then-to-leg w ↦ (
+        ap length w.failed-is ∙ length-set c.legs.failed c.legs.leg (not w.has_saved.result) ∙ invariant.0,
+        goes-to g.F.SlotFile.honest w.has_saved.result c.legs.leg c.args.next.now c.args.to.now c.legs.failed c.if-to-leg.failed c.args.files.now c.legs.files c.if-to-leg.files
+            (omega arith) w.if-to-leg.true w.failed-is invariant.1
+            (subst (λ (fs : List (Option FileState)). SavesAt g.F.SlotFile.honest w.has_saved.result c.legs.leg c.args.next.now c.legs.files fs) (sym w.files-is) w.has_saved.ensures),
+        rest-fine c.legs.leg (not w.has_saved.result) c.legs.failed c.if-to-leg.failed w.failed-is invariant.2,
+      )
+      | else-to-leg w ↦ (
+        ap length w.failed-is ∙ invariant.0,
+        goes-by g.F.SlotFile.honest c.legs.leg c.args.next.now c.args.to.now c.legs.failed c.if-to-leg.failed c.args.files.now c.legs.files c.if-to-leg.files
+            w.if-to-leg.false (invariant.2 c.legs.leg (omega arith)) w.failed-is w.files-is invariant.1,
+        still-fine c.legs.leg c.legs.failed c.if-to-leg.failed w.failed-is invariant.2,
+      )
+    ]

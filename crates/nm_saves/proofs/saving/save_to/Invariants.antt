@@ -1,0 +1,10 @@
+use Rattle.std.proofs.Common.{◌≡◌, ◌≤◌, ℕ, length, false}
+use Rattle.nm_saves.specs.Files.{SavesTo, round_of, told}
+use Rattle.nm_saves.proofs.saving.save_to.Given as goal
+
+-- the round has passed the legs so far, and failed beside no other
+abbrev pub invariant-legs : goal.invariant-legs
+invariant-legs g l =
+    (length l.failed ≡ 8)
+    × SavesTo l.leg g.F.SlotFile.honest (round_of l.next l.to l.failed) l.initial.files l.files
+    × ((leg : ℕ) → l.leg ≤ leg → told leg l.failed ≡ false)

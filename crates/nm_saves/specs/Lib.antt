@@ -1,0 +1,4 @@
+pub mod SlotFile
+pub mod FileState
+pub mod Files
+pub mod SavingAll

@@ -1,0 +1,78 @@
+-- A save of the next superblock to the files of all legs: done, or not.
+use Rattle.std.specs.Prelude.{◌≡◌, ◌⊎◌, ◌<◌, ◌≤◌, ◌+◌, ◌^◌, ℕ, Bool, true, not, IsTrue, IsFalse}
+use Rattle.std.specs.Prelude.{List, slice_index, Option, Some}
+use Rattle.nm_superblock.specs.declared.superblock.Superblock.{Superblock}
+use Rattle.nm_superblock.specs.declared.leg_sets.LegSets.{LegSets}
+use Rattle.nm_superblock.specs.declared.span_map.SpanMap.{SpanMap}
+use Rattle.nm_saves.specs.FileState.{FileState}
+use Rattle.nm_saves.specs.Files.{IsNamed, IsNameless, SavesBeside, copy_of, file_of, newest_of}
+use Rattle.nm_saves.specs.Files.{told}
+
+-- the files, the last superblock whose save was done, and the highest generation that was tried or
+-- stamp that was found
+pub record FilesState : Type 0 where
+  pub files : List (Option FileState)
+  pub image : Superblock
+  pub highest : ℕ
+
+-- what the next superblock is to say, and which legs are out
+pub record Request : Type 0 where
+  pub sets : LegSets
+  pub marked : SpanMap
+  pub clean : Bool
+  pub out : List Bool
+
+abbrev pub request_of : LegSets → SpanMap → Bool → List Bool → Request
+request_of sets marked clean out =
+    record { sets = sets; marked = marked; clean = clean; out = out }
+
+-- the next superblock
+abbrev pub next_of : FilesState → Request → Superblock
+next_of s r = record s.image {
+  generation = s.highest + 1;
+  sets = r.sets;
+  marked = r.marked;
+  clean = r.clean;
+}
+
+-- what a save makes of a leg's file
+abbrev pub Makes : (honest done : Bool) → (leg : ℕ) → Request → (old new : FilesState) → Type 0
+Makes honest done leg r old new =
+    SavesBeside honest done leg (next_of old r) (file_of leg old.files) (file_of leg new.files)
+
+-- the leg's file is as it was
+abbrev pub Leaves : (leg : ℕ) → (old new : FilesState) → Type 0
+Leaves leg old new = file_of leg new.files ≡ file_of leg old.files
+
+-- A save that was done: each leg that it names has the next superblock, durably; others may, but
+-- for those that are out. What is surely beside a leg stands in its file.
+pub record IsDone (honest : Bool) (r : Request) (old new : FilesState) : Type 0 where
+  pub named : (leg : ℕ) → leg < 8 → IsNamed leg r.sets → Makes honest true leg r old new
+  pub others : (leg : ℕ) → leg < 8 → (IsNamed leg r.sets → ⊥)
+      → Leaves leg old new ⊎ (IsFalse (told leg r.out)
+      × ((done : Bool) × Makes honest done leg r old new))
+  pub generation : new.highest ≡ old.highest + 1
+  pub image : new.image ≡ record (next_of old r) { seen = new.image.seen }
+  pub seen_named : (leg : ℕ) → leg < 8 → IsNamed leg r.sets
+      → slice_index new.image.seen leg ≡ old.highest + 1
+  pub seen : (leg : ℕ) → leg < 8
+      → (slice_index new.image.seen leg ≡ slice_index old.image.seen leg)
+      ⊎ ((slice_index new.image.seen leg ≡ old.highest + 1)
+      × (newest_of (file_of leg new.files) ≡ Some (copy_of leg (next_of old r))))
+
+-- A save that was not: a leg that it names lacks it, and no file of another leg was touched.
+pub record IsUndone (honest : Bool) (r : Request) (failed : List Bool) (old new : FilesState)
+    : Type 0 where
+  pub named : (leg : ℕ) → leg < 8 → IsNamed leg r.sets
+      → Makes honest (not (told leg failed)) leg r old new
+  pub others : (leg : ℕ) → leg < 8 → (IsNamed leg r.sets → ⊥)
+      → IsFalse (told leg failed) × Leaves leg old new
+  pub some : (leg : ℕ) × (leg < 8) × IsTrue (told leg failed)
+  pub generation : new.highest ≡ old.highest + 1
+  pub image : new.image ≡ old.image
+
+-- A save that does not begin: no generation is left, or it names no leg in some stripe.
+pub record TakesNone (r : Request) (failed : List Bool) (old new : FilesState) : Type 0 where
+  pub cause : (2 ^ 64 ≤ old.highest + 1) ⊎ IsNameless old.image.stripes r.sets
+  pub none : (leg : ℕ) → leg < 8 → IsFalse (told leg failed)
+  pub same : new ≡ old

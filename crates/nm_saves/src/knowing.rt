@@ -1,0 +1,87 @@
+//! What is known of the files of all legs.
+ghost use Rattle.std.specs.Prelude.{◌≡◌, ◌≤◌};
+ghost use Rattle.nm_saves.specs.Files.{AreFailed, AreOthers, AreUpTo, IsSeenAfter, file_of};
+ghost use Rattle.nm_saves.specs.Files.{has_failed_in, round_of, stamp_in};
+
+use crate::slot_file::SlotFile;
+use crate::superblock_file::SuperblockFile;
+use nm_superblock::Superblock;
+
+// The highest of this generation and the files' stamps.
+pub(crate) fn highest_of<F: SlotFile>(files: &[Option<SuperblockFile<F>>], after: u64) -> u64
+    ensures own { after ≤ result }
+    ensures above { AreUpTo 8 result files.now }
+{
+    let mut highest = after;
+    'legs: for leg in 0..8 {
+        highest = highest.max(stamp_at(files, leg));
+    }
+    highest
+}
+
+// The highest stamp in the file of this leg.
+fn stamp_at<F: SlotFile>(files: &[Option<SuperblockFile<F>>], leg: usize) -> u64
+    ensures { result ≡ stamp_in (file_of leg files.now) }
+{
+    if leg >= files.len() {
+        return 0;
+    }
+    match &files[leg] {
+        Some(file) => file.highest_stamp(),
+        None => 0,
+    }
+}
+
+// The legs whose file has failed.
+pub(crate) fn failed_legs<F: SlotFile>(files: &[Option<SuperblockFile<F>>]) -> [bool; 8]
+    ensures { AreFailed 8 files.now result }
+{
+    let mut failed = [false; 8];
+    'legs: for leg in 0..8 {
+        failed[leg] = failed_at(files, leg);
+    }
+    failed
+}
+
+// Whether the file of this leg has failed.
+fn failed_at<F: SlotFile>(files: &[Option<SuperblockFile<F>>], leg: usize) -> bool
+    ensures { result ≡ has_failed_in (file_of leg files.now) }
+{
+    if leg >= files.len() {
+        return false;
+    }
+    match &files[leg] {
+        Some(file) => file.has_failed(),
+        None => false,
+    }
+}
+
+// The legs that are not named, and not out.
+pub(crate) fn other_legs(named: &[bool; 8], out: &[bool; 8]) -> [bool; 8]
+    ensures { AreOthers 8 named.now out.now result }
+{
+    let mut others = [false; 8];
+    'legs: for leg in 0..8 {
+        others[leg] = !named[leg] && !out[leg];
+    }
+    others
+}
+
+// The last generation that was surely written beside each leg, after this superblock was saved
+// beside those that it names, and beside others where it did not fail.
+pub(crate) fn seen_after(
+    next: &Superblock,
+    named: &[bool; 8],
+    others: &[bool; 8],
+    lacking: &[bool; 8],
+) -> [u64; 8]
+    ensures { IsSeenAfter 8 named.now (round_of next.now others.now lacking.now) result }
+{
+    let mut seen = next.seen;
+    'legs: for leg in 0..8 {
+        if named[leg] || others[leg] && !lacking[leg] {
+            seen[leg] = next.generation;
+        }
+    }
+    seen
+}
