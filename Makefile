@@ -7,7 +7,7 @@ export RT
 
 help:
 	@echo 'make run           build nbdmirror and serve two legs of 64 MiB, until a quit; PORT=20809 for other ports than 10809 and 10810'
-	@echo 'make demo          build nbdmirror and show it: a leg fails, comes back, and is copied'
+	@echo 'make demo          build nbdmirror and show it: a leg fails and comes back, the server is killed and starts again by itself'
 	@echo 'make install       build nbdmirror and install it below PREFIX (/usr/local), in DESTDIR'
 	@echo 'make deb           build nbdmirror and a package of it for Debian, out/nbdmirror_VERSION_amd64.deb'
 	@echo 'make interop       other programs against nbdmirror; installs what is missing'

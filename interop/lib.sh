@@ -22,6 +22,11 @@ need() {
     done
 }
 
+# Has two legs, where the script was run with one.
+need_second_leg() {
+    [ "$legs" -ge 2 ] || { echo '  needs a second leg' >&2; legs=2; }
+}
+
 # A port below those that the system hands out, so that no client takes it meanwhile.
 free_port() {
     local port
@@ -40,9 +45,10 @@ make_legs() {
     done
 }
 
-# start OPTIONS..: starts the server on the legs and waits until it listens. $on is the address that it
-# listens on, if not the loopback.
+# start OPTIONS..: starts the server on the legs and waits until it listens, without superblocks where no
+# option says otherwise. $on is the address that it listens on, if not the loopback.
 start() {
+    case " $* " in *' --superblock '*) ;; *) set -- --superblock none "$@" ;; esac
     for _ in 1 2 3 4 5; do
         port=$(free_port)
         control=$(free_port)

@@ -94,7 +94,8 @@ def used_by(pid):
 
 class Server:
     """A running nbdmirror over leg files that it makes where they are not there: as many as `legs` says, in a folder
-    of its own or those of `folders`, or `files`."""
+    of its own or those of `folders`, or `files`. It has no superblocks where no option says otherwise."""
+    superblocks = ("--superblock", "none")
 
     def __init__(self, legs=1, size=8 * MIB, options=(), address_space=None, stack=None, one_arena=False,
                  folders=None, files=None, program=PROGRAM):
@@ -106,7 +107,7 @@ class Server:
                 with open(name, "wb") as file:
                     file.truncate(size)
         self.size = size
-        self.options = list(options)
+        self.options = [*(() if "--superblock" in options else self.superblocks), *options]
         self.bounds = {resource.RLIMIT_AS: address_space, resource.RLIMIT_STACK: stack}
         self.one_arena = one_arena
         self.process = None
@@ -145,7 +146,8 @@ class Server:
                 return
         raise AssertionError(f"the server does not start: {self.errors()}")
 
-    def try_start(self, options):
+    def launch(self, options=()):
+        """Starts it at free ports, and does not wait."""
         self.port, self.control_port = free_port(), free_port()
         words = [self.program, "--listen", f"127.0.0.1:{self.port}",
                  "--control", f"127.0.0.1:{self.control_port}", *self.options, *options, *self.files]
@@ -161,6 +163,9 @@ class Server:
         with open(f"{self.room}/out", "wb") as out, open(f"{self.room}/err", "wb") as err:
             self.process = subprocess.Popen(words, stdin=subprocess.DEVNULL, stdout=out, stderr=err,
                                             preexec_fn=bound if any(self.bounds.values()) else None, env=own)
+
+    def try_start(self, options):
+        self.launch(options)
         end = time.monotonic() + 60 * PATIENCE
         while time.monotonic() < end and self.process.poll() is None:
             if "control on" in self.printed():

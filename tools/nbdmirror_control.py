@@ -27,6 +27,13 @@ UNREAD = re.compile(r"unread (\d{1,20}) (\d{1,20}) (\d{1,20}) (\d{1,20})")
 UNREAD_END = re.compile(r"end (\d{1,20})")
 COPY_RATE = re.compile(r"copy-rate (\d{1,5}|default)")
 ATTACHED = re.compile(r"attach (\d+): joining (\d+) left (\d+) notout (\d+) stopped (\d+)")
+REPLACED = re.compile(r"replace (\d+): joining (\d+) left (\d+) out (\d+) stopped (\d+)")
+REFUSED = re.compile(r"(?:fail|attach|replace) \d+: (last|busy|in use|locked|length|cannot open|not saved)")
+REOPENED = re.compile(r"reopen: opened (\d+) left (\d+) stopped (\d+)")
+SERVING = re.compile(r"serving: up \d{1,20} s")
+SUPERBLOCK = re.compile(r"superblock: generation (\d{1,20}) marked (\d{1,20}) unsaved (\d{1,20})( failed)?")
+# What no server sends more of as an answer to `info`.
+MOST_INFO = 16
 
 
 class Trouble(Exception):
@@ -120,9 +127,28 @@ class Control:
         return self.next_line()
 
     def info(self):
-        """What the server says of itself, also while it opens its mirror."""
-        self.send("info")
-        return self.any_line()
+        """The lines that the server says of itself, also while it opens its mirror."""
+        # A line that is no command ends the answer, since servers say more or less of themselves.
+        self.send("info", "end")
+        lines = [self.any_line()]
+        if not SERVING.fullmatch(lines[0]):
+            return lines
+        while (line := self.next_line()) != "bad command":
+            lines.append(line)
+            if len(lines) > MOST_INFO:
+                raise Trouble("the server answered with no end of what it is")
+        return lines
+
+    def superblock_and_missing(self):
+        """How the superblocks stand, as a dictionary, or None where there are none or the server does not tell; and a
+        line for each leg whose file is missing: its file, and why."""
+        lines = self.info()
+        superblock = next((told for told in map(superblock_of, lines) if told), None)
+        return superblock, [line for line in lines if re.match(r"leg \d{1,3}: no file: ", line)]
+
+    def superblock(self):
+        """How the superblocks stand."""
+        return self.superblock_and_missing()[0]
 
     def status_lines(self):
         """The lines of a status that was asked for, without the last one, which says `end`."""
@@ -168,6 +194,13 @@ def rate_of(answer):
     """The rate that an answer tells, in MiB a second: 0 where copies have the default, None where it tells none."""
     found = COPY_RATE.fullmatch(answer)
     return found and (0 if found[1] == "default" else int(found[1]))
+
+
+def superblock_of(line):
+    """What a line says of the superblocks, or None where it says nothing of them."""
+    found = SUPERBLOCK.fullmatch(line)
+    return found and {"generation": int(found[1]), "marked_spans": int(found[2]), "unsaved_stripes": int(found[3]),
+                      "failed": bool(found[4])}
 
 
 def leg_of(word):

@@ -250,9 +250,25 @@ def copy_rate_sentence(rate):
     return f"copies go at {rate} MiB/s" if rate else "copies go as fast as clients leave room for"
 
 
-def health(stripes, unread=None):
+def superblock_sentence(superblock):
+    """How the superblocks stand, or nothing where there are none."""
+    if not superblock:
+        return ""
+    if superblock["failed"]:
+        return "superblocks cannot be written: the mirror is read-only"
+    marked, unsaved = superblock["marked_spans"], superblock["unsaved_stripes"]
+    parts = [f"superblock: generation {superblock['generation']}",
+             f"{marked} {'span is' if marked == 1 else 'spans are'} marked"]
+    if unsaved:
+        parts.append(f"a loss in {unsaved} {'stripe' if unsaved == 1 else 'stripes'} is being saved")
+    return ", ".join(parts)
+
+
+def health(stripes, unread=None, superblock=None):
     """What a monitoring check says: its level, and why in a line."""
     found, count = [], len(stripes)
+    if superblock and superblock["failed"]:
+        found.append((CRITICAL, superblock_sentence(superblock)))
     if text := unread_sentence(unread):
         found.append((CRITICAL, text))
     if stopped := [stripe["stripe"] for stripe in stripes if stripe["stopped"]]:
@@ -288,6 +304,41 @@ def attach_sentence(leg, joining, left, not_out, stopped):
     parts = [(joining, f"is being copied in {places(joining, count)}, {mib(left)} in all"),
              (not_out, f"was not out in {places(not_out, count)}")]
     return sentence(leg, parts, stopped, count)
+
+
+def replace_sentence(leg, joining, left, out, stopped):
+    """What became of a leg whose file was to be opened anew and copied whole, in so many stripes each."""
+    count = joining + out + stopped
+    parts = [(joining, f"has its new file, and is being copied in {places(joining, count)}, {mib(left)} in all"),
+             (out, f"stays out in {places(out, count)}")]
+    return sentence(leg, parts, stopped, count)
+
+
+# What a server answers where it does not do what was asked of a leg.
+REFUSALS = {
+    "last": "is the only one in sync in some stripe, and stays",
+    "busy": "is being replaced: ask again",
+    "in use": "is out, and stays so: the file of its name is in use",
+    "locked": "is out, and stays so: another process has locked the file of its name",
+    "length": "is out, and stays so: the file of its name has another length",
+    "cannot open": "is out, and stays so: the file of its name, or of its superblock, cannot be opened",
+    "not saved": "is out, and stays so: no superblock can be written",
+}
+
+
+def refusal_sentence(leg, word):
+    """Why a server does not do what was asked of a leg."""
+    return f"leg {leg} {REFUSALS[word]}"
+
+
+def reopen_sentence(opened, left, stopped):
+    """What became of stripes that were to be opened anew."""
+    told = []
+    if opened:
+        told.append(f"{opened} {'stripe was' if opened == 1 else 'stripes were'} opened anew, {mib(left)} to copy")
+    if stopped:
+        told.append(f"{stopped} {'stripe stays' if stopped == 1 else 'stripes stay'} stopped")
+    return "; ".join(told) or "no stripe was stopped"
 
 
 def sentence(leg, parts, stopped, count):

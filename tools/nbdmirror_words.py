@@ -23,6 +23,13 @@ def leg_number(word):
     return number
 
 
+def stripe_or_all(word):
+    number = number_of(word, 20)
+    if word != "all" and number is None:
+        raise argparse.ArgumentTypeError("a stripe is a number, as `status -v` tells it, or all")
+    return word if number is None else number
+
+
 def client_number(word):
     number = number_of(word, 20)
     if number is None:
@@ -84,10 +91,13 @@ def add_status(command):
 def add_legs(command):
     """The words of what is done with a leg."""
     command("fail", "take a leg out").add_argument("leg", type=leg_number)
-    attach = command("attach", "copy a leg again")
-    attach.add_argument("leg", type=leg_number)
-    attach.add_argument("--watch", action="store_true", help="and show the copy until it is done")
-    add_interval(attach)
+    for name, text in (("attach", "copy a leg again"), ("replace", "open a leg's file anew and copy it whole")):
+        one = command(name, text)
+        one.add_argument("leg", type=leg_number)
+        one.add_argument("--watch", action="store_true", help="and show the copy until it is done")
+        add_interval(one)
+    reopen = command("reopen", "open a stripe that stopped anew")
+    reopen.add_argument("stripe", type=stripe_or_all, metavar="STRIPE", help="its number, or all")
     rate = command("copy-rate", "show or set the rate at which legs are copied")
     rate.add_argument("rate", type=mib_a_second, nargs="?", metavar="MIB", help="MiB a second, or default")
 
@@ -104,6 +114,15 @@ def add_ends(command):
     wait.add_argument("--pid", type=int, metavar="PID", help="the server's process: it fails once that has ended")
 
 
+def add_verify(command):
+    """The words of `verify`."""
+    one = command("verify", "compare the legs in sync, in the background")
+    form = one.add_mutually_exclusive_group()
+    form.add_argument("--wait", action="store_true", help="until it is over, and tell what differs")
+    form.add_argument("--stop", action="store_true", help="end it where it is")
+    one.add_argument("--json", action="store_true", help="for machines, with --wait")
+
+
 def add_commands(command):
     """Each command with its words."""
     add_status(command)
@@ -111,6 +130,7 @@ def add_commands(command):
     add_legs(command)
     command("clients", "who is connected").add_argument("--json", action="store_true", help="for machines")
     command("kick", "close a client's connection").add_argument("client", type=client_number)
+    add_verify(command)
     add_interval(command("watch", "show a copy until it is done"))
     command("which-master", "the legs that are in sync in every stripe")
     command("metrics", "what the server has counted, as Prometheus reads it")
@@ -132,4 +152,6 @@ def parse(arguments):
     words = parser.parse_args(arguments)
     if words.command == "status" and words.watch and (words.json or words.check):
         parser.error("status: --watch goes with a table")
+    if words.command == "verify" and words.json and not words.wait:
+        parser.error("verify: --json goes with --wait")
     return words

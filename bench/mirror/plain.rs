@@ -311,7 +311,7 @@ fn print_rounds(row: Row, name: &str, side_by_side: bool) {
 // without threads for the halves.
 fn main() {
     let only = std::env::args().nth(1);
-    for (size, called) in [(4096, "4K"), (1 << 20, "1M")] {
+    for (size, called) in [(4096, "4K"), (65_536, "64K"), (1 << 20, "1M")] {
         for (work, verb) in [(Work::Write, "write"), (Work::Read, "read")] {
             for threads in [1, 4] {
                 for stripes in [1, 4, 16] {

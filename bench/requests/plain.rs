@@ -3,6 +3,10 @@
 use std::hint::black_box;
 use std::time::Instant;
 
+#[path = "../common/received.rs"]
+mod received;
+use received::Received;
+
 const PIECE: usize = 65_536;
 const ROUNDS: u32 = 12;
 const LONGEST: u32 = 33_554_432;
@@ -24,31 +28,20 @@ enum Fault {
 }
 
 struct Reader {
-    buffer: Vec<u8>,
-    start: usize,
+    received: Received,
     count: u64,
 }
 
 impl Reader {
     fn new() -> Reader {
         Reader {
-            buffer: Vec::new(),
-            start: 0,
+            received: Received::default(),
             count: 0,
         }
     }
 
-    fn feed(&mut self, piece: &[u8]) {
-        if self.start > 0 && self.buffer.len() + piece.len() > self.buffer.capacity() {
-            self.buffer.copy_within(self.start.., 0);
-            self.buffer.truncate(self.buffer.len() - self.start);
-            self.start = 0;
-        }
-        self.buffer.extend_from_slice(piece);
-    }
-
     fn next(&mut self) -> Result<Option<Request<&[u8]>>, Fault> {
-        let bytes = &self.buffer[self.start..];
+        let bytes = self.received.rest();
         let Some(head) = bytes.first_chunk::<28>() else {
             return Ok(None);
         };
@@ -68,8 +61,9 @@ impl Reader {
         if bytes.len() < end {
             return Ok(None);
         }
-        let payload = self.start + 28..self.start + end;
-        self.start += end;
+        let start = self.received.start;
+        let payload = start + 28..start + end;
+        self.received.start += end;
         let index = self.count;
         self.count += 1;
         Ok(Some(Request {
@@ -79,7 +73,7 @@ impl Reader {
             cookie,
             offset,
             length,
-            payload: &self.buffer[payload],
+            payload: &self.received.buffer[payload],
         }))
     }
 }
@@ -113,7 +107,7 @@ fn read_all(bytes: &[u8], times: usize, is_lent: bool) -> (u64, u64) {
     let (mut count, mut sum) = (0u64, 0u64);
     for _ in 0..times {
         for piece in bytes.chunks(PIECE) {
-            reader.feed(piece);
+            reader.received.feed(piece);
             while let Some(request) = reader.next().unwrap() {
                 count += 1;
                 sum = sum.wrapping_add(if is_lent {

@@ -3,6 +3,10 @@
 use std::io::{Read, Write};
 use std::time::Instant;
 
+#[path = "../common/received.rs"]
+mod received;
+use received::Received;
+
 const SIZE: usize = 8_388_608;
 const ROUNDS: u32 = 12;
 const ROOM: usize = 131_072;
@@ -53,27 +57,6 @@ impl Target for MemTarget {
         let from = offset as usize;
         self.bytes[from..from + payload.len()].copy_from_slice(payload);
         Ok(())
-    }
-}
-
-// The bytes that were read and are not used yet.
-struct Received {
-    buffer: Vec<u8>,
-    start: usize,
-}
-
-impl Received {
-    fn feed(&mut self, piece: &[u8]) {
-        if self.start > 0 && self.buffer.len() + piece.len() > self.buffer.capacity() {
-            self.buffer.copy_within(self.start.., 0);
-            self.buffer.truncate(self.buffer.len() - self.start);
-            self.start = 0;
-        }
-        self.buffer.extend_from_slice(piece);
-    }
-
-    fn rest(&self) -> &[u8] {
-        &self.buffer[self.start..]
     }
 }
 
@@ -279,10 +262,7 @@ fn main() {
                     writer: Sum { size: 0, sum: 0 },
                     target: &mut target,
                     room: vec![0; ROOM],
-                    received: Received {
-                        buffer: Vec::new(),
-                        start: 0,
-                    },
+                    received: Received::default(),
                     out: Vec::new(),
                     requests: 0,
                     is_lent,

@@ -3,7 +3,8 @@
 //! `nbdmirror --help` lists its words; docs/OPERATING.md says how to run it.
 #![tactic(auto)]
 
-use nm_server::{LegOpener, refuse_words, start};
+use nm_leg_files::LegOpener;
+use nm_server::{refuse_words, start};
 use std::env;
 use std::process::ExitCode;
 

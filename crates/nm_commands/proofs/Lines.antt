@@ -10,8 +10,10 @@ use Rattle.nm_commands.specs.declared.control_command.ControlCommand.{ControlCom
 use Rattle.nm_commands.specs.declared.control_command.ControlCommand.TheVariants.{Status, Unread, Info, Fail}
 use Rattle.nm_commands.specs.declared.control_command.ControlCommand.TheVariants.{Metrics, Clients, Kick, Bad}
 use Rattle.nm_commands.specs.declared.control_command.ControlCommand.TheVariants.{Attach, Quit, QuitWithin}
-use Rattle.nm_commands.specs.declared.control_command.ControlCommand.TheVariants.{CopyRate, SetCopyRate}
+use Rattle.nm_commands.specs.declared.control_command.ControlCommand.TheVariants.{CopyRate, Replace, SetCopyRate}
+use Rattle.nm_commands.specs.declared.control_command.ControlCommand.TheVariants.{Reopen, ReopenAll}
 use Rattle.nm_commands.specs.declared.control_command.ControlCommand.TheVariants.{DefaultCopyRate}
+use Rattle.nm_commands.specs.declared.control_command.ControlCommand.TheVariants.{Verify, VerifyStop}
 
 -- a word of digits is text
 pub named_is_text : (word : List ℕ) (leg : ℕ) → IsNumeralOf word leg → IsUtf8 word
@@ -62,15 +64,19 @@ other_start start line word other e =
 pub asks_nothing : (line : List ℕ) → (line ≡ codes "status" → ⊥) → (line ≡ codes "unread" → ⊥) →
     (line ≡ codes "info" → ⊥) → (line ≡ codes "metrics" → ⊥) →
     (line ≡ codes "copy-rate" → ⊥) → (line ≡ codes "copy-rate default" → ⊥) →
+    (line ≡ codes "verify" → ⊥) → (line ≡ codes "verify stop" → ⊥) →
     (line ≡ codes "clients" → ⊥) → (line ≡ codes "quit" → ⊥) →
+    (line ≡ codes "reopen all" → ⊥) →
     ((leg : ℕ) → IsWithNumber (codes "fail ") line leg → ⊥) →
     ((leg : ℕ) → IsWithNumber (codes "attach ") line leg → ⊥) →
+    ((leg : ℕ) → IsWithNumber (codes "replace ") line leg → ⊥) →
+    ((stripe : ℕ) → IsWithNumber (codes "reopen ") line stripe → ⊥) →
     ((client : ℕ) → IsWithNumber (codes "kick ") line client → ⊥) →
     ((mib : ℕ) → IsCopyRate line mib → ⊥) →
     ((seconds : ℕ) → IsQuitWithin line seconds → ⊥) →
     (command : ControlCommand) → Asks line command → ⊥
-asks_nothing line status unread info metrics rate default clients quit fail attach kick mib within =
-    go
+asks_nothing line status unread info metrics rate default verify halt clients quit all fail attach
+    replace stripe kick mib within = go
   where
     go : (command : ControlCommand) → Asks line command → ⊥
     go Status asks = status asks
@@ -79,9 +85,14 @@ asks_nothing line status unread info metrics rate default clients quit fail atta
     go Metrics asks = metrics asks
     go (Fail leg) asks = fail leg asks
     go (Attach leg) asks = attach leg asks
+    go (Replace leg) asks = replace leg asks
+    go (Reopen number) asks = stripe number asks
+    go ReopenAll asks = all asks
     go CopyRate asks = rate asks
     go (SetCopyRate number) asks = mib number asks
     go DefaultCopyRate asks = default asks
+    go Verify asks = verify asks
+    go VerifyStop asks = halt asks
     go Clients asks = clients asks
     go (Kick client) asks = kick client asks
     go Quit asks = quit asks

@@ -15,7 +15,8 @@ use Rattle.nm_commands.specs.CommandLine.{nbdmirror}
 use Rattle.clap.specs.declared.error.Error.{Error}
 use Rattle.clap.specs.declared.error.kind.ErrorKind.TheVariants.{ArgumentConflict}
 use Rattle.nm_commands.specs.CommandLine.{ArePolicies, AreStarts}
-use Rattle.nm_commands.specs.Settings.{IsNumber, IsRefusal, HasFlag, HasNumber, NamesTwo, source_of}
+use Rattle.nm_commands.specs.Settings.{IsNumber, IsPlaceOf, IsRefusal, HasFlag, HasNumber, NamesTwo, source_of}
+use Rattle.nm_commands.specs.declared.superblock_place.SuperblockPlace.{SuperblockPlace}
 
 pub simple : (policies starts : Bor (List (Bor Text))) →
     is_simple (nbdmirror policies starts) ≡ true
@@ -57,6 +58,10 @@ said_two policies starts words e known known_starts faultless two is = inr (inr 
 pub said_text : (f : Found) (rows : List Row) (id text : Text) → rows_of f ≡ rows →
     first_value f id ≡ Some text → first_of id rows ≡ Some text
 said_text f rows id text e h = sym (first_value-rows f id ∙ ap (first_of id) e) ∙ h
+
+pub said_place : (f : Found) (rows : List Row) (id : Text) (place : SuperblockPlace) →
+    rows_of f ≡ rows → IsPlaceOf (first_value f id) place → IsPlaceOf (first_of id rows) place
+said_place f rows id place e h = rw (← first_value-rows f id ∙ ap (first_of id) e) h
 
 said_one : (f : Found) (rows : List Row) (id : Text) → rows_of f ≡ rows →
     one_text f id ≡ one_of id rows

@@ -52,7 +52,8 @@ ArePolicies names =
 
 -- The starts that the command line knows.
 abbrev pub AreStarts : Bor (List (Bor Text)) → Type 0
-AreStarts names = map (λ name. name.now) names.now ≡ codes "compare" ∷ codes "full" ∷ []
+AreStarts names =
+    map (λ name. name.now) names.now ≡ codes "compare" ∷ codes "full" ∷ codes "equal" ∷ []
 
 -- The program, which tells its version.
 abbrev pub program : App
@@ -81,6 +82,13 @@ copying_command policies starts = with_rule (with_rule (mirror_command policies 
     (flag_rule (codes "auto-attach")))
     (bare_number_rule (codes "copy-rate") (pos 1) (pos 65535))
 
+-- The same, and the options that say where superblocks are and what a start makes of them.
+abbrev pub with_superblock_options : App → App
+with_superblock_options app = with_rule (with_rule (with_rule app
+    (option_rule (codes "superblock") (codes "beside")))
+    (flag_rule (codes "degraded")))
+    (bare_number_rule (codes "force-master") (pos 0) (pos 7))
+
 -- The same, and the options that say what the server does with its clients. `v` is 118.
 abbrev pub with_client_options : App → App
 with_client_options app = with_rule (with_rule app
@@ -91,7 +99,7 @@ with_client_options app = with_rule (with_rule app
 abbrev pub nbdmirror : (policies starts : Bor (List (Bor Text))) → App
 nbdmirror policies starts =
     with_rule (with_rule (with_rule (with_rule
-    (with_client_options (copying_command policies starts))
+    (with_client_options (with_superblock_options (copying_command policies starts)))
     (number_rule (codes "sessions") (codes "16") (pos 1) (pos 64)))
     (lettered 114 (flag_rule (codes "read-only"))))
     (flag_rule (codes "force-in-use")))

@@ -4,12 +4,15 @@ use Rattle.std.specs.Str.Parse.{IsNumeral, digits_value}
 use Rattle.nm_commands.specs.declared.control_command.ControlCommand.{ControlCommand}
 use Rattle.nm_commands.specs.declared.control_command.ControlCommand.TheVariants.{Status, Unread, Fail}
 use Rattle.nm_commands.specs.declared.control_command.ControlCommand.TheVariants.{Info, Metrics}
-use Rattle.nm_commands.specs.declared.control_command.ControlCommand.TheVariants.{Attach, Quit}
+use Rattle.nm_commands.specs.declared.control_command.ControlCommand.TheVariants.{Attach, Quit, Replace}
 use Rattle.nm_commands.specs.declared.control_command.ControlCommand.TheVariants.{QuitWithin, Bad}
 use Rattle.nm_commands.specs.declared.control_command.ControlCommand.TheVariants.{Clients, Kick}
+use Rattle.nm_commands.specs.declared.control_command.ControlCommand.TheVariants.{Reopen, ReopenAll}
 use Rattle.nm_commands.specs.declared.control_command.ControlCommand.TheVariants.{CopyRate}
 use Rattle.nm_commands.specs.declared.control_command.ControlCommand.TheVariants.{SetCopyRate}
 use Rattle.nm_commands.specs.declared.control_command.ControlCommand.TheVariants.{DefaultCopyRate}
+use Rattle.nm_commands.specs.declared.control_command.ControlCommand.TheVariants.{Verify}
+use Rattle.nm_commands.specs.declared.control_command.ControlCommand.TheVariants.{VerifyStop}
 
 -- The word is this number: 1 to 20 decimal digits of it, and it fits 64 bits.
 pub record IsNumeralOf (word : List ℕ) (number : ℕ) : Type 0 where
@@ -42,9 +45,14 @@ Asks line Info = line ≡ codes "info"
 Asks line Metrics = line ≡ codes "metrics"
 Asks line (Fail leg) = IsWithNumber (codes "fail ") line leg
 Asks line (Attach leg) = IsWithNumber (codes "attach ") line leg
+Asks line (Replace leg) = IsWithNumber (codes "replace ") line leg
+Asks line (Reopen stripe) = IsWithNumber (codes "reopen ") line stripe
+Asks line ReopenAll = line ≡ codes "reopen all"
 Asks line CopyRate = line ≡ codes "copy-rate"
 Asks line (SetCopyRate mib) = IsCopyRate line mib
 Asks line DefaultCopyRate = line ≡ codes "copy-rate default"
+Asks line Verify = line ≡ codes "verify"
+Asks line VerifyStop = line ≡ codes "verify stop"
 Asks line Quit = line ≡ codes "quit"
 Asks line (QuitWithin seconds) = IsQuitWithin line seconds
 Asks line Clients = line ≡ codes "clients"

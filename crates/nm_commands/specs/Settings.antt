@@ -1,5 +1,5 @@
 -- What the words of a command line ask for.
-use Rattle.std.specs.Prelude.{◌≡◌, ◌⊎◌, ℕ, Bool, true, false, List, [], map, Option, None}
+use Rattle.std.specs.Prelude.{◌≡◌, ◌≢◌, ◌⊎◌, ℕ, Bool, true, false, List, [], map, Option, None}
 use Rattle.std.specs.Prelude.{Some, codes, find, option_and_then}
 use Rattle.std.specs.Str.{bytes_eq}
 use Rattle.std.specs.Borrow.{Bor}
@@ -13,7 +13,10 @@ use Rattle.clap.specs.declared.parser.matches.ValueSource.TheVariants.{CommandLi
 use Rattle.nm_choice.specs.declared.policy.Policy.{Policy}
 use Rattle.nm_choice.specs.declared.policy.Policy.TheVariants.{RoundRobin, Striped}
 use Rattle.nm_commands.specs.declared.start.Start.{Start}
-use Rattle.nm_commands.specs.declared.start.Start.TheVariants.{Compare, Full}
+use Rattle.nm_commands.specs.declared.start.Start.TheVariants.{Compare, Equal, Full}
+use Rattle.nm_commands.specs.declared.superblock_place.SuperblockPlace.{SuperblockPlace}
+use Rattle.nm_commands.specs.declared.superblock_place.SuperblockPlace.TheVariants.{Beside, Folder}
+use Rattle.nm_commands.specs.declared.superblock_place.SuperblockPlace.TheVariants.{Nowhere}
 use Rattle.nm_commands.specs.declared.server_settings.Settings.{Settings}
 use Rattle.nm_commands.specs.CommandLine.{ArePolicies, AreStarts, nbdmirror}
 
@@ -26,6 +29,14 @@ policy_text Striped = codes "striped"
 abbrev pub start_text : Start → Text
 start_text Compare = codes "compare"
 start_text Full = codes "full"
+start_text Equal = codes "equal"
+
+-- The word says that superblocks are there: any other word than these two is a folder's name.
+abbrev pub IsPlaceOf : Option Text → SuperblockPlace → Type 0
+IsPlaceOf word Nowhere = word ≡ Some (codes "none")
+IsPlaceOf word Beside = word ≡ Some (codes "beside")
+IsPlaceOf word (Folder name) =
+    (word ≡ Some name.now) × (name.now ≢ codes "none") × (name.now ≢ codes "beside")
 
 -- What was found is this number: decimal digits, with or without a plus before them.
 pub record IsNumber (found : Option Text) (number : ℕ) : Type 0 where
@@ -66,6 +77,9 @@ pub record HasSettings (rows : List Row) (s : Settings) : Type 0 where
   pub policy : first_of (codes "policy") rows ≡ Some (policy_text s.policy)
   pub master : HasNumber rows (codes "master") s.master
   pub start : first_of (codes "start") rows ≡ Some (start_text s.start)
+  pub superblock : IsPlaceOf (first_of (codes "superblock") rows) s.superblock
+  pub degraded : HasFlag rows (codes "degraded") s.degraded
+  pub force_master : HasNumber rows (codes "force-master") s.force_master
   pub auto_attach : HasFlag rows (codes "auto-attach") s.auto_attach
   pub copy_rate : HasNumber rows (codes "copy-rate") s.copy_rate
   pub sessions : IsNumber (one_of (codes "sessions") rows) s.sessions

@@ -18,6 +18,8 @@ use crate::options::{
 };
 use crate::server_settings::Settings;
 use crate::start::Start;
+use crate::superblock_options::{superblock_place, with_superblock_options};
+use crate::values::{bare_number, number, text};
 use clap::error::ErrorKind;
 use clap::parser::ValueSource;
 use clap::{ArgMatches, Command, Error};
@@ -110,7 +112,8 @@ fn command_line<'a>(alloc: Global) -> Result<Command<'a>, Error>
     ensures memory { IfErr result (λ error. kind_of error ≡ OutOfMemory) }
 {
     let mirror = copying_command(alloc)?;
-    let program = with_client_options(alloc, mirror)?;
+    let with_superblocks = with_superblock_options(alloc, mirror)?;
+    let program = with_client_options(alloc, with_superblocks)?;
     let sessions = number_option(alloc, "sessions", "16", 1, 64, "how many clients at once");
     let with_sessions = program.arg(sessions)?;
     let read_only = lettered_flag(alloc, "read-only", 'r', "refuse writes");
@@ -128,28 +131,6 @@ fn command_line<'a>(alloc: Global) -> Result<Command<'a>, Error>
     );
     let command = with_flags.arg(legs)?;
     Ok(command)
-}
-
-// The text of an option.
-fn text<'a>(matches: &ArgMatches<'a>, id: &str) -> Result<&'a str, Error>
-    ensures ok { IfOk result (λ text. first_value (found_of matches.now) id.now ≡ Some text.now) }
-    ensures memory { IfErr result (λ error. kind_of error ≡ OutOfMemory) }
-{
-    match matches.get_str(id) {
-        Some(text) => Ok(text),
-        None => Err(Error::from(AllocError)),
-    }
-}
-
-// The number of an option.
-fn number(matches: &ArgMatches<'_>, id: &str) -> Result<u8, Error>
-    ensures ok { IfOk result (λ number. IsNumber (one_text (found_of matches.now) id.now) number) }
-    ensures memory { IfErr result (λ error. kind_of error ≡ OutOfMemory) }
-{
-    match matches.get_one::<u8>(id) {
-        Some(number) => Ok(number),
-        None => Err(Error::from(AllocError)),
-    }
 }
 
 // The port of 127.0.0.1 for clients, if one is named.
@@ -213,20 +194,6 @@ fn policy(matches: &ArgMatches<'_>) -> Result<Policy, Error>
     }
 }
 
-// The leg that is named as the master, if one is.
-fn master(matches: &ArgMatches<'_>) -> Result<Option<u8>, Error>
-    ensures some { IfOk result (λ master. IfSome master (λ leg.
-        IsNumber (one_text (found_of matches.now) (codes "master")) leg)) }
-    ensures none { IfOk result (λ master. master ≡ None
-        → first_value (found_of matches.now) (codes "master") ≡ None) }
-    ensures memory { IfErr result (λ error. kind_of error ≡ OutOfMemory) }
-{
-    match matches.get_str("master") {
-        None => Ok(None),
-        Some(_) => Ok(Some(number(matches, "master")?)),
-    }
-}
-
 // How the mirror starts.
 fn start_of(matches: &ArgMatches<'_>) -> Result<Start, Error>
     ensures ok { IfOk result (λ start. first_value (found_of matches.now) (codes "start")
@@ -236,6 +203,7 @@ fn start_of(matches: &ArgMatches<'_>) -> Result<Start, Error>
     match text(matches, "start")? {
         "compare" => Ok(Start::Compare),
         "full" => Ok(Start::Full),
+        "equal" => Ok(Start::Equal),
         _ => Err(Error::from(AllocError)),
     }
 }
@@ -270,8 +238,11 @@ fn settings_of<'a>(alloc: Global, matches: &ArgMatches<'a>) -> Result<Settings<'
     let name = text(matches, "name")?;
     let stripes = number(matches, "stripes")?;
     let policy = policy(matches)?;
-    let master = master(matches)?;
+    let master = bare_number(matches, "master")?;
     let start = start_of(matches)?;
+    let superblock = superblock_place(matches)?;
+    let degraded = matches.get_flag("degraded");
+    let force_master = bare_number(matches, "force-master")?;
     let auto_attach = matches.get_flag("auto-attach");
     let copy_rate = copy_rate(matches)?;
     let sessions = number(matches, "sessions")?;
@@ -289,6 +260,9 @@ fn settings_of<'a>(alloc: Global, matches: &ArgMatches<'a>) -> Result<Settings<'
         policy,
         master,
         start,
+        superblock,
+        degraded,
+        force_master,
         auto_attach,
         copy_rate,
         sessions,

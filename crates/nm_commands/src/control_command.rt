@@ -26,12 +26,22 @@ pub enum ControlCommand {
     Fail(u64),
     /// The leg is to be copied again in every stripe.
     Attach(u64),
+    /// The leg's file is opened anew in every stripe, and copied whole.
+    Replace(u64),
+    /// The stripe is opened anew, if it has stopped.
+    Reopen(u64),
+    /// Each stripe that has stopped is opened anew.
+    ReopenAll,
     /// At what rate legs are copied.
     CopyRate,
     /// Legs are copied at so many MiB a second.
     SetCopyRate(u64),
     /// Legs are copied at the rate that clients leave.
     DefaultCopyRate,
+    /// The legs in sync are compared, or how far that is.
+    Verify,
+    /// The comparison ends where it is.
+    VerifyStop,
     /// The server ends once its clients have left.
     Quit,
     /// The server ends, and after so many seconds closes what is left of its clients.
@@ -125,17 +135,32 @@ pub fn control_line(line: &[u8]) -> ControlCommand
     if line == b"copy-rate default".as_slice() {
         return ControlCommand::DefaultCopyRate;
     }
+    if line == b"verify".as_slice() {
+        return ControlCommand::Verify;
+    }
+    if line == b"verify stop".as_slice() {
+        return ControlCommand::VerifyStop;
+    }
     if line == b"clients".as_slice() {
         return ControlCommand::Clients;
     }
     if line == b"quit".as_slice() {
         return ControlCommand::Quit;
     }
+    if line == b"reopen all".as_slice() {
+        return ControlCommand::ReopenAll;
+    }
     if let Some(leg) = number_after(line, b"fail ") {
         return ControlCommand::Fail(leg);
     }
     if let Some(leg) = number_after(line, b"attach ") {
         return ControlCommand::Attach(leg);
+    }
+    if let Some(leg) = number_after(line, b"replace ") {
+        return ControlCommand::Replace(leg);
+    }
+    if let Some(stripe) = number_after(line, b"reopen ") {
+        return ControlCommand::Reopen(stripe);
     }
     if let Some(client) = number_after(line, b"kick ") {
         return ControlCommand::Kick(client);

@@ -11,9 +11,13 @@ mod line_room;
 mod options;
 mod server_settings;
 mod start;
+mod superblock_options;
+mod superblock_place;
+mod values;
 
 pub use crate::command_line::settings;
 pub use crate::control_command::{ControlCommand, control_line};
 pub use crate::line_room::{Fed, LineRoom};
 pub use crate::server_settings::Settings;
 pub use crate::start::Start;
+pub use crate::superblock_place::SuperblockPlace;

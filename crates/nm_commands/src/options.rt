@@ -84,13 +84,13 @@ pub fn start_option<'a>(alloc: Global) -> Arg<'a>
         ≡ parsed_rule (codes "start") (codes "compare") (Names starts)) }
     ensures own { result.global ≡ false }
 {
-    let starts = ["compare", "full"].as_slice();
+    let starts = ["compare", "full", "equal"].as_slice();
     option(
         alloc,
         "start",
         "compare",
         "START",
-        "copy what differs from the master, or all",
+        "copy what differs from the master, or all, or take legs to be equal",
     )
     .value_parser(ValueParser::Names(starts))
 }

@@ -1,4 +1,5 @@
 use crate::start::Start;
+use crate::superblock_place::SuperblockPlace;
 use nm_choice::Policy;
 
 /// What the command line asks for.
@@ -20,6 +21,12 @@ pub struct Settings<'a> {
     pub master: Option<u8>,
     /// How the other legs stand at the start.
     pub start: Start,
+    /// Where the legs' superblocks are.
+    pub superblock: SuperblockPlace<'a>,
+    /// Whether the server starts though a leg that is not there may be newer.
+    pub degraded: bool,
+    /// The leg with the newest contents, whatever superblocks say, where one was named.
+    pub force_master: Option<u8>,
     /// Whether a leg that went out by a failed call is attached again by itself.
     pub auto_attach: bool,
     /// At how many MiB a second legs are copied, where that was named.

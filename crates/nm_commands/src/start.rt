@@ -5,4 +5,6 @@ pub enum Start {
     Compare,
     /// Each is copied whole.
     Full,
+    /// Each is taken to be equal to the master, and none is read.
+    Equal,
 }

@@ -69,13 +69,6 @@ reads-stretch honest places first result old new filled whole follow done reads 
   same = reads.same;
 }
 
--- a run of which not all was read
-pub reads-part : (honest : Bool) (places : ℕ → ℕ) (old new : Held) (filled : List ℕ) → (IsTrue honest → new ≡ old) → ReadsRun honest false places old new filled
-reads-part honest places old new filled same = record {
-  found = λ _ q. absurd (let e : ⊥ = cc in e);
-  same = same;
-}
-
 -- a call that wrote all it was given
 pub writes-stretch : {E : Type 0} (honest : Bool) (places : ℕ → ℕ) (first : ℕ) (result : Result ℕ E) (bytes : List ℕ) (old new : Held)
     → 0 < blocks_in bytes → length bytes ≡ 512 * blocks_in bytes → Follow places first (blocks_in bytes) → result ≡ Ok (length bytes) → WritesMedium honest result first bytes old new
@@ -116,23 +109,6 @@ writes-torn honest places first result bytes old new some whole follow writes =
       durable_others = λ is_honest from many more apart. writes.durable_others is_honest from many (clear from many more apart);
       kept_others = writes.kept_others;
     }
-
--- nothing is read or written yet
-pub reads-none : (honest : Bool) (places : ℕ → ℕ) (held : Held) → ReadsRun honest true places held held []
-reads-none honest places held = record {
-  found = λ _ _ _ number below. absurd (let e : ⊥ = omega (arith, below) in e);
-  same = λ _. refl;
-}
-
-pub writes-none : (honest : Bool) (places : ℕ → ℕ) (held : Held) → WritesRun honest true places [] held held
-writes-none honest places held = record {
-  own = λ _. refl;
-  written = λ _ _ _ number below. absurd (let e : ⊥ = omega (arith, below) in e);
-  kept = λ _ _ number below. absurd (let e : ⊥ = omega (arith, below) in e);
-  others = λ _ from many more apart. refl;
-  durable_others = λ _ from many more apart. refl;
-  kept_others = λ _ from many kept. kept;
-}
 
 -- a write that failed in the first blocks of a run failed in the run
 pub writes-longer : (honest : Bool) (places : ℕ → ℕ) (part bytes : List ℕ) (old new : Held) → blocks_in part ≤ blocks_in bytes → WritesRun honest false places part old new → WritesRun honest false places bytes old new

@@ -1,12 +1,13 @@
 -- The bounds hold of each superblock that may be the durable one.
 use Rattle.std.proofs.Common.{◌≡◌, ◌⊎◌, ⊎_elim, inl, inr, ◌||◌, ◌&&◌, ◌/◌, Bool, true, false, List, [], ◌∷◌, refl, sym, ◌∙◌, subst}
 use Rattle.nm_leg.specs.Leg.{Leg}
+use Rattle.nm_rules.specs.Reopening.{Reopening}
 use Rattle.nm_rules.specs.State.{StripeState}
 use Rattle.nm_gate.specs.Bounds.{AllBounded, Bounds, IsAmong, IsTaken, IsWidened, SavesAreSafe}
 use Rattle.nm_gate.specs.Durable.{Durable, is_lacking, is_listed, is_named}
 use Rattle.nm_gate.specs.Gate.{is_marked_at}
-use Rattle.nm_gate.specs.Restart.{GoesBySuperblock, Reopening}
-use Rattle.nm_gate.specs.Saves.{AllListed, Resaves}
+use Rattle.nm_gate.specs.Restart.{GoesBySuperblock}
+use Rattle.nm_gate.specs.Saves.{Resaves}
 
 either : (a b : Bool) → (a || b) ≡ true → (a ≡ true) ⊎ (b ≡ true)
 either true b is = inl refl
@@ -29,7 +30,7 @@ and-both true b is also = also
 and-both false b is also = cc
 
 -- a test that leads to a test: where the second is off, so is the first
-off-back : (a b : Bool) → (a ≡ true → b ≡ true) → b ≡ false → a ≡ false
+pub off-back : (a b : Bool) → (a ≡ true → b ≡ true) → b ≡ false → a ≡ false
 off-back true b leads off = absurd (let on = leads refl in let clash : true ≡ false = sym on ∙ off in cc)
 off-back false b leads off = refl
 
@@ -47,14 +48,14 @@ module _ (old superblock new : Durable) (w : IsWidened old superblock new) where
   wider-all [] all = tt
   wider-all (other ∷ images) all = (wider other all.0, wider-all images all.1)
 
-begins : {L : Type 0} (stripe : StripeState L) (old superblock new : Durable) (images : List Durable) → AllListed stripe old
+begins : {L : Type 0} (stripe : StripeState L) (old superblock new : Durable) (images : List Durable)
     → AllBounded old images → IsTaken stripe old superblock → IsWidened old superblock new
     → Resaves stripe old new × AllBounded new (superblock ∷ images)
-begins stripe old superblock new images listed all t w = (
+begins stripe old superblock new images all t w = (
   record {
     named = λ leg is. ⊎_elim (λ was. inl was) (λ now. inr (t.named leg now)) (either (is_named leg old) (is_named leg superblock) (sym (w.named leg) ∙ is));
     lacking = λ leg is. ⊎_elim (λ was. inr (inl was)) (λ now. t.lacking leg now) (either (is_lacking leg old) (is_lacking leg superblock) (sym (w.lacking leg) ∙ is));
-    listed = λ leg in_sync. w.listed leg ∙ and-both (is_listed leg old) (is_listed leg superblock) (listed leg in_sync) (t.listed leg in_sync);
+    listed = λ leg in_sync was. w.listed leg ∙ and-both (is_listed leg old) (is_listed leg superblock) was (t.listed leg in_sync);
     marked = λ region is. w.marked region ∙ is;
   },
   (
@@ -68,13 +69,13 @@ begins stripe old superblock new images listed all t w = (
   ),
 )
 
-ends : {L : Type 0} (stripe : StripeState L) (old superblock : Durable) (images : List Durable) → AllListed stripe old
+ends : {L : Type 0} (stripe : StripeState L) (old superblock : Durable) (images : List Durable)
     → AllBounded old (superblock ∷ images) → Resaves stripe old superblock × AllBounded superblock (superblock ∷ [])
-ends stripe old superblock images listed all = (
+ends stripe old superblock images all = (
   record {
     named = λ leg is. inl (all.0.named leg is);
     lacking = λ leg is. inr (inl (all.0.lacking leg is));
-    listed = λ leg in_sync. all.0.listed leg (listed leg in_sync);
+    listed = λ leg in_sync was. all.0.listed leg was;
     marked = λ region is. all.0.marked region is;
   },
   (record { named = λ leg is. is; lacking = λ leg is. is; listed = λ leg is. is; marked = λ region is. is }, tt),

@@ -1,12 +1,17 @@
 pub mod Acknowledged
 pub mod Added
+pub mod Asked
+pub mod Bits
 pub mod Bounded
 pub mod Guarded
 pub mod LegParts
 pub mod LegsLeft
 pub mod Listed
+pub mod MarkedStarts
 pub mod Reopened
 pub mod Runs
+pub mod Saved
+pub mod Settled
 pub mod Spans
 pub mod StepsLeft
 pub mod Unmarked

@@ -54,7 +54,7 @@ module _ {L : Type 0} (type : LegType L) (is_honest : IsTrue type.honest) where
   move-listed (Does step answer) moves old new s all is goes =
       subst (λ (n : Durable). AllListed new.stripe n) (sym is.durable) (done-listed old.stripe new.stripe old.durable s all step answer goes.0 is.allowed is.does)
   move-listed (Saves saved) moves old new s all is goes =
-      subst (λ (n : Durable). AllListed new.stripe n) (sym is.2) (subst (λ (x : StripeState L). AllListed x saved) (sym is.1) (λ leg in_sync. is.0.listed leg in_sync))
+      subst (λ (n : Durable). AllListed new.stripe n) (sym is.2) (subst (λ (x : StripeState L). AllListed x saved) (sym is.1) (λ leg in_sync. is.0.listed leg in_sync (all leg in_sync)))
   move-listed (Clears cleared) moves old new s all is goes =
       subst (λ (n : Durable). AllListed new.stripe n) (sym is.2) (subst (λ (x : StripeState L). AllListed x cleared) (sym is.1) (cleared-listed old.stripe old.stripe old.durable s all cleared is.0))
 

@@ -2,10 +2,11 @@
 use Rattle.std.specs.Prelude.{◌≡◌, ◌⊎◌, ℕ, ◌||◌, ◌&&◌, true, List, [], ◌∷◌}
 use Rattle.nm_choice.specs.declared.leg_state.LegState.TheVariants.{InSync}
 use Rattle.nm_leg.specs.Leg.{Leg}
+use Rattle.nm_rules.specs.Reopening.{Reopening}
 use Rattle.nm_rules.specs.State.{StripeState, leg_state}
 use Rattle.nm_gate.specs.Durable.{Durable, is_lacking, is_listed, is_marked, is_named}
-use Rattle.nm_gate.specs.Restart.{GoesBySuperblock, Reopening}
-use Rattle.nm_gate.specs.Saves.{AllListed, IsCovered, Resaves}
+use Rattle.nm_gate.specs.Restart.{GoesBySuperblock}
+use Rattle.nm_gate.specs.Saves.{IsCovered, Resaves}
 
 -- they bound what a superblock says: what it calls in sync or lacking may be, what is surely listed
 -- or marked it lists and marks
@@ -47,11 +48,10 @@ pub record IsWidened (old superblock new : Durable) : Type 0 where
 -- that fails leaves them wide. And a start by any of the superblocks is a start by the bounds.
 pub record SavesAreSafe {L : Type 0} (model : L → Leg) : Type 0 where
   pub begins : (stripe : StripeState L) (old superblock new : Durable) (images : List Durable)
-      → AllListed stripe old → AllBounded old images → IsTaken stripe old superblock
-      → IsWidened old superblock new
+      → AllBounded old images → IsTaken stripe old superblock → IsWidened old superblock new
       → Resaves stripe old new × AllBounded new (superblock ∷ images)
   pub ends : (stripe : StripeState L) (old superblock : Durable) (images : List Durable)
-      → AllListed stripe old → AllBounded old (superblock ∷ images)
+      → AllBounded old (superblock ∷ images)
       → Resaves stripe old superblock × AllBounded superblock (superblock ∷ [])
   pub starts : (stripe : StripeState L) (d superblock : Durable) (images : List Durable)
       (r : Reopening L)

@@ -1,5 +1,6 @@
 -- Which steps may be done by what the durable superblock may say, and why the others may not.
-use Rattle.std.specs.Prelude.{◌≡◌, ◌<◌, ℕ, ◌/◌, Bool, true, false, if◌then◌else◌, Some, length}
+use Rattle.std.specs.Prelude.{◌≡◌, ◌<◌, ℕ, ◌/◌, Bool, true, false, if◌then◌else◌, Option, None, Some}
+use Rattle.std.specs.Prelude.{length}
 use Rattle.nm_choice.specs.declared.leg_state.LegState.TheVariants.{InSync}
 use Rattle.nm_rules.specs.State.{StripeState, leg_state}
 use Rattle.nm_stripe.specs.declared.step.Step.{Step}
@@ -55,3 +56,14 @@ pub record Forbids {L : Type 0} (d : Durable) (stripe : StripeState L) (step : S
     (refusal : GateRefusal) : Type 0 where
   pub not_allowed : Allows d stripe step → ⊥
   pub refused : refusal ≡ refusal_of d step
+
+-- the step may be done where there may be a superblock: with none each may
+abbrev pub IsAllowed : {L : Type 0} → Option Durable → StripeState L → Step L → Type 0
+IsAllowed None stripe step = Unit {0}
+IsAllowed (Some d) stripe step = Allows d stripe step
+
+-- it may not, and is refused so
+abbrev pub IsForbidden : {L : Type 0} → Option Durable → StripeState L → Step L → GateRefusal
+    → Type 0
+IsForbidden None stripe step refusal = ⊥
+IsForbidden (Some d) stripe step refusal = Forbids d stripe step refusal

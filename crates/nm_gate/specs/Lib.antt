@@ -1,8 +1,12 @@
 pub mod Bounds
+pub mod Changes
+pub mod Claims
 pub mod Durable
 pub mod Gate
 pub mod Held
+pub mod MarkedStart
 pub mod Moves
 pub mod Restart
 pub mod Saves
+pub mod Settling
 pub mod Survive

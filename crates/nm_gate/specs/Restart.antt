@@ -1,75 +1,16 @@
 -- A start that goes by the superblock: which legs a stripe opens with, and what its array then is.
-use Rattle.std.specs.Prelude.{◌≡◌, ◌≢◌, ◌⊎◌, ℕ, ◌<◌, ◌/◌, true, false, List, [], None, length}
-use Rattle.std.specs.Prelude.{slice_get, slice_index_or}
-use Rattle.nm_choice.specs.declared.leg_state.LegState.{LegState}
-use Rattle.nm_choice.specs.declared.leg_state.LegState.TheVariants.{InSync, Out}
-use Rattle.nm_choice.specs.declared.policy.Policy.{Policy}
+use Rattle.std.specs.Prelude.{◌≡◌, ◌≢◌, ◌⊎◌, ℕ, ◌<◌, true, false, List, None, length, slice_get}
 use Rattle.nm_fanout.specs.Records.{busy_on}
 use Rattle.nm_leg.specs.Leg.{Leg, LegType}
-use Rattle.nm_leg.specs.LegCalls.{EachHas}
-use Rattle.nm_regions.specs.LegFlags.{LegRegions, has_behind, is_behind, no_leg}
-use Rattle.nm_regions.specs.Sound.{AllHave, AreSizes}
-use Rattle.nm_regions.specs.Table.{regions_of}
-use Rattle.nm_rules.specs.declared.at.At.{At}
 use Rattle.nm_rules.specs.Array.{contents_of, stripe_array}
 use Rattle.nm_rules.specs.Invariant.{Keeps}
-use Rattle.nm_rules.specs.State.{StripeState, is_out}
+use Rattle.nm_rules.specs.Reopening.{IsClearAt, MayReopen, Reopening, reopened}
+use Rattle.nm_rules.specs.State.{StripeState}
 use Rattle.nm_gate.specs.Durable.{Durable, is_lacking, is_named}
 use Rattle.nm_gate.specs.Gate.{is_marked_at}
 use Rattle.nm_gate.specs.Held.{NoneOn}
 use Rattle.nm_gate.specs.Moves.{AllLeave, Gated, GatedRuns, IsGatedFlush, Move, NoneStop}
 use Rattle.nm_gate.specs.Survive.{EqualOutside, IsCrash, NamedHold, Stands}
-
--- the legs that a start opens a stripe with: their states, where they are behind, the master, the
--- first number and the policy
-pub record Reopening (L : Type 0) : Type 0 where
-  pub legs : List L
-  pub states : List LegState
-  pub flags : List LegRegions
-  pub master : ℕ
-  pub first : ℕ
-  pub policy : Policy
-
--- the stripe that it opens: with no record of a write and no history
-abbrev pub reopened : {L : Type 0} → At → Reopening L → StripeState L
-reopened place r = record {
-  place = place;
-  policy = r.policy;
-  legs = r.legs;
-  states = r.states;
-  flags = r.flags;
-  master = r.master;
-  settling = false;
-  stopped = false;
-  turn = 0;
-  copy = None;
-  chunk = None;
-  records = [];
-  tickets = 0;
-  kept = [];
-  first = r.first;
-  total = 0;
-}
-
--- the leg is not behind at the block
-abbrev pub IsClearAt : At → List LegRegions → (leg block : ℕ) → Type 0
-IsClearAt place flags leg block =
-    is_behind (block / place.region) (slice_index_or flags leg no_leg) ≡ false
-
--- states and regions that go together: one a leg, the master in sync, each leg in sync behind
--- nowhere
-pub record MayReopen {L : Type 0} (model : L → Leg) (place : At) (r : Reopening L) : Type 0 where
-  pub sizes : AreSizes place.blocks place.region (length r.legs)
-  pub some_chunk : 0 < place.chunk
-  pub lengths : EachHas model r.legs place.blocks
-  pub state_each : length r.states ≡ length r.legs
-  pub flags_each : length r.flags ≡ length r.legs
-  pub regions : AllHave (regions_of place.blocks place.region) r.flags
-  pub master : slice_index_or r.states r.master Out ≡ InSync
-  pub outs : (leg : ℕ)
-      → (slice_index_or r.flags leg no_leg).out ≡ is_out (slice_index_or r.states leg Out)
-  pub in_sync : (leg : ℕ) → slice_index_or r.states leg Out ≡ InSync
-      → has_behind (slice_index_or r.flags leg no_leg) ≡ false
 
 -- the legs are what a crash left of those of the old stripe
 pub record AreLeft {L : Type 0} (model : L → Leg) (old : StripeState L) (legs : List L)

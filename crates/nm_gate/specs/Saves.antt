@@ -10,13 +10,14 @@ IsCovered stripe d leg =
     (is_named leg d ≡ true) ⊎ ((is_lacking leg d ≡ true) ⊎ (leg_state leg stripe ≡ InSync))
 
 -- The bounds may become these: a leg that may be called in sync might have been before, or is in
--- sync; one that may be said to lack marked spans alone was covered; each leg in sync is listed;
--- and no span is unmarked.
+-- sync; one that may be said to lack marked spans alone was covered; a leg in sync that was listed
+-- stays so; and no span is unmarked.
 pub record Resaves {L : Type 0} (stripe : StripeState L) (old new : Durable) : Type 0 where
   pub named : (leg : ℕ) → is_named leg new ≡ true
       → (is_named leg old ≡ true) ⊎ (leg_state leg stripe ≡ InSync)
   pub lacking : (leg : ℕ) → is_lacking leg new ≡ true → IsCovered stripe old leg
-  pub listed : (leg : ℕ) → leg_state leg stripe ≡ InSync → is_listed leg new ≡ true
+  pub listed : (leg : ℕ) → leg_state leg stripe ≡ InSync → is_listed leg old ≡ true
+      → is_listed leg new ≡ true
   pub marked : (region : ℕ) → is_marked region old ≡ true → is_marked region new ≡ true
 
 -- each leg in sync is surely listed

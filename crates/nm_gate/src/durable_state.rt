@@ -1,5 +1,5 @@
 //! What the durable superblock may say of a stripe.
-ghost use Rattle.std.specs.Prelude.{◌≡◌, ◌<◌, false, length, slice_index_or};
+ghost use Rattle.std.specs.Prelude.{◌≡◌, ◌<◌, ◌≤◌, false, length, slice_index_or};
 ghost use Rattle.nm_gate.specs.Durable.{is_lacking, is_listed, is_marked, is_named};
 
 use std::marker::Model;
@@ -8,14 +8,15 @@ use std::marker::Model;
 /// the new one may be the durable one, so these are bounds: what it may say, or surely says.
 #[derive(Drop)]
 pub struct DurableState {
-    named: [bool; 8],
-    listed: [bool; 8],
-    lacking: [bool; 8],
-    marked: Vec<bool>,
-    span: u64,
-    broken: bool,
-    ghost eight: { length named ≡ 8 },
+    pub(crate) named: [bool; 8],
+    pub(crate) listed: [bool; 8],
+    pub(crate) lacking: [bool; 8],
+    pub(crate) marked: Vec<bool>,
+    pub(crate) span: u64,
+    pub(crate) broken: bool,
+    ghost eight: { (length named ≡ 8) × (length lacking ≡ 8) },
     ghost some: { 0 < span },
+    ghost few: { length marked.items ≤ 16384 },
 }
 
 impl Model for DurableState {
@@ -34,7 +35,7 @@ impl Model for DurableState {
 }
 
 // The bit of this number, and none past the end.
-fn bit(bits: &[bool], at: u64) -> bool
+pub(crate) fn bit(bits: &[bool], at: u64) -> bool
     ensures { result ≡ slice_index_or bits.now at false }
 {
     if at < bits.len() as u64 {
@@ -47,7 +48,7 @@ fn bit(bits: &[bool], at: u64) -> bool
 impl DurableState {
     /// What one superblock says of a stripe: the legs that it calls in sync, those that it lists,
     /// in sync or about to be, those that lack no more than marked spans, and the marks of spans of
-    /// so many regions.
+    /// so many regions. A superblock has 16,384 marks at most, and a stripe always as many as here.
     pub fn new(
         named: [bool; 8],
         listed: [bool; 8],
@@ -55,7 +56,8 @@ impl DurableState {
         marked: Vec<bool>,
         span: u64,
     ) -> DurableState
-        requires { 0 < span }
+        requires some { 0 < span }
+        requires few { length marked.items ≤ 16384 }
         ensures { result ≡ record {
           named = named;
           listed = listed;
@@ -103,11 +105,20 @@ impl DurableState {
         bit(&self.marked, region / self.span)
     }
 
-    // Says that it has a place for each of eight legs, and does nothing: for proofs.
-    pub(crate) fn eight_legs(&self)
-        ensures { length self.now.named ≡ 8 }
+    /// How many regions a span has.
+    pub fn span(&self) -> u64
+        ensures span { result ≡ self.now.span }
+        ensures some { 0 < result }
     {
-        let _first = self.named[0];
+        self.span
+    }
+
+    /// The marks that it surely has, one a span.
+    pub fn marks(&self) -> &[bool]
+        ensures marks { result.now ≡ self.now.marked }
+        ensures few { length result.now ≤ 16384 }
+    {
+        &self.marked
     }
 
     /// Whether a save could not be done.
@@ -115,5 +126,13 @@ impl DurableState {
         ensures { result ≡ self.now.broken }
     {
         self.broken
+    }
+
+    // Says that it has a place for each of eight legs, and does nothing: for proofs.
+    pub(crate) fn eight_legs(&self)
+        ensures named { length self.now.named ≡ 8 }
+        ensures lacking { length self.now.lacking ≡ 8 }
+    {
+        let _first = self.named[0];
     }
 }

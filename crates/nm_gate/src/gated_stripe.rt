@@ -1,67 +1,51 @@
 //! A stripe behind the gate.
-ghost use Rattle.std.specs.Prelude.{◌≡◌, [], ◌∷◌, IsTrue, IfOk, IfErr};
-ghost use Rattle.nm_gate.specs.Gate.{Forbids};
-ghost use Rattle.nm_gate.specs.Moves.{DoesStep};
-ghost use Rattle.nm_leg.specs.Leg.{leg_type};
-ghost use Rattle.nm_rules.specs.Acts.{IsExplainedStep};
-ghost use Rattle.nm_stripe.specs.Run.{MayBeAsked, NoneHalted, marks};
+ghost use Rattle.std.specs.Prelude.{◌≡◌, ◌≤◌, ◌/◌, length, IfSome, IfNone, None};
+ghost use Rattle.nm_gate.specs.Claims.{marks_of};
 
 use crate::durable_state::DurableState;
-use crate::gate_refusal::GateRefusal;
+use crate::gate::region_of;
 use nm_leg::LegPart;
-use nm_stripe::{Answer, Step, Stripe};
-use std::marker::Model;
+use nm_stripe::Stripe;
 
-/// A stripe, and what the durable superblock may say of it.
+/// A stripe, and what the durable superblock may say of it. Where the mirror has no superblock it
+/// is none: then the gate is always open.
 #[derive(Drop)]
 pub struct GatedStripe<L: LegPart> {
-    stripe: Stripe<L>,
-    durable: DurableState,
-}
-
-impl<L: LegPart> Model for GatedStripe<L> {
-    ghost use Rattle.nm_gate.specs.Moves as kept;
-
-    ghost Value = { kept.Gated L };
-
-    ghost view = { λ g. record { stripe = g.stripe; durable = g.durable } };
+    /// The stripe: a step is done on it once the gate has answered none.
+    pub stripe: Stripe<L>,
+    /// What the durable superblock may say of it.
+    pub durable: Option<DurableState>,
 }
 
 impl<L: LegPart> GatedStripe<L> {
     /// A stripe behind the gate.
-    pub fn new(stripe: Stripe<L>, durable: DurableState) -> GatedStripe<L>
-        ensures { result ≡ record { stripe = stripe; durable = durable } }
+    pub fn new(stripe: Stripe<L>, durable: Option<DurableState>) -> GatedStripe<L>
+        ensures stripe { result.stripe ≡ stripe }
+        ensures durable { result.durable ≡ durable }
     {
         GatedStripe { stripe, durable }
     }
 
-    /// The stripe.
-    pub fn stripe(&self) -> &Stripe<L>
-        ensures { result.now ≡ self.now.stripe }
+    /// The block's span, where there is a superblock.
+    pub fn span_of(&self, block: u64) -> Option<u64>
+        ensures some { IfSome self.now.durable (λ d.
+            IfSome result (λ span. span ≡ block / self.now.stripe.place.region / d.span)) }
+        ensures none { IfNone result (self.now.durable ≡ None) }
     {
-        &self.stripe
-    }
-
-    /// What the durable superblock may say of it.
-    pub fn durable(&self) -> &DurableState
-        ensures { result.now ≡ self.now.durable }
-    {
-        &self.durable
-    }
-
-    /// Does a step that may be done. One that may not be changes nothing, and comes back.
-    pub fn step(&mut self, step: Step<L>) -> Result<Answer<L>, (GateRefusal, Step<L>)>
-        requires { MayBeAsked L.model self.old.stripe step }
-        ensures ok { IfOk result (λ answer.
-            DoesStep (leg_type L.model L.honest) step answer self.old self.new) }
-        ensures acts { IfOk result (λ answer. IsTrue L.honest → NoneHalted (answer ∷ [])
-            → IsExplainedStep L.model (marks step answer) self.old.stripe self.new.stripe) }
-        ensures refused { IfErr result (λ e. Forbids self.old.durable self.old.stripe step e.0) }
-        ensures handed_back { IfErr result (λ e. (e.1 ≡ step) × (self.new ≡ self.old)) }
-    {
-        if let Some(refusal) = self.durable.gate(&self.stripe, &step) {
-            return Err((refusal, step));
+        match &self.durable {
+            Some(durable) => Some(region_of(&self.stripe, block) / durable.span()),
+            None => None,
         }
-        Ok(self.stripe.step(step))
+    }
+
+    /// The marks that the superblock surely has, one a span; with none no mark.
+    pub fn marks(&self) -> &[bool]
+        ensures marks { result.now ≡ marks_of self.now.durable }
+        ensures few { length result.now ≤ 16384 }
+    {
+        match &self.durable {
+            Some(durable) => durable.marks(),
+            None => &[],
+        }
     }
 }

@@ -1,6 +1,7 @@
 //! What outlives a crash, for every list of moves of a stripe of honest legs behind the gate.
 ghost use Rattle.std.specs.Prelude.{IsTrue};
 ghost use Rattle.nm_gate.specs.Bounds.{SavesAreSafe};
+ghost use Rattle.nm_gate.specs.MarkedStart.{MarkedStartsAreRight};
 ghost use Rattle.nm_gate.specs.Restart.{AnsweredFoundAgain, FlushedFoundAgain};
 ghost use Rattle.nm_gate.specs.Restart.{RestartsAreRight};
 ghost use Rattle.nm_gate.specs.Survive.{AnsweredSurvive, CooledMayClear, FlushedSurvive};
@@ -23,6 +24,11 @@ pub fn answered_is_found_again<L: LegPart>()
 /// outside marked spans.
 pub fn restarts_are_right<L: LegPart>()
     ensures { RestartsAreRight (leg_type L.model L.honest) }
+{}
+
+/// A stripe that `Stripe::open_marked` opens by what the superblock says is one of such a start.
+pub fn marked_starts_are_right<L: LegPart>()
+    ensures { MarkedStartsAreRight (leg_type L.model L.honest) }
 {}
 
 /// What was flushed stays on each leg that the superblock may call in sync, durably.

@@ -9,9 +9,13 @@
 pub use durable_state::DurableState;
 pub use gate_refusal::GateRefusal;
 pub use gated_stripe::GatedStripe;
+pub use leg_claims::LegClaims;
 
 mod durable_state;
 mod gate;
 mod gate_refusal;
 mod gated_stripe;
 pub mod laws;
+mod leg_claims;
+mod saves;
+mod settling;

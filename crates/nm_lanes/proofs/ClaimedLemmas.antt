@@ -2,7 +2,6 @@
 use Rattle.std.proofs.Common.{◌≡◌, ℕ, List, [], ◌∷◌, ◌++◌, subst}
 use Rattle.nm_lanes.specs.declared.run.Run.{Run}
 use Rattle.nm_geometry.specs.Geometry.{Geometry}
-use Rattle.nm_stripe.specs.Flush.{SyncsLeg}
 use Rattle.nm_stripe.specs.declared.answer.Answer.{Answer}
 use Rattle.nm_stripe.specs.declared.answer.Answer.TheVariants.{Begun}
 use Rattle.nm_stripe.specs.declared.step.Step.{Step}
@@ -10,6 +9,7 @@ use Rattle.nm_stripe.specs.declared.step.Step.TheVariants.{Begin, Push, Claim, R
 use Rattle.nm_lanes.specs.declared.run_write.RunWrite.{RunWrite}
 use Rattle.nm_lanes.specs.Done.{Done}
 use Rattle.nm_lanes.specs.Ends.{EndsClaimed}
+use Rattle.nm_lanes.specs.Flushes.{SyncsOrFindsOut}
 use Rattle.nm_lanes.specs.Lists.{steps_in}
 use Rattle.nm_lanes.specs.Reads.{IsValue, ReadsEach}
 use Rattle.nm_lanes.specs.Steps.{IsWritten}
@@ -43,7 +43,7 @@ module _ {L : Type 0} where
   writes-claimed shape (x ∷ writes) stripe (b ∷ []) a = absurd a
 
   -- a sync begins no write
-  no-sync : (leg : ℕ) (step : Step L) (ticket : ℕ) → SyncsLeg leg step (Begun ticket) → ⊥
+  no-sync : (leg : ℕ) (step : Step L) (ticket : ℕ) → SyncsOrFindsOut leg step (Begun ticket) → ⊥
   no-sync leg (Begin block bytes) ticket a = a
   no-sync leg (Push number other) ticket a = a
   no-sync leg (Claim number) ticket a = a
@@ -58,5 +58,5 @@ module _ {L : Type 0} where
   -- syncs alone
   pub syncs-claimed : (legs : ℕ) (own : List (Done L)) → AllSync legs own → EndsClaimed own
   syncs-claimed legs [] a = tt
-  syncs-claimed legs (d ∷ []) a = not-begun (λ told. SyncsLeg a.0.leg d.step told) d.answer (λ ticket syncs. no-sync a.0.leg d.step ticket syncs) a.0.syncs
+  syncs-claimed legs (d ∷ []) a = not-begun (λ told. SyncsOrFindsOut a.0.leg d.step told) d.answer (λ ticket syncs. no-sync a.0.leg d.step ticket syncs) a.0.syncs
   syncs-claimed legs (d ∷ (e ∷ own)) a = syncs-claimed legs (e ∷ own) a.1

@@ -18,6 +18,7 @@ no-claim refusal.Fault e = search (rules, e)
 no-claim refusal.Stopped e = search (rules, e)
 no-claim refusal.Exhausted e = search (rules, e)
 no-claim refusal.Astray e = search (rules, e)
+no-claim refusal.SaveFailed e = search (rules, e)
 no-claim other e = search (rules, e)
 
 -- the own ones of two lists

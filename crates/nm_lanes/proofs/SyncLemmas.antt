@@ -1,44 +1,59 @@
 -- Syncs of legs, one more at a time.
 use Rattle.std.proofs.Common.{◌≡◌, inl, inr, ℕ, ◌+◌, ◌<◌, Bool, true, false, List, [], ◌∷◌, ◌++◌, map, subst, append-nil, arith, if◌then◌else◌}
 use Rattle.std.proofs.lemmas.Bool.{cases_lt}
-use Rattle.nm_stripe.specs.Flush.{SyncsLeg, HasSynced}
+use Rattle.nm_rules.specs.declared.refusal.Refusal.TheVariants.{AlreadyOut}
+use Rattle.nm_stripe.specs.Flush.{SyncsLeg, HasSynced, IsFlush}
+use Rattle.nm_stripe.specs.declared.answer.Answer.{Answer}
+use Rattle.nm_stripe.specs.declared.answer.Answer.TheVariants.{Synced, Refused}
+use Rattle.nm_stripe.specs.declared.step.Step.{Step}
 use Rattle.nm_stripe.specs.declared.step.Step.TheVariants.{Sync}
 use Rattle.nm_lanes.specs.declared.call_error_kind.CallErrorKind.{CallErrorKind}
 use Rattle.nm_lanes.specs.Done.{Done, done_as}
 use Rattle.nm_lanes.specs.Ends.{BeganOwn, ByStep, LaneDid, LaneEnds, LaneTries}
-use Rattle.nm_lanes.specs.Flushes.{SyncsOne, IsStripeFlush}
+use Rattle.nm_lanes.specs.Flushes.{SomeSyncs, SyncsOne, SyncsOrFindsOut, IsStripeFlush}
 use Rattle.nm_lanes.specs.Lane.{LaneStops}
+use Rattle.nm_lanes.specs.Lists.{MirrorStep, answers_of, steps_of, stripe_list}
 use Rattle.nm_lanes.specs.Own.{helps, own_done, EndsSo}
 use Rattle.nm_lanes.specs.Steps.{Nobodys, Completes}
 use Rattle.nm_lanes.specs.Syncs.{AllSync, IsLegSyncs, LaneSyncs, LaneSyncStops}
 use Rattle.nm_lanes.proofs.ClaimedLemmas.{syncs-claimed}
 use Rattle.nm_lanes.proofs.LaneLemmas.{does-does, does-stops, stops-more}
 
--- one of these steps synced the leg
-abbrev pub Synced : {L : Type 0} → ℕ → List (Done L) → Type 0
-Synced leg list = HasSynced leg (map (λ d. d.step) list) (map (λ d. d.answer) list)
-
-pub synced-left : {L : Type 0} (leg : ℕ) (xs ys : List (Done L)) → Synced leg xs → Synced leg (xs ++ ys)
+pub synced-left : {L : Type 0} (leg : ℕ) (xs ys : List (Done L)) → SomeSyncs leg xs → SomeSyncs leg (xs ++ ys)
 synced-left leg [] ys h = absurd h
 synced-left leg (x ∷ xs) ys (inl h) = inl h
 synced-left leg (x ∷ xs) ys (inr h) = inr (synced-left leg xs ys h)
 
-pub synced-right : {L : Type 0} (leg : ℕ) (xs ys : List (Done L)) → Synced leg ys → Synced leg (xs ++ ys)
+pub synced-right : {L : Type 0} (leg : ℕ) (xs ys : List (Done L)) → SomeSyncs leg ys → SomeSyncs leg (xs ++ ys)
 synced-right leg [] ys h = h
 synced-right leg (x ∷ xs) ys h = inr (synced-right leg xs ys h)
 
 -- what own steps did, all steps did
-all-synced : {L : Type 0} (leg : ℕ) (b : Bool) (x : Done L) (own list : List (Done L)) → (Synced leg own → Synced leg list) → Synced leg (if b then own else x ∷ own) → Synced leg (x ∷ list)
+all-synced : {L : Type 0} (leg : ℕ) (b : Bool) (x : Done L) (own list : List (Done L)) → (SomeSyncs leg own → SomeSyncs leg list) → SomeSyncs leg (if b then own else x ∷ own) → SomeSyncs leg (x ∷ list)
 all-synced leg true x own list more h = inr (more h)
 all-synced leg false x own list more (inl h) = inl h
 all-synced leg false x own list more (inr h) = inr (more h)
 
-pub own-synced : {L : Type 0} (leg : ℕ) (list : List (Done L)) → Synced leg (own_done list) → Synced leg list
+pub own-synced : {L : Type 0} (leg : ℕ) (list : List (Done L)) → SomeSyncs leg (own_done list) → SomeSyncs leg list
 own-synced leg [] h = h
 own-synced leg (x ∷ list) h = all-synced leg (helps x.step x.answer) x (own_done list) list (own-synced leg list) h
 
 pub own-flush : {L : Type 0} (legs : ℕ) (list : List (Done L)) → IsStripeFlush legs (own_done list) → IsStripeFlush legs list
 own-flush legs list all leg lt = own-synced leg list (all leg lt)
+
+-- a step of a call's flush is one of a stripe's
+syncs-leg : {L : Type 0} (leg : ℕ) (step : Step L) (answer : Answer L) → SyncsOrFindsOut leg step answer → SyncsLeg leg step answer
+syncs-leg leg (Sync other) Synced h = h
+syncs-leg leg (Sync other) (Refused AlreadyOut handed) h = h
+syncs-leg leg step answer h = absurd h
+
+some-synced : {L : Type 0} (leg : ℕ) (list : List (Done L)) → SomeSyncs leg list → HasSynced leg (map (λ d. d.step) list) (map (λ d. d.answer) list)
+some-synced leg [] h = h
+some-synced leg (d ∷ list) (inl h) = inl (syncs-leg leg d.step d.answer h)
+some-synced leg (d ∷ list) (inr h) = inr (some-synced leg list h)
+
+pub flush-in-stripe : {L : Type 0} (legs stripe : ℕ) (list : List (MirrorStep L)) → IsStripeFlush legs (stripe_list stripe list) → IsFlush legs (steps_of stripe list) (answers_of stripe list)
+flush-in-stripe legs stripe list all leg lt = some-synced leg (stripe_list stripe list) (all leg lt)
 
 all-more : {L : Type 0} (legs : ℕ) (xs : List (Done L)) (d : Done L) → AllSync legs xs → SyncsOne legs d → AllSync legs (xs ++ d ∷ [])
 all-more legs [] d all one = (one, tt)
@@ -47,7 +62,7 @@ all-more legs (x ∷ xs) d all one = (all.0, all-more legs xs d all.1 one)
 module _ {L D : Type 0} (follows : D → List (Done L) → D → Type 0)
     (joins : (first mid last : D) (before after : List (Done L)) → follows first before mid → follows mid after last → follows first (before ++ after) last) where
   -- one leg more
-  pub syncs-more : (old mid new : D) (legs leg : ℕ) → leg < legs → LaneSyncs follows (old, mid) legs leg → Completes follows mid new (Sync leg) (SyncsLeg leg (Sync leg)) → LaneSyncs follows (old, new) legs (leg + 1)
+  pub syncs-more : (old mid new : D) (legs leg : ℕ) → leg < legs → LaneSyncs follows (old, mid) legs leg → Completes follows mid new (Sync leg) (SyncsOrFindsOut leg (Sync leg)) → LaneSyncs follows (old, new) legs (leg + 1)
   syncs-more old mid new legs leg lt a b =
       let d = done_as (Sync leg) b.answer in
       record {
@@ -58,7 +73,7 @@ module _ {L D : Type 0} (follows : D → List (Done L) → D → Type 0)
           | inl before ↦ synced-left other a.own (d ∷ []) (a.each other before)
           | inr above ↦
               let last : leg ≡ other = omega (arith, above, upto) in
-              synced-right other a.own (d ∷ []) (inl (subst (λ (n : ℕ). SyncsLeg n (Sync leg) b.answer) last b.is_answer))
+              synced-right other a.own (d ∷ []) (inl (subst (λ (n : ℕ). SyncsOrFindsOut n (Sync leg) b.answer) last b.is_answer))
         ];
       }
 

@@ -5,11 +5,10 @@ use Rattle.nm_rules.specs.declared.refusal.Refusal.TheVariants as refusal
 use Rattle.nm_stripe.specs.declared.answer.Answer.{Answer}
 use Rattle.nm_stripe.specs.declared.step.Step.{Step}
 use Rattle.nm_stripe.specs.declared.step.Step.TheVariants.{Read, Sync}
-use Rattle.nm_stripe.specs.declared.sync.Syncing.{Syncing}
 use Rattle.nm_stripe.specs.declared.sync.Syncing.TheVariants as syncing
-use Rattle.nm_stripe.specs.Flush.{SyncsLeg}
-use Rattle.nm_lanes.specs.Answers.{answer_of_sync, lost_with_nothing, refused_with_nothing}
+use Rattle.nm_lanes.specs.Answers.{answer_of_sync, refused_with_nothing}
 use Rattle.nm_lanes.specs.Done.{Done, done_as}
+use Rattle.nm_lanes.specs.Flushes.{SyncsOrFindsOut}
 use Rattle.nm_lanes.specs.Own.{end_of, finds_out, helps}
 use Rattle.nm_lanes.specs.Lane.{LaneDoes}
 use Rattle.nm_lanes.specs.Steps.{Completes, CompletesRead}
@@ -32,12 +31,11 @@ pub does-reads : {L D : Type 0} (follows : D → List (Done L) → D → Type 0)
 does-reads follows joins old mid new block count IsAnswer a b = record { room = b.room; long = b.long; completes = does-completes follows joins old mid new (Read block b.room) IsAnswer a b.completes }
 
 module _ {L D : Type 0} (follows : D → List (Done L) → D → Type 0) (old new : D) (leg : ℕ) where
-  -- a sync that was done, or lost its leg
-  pub sync-done : (did : Syncing) → follows old (done_as (Sync leg) (answer_of_sync (Ok did)) ∷ []) new → Completes follows old new (Sync leg) (SyncsLeg leg (Sync leg))
-  sync-done syncing.Synced leads = record { answer = answer_of_sync (Ok syncing.Synced); does = does-own follows old new (Sync leg) (answer_of_sync (Ok syncing.Synced)) leads refl; is_answer = refl }
-  sync-done (syncing.LegLost gone) leads = record { answer = lost_with_nothing gone; does = does-own follows old new (Sync leg) (lost_with_nothing gone) leads refl; is_answer = refl }
+  -- a sync that was done
+  pub sync-done : follows old (done_as (Sync leg) (answer_of_sync (Ok syncing.Synced)) ∷ []) new → Completes follows old new (Sync leg) (SyncsOrFindsOut leg (Sync leg))
+  sync-done leads = record { answer = answer_of_sync (Ok syncing.Synced); does = does-own follows old new (Sync leg) (answer_of_sync (Ok syncing.Synced)) leads refl; is_answer = refl }
 
   -- or that found its leg out
-  pub syncs-out : (r : Refusal) → finds_out r ≡ true → follows old (done_as (Sync leg) (refused_with_nothing r) ∷ []) new → Completes follows old new (Sync leg) (SyncsLeg leg (Sync leg))
+  pub syncs-out : (r : Refusal) → finds_out r ≡ true → follows old (done_as (Sync leg) (refused_with_nothing r) ∷ []) new → Completes follows old new (Sync leg) (SyncsOrFindsOut leg (Sync leg))
   syncs-out refusal.AlreadyOut is leads = record { answer = refused_with_nothing refusal.AlreadyOut; does = does-own follows old new (Sync leg) (refused_with_nothing refusal.AlreadyOut) leads refl; is_answer = refl }
   syncs-out r is leads = search (rules, is)

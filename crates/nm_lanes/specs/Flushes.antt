@@ -1,28 +1,44 @@
 -- What a flush does, and a sync of the stripes that some bytes lie in.
-use Rattle.std.specs.Prelude.{◌≡◌, ℕ, ◌<◌, List, [], ◌∷◌, map}
+use Rattle.std.specs.Prelude.{◌≡◌, ◌⊎◌, ℕ, ◌<◌, List, [], ◌∷◌}
 use Rattle.nm_geometry.specs.declared.byte_range.ByteRange.{ByteRange}
 use Rattle.nm_geometry.specs.Geometry.{Geometry, stripe_of}
 use Rattle.nm_geometry.specs.Pieces.{touched, piece_at}
-use Rattle.nm_stripe.specs.Flush.{SyncsLeg, IsFlush}
+use Rattle.nm_rules.specs.declared.refusal.Refusal.TheVariants.{AlreadyOut}
+use Rattle.nm_stripe.specs.declared.answer.Answer.{Answer}
+use Rattle.nm_stripe.specs.declared.answer.Answer.TheVariants.{Synced, Refused}
+use Rattle.nm_stripe.specs.declared.step.Step.{Step}
+use Rattle.nm_stripe.specs.declared.step.Step.TheVariants.{Sync}
 use Rattle.nm_lanes.specs.declared.call_error.CallError.{CallError}
 use Rattle.nm_lanes.specs.Done.{Done}
 use Rattle.nm_lanes.specs.Ends.{HasTried}
 use Rattle.nm_lanes.specs.Lists.{MirrorStep, stripe_list, Does}
 
--- the step synced one of so many legs, or found or made it out
+-- The step synced this leg, or found it out. A sync that lost its leg is not enough: what is durable
+-- of the legs may still call it in sync.
+abbrev pub SyncsOrFindsOut : {L : Type 0} → ℕ → Step L → Answer L → Type 0
+SyncsOrFindsOut leg (Sync other) Synced = other ≡ leg
+SyncsOrFindsOut leg (Sync other) (Refused AlreadyOut handed) = other ≡ leg
+SyncsOrFindsOut leg step answer = ⊥
+
+-- one of the steps did
+abbrev pub SomeSyncs : {L : Type 0} → ℕ → List (Done L) → Type 0
+SomeSyncs leg [] = ⊥
+SomeSyncs leg (d ∷ list) = SyncsOrFindsOut leg d.step d.answer ⊎ SomeSyncs leg list
+
+-- the step synced one of so many legs, or found it out
 pub record SyncsOne {L : Type 0} (legs : ℕ) (d : Done L) : Type 0 where
   pub leg : ℕ
   pub inside : leg < legs
-  pub syncs : SyncsLeg leg d.step d.answer
+  pub syncs : SyncsOrFindsOut leg d.step d.answer
 
 -- all steps did, each in one of these stripes
 abbrev pub OnlySyncs : {L : Type 0} → ℕ → (ℕ → Type 0) → List (MirrorStep L) → Type 0
 OnlySyncs legs In [] = Unit {0}
 OnlySyncs legs In (d ∷ own) = In d.stripe × SyncsOne legs d.done × OnlySyncs legs In own
 
--- the steps of a stripe are a flush
+-- the steps of a stripe are a flush: for each of so many legs one of them did
 abbrev pub IsStripeFlush : {L : Type 0} → ℕ → List (Done L) → Type 0
-IsStripeFlush legs list = IsFlush legs (map (λ d. d.step) list) (map (λ d. d.answer) list)
+IsStripeFlush legs list = (leg : ℕ) → leg < legs → SomeSyncs leg list
 
 -- the stripe is one of the shape's
 abbrev pub IsStripeOf : Geometry → ℕ → Type 0

@@ -9,11 +9,13 @@ use Rattle.nm_rules.specs.Array.{point_of}
 use Rattle.nm_rules.specs.State.{StripeState}
 use Rattle.nm_stripe.specs.declared.answer.Answer.{Answer}
 use Rattle.nm_stripe.specs.declared.step.Step.{Step}
+use Rattle.nm_stripe.specs.Flush.{IsFlush}
 use Rattle.nm_stripe.specs.Run.{ActOnOneArray}
 use Rattle.nm_lanes.specs.Events.{MirrorEvent}
 use Rattle.nm_lanes.specs.Interleavings.{IsExplainedInterleaving, IsExplainedMirrorInterleaving}
 use Rattle.nm_lanes.specs.Interleavings.{mirror_point}
-use Rattle.nm_lanes.specs.Lists.{MirrorStep, steps_of, answers_of, AreOf}
+use Rattle.nm_lanes.specs.Flushes.{IsStripeFlush}
+use Rattle.nm_lanes.specs.Lists.{MirrorStep, steps_of, answers_of, stripe_list, AreOf}
 use Rattle.nm_lanes.specs.Whole.{AreAsLong, IsWhole, HasWhole}
 
 -- arrays that are as long as the shape says make an array of the mirror
@@ -86,3 +88,9 @@ MirrorActs {L} model =
     → ActOnOneArray model (steps_of stripe list) (answers_of stripe list)
     (old stripe) (new stripe))
     → MirrorActOnOneArray model shape list old new whole
+
+-- what a call's flush does in a stripe is a flush as the stripe has it
+abbrev pub FlushesAreAStripes : Type 0 → Type 0
+FlushesAreAStripes L =
+    (legs stripe : ℕ) (list : List (MirrorStep L)) → IsStripeFlush legs (stripe_list stripe list)
+    → IsFlush legs (steps_of stripe list) (answers_of stripe list)

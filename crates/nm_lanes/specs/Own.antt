@@ -18,6 +18,7 @@ end_of refusal.Fault = Some cause.Fault
 end_of refusal.Stopped = Some cause.Stopped
 end_of refusal.Exhausted = Some cause.Exhausted
 end_of refusal.Astray = Some cause.Astray
+end_of refusal.SaveFailed = Some cause.SaveFailed
 end_of other = None
 
 -- the refusals that end a call where a claim met them: these, and that the record is gone
@@ -38,11 +39,10 @@ finds_out refusal.AlreadyOut = true
 finds_out other = false
 
 -- the step only helps: it was refused by no end of the call, lost a leg, or pushed or copied. A
--- sync that lost its leg or found it out is no help but done.
+-- sync that found its leg out is no help but done; one that lost its leg is tried again.
 abbrev pub helps : {L : Type 0} → Step L → Answer L → Bool
 helps (Claim ticket) (Refused refused handed) = is_none (claim_end_of refused)
 helps (Sync leg) (Refused refused handed) = is_none (end_of refused) && not (finds_out refused)
-helps (Sync leg) (LegLost gone handed) = false
 helps step (Refused refused handed) = is_none (end_of refused)
 helps step (LegLost gone handed) = true
 helps step (Pushed count) = true

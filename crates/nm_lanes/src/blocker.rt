@@ -39,6 +39,7 @@ pub(crate) fn end_of(refusal: Refusal) -> Option<CallErrorKind>
         Refusal::Stopped => Some(CallErrorKind::Stopped),
         Refusal::Exhausted => Some(CallErrorKind::Exhausted),
         Refusal::Astray => Some(CallErrorKind::Astray),
+        Refusal::SaveFailed => Some(CallErrorKind::SaveFailed),
         _ => None,
     }
 }

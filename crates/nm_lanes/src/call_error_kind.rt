@@ -16,4 +16,6 @@ pub enum CallErrorKind {
     NoTicket,
     /// The caller is gone: no step ended the call, but some of its zeroes are left to be written.
     Gone,
+    /// A superblock could not be saved.
+    SaveFailed,
 }

@@ -74,7 +74,8 @@ fn flush_spans<
     }
 }
 
-/// Syncs every leg of every stripe. A leg that is out, or goes out by it, is passed over.
+/// Syncs every leg of every stripe. A leg that is out is passed over; one that goes out by it is
+/// asked again, and found out.
 pub fn flush_by<
     'a,
     L: LegPart + Send,

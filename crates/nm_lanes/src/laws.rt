@@ -1,7 +1,7 @@
 //! Laws of a mirror's stripes together, and of its runs. Each function does nothing: its contract
 //! is the law.
 ghost use Rattle.nm_lanes.specs.Laws.{ActsInterleave, ArraysMakeOne, MirrorActs};
-ghost use Rattle.nm_lanes.specs.Laws.{OneArrayAlone, StripesJoin};
+ghost use Rattle.nm_lanes.specs.Laws.{FlushesAreAStripes, OneArrayAlone, StripesJoin};
 ghost use Rattle.nm_lanes.specs.RunLaws.{BlocksMakeOneRun, RegionsAreOfOneRun};
 ghost use Rattle.nm_lanes.specs.RunLaws.{RunsEndWithRegions, RunsFitSteps};
 
@@ -28,6 +28,12 @@ pub fn stripes_join<L: LegPart>()
 /// promises, those of the mirror's steps act once on the mirror's array.
 pub fn mirror_acts<L: LegPart>()
     ensures { MirrorActs L.model }
+{}
+
+/// What a flush does in a stripe is a flush as `Stripe::run` has it, so that what it promises of one
+/// holds.
+pub fn flushes_are_a_stripes<L: LegPart>()
+    ensures { FlushesAreAStripes L }
 {}
 
 /// A request of whole blocks that one run may have is one step in one stripe: where a region has at

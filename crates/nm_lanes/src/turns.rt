@@ -2,7 +2,7 @@
 ghost use Rattle.std.specs.Prelude.{◌≡◌, ◌+◌, ◌/◌, ◌%◌, ◌≤◌, [], length, take, drop};
 ghost use Rattle.std.specs.Prelude.{IfOk, IfErr, OnOk};
 ghost use Rattle.nm_stripe.specs.declared.step.Step.TheVariants as step;
-ghost use Rattle.nm_stripe.specs.Flush.{SyncsLeg};
+ghost use Rattle.nm_lanes.specs.Flushes.{SyncsOrFindsOut};
 ghost use Rattle.nm_lanes.specs.Lane.{LaneStops};
 ghost use Rattle.nm_lanes.specs.Own.{EndsSo};
 ghost use Rattle.nm_lanes.specs.Reads.{IsValue, value_bytes};
@@ -17,7 +17,7 @@ use crate::run::Run;
 use crate::stripe_call::StripeCall;
 use nm_leg::LegPart;
 use nm_replay::Block;
-use nm_stripe::Reading;
+use nm_stripe::{Reading, Syncing};
 use std::sync::Wait;
 
 impl<R: Wait, G: Gate, K> StripeCall<'_, R, G, K> {
@@ -121,19 +121,21 @@ impl<R: Wait, G: Gate, K> StripeCall<'_, R, G, K> {
         unreachable!()
     }
 
-    /// One try of a sync: true where the leg was synced, or is out.
+    /// One try of a sync: true where the leg was synced, or found out. One that lost its leg is tried
+    /// again, and finds it out.
     fn try_sync_once<L: LegPart, D: Lane<L, K>>(
         &self,
         lane: &mut D,
         leg: u8,
     ) -> Result<bool, CallErrorKind>
         ensures ok { IfOk result (Turns D.follows (lane.old, lane.new) (step.Sync leg)
-            (SyncsLeg leg (step.Sync leg))) }
+            (SyncsOrFindsOut leg (step.Sync leg))) }
         ensures err { IfErr result (λ kind.
             LaneStops D.follows lane.old lane.new [] (EndsSo Nobodys kind)) }
     {
         match self.sync(lane, leg) {
-            Ok(_) => Ok(true),
+            Ok(Syncing::Synced) => Ok(true),
+            Ok(Syncing::LegLost(_)) => Ok(false),
             Err(refusal) => {
                 if finds_out(refusal) {
                     return Ok(true);
@@ -151,7 +153,7 @@ impl<R: Wait, G: Gate, K> StripeCall<'_, R, G, K> {
         leg: u8,
     ) -> Result<(), CallErrorKind>
         ensures ok { OnOk result (Completes D.follows lane.old lane.new (step.Sync leg)
-            (SyncsLeg leg (step.Sync leg))) }
+            (SyncsOrFindsOut leg (step.Sync leg))) }
         ensures err { IfErr result (λ kind.
             LaneStops D.follows lane.old lane.new [] (EndsSo Nobodys kind)) }
     {

@@ -1,7 +1,9 @@
+mod MarkedLemmas
 mod NumberLemmas
 mod OneInSync
 mod OpenedLemmas
 mod OpeningLemmas
 mod Places
 mod RoundLemmas
+mod SaveLemmas
 mod StatusLemmas

@@ -1,7 +1,7 @@
 -- The numbers of the locks of a mirror, and of the parts of a pass, are those of their places.
 use Rattle.std.proofs.Common.{◌≡◌, ℕ, zero, suc, ◌<◌, List, [], ◌∷◌, ◌++◌, length, map, reverse, get_or, set, slice_get, None, Some, inl, inr, sym, ap, subst, ◌∙◌, arith}
 use Rattle.std.proofs.lemmas.List.{length-map, reverse-append, reverse-reverse}
-use Rattle.std.proofs.lemmas.Option.{same_Some, slice_get-map, slice_get_cases, slice_get_past}
+use Rattle.std.proofs.lemmas.Option.{same_Some, slice_get_cases, slice_get_past}
 use Rattle.nm_geometry.specs.Geometry.{Geometry}
 use Rattle.nm_part.specs.PartState.{PartState}
 use Rattle.nm_rules.specs.State.{StripeState}
@@ -12,19 +12,19 @@ use Rattle.nm_mirror.specs.Passes.{HasCountedNothing}
 use Rattle.nm_mirror.specs.Stripes.{EachIsNew}
 
 -- no lock yet: all stripes are left, last first
-pub none-locked : {A B : Type 0} (f : A → ℕ) (g : B → ℕ) (xs : List A) (left all : List B) → xs ≡ [] → left ≡ reverse all → map f xs ++ map g (reverse left) ≡ map g all
+pub none-locked : {A B C : Type 0} (f : A → C) (g : B → C) (xs : List A) (left all : List B) → xs ≡ [] → left ≡ reverse all → map f xs ++ map g (reverse left) ≡ map g all
 none-locked f g xs left all none is = rw (none, is) (ap (map g) (reverse-reverse all))
 
 append-one : {A : Type 0} (xs ys : List A) (x : A) → (xs ++ x ∷ []) ++ ys ≡ xs ++ x ∷ ys
 append-one [] ys x = cc
 append-one (z ∷ xs) ys x = ap (λ r. z ∷ r) (append-one xs ys x)
 
-map-one : {A : Type 0} (f : A → ℕ) (xs : List A) (x : A) → map f (xs ++ x ∷ []) ≡ map f xs ++ f x ∷ []
+map-one : {A C : Type 0} (f : A → C) (xs : List A) (x : A) → map f (xs ++ x ∷ []) ≡ map f xs ++ f x ∷ []
 map-one f [] x = cc
 map-one f (z ∷ xs) x = ap (λ r. f z ∷ r) (map-one f xs x)
 
 -- one lock more, of the last stripe that was left
-pub one-locked : {A B : Type 0} (f : A → ℕ) (g : B → ℕ) (xs new : List A) (x : A) (left rest : List B) (y : B) (all : List ℕ) → map f xs ++ map g (reverse left) ≡ all → left ≡ rest ++ y ∷ [] → f x ≡ g y → new ≡ xs ++ x ∷ [] → map f new ++ map g (reverse rest) ≡ all
+pub one-locked : {A B C : Type 0} (f : A → C) (g : B → C) (xs new : List A) (x : A) (left rest : List B) (y : B) (all : List C) → map f xs ++ map g (reverse left) ≡ all → left ≡ rest ++ y ∷ [] → f x ≡ g y → new ≡ xs ++ x ∷ [] → map f new ++ map g (reverse rest) ≡ all
 one-locked f g xs new x left rest y all before is number added =
     let front : map g (reverse left) ≡ g y ∷ map g (reverse rest) =
     ap (λ l. map g (reverse l)) is ∙ ap (map g) (reverse-append rest (y ∷ [])) in
@@ -43,6 +43,16 @@ stripes-in-order {L} shape stripes new = λ place number at.
           let none : slice_get (map number_of stripes) place ≡ None = slice_get_past (map number_of stripes) place (omega (arith, length-map stripes number_of, past.0)) in
           cc
     ]
+
+numbers-within : {A B : Type 0} (f : A → B) (g : B → ℕ) (xs : List A) → map g (map f xs) ≡ map (λ x. g (f x)) xs
+numbers-within f g [] = cc
+numbers-within f g (x ∷ xs) = ap (λ l. g (f x) ∷ l) (numbers-within f g xs)
+
+-- so are those of stripes behind their gates
+pub gated-in-order : {A L : Type 0} (shape : Geometry) (f : A → StripeState L) (gated : List A) → EachIsNew shape (map f gated) → AreInOrder (map (λ one. (f one).place.stripe) gated)
+gated-in-order {A} {L} shape f gated new =
+    let number_of : StripeState L → ℕ = λ stripe. stripe.place.stripe in
+    subst AreInOrder (numbers-within f number_of gated) (stripes-in-order shape (map f gated) new)
 
 -- one number more, that of the next place
 pub one-in-order : {A : Type 0} (f : A → ℕ) (xs new : List A) (x : A) → AreInOrder (map f xs) → f x ≡ length xs → new ≡ xs ++ x ∷ [] → AreInOrder (map f new)

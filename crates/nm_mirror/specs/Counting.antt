@@ -1,25 +1,62 @@
 -- What a part has counted after a list of steps, each of which its stripe was asked for.
-use Rattle.std.specs.Prelude.{◌≡◌, List, [], ◌∷◌, ◌++◌, refl}
-use Rattle.std.proofs.Common.{sym, ap, subst, ◌∙◌}
+use Rattle.std.specs.Prelude.{◌≡◌, ◌⊎◌, ℕ, List, [], ◌∷◌, ◌++◌, Option, refl}
+use Rattle.std.proofs.Common.{inl, inr, sym, ap, subst, ◌∙◌}
 use Rattle.nm_leg.specs.Leg.{LegType}
+use Rattle.nm_gate.specs.Durable.{Durable}
+use Rattle.nm_gate.specs.Gate.{IsAllowed}
 use Rattle.nm_lanes.specs.Done.{Done}
-use Rattle.nm_part.specs.Asking.{AsksStripe}
+use Rattle.nm_part.specs.Asking.{AsksStripe, MayAsk}
 use Rattle.nm_part.specs.PartState.{PartState}
-use Rattle.nm_part.specs.Parts.{part_after}
+use Rattle.nm_part.specs.Parts.{handed_in, part_after}
 use Rattle.nm_rules.specs.State.{StripeState}
+use Rattle.nm_rules.specs.declared.refusal.Refusal.TheVariants.{NoTicket, SaveFailed}
+use Rattle.nm_stripe.specs.declared.answer.Answer.TheVariants.{Refused}
+use Rattle.nm_stripe.specs.declared.answer.Handed.TheVariants.{Nothing}
+use Rattle.nm_stripe.specs.declared.step.Step.{Step}
+use Rattle.nm_stripe.specs.declared.step.Step.TheVariants.{Claim, Push, Read}
 
 -- the part after these steps with their answers
 abbrev pub part_after_all : {L : Type 0} → List (Done L) → PartState → PartState
 part_after_all [] part = part
 part_after_all (done ∷ list) part = part_after_all list (part_after done.answer part)
 
+-- The gate of the stripe let the step pass: what the durable superblock may say of it, if the mirror
+-- has any, allowed the step there. A push and a read pass no gate.
+abbrev pub IsLetPass : {L : Type 0} → StripeState L → Step L → Type 0
+IsLetPass stripe (Push ticket leg) = Unit {0}
+IsLetPass stripe (Read block room) = Unit {0}
+IsLetPass stripe step = (durable : Option Durable) × IsAllowed durable stripe step
+
 -- a stripe, whatever its legs are, was asked for the step through the part, and answered so. It has
--- the part's number, or it was found astray.
-pub record WasAsked {L : Type 0} (part : PartState) (done : Done L) : Type 0 where
+-- the part's number, or it was found astray; and its gate let the step pass, if it may be asked for.
+pub record WasAskedOne {L : Type 0} (part : PartState) (done : Done L) : Type 0 where
   pub type : LegType L
   pub before : StripeState L
   pub after : StripeState L
+  pub passes : MayAsk type.model done.step part before → IsLetPass before done.step
   pub asks : AsksStripe type done.step done.answer part (before, after)
+
+-- a step that passes a gate
+abbrev pub IsGated : {L : Type 0} → Step L → Type 0
+IsGated (Push ticket leg) = ⊥
+IsGated (Read block room) = ⊥
+IsGated step = Unit {0}
+
+-- no stripe was asked for the step, since no superblock can be saved any more: a push and a read need
+-- none
+abbrev pub IsNotSaved : {L : Type 0} → Done L → Type 0
+IsNotSaved done = IsGated done.step × (done.answer ≡ Refused SaveFailed (handed_in done.step))
+
+-- no stripe was asked for the claim: the one on which the write began was opened anew since, so its
+-- record is gone
+abbrev pub IsGone : {L : Type 0} → Done L → Type 0
+IsGone {L} done =
+    (ticket : ℕ) × (done.step ≡ Claim ticket) × (done.answer ≡ Refused NoTicket Nothing)
+
+-- a stripe was asked for the step through the part, or none was, for want of a superblock or since
+-- the write's opening is over
+abbrev pub WasAsked : {L : Type 0} → PartState → Done L → Type 0
+WasAsked part done = WasAskedOne part done ⊎ (IsNotSaved done ⊎ IsGone done)
 
 -- so was each of these steps, one after the other
 abbrev pub AreAsked : {L : Type 0} → PartState → List (Done L) → Type 0
@@ -54,9 +91,32 @@ part-joined first mid last before after here there = (
 
 -- one step that the part asked a stripe for leads on
 pub one-asked : {L : Type 0} (type : LegType L) (part later : PartState) (done : Done L)
-    (before after : StripeState L) → AsksStripe type done.step done.answer part (before, after)
+    (before after : StripeState L)
+    → (MayAsk type.model done.step part before → IsLetPass before done.step)
+    → AsksStripe type done.step done.answer part (before, after)
     → later ≡ part_after done.answer part → Follows part (done ∷ []) later
-one-asked type part later done before after asks counted = (
+one-asked type part later done before after passes asks counted = (
   counted,
-  (record { type = type; before = before; after = after; asks = asks }, tt),
+  (
+    inl (record {
+      type = type;
+      before = before;
+      after = after;
+      passes = passes;
+      asks = asks;
+    }),
+    tt,
+  ),
 )
+
+-- and one for which no superblock can be saved leaves the part as it is
+pub one-not-saved : {L : Type 0} (part : PartState) (done : Done L) → IsNotSaved done
+    → Follows part (done ∷ []) part
+one-not-saved part done is =
+    (ap (λ answer. part_after answer part) (sym is.1), (inr (inl is), tt))
+
+-- so does a claim of a write whose opening is over
+pub one-gone : {L : Type 0} (part : PartState) (done : Done L) → IsGone done
+    → Follows part (done ∷ []) part
+one-gone part done is =
+    (ap (λ answer. part_after answer part) (sym is.2), (inr (inr is), tt))

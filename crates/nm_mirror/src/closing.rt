@@ -8,11 +8,11 @@ use crate::lock::Lock;
 use crate::mirror::Mirror;
 use crate::pass::Pass;
 use crate::refused::Refused;
+use crate::stripe_end::StripeEnd;
 use crate::totals::Totals;
 use nm_lanes::Gate;
 use nm_leg::LegPart;
 use nm_replay::Memory;
-use nm_stripe::End;
 use std::alloc::Global;
 
 /// What the pass counted in this stripe.
@@ -38,7 +38,7 @@ fn count_in_all<L>(passes: &[Pass<L>], stripe: u32) -> u128
 
 /// Whether the stripe's history has had just the entries that the passes counted and that its
 /// records have.
-fn is_even<L>(end: &End<L>, passes: &[Pass<L>]) -> bool
+fn is_even<L>(end: &StripeEnd<L>, passes: &[Pass<L>]) -> bool
     ensures { IsTrue result ↔ IsEven passes.now end.now }
 {
     let sum = count_in_all(passes, end.stripe()).checked_add(u128::from(end.landed()));
@@ -48,7 +48,7 @@ fn is_even<L>(end: &End<L>, passes: &[Pass<L>]) -> bool
 /// The totals of these ends.
 ///
 /// Refused with the first of them that is not even.
-fn even_totals<L>(ends: Vec<End<L>>, passes: &[Pass<L>]) -> Result<Totals<L>, End<L>>
+fn even_totals<L>(ends: Vec<StripeEnd<L>>, passes: &[Pass<L>]) -> Result<Totals<L>, StripeEnd<L>>
     ensures ends { IfOk result (λ totals. totals.ends.items ≡ ends.items) }
     ensures even { IfOk result (λ totals. AreEven passes.now totals.ends.items) }
     ensures uneven { IfErr result (IsFirstUneven passes.now ends.items) }
@@ -64,7 +64,7 @@ fn even_totals<L>(ends: Vec<End<L>>, passes: &[Pass<L>]) -> Result<Totals<L>, En
 ///
 /// Behind each lock is the stripe of its place. No contract can say so, so it is looked at: of
 /// another stripe no end is told, as where memory is refused.
-fn ends_of<L: LegPart>(alloc: Global, locks: &mut [Lock<L>]) -> Result<Vec<End<L>>, Memory>
+fn ends_of<L: LegPart>(alloc: Global, locks: &mut [Lock<L>]) -> Result<Vec<StripeEnd<L>>, Memory>
     ensures each { IfOk result (λ ends. length ends.items ≡ length locks.old) }
     ensures own { IfOk result (λ ends. AreInOrder (map (λ end. end.stripe) ends.items)) }
     ensures locks { length locks.new ≡ length locks.old }
@@ -83,7 +83,7 @@ fn ends_of<L: LegPart>(alloc: Global, locks: &mut [Lock<L>]) -> Result<Vec<End<L
 }
 
 /// Of the stripes behind these locks the end of the first that is not even. It takes no memory.
-fn first_uneven<L: LegPart>(locks: &mut [Lock<L>], passes: &[Pass<L>]) -> Option<End<L>>
+fn first_uneven<L: LegPart>(locks: &mut [Lock<L>], passes: &[Pass<L>]) -> Option<StripeEnd<L>>
     ensures uneven { IfSome result (λ end. ¬ IsEven passes.now end) }
     ensures locks { length locks.new ≡ length locks.old }
     ensures numbers { map (λ lock. lock.number) locks.new ≡ map (λ lock. lock.number) locks.old }

@@ -1,4 +1,4 @@
-//! How many stripes answered how, where one leg was failed or attached in all of them.
+//! How many stripes answered how, where one leg was failed, attached or replaced in all of them.
 
 /// What came of taking a leg out in each stripe.
 #[derive(Clone, Copy, Debug, Default, PartialEq, Eq)]
@@ -23,5 +23,21 @@ pub struct AttachCounts {
     /// Where it was not out.
     pub not_out: u64,
     /// Which have stopped.
+    pub stopped: u64,
+}
+
+/// What came of putting another leg in the place of one in each stripe.
+#[derive(Clone, Copy, Debug, Default, PartialEq, Eq)]
+pub struct ReplaceCounts {
+    /// Where the new leg joins.
+    pub joining: u64,
+    /// How many blocks are left to copy to it in those.
+    pub left: u64,
+    /// Where the old leg stays, and stays out: no superblock can be saved any more, or the new one
+    /// is not as long as the stripe.
+    pub out: u64,
+    /// Where the old leg stays: it was not out.
+    pub not_out: u64,
+    /// Which have stopped, and keep the old leg.
     pub stopped: u64,
 }

@@ -51,8 +51,8 @@ impl Glance {
         long: bool,
     ) -> Result<(), Memory> {
         match lock.try_hold() {
-            Some(stripe) => {
-                self.told = Some(status_of(&stripe, alloc)?);
+            Some(held) => {
+                self.told = Some(status_of(&held.gated.stripe, alloc)?);
                 self.is_open = false;
             }
             None => self.is_open = !long || lock.got() != self.got,

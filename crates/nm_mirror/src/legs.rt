@@ -5,15 +5,18 @@ ghost use Rattle.nm_rules.specs.Failing.{fail_cause};
 ghost use Rattle.nm_rules.specs.State.{left};
 ghost use Rattle.nm_mirror.specs.Counts.{attached_so, attaches, failed_so, fails};
 
+use crate::ask::Ask;
 use crate::counts::{AttachCounts, FailCounts};
+use crate::held::Held;
+use crate::lock::Lock;
 use crate::mirror::Mirror;
 use nm_lanes::{CallKind, Gate, StepKind};
 use nm_leg::LegPart;
-use nm_stripe::{Refusal, Stripe};
-use std::sync::Wait;
+use nm_stripe::{LegState, Refusal, Stripe};
+use std::sync::{MutexGuard, Wait};
 
 /// Takes the leg out of this stripe, and counts what came of it.
-fn fail_in<L: LegPart>(stripe: &mut Stripe<L>, leg: u8, counts: &mut FailCounts)
+pub(crate) fn fail_in<L: LegPart>(stripe: &mut Stripe<L>, leg: u8, counts: &mut FailCounts)
     requires leg { leg < length stripe.old.legs }
     requires room { fails counts.old < 2 ^ 64 - 1 }
     ensures { counts.new ≡ failed_so (fail_cause stripe.old leg) counts.old }
@@ -43,34 +46,61 @@ fn attach_in<L: LegPart>(stripe: &mut Stripe<L>, leg: u8, counts: &mut AttachCou
     }
 }
 
+/// Whether the leg may join the stripe: it is out, and the stripe runs.
+fn may_join<L: LegPart>(stripe: &Stripe<L>, leg: u8) -> bool {
+    (leg as usize) < stripe.legs() && !stripe.is_stopped() && stripe.state(leg) == LegState::Out
+}
+
+/// Takes the stripe for an attach of the leg. It waits for no superblock where the leg does not
+/// join, since each may go on calling it in sync.
+fn hold_to_attach<'x, L: LegPart, R: Wait>(
+    lock: &'x Lock<L>,
+    rt: &R,
+    leg: u8,
+) -> Option<MutexGuard<'x, Held<L>>> {
+    let held = lock.hold(rt);
+    if !may_join(&held.gated.stripe, leg) {
+        return Some(held);
+    }
+    drop(held);
+    lock.hold_for(rt, Ask::Attach(leg))
+}
+
 impl<L: LegPart, G: Gate + Drop> Mirror<L, G> {
-    /// Takes the leg out of every stripe, and counts what came of it.
+    /// Takes the leg out of every stripe, and counts what came of it. It waits for no superblock,
+    /// but wants the loss to be saved.
     pub fn fail_leg<R: Wait>(&self, rt: &R, leg: u8) -> FailCounts
         requires { leg < self.now.shape.legs }
     {
         let mut counts = FailCounts::default();
         for stripe in 0..self.shape.stripes {
             let mut held = self.hold(rt, stripe);
-            if (leg as usize) < held.legs() {
-                fail_in(&mut held, leg, &mut counts);
+            if (leg as usize) < held.gated.stripe.legs() {
+                fail_in(&mut held.gated.stripe, leg, &mut counts);
             }
             drop(held);
             self.pass_gate(CallKind::FailLeg, stripe, StepKind::Fail);
         }
+        self.want_save(rt);
         counts
     }
 
-    /// Lets the leg join every stripe again, and counts what came of it.
+    /// Lets the leg join every stripe again, and counts what came of it. Where it is out and a
+    /// superblock may still call it in sync, it waits for the next one. A stripe for which no
+    /// superblock can be saved counts as stopped.
     pub fn attach_leg<R: Wait>(&self, rt: &R, leg: u8) -> AttachCounts
         requires { leg < self.now.shape.legs }
     {
         let mut counts = AttachCounts::default();
         for stripe in 0..self.shape.stripes {
-            let mut held = self.hold(rt, stripe);
-            if (leg as usize) < held.legs() {
-                attach_in(&mut held, leg, &mut counts);
+            match hold_to_attach(&self.locks[stripe as usize], rt, leg) {
+                Some(mut held) => {
+                    if (leg as usize) < held.gated.stripe.legs() {
+                        attach_in(&mut held.gated.stripe, leg, &mut counts);
+                    }
+                }
+                None => counts.stopped += 1,
             }
-            drop(held);
             self.pass_gate(CallKind::AttachLeg, stripe, StepKind::Attach);
         }
         counts

@@ -7,40 +7,60 @@
 #![tactic(auto)]
 
 pub use copy_round::{CopyRound, UnreadRegion};
-pub use counts::{AttachCounts, FailCounts};
+pub use counts::{AttachCounts, FailCounts, ReplaceCounts};
+pub use gating::{gated, ungated};
 pub use glance::Glance;
 pub use lock::Lock;
+pub use marked_opening::{StripeStart, open_marked_stripes};
 pub use mirror::Mirror;
 pub use nm_geometry::Shape;
 pub use nm_lanes::{
     CallError, CallErrorKind, CallKind, Gate, Lane, NoGate, Place, StepKind, WriteFault, flush_by,
     laws, read_by, sync_by, write_by, zero_by,
 };
+pub use nm_verify::{Cursor, Findings, MOST_BYTES, RegionPlace, Seen, Verification};
 pub use open_fault::OpenFault;
 pub use opening::{Opening, open_stripes};
 pub use part_lane::PartLane;
 pub use pass::Pass;
 pub use refused::Refused;
+pub use reopening::Reopened;
+pub use replacing::Withdrawal;
+pub use save_order::SaveOrder;
 pub use start::Start;
 pub use status::{LegStatus, StripeStatus};
+pub use stripe_end::{Past, StripeEnd};
 pub use totals::Totals;
 
+mod ask;
 mod bounds;
 mod calls;
 mod closing;
 mod copy_round;
 mod counts;
+mod gating;
 mod glance;
+mod held;
 mod legs;
 mod lock;
+mod marked_opening;
 mod mirror;
 mod open_fault;
 mod opening;
 mod part_lane;
 mod pass;
 mod refused;
+mod reopening;
+mod replacing;
 mod resync;
+mod save_desk;
+mod save_order;
+mod saving;
+mod settling;
 mod start;
 mod status;
+mod stripe_end;
 mod totals;
+mod verify;
+mod whole;
 mod writes;

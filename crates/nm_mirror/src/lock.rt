@@ -1,11 +1,16 @@
 ghost use Rattle.std.specs.Prelude.{◌≡◌, IfSome};
 ghost use Rattle.std.specs.Sync.Mutex.{mutex_guard_value};
+ghost use Rattle.nm_mirror.specs.Asks.{LetsPass};
 
+use crate::ask::{Ask, refusal_of, span_for, whole_for};
+use crate::held::Held;
+use crate::save_desk::SaveDesk;
+use crate::stripe_end::StripeEnd;
+use nm_gate::{GateRefusal, GatedStripe};
 use nm_leg::LegPart;
-use nm_stripe::{End, Stripe};
 use std::hint::spin_loop;
 use std::sync::atomic::{AtomicBool, AtomicU64, Ordering};
-use std::sync::{Mutex, MutexGuard, Wait};
+use std::sync::{Arc, Mutex, MutexGuard, Wait};
 
 // How often a thread tries again to take a lock before it sleeps.
 const TRIES: u32 = 4;
@@ -17,37 +22,42 @@ const PAUSES: u32 = 256;
 // As many bytes as a cache line has.
 type Line = [u64; 8];
 
-/// The lock of one stripe, with the stripe behind it.
+/// The lock of one stripe, with the stripe and its gate behind it.
 ///
 /// It lends the stripe to nobody outside: each step takes it once. Beside it stand the stripe's
-/// number, whether something was written since the last sync began, how many long calls are at work
-/// in the mirror where the stripe is its first, and how many threads have slept for it. No cache
-/// line has parts of two locks, since threads at work on two stripes would else take it from one
+/// number, whether something was written since the last sync began, and since the last look at it;
+/// how many long calls are at work in the mirror where the stripe is its first; how many threads
+/// have slept for it; and where saves are asked for, in a mirror with superblocks. No cache line
+/// has parts of two locks, since threads at work on two stripes would else take it from one
 /// another.
 #[derive(Drop)]
 #[repr(C)]
 pub struct Lock<L: LegPart> {
     before: Line,
-    stripe: Mutex<Stripe<L>>,
+    held: Mutex<Held<L>>,
     pub(crate) number: u32,
     unsynced: AtomicBool,
+    written: AtomicBool,
     calls: AtomicU64,
     got: AtomicU64,
+    desk: Option<Arc<SaveDesk>>,
     after: Line,
 }
 
 impl<L: LegPart> Lock<L> {
     /// This stripe behind a lock, which has its number. Nothing was written yet.
-    pub(crate) fn new(stripe: Stripe<L>) -> Self
-        ensures { result.number ≡ stripe.place.stripe }
+    pub(crate) fn new(gated: GatedStripe<L>, desk: Option<Arc<SaveDesk>>) -> Self
+        ensures { result.number ≡ gated.stripe.place.stripe }
     {
         Lock {
             before: [0; 8],
-            number: stripe.number(),
-            stripe: Mutex::new(stripe),
+            number: gated.stripe.number(),
+            held: Mutex::new(Held::new(gated)),
             unsynced: AtomicBool::new(false),
+            written: AtomicBool::new(false),
             calls: AtomicU64::new(0),
             got: AtomicU64::new(0),
+            desk,
             after: [0; 8],
         }
     }
@@ -58,8 +68,8 @@ impl<L: LegPart> Lock<L> {
     /// To be put to sleep and woken takes longer than many steps, so a thread tries for a while
     /// before it sleeps.
     #[inline(always)]
-    pub(crate) fn hold<R: Wait>(&self, rt: &R) -> MutexGuard<'_, Stripe<L>>
-        ensures { (mutex_guard_value result).place.stripe ≡ self.now.number }
+    pub(crate) fn hold<R: Wait>(&self, rt: &R) -> MutexGuard<'_, Held<L>>
+        ensures { (mutex_guard_value result).gated.stripe.place.stripe ≡ self.now.number }
     {
         match self.try_hold() {
             Some(guard) => guard,
@@ -69,8 +79,8 @@ impl<L: LegPart> Lock<L> {
 
     // Waits for the stripe, which another thread has. A try takes the lock's cache line from the
     // one that works on the stripe, so there are few.
-    fn hold_taken<R: Wait>(&self, rt: &R) -> MutexGuard<'_, Stripe<L>>
-        ensures { (mutex_guard_value result).place.stripe ≡ self.now.number }
+    fn hold_taken<R: Wait>(&self, rt: &R) -> MutexGuard<'_, Held<L>>
+        ensures { (mutex_guard_value result).gated.stripe.place.stripe ≡ self.now.number }
     {
         for _ in 0..TRIES {
             for _ in 0..PAUSES {
@@ -85,12 +95,12 @@ impl<L: LegPart> Lock<L> {
 
     // Sleeps until the stripe is to be had. What is behind the lock has its number from the first
     // try on: no contract can say so, so it is looked at.
-    fn sleep_for<R: Wait>(&self, rt: &R) -> MutexGuard<'_, Stripe<L>>
-        ensures { (mutex_guard_value result).place.stripe ≡ self.now.number }
+    fn sleep_for<R: Wait>(&self, rt: &R) -> MutexGuard<'_, Held<L>>
+        ensures { (mutex_guard_value result).gated.stripe.place.stripe ≡ self.now.number }
     {
         for _ in rt.forever() {
-            let guard = self.stripe.lock(rt);
-            if guard.number() == self.number {
+            let guard = self.held.lock(rt);
+            if guard.gated.stripe.number() == self.number {
                 self.got.fetch_add(1, Ordering::SeqCst);
                 return guard;
             }
@@ -100,13 +110,13 @@ impl<L: LegPart> Lock<L> {
 
     /// Takes the stripe, unless somebody has it or waits for it right now.
     #[inline(always)]
-    pub(crate) fn try_hold(&self) -> Option<MutexGuard<'_, Stripe<L>>>
+    pub(crate) fn try_hold(&self) -> Option<MutexGuard<'_, Held<L>>>
         ensures { IfSome result (λ guard.
-            (mutex_guard_value guard).place.stripe ≡ self.now.number) }
+            (mutex_guard_value guard).gated.stripe.place.stripe ≡ self.now.number) }
     {
-        match self.stripe.try_lock() {
+        match self.held.try_lock() {
             Some(held) => {
-                if held.number() == self.number {
+                if held.gated.stripe.number() == self.number {
                     Some(held)
                 } else {
                     None
@@ -116,11 +126,64 @@ impl<L: LegPart> Lock<L> {
         }
     }
 
-    /// What the end of the stripe tells.
-    pub(crate) fn end(&mut self) -> End<L>
+    /// Waits for the stripe until its gate lets this pass, and takes it until the guard is dropped.
+    /// Meanwhile it asks for saves. None where no save is done any more.
+    #[inline(always)]
+    pub(crate) fn hold_for<R: Wait>(&self, rt: &R, ask: Ask) -> Option<MutexGuard<'_, Held<L>>>
+        ensures { IfSome result (λ guard. LetsPass (mutex_guard_value guard).gated.durable
+            (mutex_guard_value guard).gated.stripe ask) }
+    {
+        let held = self.hold(rt);
+        if refusal_of(&held.gated, ask).is_none() {
+            return Some(held);
+        }
+        drop(held);
+        self.hold_once_saved(rt, ask)
+    }
+
+    // Asks for a save where the gate refuses this, and tries again once one is done.
+    #[cold]
+    fn hold_once_saved<R: Wait>(&self, rt: &R, ask: Ask) -> Option<MutexGuard<'_, Held<L>>>
+        ensures { IfSome result (λ guard. LetsPass (mutex_guard_value guard).gated.durable
+            (mutex_guard_value guard).gated.stripe ask) }
+    {
+        for _ in rt.forever() {
+            let held = self.hold(rt);
+            match refusal_of(&held.gated, ask) {
+                None => return Some(held),
+                Some(GateRefusal::SaveFailed) => return None,
+                Some(_) => (),
+            }
+            let span = span_for(&held.gated, ask);
+            drop(held);
+            if !self.wait_for_save(rt, span, whole_for(ask)) {
+                return None;
+            }
+        }
+        unreachable!()
+    }
+
+    // Waits until a save is done that marks this span too, and calls this leg partial nowhere.
+    // Whether one is.
+    fn wait_for_save<R: Wait>(&self, rt: &R, span: Option<u64>, whole: Option<u8>) -> bool {
+        match &self.desk {
+            Some(desk) => desk.wait_for_save(rt, span, whole),
+            None => false,
+        }
+    }
+
+    /// Asks for a save. Nobody calls it who holds a stripe.
+    pub(crate) fn want_save<R: Wait>(&self, rt: &R) {
+        if let Some(desk) = &self.desk {
+            desk.want(rt);
+        }
+    }
+
+    /// What the end of the stripe tells, of all of its openings.
+    pub(crate) fn end(&mut self) -> StripeEnd<L>
         ensures { self.new.number ≡ self.old.number }
     {
-        self.stripe.get_mut().end()
+        self.held.get_mut().end()
     }
 
     /// How many threads have slept for the stripe and got it. Where this goes up, the stripe goes
@@ -131,7 +194,7 @@ impl<L: LegPart> Lock<L> {
 
     /// Whether somebody has the stripe right now.
     pub(crate) fn is_taken(&self) -> bool {
-        self.stripe.try_lock().is_none()
+        self.held.try_lock().is_none()
     }
 
     /// Counts a long call that begins: whether no other is at work.
@@ -156,6 +219,14 @@ impl<L: LegPart> Lock<L> {
         if !self.is_unsynced() {
             self.unsynced.store(true, Ordering::SeqCst);
         }
+        if !self.written.load(Ordering::SeqCst) {
+            self.written.store(true, Ordering::SeqCst);
+        }
+    }
+
+    /// Whether no leg was written to since this was last asked.
+    pub(crate) fn was_quiet(&self) -> bool {
+        !self.written.swap(false, Ordering::SeqCst)
     }
 
     /// Notes that a sync begins.

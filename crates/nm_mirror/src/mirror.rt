@@ -4,64 +4,112 @@ ghost use Rattle.std.specs.Vec.{vec_len};
 ghost use Rattle.nm_mirror.specs.Numbers.{AreInOrder};
 ghost use Rattle.nm_mirror.specs.Stripes.{AreStripesOf};
 
+use crate::held::Held;
 use crate::lock::Lock;
+use crate::save_desk::SaveDesk;
+use nm_gate::GatedStripe;
 use nm_geometry::Shape;
 use nm_lanes::{CallKind, Gate, Place, StepKind};
 use nm_leg::LegPart;
 use nm_replay::Memory;
-use nm_stripe::Stripe;
-use std::alloc::Global;
-use std::sync::{Mutex, MutexGuard, Wait};
+use std::alloc::{AllocError, Global};
+use std::sync::{Arc, Mutex, MutexGuard, Wait};
 
 /// A mirror: its stripes, by rising number, each behind a lock of its own that has its number; the
-/// gate that its calls pass between their steps; and how many passes it made. The lock of that
-/// count is taken by `pass` alone.
+/// gate that its calls pass between their steps; how many passes it made; and where saves are asked
+/// for, if it has superblocks. The lock of that count is taken by `pass` alone.
 #[derive(Drop)]
 pub struct Mirror<L: LegPart, G: Gate + Drop> {
     pub(crate) shape: Shape,
     pub(crate) locks: Vec<Lock<L>>,
     pub(crate) gate: G,
     pub(crate) made: Mutex<u32>,
+    pub(crate) desk: Option<Arc<SaveDesk>>,
     ghost one_each: { vec_len locks ≡ shape.stripes },
     ghost in_order: { AreInOrder (map (λ lock. lock.number) locks.items) },
+}
+
+/// Where saves are asked for, if some stripe has what a superblock may say of it.
+fn desk_for<L: LegPart>(
+    alloc: Global,
+    stripes: &[GatedStripe<L>],
+) -> Result<Option<Arc<SaveDesk>>, AllocError> {
+    if stripes.iter().any(|gated| gated.durable.is_some()) {
+        Ok(Some(Arc::new(alloc, SaveDesk::new())?))
+    } else {
+        Ok(None)
+    }
+}
+
+/// A share of it, if there is one.
+fn share_of(desk: &Option<Arc<SaveDesk>>) -> Result<Option<Arc<SaveDesk>>, AllocError> {
+    match desk {
+        Some(desk) => Ok(Some(Arc::try_clone(desk)?)),
+        None => Ok(None),
+    }
+}
+
+/// So many shares of it, if there is one.
+fn shares_of(
+    alloc: Global,
+    desk: &Option<Arc<SaveDesk>>,
+    count: usize,
+) -> Result<Vec<Option<Arc<SaveDesk>>>, AllocError>
+    ensures { IfOk result (λ shares. length shares.items ≡ count) }
+{
+    let mut shares = Vec::new(alloc);
+    shares.reserve(count)?;
+    while shares.len() < count {
+        shares.push_reserved(share_of(desk)?);
+    }
+    Ok(shares)
 }
 
 /// Each stripe behind a lock of its own, in order. Where memory is refused the stripes come back.
 fn lock_each<L: LegPart>(
     alloc: Global,
-    stripes: Vec<Stripe<L>>,
-) -> Result<Vec<Lock<L>>, Vec<Stripe<L>>>
+    stripes: Vec<GatedStripe<L>>,
+    desk: &Option<Arc<SaveDesk>>,
+) -> Result<Vec<Lock<L>>, Vec<GatedStripe<L>>>
     ensures each { IfOk result (λ locks. length locks.items ≡ length stripes.items) }
     ensures numbers { IfOk result (λ locks. map (λ lock. lock.number) locks.items
-        ≡ map (λ stripe. stripe.place.stripe) stripes.items) }
+        ≡ map (λ gated. gated.stripe.place.stripe) stripes.items) }
     ensures handed_back { IfErr result (λ back. back.items ≡ stripes.items) }
 {
+    let Ok(mut shares) = shares_of(alloc, desk, stripes.len()) else {
+        return Err(stripes);
+    };
     let mut locks = Vec::new(alloc);
     if locks.reserve(stripes.len()).is_err() {
         return Err(stripes);
     }
     let mut rest = stripes;
     rest.reverse();
-    while let Some(stripe) = rest.pop() {
-        locks.push_reserved(Lock::new(stripe));
+    while let Some(gated) = rest.pop() {
+        let share = shares.pop().unwrap();
+        locks.push_reserved(Lock::new(gated, share));
     }
     Ok(locks)
 }
 
 impl<L: LegPart, G: Gate + Drop> Mirror<L, G> {
-    /// A mirror of these stripes. Where memory is refused the stripes and the gate come back.
+    /// A mirror of these stripes, of which each has what a superblock may say of it, or none has.
+    /// Where memory is refused the stripes and the gate come back.
     pub fn new(
         alloc: Global,
         shape: Shape,
-        stripes: Vec<Stripe<L>>,
+        stripes: Vec<GatedStripe<L>>,
         gate: G,
-    ) -> Result<Mirror<L, G>, (Memory, Vec<Stripe<L>>, G)>
-        requires { AreStripesOf shape stripes.items }
+    ) -> Result<Mirror<L, G>, (Memory, Vec<GatedStripe<L>>, G)>
+        requires { AreStripesOf shape (map (λ gated. gated.stripe) stripes.items) }
         ensures made { IfOk result (λ mirror. (mirror.shape ≡ shape) × (mirror.gate ≡ gate)) }
         ensures handed_back { IfErr result (λ back.
             (back.1.items ≡ stripes.items) × (back.2 ≡ gate)) }
     {
-        let locks = match lock_each(alloc, stripes) {
+        let Ok(desk) = desk_for(alloc, &stripes) else {
+            return Err((Memory, stripes, gate));
+        };
+        let locks = match lock_each(alloc, stripes, &desk) {
             Ok(locks) => locks,
             Err(stripes) => return Err((Memory, stripes, gate)),
         };
@@ -70,6 +118,7 @@ impl<L: LegPart, G: Gate + Drop> Mirror<L, G> {
             locks,
             gate,
             made: Mutex::new(0),
+            desk,
         })
     }
 
@@ -82,9 +131,9 @@ impl<L: LegPart, G: Gate + Drop> Mirror<L, G> {
     }
 
     /// Waits for the stripe of this number, and takes it until the guard is dropped.
-    pub(crate) fn hold<R: Wait>(&self, rt: &R, stripe: u32) -> MutexGuard<'_, Stripe<L>>
+    pub(crate) fn hold<R: Wait>(&self, rt: &R, stripe: u32) -> MutexGuard<'_, Held<L>>
         requires { stripe < self.now.shape.stripes }
-        ensures { (mutex_guard_value result).place.stripe ≡ stripe }
+        ensures { (mutex_guard_value result).gated.stripe.place.stripe ≡ stripe }
     {
         self.locks[stripe as usize].hold(rt)
     }

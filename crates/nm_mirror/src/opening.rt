@@ -27,13 +27,13 @@ use std::alloc::Global;
 /// The stripes of a mirror while they are opened, by rising number.
 #[derive(Drop)]
 pub struct Opening<L: LegPart> {
-    shape: Shape,
-    stripes: Vec<Stripe<L>>,
+    pub(crate) shape: Shape,
+    pub(crate) stripes: Vec<Stripe<L>>,
     ghost so_far: { AreFirst shape stripes.items },
 }
 
 /// The place of this stripe in a mirror of this shape.
-fn place_of(shape: &Shape, number: usize) -> At
+pub(crate) fn place_of(shape: &Shape, number: usize) -> At
     requires { number < shape.now.stripes }
     ensures place { result ≡ place_of number shape.now }
     ensures sizes { AreSizes result.blocks result.region shape.now.legs }
@@ -50,14 +50,14 @@ fn place_of(shape: &Shape, number: usize) -> At
 }
 
 /// Whether each leg has so many blocks.
-fn have_all<L: LegPart>(legs: &[L], blocks: u64) -> bool
+pub(crate) fn have_all<L: LegPart>(legs: &[L], blocks: u64) -> bool
     ensures { IsTrue result ↔ EachHas L.model legs.now blocks }
 {
     legs.iter().all(|leg| leg.len() == blocks)
 }
 
 /// The bit of this leg alone. Legs of which one alone is in sync hold equal contents.
-fn only_bit<L: LegPart>(leg: u8) -> u8
+pub(crate) fn only_bit<L: LegPart>(leg: u8) -> u8
     requires { leg < 8 }
     ensures named { (legs : ℕ) → leg < legs → NamesALeg result legs }
     ensures equal { (legs : List L) → HoldEqual L.model legs result }
@@ -91,6 +91,23 @@ impl<L: LegPart> Opening<L> {
         ensures { result.now ≡ self.now.shape }
     {
         &self.shape
+    }
+
+    /// How many stripes are open.
+    pub(crate) fn count(&self) -> usize
+        ensures { result ≡ length self.now.stripes.items }
+    {
+        self.stripes.len()
+    }
+
+    /// The place of the stripe to be opened next, where one is left.
+    pub(crate) fn place(&self) -> At
+        requires { length self.now.stripes.items < self.now.shape.stripes }
+        ensures place { result ≡ place_of (length self.now.stripes.items) self.now.shape }
+        ensures sizes { AreSizes result.blocks result.region self.now.shape.legs }
+        ensures chunk { IsChunkSize result.chunk }
+    {
+        place_of(&self.shape, self.stripes.len())
     }
 
     /// The place of the stripe to be opened next; none once all are open.

@@ -8,19 +8,28 @@ ghost use Rattle.nm_lanes.specs.Done.{done_as};
 ghost use Rattle.nm_part.specs.Parts.{part_of};
 ghost use Rattle.nm_mirror.specs.Counting.{Follows};
 
+use crate::ask::Ask;
+use crate::held::Held;
 use crate::lock::Lock;
 use nm_fanout::Data;
 use nm_lanes::Lane;
 use nm_leg::LegPart;
 use nm_part::Part;
-use nm_stripe::{Beginning, Copying, Reach, Reading, Refusal, Stripe, Syncing, Written};
+use nm_stripe::{Beginning, Copying, Reach, Reading, Refusal, Syncing, Written};
 use std::marker::Model;
 use std::sync::Wait;
 
 /// The part of a pass in one stripe, as a lane over the stripe's lock.
+///
+/// A begin, a claim, a sync and a copy wait until the stripe's gate lets them pass. Where no
+/// superblock can be saved any more, what the gate refuses is refused as `SaveFailed`. A write ends
+/// with the opening of the stripe in which it began: then its claim is refused as `NoTicket`, since
+/// another may have its ticket.
 #[derive(Drop)]
 pub struct PartLane<L> {
     part: Part<L>,
+    // The opening of the stripe in which the last write began.
+    opening: u64,
 }
 
 impl<L> Model for PartLane<L> {
@@ -42,11 +51,12 @@ impl<L> PartLane<L> {
 
 impl<L: LegPart> PartLane<L> {
     /// The part of a pass that is made now.
-    pub(crate) fn of(stripe: &Stripe<L>) -> Self
-        ensures { result ≡ part_of stripe.now }
+    pub(crate) fn of(held: &Held<L>) -> Self
+        ensures { result ≡ part_of held.now.gated.stripe }
     {
         PartLane {
-            part: Part::of(stripe),
+            part: Part::of(&held.gated.stripe),
+            opening: held.openings,
         }
     }
 }
@@ -69,7 +79,13 @@ impl<L: LegPart> Lane<L, Lock<L>> for PartLane<L> {
             (done_as (step.Begin block «data») (answer_of_begin result) ∷ []) self.new }
         ensures handed_back { HandsBack «data» result }
     {
-        self.part.begin(&mut lock.hold(rt), block, data)
+        match lock.hold_for(rt, Ask::Begin(block)) {
+            Some(mut held) => {
+                self.opening = held.openings;
+                self.part.begin(&mut held.gated.stripe, block, data)
+            }
+            None => Err((Refusal::SaveFailed, data)),
+        }
     }
 
     #[inline(always)]
@@ -83,9 +99,9 @@ impl<L: LegPart> Lane<L, Lock<L>> for PartLane<L> {
         ensures follows { Follows {L = L} self.old
             (done_as (step.Push ticket leg) (answer_of_push result) ∷ []) self.new }
     {
-        let mut stripe = lock.hold(rt);
+        let mut held = lock.hold(rt);
         lock.note_write();
-        self.part.push(&mut stripe, ticket, leg)
+        self.part.push(&mut held.gated.stripe, ticket, leg)
     }
 
     #[inline(always)]
@@ -93,7 +109,11 @@ impl<L: LegPart> Lane<L, Lock<L>> for PartLane<L> {
         ensures follows { Follows {L = L} self.old
             (done_as (step.Claim ticket) (answer_of_claim result) ∷ []) self.new }
     {
-        self.part.claim(&mut lock.hold(rt), ticket)
+        match lock.hold_for(rt, Ask::Answer) {
+            Some(held) if held.openings != self.opening => Err(Refusal::NoTicket),
+            Some(mut held) => self.part.claim(&mut held.gated.stripe, ticket),
+            None => Err(Refusal::SaveFailed),
+        }
     }
 
     #[inline(always)]
@@ -108,16 +128,18 @@ impl<L: LegPart> Lane<L, Lock<L>> for PartLane<L> {
             (done_as (step.Read block into.old) (answer_of_read result into.new) ∷ []) self.new }
         ensures target { LeavesTarget result into.old into.new }
     {
-        self.part.read(&mut lock.hold(rt), block, into)
+        self.part.read(&mut lock.hold(rt).gated.stripe, block, into)
     }
 
     fn sync<R: Wait>(&mut self, rt: &R, lock: &Lock<L>, leg: u8) -> Result<Syncing, Refusal>
         ensures follows { Follows {L = L} self.old
             (done_as (step.Sync leg) (answer_of_sync result) ∷ []) self.new }
     {
-        let mut stripe = lock.hold(rt);
+        let Some(mut held) = lock.hold_for(rt, Ask::Answer) else {
+            return Err(Refusal::SaveFailed);
+        };
         lock.note_sync();
-        self.part.sync(&mut stripe, leg)
+        self.part.sync(&mut held.gated.stripe, leg)
     }
 
     fn copy<R: Wait>(
@@ -131,16 +153,18 @@ impl<L: LegPart> Lane<L, Lock<L>> for PartLane<L> {
         ensures follows { Follows {L = L} self.old
             (done_as (step.Copy leg most from) (answer_of_copy result) ∷ []) self.new }
     {
-        let mut stripe = lock.hold(rt);
+        let Some(mut held) = lock.hold_for(rt, Ask::Copy(leg, from)) else {
+            return Err(Refusal::SaveFailed);
+        };
         lock.note_write();
-        self.part.copy(&mut stripe, leg, most, from)
+        self.part.copy(&mut held.gated.stripe, leg, most, from)
     }
 
     fn owed<R: Wait>(&self, rt: &R, lock: &Lock<L>, ticket: Option<u64>) -> Option<(u64, u8)> {
-        let stripe = lock.hold(rt);
+        let held = lock.hold(rt);
         match ticket {
-            Some(ticket) => Some((ticket, stripe.next_owed(ticket)?)),
-            None => stripe.first_owed(),
+            Some(ticket) => Some((ticket, held.gated.stripe.next_owed(ticket)?)),
+            None => held.gated.stripe.first_owed(),
         }
     }
 

@@ -2,8 +2,8 @@ ghost use Rattle.std.specs.Prelude.{◌≡◌, Some};
 ghost use Rattle.nm_mirror.specs.Refused.{number_of, refused_for, refused_text};
 ghost use Rattle.nm_mirror.specs.declared.refused.Refused.TheVariants.{Io};
 
+use crate::stripe_end::StripeEnd;
 use nm_lanes::{CallError, WriteFault};
-use nm_stripe::End;
 use std::error::Error;
 use std::fmt;
 
@@ -20,7 +20,7 @@ pub enum Refused<L> {
     PassesMissing,
     /// The history of this stripe has had another number of entries than the passes were given and
     /// its records have.
-    Uneven(End<L>),
+    Uneven(StripeEnd<L>),
 }
 
 impl<L> Refused<L> {

@@ -2,13 +2,15 @@
 ghost use Rattle.std.specs.Prelude.{◌≡◌, ◌*◌, ◌<◌, ◌≤◌, length};
 ghost use Rattle.nm_leg.specs.Leg.{leg_type};
 ghost use Rattle.nm_mirror.specs.RoundChanges.{GoesOnTo, visited};
-ghost use Rattle.nm_mirror.specs.Resync.{BringsUp, Helps, Pushes, step_of, step_of_help, visit_of};
+ghost use Rattle.nm_mirror.specs.Resync.{BringsUp, CopiesTo, Helps, Pushes};
+ghost use Rattle.nm_mirror.specs.Resync.{step_of, step_of_help, visit_of};
 ghost use Rattle.nm_mirror.specs.declared.copy_round.Visit.{Visit};
 
 use crate::bounds::within_bounds;
 use crate::copy_round::{CopyRound, LegRound, Visit};
 use crate::mirror::Mirror;
 use nm_fanout::MOST_RUN;
+use nm_gate::{GateRefusal, GatedStripe};
 use nm_lanes::{CallKind, Gate, StepKind};
 use nm_leg::LegPart;
 use nm_stripe::{Copying, LegState, Promotion, Reach, Refusal, Stripe};
@@ -30,6 +32,8 @@ pub enum Tried {
     Rests,
     /// Nothing: what is left to copy to it could not be read in this round.
     Waits,
+    /// Nothing: the gate refused this step, until a superblock is saved.
+    Refused(StepKind, GateRefusal),
     /// It was to be called in sync.
     Promoted(Result<Promotion, Refusal>),
     /// It was copied to, in this region.
@@ -54,6 +58,10 @@ impl Tried {
     {
         match self {
             Tried::Rests | Tried::Waits => None,
+            Tried::Refused(step, _) => Some(Try {
+                step,
+                refusal: Some(Refusal::SaveFailed),
+            }),
             Tried::Promoted(answer) => Some(Try {
                 step: StepKind::Promote,
                 refusal: answer.err(),
@@ -79,22 +87,29 @@ impl Tried {
 }
 
 /// Calls a joining leg in sync where nothing is left to copy to it, and else copies to it, unless
-/// its round is over.
-fn bring_up<L: LegPart>(stripe: &mut Stripe<L>, leg: u8, place: LegRound) -> Tried
-    requires { leg < length stripe.old.legs }
-    ensures { BringsUp (leg_type L.model L.honest) leg place stripe.old stripe.new result }
+/// its round is over, or the gate refuses the step.
+fn bring_up<L: LegPart>(gated: &mut GatedStripe<L>, leg: u8, place: LegRound) -> Tried
+    requires { leg < length gated.old.stripe.legs }
+    ensures step { BringsUp (leg_type L.model L.honest) leg place gated.old gated.new result }
+    ensures durable { gated.new.durable ≡ gated.old.durable }
 {
-    if stripe.state(leg) != LegState::Joining {
+    if gated.stripe.state(leg) != LegState::Joining {
         return Tried::Rests;
     }
-    if stripe.left(leg) == 0 {
-        return Tried::Promoted(stripe.promote(leg));
+    if gated.stripe.left(leg) == 0 {
+        if let Some(why) = gated.may_promote(leg) {
+            return Tried::Refused(StepKind::Promote, why);
+        }
+        return Tried::Promoted(gated.stripe.promote(leg));
     }
     if place.is_over {
         return Tried::Waits;
     }
-    let region = stripe.region_to_copy(leg, place.from);
-    Tried::Copied(region, stripe.copy(leg, MOST_RUN as u64, place.from))
+    if let Some(why) = gated.may_copy(leg, place.from) {
+        return Tried::Refused(StepKind::Copy, why);
+    }
+    let region = gated.stripe.region_to_copy(leg, place.from);
+    Tried::Copied(region, gated.stripe.copy(leg, MOST_RUN as u64, place.from))
 }
 
 /// Pushes the write of this ticket to the leg, if there is such a leg.
@@ -109,23 +124,33 @@ fn push_to<L: LegPart>(stripe: &mut Stripe<L>, owed: Option<(u64, u8)>) -> Helpe
     }
 }
 
+/// Copies to the leg, if there is such a leg and the gate lets it pass.
+fn copy_to<L: LegPart>(gated: &mut GatedStripe<L>, leg: u8) -> Helped
+    ensures step { CopiesTo (leg_type L.model L.honest) leg gated.old gated.new result }
+    ensures durable { gated.new.durable ≡ gated.old.durable }
+{
+    if (leg as usize) >= gated.stripe.legs() || gated.may_copy(leg, 0).is_some() {
+        return Helped::Nothing;
+    }
+    Helped::Copied(leg, gated.stripe.copy(leg, MOST_RUN as u64, 0))
+}
+
 /// Does a step for what stood in the way of a copy: the write that is under way there or, while a
 /// failover is not over, the lowest one, is pushed, and another leg is copied to.
-fn help<L: LegPart>(stripe: &mut Stripe<L>, refusal: Refusal) -> Helped
-    ensures { Helps (leg_type L.model L.honest) refusal stripe.old stripe.new result }
+fn help<L: LegPart>(gated: &mut GatedStripe<L>, refusal: Refusal) -> Helped
+    ensures step { Helps (leg_type L.model L.honest) refusal gated.old gated.new result }
+    ensures durable { gated.new.durable ≡ gated.old.durable }
 {
     match refusal {
         Refusal::Busy(ticket) => {
-            let owed = stripe.next_owed(ticket).map(|leg| (ticket, leg));
-            push_to(stripe, owed)
+            let owed = gated.stripe.next_owed(ticket).map(|leg| (ticket, leg));
+            push_to(&mut gated.stripe, owed)
         }
         Refusal::Settling => {
-            let owed = stripe.first_owed();
-            push_to(stripe, owed)
+            let owed = gated.stripe.first_owed();
+            push_to(&mut gated.stripe, owed)
         }
-        Refusal::OtherCopy(leg) if (leg as usize) < stripe.legs() => {
-            Helped::Copied(leg, stripe.copy(leg, MOST_RUN as u64, 0))
-        }
+        Refusal::OtherCopy(leg) => copy_to(gated, leg),
         _ => Helped::Nothing,
     }
 }
@@ -156,7 +181,8 @@ impl<L: LegPart, G: Gate + Drop> Mirror<L, G> {
     /// step.
     ///
     /// A region that the last leg in sync cannot be read in is passed over, until `begin_again`.
-    /// Answers how many steps were not refused.
+    /// What a gate refuses is left for a later turn: it waits for no superblock, but wants one to
+    /// be saved wherever that changes something. Answers how many steps were not refused.
     pub fn resync_turn<R: Wait>(&self, rt: &R, round: &mut CopyRound) -> u32
         requires stripes { round.old.stripes ≡ self.now.shape.stripes }
         requires legs { round.old.legs ≡ self.now.shape.legs }
@@ -200,12 +226,16 @@ impl<L: LegPart, G: Gate + Drop> Mirror<L, G> {
         ensures round { (visit : Visit) × (round.new ≡ visited stripe leg visit round.old) }
     {
         let mut held = self.hold(rt, stripe);
-        if (leg as usize) >= held.legs() {
+        if (leg as usize) >= held.gated.stripe.legs() {
             round.visit(stripe, leg, Visit::Rests);
             return None;
         }
-        let tried = bring_up(&mut held, leg, round.place(stripe, leg));
+        let tried = bring_up(&mut held.gated, leg, round.place(stripe, leg));
+        let is_unsaved = held.gated.wants_save();
         drop(held);
+        if is_unsaved {
+            self.want_save(rt);
+        }
         round.visit(stripe, leg, tried.visit());
         tried.step()
     }
@@ -221,7 +251,7 @@ impl<L: LegPart, G: Gate + Drop> Mirror<L, G> {
         let Some(refusal) = first.refusal else {
             return 1;
         };
-        let helped = help(&mut self.hold(rt, stripe), refusal);
+        let helped = help(&mut self.hold(rt, stripe).gated, refusal);
         let Some(second) = helped.step() else {
             return 0;
         };

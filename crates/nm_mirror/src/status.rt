@@ -105,7 +105,7 @@ impl<L: LegPart, G: Gate + Drop> Mirror<L, G> {
         let mut all = Vec::new(alloc);
         all.reserve(self.locks.len())?;
         for lock in &self.locks {
-            all.push_reserved(status_of(&lock.hold(rt), alloc)?);
+            all.push_reserved(status_of(&lock.hold(rt).gated.stripe, alloc)?);
         }
         Ok(all)
     }
@@ -114,6 +114,6 @@ impl<L: LegPart, G: Gate + Drop> Mirror<L, G> {
     pub fn kept<R: Wait>(&self, rt: &R, alloc: Global, stripe: u32) -> Result<Vec<Entry>, Memory>
         requires { stripe < self.now.shape.stripes }
     {
-        self.hold(rt, stripe).entries(alloc)
+        self.hold(rt, stripe).gated.stripe.entries(alloc)
     }
 }

@@ -1,16 +1,16 @@
 ghost use Rattle.std.specs.Prelude.{◌≡◌};
 
-use nm_stripe::End;
+use crate::stripe_end::StripeEnd;
 
 /// What a closed mirror's stripes have had: one end a stripe.
 #[derive(Drop)]
 pub struct Totals<L> {
-    pub(crate) ends: Vec<End<L>>,
+    pub(crate) ends: Vec<StripeEnd<L>>,
 }
 
 impl<L> Totals<L> {
     /// The ends, by rising number of their stripes.
-    pub fn ends(&self) -> &[End<L>]
+    pub fn ends(&self) -> &[StripeEnd<L>]
         ensures { result.now ≡ self.now.ends.items }
     {
         self.ends.as_slice()

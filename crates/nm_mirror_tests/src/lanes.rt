@@ -35,6 +35,16 @@ pub struct Lanes {
 /// Such stripes of this shape.
 pub fn open_lanes<R: Wait>(rt: &R, alloc: Global, shape: Shape) -> Result<Lanes, Fail> {
     let legs = legs_of_zeroes(alloc, &shape)?;
+    open_lanes_on(rt, alloc, shape, legs)
+}
+
+/// Such stripes on these legs.
+pub fn open_lanes_on<R: Wait>(
+    rt: &R,
+    alloc: Global,
+    shape: Shape,
+    legs: Vec<Vec<FuseLeg>>,
+) -> Result<Lanes, Fail> {
     let Ok(stripes) = open_stripes(alloc, &shape, legs, 0, Policy::RoundRobin, Start::Full) else {
         return Err(Fail::new("no stripes"));
     };
@@ -211,7 +221,7 @@ fn a_sync_reaches_each_leg_of_the_stripes_that_are_touched(rt: HostRuntime) -> R
 }
 
 /// Syncs every stripe.
-fn flush<R: Threads + Wait + Sync + Abort>(rt: &R, on: &mut Lanes) -> Result<(), CallError> {
+pub fn flush<R: Threads + Wait + Sync + Abort>(rt: &R, on: &mut Lanes) -> Result<(), CallError> {
     want_lanes(rt, on, 0, 0);
     let lanes = on.lanes.as_mut_slice();
     flush_by(rt, &on.shape, &NoGate, None, &on.locks, lanes)

@@ -22,6 +22,8 @@ mod leaving;
 #[cfg(test)]
 mod legs;
 #[cfg(test)]
+mod losing;
+#[cfg(test)]
 mod meeting;
 #[cfg(test)]
 mod mirrors;
@@ -34,9 +36,13 @@ mod past;
 #[cfg(test)]
 mod reading;
 #[cfg(test)]
+mod reopening;
+#[cfg(test)]
 mod rounds;
 #[cfg(test)]
 mod row;
+#[cfg(test)]
+mod saves;
 #[cfg(test)]
 mod spot_leg;
 #[cfg(test)]

@@ -6,7 +6,7 @@ use bytes::Bytes;
 use nm_geometry::{ByteRange, Shape};
 use nm_lanes::{CallError, Gate, WriteFault};
 use nm_leg::{FuseLeg, LegPart};
-use nm_mirror::{CopyRound, Mirror, Pass, Start, Totals, open_stripes};
+use nm_mirror::{CopyRound, Mirror, Pass, Start, Totals, open_stripes, ungated};
 use nm_replay::BLOCK_BYTES;
 use nm_stripe::Policy;
 use std::alloc::Global;
@@ -47,6 +47,9 @@ pub fn mirror_of<L: LegPart, G: Gate + Drop>(
 ) -> Result<Mirror<L, G>, Fail> {
     let Ok(stripes) = open_stripes(alloc, &shape, legs, 0, Policy::RoundRobin, Start::Full) else {
         return Err(Fail::new("no stripes"));
+    };
+    let Ok(stripes) = ungated(alloc, stripes) else {
+        return Err(Fail::new("no memory"));
     };
     match Mirror::new(alloc, shape, stripes, gate) {
         Ok(mirror) => Ok(mirror),

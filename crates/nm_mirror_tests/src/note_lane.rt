@@ -5,7 +5,7 @@ ghost use Rattle.nm_stripe.specs.Read.{LeavesTarget};
 ghost use Rattle.nm_lanes.specs.Answers.{answer_of_begin, answer_of_claim, answer_of_copy};
 ghost use Rattle.nm_lanes.specs.Answers.{answer_of_push, answer_of_read, answer_of_sync, HandsBack};
 ghost use Rattle.nm_lanes.specs.Done.{done_as};
-ghost use Rattle.nm_mirror.specs.Counting.{Follows};
+ghost use Rattle.nm_mirror_tests.specs.Noting.{Noted};
 
 use nm_fanout::Data;
 use nm_lanes::{Lane, StepKind};
@@ -93,9 +93,9 @@ impl NoteLane {
 
 impl Lane<FuseLeg, Door> for NoteLane {
     ghost use Rattle.std.specs.Prelude.{◌≡◌, refl};
-    ghost use Rattle.nm_mirror.specs.Counting.{Follows, part-joined};
+    ghost use Rattle.nm_mirror_tests.specs.Noting.{Noted, noted-joined};
 
-    ghost follows = { Follows };
+    ghost follows = { Noted };
 
     fn begin<R: Wait>(
         &mut self,
@@ -104,7 +104,7 @@ impl Lane<FuseLeg, Door> for NoteLane {
         block: u64,
         data: Data,
     ) -> Result<Beginning, (Refusal, Data)>
-        ensures follows { Follows {L = FuseLeg} self.old
+        ensures follows { Noted {L = FuseLeg} self.old
             (done_as (step.Begin block «data») (answer_of_begin result) ∷ []) self.new }
         ensures handed_back { HandsBack «data» result }
     {
@@ -118,7 +118,7 @@ impl Lane<FuseLeg, Door> for NoteLane {
     }
 
     fn push<R: Wait>(&mut self, rt: &R, lock: &Door, ticket: u64, leg: u8) -> Result<Reach, Refusal>
-        ensures follows { Follows {L = FuseLeg} self.old
+        ensures follows { Noted {L = FuseLeg} self.old
             (done_as (step.Push ticket leg) (answer_of_push result) ∷ []) self.new }
     {
         let told = self.part.push(&mut lock.lock(rt), ticket, leg);
@@ -132,7 +132,7 @@ impl Lane<FuseLeg, Door> for NoteLane {
         lock: &Door,
         ticket: u64,
     ) -> Result<Written<FuseLeg>, Refusal>
-        ensures follows { Follows {L = FuseLeg} self.old
+        ensures follows { Noted {L = FuseLeg} self.old
             (done_as (step.Claim ticket) (answer_of_claim result) ∷ []) self.new }
     {
         let told = self.part.claim(&mut lock.lock(rt), ticket);
@@ -147,7 +147,7 @@ impl Lane<FuseLeg, Door> for NoteLane {
         block: u64,
         into: &mut [u8],
     ) -> Result<Reading<FuseLeg>, Refusal>
-        ensures follows { Follows {L = FuseLeg} self.old
+        ensures follows { Noted {L = FuseLeg} self.old
             (done_as (step.Read block into.old) (answer_of_read result into.new) ∷ []) self.new }
         ensures target { LeavesTarget result into.old into.new }
     {
@@ -157,7 +157,7 @@ impl Lane<FuseLeg, Door> for NoteLane {
     }
 
     fn sync<R: Wait>(&mut self, rt: &R, lock: &Door, leg: u8) -> Result<Syncing, Refusal>
-        ensures follows { Follows {L = FuseLeg} self.old
+        ensures follows { Noted {L = FuseLeg} self.old
             (done_as (step.Sync leg) (answer_of_sync result) ∷ []) self.new }
     {
         let told = self.part.sync(&mut lock.lock(rt), leg);
@@ -173,7 +173,7 @@ impl Lane<FuseLeg, Door> for NoteLane {
         most: u64,
         from: u64,
     ) -> Result<Copying, Refusal>
-        ensures follows { Follows {L = FuseLeg} self.old
+        ensures follows { Noted {L = FuseLeg} self.old
             (done_as (step.Copy leg most from) (answer_of_copy result) ∷ []) self.new }
     {
         let told = self.part.copy(&mut lock.lock(rt), leg, most, from);
@@ -205,8 +205,8 @@ impl Lane<FuseLeg, Door> for NoteLane {
         self.calls.fetch_sub(1, Ordering::SeqCst);
     }
 
-    ghost stays = { λ part. (refl, tt) };
+    ghost stays = { λ part. refl };
 
     ghost joins = { λ first mid last before after p q.
-        part-joined first mid last before after p q };
+        noted-joined first mid last before after p q };
 }

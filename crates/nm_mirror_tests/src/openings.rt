@@ -3,7 +3,7 @@ use crate::mirrors::{pass_of, read_at, shape};
 use nm_geometry::Shape;
 use nm_lanes::NoGate;
 use nm_leg::FuseLeg;
-use nm_mirror::{Mirror, Start, open_stripes};
+use nm_mirror::{Mirror, Start, open_stripes, ungated};
 use nm_stripe::Policy;
 use std::alloc::Global;
 use std::process::Abort;
@@ -35,6 +35,9 @@ fn open_mirror(alloc: Global, start: Start) -> Result<Mirror<FuseLeg, NoGate>, F
     let legs = legs(alloc, &shape)?;
     let Ok(stripes) = open_stripes(alloc, &shape, legs, 1, Policy::Striped, start) else {
         return Err(Fail::new("no stripes"));
+    };
+    let Ok(stripes) = ungated(alloc, stripes) else {
+        return Err(Fail::new("no memory"));
     };
     match Mirror::new(alloc, shape, stripes, NoGate) {
         Ok(mirror) => Ok(mirror),

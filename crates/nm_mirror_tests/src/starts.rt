@@ -3,7 +3,7 @@ use crate::mirrors::shape;
 use nm_geometry::Shape;
 use nm_lanes::NoGate;
 use nm_leg::FuseLeg;
-use nm_mirror::{Mirror, OpenFault, Start, open_stripes};
+use nm_mirror::{Mirror, OpenFault, Start, open_stripes, ungated};
 use nm_stripe::{Policy, Stripe};
 use std::alloc::Global;
 use std::process::Abort;
@@ -35,6 +35,9 @@ fn shows_status<R: Wait + Abort>(
     let legs = legs(alloc, &shape)?;
     let Ok(stripes) = open_stripes(alloc, &shape, legs, 0, Policy::RoundRobin, start) else {
         return Err(Fail::new("no stripes"));
+    };
+    let Ok(stripes) = ungated(alloc, stripes) else {
+        return Err(Fail::new("no memory"));
     };
     let mirror = match Mirror::new(alloc, shape, stripes, NoGate) {
         Ok(mirror) => mirror,

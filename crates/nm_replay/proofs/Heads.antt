@@ -20,15 +20,6 @@ joined-drop (suc n) (h ∷ hs) bs =
     let next : 512 + 512 * n ≡ 512 * suc n = omega arith in
     joined-drop n hs (drop 512 bs) ∙ ap (λ rest. joined (drop n hs) rest) (drop-drop (512 * n) 512 bs ∙ ap (λ k. drop k bs) next)
 
--- bytes past those of the heads are of no entry
-pub joined-over : (hs : List Head) (bs more : List ℕ) → 512 * length hs ≤ length bs → joined hs (bs ++ more) ≡ joined hs bs
-joined-over [] bs more enough = refl
-joined-over (h ∷ hs) bs more enough =
-    let one : 512 ≤ length bs = omega arith in
-    let rest : 512 * length hs ≤ length (drop 512 bs) = omega (arith, enough, length-drop 512 bs) in
-    ap (λ b. entry_of h b ∷ joined hs (drop 512 (bs ++ more))) (take-append-le 512 bs more one)
-    ∙ ap (λ es. entry_of h (take 512 bs) ∷ es) (ap (λ b. joined hs b) (drop-append-le 512 bs more one) ∙ joined-over hs (drop 512 bs) more rest)
-
 pub joined-push : (hs : List Head) (h : Head) (bs : List ℕ) → joined (hs ++ h ∷ []) bs ≡ joined hs bs ++ entry_of h (take 512 (drop (512 * length hs) bs)) ∷ []
 joined-push [] h bs = refl
 joined-push (g ∷ hs) h bs =

@@ -55,6 +55,7 @@ pub mod ReadLegLemmas
 pub mod ReadLemmas
 pub mod RecordLemmas
 pub mod RelabelLemmas
+pub mod ReopeningLemmas
 pub mod ReplaceLemmas
 pub mod RunBeginLemmas
 pub mod RunBeginSteps

@@ -20,6 +20,7 @@ pub mod Promote
 pub mod Push
 pub mod Read
 pub mod Refusal
+pub mod Reopening
 pub mod RunBegin
 pub mod RunCalls
 pub mod RunClaim

@@ -6,9 +6,11 @@
 #![tactic(auto)]
 
 pub use at::At;
+pub use leg_opening::LegOpening;
 pub use open_fault::OpenFault;
 pub use refusal::Refusal;
 
 mod at;
+mod leg_opening;
 mod open_fault;
 mod refusal;

@@ -42,6 +42,8 @@ pub enum Refusal {
     NotJoining,
     /// The step was asked of a stripe that is not the caller's.
     Astray,
+    /// A superblock could not be saved.
+    SaveFailed,
 }
 
 impl Refusal {
@@ -66,6 +68,7 @@ impl Refusal {
             Refusal::OtherCopy(_) => 14,
             Refusal::NotJoining => 15,
             Refusal::Astray => 17,
+            Refusal::SaveFailed => 18,
         }
     }
 }
@@ -91,6 +94,7 @@ impl fmt::Display for Refusal {
             Refusal::OtherCopy(leg) => write!(f, "14 OtherCopy {leg}"),
             Refusal::NotJoining => f.write_str("15 NotJoining"),
             Refusal::Astray => f.write_str("17 Astray"),
+            Refusal::SaveFailed => f.write_str("18 SaveFailed"),
         }
     }
 }

@@ -1,4 +1,5 @@
 pub mod SlotFile
 pub mod FileState
 pub mod Files
+pub mod Renewing
 pub mod SavingAll

@@ -16,6 +16,7 @@ mod fitting;
 mod found;
 mod knowing;
 mod named;
+mod renewing;
 mod saving;
 mod slot_file;
 mod superblock_file;

@@ -14,13 +14,13 @@ use std::marker::Model;
 /// The files of a mirror's superblock, one beside each leg that has one.
 #[derive(Drop)]
 pub struct SuperblockFiles<F: SlotFile> {
-    files: Vec<Option<SuperblockFile<F>>>,
+    pub(crate) files: Vec<Option<SuperblockFile<F>>>,
     /// The last superblock whose save was done.
-    image: Superblock,
+    pub(crate) image: Superblock,
     /// No generation that was tried is higher, and no stamp that was in the files.
-    highest: u64,
+    pub(crate) highest: u64,
     /// The first error of each leg's file.
-    errors: [Option<io::Error>; 8],
+    pub(crate) errors: [Option<io::Error>; 8],
 }
 
 impl<F: SlotFile> Model for SuperblockFiles<F> {

@@ -4,7 +4,7 @@ use Rattle.nm_geometry.specs.Geometry.{Geometry}
 use Rattle.nm_lanes.specs.Ends.{EachLane}
 use Rattle.nm_part.specs.PartState.{PartState}
 use Rattle.nm_server.specs.Calls.{Acts}
-use Rattle.nm_session.specs.declared.target_fault.TargetFault.TheVariants.{Memory, Io}
+use Rattle.nm_session.specs.declared.target_fault.TargetFault.TheVariants.{Memory, Io, Full}
 use Rattle.nm_session.specs.Target.{TargetCall, Reads, Writes, Zeroes, Flushes, Syncs}
 
 -- lanes that go each from one state to another are as many after it
@@ -23,18 +23,26 @@ as-many L shape (Reads offset bytes (Ok done)) old new acts = acts.does.leads.as
 as-many L shape (Reads offset bytes (Err Memory)) old new acts = absurd acts
 as-many L shape (Reads offset bytes (Err Io)) old new acts =
     each-as-many _ 0 old new acts.1.tried.each
+as-many L shape (Reads offset bytes (Err Full)) old new acts = absurd acts
 as-many L shape (Writes offset bytes (Ok done)) old new acts = acts.does.leads.as_many
 as-many L shape (Writes offset bytes (Err Memory)) old new acts = ap length acts
 as-many L shape (Writes offset bytes (Err Io)) old new acts =
+    each-as-many _ 0 old new acts.1.tried.each
+as-many L shape (Writes offset bytes (Err Full)) old new acts =
     each-as-many _ 0 old new acts.1.tried.each
 as-many L shape (Zeroes offset count (Ok done)) old new acts = acts.does.leads.as_many
 as-many L shape (Zeroes offset count (Err Memory)) old new acts = absurd acts
 as-many L shape (Zeroes offset count (Err Io)) old new acts =
     each-as-many _ 0 old new acts.1.tried.each
+as-many L shape (Zeroes offset count (Err Full)) old new acts =
+    each-as-many _ 0 old new acts.1.tried.each
 as-many L shape (Flushes (Ok done)) old new acts = acts.does.leads.as_many
 as-many L shape (Flushes (Err Memory)) old new acts = absurd acts
 as-many L shape (Flushes (Err Io)) old new acts = each-as-many _ 0 old new acts.1.tried.each
+as-many L shape (Flushes (Err Full)) old new acts = each-as-many _ 0 old new acts.1.tried.each
 as-many L shape (Syncs offset count (Ok done)) old new acts = acts.does.leads.as_many
 as-many L shape (Syncs offset count (Err Memory)) old new acts = absurd acts
 as-many L shape (Syncs offset count (Err Io)) old new acts =
+    each-as-many _ 0 old new acts.1.tried.each
+as-many L shape (Syncs offset count (Err Full)) old new acts =
     each-as-many _ 0 old new acts.1.tried.each

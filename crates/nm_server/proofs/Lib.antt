@@ -1,2 +1,2 @@
 mod Evenness
-mod Pushing
+mod Telling

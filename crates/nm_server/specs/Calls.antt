@@ -1,5 +1,6 @@
 -- What a session's calls do to a mirror, through a pass.
-use Rattle.std.specs.Prelude.{◌≡◌, ◌≤◌, ◌+◌, ◌*◌, ℕ, List, [], ◌∷◌, ◌++◌, length, Ok, Err, refl}
+use Rattle.std.specs.Prelude.{◌≡◌, ◌≤◌, ◌+◌, ◌*◌, ℕ, Bool, true, List, [], ◌∷◌, ◌++◌, length}
+use Rattle.std.specs.Prelude.{Ok, Err, refl}
 use Rattle.std.proofs.Common.{◌∙◌}
 use Rattle.nm_geometry.specs.declared.byte_range.ByteRange.{ByteRange}
 use Rattle.nm_geometry.specs.Geometry.{Geometry}
@@ -12,9 +13,9 @@ use Rattle.nm_lanes.specs.Writes.{HasWritten, HasWrittenSome}
 use Rattle.nm_mirror.specs.Counting.{Follows}
 use Rattle.nm_mirror.specs.declared.pass.Pass.{Pass}
 use Rattle.nm_part.specs.PartState.{PartState}
-use Rattle.nm_server.specs.declared.mirror_call.MirrorCall.{MirrorCall}
-use Rattle.nm_server.specs.declared.mirror_call.MirrorCall.TheVariants as mirror
-use Rattle.nm_session.specs.declared.target_fault.TargetFault.TheVariants.{Memory, Io}
+use Rattle.nm_reports.specs.declared.mirror_call.MirrorCall.{MirrorCall}
+use Rattle.nm_reports.specs.declared.mirror_call.MirrorCall.TheVariants as mirror
+use Rattle.nm_session.specs.declared.target_fault.TargetFault.TheVariants.{Memory, Io, Full}
 use Rattle.nm_session.specs.Target.{Answer, TargetCall}
 use Rattle.nm_session.specs.Target.{Reads, Writes, Zeroes, Flushes, Syncs}
 
@@ -33,6 +34,11 @@ end_of (mirror.Write offset payload) room = offset + length payload
 end_of (mirror.Zero offset count) room = offset + count
 end_of mirror.Flush room = 0
 end_of (mirror.Sync offset count) room = offset + count
+
+-- what is told of an answer: that there is no space left, where that is all that can have failed
+abbrev pub told : (is_full : Bool) → Answer → Answer
+told true (Err Io) = Err Full
+told is_full answer = answer
 
 -- the bytes of the call lie in the export
 abbrev pub IsInside : Geometry → MirrorCall → (room : ℕ) → Type 0
@@ -56,6 +62,7 @@ abbrev pub Read : (L : Type 0) → Geometry → ByteRange → List ℕ → Answe
 Read L shape range bytes (Ok done) parts =
     HasRead {L = L} Follows shape (runs_of_range shape range) parts bytes
 Read L shape range bytes (Err Memory) parts = ⊥
+Read L shape range bytes (Err Full) parts = ⊥
 Read L shape range bytes (Err Io) parts =
     (cause : CallError) × HasReadSome {L = L} Follows shape (runs_of_range shape range) parts cause
 
@@ -65,7 +72,7 @@ abbrev pub Write : (L : Type 0) → Geometry → ByteRange → List ℕ → Answ
 Write L shape range bytes (Ok done) parts =
     HasWritten {L = L} Follows shape (cuts_for (runs_of_range shape range) bytes) parts
 Write L shape range bytes (Err Memory) parts = parts.1 ≡ parts.0
-Write L shape range bytes (Err Io) parts =
+Write L shape range bytes (Err fault) parts =
     (cause : CallError)
     × HasWrittenSome {L = L} Follows shape (cuts_for (runs_of_range shape range) bytes) parts cause
 
@@ -74,7 +81,7 @@ abbrev pub Zero : (L : Type 0) → Geometry → ByteRange → Answer → Parts �
 Zero L shape range (Ok done) parts =
     HasWritten {L = L} Follows shape (zeroes_for (runs_of_range shape range)) parts
 Zero L shape range (Err Memory) parts = ⊥
-Zero L shape range (Err Io) parts =
+Zero L shape range (Err fault) parts =
     (cause : CallError)
     × HasWrittenSome {L = L} Follows shape (zeroes_for (runs_of_range shape range)) parts cause
 
@@ -83,7 +90,7 @@ Zero L shape range (Err Io) parts =
 abbrev pub Sync : (L : Type 0) → Geometry → (ℕ → Type 0) → Answer → Parts → Type 0
 Sync L shape Synced (Ok done) parts = HasFlushed {L = L} Follows shape.legs Synced parts
 Sync L shape Synced (Err Memory) parts = ⊥
-Sync L shape Synced (Err Io) parts =
+Sync L shape Synced (Err fault) parts =
     (cause : CallError) × HasFlushedSome {L = L} Follows shape.legs Synced parts cause
 
 -- what a call does, answered so, through a pass that has a part for each stripe

@@ -1,10 +1,3 @@
-pub mod Address
-pub mod Alike
 pub mod Calls
-pub mod Files
 pub mod Handshake
-pub mod Replies
 pub mod Rounds
-pub mod StartFault
-pub mod Starting
-pub mod Unread

@@ -1,11 +1,9 @@
 //! What the control port answers before there is a mirror.
 
-use crate::listener::Listener;
-use crate::progress::Comparison;
-use crate::stream::Stream;
-use crate::timed_stream::TimedStream;
 use crossbeam_channel::{Receiver, RecvTimeoutError};
 use nm_commands::{Fed, LineRoom};
+use nm_reports::Comparison;
+use nm_sockets::{Listener, Stream, TimedStream};
 use std::alloc::Global;
 use std::cell::Cell;
 use std::io;

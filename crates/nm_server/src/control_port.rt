@@ -1,17 +1,9 @@
 //! The control port's threads.
 
-use crate::answering::control;
-use crate::control_places::{CONNECTIONS, ControlPlaces};
-use crate::control_stream::ControlStream;
-use crate::controlled::Controlled;
+use crate::answering::AnswersControl;
 use crate::ending::{Ending, Quit};
-use crate::incidents::Incident;
-use crate::listener::Listener;
-use crate::log_lines::LogLines;
-use crate::stream::Stream;
-use crate::timed_stream::TimedStream;
-use nm_lanes::Gate;
-use nm_leg::LegPart;
+use nm_reports::{Incident, LogLines};
+use nm_sockets::{CONNECTIONS, ControlPlaces, ControlStream, Listener, Stream, TimedStream};
 use std::alloc::Global;
 use std::cell::Cell;
 use std::net::{Net, Shutdown, TcpListener, TcpStream};
@@ -45,29 +37,29 @@ fn one_way<'a, R: Clock>(
 }
 
 // Serves one connection to its end, and tells how it asked the server to end, if it did.
-fn serve_connection<R: Wait + Clock, L: LegPart, G: Gate + Drop>(
+fn serve_connection<R: Wait + Clock, S: AnswersControl>(
     rt: &R,
     alloc: Global,
     stream: &Stream,
     places: &ControlPlaces,
     number: usize,
-    server: &Controlled<'_, L, G>,
+    server: &S,
 ) -> Option<Quit> {
     let begun = Cell::new(Instant::now(rt).ok()?);
     let mut reader = one_way(rt, stream, &begun, places, number);
     let mut writer = one_way(rt, stream, &begun, places, number);
-    control(rt, alloc, &mut reader, &mut writer, server)
+    server.answer(rt, alloc, &mut reader, &mut writer)
 }
 
 /// Serves the connections that get the place of this number, one after the other, until the places
 /// are closed. One that asks the server to end has the clients' listener end.
-fn serve_seat<R, L: LegPart, G: Gate + Drop>(
+fn serve_seat<R, S: AnswersControl>(
     rt: &R,
     alloc: Global,
     places: &ControlPlaces,
     number: usize,
     clients: &Listener,
-    server: &Controlled<'_, L, G>,
+    server: &S,
     ending: &Ending,
 )
 where
@@ -122,12 +114,12 @@ fn take_connections<R: Wait + Clock>(
 /// Serves the control port, four connections at once, until the server has ended: also while the
 /// last clients are served. Where a thread could not be started it answers false, and the server
 /// ends.
-pub fn serve_control<R, L: LegPart + Send, G: Gate + Drop + Sync>(
+pub fn serve_control<R, S: AnswersControl + Sync>(
     rt: &R,
     alloc: Global,
     listeners: (&Listener, &Listener),
     places: &ControlPlaces,
-    controlled: Controlled<'_, L, G>,
+    controlled: &S,
     ending: &Ending,
     has_ended: &AtomicBool,
     lines: &LogLines,
@@ -136,7 +128,7 @@ where
     R: Threads + Wait + Sync + Clock + Net<Listener = TcpListener, Stream = TcpStream>,
 {
     let (clients, control) = listeners;
-    let server = &controlled;
+    let server = controlled;
     thread::scope(thread::scope_env(), rt, |scope| {
         for number in 0..CONNECTIONS {
             let start = scope.spawn(move || {

@@ -3,15 +3,13 @@ ghost use Rattle.nm_server.specs.Rounds.{IsRoundOf};
 
 use crate::copy_orders::CopyOrders;
 use crate::healing::Healing;
-use crate::leg_lines::LegLines;
-use crate::leg_opener::OpensLegs;
-use crate::leg_story::LegStory;
-use crate::log_lines::LogLines;
-use crate::unread::UnreadList;
+use crate::verifier::Verifier;
 use nm_geometry::Shape;
 use nm_lanes::Gate;
 use nm_leg::LegPart;
+use nm_leg_files::OpensLegs;
 use nm_mirror::{CopyRound, Mirror};
+use nm_reports::{LegLines, LegStory, LogLines, UnreadList};
 use std::alloc::{AllocError, Global};
 use std::sync::Wait;
 use std::time::Clock;
@@ -25,6 +23,7 @@ pub struct Copier {
     round: CopyRound,
     story: LegStory,
     healing: Option<Healing>,
+    verifier: Verifier,
     ghost fits: { IsRoundOf shape round },
 }
 
@@ -45,6 +44,7 @@ impl Copier {
             round,
             story,
             healing,
+            verifier: Verifier::new(alloc)?,
         })
     }
 
@@ -59,6 +59,18 @@ impl Copier {
             return 0;
         }
         mirror.resync_turn(rt, &mut self.round)
+    }
+
+    /// Takes a turn at comparing legs, where that is asked for. How many runs were looked at.
+    pub fn verify<R: Wait + Clock, L: LegPart, G: Gate + Drop>(
+        &mut self,
+        rt: &R,
+        mirror: &Mirror<L, G>,
+        orders: &CopyOrders,
+        lines: &LogLines,
+        now: u64,
+    ) -> u32 {
+        self.verifier.turn(rt, mirror, orders.verify(), lines, now)
     }
 
     /// Tells how each leg stands, as the server begins or ends.

@@ -1,11 +1,16 @@
-//! What an administrator wants of copies: at what rate they go, and which legs stay out.
+//! What an administrator wants of copies: at what rate they go, which legs stay out, and whether
+//! legs are compared.
 ghost use Rattle.std.specs.Prelude.{◌<◌, IfSome};
 
+use crate::missing_legs::MissingLegs;
+use crate::replacing::{RenewsLegs, Replaced, replace_now};
+use crate::verify_desk::VerifyDesk;
 use nm_geometry::MOST_LEGS;
 use nm_lanes::Gate;
 use nm_leg::LegPart;
 use nm_mirror::{AttachCounts, FailCounts, Mirror};
-use std::sync::atomic::{AtomicU32, Ordering};
+use std::alloc::Global;
+use std::sync::atomic::{AtomicBool, AtomicU32, Ordering};
 use std::sync::{Mutex, Wait};
 
 /// How many legs there are at most.
@@ -14,19 +19,30 @@ const LEGS: usize = MOST_LEGS as usize;
 /// Whether each leg was taken out by hand, and not attached since.
 pub type ByHand = [bool; LEGS];
 
-/// The rate of copies, and the legs that were taken out by hand.
+/// The rate of copies, the legs that were taken out by hand, those that are being replaced, the
+/// order to compare legs, and whether copies begin again.
 #[derive(Drop)]
 pub struct CopyOrders {
     // In MiB a second; 0 where none is set.
     rate: AtomicU32,
     by_hand: Mutex<ByHand>,
+    verify: VerifyDesk,
+    // Nobody waits for a lock who has this one.
+    replaced: Mutex<ByHand>,
+    wants_round: AtomicBool,
+    missing: MissingLegs,
 }
 
-// Notes of a leg whether it was taken out by hand.
-fn note(by_hand: &mut ByHand, leg: u8, is_out: bool) {
-    if let Some(place) = by_hand.get_mut(leg as usize) {
-        *place = is_out;
+// Notes of a leg whether it is so.
+fn note(legs: &mut ByHand, leg: u8, is_so: bool) {
+    if let Some(place) = legs.get_mut(leg as usize) {
+        *place = is_so;
     }
+}
+
+// Whether the leg is noted.
+fn is_noted(legs: &ByHand, leg: u8) -> bool {
+    legs.get(leg as usize).copied().unwrap_or(false)
 }
 
 impl CopyOrders {
@@ -35,7 +51,28 @@ impl CopyOrders {
         CopyOrders {
             rate: AtomicU32::new(u32::from(rate.unwrap_or(0))),
             by_hand: Mutex::new([false; LEGS]),
+            verify: VerifyDesk::new(),
+            replaced: Mutex::new([false; LEGS]),
+            wants_round: AtomicBool::new(false),
+            missing: MissingLegs::none(),
         }
+    }
+
+    /// The same, and these legs are missing.
+    pub fn with_missing(self, missing: MissingLegs) -> CopyOrders {
+        let mut own = self;
+        own.missing = missing;
+        own
+    }
+
+    /// The legs whose files are missing.
+    pub fn missing(&self) -> &MissingLegs {
+        &self.missing
+    }
+
+    /// Where a verification is ordered.
+    pub fn verify(&self) -> &VerifyDesk {
+        &self.verify
     }
 
     /// At how many MiB a second legs are copied, where that is set.
@@ -52,39 +89,108 @@ impl CopyOrders {
         self.rate.store(mib, Ordering::SeqCst);
     }
 
-    /// Takes the leg out of every stripe by hand, and counts what came of it.
+    /// Has copies begin again: a stripe was opened anew.
+    pub fn want_new_round(&self) {
+        self.wants_round.store(true, Ordering::SeqCst);
+    }
+
+    /// Whether copies are to begin again, which is said once.
+    pub fn take_new_round(&self) -> bool {
+        self.wants_round.swap(false, Ordering::SeqCst)
+    }
+
+    /// Takes the leg out of every stripe by hand, and counts what came of it: none while it is being
+    /// replaced.
     pub fn fail<R: Wait, L: LegPart, G: Gate + Drop>(
         &self,
         rt: &R,
         mirror: &Mirror<L, G>,
         leg: u8,
-    ) -> FailCounts
+    ) -> Option<FailCounts>
         requires { leg < mirror.now.shape.legs }
     {
         let mut by_hand = self.by_hand.lock(rt);
+        if is_noted(&self.replaced.lock(rt), leg) {
+            return None;
+        }
         let counts = mirror.fail_leg(rt, leg);
         if counts.failed > 0 || counts.out > 0 {
             note(&mut by_hand, leg, true);
         }
-        counts
+        Some(counts)
     }
 
-    /// Lets the leg join every stripe again by hand, and counts what came of it.
+    /// Lets the leg join every stripe again by hand, and counts what came of it: none while it is
+    /// being replaced.
     pub fn attach<R: Wait, L: LegPart, G: Gate + Drop>(
         &self,
         rt: &R,
         mirror: &Mirror<L, G>,
         leg: u8,
-    ) -> AttachCounts
+    ) -> Option<AttachCounts>
         requires { leg < mirror.now.shape.legs }
     {
         let mut by_hand = self.by_hand.lock(rt);
+        if is_noted(&self.replaced.lock(rt), leg) {
+            return None;
+        }
         note(&mut by_hand, leg, false);
-        mirror.attach_leg(rt, leg)
+        Some(mirror.attach_leg(rt, leg))
     }
 
-    /// The same by itself: none where the leg was taken out by hand, or a command on legs is under
-    /// way.
+    /// Whether the leg is being replaced.
+    pub fn is_replaced<R: Wait>(&self, rt: &R, leg: u8) -> bool {
+        is_noted(&self.replaced.lock(rt), leg)
+    }
+
+    // Notes that the leg is being replaced, unless it is so already, or is taken out or attached
+    // right now. Until that ends it is out by hand. Whether it was noted.
+    fn begin_replace<R: Wait>(&self, rt: &R, leg: u8) -> Option<bool> {
+        let mut by_hand = self.by_hand.lock(rt);
+        let mut replaced = self.replaced.lock(rt);
+        if is_noted(&replaced, leg) {
+            return None;
+        }
+        let was_out = is_noted(&by_hand, leg);
+        note(&mut replaced, leg, true);
+        note(&mut by_hand, leg, true);
+        Some(was_out)
+    }
+
+    /// Puts a leg on a file that is opened anew in the place of this one in every stripe. Where that
+    /// is not done once it is out, it is out by hand.
+    pub fn replace<R: Wait, L: LegPart, G: Gate + Drop, N: RenewsLegs<L>>(
+        &self,
+        rt: &R,
+        alloc: Global,
+        mirror: &Mirror<L, G>,
+        leg: u8,
+        legs: &N,
+    ) -> Replaced
+        requires { leg < mirror.now.shape.legs }
+    {
+        let Some(was_out) = self.begin_replace(rt, leg) else {
+            return Replaced::Busy;
+        };
+        let replaced = replace_now(rt, alloc, mirror, leg, legs);
+        let is_out = match replaced {
+            Replaced::Done(counts) => counts.joining == 0 && was_out,
+            Replaced::Last | Replaced::Busy => was_out,
+            Replaced::NotSaved | Replaced::Unrenewed(_) => true,
+        };
+        if let Replaced::Done(counts) = replaced {
+            if counts.joining > 0 || counts.out > 0 {
+                self.missing.remove(leg);
+            }
+        }
+        let mut by_hand = self.by_hand.lock(rt);
+        note(&mut by_hand, leg, is_out);
+        note(&mut self.replaced.lock(rt), leg, false);
+        replaced
+    }
+
+    /// Lets the leg join by itself: none where the leg was taken out by hand, or a command on legs
+    /// is under way.
     pub fn attach_by_itself<R: Wait, L: LegPart, G: Gate + Drop>(
         &self,
         rt: &R,

@@ -6,6 +6,7 @@ use crate::session_places::SessionPlaces;
 use nm_lanes::Gate;
 use nm_leg::LegPart;
 use nm_mirror::Mirror;
+use nm_reports::LogLines;
 use nm_service::{CopyTurn, rest_after};
 use std::sync::Wait;
 use std::thread;
@@ -58,15 +59,47 @@ impl CopyPacer {
         if steps == 0 {
             return false;
         }
+        self.rest_after(rt, steps, &begun, places, orders);
+        true
+    }
+
+    /// Takes a turn at comparing legs, as copies take theirs. Whether it did anything.
+    pub fn verify<R: Wait + Clock, L: LegPart, G: Gate + Drop>(
+        &mut self,
+        rt: &R,
+        copier: &mut Copier,
+        mirror: &Mirror<L, G>,
+        places: &SessionPlaces,
+        orders: &CopyOrders,
+        lines: &LogLines,
+        now: u64,
+    ) -> bool {
+        let begun = Instant::now(rt).ok();
+        let runs = copier.verify(rt, mirror, orders, lines, now);
+        if runs == 0 {
+            return false;
+        }
+        self.rest_after(rt, runs.saturating_mul(2), &begun, places, orders);
+        true
+    }
+
+    // Rests after so many steps since this moment.
+    fn rest_after<R: Clock>(
+        &mut self,
+        rt: &R,
+        steps: u32,
+        begun: &Option<Instant>,
+        places: &SessionPlaces,
+        orders: &CopyOrders,
+    ) {
         let calls = places.calls();
         let turn = CopyTurn {
             bytes: steps.saturating_mul(STEP_BYTES),
-            took: microseconds_since(rt, &begun),
+            took: microseconds_since(rt, begun),
             is_shared: calls != self.calls,
         };
         self.calls = calls;
         self.rest = rest_after(orders.rate(), &turn);
-        true
     }
 }
 

@@ -2,12 +2,12 @@
 ghost use Rattle.std.specs.Prelude.{length};
 ghost use Rattle.nm_server.specs.Calls.{Acts, IsEven, IsInside, answered};
 
-use crate::activity::Activity;
-use crate::mirror_call::MirrorCall;
 use crate::mirror_calls::MirrorCalls;
 use nm_geometry::Shape;
 use nm_mirror::Pass;
+use nm_reports::MirrorCall;
 use nm_session::TargetFault;
+use nm_sockets::Activity;
 use std::sync::atomic::AtomicBool;
 
 /// Calls of a mirror, of which the session's activity tells while they are under way.

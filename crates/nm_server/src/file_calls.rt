@@ -1,17 +1,15 @@
 //! The calls of the mirror that the program serves.
-ghost use Rattle.std.specs.Prelude.{length};
-ghost use Rattle.nm_server.specs.Calls.{Acts, IsEven, IsInside, answered};
+ghost use Rattle.std.specs.Prelude.{◌≡◌, length};
+ghost use Rattle.nm_server.specs.Calls.{Acts, IsEven, IsInside, answered, told};
 
-use crate::call_counts::{CallCounts, CallKind, bytes_of};
-use crate::elapsed::microseconds_since;
-use crate::leg_files::{FileMirror, Leg};
-use crate::mirror_call::MirrorCall;
 use crate::mirror_calls::MirrorCalls;
 use crate::session_places::SessionPlaces;
 use nm_geometry::Shape;
 use nm_lanes::{Gate, WriteFault};
 use nm_leg::LegPart;
+use nm_leg_files::{FileMirror, Leg};
 use nm_mirror::{Mirror, Pass};
+use nm_reports::{Metrics, MirrorCall, MirrorCallKind, bytes_of, microseconds_since};
 use nm_session::TargetFault;
 use std::alloc::Global;
 use std::marker::{Send, Sync};
@@ -27,8 +25,19 @@ pub struct FileCalls<'a, R> {
     pub(crate) rt: &'a R,
     pub(crate) alloc: Global,
     pub(crate) mirror: &'a FileMirror,
-    pub(crate) counts: Option<&'a CallCounts>,
+    pub(crate) metrics: &'a Metrics,
+    pub(crate) place: usize,
     pub(crate) places: &'a SessionPlaces,
+}
+
+// What is told of an answer: that there is no space left, where that is all that can have failed.
+fn told(answer: Result<(), TargetFault>, is_full: bool) -> Result<(), TargetFault>
+    ensures { result ≡ told is_full answer }
+{
+    match answer {
+        Err(TargetFault::Io) if is_full => Err(TargetFault::Full),
+        _ => answer,
+    }
 }
 
 impl<'a, R: Threads + Wait + Sync + Copy + Clock> MirrorCalls<Leg> for FileCalls<'a, R> {
@@ -50,10 +59,11 @@ impl<'a, R: Threads + Wait + Sync + Copy + Clock> MirrorCalls<Leg> for FileCalls
         is_gone: Option<&AtomicBool>,
     ) -> Result<(), TargetFault> {
         self.places.count_call();
-        let (kind, bytes) = (CallKind::of(&call), bytes_of(&call, into.len()));
+        let (kind, bytes) = (MirrorCallKind::of(&call), bytes_of(&call, into.len()));
+        let changes = call.changes();
         let begun = Instant::now(self.rt).ok();
         let answer = call_mirror(self.rt, self.alloc, self.mirror, pass, call, into, is_gone);
-        if let Some(counts) = self.counts {
+        if let Some(counts) = self.metrics.calls_of(self.place) {
             counts.note(
                 kind,
                 bytes,
@@ -61,7 +71,7 @@ impl<'a, R: Threads + Wait + Sync + Copy + Clock> MirrorCalls<Leg> for FileCalls
                 answer.is_ok(),
             );
         }
-        answer
+        told(answer, changes && self.metrics.is_full_alone())
     }
 }
 

@@ -1,22 +1,20 @@
 //! Attaches legs again that went out by a failed call.
 
 use crate::copy_orders::CopyOrders;
-use crate::leg_opener::OpensLegs;
-use crate::leg_place::{Hindrance, LegPlace};
-use crate::leg_story::LegStory;
-use crate::log_lines::LogLines;
 use nm_lanes::Gate;
 use nm_leg::LegPart;
+use nm_leg_files::{Hindrance, LegPlace, OpensLegs};
 use nm_mirror::Mirror;
+use nm_reports::{LegStory, LogLines};
 use nm_service::{AttachTime, AutoAttach, LegEvent, event_of};
 use std::alloc::{AllocError, Global};
-use std::sync::Wait;
+use std::sync::{Arc, Wait};
 
 // A leg, when it is attached again, and the time of the next try that was told.
 #[derive(Drop)]
 struct HealingLeg {
     number: u8,
-    place: LegPlace,
+    place: Arc<LegPlace>,
     tries: AutoAttach,
     told: Option<u64>,
 }
@@ -51,6 +49,29 @@ impl HealingLeg {
         );
     }
 
+    // Opens the file of a leg that was missing, where somebody waits for it.
+    fn find_wanted<R: Wait, O: OpensLegs>(
+        &self,
+        rt: &R,
+        alloc: Global,
+        opener: &O,
+        orders: &CopyOrders,
+        lines: &LogLines,
+    ) {
+        let (leg, name) = (self.number, self.place.name());
+        if !orders.missing().is_wanted(leg) {
+            return;
+        }
+        match self.place.check(opener) {
+            Ok(()) => orders.missing().remove(leg),
+            Err(why) => {
+                let text = format!(in alloc; "leg {leg} ({name}): not attached: {why}");
+                lines.warn(rt, text);
+            }
+        }
+        orders.missing().answer(leg);
+    }
+
     // Checks the leg's file, and attaches the leg.
     fn attach<R: Wait, O: OpensLegs, L: LegPart, G: Gate + Drop>(
         &self,
@@ -60,6 +81,7 @@ impl HealingLeg {
         orders: &CopyOrders,
     ) -> Result<(), Hindrance> {
         self.place.check(opener)?;
+        orders.missing().remove(self.number);
         let Some(counts) = orders.attach_by_itself(rt, mirror, self.number) else {
             return Err(Hindrance::Command);
         };
@@ -120,15 +142,20 @@ impl HealingLeg {
     }
 }
 
-/// The legs that are attached again by themselves.
+/// The legs that are attached again by themselves, or once somebody wants those that were missing.
 #[derive(Drop)]
 pub struct Healing {
     legs: Vec<HealingLeg>,
+    by_itself: bool,
 }
 
 impl Healing {
-    /// The legs on these files, from leg 0 on.
-    pub fn new(alloc: Global, places: Vec<LegPlace>) -> Result<Healing, AllocError> {
+    /// The legs on these files, from leg 0 on, which are attached again by themselves or not.
+    pub fn new(
+        alloc: Global,
+        places: Vec<Arc<LegPlace>>,
+        by_itself: bool,
+    ) -> Result<Healing, AllocError> {
         let mut legs = Vec::new(alloc);
         for (number, place) in places.into_iter().enumerate() {
             legs.push(HealingLeg {
@@ -138,7 +165,7 @@ impl Healing {
                 told: None,
             })?;
         }
-        Ok(Healing { legs })
+        Ok(Healing { legs, by_itself })
     }
 
     /// Looks at how each leg stands at this time, in milliseconds, and attaches those that are due.
@@ -158,6 +185,10 @@ impl Healing {
             return;
         };
         for leg in self.legs.iter_mut() {
+            leg.find_wanted(rt, alloc, opener, orders, lines);
+            if !self.by_itself {
+                continue;
+            }
             let number = leg.number as usize;
             let is_out = by_hand.get(number).copied().unwrap_or(false);
             let event = event_of(&story.sight(number), is_out);

@@ -3,9 +3,9 @@ ghost use Rattle.std.specs.Prelude.{◌≡◌, length};
 ghost use Rattle.nm_geometry.specs.Geometry.{Geometry};
 ghost use Rattle.nm_server.specs.Calls.{Acts, IsEven, IsInside, answered};
 
-use crate::mirror_call::MirrorCall;
 use nm_geometry::Shape;
 use nm_mirror::Pass;
+use nm_reports::MirrorCall;
 use nm_session::TargetFault;
 use std::marker::{Model, PhantomData};
 use std::sync::Mutex;

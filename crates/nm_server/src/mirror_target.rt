@@ -3,11 +3,11 @@ ghost use Rattle.std.specs.Prelude.{◌≡◌, ◌*◌, ◌↔◌, [], ◌∷◌
 ghost use Rattle.nm_server.specs.Calls.{IsEven, IsInside, Leads, answered, leads-nowhere};
 ghost use Rattle.nm_server.specs.Calls.{leads-on, state_of};
 
-use crate::mirror_call::MirrorCall;
 use crate::mirror_calls::{MirrorCalls, ReadyMirror};
 use bytes::Bytes;
 use nm_geometry::Shape;
 use nm_mirror::Pass;
+use nm_reports::MirrorCall;
 use nm_session::{Target, TargetFault};
 use std::sync::atomic::AtomicBool;
 

@@ -1,128 +1,65 @@
 //! The whole program: from its command line to its exit status.
 ghost use Rattle.std.specs.Prelude.{◌≡◌};
 ghost use Rattle.clap.specs.Values.{kind_of};
-ghost use Rattle.nm_server.specs.StartFault.{status_of, status_of_words};
+ghost use Rattle.nm_reports.specs.StartFault.{status_of, status_of_words};
 
-use crate::address::Address;
-use crate::answering_meanwhile::answer_meanwhile;
 use crate::copier::Copier;
 use crate::copy_orders::CopyOrders;
-use crate::counting_file::BytesRead;
 use crate::healing::Healing;
-use crate::leg_files::{FileMirror, Leg, LegFiles};
-use crate::leg_opener::OpensLegs;
-use crate::listener::Listener;
-use crate::listening::listen;
-use crate::log_form::LogForm;
-use crate::log_lines::LogLines;
-use crate::metrics::Metrics;
-use crate::needs::{check_files, check_stack, reply_bytes_of};
-use crate::progress::{Comparison, tell_progress};
-use crate::reason::tell_reason;
+use crate::kept_mirror::open_asked_for;
+use crate::missing_legs::MissingLegs;
+use crate::replacing::LegRenewer;
 use crate::serving::serve_and_copy;
 use crate::session_rules::SessionRules;
 use crate::sessions::{AT_ONCE, ExportName};
-use crate::start_fault::StartFault;
-use crate::starting::{open_on_files, start_for};
-use crate::thread_trial::try_threads;
 use clap::Error;
 use clap::error::ErrorKind;
-use crossbeam_channel::bounded;
-use nm_commands::{Settings, settings};
-use nm_lanes::NoGate;
-use nm_mirror::{Mirror, Pass, Start};
+use nm_commands::{Settings, SuperblockPlace, settings};
+use nm_geometry::Shape;
+use nm_leg_files::{
+    FileMirror, LateSlots, LateSuperblock, Leg, LegFiles, LegMaker, LegPlace, LegRules, OpensLegs,
+    SuperblockWriter, Superblocks, check_files, check_stack, reply_bytes_of, try_threads,
+};
+use nm_mirror::Pass;
+use nm_reports::{Address, LogForm, LogLines, Metrics, StartFault, tell_reason};
+use nm_sockets::{Listener, listen};
 use nm_system::{Limits, take_standard_streams};
-use std::alloc::Global;
+use std::alloc::{AllocError, Global};
 use std::convert::AsStr;
 use std::fs::File;
+use std::io;
 use std::io::{Eprint, ErrorKind as IoErrorKind, Write};
 use std::net::{Net, TcpListener, TcpStream};
+use std::random::RandomSource;
 use std::rt::{Env, Files};
 use std::sync::atomic::AtomicU64;
-use std::sync::{Arc, Wait};
+use std::sync::{Arc, Mutex, Wait};
 use std::thread::Threads;
 use std::time::Clock;
-use std::{io, thread};
 
 /// How many legs a mirror has at most.
 const MOST_LEGS: usize = 8;
 
 /// How many threads there are beside those of sessions: the control port's, the one that copies,
-/// and one that reads for a session.
-const OTHER_THREADS: usize = 8;
+/// the one that saves superblocks, and one that reads for a session.
+const OTHER_THREADS: usize = 9;
 
 // The export that the settings ask for, unless they are wrong by themselves.
 fn export_asked<'a>(settings: &Settings<'a>) -> Result<ExportName<'a>, StartFault<'a>> {
     if settings.legs.len() > MOST_LEGS {
         return Err(StartFault::TooManyLegs);
     }
-    if let Some(master) = settings.master {
-        if master as usize >= settings.legs.len() {
-            return Err(StartFault::NoMaster(master));
+    for named in [settings.master, settings.force_master] {
+        if let Some(master) = named {
+            if master as usize >= settings.legs.len() {
+                return Err(StartFault::NoMaster(master));
+            }
         }
     }
     match ExportName::new(settings.name, settings.read_only) {
         Some(named) => Ok(named),
         None => Err(StartFault::BadName),
     }
-}
-
-// The mirror over the legs' files, which its stripes share.
-fn open_mirror<'a>(
-    alloc: Global,
-    settings: &Settings<'a>,
-    files: &LegFiles,
-    read: &BytesRead,
-) -> Result<FileMirror, StartFault<'a>> {
-    let Some(shape) = files.shape(settings.stripes) else {
-        return Err(StartFault::Memory);
-    };
-    let stripes = open_on_files(alloc, settings, files, &shape, read)?;
-    match Mirror::new(alloc, shape, stripes, NoGate) {
-        Ok(mirror) => {
-            // A thread for half of a request pays at no size over files (docs/PERFORMANCE.md).
-            mirror.keep_to_one_thread();
-            Ok(mirror)
-        }
-        Err(_) => Err(StartFault::Memory),
-    }
-}
-
-// Opens the mirror, while one thread tells how far the comparison of its legs is, and another one
-// answers the control port. Where no thread can be had nothing is told.
-fn open_watched<'a, R>(
-    rt: &R,
-    alloc: Global,
-    settings: &Settings<'a>,
-    files: &LegFiles,
-    control: &Listener,
-    lines: &LogLines,
-) -> Result<FileMirror, StartFault<'a>>
-where
-    R: Threads + Wait + Sync + Clock,
-{
-    let Ok(read) = Arc::new(alloc, AtomicU64::new(0)) else {
-        return Err(StartFault::Memory);
-    };
-    if start_for(settings.start) == Start::Full || settings.legs.len() < 2 {
-        return open_mirror(alloc, settings, files, &read);
-    }
-    let Ok((comparing, has_ended)) = bounded(alloc, 1) else {
-        return Err(StartFault::Memory);
-    };
-    let own_comparison = Comparison {
-        legs: settings.legs.len(),
-        bytes: files.bytes(),
-        read: &read,
-    };
-    let (ended, comparison) = (&has_ended, &own_comparison);
-    thread::scope(thread::scope_env(), rt, |scope| {
-        let _ = scope.spawn(move || tell_progress(rt, alloc, ended, comparison, lines));
-        let _ = scope.spawn(move || answer_meanwhile(rt, alloc, control, ended, comparison));
-        let mirror = open_mirror(alloc, settings, files, &read);
-        drop(comparing);
-        mirror
-    })
 }
 
 // The passes of so many sessions.
@@ -144,17 +81,65 @@ fn passes_of<'a, R: Wait>(
     Ok(passes)
 }
 
-// What attaches legs again, where that is asked for.
+// Each leg's place, with its superblock where that comes late.
+fn places_of(
+    alloc: Global,
+    files: &LegFiles,
+    late: Vec<LateSuperblock>,
+) -> Result<Vec<Arc<LegPlace>>, AllocError> {
+    let mut places = files.places(alloc)?;
+    for superblock in late {
+        if let Some(place) = places.get_mut(superblock.leg) {
+            place.set_superblock(superblock);
+        }
+    }
+    let mut all = Vec::new(alloc);
+    for place in places {
+        all.push(Arc::new(alloc, place)?)?;
+    }
+    Ok(all)
+}
+
+// A share of each leg's place.
+fn shares_of(alloc: Global, places: &[Arc<LegPlace>]) -> Result<Vec<Arc<LegPlace>>, AllocError> {
+    let mut shares = Vec::new(alloc);
+    for place in places {
+        shares.push(Arc::try_clone(place)?)?;
+    }
+    Ok(shares)
+}
+
+// What attaches legs again, where that is asked for, or where one is missing.
 fn healing_of<'a>(
     alloc: Global,
     settings: &Settings<'a>,
     files: &LegFiles,
+    places: &[Arc<LegPlace>],
 ) -> Result<Option<Healing>, StartFault<'a>> {
-    if !settings.auto_attach {
+    if !settings.auto_attach && files.missing().is_none() {
         return Ok(None);
     }
-    let places = files.places(alloc)?;
-    Ok(Some(Healing::new(alloc, places)?))
+    let own = shares_of(alloc, places)?;
+    Ok(Some(Healing::new(alloc, own, settings.auto_attach)?))
+}
+
+// Which legs may be opened by the settings: without superblocks none may be missing.
+fn rules_of(settings: &Settings<'_>, limits: &Limits) -> LegRules {
+    LegRules {
+        may_lack: !matches!(settings.superblock, SuperblockPlace::Nowhere),
+        force_in_use: settings.force_in_use,
+        file_bytes: limits.file_bytes,
+    }
+}
+
+// What an administrator wants of copies at first, and which legs are missing.
+fn orders_of<'a>(
+    alloc: Global,
+    settings: &Settings<'_>,
+    files: &LegFiles,
+) -> Result<CopyOrders, StartFault<'a>> {
+    let reasons = files.reasons(alloc)?;
+    Ok(CopyOrders::new(settings.copy_rate).with_missing(MissingLegs::of(reasons)))
 }
 
 // The copier of the mirror, which tells of its legs by their files' names.
@@ -162,14 +147,28 @@ fn copier_of<'a>(
     alloc: Global,
     mirror: &FileMirror,
     files: &LegFiles,
+    places: &[Arc<LegPlace>],
     settings: &Settings<'a>,
 ) -> Result<Copier, StartFault<'a>> {
     let Ok(legs) = files.lines(alloc) else {
         return Err(StartFault::Memory);
     };
-    let healing = healing_of(alloc, settings, files)?;
+    let healing = healing_of(alloc, settings, files, places)?;
     match Copier::new(alloc, mirror.shape(), legs, healing) {
         Ok(copier) => Ok(copier),
+        Err(_) => Err(StartFault::Memory),
+    }
+}
+
+// What makes the legs of stripes that are opened anew.
+fn maker_of<'a, 'x>(
+    alloc: Global,
+    settings: &Settings<'a>,
+    places: &'x [Arc<LegPlace>],
+    shape: &Shape,
+) -> Result<LegMaker<'x>, StartFault<'a>> {
+    match Arc::new(alloc, AtomicU64::new(0)) {
+        Ok(read) => Ok(LegMaker::new(places, shape, read, settings.policy)),
         Err(_) => Err(StartFault::Memory),
     }
 }
@@ -186,6 +185,20 @@ fn metrics_of<'a>(
     match Metrics::new(alloc, sessions as usize, legs) {
         Ok(metrics) => Ok(metrics),
         Err(_) => Err(StartFault::Memory),
+    }
+}
+
+// What saves superblocks behind a lock, if there is something, and those that come late.
+fn locked(
+    alloc: Global,
+    superblocks: Option<Superblocks>,
+) -> (
+    Option<Mutex<SuperblockWriter<LateSlots>>>,
+    Vec<LateSuperblock>,
+) {
+    match superblocks {
+        Some(own) => (Some(Mutex::new(own.writer)), own.late),
+        None => (None, Vec::new(alloc)),
     }
 }
 
@@ -234,6 +247,7 @@ where
         + Sync
         + Copy
         + Clock
+        + RandomSource
         + Files<File = File>
         + Net<Listener = TcpListener, Stream = TcpStream>,
 {
@@ -243,7 +257,7 @@ where
     let named = export_asked(settings)?;
     let limits = Limits::read(rt, alloc)?;
     check_stack(&limits)?;
-    let files = LegFiles::open(rt, alloc, &settings.legs, settings.force_in_use, &limits)?;
+    let files = LegFiles::open(rt, alloc, &settings.legs, &rules_of(settings, &limits))?;
     check_files(
         &limits,
         settings.legs.len().min(MOST_LEGS) as u8,
@@ -251,10 +265,18 @@ where
     )?;
     let clients = listen(rt, alloc, Address::of_clients(settings))?;
     let control = listen(rt, alloc, Address::Named(settings.control))?;
-    let mirror = open_watched(rt, alloc, settings, &files, &control.listener, lines)?;
-    let copier = copier_of(alloc, &mirror, &files, settings)?;
-    let orders = CopyOrders::new(settings.copy_rate);
+    let opened = open_asked_for(rt, alloc, settings, &files, &control.listener, lines)?;
+    files.tell_missing(rt, alloc, lines);
+    let mirror = opened.mirror;
+    let (superblocks, late) = locked(alloc, opened.superblocks);
+    let places = places_of(alloc, &files, late)?;
+    let copier = copier_of(alloc, &mirror, &files, &places, settings)?;
+    let orders = orders_of(alloc, settings, &files)?;
+    let maker = maker_of(alloc, settings, &places, mirror.shape())?;
     let metrics = metrics_of(alloc, &files, settings.sessions)?;
+    // From now on a leg's file is held by its place and its stripes alone, which another may get.
+    drop(files);
+    let legs = LegRenewer::new(alloc, opener, &places, superblocks.as_ref(), mirror.shape())?;
     let mut passes = passes_of(rt, alloc, &mirror, settings.sessions)?;
     try_threads(
         rt,
@@ -279,7 +301,10 @@ where
         copier,
         &metrics,
         &orders,
+        &legs,
+        &maker,
         lines,
+        superblocks.as_ref(),
     )?;
     close(alloc, mirror, passes, out)
 }
@@ -346,6 +371,7 @@ where
         + Clock
         + Eprint
         + Env
+        + RandomSource
         + Files<File = File>
         + Net<Listener = TcpListener, Stream = TcpStream>
         + 'static,
@@ -362,7 +388,7 @@ where
     match ended {
         Ok(()) => 0,
         Err(fault) => {
-            let _ = tell_reason(alloc, &fault, &settings.legs, err);
+            let _ = tell_reason(alloc, &fault, &settings, err);
             tell_fault(&fault, err)
         }
     }

@@ -5,29 +5,22 @@ ghost use Rattle.nm_server.specs.Handshake.{HasNegotiated};
 ghost use Rattle.nm_session.specs.declared.serve_fault.ServeFault.TheVariants.{Memory};
 ghost use Rattle.nm_wire.specs.Export.{size_of};
 
-use crate::call_counts::CallCounts;
-use crate::client_reader::ClientReader;
-use crate::client_stream::ClientStream;
-use crate::client_writer::ClientWriter;
 use crate::counted_calls::CountedCalls;
 use crate::ending::Ending;
 use crate::file_calls::FileCalls;
-use crate::hang_up::HangUp;
-use crate::incidents::Incident;
-use crate::leg_files::{FileMirror, Leg};
-use crate::listener::Listener;
-use crate::log_lines::LogLines;
-use crate::metrics::Metrics;
 use crate::mirror_calls::{MirrorCalls, ReadyMirror};
 use crate::mirror_target::MirrorTarget;
-use crate::session_lines::{SessionEnd, tell_begin, tell_end};
 use crate::session_places::SessionPlaces;
-use crate::stream::{Peer, Stream};
-use crate::timed_stream::TimedStream;
 use nm_leg::LegPart;
+use nm_leg_files::{FileMirror, Leg};
 use nm_mirror::Pass;
 use nm_replies::ReplyWriter;
+use nm_reports::{Incident, LogLines, Metrics};
 use nm_session::{Limit, ServeFault, Served, SessionCore};
+use nm_sockets::{
+    ClientReader, ClientStream, ClientWriter, HangUp, Listener, Peer, SessionEnd, Stream,
+    TimedStream, tell_begin, tell_end,
+};
 use nm_wire::{Export, Name};
 use nm_workers::{SpinToken, negotiate, transmit};
 use std::alloc::Global;
@@ -188,7 +181,8 @@ fn serve_client<R: Threads + Wait + Sync + Copy + Clock>(
     mirror: &FileMirror,
     passes: &mut [Pass<Leg>],
     places: &SessionPlaces,
-    counts: Option<&CallCounts>,
+    metrics: &Metrics,
+    place: usize,
 ) -> Result<SessionEnd, ServeFault> {
     let _ = client.stream.set_nodelay();
     let Some(export) = export_of(alloc, named, mirror.shape().blocks) else {
@@ -210,7 +204,8 @@ fn serve_client<R: Threads + Wait + Sync + Copy + Clock>(
             rt,
             alloc,
             mirror,
-            counts,
+            metrics,
+            place,
             places,
         },
         activity: &client.activity,
@@ -246,8 +241,9 @@ where
             tell_begin(rt, alloc, &client, lines);
         }
         metrics.begin_session();
-        let counts = metrics.calls_of(number);
-        let ended = serve_client(rt, alloc, &client, named, mirror, passes, places, counts);
+        let ended = serve_client(
+            rt, alloc, &client, named, mirror, passes, places, metrics, number,
+        );
         metrics.end_session(ended.is_ok());
         let closing = places.free(rt, number);
         let is_verbose = places.is_verbose();

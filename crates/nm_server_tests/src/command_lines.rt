@@ -2,7 +2,7 @@
 
 use clap::error::ErrorKind;
 use nm_choice::Policy;
-use nm_commands::{Settings, Start, settings};
+use nm_commands::{Settings, Start, SuperblockPlace, settings};
 use std::alloc::Global;
 use std::test::Fail;
 
@@ -22,6 +22,9 @@ struct Asked {
     numbers: [Option<u8>; 3],
     policy: Policy,
     start: Start,
+    superblock: SuperblockPlace<'static>,
+    degraded: bool,
+    force_master: Option<u8>,
     read_only: bool,
     force_in_use: bool,
     legs: usize,
@@ -36,12 +39,15 @@ const PLAIN: Asked = Asked {
     numbers: [Some(16), None, Some(16)],
     policy: Policy::RoundRobin,
     start: Start::Compare,
+    superblock: SuperblockPlace::Beside,
+    degraded: false,
+    force_master: None,
     read_only: false,
     force_in_use: false,
     legs: 1,
 };
 
-static TAKEN: [Taken; 25] = [
+static TAKEN: [Taken; 31] = [
     (&["a"], PLAIN),
     (
         &["-p", "0", "a"],
@@ -163,6 +169,42 @@ static TAKEN: [Taken; 25] = [
     ),
     (&["--start=compare", "a"], PLAIN),
     (
+        &["--start", "equal", "a"],
+        Asked {
+            start: Start::Equal,
+            ..PLAIN
+        },
+    ),
+    (
+        &["--superblock", "none", "a"],
+        Asked {
+            superblock: SuperblockPlace::Nowhere,
+            ..PLAIN
+        },
+    ),
+    (&["--superblock=beside", "a"], PLAIN),
+    (
+        &["a", "--superblock", "./beside"],
+        Asked {
+            superblock: SuperblockPlace::Folder("./beside"),
+            ..PLAIN
+        },
+    ),
+    (
+        &["--degraded", "a"],
+        Asked {
+            degraded: true,
+            ..PLAIN
+        },
+    ),
+    (
+        &["--force-master", "7", "a"],
+        Asked {
+            force_master: Some(7),
+            ..PLAIN
+        },
+    ),
+    (
         &["--read-only", "a"],
         Asked {
             read_only: true,
@@ -176,7 +218,7 @@ static TAKEN: [Taken; 25] = [
     ),
 ];
 
-static REFUSED: [Refused; 27] = [
+static REFUSED: [Refused; 30] = [
     (&[], ErrorKind::MissingRequiredArgument),
     (&["--read-only"], ErrorKind::MissingRequiredArgument),
     (&["--help"], ErrorKind::DisplayHelp),
@@ -210,6 +252,9 @@ static REFUSED: [Refused; 27] = [
     (&["--master", "8", "a"], ErrorKind::ValueValidation),
     (&["--policy", "other", "a"], ErrorKind::InvalidValue),
     (&["--start", "other", "a"], ErrorKind::InvalidValue),
+    (&["a", "--superblock"], ErrorKind::InvalidValue),
+    (&["--degraded=yes", "a"], ErrorKind::TooManyValues),
+    (&["--force-master", "8", "a"], ErrorKind::ValueValidation),
     (&["a", "--listen"], ErrorKind::InvalidValue),
     (
         &["--name", "x", "--name", "y", "a"],
@@ -239,6 +284,9 @@ fn is_asked(settings: &Settings<'_>, asked: Asked) -> bool {
         ] == asked.numbers
         && settings.policy == asked.policy
         && settings.start == asked.start
+        && settings.superblock == asked.superblock
+        && settings.degraded == asked.degraded
+        && settings.force_master == asked.force_master
         && settings.read_only == asked.read_only
         && settings.force_in_use == asked.force_in_use
         && settings.legs.len() == asked.legs

@@ -3,11 +3,10 @@
 use nm_geometry::Shape;
 use nm_lanes::NoGate;
 use nm_leg::MemLeg;
-use nm_mirror::{Mirror, Start, open_stripes};
-use nm_server::{
-    Controlled, CopyOrders, Metrics, Quit, ServerInfo, SessionPlaces, SessionRules, UnreadList,
-    control,
-};
+use nm_leg_files::{MakesLegs, Unrenewed};
+use nm_mirror::{Mirror, Start, open_stripes, ungated};
+use nm_reports::{Metrics, ServerInfo, UnreadList};
+use nm_server::{Controlled, CopyOrders, Quit, RenewsLegs, SessionPlaces, SessionRules, control};
 use nm_stripe::Policy;
 use std::alloc::{AllocError, Global};
 use std::process::Abort;
@@ -19,8 +18,18 @@ use std::time::Clock;
 type Talk = (&'static [u8], &'static [u8], bool);
 
 /// One connection after the other, all to the same mirror.
-static TALKS: [Talk; 20] = [
-    (b"info\n", b"serving: up 0 s\n", false),
+static TALKS: [Talk; 23] = [
+    (
+        b"info\n",
+        b"serving: up 0 s\nsuperblock: none\nverify: none yet\n",
+        false,
+    ),
+    // One leg is in sync.
+    (
+        b"verify\nverify stop\nverify \n",
+        b"verify: none in sync to compare\nverify: not running\nbad command\n",
+        false,
+    ),
     (
         b"status\n",
         b"stripe 0: master 0 settling no legs in join(1024)\n\
@@ -50,6 +59,12 @@ static TALKS: [Talk; 20] = [
     (
         b"attach 0\n",
         b"attach 0: joining 0 left 0 notout 2 stopped 0\n",
+        false,
+    ),
+    (
+        b"replace 1\nreplace 0\nreplace 2\nreplace\n",
+        b"replace 1: joining 2 left 2048 out 0 stopped 0\nreplace 0: last\n\
+          bad command\nbad command\n",
         false,
     ),
     (b"fail 2\nattach 8\n", b"bad command\nbad command\n", false),
@@ -104,6 +119,13 @@ static TALKS: [Talk; 20] = [
         b"bad command\nbad command\nbad command\ncopy-rate default\n",
         false,
     ),
+    // No stripe has stopped, and there are two.
+    (
+        b"reopen all\nreopen 1\nreopen 2\nreopen\nreopen al\n",
+        b"reopen: opened 0 left 0 stopped 0\nreopen: opened 0 left 0 stopped 0\n\
+          bad command\nbad command\nbad command\n",
+        false,
+    ),
     // Lines after a quit are not run.
     (b"quit\nfail 0\n", b"bye\n", true),
 ];
@@ -122,9 +144,30 @@ fn mirror(alloc: Global, start: Start) -> Result<Mirror<MemLeg, NoGate>, Fail> {
     let Ok(stripes) = open_stripes(alloc, &shape, legs, 0, Policy::RoundRobin, start) else {
         return Err(Fail::new("no stripes"));
     };
+    let Ok(stripes) = ungated(alloc, stripes) else {
+        return Err(Fail::new("no memory"));
+    };
     match Mirror::new(alloc, shape, stripes, NoGate) {
         Ok(mirror) => Ok(mirror),
         Err(_) => Err(Fail::new("no memory")),
+    }
+}
+
+/// New legs in memory for each of the mirror's stripes.
+struct MemRenewer;
+
+impl RenewsLegs<MemLeg> for MemRenewer {
+    fn renew<R: Wait>(&self, _rt: &R, alloc: Global, _leg: u8) -> Result<Vec<MemLeg>, Unrenewed> {
+        let mut legs = Vec::new(alloc);
+        for _ in 0..2 {
+            let Ok(leg) = MemLeg::new(alloc, 1024) else {
+                return Err(Unrenewed::CannotOpen);
+            };
+            if legs.push(leg).is_err() {
+                return Err(Unrenewed::CannotOpen);
+            }
+        }
+        Ok(legs)
     }
 }
 
@@ -134,6 +177,19 @@ static RULES: SessionRules = SessionRules {
     idle_limit: None,
     is_verbose: false,
 };
+
+/// Makes no legs.
+struct NoLegs;
+
+impl MakesLegs<MemLeg> for NoLegs {
+    fn make(&self, _alloc: Global, _stripe: u32) -> Option<Vec<MemLeg>> {
+        None
+    }
+
+    fn policy(&self) -> Policy {
+        Policy::RoundRobin
+    }
+}
 
 /// What nobody has counted anything in.
 fn metrics(alloc: Global) -> Result<Metrics, AllocError> {
@@ -166,6 +222,8 @@ fn goes<R: Wait + Abort + Clock>(
         info: &info,
         metrics: &metrics,
         orders: &orders,
+        legs: &MemRenewer,
+        maker: &NoLegs,
     };
     let quit = control(rt, alloc, &mut reader, &mut writer, &server);
     quit.is_some() == ends && writer.as_slice() == answered
@@ -211,6 +269,8 @@ fn a_quit_has_its_time(rt: HostRuntime) -> Result<(), Fail> {
         info: &info,
         metrics: &metrics,
         orders: &orders,
+        legs: &MemRenewer,
+        maker: &NoLegs,
     };
     let lines: [(&[u8], Quit); 3] = [
         (b"quit\n", Quit::WhenTheyLeave),

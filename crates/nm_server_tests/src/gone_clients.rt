@@ -2,8 +2,9 @@
 
 use nm_lanes::NoGate;
 use nm_leg::MemLeg;
-use nm_mirror::{Mirror, Pass, Shape, Start, open_stripes};
-use nm_server::{MirrorCall, call_mirror};
+use nm_mirror::{Mirror, Pass, Shape, Start, open_stripes, ungated};
+use nm_reports::MirrorCall;
+use nm_server::call_mirror;
 use nm_session::TargetFault;
 use nm_stripe::Policy;
 use std::alloc::Global;
@@ -24,6 +25,9 @@ fn mirror(alloc: Global) -> Result<Mirror<MemLeg, NoGate>, Fail> {
     let Ok(stripes) = open_stripes(alloc, &shape, legs, 0, Policy::RoundRobin, Start::Compare)
     else {
         return Err(Fail::new("no stripes"));
+    };
+    let Ok(stripes) = ungated(alloc, stripes) else {
+        return Err(Fail::new("no memory"));
     };
     match Mirror::new(alloc, shape, stripes, NoGate) {
         Ok(mirror) => Ok(mirror),

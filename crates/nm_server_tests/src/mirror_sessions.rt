@@ -6,9 +6,10 @@ ghost use Rattle.std.specs.Prelude.{◌*◌, ◌≤◌, All, IsTrue};
 use nm_geometry::Shape;
 use nm_lanes::{Gate, Place};
 use nm_leg::MemLeg;
-use nm_mirror::{Mirror, Pass, Start, open_stripes};
+use nm_mirror::{Mirror, Pass, Start, open_stripes, ungated};
 use nm_replies::ReplyWriter;
-use nm_server::{MirrorCall, MirrorCalls, MirrorTarget, ReadyMirror, call_mirror};
+use nm_reports::MirrorCall;
+use nm_server::{MirrorCalls, MirrorTarget, ReadyMirror, call_mirror};
 use nm_session::{CutReader, CutWriter, End, ServeFault, Served, TargetFault};
 use nm_stripe::Policy;
 use nm_wire::{Export, Memory};
@@ -106,6 +107,9 @@ fn mirror_of<'a>(alloc: Global, stripes: u32, gone: &'a AtomicUsize) -> Result<M
     }
     let Ok(opened) = open_stripes(alloc, &shape, legs, 0, Policy::RoundRobin, Start::Compare) else {
         return Err(Fail::new("no stripes"));
+    };
+    let Ok(opened) = ungated(alloc, opened) else {
+        return Err(Fail::new("no memory"));
     };
     match Mirror::new(alloc, shape, opened, UntilGone { gone }) {
         Ok(mirror) => Ok(mirror),

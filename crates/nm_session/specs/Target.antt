@@ -1,7 +1,7 @@
 -- The calls of a target with their answers.
 use Rattle.std.specs.Prelude.{ℕ, List, Result, codes}
 use Rattle.nm_session.specs.declared.target_fault.TargetFault.{TargetFault}
-use Rattle.nm_session.specs.declared.target_fault.TargetFault.TheVariants.{Memory, Io}
+use Rattle.nm_session.specs.declared.target_fault.TargetFault.TheVariants.{Memory, Io, Full}
 
 -- what a target answers a call
 abbrev pub Answer : Type 0
@@ -20,8 +20,10 @@ pub data TargetCall : Type 0 where
 abbrev pub error_of : TargetFault → ℕ
 error_of Memory = 12
 error_of Io = 5
+error_of Full = 28
 
 -- the text of a fault
 abbrev pub target_fault_text : TargetFault → List ℕ
 target_fault_text Memory = codes "out of memory"
 target_fault_text Io = codes "the target failed"
+target_fault_text Full = codes "no space left"

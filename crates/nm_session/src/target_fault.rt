@@ -1,7 +1,7 @@
 ghost use Rattle.std.specs.Prelude.{◌≡◌, Some};
 ghost use Rattle.nm_session.specs.Target.{error_of, target_fault_text};
 
-use nm_wire::errors::{EIO, ENOMEM};
+use nm_wire::errors::{EIO, ENOMEM, ENOSPC};
 use std::error::Error;
 use std::fmt;
 
@@ -12,6 +12,8 @@ pub enum TargetFault {
     Memory,
     /// The bytes could not be read, written or made durable. The client is answered EIO.
     Io,
+    /// There is no space left for the bytes. The client is answered ENOSPC.
+    Full,
 }
 
 impl TargetFault {
@@ -22,6 +24,7 @@ impl TargetFault {
         match self {
             TargetFault::Memory => ENOMEM,
             TargetFault::Io => EIO,
+            TargetFault::Full => ENOSPC,
         }
     }
 }
@@ -33,6 +36,7 @@ impl fmt::Display for TargetFault {
         f.write_str(match self {
             TargetFault::Memory => "out of memory",
             TargetFault::Io => "the target failed",
+            TargetFault::Full => "no space left",
         })
     }
 }

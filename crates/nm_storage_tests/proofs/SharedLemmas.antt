@@ -130,37 +130,6 @@ syncs-share stripe shape old is = record {
 pub array-lost : (old : Bytes) → IsArray old → IsArray (record { contents = old.contents; pending = old.durable; durable = old.durable })
 array-lost old is = record { pending_length = is.durable_length; durable_length = is.durable_length; each = λ i _. refl }
 
-pub loses-share : {E : Type 0} (stripe : ℕ) (shape : Geometry) (old : Bytes) (e : E)
-    → SyncsMedium true (Err e) (share_of stripe shape old) (share_of stripe shape (record { contents = old.contents; pending = old.durable; durable = old.durable }))
-loses-share stripe shape old e = record {
-  own = λ _. refl;
-  durable = λ _. tt;
-  kept = λ _. tt;
-  contents = λ _. refl;
-  durable_kept = λ _ from many same. refl;
-}
-
--- a read finds what the array has
-pub reads-share : {E : Type 0} (result : Result ℕ E) (stripe : ℕ) (shape : Geometry) (at : ℕ) (old : Bytes) (contents filled : List ℕ) → ReadsMedium true result at (steady old.contents) (steady contents) filled
-    → ReadsMedium true result at (share_of stripe shape old) (share_of stripe shape (record { contents = contents; pending = old.pending; durable = old.durable })) filled
-reads-share (Ok n) stripe shape at old contents filled reads = record {
-  bound = reads.bound;
-  found = λ q _. reads.found q (λ j _ _. refl);
-  same = λ q. ap (λ (h : Held). share_of stripe shape (record { contents = h.contents; pending = old.pending; durable = old.durable })) (reads.same q);
-}
-reads-share (Err e) stripe shape at old contents filled reads = record {
-  bound = reads.bound;
-  found = λ _. tt;
-  same = λ q. ap (λ (h : Held). share_of stripe shape (record { contents = h.contents; pending = old.pending; durable = old.durable })) (reads.same q);
-}
-
--- all of a settled array is kept
-pub array-settled : (all : List ℕ) → IsArray (settled all)
-array-settled all = record { pending_length = refl; durable_length = refl; each = λ i differs. absurd (differs refl) }
-
-pub settled-kept : (stripe : ℕ) (shape : Geometry) (all : List ℕ) (from many : ℕ) → Kept (share_of stripe shape (settled all)) from many
-settled-kept stripe shape all from many i above below = is-kept (get_or all i 0) (get_or all i 0) refl
-
 -- the user of a stripe owns each of its blocks
 pub owns-share : (stripe : ℕ) (shape : Geometry) (bytes : Bytes) → IsGeometry shape → stripe < shape.stripes → OwnsBlocks (share_of stripe shape bytes) stripe shape
 owns-share stripe shape bytes bounds own block _ at above below =
@@ -173,7 +142,3 @@ owns-share stripe shape bytes bounds own block _ at above below =
 
     is-same : (a b : ℕ) → a ≡ b → IsTrue (a == b)
     is-same a b same = eq-eqb a b same
-
--- the blocks of a settled array are kept
-pub keeps-share : (stripe : ℕ) (shape : Geometry) (all : List ℕ) (many : ℕ) → KeepsBlocks (share_of stripe shape (settled all)) stripe shape many
-keeps-share stripe shape all many block _ = settled-kept stripe shape all (512 * export_block stripe block shape) 512

@@ -8,6 +8,7 @@ pub mod LosingLemmas
 pub mod OpeningLemmas
 pub mod ReachLemmas
 pub mod ReadingLemmas
+pub mod ReopeningLemmas
 pub mod RunAnyLemmas
 pub mod RunCountLemmas
 pub mod RunEntryLemmas

@@ -7,3 +7,4 @@ pub mod Inside
 pub mod Landing
 pub mod Opening
 pub mod Owing
+pub mod Reopening

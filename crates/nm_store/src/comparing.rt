@@ -47,9 +47,9 @@ fn is_joining(state: LegState) -> bool
 }
 
 impl<L: LegPart> Store<L> {
-    /// The master is in sync, and each other leg is out in the region table, and behind nowhere,
-    /// until it is compared.
-    fn start_comparing(&mut self, master: u8)
+    /// The master is in sync, and each other leg is set aside: out in the region table, and behind
+    /// nowhere, until it is compared or opens as it stands.
+    pub(crate) fn start_comparing(&mut self, master: u8)
         requires leg { master < length self.old.legs }
         requires none_open { self.old.copy ≡ None }
         ensures { self.new ≡ record self.old {
@@ -111,7 +111,7 @@ impl<L: LegPart> Store<L> {
     }
 
     /// How many legs there are, as the number of a leg.
-    fn leg_count(&self) -> u8
+    pub(crate) fn leg_count(&self) -> u8
         ensures { result ≡ length self.now.legs }
     {
         self.regions.legs()

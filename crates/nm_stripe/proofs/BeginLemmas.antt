@@ -58,10 +58,6 @@ reads-at {L} {succeeded} {leg} type is old mid block bytes went here whole reads
     (first-read type succeeded leg block (block_of bytes) [] old.legs mid.legs
     (subst (λ (bs : List Block). ReadsRunAt type succeeded leg block bs old.legs mid.legs) (one-of bytes whole) reads)))
 
--- the master is there after it was read
-pub master-read : {L : Type 0} (type : LegType L) (succeeded : Bool) (old mid : StripeState L) (block : ℕ) (base : Block) → HasLegs type.model old → ReadsBlockAt type succeeded old.master block old.legs mid.legs base → old.master < length mid.legs
-master-read type succeeded old mid block base k r = omega (arith, master_inside type.model old k, calls-length type.model old.legs mid.legs old.master r.before r.after r.change)
-
 -- a write may begin: there is room for its record, and a ticket for each block
 pub room : {L : Type 0} (type : LegType L) (old mid : StripeState L) (block count : ℕ) → Keeps type old → begin_run_cause old block count ≡ None → mid ≡ record old { legs = mid.legs }
     → (runs_in mid.records < 256) × AllBelow mid.tickets mid.records × (mid.tickets + count < 2 ^ 64)

@@ -1,9 +1,11 @@
+pub mod ApartLemmas
 pub mod BeginLemmas
 pub mod BegunLemmas
 pub mod BoundLemmas
 pub mod ClaimLemmas
 pub mod CopyLemmas
 pub mod FlushLemmas
+pub mod LookLemmas
 pub mod LostLemmas
 pub mod OpeningLemmas
 pub mod PushLemmas

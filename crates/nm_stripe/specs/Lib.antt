@@ -1,3 +1,4 @@
+pub mod Apart
 pub mod Begin
 pub mod Bound
 pub mod Copy

@@ -1,1 +1,2 @@
 mod Legs
+mod TwoLegs

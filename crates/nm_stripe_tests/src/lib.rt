@@ -1,5 +1,5 @@
 //! Tests of nm_stripe and nm_part through their public surface: worked lists of steps with their
-//! answers.
+//! answers; and what holds of a stripe over legs that share their syncs.
 #![tactic(auto)]
 
 #[cfg(test)]
@@ -8,6 +8,7 @@ mod asking;
 mod calls;
 #[cfg(test)]
 mod comparing;
+pub mod file_stripes;
 #[cfg(test)]
 mod lists;
 #[cfg(test)]

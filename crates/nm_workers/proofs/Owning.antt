@@ -53,10 +53,6 @@ module _ (F : Task → TaskResult → Type 0) where
         → IfErr result (λ found. Breaks F found core (io bytes (contents (device_of sender))) (contents (device_of sent)))
     failed_err is same = rw (is, same) (breaks_at_once core bytes (contents (device_of sender)))
 
-    pub failed_ok : result ≡ Err fault.Memory
-        → IfOk result (λ served. Ends F served core (io bytes (contents (device_of sender))) (contents (device_of sent)))
-    failed_ok is = rw is tt
-
 -- a target that has the bytes of the export has them still
 pub sizes_stay : {T : Type 0} (size : T → ℕ) (old new : Session) (events : List Event) (targets : List T)
     → Runs old events new → All (λ target. size_of old.haggling.export ≤ size target) targets

@@ -120,13 +120,6 @@ module _ {F : Task → TaskResult → Type 0} where
       subst (λ (core : Session). Moves F (owner_state old heard output) (owner_state core heard output))
       (sym same) (moves_nowhere (owner_state old heard output))
 
-  -- nor where no message came
-  pub moves_unheard : (core : Session) (heard all : List (Message CalledValue)) (output : Option (List ℕ))
-      → all ≡ heard → Moves F (owner_state core heard output) (owner_state core all output)
-  moves_unheard core heard all output same =
-      subst (λ (h : List (Message CalledValue)). Moves F (owner_state core heard output) (owner_state core h output))
-      (sym same) (moves_nowhere (owner_state core heard output))
-
 -- a fault that leaves nothing unwritten
 abbrev pub IsQuiet : ServeFault → Type 0
 IsQuiet fault.Memory = Unit {0}

@@ -1,12 +1,13 @@
 use Rattle.std.proofs.Common.{◌∙◌, ◌≡◌, ap, ap₂}
 use Rattle.clap.specs.Words.{app_of, with_rule}
-use Rattle.nm_commands.specs.CommandLine.{nbdmirror, with_client_options}
+use Rattle.nm_commands.specs.CommandLine.{nbdmirror, with_client_options, with_superblock_options}
 use Rattle.nm_commands.proofs.command_line.command_line.Goals as goal
 
 pub returns-clause-ok : goal.returns-clause-ok
 returns-clause-ok c =
     let line = c.in_ok-mirror.ensures.ok in
-    let served = c.in_ok-program.ensures.ok ∙ ap with_client_options line.2.2 in
+    let kept = c.in_ok-with_superblocks.ensures.ok ∙ ap with_superblock_options line.2.2 in
+    let served = c.in_ok-program.ensures.ok ∙ ap with_client_options kept in
     let one = c.in_ok-with_sessions.ensures.shape c.number_option-sessions.ensures.own
     ∙ ap₂ with_rule served c.number_option-sessions.ensures.rule in
     let two = c.in_ok-with_read_only.ensures.shape c.lettered_flag-read_only.ensures.own

@@ -1,6 +1,6 @@
 use Rattle.std.proofs.Common.{codes, refl}
 use Rattle.clap.specs.Words.{found_of, rows_of}
-use Rattle.nm_commands.proofs.Said.{said_text, said_number, said_number_if_any, said_flag, said_words}
+use Rattle.nm_commands.proofs.Said.{said_text, said_number, said_number_if_any, said_flag, said_place, said_words}
 use Rattle.nm_commands.proofs.command_line.settings_of.Goals as goal
 
 pub returns-clause-ok : goal.returns-clause-ok
@@ -17,6 +17,11 @@ returns-clause-ok c =
       policy = said_text f rows (codes "policy") _ refl c.in_ok-policy.ensures.ok;
       master = said_number_if_any f rows (codes "master") _ refl c.in_ok-master.ensures.some c.in_ok-master.ensures.none;
       start = said_text f rows (codes "start") _ refl c.in_ok-start.ensures.ok;
+      superblock = said_place f rows (codes "superblock") _ refl c.in_ok-superblock.ensures.ok;
+      degraded = said_flag f rows (codes "degraded") _ refl c.get_flag-degraded.ensures.value
+          c.get_flag-degraded.ensures.other;
+      force_master = said_number_if_any f rows (codes "force-master") _ refl
+          c.in_ok-force_master.ensures.some c.in_ok-force_master.ensures.none;
       auto_attach = said_flag f rows (codes "auto-attach") _ refl
           c.get_flag-auto_attach.ensures.value c.get_flag-auto_attach.ensures.other;
       copy_rate = said_number_if_any f rows (codes "copy-rate") _ refl

@@ -3,11 +3,11 @@
 use Rattle.std.proofs.Common.{◌≡◌, ◌+◌, ◌++◌, ◌≤◌, map, reverse, vec_len, vec_capacity}
 use Rattle.nm_mirror.proofs.mirror.lock_each.Given as goal
 
-abbrev pub invariant-loop-stripe : goal.invariant-loop-stripe
-invariant-loop-stripe g l =
-    (vec_len l.locks + vec_len l.rest ≡ vec_len l.fn.stripes) × (vec_len l.fn.stripes ≤ vec_capacity l.locks)
-    × (map (λ lock. lock.number) l.locks.items ++ map (λ stripe. stripe.place.stripe) (reverse l.rest.items)
-    ≡ map (λ stripe. stripe.place.stripe) l.fn.stripes.items)
+abbrev pub invariant-loop-gated : goal.invariant-loop-gated
+invariant-loop-gated g l =
+    (vec_len l.locks + vec_len l.rest ≡ vec_len l.fn.stripes) × (vec_len l.shares ≡ vec_len l.rest) × (vec_len l.fn.stripes ≤ vec_capacity l.locks)
+    × (map (λ lock. lock.number) l.locks.items ++ map (λ gated. gated.stripe.place.stripe) (reverse l.rest.items)
+    ≡ map (λ gated. gated.stripe.place.stripe) l.fn.stripes.items)
 
-abbrev pub decreases-loop-stripe : goal.decreases-loop-stripe
-decreases-loop-stripe g l = vec_len l.rest
+abbrev pub decreases-loop-gated : goal.decreases-loop-gated
+decreases-loop-gated g l = vec_len l.rest

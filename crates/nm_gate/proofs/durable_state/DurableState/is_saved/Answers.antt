@@ -10,7 +10,7 @@ returns g c = (
   λ holds leg named. ⊎_elim
       (λ low. c.legs.invariant leg (omega (arith, low, c.legs-test.false)) named)
       (λ past.
-      let none : is_named leg c.args.self.now ≡ false = get_or_past c.args.self.now.named leg false (omega (arith, past, c.eight_legs.ensures)) in
+      let none : is_named leg c.args.self.now ≡ false = get_or_past c.args.self.now.named leg false (omega (arith, past, c.eight_legs.ensures.named)) in
       absurd (let clash : true ≡ false = sym named ∙ none in cc))
       (cases_lt leg 8),
   λ saved. refl,

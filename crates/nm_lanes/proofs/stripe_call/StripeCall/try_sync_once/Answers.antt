@@ -1,4 +1,4 @@
--- A sync that lost its leg or found it out is done; another refused one, and what came of it.
+-- A sync that was done or found its leg out is done; another refused one, and what came of it.
 use Rattle.std.proofs.Common.{rules, refl, ◌≡◌, false}
 use Rattle.nm_lanes.specs.Answers.{refused_with_nothing}
 use Rattle.nm_lanes.specs.Own.{finds_out}
@@ -7,8 +7,8 @@ use Rattle.nm_lanes.proofs.LaneLemmas.{refused-goes, refused-ends}
 use Rattle.nm_lanes.proofs.TurnLemmas.{sync-helps, sync-done, syncs-out}
 use Rattle.nm_lanes.proofs.stripe_call.StripeCall.try_sync_once.Goals as goal
 
-pub returns-in-Ok-clause-ok : goal.returns-in-Ok-clause-ok
-returns-in-Ok-clause-ok g c = sync-done g.D.Lane.follows c.args.lane.now c.sync.new.lane c.args.leg c.in-Ok.field-0 c.in-Ok.ensures.follows
+pub returns-in-Ok-Synced-clause-ok : goal.returns-in-Ok-Synced-clause-ok
+returns-in-Ok-Synced-clause-ok g c = sync-done g.D.Lane.follows c.args.lane.now c.sync.new.lane c.args.leg (rw c.in-Ok-Synced.field-0-is at c.in-Ok-Synced.ensures.follows)
 
 pub returns-then-finds_out-clause-ok : goal.returns-then-finds_out-clause-ok
 returns-then-finds_out-clause-ok g c = syncs-out g.D.Lane.follows c.args.lane.now c.sync.new.lane c.args.leg c.in-Err.refusal (search rules) c.in-Err.ensures.follows

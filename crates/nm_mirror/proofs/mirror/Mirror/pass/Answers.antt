@@ -10,7 +10,7 @@ loop-lock-preserved g c =
     let long : length c.loop-lock.pass.parts.items ≡ c.loop-lock.lock-index = search rules in
     let at : slice_get locks c.loop-lock.lock-index ≡ Some c.lock-item.result = slice_get_read locks (length locks) c.loop-lock.lock-index c.lock-item.result refl (search rules) (search rules) in
     let number : c.lock-item.result.number ≡ c.loop-lock.lock-index = number-at (λ lock. lock.number) locks c.loop-lock.lock-index c.lock-item.result c.args.self.now.in_order at in
-    let own : c.of.result.stripe ≡ c.lock-item.result.number = ap (λ part. part.stripe) c.of.ensures ∙ ap (λ stripe. stripe.place.stripe) c.deref.ensures ∙ c.hold.ensures in (
+    let own : c.of.result.stripe ≡ c.lock-item.result.number = ap (λ part. part.stripe) c.of.ensures ∙ ap (λ held. held.gated.stripe.place.stripe) c.deref.ensures ∙ c.hold.ensures in (
       search rules,
       search rules,
       one-counted c.loop-lock.pass.parts.items c.push_reserved.new.self.items c.of.result c.loop-lock.invariant.2 (ap (λ part. part.count) c.of.ensures) c.push_reserved.ensures.items,

@@ -1,0 +1,12 @@
+use Rattle.std.proofs.Common.{◌∙◌, ap₂, refl}
+use Rattle.clap.specs.Words.{with_rule}
+use Rattle.nm_commands.proofs.superblock_options.with_superblock_options.Goals as goal
+
+pub returns-clause-ok : goal.returns-clause-ok
+returns-clause-ok c =
+    let one = c.in_ok-with_superblock.ensures.shape c.option-superblock.ensures.own
+    ∙ ap₂ with_rule refl c.option-superblock.ensures.rule in
+    let two = c.in_ok-with_degraded.ensures.shape c.flag-degraded.ensures.own
+    ∙ ap₂ with_rule one c.flag-degraded.ensures.rule in
+    c.in_ok-command.ensures.shape c.bare_number_option-force_master.ensures.own
+    ∙ ap₂ with_rule two c.bare_number_option-force_master.ensures.rule

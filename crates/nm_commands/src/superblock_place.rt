@@ -1,0 +1,10 @@
+/// Where the superblocks of the legs are.
+#[derive(Clone, Copy, Debug, PartialEq, Eq)]
+pub enum SuperblockPlace<'a> {
+    /// There are none.
+    Nowhere,
+    /// Each is beside its leg.
+    Beside,
+    /// They are in this folder.
+    Folder(&'a str),
+}

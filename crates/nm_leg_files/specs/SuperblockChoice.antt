@@ -1,0 +1,101 @@
+-- What a start by superblocks goes by, and why it is refused: by rows, of which the first that
+-- applies decides.
+use Rattle.std.specs.Prelude.{◌≡◌, ◌≢◌, ◌⊎◌, ◌≤◌, ℕ, List, Option, None, Some, min, max}
+use Rattle.std.specs.Prelude.{IsTrue}
+use Rattle.nm_assemble.specs.Assembly.{IsAssembly, IsRefused}
+use Rattle.nm_assemble.specs.Image.{IsClosedTo, IsFork, IsForced, IsImage, OpensAll}
+use Rattle.nm_assemble.specs.Start.{IsEmpty, IsMissing, IsNewest, IsSureStart, beside}
+use Rattle.nm_assemble.specs.declared.assembly.AssembleFault.{AssembleFault}
+use Rattle.nm_assemble.specs.declared.assembly.AssembleFault.TheVariants as refused
+use Rattle.nm_assemble.specs.declared.assembly.Assembly.{Assembly}
+use Rattle.nm_assemble.specs.declared.misfit.Misfit.TheVariants.{Apart, OtherLeg, OtherMirror}
+use Rattle.nm_commands.specs.declared.server_settings.Settings.{Settings}
+use Rattle.nm_commands.specs.declared.start.Start.TheVariants.{Equal}
+use Rattle.nm_reports.specs.declared.start_fault.StartFault.{StartFault}
+use Rattle.nm_reports.specs.declared.start_fault.StartFault.TheVariants as fault
+use Rattle.nm_leg_files.specs.declared.superblock_choice.Choice.{Choice}
+use Rattle.nm_leg_files.specs.declared.superblock_choice.Choice.TheVariants.{First, Image}
+use Rattle.nm_leg_files.specs.declared.superblock_choice.Seen.{Seen}
+use Rattle.nm_superblock.specs.declared.superblock.Superblock.{Superblock}
+
+-- every stripe may open on the leg that was named, if one was
+abbrev pub MayBeAsked : Option ℕ → Assembly → Type 0
+MayBeAsked None a = Unit {0}
+MayBeAsked (Some leg) a = OpensAll leg a
+
+-- the image is that of a sure start; or of one that goes on though it is not sure, and begins a
+-- lineage
+pub record IsDegraded (lineage : ℕ) (seen : Seen) (newest sure image : Superblock) : Type 0 where
+  pub missing : (leg : ℕ) × IsMissing leg newest seen.found
+  pub fork : IsFork lineage sure image
+  pub others : image ≡ record sure { lineages = image.lineages; forks = image.forks }
+
+abbrev pub IsSureOr : (lineage : ℕ) → Seen → (newest sure image : Superblock) → Type 0
+IsSureOr lineage seen newest sure image =
+    (IsSureStart newest seen.found × (image ≡ sure)) ⊎ IsDegraded lineage seen newest sure image
+
+-- the image of a start that nobody forced
+pub record IsAssembled (s : Settings) (seen : Seen) (lineage : ℕ) (newest image : Superblock)
+    : Type 0 where
+  pub start : s.start ≢ Equal
+  pub assembly : Assembly
+  pub assembled : IsAssembly assembly seen.found seen.trusted s.degraded
+  pub asked : MayBeAsked s.master assembly
+  pub sure : Superblock
+  pub says : IsImage s.master assembly seen.here sure
+  pub goes_on : IsSureOr lineage seen newest sure image
+
+-- the image that a start goes by: a leg that was forced on it is the only one that is named
+abbrev pub GoesBy : (forced : Option ℕ) → Settings → Seen → (lineage : ℕ)
+    → (newest image : Superblock) → Type 0
+GoesBy (Some leg) s seen lineage newest image = IsForced leg lineage newest image
+GoesBy None s seen lineage newest image = IsAssembled s seen lineage newest image
+
+-- what a start goes by
+abbrev pub Chooses : Settings → Seen → (lineage : ℕ) → Choice → Type 0
+Chooses s seen lineage First = IsEmpty 8 seen.found
+Chooses s seen lineage (Image image) =
+    (newest : Superblock) × IsNewest 8 newest seen.found
+    × GoesBy s.force_master s seen lineage newest image
+
+-- the leg that a superblock says it is of
+abbrev pub leg_said : Option Superblock → ℕ
+leg_said (Some s) = s.leg
+leg_said None = 0
+
+-- what is told where superblocks do not decide
+abbrev pub told : AssembleFault → List (Option Superblock) → (newest : Superblock) → StartFault
+told refused.NoSuperblock found newest = fault.Memory
+told (refused.Unfit leg OtherMirror) found newest = fault.OtherMirror leg
+told (refused.Unfit leg OtherLeg) found newest = fault.OtherLeg leg (leg_said (beside leg found))
+told (refused.Unfit leg Apart) found newest =
+    fault.WentApart (min leg newest.leg) (max leg newest.leg)
+told (refused.MayBeNewer leg) found newest = fault.MayBeNewer leg
+told (refused.NoneInSync stripe) found newest = fault.NoneInSync stripe
+
+-- superblocks do not decide
+pub record IsTold (s : Settings) (seen : Seen) (tells : StartFault) : Type 0 where
+  pub unforced : s.force_master ≡ None
+  pub newest : Superblock
+  pub greatest : IsNewest 8 newest seen.found
+  pub why : AssembleFault
+  pub refused : IsRefused why seen.found seen.trusted s.degraded
+  pub told : tells ≡ told why seen.found newest
+
+-- a leg was named that cannot be the master of each stripe
+pub record IsNotInSync (s : Settings) (seen : Seen) (leg : ℕ) : Type 0 where
+  pub unforced : s.force_master ≡ None
+  pub named : s.master ≡ Some leg
+  pub assembly : Assembly
+  pub assembled : IsAssembly assembly seen.found seen.trusted s.degraded
+  pub closed : (stripe : ℕ) × IsClosedTo leg assembly stripe
+
+-- why a start by superblocks is refused
+abbrev pub RefusesChoice : Settings → Seen → StartFault → Type 0
+RefusesChoice s seen (fault.NoMaster leg) =
+    (8 ≤ leg) × ((s.force_master ≡ Some leg) ⊎ (s.master ≡ Some leg))
+RefusesChoice s seen fault.NotFirstStart =
+    (s.force_master ≡ None) × (s.start ≡ Equal)
+    × ((newest : Superblock) × IsNewest 8 newest seen.found)
+RefusesChoice s seen (fault.NotInSync leg) = IsNotInSync s seen leg
+RefusesChoice s seen tells = IsTold s seen tells

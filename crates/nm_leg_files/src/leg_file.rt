@@ -1,0 +1,53 @@
+//! One leg's file.
+ghost use Rattle.std.specs.Prelude.{◌≡◌, IfOk, is_some, not};
+ghost use Rattle.nm_leg_files.specs.Files.{name_of};
+ghost use Rattle.nm_leg_files.specs.Here.{is_here};
+
+use crate::late_file::LateFile;
+use crate::leg_opening::FoundLeg;
+use nm_file_leg::SharedFile;
+use nm_geometry::MOST_STRIPES;
+use nm_reports::{LegCounts, LegTrouble, Unopened};
+use std::alloc::{AllocError, Global};
+use std::io;
+use std::sync::Arc;
+
+/// A leg's file by the name that it was opened by, what of it failed last, and how often it
+/// was called.
+#[derive(Drop)]
+pub struct LegFile {
+    pub(crate) name: String,
+    pub(crate) shared: Arc<SharedFile<LateFile>>,
+    // Why the system did not open it at the start, where that is so.
+    pub(crate) unopened: Option<io::Error>,
+    pub(crate) trouble: Arc<LegTrouble>,
+    pub(crate) counts: Arc<LegCounts>,
+}
+
+/// The file of this name for the stripes, of which there are at most so many.
+pub(crate) fn share(alloc: Global, name: &str, found: FoundLeg) -> Result<LegFile, AllocError>
+    ensures name { IfOk result (λ leg. name_of leg ≡ name.now) }
+    ensures here { IfOk result (λ leg. is_here leg ≡ not (is_some found.unopened)) }
+{
+    let name = String::from_str(alloc, name)?;
+    let file = match found.file {
+        Some(file) => LateFile::opened(file),
+        None => LateFile::missing(),
+    };
+    let shared = SharedFile::new(alloc, file, MOST_STRIPES as usize)?;
+    Ok(LegFile {
+        name,
+        shared: Arc::new(alloc, shared)?,
+        unopened: found.unopened,
+        trouble: Arc::new(alloc, LegTrouble::new())?,
+        counts: Arc::new(alloc, LegCounts::new())?,
+    })
+}
+
+/// Why the system did not open it.
+pub(crate) fn unopened_by(file: &LegFile) -> Unopened {
+    match file.unopened {
+        Some(error) => Unopened::System(error),
+        None => Unopened::Cut,
+    }
+}

@@ -1,0 +1,58 @@
+//! The legs' files and those of their superblocks, and how a mirror is opened on them.
+//!
+//! On which file each leg stands, which superblock a start goes by and what follows a save is
+//! proved.
+#![tactic(auto)]
+
+mod alike;
+mod counting_file;
+mod equal_start;
+mod file_legs;
+mod ids;
+mod image_start;
+mod kept;
+mod late_file;
+mod late_slots;
+mod late_superblock;
+mod leg_file;
+mod leg_files;
+mod leg_hindrance;
+mod leg_maker;
+mod leg_opener;
+mod leg_opening;
+mod leg_place;
+mod leg_renewal;
+mod needs;
+mod no_superblocks;
+mod saving;
+mod starting;
+mod superblock_choice;
+mod superblock_opening;
+mod superblock_renewal;
+mod superblock_sets;
+mod superblock_writer;
+mod thread_trial;
+
+pub use crate::counting_file::BytesRead;
+pub use crate::equal_start::open_untold;
+pub use crate::ids::{draw_id, draw_mirror_id};
+pub use crate::image_start::open_by_image;
+pub use crate::kept::{KeptImage, Superblocks, open_gates};
+pub use crate::late_slots::LateSlots;
+pub use crate::late_superblock::LateSuperblock;
+pub use crate::leg_files::{FileMirror, Leg, LegFiles, REGION};
+pub use crate::leg_hindrance::Hindrance;
+pub use crate::leg_maker::{LegMaker, MakesLegs};
+pub use crate::leg_opener::{LegOpener, OpensLegs};
+pub use crate::leg_opening::LegRules;
+pub use crate::leg_place::LegPlace;
+pub use crate::leg_renewal::Unrenewed;
+pub use crate::needs::{check_files, check_stack, reply_bytes_of};
+pub use crate::no_superblocks::check_no_superblocks;
+pub use crate::saving::{AfterTry, after_try, is_clean, is_last_somewhere};
+pub use crate::starting::{named_master, start_for};
+pub use crate::superblock_choice::{Choice, Seen, choose};
+pub use crate::superblock_opening::FoundFiles;
+pub use crate::superblock_renewal::other_id;
+pub use crate::superblock_writer::SuperblockWriter;
+pub use crate::thread_trial::try_threads;

@@ -1,0 +1,196 @@
+//! The files of legs' superblocks, as a start opens, locks, reads and makes them.
+
+use crate::late_file::LateFile;
+use crate::late_slots::LateSlots;
+use crate::late_superblock::LateSuperblock;
+use crate::leg_opener::open_or_make;
+use crate::leg_opening::{bytes_of, lock_opened, open_locked};
+use nm_commands::{Settings, SuperblockPlace};
+use nm_reports::{StartFault, Unopened, superblock_name};
+use nm_saves::{SuperblockFile, SuperblockFiles, found_beside};
+use nm_superblock::Superblock;
+use std::alloc::Global;
+use std::fs::File;
+use std::io;
+use std::io::ErrorKind;
+use std::rt::Files;
+use std::sync::Arc;
+
+/// How many bytes a superblock's file has.
+const FILE_BYTES: u64 = 8192;
+
+/// The files of the legs' superblocks as they were found, leg 0's first, and their names.
+#[derive(Drop)]
+pub struct FoundFiles {
+    files: Vec<Option<SuperblockFile<LateSlots>>>,
+    names: Vec<String>,
+    are_beside: bool,
+}
+
+/// The files of superblocks while the server serves.
+#[derive(Drop)]
+pub struct AllFiles {
+    /// The files.
+    pub files: SuperblockFiles<LateSlots>,
+    /// Their names, from leg 0's on.
+    pub names: Vec<String>,
+    /// Those of missing legs that are opened later.
+    pub late: Vec<LateSuperblock>,
+}
+
+// Opens, locks and reads the superblock's file of this name, if there is one. One that is shorter
+// than it is made to be was cut off while it was made, and never held a superblock.
+fn read_file<R: Files<File = File>>(
+    rt: &R,
+    name: &str,
+) -> Result<Option<SuperblockFile<LateSlots>>, Unopened> {
+    let file = match open_locked(rt, name) {
+        Ok(file) => file,
+        Err(Unopened::System(error)) if error.kind() == ErrorKind::NotFound => return Ok(None),
+        Err(why) => return Err(why),
+    };
+    match bytes_of(&file) {
+        Some(bytes) if bytes >= FILE_BYTES => (),
+        _ => return Ok(None),
+    }
+    match SuperblockFile::open(LateSlots::Here(file)) {
+        Ok(found) => Ok(Some(found)),
+        Err(error) => Err(Unopened::by(error)),
+    }
+}
+
+/// The superblock's file that was opened, if it was, locked and with no superblock in it.
+pub(crate) fn blank_file(opened: io::Result<File>) -> Result<SuperblockFile<LateSlots>, Unopened> {
+    match SuperblockFile::create(LateSlots::Here(lock_opened(opened)?)) {
+        Ok(made) => Ok(made),
+        Err(error) => Err(Unopened::by(error)),
+    }
+}
+
+// Makes the superblock's file of this name, which holds none yet, and has the folder keep it.
+fn make_file<R: Files<File = File>>(
+    rt: &R,
+    name: &str,
+) -> Result<SuperblockFile<LateSlots>, Unopened> {
+    blank_file(open_or_make(rt, name))
+}
+
+// The superblock's file of this name, of a leg that is missing, as is the file: both are opened
+// later.
+fn late_file<'a>(
+    alloc: Global,
+    leg: usize,
+    name: &str,
+    is_beside: bool,
+    went_by: Superblock,
+) -> Result<(SuperblockFile<LateSlots>, LateSuperblock), StartFault<'a>> {
+    let Ok(file) = Arc::new(alloc, LateFile::missing()) else {
+        return Err(StartFault::Memory);
+    };
+    let late = LateSuperblock {
+        leg,
+        name: String::from_str(alloc, name)?,
+        file: Arc::try_clone(&file)?,
+        is_beside,
+        went_by,
+    };
+    match SuperblockFile::open(LateSlots::Late(file)) {
+        Ok(slots) => Ok((slots, late)),
+        Err(error) => Err(StartFault::CannotSave(leg, Unopened::by(error))),
+    }
+}
+
+impl FoundFiles {
+    /// Opens, locks and reads the files that are there, leg after leg. That of a leg that is not
+    /// here may be unreadable: then none is there.
+    pub fn open<'a, R: Files<File = File>>(
+        rt: &R,
+        alloc: Global,
+        settings: &Settings<'_>,
+        here: &[bool; 8],
+    ) -> Result<FoundFiles, StartFault<'a>> {
+        let (mut files, mut names) = (Vec::new(alloc), Vec::new(alloc));
+        for (leg, own) in settings.legs.iter().enumerate() {
+            let Some(name) = superblock_name(alloc, settings.superblock, leg, own)? else {
+                continue;
+            };
+            let file = match read_file(rt, name.as_str()) {
+                Ok(file) => file,
+                Err(Unopened::System(_)) if !here.get(leg).copied().unwrap_or(true) => None,
+                Err(why) => return Err(StartFault::CannotSave(leg, why)),
+            };
+            if files.push(file).is_err() || names.push(name).is_err() {
+                return Err(StartFault::Memory);
+            }
+        }
+        let are_beside = matches!(settings.superblock, SuperblockPlace::Beside);
+        Ok(FoundFiles {
+            files,
+            names,
+            are_beside,
+        })
+    }
+
+    /// The superblocks that they hold.
+    pub fn found(&self) -> [Option<Superblock>; 8] {
+        found_beside(&self.files)
+    }
+
+    // Makes the file of a leg that has none so far; that of a missing leg is opened later.
+    fn complete_leg<'a, R: Files<File = File>>(
+        &mut self,
+        rt: &R,
+        alloc: Global,
+        leg: usize,
+        is_here: bool,
+        went_by: Option<Superblock>,
+    ) -> Result<Option<LateSuperblock>, StartFault<'a>> {
+        let (Some(place), Some(name)) = (self.files.get_mut(leg), self.names.get(leg)) else {
+            return Ok(None);
+        };
+        if place.is_some() {
+            return Ok(None);
+        }
+        if is_here {
+            match make_file(rt, name.as_str()) {
+                Ok(made) => *place = Some(made),
+                Err(why) => return Err(StartFault::CannotSave(leg, why)),
+            }
+            return Ok(None);
+        }
+        let Some(went_by) = went_by else {
+            return Ok(None);
+        };
+        let (slots, late) = late_file(alloc, leg, name.as_str(), self.are_beside, went_by)?;
+        *place = Some(slots);
+        Ok(Some(late))
+    }
+
+    /// Makes the files that are not there, of legs that are here; those of missing legs are opened
+    /// later, if the start went by a superblock. What saves go on from is this image.
+    pub fn complete<'a, R: Files<File = File>>(
+        self,
+        rt: &R,
+        alloc: Global,
+        here: &[bool; 8],
+        image: Superblock,
+        went_by: Option<Superblock>,
+    ) -> Result<AllFiles, StartFault<'a>> {
+        let (mut own, mut late) = (self, Vec::new(alloc));
+        for leg in 0..own.names.len() {
+            let is_here = here.get(leg).copied().unwrap_or(false);
+            let Some(one) = own.complete_leg(rt, alloc, leg, is_here, went_by)? else {
+                continue;
+            };
+            if late.push(one).is_err() {
+                return Err(StartFault::Memory);
+            }
+        }
+        let FoundFiles { files, names, .. } = own;
+        Ok(AllFiles {
+            files: SuperblockFiles::new(files, image),
+            names,
+            late,
+        })
+    }
+}

@@ -1,0 +1,42 @@
+//! A leg that is replaced gets a superblock's file of its own, and a new id.
+ghost use Rattle.std.specs.Prelude.{◌≢◌};
+
+use crate::late_slots::LateSlots;
+use crate::leg_opener::OpensLegs;
+use crate::superblock_opening::blank_file;
+use crate::superblock_writer::SuperblockWriter;
+use nm_reports::Unopened;
+
+/// A leg's new id, from a number that was drawn at random: it is neither 0 nor its old one.
+pub fn other_id(drawn: u64, old: u64) -> u64
+    ensures other { result ≢ old }
+    ensures some { result ≢ 0 }
+{
+    if drawn != 0 && drawn != old {
+        drawn
+    } else if old == 1 {
+        2
+    } else {
+        1
+    }
+}
+
+impl SuperblockWriter<LateSlots> {
+    /// Lets the leg's superblock go, makes its file anew with none in it, and gives the leg a new
+    /// id: what is saved from now on has that one. Nothing is saved beside the leg where this fails.
+    pub fn renew_leg<O: OpensLegs>(&mut self, opener: &O, leg: u8) -> Result<(), Unopened> {
+        let at = leg as usize;
+        if at >= 8 || at >= self.files.legs() || at >= self.names.len() {
+            return Err(Unopened::Cut);
+        }
+        let drawn = match opener.draw() {
+            Ok(drawn) => drawn,
+            Err(error) => return Err(Unopened::by(error)),
+        };
+        self.files.let_go(at);
+        let made = blank_file(opener.make(self.names[at].as_str()))?;
+        let id = other_id(drawn, self.files.image().leg_ids[at]);
+        self.files.renew(at, made, id);
+        Ok(())
+    }
+}

@@ -1,0 +1,244 @@
+//! The thread that saves superblocks.
+
+ghost use Rattle.std.specs.Prelude.{◌≤◌};
+
+use crate::saving::{AfterTry, after_try, is_clean, is_last_somewhere};
+use nm_geometry::MOST_LEGS;
+use nm_lanes::Gate;
+use nm_leg::LegPart;
+use nm_mirror::{Mirror, SaveOrder};
+use nm_reports::{LogLines, SaveStatus};
+use nm_saves::{SlotFile, SuperblockFiles};
+use nm_superblock::{LegSets, SpanMap, Superblock};
+use std::alloc::{AllocError, Global};
+use std::sync::Wait;
+use std::{fmt, io};
+
+/// How many stripes a superblock tells of at most.
+const MOST_STRIPES: u32 = 64;
+
+/// How many spans each stripe has at most.
+const MOST_SPANS: usize = 16_384;
+
+// In how many of so many stripes a leg is in sync by the first sets and not by the second.
+fn losses(before: &LegSets, after: &LegSets, stripes: usize) -> u32
+    requires { stripes ≤ 64 }
+{
+    let mut count = 0u32;
+    for stripe in 0..stripes {
+        if before.in_sync(stripe) & !after.in_sync(stripe) != 0 {
+            count = count.saturating_add(1);
+        }
+    }
+    count
+}
+
+// How many spans are marked.
+fn marks(map: &SpanMap) -> u32 {
+    let mut count = 0u32;
+    for span in 0..MOST_SPANS {
+        if map.is_marked(span) {
+            count = count.saturating_add(1);
+        }
+    }
+    count
+}
+
+// The end of a line on a file that failed.
+#[derive(Clone, Copy, Drop)]
+struct Reason<'x> {
+    error: Option<&'x io::Error>,
+}
+
+impl fmt::Display for Reason<'_> {
+    fn fmt<W: fmt::Write>(&self, f: &mut fmt::Formatter<W>) -> fmt::Result {
+        match self.error {
+            Some(error) => write!(f, ": {error}"),
+            None => Ok(()),
+        }
+    }
+}
+
+// Whether the leg lacks the marked spans in some stripe.
+fn is_partial(last: &Superblock, leg: u8) -> bool {
+    for stripe in 0..MOST_STRIPES as usize {
+        if leg < 8 && (last.sets.partial(stripe) >> leg) & 1 == 1 {
+            return true;
+        }
+    }
+    false
+}
+
+/// The superblocks' files while the server serves, their names, and the superblock that its start
+/// went by, if there was one.
+#[derive(Drop)]
+pub struct SuperblockWriter<S: SlotFile> {
+    alloc: Global,
+    pub(crate) files: SuperblockFiles<S>,
+    // From leg 0 on.
+    pub(crate) names: Vec<String>,
+    went_by: Option<Superblock>,
+}
+
+impl<S: SlotFile> SuperblockWriter<S> {
+    /// A writer of these files, with their names from leg 0's on, and the newest superblock that
+    /// was found in them: none where they were made.
+    pub fn new(
+        alloc: Global,
+        files: SuperblockFiles<S>,
+        names: Vec<String>,
+        went_by: Option<Superblock>,
+    ) -> SuperblockWriter<S> {
+        SuperblockWriter {
+            alloc,
+            files,
+            names,
+            went_by,
+        }
+    }
+
+    // What the start went by, and what it leaves to be copied.
+    fn start_line(&self) -> Result<String, AllocError> {
+        let last = self.files.image();
+        let Some(by) = &self.went_by else {
+            return format!(in self.alloc; "superblock: made, generation {}", last.generation);
+        };
+        let (generation, leg) = (by.generation, by.leg);
+        let mut text = format!(in self.alloc; "superblock: generation {generation} of leg {leg}")?;
+        let count = marks(&last.marked);
+        for leg in 0..last.legs {
+            if count > 0 && is_partial(last, leg) {
+                let spans = if count == 1 { "span" } else { "spans" };
+                write!(text, ", {count} {spans} to copy to leg {leg}")?;
+            }
+        }
+        Ok(text)
+    }
+
+    /// Tells how the superblocks stand as the server begins.
+    pub fn tell_start<R: Wait>(&self, rt: &R, status: &SaveStatus, lines: &LogLines) {
+        let last = self.files.image();
+        status.begin(marks(&last.marked), 0);
+        status.end(last.generation);
+        lines.inform(rt, self.start_line());
+    }
+
+    // The name of a leg's file.
+    fn name(&self, leg: u8) -> &str {
+        match self.names.get(leg as usize) {
+            Some(name) => name.as_str(),
+            None => "none",
+        }
+    }
+
+    // Why a leg's file failed.
+    fn reason(&self, leg: u8) -> Reason<'_> {
+        Reason {
+            error: self.files.error(leg as usize),
+        }
+    }
+
+    // Takes a leg out whose file failed. Whether saves go on without it.
+    fn take_out<R: Wait, L: LegPart, G: Gate + Drop>(
+        &self,
+        rt: &R,
+        mirror: &Mirror<L, G>,
+        leg: u8,
+        lines: &LogLines,
+    ) -> bool {
+        if leg >= mirror.legs() {
+            return false;
+        }
+        let counts = mirror.fail_leg(rt, leg);
+        let (name, why) = (self.name(leg), self.reason(leg));
+        if is_last_somewhere(&counts) {
+            let text = format!(in self.alloc;
+                "leg {leg} is the last in sync somewhere, and its superblock ({name}) cannot be \
+                 written{why}"
+            );
+            lines.alert(rt, text);
+            return false;
+        }
+        let text = format!(in self.alloc;
+            "leg {leg} is taken out: its superblock ({name}) cannot be written{why}"
+        );
+        lines.warn(rt, text);
+        true
+    }
+
+    // Tries once to save what the mirror is, and says what follows.
+    fn try_save<R: Wait, L: LegPart, G: Gate + Drop>(
+        &mut self,
+        rt: &R,
+        mirror: &Mirror<L, G>,
+        status: &SaveStatus,
+        is_last: bool,
+    ) -> AfterTry {
+        let order = mirror.begin_save(rt);
+        let (sets, marked) = (order.sets(), order.marked());
+        let stripes = mirror.shape().stripes.min(MOST_STRIPES) as usize;
+        status.begin(
+            marks(marked),
+            losses(&self.files.image().sets, sets, stripes),
+        );
+        let clean = is_last && is_clean(sets, marked, stripes, mirror.legs().min(MOST_LEGS));
+        let after = after_try(&self.files.save(sets, marked, clean, &order.out()));
+        if after == AfterTry::End {
+            mirror.end_save(rt, order);
+            status.end(self.files.image().generation);
+        }
+        after
+    }
+
+    // Saves what the mirror is, without the legs whose files fail. Whether it was saved.
+    fn save<R: Wait, L: LegPart, G: Gate + Drop>(
+        &mut self,
+        rt: &R,
+        mirror: &Mirror<L, G>,
+        status: &SaveStatus,
+        lines: &LogLines,
+        is_last: bool,
+    ) -> bool {
+        for _ in rt.forever() {
+            match self.try_save(rt, mirror, status, is_last) {
+                AfterTry::End => return true,
+                AfterTry::TakeOut(leg) if self.take_out(rt, mirror, leg, lines) => (),
+                _ => break,
+            }
+        }
+        mirror.fail_save(rt);
+        status.fail();
+        let text = format!(in self.alloc;
+            "no superblock can be written any more: the mirror is read-only from now on"
+        );
+        lines.alert(rt, text);
+        false
+    }
+
+    /// Saves what the mirror is. Whether that could be done.
+    pub fn save_once<R: Wait, L: LegPart, G: Gate + Drop>(
+        &mut self,
+        rt: &R,
+        mirror: &Mirror<L, G>,
+        status: &SaveStatus,
+        lines: &LogLines,
+    ) -> bool {
+        self.save(rt, mirror, status, lines, false)
+    }
+
+    /// Saves for the last time, once nothing else is at work: that the mirror ends in good order,
+    /// where it does.
+    pub fn end<R: Wait, L: LegPart, G: Gate + Drop>(
+        &mut self,
+        rt: &R,
+        mirror: &Mirror<L, G>,
+        status: &SaveStatus,
+        lines: &LogLines,
+    ) {
+        if status.has_failed() || !self.save(rt, mirror, status, lines, false) {
+            return;
+        }
+        mirror.settle_all(rt);
+        let _ = self.save(rt, mirror, status, lines, true);
+    }
+}

@@ -1,0 +1,101 @@
+//! What is behind a stripe's lock.
+ghost use Rattle.std.specs.Prelude.{◌≡◌, ◌<◌, ℕ, length, false, true, IsTrue};
+ghost use Rattle.nm_gate.specs.Durable.{is_named};
+ghost use Rattle.nm_leg.specs.LegCalls.{EachHas};
+ghost use Rattle.nm_mirror.specs.Asks.{LetsPass};
+ghost use Rattle.nm_mirror.specs.Reopening.{NamesAtMost, Reopens, with_past};
+ghost use Rattle.nm_mirror.specs.declared.ask.Ask.TheVariants.{Answer};
+ghost use Rattle.nm_regions.specs.Sound.{AreSizes};
+ghost use Rattle.nm_resync.specs.Chunk.{IsChunkSize};
+ghost use Rattle.nm_stripe.specs.End.{end_of};
+
+use crate::opening::only_bit;
+use crate::stripe_end::{Past, StripeEnd};
+use nm_gate::{DurableState, GatedStripe};
+use nm_leg::LegPart;
+use nm_stripe::{At, Policy, Stripe};
+use std::alloc::Global;
+
+/// A stripe and its gate, how many times it was opened anew, and what its earlier openings have had.
+#[derive(Drop)]
+pub struct Held<L: LegPart> {
+    pub(crate) gated: GatedStripe<L>,
+    pub(crate) openings: u64,
+    pub(crate) past: Past,
+}
+
+/// Whether the superblock may call no leg of so many in sync but the master.
+fn names_at_most(durable: &DurableState, legs: u8, master: u8) -> bool
+    ensures { IsTrue result → (leg : ℕ) → leg < legs → is_named leg durable.now ≡ true
+        → leg ≡ master }
+{
+    'legs: for leg in 0..legs {
+        if leg != master && durable.is_named(leg) {
+            return false;
+        }
+    }
+    true
+}
+
+impl<L: LegPart> Held<L> {
+    /// A stripe in its first opening.
+    pub(crate) fn new(gated: GatedStripe<L>) -> Self
+        ensures { result.gated ≡ gated }
+    {
+        Held {
+            gated,
+            openings: 0,
+            past: Past::default(),
+        }
+    }
+
+    /// What the end of the stripe tells, if it ended now: of all of its openings.
+    pub(crate) fn end(&self) -> StripeEnd<L>
+        ensures { result ≡ with_past self.now.past (end_of self.now.gated.stripe) }
+    {
+        StripeEnd::of(self.past, &self.gated.stripe.end())
+    }
+
+    /// Whether the superblock may call no leg in sync but the master.
+    fn names_at_most_the_master(&self) -> bool
+        ensures { IsTrue result → NamesAtMost (length self.now.gated.stripe.legs)
+            self.now.gated.stripe.master self.now.gated.durable }
+    {
+        let legs = self.gated.stripe.legs() as u8;
+        match &self.gated.durable {
+            Some(durable) => names_at_most(durable, legs, self.gated.stripe.master()),
+            None => true,
+        }
+    }
+
+    /// Opens a stripe that stopped anew, at its place and on these legs: from the leg it stopped on.
+    /// Whether it did: not where it runs, where the superblock may call another leg in sync, or
+    /// where memory is refused. Then nothing changes.
+    pub(crate) fn reopen(&mut self, alloc: Global, place: At, legs: Vec<L>, policy: Policy) -> bool
+        requires saved { LetsPass self.old.gated.durable self.old.gated.stripe Answer }
+        requires sizes { AreSizes place.blocks place.region (length legs.items) }
+        requires chunk { IsChunkSize place.chunk }
+        requires lengths { EachHas L.model legs.items place.blocks }
+        ensures opened { IsTrue result → Reopens place legs.items policy self.old self.new }
+        ensures stays { result ≡ false → self.new ≡ self.old }
+    {
+        let master = self.gated.stripe.master();
+        if !self.gated.stripe.is_stopped()
+            || master as usize >= legs.len()
+            || !self.names_at_most_the_master()
+        {
+            return false;
+        }
+        let end = self.gated.stripe.end();
+        let first = self.gated.stripe.next_number();
+        match Stripe::open(alloc, place, legs, only_bit::<L>(master), first, policy) {
+            Ok(stripe) => {
+                self.gated.stripe = stripe;
+                self.past.add(&end);
+                self.openings = self.openings.saturating_add(1);
+                true
+            }
+            Err(_) => false,
+        }
+    }
+}

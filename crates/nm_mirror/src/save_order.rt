@@ -1,0 +1,119 @@
+//! What the next superblock says of each stripe.
+ghost use Rattle.std.specs.Prelude.{◌≡◌, ◌<◌};
+ghost use Rattle.nm_mirror.specs.Saves.{IsMapOf, IsSetOf, SaysClaims, SetsClaims};
+
+use crate::save_desk::MOST_SPANS;
+use nm_gate::LegClaims;
+use nm_superblock::{LegSets, SpanMap};
+
+/// How many stripes a mirror has at most.
+pub(crate) const MOST_STRIPES: usize = 64;
+
+/// The claims on no leg.
+pub(crate) const NO_CLAIMS: LegClaims = LegClaims {
+    in_sync: [false; 8],
+    candidates: [false; 8],
+    partial: [false; 8],
+};
+
+/// What the next superblock says of each stripe: what each claims of its legs, and the spans that
+/// are marked. Only a mirror makes one, as a save begins, and takes it back as the save ends.
+#[derive(Drop)]
+pub struct SaveOrder {
+    pub(crate) claims: [LegClaims; MOST_STRIPES],
+    pub(crate) spans: [bool; MOST_SPANS],
+    sets: LegSets,
+    marked: SpanMap,
+    out: [bool; 8],
+    ghost said: { SaysClaims claims sets },
+    ghost mapped: { IsMapOf spans marked },
+}
+
+/// The set of legs as a byte.
+fn byte_of(set: &[bool; 8]) -> u8
+    ensures { IsSetOf set.now result }
+{
+    let mut byte = 0u8;
+    'legs: for leg in 0..8 {
+        if set[leg] {
+            byte |= 1 << leg;
+        }
+    }
+    byte
+}
+
+/// Writes what is claimed in the stripe.
+fn put_claims(sets: &mut LegSets, stripe: usize, claims: &LegClaims)
+    requires { stripe < 64 }
+    ensures { SetsClaims claims.now stripe sets.old sets.new }
+{
+    sets.bytes[4 * stripe] = byte_of(&claims.in_sync);
+    sets.bytes[4 * stripe + 1] = byte_of(&claims.candidates);
+    sets.bytes[4 * stripe + 2] = byte_of(&claims.partial);
+}
+
+/// The sets of each stripe that are claimed.
+fn sets_of(claims: &[LegClaims; MOST_STRIPES]) -> LegSets
+    ensures { SaysClaims claims.now result }
+{
+    let mut sets = LegSets { bytes: [0; 256] };
+    'stripes: for stripe in 0..MOST_STRIPES {
+        put_claims(&mut sets, stripe, &claims[stripe]);
+    }
+    sets
+}
+
+/// The map of these spans.
+fn map_of(spans: &[bool; MOST_SPANS]) -> SpanMap
+    ensures { IsMapOf spans.now result }
+{
+    let mut map = SpanMap { bytes: [0; 2048] };
+    'spans: for span in 0..MOST_SPANS {
+        if spans[span] {
+            map.mark(span);
+        }
+    }
+    map
+}
+
+impl SaveOrder {
+    /// What a superblock says that makes these claims, and marks these spans; and the legs that are
+    /// out in every stripe.
+    pub(crate) fn new(
+        claims: [LegClaims; MOST_STRIPES],
+        spans: [bool; MOST_SPANS],
+        out: [bool; 8],
+    ) -> SaveOrder
+        ensures claims { result.claims ≡ claims }
+        ensures spans { result.spans ≡ spans }
+    {
+        let sets = sets_of(&claims);
+        let marked = map_of(&spans);
+        SaveOrder {
+            claims,
+            spans,
+            sets,
+            marked,
+            out,
+        }
+    }
+
+    /// What it says of the legs of each stripe.
+    pub fn sets(&self) -> &LegSets
+        ensures { SaysClaims self.now.claims result.now }
+    {
+        &self.sets
+    }
+
+    /// The spans that it marks, in every stripe.
+    pub fn marked(&self) -> &SpanMap
+        ensures { IsMapOf self.now.spans result.now }
+    {
+        &self.marked
+    }
+
+    /// The legs that are out in every stripe.
+    pub fn out(&self) -> [bool; 8] {
+        self.out
+    }
+}

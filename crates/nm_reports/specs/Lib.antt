@@ -1,0 +1,5 @@
+pub mod Address
+pub mod MirrorCall
+pub mod StartFault
+pub mod SuperblockNames
+pub mod Unread

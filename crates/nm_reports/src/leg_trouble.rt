@@ -1,0 +1,142 @@
+//! What of a leg's file failed last.
+
+use std::io::ErrorKind;
+use std::sync::atomic::{AtomicBool, AtomicU32, AtomicU64, Ordering};
+use std::{fmt, io};
+
+/// A call of a leg's file.
+#[derive(Clone, Copy, Debug, PartialEq, Eq)]
+pub enum FileCall {
+    Read,
+    Write,
+    Sync,
+    Length,
+}
+
+impl FileCall {
+    // The number by which it is kept.
+    fn number(self) -> u64 {
+        match self {
+            FileCall::Read => 0,
+            FileCall::Write => 1,
+            FileCall::Sync => 2,
+            FileCall::Length => 3,
+        }
+    }
+
+    // The call that has this number.
+    fn of(number: u64) -> FileCall {
+        match number {
+            0 => FileCall::Read,
+            1 => FileCall::Write,
+            2 => FileCall::Sync,
+            _ => FileCall::Length,
+        }
+    }
+}
+
+/// A call of a leg's file that failed.
+///
+/// It prints as `a write at byte 4096 failed: Input/output error (os error 5)`.
+#[derive(Clone, Copy, Debug)]
+pub struct Trouble {
+    call: FileCall,
+    at: u64,
+    error: Option<io::Error>,
+}
+
+impl fmt::Display for Trouble {
+    fn fmt<W: fmt::Write>(&self, f: &mut fmt::Formatter<W>) -> fmt::Result {
+        let at = self.at;
+        match self.call {
+            FileCall::Read => write!(f, "a read at byte {at} failed")?,
+            FileCall::Write => write!(f, "a write at byte {at} failed")?,
+            FileCall::Sync => f.write_str("a sync failed")?,
+            FileCall::Length => f.write_str("it has not the length that it had")?,
+        }
+        match &self.error {
+            Some(error) if error.kind() == ErrorKind::StorageFull => {
+                f.write_str(": no space left on its file system")
+            }
+            Some(error) => write!(f, ": {error}"),
+            None => Ok(()),
+        }
+    }
+}
+
+/// The last call of a leg's file that failed and is not told yet. The stripes of the leg note it,
+/// whoever tells of the leg takes it; none of them waits.
+#[derive(Drop)]
+pub struct LegTrouble {
+    // Whether somebody is at the fields below.
+    is_taken: AtomicBool,
+    is_new: AtomicBool,
+    // Whether the file was ever found shorter than at the start.
+    was_cut: AtomicBool,
+    call: AtomicU64,
+    at: AtomicU64,
+    // The system's number of the error, or 0.
+    error: AtomicU32,
+}
+
+impl LegTrouble {
+    /// Nothing has failed yet.
+    pub fn new() -> LegTrouble {
+        LegTrouble {
+            is_taken: AtomicBool::new(false),
+            is_new: AtomicBool::new(false),
+            was_cut: AtomicBool::new(false),
+            call: AtomicU64::new(0),
+            at: AtomicU64::new(0),
+            error: AtomicU32::new(0),
+        }
+    }
+
+    /// Notes a call that failed, at this byte. Of several at a time one is noted.
+    pub fn note(&self, call: FileCall, at: u64, error: Option<&io::Error>) {
+        if call == FileCall::Length && error.is_none() {
+            self.was_cut.store(true, Ordering::SeqCst);
+        }
+        if self.is_taken.swap(true, Ordering::SeqCst) {
+            return;
+        }
+        let number = match error {
+            Some(error) => error.raw_os_error().unwrap_or(0),
+            None => 0,
+        };
+        self.call.store(call.number(), Ordering::SeqCst);
+        self.at.store(at, Ordering::SeqCst);
+        self.error.store(number.cast_unsigned(), Ordering::SeqCst);
+        self.is_new.store(true, Ordering::SeqCst);
+        self.is_taken.store(false, Ordering::SeqCst);
+    }
+
+    /// Whether the file was ever found shorter than at the start.
+    pub fn was_cut(&self) -> bool {
+        self.was_cut.load(Ordering::SeqCst)
+    }
+
+    /// Forgets what failed, for another file in the leg's place.
+    pub fn forget(&self) {
+        self.was_cut.store(false, Ordering::SeqCst);
+        self.is_new.store(false, Ordering::SeqCst);
+    }
+
+    /// Takes what failed last, if something has since this was last asked.
+    pub fn take(&self) -> Option<Trouble> {
+        if self.is_taken.swap(true, Ordering::SeqCst) {
+            return None;
+        }
+        let is_new = self.is_new.swap(false, Ordering::SeqCst);
+        let trouble = Trouble {
+            call: FileCall::of(self.call.load(Ordering::SeqCst)),
+            at: self.at.load(Ordering::SeqCst),
+            error: match self.error.load(Ordering::SeqCst).cast_signed() {
+                0 => None,
+                number => Some(io::Error::from_raw_os_error(number)),
+            },
+        };
+        self.is_taken.store(false, Ordering::SeqCst);
+        if is_new { Some(trouble) } else { None }
+    }
+}

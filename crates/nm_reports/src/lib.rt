@@ -1,0 +1,50 @@
+//! What the server tells: its log lines, what happens to legs, its metrics, how far a start is, and
+//! why it does not start.
+//!
+//! It opens nothing. What is told of a mirror is asked of it here.
+#![tactic(auto)]
+
+mod address;
+mod call_counts;
+mod elapsed;
+mod incidents;
+mod leg_counts;
+mod leg_lines;
+mod leg_story;
+mod leg_trouble;
+mod log_form;
+mod log_lines;
+mod metrics;
+mod metrics_page;
+mod metrics_text;
+mod mirror_call;
+mod progress;
+mod reason;
+mod save_status;
+mod server_info;
+mod start_fault;
+mod superblock_names;
+mod unbound;
+mod unread;
+
+pub use crate::address::Address;
+pub use crate::call_counts::{CallCounts, CallTotals, MirrorCallKind, bytes_of};
+pub use crate::elapsed::{microseconds_since, milliseconds_since};
+pub use crate::incidents::Incident;
+pub use crate::leg_counts::{LegCall, LegCounts};
+pub use crate::leg_lines::LegLines;
+pub use crate::leg_story::LegStory;
+pub use crate::leg_trouble::{FileCall, LegTrouble};
+pub use crate::log_form::LogForm;
+pub use crate::log_lines::LogLines;
+pub use crate::metrics::Metrics;
+pub use crate::metrics_text::put_metrics;
+pub use crate::mirror_call::MirrorCall;
+pub use crate::progress::{Comparison, tell_progress};
+pub use crate::reason::{Unopened, tell_reason};
+pub use crate::save_status::SaveStatus;
+pub use crate::server_info::ServerInfo;
+pub use crate::start_fault::StartFault;
+pub use crate::superblock_names::superblock_name;
+pub use crate::unbound::Unbound;
+pub use crate::unread::{UnreadList, region_bytes};

@@ -1,0 +1,252 @@
+//! The answer to `metrics`.
+
+use crate::call_counts::{CallTotals, MirrorCallKind};
+use crate::leg_counts::{LegCall, LegNumber};
+use crate::metrics::Metrics;
+use crate::metrics_page::MetricsPage;
+use nm_lanes::Gate;
+use nm_leg::LegPart;
+use nm_mirror::{Glance, LegStatus, Mirror, StripeStatus};
+use nm_stripe::LegState;
+use std::alloc::{AllocError, Global};
+use std::sync::Wait;
+use std::time::Clock;
+
+/// How many bytes a block has.
+const BLOCK_BYTES: u64 = nm_replay::BLOCK_BYTES as u64;
+
+// Puts how long the requests of one kind took.
+fn put_times(
+    page: &mut MetricsPage<'_>,
+    kind: MirrorCallKind,
+    totals: &CallTotals,
+) -> Result<(), AllocError> {
+    page.put_buckets(
+        "nbdmirror_request_seconds_bucket",
+        kind.name(),
+        &totals.buckets,
+    )?;
+    let labels = format!(in page.alloc(); "operation=\"{}\"", kind.name())?;
+    page.put_time(
+        "nbdmirror_request_seconds_sum",
+        labels.as_str(),
+        totals.microseconds,
+    )?;
+    page.put(
+        "nbdmirror_request_seconds_count",
+        labels.as_str(),
+        totals.calls(),
+    )
+}
+
+// Puts what clients asked for, and what came of it.
+fn put_requests(page: &mut MetricsPage<'_>, metrics: &Metrics) -> Result<(), AllocError> {
+    let alloc = page.alloc();
+    let mut all = Vec::new(alloc);
+    for kind in MirrorCallKind::ALL {
+        let labels = format!(in alloc; "operation=\"{}\"", kind.name())?;
+        all.push((kind, labels, metrics.totals(alloc, kind)?))?;
+    }
+    let name = "nbdmirror_requests_total";
+    page.begin_counter(name, "Requests of clients that reached the mirror.")?;
+    for (_, labels, totals) in &all {
+        page.put(name, labels.as_str(), totals.calls())?;
+    }
+    let name = "nbdmirror_request_bytes_total";
+    page.begin_counter(name, "Bytes that requests read, wrote or zeroed.")?;
+    for (_, labels, totals) in &all {
+        page.put(name, labels.as_str(), totals.bytes)?;
+    }
+    let name = "nbdmirror_request_errors_total";
+    page.begin_counter(name, "Requests that failed.")?;
+    for (_, labels, totals) in &all {
+        page.put(name, labels.as_str(), totals.errors)?;
+    }
+    let name = "nbdmirror_request_seconds";
+    page.begin_histogram(name, "How long requests took in the mirror.")?;
+    for (kind, _, totals) in &all {
+        put_times(page, *kind, totals)?;
+    }
+    Ok(())
+}
+
+// Puts how many clients there were, and what came of them.
+fn put_clients(page: &mut MetricsPage<'_>, metrics: &Metrics) -> Result<(), AllocError> {
+    let name = "nbdmirror_sessions";
+    page.begin_gauge(name, "Clients that are connected.")?;
+    page.put(name, "", metrics.sessions_now())?;
+    let name = "nbdmirror_sessions_total";
+    page.begin_counter(name, "Clients that were given a place.")?;
+    page.put(name, "", metrics.sessions())?;
+    let name = "nbdmirror_sessions_failed_total";
+    page.begin_counter(name, "Sessions that broke off.")?;
+    page.put(name, "", metrics.sessions_failed())?;
+    let name = "nbdmirror_clients_refused_total";
+    page.begin_counter(name, "Clients that found no free place.")?;
+    page.put(name, "", metrics.clients_refused())
+}
+
+// Puts a number of each kind of call of each leg's file.
+fn put_leg_numbers(
+    page: &mut MetricsPage<'_>,
+    metrics: &Metrics,
+    name: &str,
+    number: LegNumber,
+) -> Result<(), AllocError> {
+    for (leg, counts) in metrics.legs().iter().enumerate() {
+        for call in LegCall::ALL {
+            let labels = format!(in page.alloc(); "leg=\"{leg}\",call=\"{}\"", call.name())?;
+            page.put(name, labels.as_str(), counts.get(call, number))?;
+        }
+    }
+    Ok(())
+}
+
+// Puts how the legs' files were called.
+fn put_leg_calls(page: &mut MetricsPage<'_>, metrics: &Metrics) -> Result<(), AllocError> {
+    let name = "nbdmirror_leg_calls_total";
+    page.begin_counter(name, "Calls of the leg's file, by clients and copies.")?;
+    put_leg_numbers(page, metrics, name, LegNumber::Calls)?;
+    let name = "nbdmirror_leg_bytes_total";
+    page.begin_counter(name, "Bytes that calls of the leg's file moved.")?;
+    put_leg_numbers(page, metrics, name, LegNumber::Bytes)?;
+    let name = "nbdmirror_leg_errors_total";
+    page.begin_counter(name, "Calls of the leg's file that failed.")?;
+    put_leg_numbers(page, metrics, name, LegNumber::Errors)
+}
+
+// How a leg stands in the stripes that were seen.
+#[derive(Clone, Copy)]
+struct LegStand {
+    in_sync: u64,
+    joining: u64,
+    out: u64,
+    left: u64,
+}
+
+impl LegStand {
+    // Adds how it stands in one more stripe.
+    fn add(&mut self, status: &LegStatus) {
+        let place = match status.state {
+            LegState::InSync => &mut self.in_sync,
+            LegState::Joining => &mut self.joining,
+            LegState::Out => &mut self.out,
+        };
+        *place = place.saturating_add(1);
+        if status.state == LegState::Joining {
+            self.left = self.left.saturating_add(status.left);
+        }
+    }
+
+    // How the leg of this number stands.
+    fn of(glances: &[Glance], leg: usize) -> LegStand {
+        let mut stand = LegStand {
+            in_sync: 0,
+            joining: 0,
+            out: 0,
+            left: 0,
+        };
+        for glance in glances {
+            if let Some(StripeStatus::Running { legs, .. }) = glance.told() {
+                if let Some(status) = legs.get(leg) {
+                    stand.add(status);
+                }
+            }
+        }
+        stand
+    }
+}
+
+// Puts in how many stripes each leg is how, and how much it lacks.
+fn put_stands(page: &mut MetricsPage<'_>, glances: &[Glance], legs: u8) -> Result<(), AllocError> {
+    let alloc = page.alloc();
+    let mut stands = Vec::new(alloc);
+    for leg in 0..usize::from(legs) {
+        stands.push(LegStand::of(glances, leg))?;
+    }
+    let name = "nbdmirror_leg_stripes";
+    page.begin_gauge(name, "Stripes in which the leg is in sync, copied, or out.")?;
+    for (leg, stand) in stands.iter().enumerate() {
+        for (state, count) in [
+            ("in", stand.in_sync),
+            ("join", stand.joining),
+            ("out", stand.out),
+        ] {
+            let labels = format!(in alloc; "leg=\"{leg}\",state=\"{state}\"")?;
+            page.put(name, labels.as_str(), count)?;
+        }
+    }
+    let name = "nbdmirror_leg_left_bytes";
+    page.begin_gauge(name, "Bytes that are left to copy to the leg.")?;
+    for (leg, stand) in stands.iter().enumerate() {
+        let labels = format!(in alloc; "leg=\"{leg}\"")?;
+        page.put(
+            name,
+            labels.as_str(),
+            stand.left.saturating_mul(BLOCK_BYTES),
+        )?;
+    }
+    Ok(())
+}
+
+// Puts how many stripes are running, have stopped, and are busy.
+fn put_stripes(page: &mut MetricsPage<'_>, glances: &[Glance]) -> Result<(), AllocError> {
+    let (mut running, mut stopped, mut busy) = (0u64, 0u64, 0u64);
+    for glance in glances {
+        let place = match glance.told() {
+            Some(StripeStatus::Running { .. }) => &mut running,
+            Some(StripeStatus::Stopped) => &mut stopped,
+            None => &mut busy,
+        };
+        *place = place.saturating_add(1);
+    }
+    let name = "nbdmirror_stripes";
+    page.begin_gauge(
+        name,
+        "Stripes that are running, have stopped, or do not answer.",
+    )?;
+    page.put(name, "state=\"running\"", running)?;
+    page.put(name, "state=\"stopped\"", stopped)?;
+    page.put(name, "state=\"busy\"", busy)
+}
+
+// Puts all metrics of a mirror of so many legs, whose stripes were just seen.
+fn put_all(
+    page: &mut MetricsPage<'_>,
+    metrics: &Metrics,
+    glances: &[Glance],
+    legs: u8,
+    unread: u64,
+) -> Result<(), AllocError> {
+    put_requests(page, metrics)?;
+    put_clients(page, metrics)?;
+    put_leg_calls(page, metrics)?;
+    put_stands(page, glances, legs)?;
+    put_stripes(page, glances)?;
+    let name = "nbdmirror_unread_regions";
+    page.begin_gauge(name, "Regions that no leg in sync gives back.")?;
+    page.put(name, "", unread)
+}
+
+/// Puts all that a server counts, how its legs stand, and how much is left to copy; at last a line
+/// `end`.
+pub fn put_metrics<R: Wait + Clock, L: LegPart, G: Gate + Drop>(
+    rt: &R,
+    alloc: Global,
+    mirror: &Mirror<L, G>,
+    unread: u64,
+    metrics: &Metrics,
+    text: &mut String,
+) -> Result<(), AllocError> {
+    let Ok(glances) = mirror.glance(rt, alloc) else {
+        return Err(AllocError);
+    };
+    put_all(
+        &mut MetricsPage::new(alloc, text),
+        metrics,
+        &glances,
+        mirror.legs(),
+        unread,
+    )?;
+    text.push_str("end\n")
+}

@@ -1,0 +1,169 @@
+//! What a refusal does not say: which file or address, and why. It stands in the line before it.
+
+use crate::start_fault::StartFault;
+use crate::superblock_names::superblock_name;
+use crate::unbound::Unbound;
+use nm_commands::{Settings, SuperblockPlace};
+use std::alloc::{AllocError, Global};
+use std::io;
+use std::io::{ErrorKind, Write};
+
+/// Why a leg's file is not opened.
+#[derive(Clone, Copy, Debug)]
+pub enum Unopened {
+    /// The system does not open it.
+    System(io::Error),
+    /// It is a folder.
+    Folder,
+    /// It is locked, by another process or for another leg.
+    Locked,
+    /// It became shorter since it was measured.
+    Cut,
+}
+
+impl Unopened {
+    /// Why the system does not open a file.
+    pub fn by(error: io::Error) -> Unopened {
+        if error.kind() == ErrorKind::IsADirectory {
+            Unopened::Folder
+        } else {
+            Unopened::System(error)
+        }
+    }
+}
+
+// The name of the leg of this number.
+fn name_of<'a>(names: &[&'a str], leg: usize) -> &'a str {
+    names.get(leg).copied().unwrap_or("")
+}
+
+// What the system says of an error, without the number that it ends with.
+fn without_number(text: &str) -> &str {
+    match text.split_once(" (os error ") {
+        Some((words, _)) => words,
+        None => text,
+    }
+}
+
+// What the system says of an error, of this name.
+fn put_system<E: Write>(
+    alloc: Global,
+    name: &str,
+    error: io::Error,
+    err: &mut E,
+) -> Result<(), AllocError> {
+    let whole = format!(in alloc; "{error}")?;
+    put_line(name, without_number(whole.as_str()), err);
+    Ok(())
+}
+
+// Why this leg's file is not opened.
+fn put_unopened<E: Write>(
+    alloc: Global,
+    name: &str,
+    why: Unopened,
+    err: &mut E,
+) -> Result<(), AllocError> {
+    match why {
+        Unopened::System(error) => return put_system(alloc, name, error, err),
+        Unopened::Folder => put_line(name, "is a folder", err),
+        Unopened::Locked => put_line(name, "is locked by another process, or is another leg", err),
+        Unopened::Cut => put_line(name, "became shorter meanwhile", err),
+    }
+    Ok(())
+}
+
+// Why no socket listens at this address.
+fn put_unbound<E: Write>(
+    alloc: Global,
+    name: &str,
+    why: Unbound,
+    err: &mut E,
+) -> Result<(), AllocError> {
+    match why {
+        Unbound::System(error) => return put_system(alloc, name, error, err),
+        Unbound::NoPath => put_line(name, "has no path", err),
+        Unbound::NoSocket => put_line(name, "is no socket", err),
+        Unbound::Taken => put_line(name, "somebody listens there", err),
+    }
+    Ok(())
+}
+
+// A line on this leg's file, or on this address.
+fn put_line<E: Write>(name: &str, text: &str, err: &mut E) {
+    let _ = writeln!(err, "nbdmirror: {name}: {text}");
+}
+
+// Why a leg of this length is none.
+fn put_length<E: Write>(name: &str, bytes: Option<u64>, err: &mut E) {
+    let _ = match bytes {
+        None => writeln!(err, "nbdmirror: {name}: has no length"),
+        Some(bytes) => writeln!(
+            err,
+            "nbdmirror: {name}: has {bytes} bytes: a leg has a multiple of 512, from 512 to 2^40"
+        ),
+    };
+}
+
+// The name of the file of this leg's superblock: beside the leg, where there is to be none.
+fn superblock_of(alloc: Global, settings: &Settings<'_>, leg: usize) -> Result<String, AllocError> {
+    let place = match settings.superblock {
+        SuperblockPlace::Nowhere => SuperblockPlace::Beside,
+        place => place,
+    };
+    match superblock_name(alloc, place, leg, name_of(&settings.legs, leg))? {
+        Some(name) => Ok(name),
+        None => Ok(String::new(alloc)),
+    }
+}
+
+/// Tells which file or address is meant by a refusal, and why it is refused. A refusal that says
+/// all by itself has no such line.
+pub fn tell_reason<E: Write>(
+    alloc: Global,
+    fault: &StartFault<'_>,
+    settings: &Settings<'_>,
+    err: &mut E,
+) -> Result<(), AllocError> {
+    let names = settings.legs.as_slice();
+    match *fault {
+        StartFault::HasSuperblock(leg) => {
+            let name = superblock_of(alloc, settings, leg)?;
+            let text = "give --superblock beside, or name the newest leg by --force-master";
+            put_line(name.as_str(), text, err);
+        }
+        StartFault::CannotSave(leg, why) => {
+            let name = superblock_of(alloc, settings, leg)?;
+            put_unopened(alloc, name.as_str(), why, err)?;
+        }
+        StartFault::CannotOpen(leg, why) => put_unopened(alloc, name_of(names, leg), why, err)?,
+        StartFault::InUse(leg) => {
+            let text = "is mounted, swapped to, held by another device, or behind a loop device";
+            put_line(name_of(names, leg), text, err);
+        }
+        StartFault::BadLength(leg, bytes) => put_length(name_of(names, leg), bytes, err),
+        StartFault::OtherLength(leg, bytes, other, other_bytes) => {
+            let (name, other_name) = (name_of(names, leg), name_of(names, other));
+            let _ = writeln!(
+                err,
+                "nbdmirror: {name}: has {bytes} bytes, and {other_name} has {other_bytes}"
+            );
+        }
+        StartFault::OverFileLimit(leg, bytes, limit) => {
+            let name = name_of(names, leg);
+            let _ = writeln!(
+                err,
+                "nbdmirror: {name}: has {bytes} bytes, and the limit is {limit}"
+            );
+        }
+        StartFault::CannotRead(leg) => {
+            put_line(name_of(names, leg as usize), "a read failed", err);
+        }
+        StartFault::CannotListen(address, why) => {
+            let text = format!(in alloc; "{address}")?;
+            put_unbound(alloc, text.as_str(), why, err)?;
+        }
+        _ => (),
+    }
+    Ok(())
+}

@@ -1,0 +1,64 @@
+//! How the superblocks stand, as the control port tells it.
+
+use std::alloc::AllocError;
+use std::sync::atomic::{AtomicBool, AtomicU32, AtomicU64, Ordering};
+
+/// How the superblocks stand. Whoever saves sets it, the control port tells it, and neither waits.
+#[derive(Drop)]
+pub struct SaveStatus {
+    // 0 where there are no superblocks.
+    generation: AtomicU64,
+    marked: AtomicU32,
+    unsaved: AtomicU32,
+    has_failed: AtomicBool,
+}
+
+impl SaveStatus {
+    /// There are no superblocks.
+    pub fn none() -> SaveStatus {
+        SaveStatus {
+            generation: AtomicU64::new(0),
+            marked: AtomicU32::new(0),
+            unsaved: AtomicU32::new(0),
+            has_failed: AtomicBool::new(false),
+        }
+    }
+
+    /// A save begins, which marks so many spans. In so many stripes a leg that the superblocks call
+    /// in sync is so no more.
+    pub fn begin(&self, marked: u32, unsaved: u32) {
+        self.marked.store(marked, Ordering::SeqCst);
+        self.unsaved.store(unsaved, Ordering::SeqCst);
+    }
+
+    /// The superblocks have this generation.
+    pub fn end(&self, generation: u64) {
+        self.generation.store(generation, Ordering::SeqCst);
+        self.unsaved.store(0, Ordering::SeqCst);
+    }
+
+    /// A save could not be done.
+    pub fn fail(&self) {
+        self.has_failed.store(true, Ordering::SeqCst);
+    }
+
+    /// Whether a save could not be done.
+    pub fn has_failed(&self) -> bool {
+        self.has_failed.load(Ordering::SeqCst)
+    }
+
+    /// Puts a line that says how they stand.
+    pub fn put(&self, text: &mut String) -> Result<(), AllocError> {
+        let generation = self.generation.load(Ordering::SeqCst);
+        if generation == 0 {
+            return text.push_str("superblock: none\n");
+        }
+        let marked = self.marked.load(Ordering::SeqCst);
+        let unsaved = self.unsaved.load(Ordering::SeqCst);
+        let failed = if self.has_failed() { " failed" } else { "" };
+        writeln!(
+            text,
+            "superblock: generation {generation} marked {marked} unsaved {unsaved}{failed}"
+        )
+    }
+}

@@ -1,0 +1,144 @@
+ghost use Rattle.std.specs.Prelude.{◌≡◌};
+ghost use Rattle.nm_reports.specs.StartFault.{status_of};
+ghost use Rattle.nm_reports.specs.declared.start_fault.StartFault.TheVariants.{Memory};
+
+use crate::address::Address;
+use crate::reason::Unopened;
+use crate::unbound::Unbound;
+use std::alloc::AllocError;
+use thiserror::Error;
+
+/// Why the server does not start, or does not end well.
+#[derive(Debug, Drop, Error)]
+pub enum StartFault<'a> {
+    /// A word of the command line is not UTF-8.
+    #[error("nbdmirror: a word is not UTF-8")]
+    NotUtf8,
+    /// Standard input, output or error is closed, and nothing can be opened in its place.
+    #[error("nbdmirror: cannot open /dev/null")]
+    NoStandardStreams,
+    /// The process may not open as many files as are needed.
+    #[error("nbdmirror: the limit on open files is below {0}")]
+    FewDescriptors(u64),
+    /// The stacks of threads would be smaller than they need, in KiB.
+    #[error("nbdmirror: the stack limit is below {0} KiB")]
+    SmallStack(u64),
+    /// A mirror has at most 8 legs.
+    #[error("nbdmirror: more than 8 legs")]
+    TooManyLegs,
+    /// The master is none of the legs.
+    #[error("nbdmirror: master {0} is not a leg")]
+    NoMaster(u8),
+    /// The export's name is empty or too long.
+    #[error("nbdmirror: name must be 1 to 255 bytes")]
+    BadName,
+    /// This leg's file cannot be opened for reading and writing, or is in use.
+    #[error("nbdmirror: leg {0}: cannot open")]
+    CannotOpen(usize, Unopened),
+    /// The system has this leg in use.
+    #[error("nbdmirror: leg {0}: is in use")]
+    InUse(usize),
+    /// This leg's length, if it has one, is no positive multiple of 512, or is more than 2^40 bytes.
+    #[error("nbdmirror: leg {0}: bad length")]
+    BadLength(usize, Option<u64>),
+    /// This leg is so many bytes long, and that one, the first that is here, has another length.
+    #[error("nbdmirror: leg {0}: length differs from leg {2}")]
+    OtherLength(usize, u64, usize, u64),
+    /// This leg's file is so many bytes long, and the process may write shorter files alone.
+    #[error("nbdmirror: leg {0}: is longer than the file size limit")]
+    OverFileLimit(usize, u64, u64),
+    /// This leg has a superblock, and the server was asked to keep none.
+    #[error("nbdmirror: leg {0}: has a superblock")]
+    HasSuperblock(usize),
+    /// This leg is a block device, beside which no superblock would outlive a restart.
+    #[error("nbdmirror: leg {0}: is a block device: give --superblock FOLDER")]
+    NoPlaceBeside(usize),
+    /// The file of this leg's superblock cannot be opened for reading and writing, made or removed.
+    #[error("nbdmirror: leg {0}: cannot write its superblock")]
+    CannotSave(usize, Unopened),
+    /// This leg's superblock is of another mirror, or of a mirror of another shape.
+    #[error("nbdmirror: leg {0}: its superblock is of another mirror")]
+    OtherMirror(usize),
+    /// This leg's superblock says that it is that leg's.
+    #[error("nbdmirror: leg {0}: its superblock says leg {1}")]
+    OtherLeg(usize, u8),
+    /// There are superblocks, and the legs were to be taken for equal.
+    #[error("nbdmirror: --start equal: the legs have superblocks")]
+    NotFirstStart,
+    /// This leg was named as the master, and is not in sync by the superblocks.
+    #[error("nbdmirror: master {0} is not in sync by the superblocks")]
+    NotInSync(u8),
+    /// No random number can be had.
+    #[error("nbdmirror: no random numbers")]
+    NoRandomNumbers,
+    /// This leg, the master, cannot be read.
+    #[error("nbdmirror: leg {0}: cannot read")]
+    CannotRead(u8),
+    /// No master is named, and the legs are not known to hold the same.
+    #[error("nbdmirror: legs differ: name the newest by --master")]
+    LegsDiffer,
+    /// This leg may have a newer superblock, and none was found.
+    #[error("nbdmirror: leg {0} may be newer, and its superblock is not here")]
+    MayBeNewer(usize),
+    /// Both legs have superblocks of which neither came after the other.
+    #[error("nbdmirror: legs {0} and {1} went on apart: name one by --force-master")]
+    WentApart(usize, usize),
+    /// No leg that is in sync in this stripe by the superblocks is here.
+    #[error("nbdmirror: stripe {0}: no leg in sync is here")]
+    NoneInSync(usize),
+    /// No socket listens at this address.
+    #[error("nbdmirror: cannot listen on {0}")]
+    CannotListen(Address<'a>, Unbound),
+    /// Out of memory, or out of threads.
+    #[error("nbdmirror: no memory")]
+    Memory,
+    /// What the stripes have had is not what the sessions counted.
+    #[error("nbdmirror: cannot close")]
+    CannotClose,
+}
+
+impl StartFault<'_> {
+    /// The exit status.
+    pub fn status(&self) -> u8
+        ensures { result ≡ status_of self.now }
+    {
+        match self {
+            StartFault::NotUtf8 => 2,
+            StartFault::NoStandardStreams
+            | StartFault::FewDescriptors(_)
+            | StartFault::SmallStack(_)
+            | StartFault::TooManyLegs
+            | StartFault::NoMaster(_)
+            | StartFault::BadName
+            | StartFault::CannotOpen(_, _)
+            | StartFault::InUse(_)
+            | StartFault::BadLength(_, _)
+            | StartFault::OtherLength(_, _, _, _)
+            | StartFault::OverFileLimit(_, _, _)
+            | StartFault::HasSuperblock(_)
+            | StartFault::NoPlaceBeside(_)
+            | StartFault::CannotSave(_, _)
+            | StartFault::OtherMirror(_)
+            | StartFault::OtherLeg(_, _)
+            | StartFault::NotFirstStart
+            | StartFault::NotInSync(_)
+            | StartFault::NoRandomNumbers
+            | StartFault::CannotRead(_) => 3,
+            StartFault::CannotListen(_, _) => 4,
+            StartFault::Memory => 5,
+            StartFault::CannotClose => 6,
+            StartFault::LegsDiffer
+            | StartFault::MayBeNewer(_)
+            | StartFault::WentApart(_, _)
+            | StartFault::NoneInSync(_) => 7,
+        }
+    }
+}
+
+impl From<AllocError> for StartFault<'_> {
+    ghost from_gives = { λ _ fault. fault ≡ Memory };
+
+    fn from(_: AllocError) -> Self {
+        StartFault::Memory
+    }
+}

@@ -1,0 +1,297 @@
+//! The mirror over the legs' files, as it is opened: with superblocks, or without.
+ghost use Rattle.std.specs.Prelude.{map};
+ghost use Rattle.nm_mirror.specs.Stripes.{AreStripesOf};
+
+use crate::answering_meanwhile::answer_meanwhile;
+use crossbeam_channel::bounded;
+use nm_assemble::{NewMirror, first_superblock, newest_of};
+use nm_commands::{Settings, Start as AskedStart, SuperblockPlace};
+use nm_gate::GatedStripe;
+use nm_geometry::Shape;
+use nm_lanes::NoGate;
+use nm_leg_files::{
+    BytesRead, Choice, FileMirror, FoundFiles, KeptImage, Leg, LegFiles, REGION, Seen, Superblocks,
+    check_no_superblocks, choose, draw_id, draw_mirror_id, named_master, open_by_image, open_gates,
+    open_untold, start_for,
+};
+use nm_mirror::{Mirror, Start};
+use nm_reports::{Comparison, LogLines, StartFault, tell_progress};
+use nm_sockets::Listener;
+use nm_superblock::Superblock;
+use std::alloc::Global;
+use std::fs::File;
+use std::random::RandomSource;
+use std::rt::Files;
+use std::sync::atomic::AtomicU64;
+use std::sync::{Arc, Wait};
+use std::thread;
+use std::thread::Threads;
+use std::time::Clock;
+
+/// How many regions the spans of one number have in all stripes: 64 MiB.
+const SPAN_REGIONS: u32 = 1024;
+
+/// The mirror, and what saves its superblocks, if it has some.
+#[derive(Drop)]
+pub struct OpenedMirror {
+    /// The mirror.
+    pub mirror: FileMirror,
+    /// Its superblocks.
+    pub superblocks: Option<Superblocks>,
+}
+
+// The mirror of these stripes.
+fn mirror_of<'a>(
+    alloc: Global,
+    shape: Shape,
+    stripes: Vec<GatedStripe<Leg>>,
+) -> Result<FileMirror, StartFault<'a>>
+    requires { AreStripesOf shape (map (λ own. own.stripe) stripes.items) }
+{
+    match Mirror::new(alloc, shape, stripes, NoGate) {
+        Ok(mirror) => {
+            // A thread for half of a request pays at no size over files (docs/PERFORMANCE.md).
+            mirror.keep_to_one_thread();
+            Ok(mirror)
+        }
+        Err(_) => Err(StartFault::Memory),
+    }
+}
+
+// The mirror over the legs' files, which its stripes share, as legs stand that no superblock tells
+// of. It gets its first ones, if they are kept.
+fn open_mirror<'a, R: Files<File = File>>(
+    rt: &R,
+    alloc: Global,
+    settings: &Settings<'a>,
+    files: &LegFiles,
+    read: &BytesRead,
+    kept: Option<KeptImage>,
+) -> Result<OpenedMirror, StartFault<'a>> {
+    let Some(shape) = files.shape(settings.stripes) else {
+        return Err(StartFault::Memory);
+    };
+    let stripes = open_untold(alloc, settings, files, &shape, read)?;
+    match kept {
+        None => {
+            let open = open_gates(alloc, &shape, stripes)?;
+            Ok(OpenedMirror {
+                mirror: mirror_of(alloc, shape, open)?,
+                superblocks: None,
+            })
+        }
+        Some(kept) => {
+            let (gated, superblocks) = kept.gate(rt, alloc, &shape, stripes)?;
+            Ok(OpenedMirror {
+                mirror: mirror_of(alloc, shape, gated)?,
+                superblocks: Some(superblocks),
+            })
+        }
+    }
+}
+
+// Opens the mirror, while one thread tells how far the comparison of its legs is, and another one
+// answers the control port. Where no thread can be had nothing is told.
+fn open_watched<'a, R>(
+    rt: &R,
+    alloc: Global,
+    settings: &Settings<'a>,
+    files: &LegFiles,
+    control: &Listener,
+    lines: &LogLines,
+    kept: Option<KeptImage>,
+) -> Result<OpenedMirror, StartFault<'a>>
+where
+    R: Threads + Wait + Sync + Clock + Files<File = File>,
+{
+    let Ok(read) = Arc::new(alloc, AtomicU64::new(0)) else {
+        return Err(StartFault::Memory);
+    };
+    if start_for(settings.start) == Start::Full || settings.legs.len() < 2 {
+        return open_mirror(rt, alloc, settings, files, &read, kept);
+    }
+    let Ok((comparing, has_ended)) = bounded(alloc, 1) else {
+        return Err(StartFault::Memory);
+    };
+    let own_comparison = Comparison {
+        legs: settings.legs.len(),
+        bytes: files.bytes(),
+        read: &read,
+    };
+    let (ended, comparison) = (&has_ended, &own_comparison);
+    thread::scope(thread::scope_env(), rt, |scope| {
+        let _ = scope.spawn(move || tell_progress(rt, alloc, ended, comparison, lines));
+        let _ = scope.spawn(move || answer_meanwhile(rt, alloc, control, ended, comparison));
+        let mirror = open_mirror(rt, alloc, settings, files, &read, kept);
+        drop(comparing);
+        mirror
+    })
+}
+
+// The image of a mirror's first superblocks: without a named master all legs are found equal, or
+// taken to be.
+fn first_image<'a, R: RandomSource>(
+    rt: &R,
+    settings: &Settings<'_>,
+    shape: &Shape,
+    here: &[bool; 8],
+    lineage: u64,
+) -> Result<Superblock, StartFault<'a>> {
+    let mut leg_ids = [0; 8];
+    for leg in 0..shape.legs as usize {
+        if let Some(id) = leg_ids.get_mut(leg) {
+            *id = draw_id(rt)?;
+        }
+    }
+    let new = NewMirror {
+        mirror: draw_mirror_id(rt)?,
+        blocks: shape.blocks,
+        region_blocks: REGION as u32,
+        span_regions: SPAN_REGIONS.div_ceil(shape.stripes.max(1)),
+        stripes: shape.stripes.min(64) as u8,
+        legs: shape.legs,
+        leg_ids,
+        lineage,
+    };
+    let named = named_master(settings);
+    let equal = if named.is_none() || settings.start == AskedStart::Equal {
+        *here
+    } else {
+        [false; 8]
+    };
+    Ok(first_superblock(&new, named.unwrap_or(0) as usize, &equal))
+}
+
+// Gives each leg a new id that is here and that the image knows in no stripe: what was kept of it
+// says nothing any more.
+fn renew_ids<'a, R: RandomSource>(
+    rt: &R,
+    image: &mut Superblock,
+    here: &[bool; 8],
+) -> Result<(), StartFault<'a>> {
+    let mut known = 0u8;
+    for stripe in 0..64 {
+        known |= image.sets.in_sync(stripe) | image.sets.partial(stripe);
+    }
+    for leg in 0..8 {
+        if here[leg] && (known >> leg) & 1 == 0 {
+            if let Some(id) = image.leg_ids.get_mut(leg) {
+                *id = draw_id(rt)?;
+            }
+        }
+    }
+    Ok(())
+}
+
+// The mirror that this image opens.
+fn open_image<'a, R: Files<File = File>>(
+    rt: &R,
+    alloc: Global,
+    settings: &Settings<'a>,
+    files: &LegFiles,
+    kept: KeptImage,
+) -> Result<OpenedMirror, StartFault<'a>> {
+    let Ok(read) = Arc::new(alloc, AtomicU64::new(0)) else {
+        return Err(StartFault::Memory);
+    };
+    let (image, here) = (kept.image, kept.here);
+    let shape = match files.shape(image.stripes) {
+        Some(shape) if fits(&shape, &image) => shape,
+        _ => return Err(StartFault::OtherMirror(image.leg as usize)),
+    };
+    let policy = settings.policy;
+    let stripes = open_by_image(alloc, policy, files, &shape, &read, &image, &here)?;
+    let (gated, superblocks) = kept.gate(rt, alloc, &shape, stripes)?;
+    Ok(OpenedMirror {
+        mirror: mirror_of(alloc, shape, gated)?,
+        superblocks: Some(superblocks),
+    })
+}
+
+// Whether the image is of a mirror of this shape.
+fn fits(shape: &Shape, image: &Superblock) -> bool {
+    image.blocks == shape.blocks
+        && u64::from(image.region_blocks) == shape.region
+        && image.span_regions > 0
+        && u32::from(image.stripes) == shape.stripes
+}
+
+// The mirror that superblocks open, or that gets its first ones.
+fn open_kept<'a, R>(
+    rt: &R,
+    alloc: Global,
+    settings: &Settings<'a>,
+    files: &LegFiles,
+    control: &Listener,
+    lines: &LogLines,
+) -> Result<OpenedMirror, StartFault<'a>>
+where
+    R: Threads + Wait + Sync + Clock + RandomSource + Files<File = File>,
+{
+    files.check_named(named_master(settings))?;
+    let here = files.here();
+    let found = FoundFiles::open(rt, alloc, settings, &here)?;
+    let seen = Seen {
+        found: found.found(),
+        trusted: files.settle(),
+        here,
+    };
+    let lineage = draw_id(rt)?;
+    let went_by = newest_of(&seen.found);
+    let (image, is_first) = match choose(settings, &seen, lineage)? {
+        Choice::First => {
+            // Without superblocks nobody knows what a missing leg has.
+            if let Some((leg, why)) = files.missing() {
+                return Err(StartFault::CannotOpen(leg, why));
+            }
+            let Some(shape) = files.shape(settings.stripes) else {
+                return Err(StartFault::Memory);
+            };
+            (first_image(rt, settings, &shape, &here, lineage)?, true)
+        }
+        Choice::Image(image) => {
+            let mut image = image;
+            renew_ids(rt, &mut image, &here)?;
+            image.legs = image.legs.max(settings.legs.len().min(8) as u8);
+            (image, false)
+        }
+    };
+    let kept = KeptImage {
+        files: found,
+        image,
+        here,
+        went_by,
+    };
+    if is_first {
+        open_watched(rt, alloc, settings, files, control, lines, Some(kept))
+    } else {
+        open_image(rt, alloc, settings, files, kept)
+    }
+}
+
+/// Opens the mirror that the settings ask for: by superblocks, where they are kept.
+pub fn open_asked_for<'a, R>(
+    rt: &R,
+    alloc: Global,
+    settings: &Settings<'a>,
+    files: &LegFiles,
+    control: &Listener,
+    lines: &LogLines,
+) -> Result<OpenedMirror, StartFault<'a>>
+where
+    R: Threads + Wait + Sync + Clock + RandomSource + Files<File = File>,
+{
+    match settings.superblock {
+        SuperblockPlace::Nowhere => {
+            check_no_superblocks(rt, alloc, settings)?;
+            return open_watched(rt, alloc, settings, files, control, lines, None);
+        }
+        SuperblockPlace::Beside => {
+            if let Some(leg) = files.block_device() {
+                return Err(StartFault::NoPlaceBeside(leg));
+            }
+        }
+        SuperblockPlace::Folder(_) => (),
+    }
+    open_kept(rt, alloc, settings, files, control, lines)
+}

@@ -1,0 +1,125 @@
+//! `replace`: a leg's file is opened anew while clients go on, and copied whole.
+ghost use Rattle.std.specs.Prelude.{◌<◌};
+
+use nm_geometry::Shape;
+use nm_lanes::Gate;
+use nm_leg::LegPart;
+use nm_leg_files::{BytesRead, LateSlots, Leg, LegPlace, OpensLegs, SuperblockWriter, Unrenewed};
+use nm_mirror::{Mirror, ReplaceCounts, Withdrawal};
+use std::alloc::{AllocError, Global};
+use std::fmt;
+use std::sync::atomic::AtomicU64;
+use std::sync::{Arc, Mutex, Wait};
+
+/// What came of a replacement.
+#[derive(Clone, Copy, Debug, PartialEq, Eq)]
+pub enum Replaced {
+    /// It was done where it could be.
+    Done(ReplaceCounts),
+    /// Nothing was done: in some stripe the leg is the only one in sync.
+    Last,
+    /// Nothing was done: a replacement of the leg is under way.
+    Busy,
+    /// The leg is out, and no superblock can be saved that says so.
+    NotSaved,
+    /// The leg is out, and its file was not opened anew.
+    Unrenewed(Unrenewed),
+}
+
+impl fmt::Display for Replaced {
+    fn fmt<W: fmt::Write>(&self, f: &mut fmt::Formatter<W>) -> fmt::Result {
+        match self {
+            Replaced::Done(counts) => write!(
+                f,
+                "joining {} left {} out {} stopped {}",
+                counts.joining, counts.left, counts.out, counts.stopped
+            ),
+            Replaced::Last => f.write_str("last"),
+            Replaced::Busy => f.write_str("busy"),
+            Replaced::NotSaved => f.write_str("not saved"),
+            Replaced::Unrenewed(why) => why.fmt(f),
+        }
+    }
+}
+
+/// What opens a leg's file anew.
+pub trait RenewsLegs<L> {
+    /// Opens the file that the leg's name leads to now, and gives the leg a superblock's file and
+    /// an id of its own, if it has one. The answer is the legs of all stripes on that file, stripe
+    /// 0's first. No stripe has the leg meanwhile.
+    fn renew<R: Wait>(&self, rt: &R, alloc: Global, leg: u8) -> Result<Vec<L>, Unrenewed>;
+}
+
+/// What opens the files of a mirror of this shape anew.
+#[derive(Drop)]
+pub struct LegRenewer<'x, O> {
+    opener: &'x O,
+    places: &'x [Arc<LegPlace>],
+    superblocks: Option<&'x Mutex<SuperblockWriter<LateSlots>>>,
+    shape: Shape,
+    read: BytesRead,
+}
+
+impl<'x, O> LegRenewer<'x, O> {
+    /// What opens these legs' files by this opener, and their superblocks', if they have some.
+    pub fn new(
+        alloc: Global,
+        opener: &'x O,
+        places: &'x [Arc<LegPlace>],
+        superblocks: Option<&'x Mutex<SuperblockWriter<LateSlots>>>,
+        shape: &Shape,
+    ) -> Result<LegRenewer<'x, O>, AllocError> {
+        Ok(LegRenewer {
+            opener,
+            places,
+            superblocks,
+            shape: *shape,
+            read: Arc::new(alloc, AtomicU64::new(0))?,
+        })
+    }
+}
+
+impl<'x, O: OpensLegs> RenewsLegs<Leg> for LegRenewer<'x, O> {
+    fn renew<R: Wait>(&self, rt: &R, alloc: Global, leg: u8) -> Result<Vec<Leg>, Unrenewed> {
+        let number = leg as usize;
+        let Some(place) = self.places.get(number) else {
+            return Err(Unrenewed::CannotOpen);
+        };
+        let legs = place.renew(rt, alloc, self.opener, number, &self.shape, &self.read)?;
+        if let Some(superblocks) = self.superblocks {
+            if superblocks.lock(rt).renew_leg(self.opener, leg).is_err() {
+                return Err(Unrenewed::CannotOpen);
+            }
+        }
+        Ok(legs)
+    }
+}
+
+/// Takes the leg out of every stripe, has its file opened anew, and puts it back.
+pub fn replace_now<R: Wait, L: LegPart, G: Gate + Drop, N: RenewsLegs<L>>(
+    rt: &R,
+    alloc: Global,
+    mirror: &Mirror<L, G>,
+    leg: u8,
+    legs: &N,
+) -> Replaced
+    requires { leg < mirror.now.shape.legs }
+{
+    match mirror.withdraw_leg(rt, leg) {
+        Withdrawal::Last => return Replaced::Last,
+        Withdrawal::NotSaved => return Replaced::NotSaved,
+        Withdrawal::Stopped(stopped) => {
+            let none = ReplaceCounts::default();
+            return Replaced::Done(ReplaceCounts { stopped, ..none });
+        }
+        Withdrawal::Out => (),
+    }
+    let parts = match legs.renew(rt, alloc, leg) {
+        Ok(parts) => parts,
+        Err(why) => return Replaced::Unrenewed(why),
+    };
+    match mirror.replace_leg(rt, leg, parts) {
+        Ok(counts) => Replaced::Done(counts),
+        Err(_) => Replaced::Unrenewed(Unrenewed::OtherLength),
+    }
+}

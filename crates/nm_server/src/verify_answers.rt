@@ -1,0 +1,72 @@
+//! The control port's answers on a verification of the legs.
+
+use crate::controlled::Controlled;
+use crate::replacing::RenewsLegs;
+use crate::verify_desk::VerifyDesk;
+use nm_lanes::Gate;
+use nm_leg::LegPart;
+use nm_leg_files::MakesLegs;
+use nm_mirror::{Glance, LegStatus, StripeStatus};
+use nm_stripe::LegState;
+use std::alloc::{AllocError, Global};
+use std::sync::Wait;
+use std::time::Clock;
+
+// How many of these legs are in sync.
+fn count_in_sync(legs: &[LegStatus]) -> usize {
+    legs.iter()
+        .filter(|leg| leg.state == LegState::InSync)
+        .count()
+}
+
+// Whether the stripe has two legs in sync, or cannot be asked right now.
+fn has_two(glance: &Glance) -> bool {
+    match glance.told() {
+        Some(StripeStatus::Stopped) => false,
+        Some(StripeStatus::Running { legs, .. }) => count_in_sync(legs.as_slice()) > 1,
+        None => true,
+    }
+}
+
+/// Puts how the verification stands.
+pub fn put_known<R: Wait, L: LegPart, G: Gate + Drop, N: RenewsLegs<L>, M: MakesLegs<L>>(
+    rt: &R,
+    server: &Controlled<'_, L, G, N, M>,
+    text: &mut String,
+) -> Result<(), AllocError> {
+    let known = server.orders.verify().known(rt);
+    known.put(server.mirror.shape(), text)?;
+    text.push_str("\n")
+}
+
+/// The answer to `verify`: it is started, unless one goes on, or no stripe has two legs in sync.
+pub fn put_verify<R: Wait + Clock, L: LegPart, G: Gate + Drop, N: RenewsLegs<L>, M: MakesLegs<L>>(
+    rt: &R,
+    alloc: Global,
+    server: &Controlled<'_, L, G, N, M>,
+    text: &mut String,
+) -> Result<(), AllocError> {
+    let Ok(stripes) = server.mirror.glance(rt, alloc) else {
+        return Err(AllocError);
+    };
+    if !stripes.iter().any(has_two) {
+        return text.push_str("verify: none in sync to compare\n");
+    }
+    if server.orders.verify().ask(rt) {
+        return text.push_str("verify: started\n");
+    }
+    put_known(rt, server, text)
+}
+
+/// The answer to `verify stop`.
+pub fn put_verify_stop<R: Wait>(
+    rt: &R,
+    desk: &VerifyDesk,
+    text: &mut String,
+) -> Result<(), AllocError> {
+    if desk.stop(rt) {
+        text.push_str("verify: stopped\n")
+    } else {
+        text.push_str("verify: not running\n")
+    }
+}

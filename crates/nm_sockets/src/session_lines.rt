@@ -1,0 +1,77 @@
+//! The log lines on sessions: that one begins, and how it ended.
+
+use crate::client_stream::ClientStream;
+use crate::served_client::Closing;
+use nm_reports::{Incident, LogLines};
+use nm_session::{End, ServeFault};
+use std::alloc::Global;
+use std::sync::Wait;
+use std::time::Clock;
+
+/// How a session ended that no fault broke off.
+#[derive(Clone, Copy, Debug, PartialEq, Eq)]
+pub enum SessionEnd {
+    /// In its handshake.
+    InHandshake,
+    /// By this, after its handshake.
+    By(End),
+}
+
+/// Tells that a session begins.
+pub fn tell_begin<R: Wait>(rt: &R, alloc: Global, client: &ClientStream, lines: &LogLines) {
+    let (number, address) = (client.number, client.address);
+    lines.inform(
+        rt,
+        format!(in alloc; "client {address}: session {number} begins"),
+    );
+}
+
+// What ended a session that no fault broke off.
+fn words_of(end: SessionEnd, closing: Option<Closing>) -> &'static str {
+    match (closing, end) {
+        (Some(_), _) => "the server ends",
+        (None, SessionEnd::InHandshake) => "it asked for no export",
+        (None, SessionEnd::By(End::Disc)) => "the client disconnected",
+        (None, SessionEnd::By(End::Aborted)) => "the client gave up",
+        (None, SessionEnd::By(End::EndOfInput)) => "the client hung up",
+        (None, SessionEnd::By(End::Protocol)) => "the client broke the protocol",
+    }
+}
+
+/// Tells how a session ended: always where a fault broke it off, or it was closed by itself, and
+/// otherwise where sessions are logged.
+pub fn tell_end<R: Wait + Clock>(
+    rt: &R,
+    alloc: Global,
+    client: &ClientStream,
+    ended: Result<SessionEnd, ServeFault>,
+    closing: Option<Closing>,
+    is_verbose: bool,
+    lines: &LogLines,
+) {
+    let address = client.address;
+    match (closing, ended) {
+        (Some(Closing::Kick), _) => {
+            lines.warn(rt, format!(in alloc; "client {address}: closed by kick"));
+        }
+        (Some(Closing::Idle(seconds)), _) => {
+            lines.warn(
+                rt,
+                format!(in alloc; "client {address}: idle for {seconds} s: closed"),
+            );
+        }
+        (_, Err(fault)) => {
+            let text = format!(in alloc; "client {address}: a session broke off: {fault}");
+            lines.warn_of(rt, Incident::SessionFailed, text);
+        }
+        (closing, Ok(end)) => {
+            if is_verbose {
+                let (number, words) = (client.number, words_of(end, closing));
+                lines.inform(
+                    rt,
+                    format!(in alloc; "client {address}: session {number} ended: {words}"),
+                );
+            }
+        }
+    }
+}

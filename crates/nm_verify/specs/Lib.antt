@@ -1,0 +1,6 @@
+pub mod Cursor
+pub mod Findings
+pub mod Looks
+pub mod Pairs
+pub mod Runs
+pub mod Verification
