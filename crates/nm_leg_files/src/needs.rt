@@ -5,8 +5,8 @@ ghost use Rattle.nm_leg_files.specs.Replies.{reply_bytes};
 use nm_reports::StartFault;
 use nm_system::{Limits, is_below};
 
-/// How many KiB the stack of a thread has at least.
-const LEAST_STACK_KIB: u64 = 256;
+/// How many KiB the stack of a thread has at least: twice what the deepest one needs.
+const LEAST_STACK_KIB: u64 = 1024;
 
 /// How many files are open beside legs and sessions: the standard streams, two sockets that listen,
 /// and connections of the control port and of clients that are turned away.
