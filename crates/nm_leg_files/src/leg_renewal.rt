@@ -2,11 +2,13 @@
 
 use crate::counting_file::BytesRead;
 use crate::file_legs::legs_on;
+use crate::late_slots::LateSlots;
 use crate::leg_file::LegFile;
 use crate::leg_files::Leg;
 use crate::leg_opener::OpensLegs;
 use crate::leg_opening::bytes_of;
 use crate::leg_place::{LegPlace, is_same};
+use crate::superblock_writer::SuperblockWriter;
 use nm_geometry::Shape;
 use std::alloc::Global;
 use std::fmt;
@@ -92,7 +94,7 @@ impl LegPlace {
         {
             return Err(Unrenewed::OtherLength);
         }
-        lock_anew(&file, held.shared.file().file())?;
+        lock_anew(&file, held.shared.file().late().file())?;
         Ok(file)
     }
 
@@ -121,5 +123,21 @@ impl LegPlace {
         *self.superblock.lock(rt) = None;
         *held = anew;
         Ok(legs)
+    }
+
+    /// Gives the leg of this number a superblock's file and an id of its own, under the limit of its
+    /// calls.
+    pub fn renew_superblock<R: Wait, O: OpensLegs>(
+        &self,
+        rt: &R,
+        opener: &O,
+        leg: u8,
+        writer: &mut SuperblockWriter<LateSlots>,
+    ) -> Result<(), Unrenewed> {
+        let held = self.file.lock(rt);
+        match writer.renew_leg(opener, leg, held.shared.file().limit()) {
+            Ok(()) => Ok(()),
+            Err(_) => Err(Unrenewed::CannotOpen),
+        }
     }
 }

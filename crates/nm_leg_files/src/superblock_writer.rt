@@ -73,7 +73,7 @@ fn is_partial(last: &Superblock, leg: u8) -> bool {
 /// went by, if there was one.
 #[derive(Drop)]
 pub struct SuperblockWriter<S: SlotFile> {
-    alloc: Global,
+    pub(crate) alloc: Global,
     pub(crate) files: SuperblockFiles<S>,
     // From leg 0 on.
     pub(crate) names: Vec<String>,
