@@ -6,8 +6,6 @@ mod beside;
 #[cfg(test)]
 mod closing;
 #[cfg(test)]
-mod edges;
-#[cfg(test)]
 mod full;
 #[cfg(test)]
 mod gates;
@@ -33,8 +31,6 @@ mod note_lane;
 mod openings;
 #[cfg(test)]
 mod past;
-#[cfg(test)]
-mod reading;
 #[cfg(test)]
 mod reopening;
 #[cfg(test)]
