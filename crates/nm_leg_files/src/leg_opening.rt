@@ -25,6 +25,8 @@ pub struct LegRules {
     pub force_in_use: bool,
     /// How long files may be that are written, in bytes.
     pub file_bytes: Option<u64>,
+    /// Superblocks stand beside them, so that none may be a block device.
+    pub has_beside: bool,
 }
 
 impl LegRules {

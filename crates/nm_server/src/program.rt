@@ -129,6 +129,7 @@ fn rules_of(settings: &Settings<'_>, limits: &Limits) -> LegRules {
         may_lack: !matches!(settings.superblock, SuperblockPlace::Nowhere),
         force_in_use: settings.force_in_use,
         file_bytes: limits.file_bytes,
+        has_beside: matches!(settings.superblock, SuperblockPlace::Beside),
     }
 }
 
