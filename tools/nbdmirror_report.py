@@ -323,6 +323,8 @@ REFUSALS = {
     "length": "is out, and stays so: the file of its name has another length",
     "cannot open": "is out, and stays so: the file of its name, or of its superblock, cannot be opened",
     "not saved": "is out, and stays so: no superblock can be written",
+    "is a block device: give --superblock FOLDER":
+        "is out, and stays so: the file of its name is a block device, which needs --superblock FOLDER",
 }
 
 

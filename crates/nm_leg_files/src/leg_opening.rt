@@ -36,6 +36,8 @@ pub struct LegRules {
     pub leg_timeout: Option<u32>,
     /// How many threads a leg has then for its calls.
     pub threads: u8,
+    /// Superblocks stand beside them, so that none may be a block device.
+    pub has_beside: bool,
 }
 
 impl LegRules {
@@ -48,6 +50,7 @@ impl LegRules {
             file_bytes: limits.file_bytes,
             leg_timeout: settings.leg_timeout,
             threads: settings.stripes.min(MOST_CALLS) + 1,
+            has_beside: matches!(settings.superblock, SuperblockPlace::Beside),
         }
     }
 

@@ -6,7 +6,7 @@ use crate::late_slots::LateSlots;
 use crate::leg_file::LegFile;
 use crate::leg_files::Leg;
 use crate::leg_opener::OpensLegs;
-use crate::leg_opening::bytes_of;
+use crate::leg_opening::{bytes_of, is_block_device};
 use crate::leg_place::{LegPlace, is_same};
 use crate::superblock_writer::SuperblockWriter;
 use nm_geometry::Shape;
@@ -26,6 +26,8 @@ pub enum Unrenewed {
     Locked,
     /// The system has it in use.
     InUse,
+    /// It is a block device, beside which no superblock would outlive a restart.
+    NoPlaceBeside,
 }
 
 impl fmt::Display for Unrenewed {
@@ -35,6 +37,7 @@ impl fmt::Display for Unrenewed {
             Unrenewed::OtherLength => "length",
             Unrenewed::Locked => "locked",
             Unrenewed::InUse => "in use",
+            Unrenewed::NoPlaceBeside => "is a block device: give --superblock FOLDER",
         })
     }
 }
@@ -94,13 +97,16 @@ impl LegPlace {
         {
             return Err(Unrenewed::OtherLength);
         }
+        if self.rules.has_beside && is_block_device(&file) {
+            return Err(Unrenewed::NoPlaceBeside);
+        }
         lock_anew(&file, held.shared.file().late().file())?;
         Ok(file)
     }
 
     /// Opens the file that the name leads to now, measures it and locks it, and lets go of the one
-    /// that was held, if one was. One that the system has in use is refused unless that is allowed.
-    /// The answer is the legs of all stripes on it, stripe 0's first.
+    /// that was held, if one was. One that the system has in use is refused unless that is allowed,
+    /// and so is a block device where superblocks stand beside the legs. The answer is the legs of all stripes on it, stripe 0's first.
     pub fn renew<R: Wait, O: OpensLegs>(
         &self,
         rt: &R,
