@@ -106,7 +106,8 @@ impl LegPlace {
 
     /// Opens the file that the name leads to now, measures it and locks it, and lets go of the one
     /// that was held, if one was. One that the system has in use is refused unless that is allowed,
-    /// and so is a block device where superblocks stand beside the legs. The answer is the legs of all stripes on it, stripe 0's first.
+    /// and so is a block device where superblocks stand beside the legs. The answer is the legs of
+    /// all stripes on it, stripe 0's first.
     pub fn renew<R: Wait, O: OpensLegs>(
         &self,
         rt: &R,
