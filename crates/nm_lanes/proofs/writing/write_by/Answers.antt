@@ -4,8 +4,8 @@ use Rattle.nm_geometry.specs.Pieces.{LiesInside, end_of}
 use Rattle.nm_lanes.proofs.PieceRangeLemmas.{cuts-piece_range}
 use Rattle.nm_lanes.proofs.writing.write_by.Goals as goal
 
-pub write_all-written-requires-clause-pieces : goal.write_all-written-requires-clause-pieces
-write_all-written-requires-clause-pieces g c =
+pub do_all-written-requires-clause-pieces : goal.write_all-written-requires-clause-pieces
+do_all-written-requires-clause-pieces g c =
     let range = c.range_inside-range.result in
     let end : end_of range < 2 ^ 64 = search rules in
     let inside : LiesInside range c.args.shape.now = search rules in
