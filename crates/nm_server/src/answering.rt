@@ -10,7 +10,6 @@ use crate::verify_answers::{put_known, put_verify, put_verify_stop};
 use nm_commands::{ControlCommand, Fed, LineRoom, control_line};
 use nm_lanes::Gate;
 use nm_leg::LegPart;
-use nm_leg_files::MakesLegs;
 use nm_mirror::Mirror;
 use nm_reports::put_metrics;
 use std::alloc::{AllocError, Global};
@@ -47,9 +46,9 @@ fn put_status<R: Wait + Clock, L: LegPart, G: Gate + Drop>(
 }
 
 // The answer to `fail`.
-fn put_fail<R: Wait, L: LegPart, G: Gate + Drop, N: RenewsLegs<L>, M: MakesLegs<L>>(
+fn put_fail<R: Wait, L: LegPart, G: Gate + Drop, N: RenewsLegs<L>>(
     rt: &R,
-    server: &Controlled<'_, L, G, N, M>,
+    server: &Controlled<'_, L, G, N>,
     leg: u8,
     text: &mut String,
 ) -> Result<(), AllocError> {
@@ -67,9 +66,9 @@ fn put_fail<R: Wait, L: LegPart, G: Gate + Drop, N: RenewsLegs<L>, M: MakesLegs<
 }
 
 // The answer to `attach`.
-fn put_attach<R: Wait + Clock, L: LegPart, G: Gate + Drop, N: RenewsLegs<L>, M: MakesLegs<L>>(
+fn put_attach<R: Wait + Clock, L: LegPart, G: Gate + Drop, N: RenewsLegs<L>>(
     rt: &R,
-    server: &Controlled<'_, L, G, N, M>,
+    server: &Controlled<'_, L, G, N>,
     leg: u8,
     text: &mut String,
 ) -> Result<(), AllocError> {
@@ -90,10 +89,10 @@ fn put_attach<R: Wait + Clock, L: LegPart, G: Gate + Drop, N: RenewsLegs<L>, M: 
 }
 
 // The answer to `replace`.
-fn put_replace<R: Wait, L: LegPart, G: Gate + Drop, N: RenewsLegs<L>, M: MakesLegs<L>>(
+fn put_replace<R: Wait, L: LegPart, G: Gate + Drop, N: RenewsLegs<L>>(
     rt: &R,
     alloc: Global,
-    server: &Controlled<'_, L, G, N, M>,
+    server: &Controlled<'_, L, G, N>,
     leg: u8,
     text: &mut String,
 ) -> Result<(), AllocError> {
@@ -107,10 +106,10 @@ fn put_replace<R: Wait, L: LegPart, G: Gate + Drop, N: RenewsLegs<L>, M: MakesLe
 }
 
 // The answer to `reopen`: of this stripe, or of all.
-fn put_reopen<R: Wait, L: LegPart, G: Gate + Drop, N: RenewsLegs<L>, M: MakesLegs<L>>(
+fn put_reopen<R: Wait, L: LegPart, G: Gate + Drop, N: RenewsLegs<L>>(
     rt: &R,
     alloc: Global,
-    server: &Controlled<'_, L, G, N, M>,
+    server: &Controlled<'_, L, G, N>,
     stripe: Option<u32>,
     text: &mut String,
 ) -> Result<(), AllocError> {
@@ -124,7 +123,7 @@ fn put_reopen<R: Wait, L: LegPart, G: Gate + Drop, N: RenewsLegs<L>, M: MakesLeg
         rt,
         alloc,
         server.mirror,
-        server.maker,
+        server.legs,
         server.orders,
         first,
         end,
@@ -169,9 +168,9 @@ fn set_copy_rate(
 }
 
 // The answer to `info`.
-fn put_info<R: Wait + Clock, L: LegPart, G: Gate + Drop, N: RenewsLegs<L>, M: MakesLegs<L>>(
+fn put_info<R: Wait + Clock, L: LegPart, G: Gate + Drop, N: RenewsLegs<L>>(
     rt: &R,
-    server: &Controlled<'_, L, G, N, M>,
+    server: &Controlled<'_, L, G, N>,
     text: &mut String,
 ) -> Result<(), AllocError> {
     server.info.put(rt, text)?;
@@ -186,11 +185,11 @@ fn say_bye(quit: Quit, text: &mut String) -> After {
 }
 
 // Does what a line asks for, and puts the answer.
-fn do_line<R: Wait + Clock, L: LegPart, G: Gate + Drop, N: RenewsLegs<L>, M: MakesLegs<L>>(
+fn do_line<R: Wait + Clock, L: LegPart, G: Gate + Drop, N: RenewsLegs<L>>(
     rt: &R,
     alloc: Global,
     line: &[u8],
-    server: &Controlled<'_, L, G, N, M>,
+    server: &Controlled<'_, L, G, N>,
     text: &mut String,
 ) -> After {
     let put = match control_line(line) {
@@ -235,20 +234,13 @@ fn send<O: Write>(writer: &mut O, answer: &[u8]) -> io::Result<()> {
 }
 
 // Takes one byte of a connection, and answers the line that it ends.
-fn take_byte<
-    R: Wait + Clock,
-    O: Write,
-    L: LegPart,
-    G: Gate + Drop,
-    N: RenewsLegs<L>,
-    M: MakesLegs<L>,
->(
+fn take_byte<R: Wait + Clock, O: Write, L: LegPart, G: Gate + Drop, N: RenewsLegs<L>>(
     rt: &R,
     alloc: Global,
     room: &mut LineRoom,
     byte: u8,
     writer: &mut O,
-    server: &Controlled<'_, L, G, N, M>,
+    server: &Controlled<'_, L, G, N>,
 ) -> After {
     match room.feed(byte) {
         Fed::More => return After::GoOn,
@@ -274,20 +266,12 @@ fn take_byte<
 /// A line ends with LF and has at most 64 bytes without it. A longer one ends the connection, and
 /// nothing after it is run; so do an answer that cannot be written, and no memory for one. Bytes
 /// after the last LF are no line.
-pub fn control<
-    R: Wait + Clock,
-    I: Read,
-    O: Write,
-    L: LegPart,
-    G: Gate + Drop,
-    N: RenewsLegs<L>,
-    M: MakesLegs<L>,
->(
+pub fn control<R: Wait + Clock, I: Read, O: Write, L: LegPart, G: Gate + Drop, N: RenewsLegs<L>>(
     rt: &R,
     alloc: Global,
     reader: &mut I,
     writer: &mut O,
-    server: &Controlled<'_, L, G, N, M>,
+    server: &Controlled<'_, L, G, N>,
 ) -> Option<Quit> {
     let mut room = LineRoom::new();
     let mut piece = [0u8; ROOM];
@@ -321,8 +305,7 @@ pub trait AnswersControl {
     ) -> Option<Quit>;
 }
 
-impl<'x, L: LegPart, G: Gate + Drop, N: RenewsLegs<L>, M: MakesLegs<L>> AnswersControl
-    for Controlled<'x, L, G, N, M> {
+impl<'x, L: LegPart, G: Gate + Drop, N: RenewsLegs<L>> AnswersControl for Controlled<'x, L, G, N> {
     fn answer<R: Wait + Clock, I: Read, O: Write>(
         &self,
         rt: &R,

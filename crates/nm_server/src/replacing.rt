@@ -4,8 +4,12 @@ ghost use Rattle.std.specs.Prelude.{◌<◌};
 use nm_geometry::Shape;
 use nm_lanes::Gate;
 use nm_leg::LegPart;
-use nm_leg_files::{BytesRead, LateSlots, Leg, LegPlace, OpensLegs, SuperblockWriter, Unrenewed};
+use nm_leg_files::{
+    BytesRead, LateSlots, Leg, LegMaker, LegPlace, MakesLegs, OpensLegs, SuperblockWriter,
+    Unrenewed,
+};
 use nm_mirror::{Mirror, ReplaceCounts, Withdrawal};
+use nm_stripe::Policy;
 use std::alloc::{AllocError, Global};
 use std::fmt;
 use std::sync::atomic::AtomicU64;
@@ -42,8 +46,8 @@ impl fmt::Display for Replaced {
     }
 }
 
-/// What opens a leg's file anew.
-pub trait RenewsLegs<L> {
+/// What makes legs, and opens a leg's file anew.
+pub trait RenewsLegs<L>: MakesLegs<L> {
     /// Opens the file that the leg's name leads to now, and gives the leg a superblock's file and
     /// an id of its own, if it has one. The answer is the legs of all stripes on that file, stripe
     /// 0's first. No stripe has the leg meanwhile.
@@ -58,24 +62,39 @@ pub struct LegRenewer<'x, O> {
     superblocks: Option<&'x Mutex<SuperblockWriter<LateSlots>>>,
     shape: Shape,
     read: BytesRead,
+    maker: LegMaker<'x>,
 }
 
 impl<'x, O> LegRenewer<'x, O> {
-    /// What opens these legs' files by this opener, and their superblocks', if they have some.
+    /// What opens these legs' files by this opener, and their superblocks', if they have some. Legs
+    /// are read by this policy.
     pub fn new(
         alloc: Global,
         opener: &'x O,
         places: &'x [Arc<LegPlace>],
         superblocks: Option<&'x Mutex<SuperblockWriter<LateSlots>>>,
         shape: &Shape,
+        policy: Policy,
     ) -> Result<LegRenewer<'x, O>, AllocError> {
+        let made = Arc::new(alloc, AtomicU64::new(0))?;
         Ok(LegRenewer {
             opener,
             places,
             superblocks,
             shape: *shape,
             read: Arc::new(alloc, AtomicU64::new(0))?,
+            maker: LegMaker::new(places, shape, made, policy),
         })
+    }
+}
+
+impl<'x, O: OpensLegs> MakesLegs<Leg> for LegRenewer<'x, O> {
+    fn make(&self, alloc: Global, stripe: u32) -> Option<Vec<Leg>> {
+        self.maker.make(alloc, stripe)
+    }
+
+    fn policy(&self) -> Policy {
+        self.maker.policy()
     }
 }
 

@@ -3,58 +3,42 @@
 use crate::control_port::serve_control;
 use crate::controlled::Controlled;
 use crate::copier::Copier;
-use crate::copy_orders::CopyOrders;
-use crate::ending::Ending;
 use crate::replacing::LegRenewer;
 use crate::resync::resynchronise;
-use crate::session_places::SessionPlaces;
-use crate::session_rules::SessionRules;
-use crate::sessions::{AT_ONCE, ExportName, see_off, serve_place, take_clients};
+use crate::serving_state::Shared;
+use crate::sessions::{AT_ONCE, see_off, serve_place, take_clients};
 use nm_lanes::NoGate;
-use nm_leg_files::{FileMirror, LateSlots, Leg, LegMaker, OpensLegs, SuperblockWriter};
+use nm_leg_files::{LateSlots, Leg, OpensLegs, SuperblockWriter};
 use nm_mirror::Pass;
-use nm_reports::{LogLines, Metrics, ServerInfo, StartFault, UnreadList};
-use nm_sockets::{ControlPlaces, Listener};
-use std::alloc::Global;
+use nm_reports::StartFault;
 use std::net::{Net, TcpListener, TcpStream};
-use std::sync::atomic::{AtomicBool, Ordering};
+use std::sync::atomic::Ordering;
 use std::sync::{Mutex, Wait};
 use std::thread;
 use std::thread::Threads;
 use std::time::Clock;
 
+// What the control port of the program's mirror tells of and changes.
+type FileControlled<'x, O> = Controlled<'x, Leg, NoGate, LegRenewer<'x, O>>;
+
 // Serves clients until the control port has heard `quit` and the last session has ended. False
 // where a thread could not be started.
-fn serve_sessions<R>(
-    rt: &R,
-    alloc: Global,
-    named: &ExportName<'_>,
-    clients: &Listener,
-    mirror: &FileMirror,
-    passes: &mut [Pass<Leg>],
-    places: &SessionPlaces,
-    ending: &Ending,
-    metrics: &Metrics,
-    lines: &LogLines,
-) -> bool
+fn serve_sessions<R>(rt: &R, shared: &Shared<'_, '_>, passes: &mut [Pass<Leg>]) -> bool
 where
     R: Threads + Wait + Sync + Copy + Clock,
 {
+    let state = shared.state;
     thread::scope(thread::scope_env(), rt, |scope| {
         for (number, own) in passes.chunks_mut(AT_ONCE).enumerate() {
-            let start = scope.spawn(move || {
-                serve_place(
-                    rt, alloc, places, number, named, mirror, own, metrics, lines,
-                )
-            });
+            let start = scope.spawn(move || serve_place(rt, shared, number, own));
             if start.is_err() {
-                places.close(rt);
+                state.places.close(rt);
                 return false;
             }
         }
-        take_clients(rt, alloc, clients, places, ending, metrics, lines);
-        places.close(rt);
-        see_off(rt, places, ending);
+        take_clients(rt, shared);
+        state.places.close(rt);
+        see_off(rt, &state.places, &state.ending);
         true
     })
 }
@@ -63,41 +47,21 @@ where
 // could not be started.
 fn serve_both<R, O: OpensLegs + Sync>(
     rt: &R,
-    alloc: Global,
-    named: &ExportName<'_>,
-    listeners: (&Listener, &Listener),
+    shared: &Shared<'_, '_>,
     passes: &mut [Pass<Leg>],
-    seats: &ControlPlaces,
-    controlled: Controlled<'_, Leg, NoGate, LegRenewer<'_, O>, LegMaker<'_>>,
-    has_ended: &AtomicBool,
-    lines: &LogLines,
+    controlled: &FileControlled<'_, O>,
 ) -> bool
 where
     R: Threads + Wait + Sync + Copy + Clock + Net<Listener = TcpListener, Stream = TcpStream>,
 {
-    let own_ending = Ending::new();
-    let ending = &own_ending;
-    let (mirror, places, metrics) = (controlled.mirror, controlled.sessions, controlled.metrics);
-    let (clients, control) = listeners;
+    let has_ended = &shared.state.has_ended;
     let is_served = thread::scope(thread::scope_env(), rt, |scope| {
-        let control_port = scope.spawn(move || serve_control(
-            rt,
-            alloc,
-            listeners,
-            seats,
-            &controlled,
-            ending,
-            has_ended,
-            lines,
-        ));
-        let Ok(control_port) = control_port else {
+        let Ok(control_port) = scope.spawn(move || serve_control(rt, shared, controlled)) else {
             return false;
         };
-        let is_served = serve_sessions(
-            rt, alloc, named, clients, mirror, passes, places, ending, metrics, lines,
-        );
+        let is_served = serve_sessions(rt, shared, passes);
         has_ended.store(true, Ordering::SeqCst);
-        control.wake(rt);
+        shared.control.wake(rt);
         control_port.join(rt) && is_served
     });
     has_ended.store(true, Ordering::SeqCst);
@@ -108,49 +72,33 @@ where
 // not be started.
 fn serve_copying<R, O: OpensLegs + Sync>(
     rt: &R,
-    alloc: Global,
     opener: &O,
-    named: &ExportName<'_>,
-    listeners: (&Listener, &Listener),
+    shared: &Shared<'_, '_>,
     passes: &mut [Pass<Leg>],
     copier: Copier,
-    controlled: Controlled<'_, Leg, NoGate, LegRenewer<'_, O>, LegMaker<'_>>,
-    lines: &LogLines,
+    controlled: &FileControlled<'_, O>,
 ) -> bool
 where
     R: Threads + Wait + Sync + Copy + Clock + Net<Listener = TcpListener, Stream = TcpStream>,
 {
-    let Ok(seats) = ControlPlaces::new(alloc) else {
-        return false;
-    };
-    let has_ended = AtomicBool::new(false);
-    let ended = &has_ended;
-    let (mirror, places) = (controlled.mirror, controlled.sessions);
-    let (unread, orders) = (controlled.unread, controlled.orders);
     thread::scope(thread::scope_env(), rt, |scope| {
-        let copying = scope.spawn(move || resynchronise(
-            rt, opener, copier, mirror, places, unread, orders, lines, ended,
-        ));
-        copying.is_ok()
-            && serve_both(
-                rt, alloc, named, listeners, passes, &seats, controlled, ended, lines,
-            )
+        let copying = scope.spawn(move || resynchronise(rt, opener, copier, shared));
+        copying.is_ok() && serve_both(rt, shared, passes, controlled)
     })
 }
 
 // Saves superblocks whenever that is wanted, until saves are closed or one could not be done.
 fn write_superblocks<R: Wait>(
     rt: &R,
+    shared: &Shared<'_, '_>,
     writer: &Mutex<SuperblockWriter<LateSlots>>,
-    mirror: &FileMirror,
-    info: &ServerInfo,
-    lines: &LogLines,
 ) {
+    let (mirror, saves) = (shared.mirror, shared.state.info.saves());
     for _ in rt.forever() {
         if !mirror.next_save(rt) {
             return;
         }
-        if !writer.lock(rt).save_once(rt, mirror, info.saves(), lines) {
+        if !writer.lock(rt).save_once(rt, mirror, saves, shared.lines) {
             return;
         }
     }
@@ -159,83 +107,58 @@ fn write_superblocks<R: Wait>(
 // Serves as above, while one thread saves superblocks. The last of them is saved in the end.
 fn serve_saving<R, O: OpensLegs + Sync>(
     rt: &R,
-    alloc: Global,
     opener: &O,
-    named: &ExportName<'_>,
-    listeners: (&Listener, &Listener),
+    shared: &Shared<'_, '_>,
     passes: &mut [Pass<Leg>],
     copier: Copier,
-    controlled: Controlled<'_, Leg, NoGate, LegRenewer<'_, O>, LegMaker<'_>>,
-    lines: &LogLines,
+    controlled: &FileControlled<'_, O>,
     writer: &Mutex<SuperblockWriter<LateSlots>>,
 ) -> bool
 where
     R: Threads + Wait + Sync + Copy + Clock + Net<Listener = TcpListener, Stream = TcpStream>,
 {
-    let (mirror, info) = (controlled.mirror, controlled.info);
-    writer.lock(rt).tell_start(rt, info.saves(), lines);
+    let (mirror, saves) = (shared.mirror, shared.state.info.saves());
+    writer.lock(rt).tell_start(rt, saves, shared.lines);
     thread::scope(thread::scope_env(), rt, |scope| {
-        let saving = scope.spawn(move || write_superblocks(rt, writer, mirror, info, lines));
-        let Ok(saving) = saving else {
+        let Ok(saving) = scope.spawn(move || write_superblocks(rt, shared, writer)) else {
             return false;
         };
-        let is_served = serve_copying(
-            rt, alloc, opener, named, listeners, passes, copier, controlled, lines,
-        );
+        let is_served = serve_copying(rt, opener, shared, passes, copier, controlled);
         mirror.close_saves(rt);
         saving.join(rt);
-        writer.lock(rt).end(rt, mirror, info.saves(), lines);
+        writer.lock(rt).end(rt, mirror, saves, shared.lines);
         is_served
     })
 }
 
 /// Serves until the last session has ended, while one thread copies legs and tells what happens
 /// to them, one saves superblocks where there are some, and others serve the control port. Copies
-/// begin as these orders say.
+/// begin as the orders say.
 pub fn serve_and_copy<'a, R, O: OpensLegs + Sync>(
     rt: &R,
-    alloc: Global,
     opener: &O,
-    named: &ExportName<'_>,
-    listeners: (&Listener, &Listener),
-    mirror: &FileMirror,
+    shared: &Shared<'_, '_>,
     passes: &mut [Pass<Leg>],
-    rules: SessionRules,
     copier: Copier,
-    metrics: &Metrics,
-    orders: &CopyOrders,
     legs: &LegRenewer<'_, O>,
-    maker: &LegMaker<'_>,
-    lines: &LogLines,
     superblocks: Option<&Mutex<SuperblockWriter<LateSlots>>>,
 ) -> Result<(), StartFault<'a>>
 where
     R: Threads + Wait + Sync + Copy + Clock + Net<Listener = TcpListener, Stream = TcpStream>,
 {
-    let (Ok(places), Ok(unread)) = (
-        SessionPlaces::new(rt, alloc, passes.len() / AT_ONCE, rules),
-        UnreadList::new(alloc),
-    ) else {
-        return Err(StartFault::Memory);
-    };
-    let info = ServerInfo::from_now(rt);
+    let state = shared.state;
     let controlled = Controlled {
-        mirror,
-        unread: &unread,
-        sessions: &places,
-        info: &info,
-        metrics,
-        orders,
+        mirror: shared.mirror,
+        unread: &state.unread,
+        sessions: &state.places,
+        info: &state.info,
+        metrics: shared.metrics,
+        orders: shared.orders,
         legs,
-        maker,
     };
     let is_served = match superblocks {
-        Some(writer) => serve_saving(
-            rt, alloc, opener, named, listeners, passes, copier, controlled, lines, writer,
-        ),
-        None => serve_copying(
-            rt, alloc, opener, named, listeners, passes, copier, controlled, lines,
-        ),
+        Some(writer) => serve_saving(rt, opener, shared, passes, copier, &controlled, writer),
+        None => serve_copying(rt, opener, shared, passes, copier, &controlled),
     };
     if is_served {
         Ok(())

@@ -10,16 +10,17 @@ use crate::ending::Ending;
 use crate::file_calls::FileCalls;
 use crate::mirror_calls::{MirrorCalls, ReadyMirror};
 use crate::mirror_target::MirrorTarget;
+use crate::serving_state::Shared;
 use crate::session_places::SessionPlaces;
 use nm_leg::LegPart;
-use nm_leg_files::{FileMirror, Leg};
+use nm_leg_files::Leg;
 use nm_mirror::Pass;
 use nm_replies::ReplyWriter;
-use nm_reports::{Incident, LogLines, Metrics};
+use nm_reports::Incident;
 use nm_session::{Limit, ServeFault, Served, SessionCore};
 use nm_sockets::{
-    ClientReader, ClientStream, ClientWriter, HangUp, Listener, Peer, SessionEnd, Stream,
-    TimedStream, tell_begin, tell_end,
+    ClientReader, ClientStream, ClientWriter, HangUp, Peer, SessionEnd, Stream, TimedStream,
+    tell_begin, tell_end,
 };
 use nm_wire::{Export, Name};
 use nm_workers::{SpinToken, negotiate, transmit};
@@ -172,42 +173,51 @@ where
     transmit(rt, alloc, core, reader, sender, targets, lookout).result
 }
 
+// The core of a session that has not begun, with the export of a mirror of so many blocks.
+fn core_of(alloc: Global, named: &ExportName<'_>, blocks: u64, bytes: usize) -> Option<SessionCore>
+    requires { blocks ≤ 2 ^ 31 }
+    ensures idle { IfSome result (λ core. core.outstanding ≡ []) }
+    ensures blocks { IfSome result (λ core. core.haggling.export.blocks ≡ blocks) }
+{
+    let export = export_of(alloc, named, blocks)?;
+    let limit = Limit {
+        requests: AT_ONCE,
+        bytes,
+    };
+    match SessionCore::new(alloc, export, limit) {
+        Ok(core) => Some(core),
+        Err(_) => None,
+    }
+}
+
 // Serves one client from its greeting to its end.
 fn serve_client<R: Threads + Wait + Sync + Copy + Clock>(
     rt: &R,
-    alloc: Global,
+    shared: &Shared<'_, '_>,
     client: &ClientStream,
-    named: &ExportName<'_>,
-    mirror: &FileMirror,
     passes: &mut [Pass<Leg>],
-    places: &SessionPlaces,
-    metrics: &Metrics,
     place: usize,
 ) -> Result<SessionEnd, ServeFault> {
+    let (alloc, mirror, places) = (shared.alloc, shared.mirror, &shared.state.places);
     let _ = client.stream.set_nodelay();
-    let Some(export) = export_of(alloc, named, mirror.shape().blocks) else {
-        return Err(ServeFault::Memory);
-    };
-    let limit = Limit {
-        requests: AT_ONCE,
-        bytes: places.reply_bytes(),
-    };
-    let Ok(mut core) = SessionCore::new(alloc, export, limit) else {
+    let blocks = mirror.shape().blocks;
+    let Some(mut core) = core_of(alloc, shared.named, blocks, places.reply_bytes()) else {
         return Err(ServeFault::Memory);
     };
     if !negotiate_in_time(rt, alloc, &client.stream, &mut core)? {
         return Ok(SessionEnd::InHandshake);
     }
     client.activity.note_negotiated();
+    let calls = FileCalls {
+        rt,
+        alloc,
+        mirror,
+        metrics: shared.metrics,
+        place,
+        places,
+    };
     let ready = ReadyMirror::new(CountedCalls {
-        calls: FileCalls {
-            rt,
-            alloc,
-            mirror,
-            metrics,
-            place,
-            places,
-        },
+        calls,
         activity: &client.activity,
     });
     let (is_over, lookout) = (places.is_over(), places.lookout());
@@ -219,20 +229,11 @@ fn serve_client<R: Threads + Wait + Sync + Copy + Clock>(
 /// closed. Their requests take the passes, as many at once as there are.
 ///
 /// A client's place is free again before its connection is closed.
-pub fn serve_place<R>(
-    rt: &R,
-    alloc: Global,
-    places: &SessionPlaces,
-    number: usize,
-    named: &ExportName<'_>,
-    mirror: &FileMirror,
-    passes: &mut [Pass<Leg>],
-    metrics: &Metrics,
-    lines: &LogLines,
-)
+pub fn serve_place<R>(rt: &R, shared: &Shared<'_, '_>, number: usize, passes: &mut [Pass<Leg>])
 where
     R: Threads + Wait + Sync + Copy + Clock,
 {
+    let (alloc, places, lines) = (shared.alloc, &shared.state.places, shared.lines);
     for _ in rt.forever() {
         let Some(client) = places.take(rt, number) else {
             return;
@@ -240,11 +241,9 @@ where
         if places.is_verbose() {
             tell_begin(rt, alloc, &client, lines);
         }
-        metrics.begin_session();
-        let ended = serve_client(
-            rt, alloc, &client, named, mirror, passes, places, metrics, number,
-        );
-        metrics.end_session(ended.is_ok());
+        shared.metrics.begin_session();
+        let ended = serve_client(rt, shared, &client, passes, number);
+        shared.metrics.end_session(ended.is_ok());
         let closing = places.free(rt, number);
         let is_verbose = places.is_verbose();
         tell_end(rt, alloc, &client, ended, closing, is_verbose, lines);
@@ -256,25 +255,18 @@ where
 ///
 /// An accept that fails, as where there are no descriptors left, ends nothing: the next comes after
 /// a pause.
-pub fn take_clients<R: Wait + Clock>(
-    rt: &R,
-    alloc: Global,
-    listener: &Listener,
-    places: &SessionPlaces,
-    ending: &Ending,
-    metrics: &Metrics,
-    lines: &LogLines,
-) {
+pub fn take_clients<R: Wait + Clock>(rt: &R, shared: &Shared<'_, '_>) {
+    let (alloc, state, lines) = (shared.alloc, shared.state, shared.lines);
     for _ in rt.forever() {
-        let accepted = listener.accept();
-        if ending.has_begun() {
+        let accepted = shared.clients.accept();
+        if state.ending.has_begun() {
             return;
         }
         match accepted {
             Ok((stream, address)) => {
-                if !places.offer(rt, ClientStream::new(stream, address)) {
-                    metrics.refuse_client();
-                    let count = places.count();
+                if !state.places.offer(rt, ClientStream::new(stream, address)) {
+                    shared.metrics.refuse_client();
+                    let count = state.places.count();
                     let text = format!(in alloc;
                         "client {address}: refused: all {count} places are taken (--sessions)"
                     );

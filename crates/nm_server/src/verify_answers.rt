@@ -5,7 +5,6 @@ use crate::replacing::RenewsLegs;
 use crate::verify_desk::VerifyDesk;
 use nm_lanes::Gate;
 use nm_leg::LegPart;
-use nm_leg_files::MakesLegs;
 use nm_mirror::{Glance, LegStatus, StripeStatus};
 use nm_stripe::LegState;
 use std::alloc::{AllocError, Global};
@@ -29,9 +28,9 @@ fn has_two(glance: &Glance) -> bool {
 }
 
 /// Puts how the verification stands.
-pub fn put_known<R: Wait, L: LegPart, G: Gate + Drop, N: RenewsLegs<L>, M: MakesLegs<L>>(
+pub fn put_known<R: Wait, L: LegPart, G: Gate + Drop, N: RenewsLegs<L>>(
     rt: &R,
-    server: &Controlled<'_, L, G, N, M>,
+    server: &Controlled<'_, L, G, N>,
     text: &mut String,
 ) -> Result<(), AllocError> {
     let known = server.orders.verify().known(rt);
@@ -40,10 +39,10 @@ pub fn put_known<R: Wait, L: LegPart, G: Gate + Drop, N: RenewsLegs<L>, M: Makes
 }
 
 /// The answer to `verify`: it is started, unless one goes on, or no stripe has two legs in sync.
-pub fn put_verify<R: Wait + Clock, L: LegPart, G: Gate + Drop, N: RenewsLegs<L>, M: MakesLegs<L>>(
+pub fn put_verify<R: Wait + Clock, L: LegPart, G: Gate + Drop, N: RenewsLegs<L>>(
     rt: &R,
     alloc: Global,
-    server: &Controlled<'_, L, G, N, M>,
+    server: &Controlled<'_, L, G, N>,
     text: &mut String,
 ) -> Result<(), AllocError> {
     let Ok(stripes) = server.mirror.glance(rt, alloc) else {

@@ -156,6 +156,16 @@ fn mirror(alloc: Global, start: Start) -> Result<Mirror<MemLeg, NoGate>, Fail> {
 /// New legs in memory for each of the mirror's stripes.
 struct MemRenewer;
 
+impl MakesLegs<MemLeg> for MemRenewer {
+    fn make(&self, _alloc: Global, _stripe: u32) -> Option<Vec<MemLeg>> {
+        None
+    }
+
+    fn policy(&self) -> Policy {
+        Policy::RoundRobin
+    }
+}
+
 impl RenewsLegs<MemLeg> for MemRenewer {
     fn renew<R: Wait>(&self, _rt: &R, alloc: Global, _leg: u8) -> Result<Vec<MemLeg>, Unrenewed> {
         let mut legs = Vec::new(alloc);
@@ -177,19 +187,6 @@ static RULES: SessionRules = SessionRules {
     idle_limit: None,
     is_verbose: false,
 };
-
-/// Makes no legs.
-struct NoLegs;
-
-impl MakesLegs<MemLeg> for NoLegs {
-    fn make(&self, _alloc: Global, _stripe: u32) -> Option<Vec<MemLeg>> {
-        None
-    }
-
-    fn policy(&self) -> Policy {
-        Policy::RoundRobin
-    }
-}
 
 /// What nobody has counted anything in.
 fn metrics(alloc: Global) -> Result<Metrics, AllocError> {
@@ -223,7 +220,6 @@ fn goes<R: Wait + Abort + Clock>(
         metrics: &metrics,
         orders: &orders,
         legs: &MemRenewer,
-        maker: &NoLegs,
     };
     let quit = control(rt, alloc, &mut reader, &mut writer, &server);
     quit.is_some() == ends && writer.as_slice() == answered
@@ -270,7 +266,6 @@ fn a_quit_has_its_time(rt: HostRuntime) -> Result<(), Fail> {
         metrics: &metrics,
         orders: &orders,
         legs: &MemRenewer,
-        maker: &NoLegs,
     };
     let lines: [(&[u8], Quit); 3] = [
         (b"quit\n", Quit::WhenTheyLeave),
