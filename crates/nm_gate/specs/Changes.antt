@@ -18,8 +18,8 @@ widened claims d = record d {
   lacking = legs_where (λ leg. is_lacking leg d || has leg claims.partial);
 }
 
--- the claims may be said of this leg, once steps, and marks that were cleared, came between the begin
--- and the end of a save: they are within the bounds, and a leg in sync that was listed still is
+-- the claims may be said of this leg, once steps, and marks that were cleared, came between the
+-- begin and the end of a save: they are within the bounds, and a leg in sync that was listed still is
 abbrev pub may_say : {L : Type 0} → StripeState L → Durable → LegClaims → ℕ → Bool
 may_say stripe d claims leg =
     let named : Bool = is_named leg d || is_current_leg stripe leg in
