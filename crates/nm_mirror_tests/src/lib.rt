@@ -24,6 +24,8 @@ mod legs;
 #[cfg(test)]
 mod losing;
 #[cfg(test)]
+mod machine;
+#[cfg(test)]
 mod meeting;
 #[cfg(test)]
 mod mirrors;
@@ -34,9 +36,13 @@ mod openings;
 #[cfg(test)]
 mod past;
 #[cfg(test)]
+mod power_losses;
+#[cfg(test)]
 mod reading;
 #[cfg(test)]
 mod reopening;
+#[cfg(test)]
+mod restarts;
 #[cfg(test)]
 mod rounds;
 #[cfg(test)]
