@@ -28,7 +28,8 @@ UNREAD_END = re.compile(r"end (\d{1,20})")
 COPY_RATE = re.compile(r"copy-rate (\d{1,5}|default)")
 ATTACHED = re.compile(r"attach (\d+): joining (\d+) left (\d+) notout (\d+) stopped (\d+)")
 REPLACED = re.compile(r"replace (\d+): joining (\d+) left (\d+) out (\d+) stopped (\d+)")
-REFUSED = re.compile(r"(?:fail|attach|replace) \d+: (last|busy|in use|locked|length|cannot open|not saved)")
+REFUSED = re.compile(r"(?:fail|attach|replace) \d+: (last|busy|in use|locked|length|cannot open|not saved"
+                     r"|is a block device: give --superblock FOLDER)")
 REOPENED = re.compile(r"reopen: opened (\d+) left (\d+) stopped (\d+)")
 SERVING = re.compile(r"serving: up \d{1,20} s")
 SUPERBLOCK = re.compile(r"superblock: generation (\d{1,20}) marked (\d{1,20}) unsaved (\d{1,20})( failed)?")
@@ -139,16 +140,9 @@ class Control:
                 raise Trouble("the server answered with no end of what it is")
         return lines
 
-    def superblock_and_missing(self):
-        """How the superblocks stand, as a dictionary, or None where there are none or the server does not tell; and a
-        line for each leg whose file is missing: its file, and why."""
-        lines = self.info()
-        superblock = next((told for told in map(superblock_of, lines) if told), None)
-        return superblock, [line for line in lines if re.match(r"leg \d{1,3}: no file: ", line)]
-
     def superblock(self):
         """How the superblocks stand."""
-        return self.superblock_and_missing()[0]
+        return superblock_in(self.info())
 
     def status_lines(self):
         """The lines of a status that was asked for, without the last one, which says `end`."""
@@ -194,6 +188,16 @@ def rate_of(answer):
     """The rate that an answer tells, in MiB a second: 0 where copies have the default, None where it tells none."""
     found = COPY_RATE.fullmatch(answer)
     return found and (0 if found[1] == "default" else int(found[1]))
+
+
+def superblock_in(lines):
+    """How the superblocks stand by what a server says of itself. None where there are none, or it does not tell."""
+    return next((told for told in map(superblock_of, lines) if told), None)
+
+
+def missing_in(lines):
+    """A line for each leg whose file is missing by what a server says of itself: its file, and why."""
+    return [line for line in lines if re.match(r"leg \d{1,3}: no file: ", line)]
 
 
 def superblock_of(line):

@@ -317,12 +317,14 @@ def replace_sentence(leg, joining, left, out, stopped):
 # What a server answers where it does not do what was asked of a leg.
 REFUSALS = {
     "last": "is the only one in sync in some stripe, and stays",
-    "busy": "is being replaced: ask again",
+    "busy": "is being replaced, or a call of it has not returned: ask again",
     "in use": "is out, and stays so: the file of its name is in use",
     "locked": "is out, and stays so: another process has locked the file of its name",
     "length": "is out, and stays so: the file of its name has another length",
     "cannot open": "is out, and stays so: the file of its name, or of its superblock, cannot be opened",
     "not saved": "is out, and stays so: no superblock can be written",
+    "is a block device: give --superblock FOLDER":
+        "is out, and stays so: the file of its name is a block device, which needs --superblock FOLDER",
 }
 
 

@@ -22,9 +22,26 @@ FIRST_PAUSE_SECONDS, PAUSE_SECONDS = 0.05, 1
 SAME, OTHER, COULD_NOT = 0, 1, 2
 
 
-def line_of(control):
-    """What the server tells of its comparison, or None where it knows of none such."""
-    return next((line for line in control.info() if line.startswith("verify: ")), None)
+def line_in(lines):
+    """What a server that says this of itself tells of its comparison, or None where it knows of none such."""
+    return next((line for line in lines if line.startswith("verify: ")), None)
+
+
+def told_in(lines):
+    """The same as a dictionary, or None where that cannot be told."""
+    try:
+        return found_in(line_in(lines) or "")
+    except Trouble:
+        return None
+
+
+def sentence_of(told):
+    """What a status says of a comparison: how far it is, or what differs. Else nothing."""
+    if told and told["state"] == "running":
+        return f"legs are being compared: {told['percent']} %"
+    if told and told.get("differing"):
+        return f"{told['differing']} of {told['compared']} regions differ by the last verify: see `nbdmirrorctl info`"
+    return ""
 
 
 def found_in(line):
@@ -74,7 +91,7 @@ def wait(connect, show):
     pause = FIRST_PAUSE_SECONDS
     while True:
         with connect() as control:
-            line = line_of(control)
+            line = line_in(control.info())
         if line is None:
             raise Trouble("the server tells of no comparison")
         if not RUNNING.fullmatch(line):

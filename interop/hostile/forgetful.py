@@ -4,6 +4,7 @@ Each read and write of a program comes here (direct I/O: the system keeps no pag
 was written since the last sync of its file holds what it held then, or any one of the values written since; the file's
 length is the old or the new one; and a name that was made or removed since the last sync of the folder is there or not.
 """
+import contextlib
 import ctypes
 import errno
 import os
@@ -128,6 +129,26 @@ class Forgetful:
                     if left:
                         names[name] = left
             return lost
+
+    def hang(self):
+        """From here on nothing is answered until `go_on`, and nothing is lost."""
+        with self.lock:
+            self.is_dark.clear()
+            self.power = False
+
+    def go_on(self):
+        """What was asked for meanwhile is answered."""
+        with self.lock:
+            self.power = True
+            self.is_dark.set()
+
+    @contextlib.contextmanager
+    def going_on(self):
+        """It answers in the end, so that whoever waits for it can be ended."""
+        try:
+            yield
+        finally:
+            self.go_on()
 
     def dark(self):
         """What asked for something as the power went has been killed, and may be answered with an error."""

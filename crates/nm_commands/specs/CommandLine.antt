@@ -76,11 +76,12 @@ mirror_command policies starts = with_rule (with_rule (with_rule (with_rule base
     (bare_number_rule (codes "master") (pos 0) (pos 7)))
     (parsed_rule (codes "start") (codes "compare") (vp.Names starts))
 
--- The same, and the options that say how legs are copied.
+-- The same, and the options that say how legs are copied, and when one is out that hangs.
 abbrev pub copying_command : (policies starts : Bor (List (Bor Text))) → App
-copying_command policies starts = with_rule (with_rule (mirror_command policies starts)
+copying_command policies starts = with_rule (with_rule (with_rule (mirror_command policies starts)
     (flag_rule (codes "auto-attach")))
-    (bare_number_rule (codes "copy-rate") (pos 1) (pos 65535))
+    (bare_number_rule (codes "copy-rate") (pos 1) (pos 65535)))
+    (bare_number_rule (codes "leg-timeout") (pos 1) (pos 86400))
 
 -- The same, and the options that say where superblocks are and what a start makes of them.
 abbrev pub with_superblock_options : App → App

@@ -82,6 +82,7 @@ pub record HasSettings (rows : List Row) (s : Settings) : Type 0 where
   pub force_master : HasNumber rows (codes "force-master") s.force_master
   pub auto_attach : HasFlag rows (codes "auto-attach") s.auto_attach
   pub copy_rate : HasNumber rows (codes "copy-rate") s.copy_rate
+  pub leg_timeout : HasNumber rows (codes "leg-timeout") s.leg_timeout
   pub sessions : IsNumber (one_of (codes "sessions") rows) s.sessions
   pub idle_limit : HasNumber rows (codes "idle-limit") s.idle_limit
   pub verbose : HasFlag rows (codes "verbose") s.verbose

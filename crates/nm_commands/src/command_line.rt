@@ -13,8 +13,8 @@ ghost use Rattle.nm_commands.specs.Settings.{policy_text, start_text};
 
 use crate::client_options::{idle_limit, with_client_options};
 use crate::options::{
-    bare_number_option, copy_rate_option, flag, lettered_flag, number_option, option,
-    policy_option, port_option, start_option, words,
+    bare_number_option, copy_rate_option, flag, leg_timeout_option, lettered_flag, number_option,
+    option, policy_option, port_option, start_option, words,
 };
 use crate::server_settings::Settings;
 use crate::start::Start;
@@ -101,7 +101,9 @@ fn copying_command<'a>(alloc: Global) -> Result<Command<'a>, Error>
     );
     let with_auto_attach = program.arg(auto_attach)?;
     let rate = copy_rate_option(alloc);
-    let command = with_auto_attach.arg(rate)?;
+    let with_rate = with_auto_attach.arg(rate)?;
+    let timeout = leg_timeout_option(alloc);
+    let command = with_rate.arg(timeout)?;
     Ok(command)
 }
 
@@ -162,6 +164,23 @@ fn copy_rate(matches: &ArgMatches<'_>) -> Result<Option<u16>, Error>
         None => return Ok(None),
         Some(_) => match matches.get_one::<u16>("copy-rate") {
             Some(mib) => Ok(Some(mib)),
+            None => Err(Error::from(AllocError)),
+        },
+    }
+}
+
+// After how many seconds a call of a leg is left, if it is.
+fn leg_timeout(matches: &ArgMatches<'_>) -> Result<Option<u32>, Error>
+    ensures some { IfOk result (λ timeout. IfSome timeout (λ seconds.
+        IsNumber (one_text (found_of matches.now) (codes "leg-timeout")) seconds)) }
+    ensures none { IfOk result (λ timeout. timeout ≡ None
+        → first_value (found_of matches.now) (codes "leg-timeout") ≡ None) }
+    ensures memory { IfErr result (λ error. kind_of error ≡ OutOfMemory) }
+{
+    match matches.get_str("leg-timeout") {
+        None => return Ok(None),
+        Some(_) => match matches.get_one::<u32>("leg-timeout") {
+            Some(seconds) => Ok(Some(seconds)),
             None => Err(Error::from(AllocError)),
         },
     }
@@ -245,6 +264,7 @@ fn settings_of<'a>(alloc: Global, matches: &ArgMatches<'a>) -> Result<Settings<'
     let force_master = bare_number(matches, "force-master")?;
     let auto_attach = matches.get_flag("auto-attach");
     let copy_rate = copy_rate(matches)?;
+    let leg_timeout = leg_timeout(matches)?;
     let sessions = number(matches, "sessions")?;
     let idle_limit = idle_limit(matches)?;
     let verbose = matches.get_flag("verbose");
@@ -265,6 +285,7 @@ fn settings_of<'a>(alloc: Global, matches: &ArgMatches<'a>) -> Result<Settings<'
         force_master,
         auto_attach,
         copy_rate,
+        leg_timeout,
         sessions,
         idle_limit,
         verbose,

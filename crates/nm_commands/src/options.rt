@@ -110,6 +110,22 @@ pub fn copy_rate_option<'a>(alloc: Global) -> Arg<'a>
     .value_name("MIB")
 }
 
+/// The option that says after how many seconds a call of a leg is left: a day at most.
+pub fn leg_timeout_option<'a>(alloc: Global) -> Arg<'a>
+    ensures rule { rule_of result
+        ≡ bare_number_rule (codes "leg-timeout") (pos 1) (pos 86400) }
+    ensures own { result.global ≡ false }
+{
+    bare_number_option(
+        alloc,
+        "leg-timeout",
+        1,
+        86_400,
+        "after how many seconds without an answer a leg is out",
+    )
+    .value_name("SECONDS")
+}
+
 /// The option that names a port of 127.0.0.1 for clients.
 pub fn port_option<'a>(alloc: Global) -> Arg<'a>
     ensures rule { rule_of result

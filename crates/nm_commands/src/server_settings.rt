@@ -31,6 +31,8 @@ pub struct Settings<'a> {
     pub auto_attach: bool,
     /// At how many MiB a second legs are copied, where that was named.
     pub copy_rate: Option<u16>,
+    /// After how many seconds without an answer a call of a leg is left, where it is.
+    pub leg_timeout: Option<u32>,
     /// How many sessions may be served at once.
     pub sessions: u8,
     /// After how many seconds without a request a client is closed, where it is.

@@ -1,5 +1,6 @@
 pub mod Acknowledged
 pub mod Added
+pub mod Anew
 pub mod Asked
 pub mod Bits
 pub mod Bounded

@@ -34,7 +34,8 @@ pub record MayEnd {L : Type 0} (stripe : StripeState L) (d : Durable) (claims : 
   pub legs : (leg : ℕ) → leg < 8 → may_say stripe d claims leg ≡ true
   pub marks : HasMarks (Some d) marked
 
--- the bounds once it has ended: they are what it says, with as many marks as before
+-- the bounds once it has ended: they are what it says, with as many marks as before, and a save that
+-- could not be done is made good
 pub record Ends (claims : LegClaims) (marked : List Bool) (old new : Durable) : Type 0 where
   pub after : new ≡ superblock_of claims new.marked old
   pub marks : (span : ℕ) → span < length old.marked

@@ -63,7 +63,7 @@ no_claims = record {
 abbrev pub is_listed_by : LegClaims → ℕ → Bool
 is_listed_by claims leg = has leg claims.in_sync || has leg claims.candidates
 
--- the superblock that makes these claims and has these marks
+-- the superblock that makes these claims and has these marks; its save was done
 abbrev pub superblock_of : LegClaims → List Bool → Durable → Durable
 superblock_of claims marked d = record {
   named = claims.in_sync;
@@ -71,7 +71,7 @@ superblock_of claims marked d = record {
   lacking = claims.partial;
   marked = marked;
   span = d.span;
-  broken = d.broken;
+  broken = false;
 }
 
 -- the superblock says this of the legs already

@@ -1,3 +1,4 @@
+pub mod Anew
 pub mod Bounds
 pub mod Changes
 pub mod Claims

@@ -1,5 +1,6 @@
 //! What outlives a crash, for every list of moves of a stripe of honest legs behind the gate.
 ghost use Rattle.std.specs.Prelude.{IsTrue};
+ghost use Rattle.nm_gate.specs.Anew.{ReopensAreRight};
 ghost use Rattle.nm_gate.specs.Bounds.{SavesAreSafe};
 ghost use Rattle.nm_gate.specs.MarkedStart.{MarkedStartsAreRight};
 ghost use Rattle.nm_gate.specs.Restart.{AnsweredFoundAgain, FlushedFoundAgain};
@@ -24,6 +25,12 @@ pub fn answered_is_found_again<L: LegPart>()
 /// outside marked spans.
 pub fn restarts_are_right<L: LegPart>()
     ensures { RestartsAreRight (leg_type L.model L.honest) }
+{}
+
+/// A stripe that had stopped, and is opened anew from the only leg that the superblock may call in
+/// sync, is one of which all that is promised here holds.
+pub fn reopens_are_right<L: LegPart>()
+    ensures { ReopensAreRight (leg_type L.model L.honest) }
 {}
 
 /// A stripe that `Stripe::open_marked` opens by what the superblock says is one of such a start.

@@ -15,7 +15,7 @@ use nm_stripe::Stripe;
 
 impl<L: LegPart> GatedStripe<L> {
     /// Whether memory has something of the legs that the superblock does not say, so that a save is
-    /// worth it. Once a save could not be done none is.
+    /// worth it. After one that could not be done none is.
     pub fn wants_save(&self) -> bool
         ensures some { IfSome self.now.durable (λ d. IsTrue result ↔ ((d.broken ≡ false)
             × (Says (claims_of self.now.stripe d d.marked) d → ⊥))) }
@@ -56,10 +56,11 @@ impl<L: LegPart> GatedStripe<L> {
         claims
     }
 
-    /// Ends a save with these claims and marks: the new superblock is the durable one.
+    /// Ends a save with these claims and marks: the new superblock is the durable one. Where one
+    /// could not be done before, that is over now.
     ///
     /// It has to be the save that was begun last. No contract can say so behind a lock, so it is
-    /// looked at whether the superblock may be it: where not, no save can be done any more.
+    /// looked at whether the superblock may be it: where not, the save could not be done.
     pub fn end_save(&mut self, claims: LegClaims, marked: &[bool])
         ensures stripe { self.new.stripe ≡ self.old.stripe }
         ensures none { self.old.durable ≡ None → self.new.durable ≡ None }
@@ -121,13 +122,14 @@ impl DurableState {
         self.has_only(marked) && self.may_say(stripe, claims)
     }
 
-    // From now on the superblock with these claims and marks is the durable one.
+    // From now on the superblock with these claims and marks is the durable one, and saves go on.
     fn end(&mut self, claims: &LegClaims, marked: &[bool])
         ensures { Ends claims.now marked.now self.old self.new }
     {
         self.named = claims.in_sync;
         self.listed = claims.listed();
         self.lacking = claims.partial;
+        self.broken = false;
         hold(&mut self.marked, marked);
     }
 

@@ -7,7 +7,7 @@ use Rattle.nm_leg.specs.Leg.{LegType}
 use Rattle.nm_mirror.specs.Opening.{Asked, AreAllOpened}
 use Rattle.nm_rules.specs.State.{StripeState}
 use Rattle.nm_leg_files.specs.declared.counting_file.CountingFile.{CountingFile}
-use Rattle.nm_leg_files.specs.declared.late_file.LateFile.{LateFile}
+use Rattle.nm_leg_files.specs.declared.limited_file.LimitedFile.{LimitedFile}
 use Rattle.nm_leg_files.specs.declared.leg_file.LegFile.{LegFile}
 use Rattle.nm_leg_files.specs.declared.leg_files.LegFiles.{LegFiles}
 
@@ -33,7 +33,7 @@ names_of files = map name_of files.files.items
 -- Where a leg stands: the file that it reads and writes, which is open or opened later, which user
 -- of the file it is, and the stripe of a mirror of this shape whose blocks it has.
 pub record LegPlace : Type 0 where
-  pub file : LateFile
+  pub file : LimitedFile
   pub user : ℕ
   pub stripe : ℕ
   pub shape : Geometry

@@ -15,7 +15,7 @@ GoesOn failed (TakeOut leg) = (leg < length failed) × (slice_index_or failed le
 GoesOn failed GiveUp =
     (leg : ℕ) → leg < length failed → slice_index_or failed leg false ≡ false
 
--- the leg was to go out and is still in sync somewhere: it is the last one there, or all has stopped
+-- the leg was to go out and is in sync somewhere still: the last one there, or all has stopped
 abbrev pub IsLastSomewhere : FailCounts → Type 0
 IsLastSomewhere counts = (0 < counts.last) ⊎ ((counts.failed ≡ 0) × (0 < counts.stopped))
 

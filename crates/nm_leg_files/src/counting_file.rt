@@ -3,7 +3,7 @@
 ghost use Rattle.std.specs.Prelude.{◌≡◌, false, IfOk};
 ghost use Rattle.nm_file_leg.specs.Media.{unknown};
 
-use crate::late_file::LateFile;
+use crate::limited_file::LimitedFile;
 use nm_file_leg::{FileUser, Medium, SharedFile};
 use nm_reports::{FileCall, LegCall, LegCounts, LegTrouble};
 use std::alloc::AllocError;
@@ -19,9 +19,9 @@ pub type BytesRead = Arc<AtomicU64>;
 /// Nothing is promised of its contents: that it is honest is a premise of whoever rests on it.
 #[derive(Drop)]
 pub struct CountingFile {
-    file: FileUser<LateFile>,
+    file: FileUser<LimitedFile>,
     // The same file, to see whether it is open.
-    shared: Arc<SharedFile<LateFile>>,
+    shared: Arc<SharedFile<LimitedFile>>,
     // How many bytes it has, or is to have.
     bytes: u64,
     read: BytesRead,
@@ -34,8 +34,8 @@ impl CountingFile {
     /// are noted here. While the file is not open it tells these bytes as its length, so that a leg
     /// can be made of it, and all other calls fail.
     pub fn new(
-        file: FileUser<LateFile>,
-        shared: &Arc<SharedFile<LateFile>>,
+        file: FileUser<LimitedFile>,
+        shared: &Arc<SharedFile<LimitedFile>>,
         bytes: u64,
         read: &BytesRead,
         trouble: &Arc<LegTrouble>,
@@ -129,7 +129,7 @@ impl Medium for CountingFile {
     }
 
     fn len(&self) -> io::Result<u64> {
-        if self.shared.file().file().is_none() {
+        if self.shared.file().late().file().is_none() {
             return Ok(self.bytes);
         }
         let length = self.file.len();

@@ -6,6 +6,7 @@ use crate::counting_file::BytesRead;
 use crate::late_file::LateFile;
 use crate::leg_file::LegFile;
 use crate::leg_files::{Leg, stripe_leg};
+use crate::limited_file::LimitedFile;
 use nm_file_leg::SharedFile;
 use nm_geometry::{MOST_STRIPES, Shape};
 use nm_reports::StartFault;
@@ -25,10 +26,12 @@ impl LegFile {
         })
     }
 
-    /// The leg's file in the place of this one. What fails of it and how often it is called is
+    /// The leg's file in the place of this one, under the same limit. What fails of it and how often it is called is
     /// noted where it was.
     pub(crate) fn anew(&self, alloc: Global, file: File) -> Result<LegFile, AllocError> {
-        let shared = SharedFile::new(alloc, LateFile::opened(file), MOST_STRIPES as usize)?;
+        let late = LateFile::opened(file);
+        let limited = LimitedFile::of(alloc, late, self.shared.file().limit())?;
+        let shared = SharedFile::new(alloc, limited, MOST_STRIPES as usize)?;
         Ok(LegFile {
             name: String::from_str(alloc, self.name.as_str())?,
             shared: Arc::new(alloc, shared)?,

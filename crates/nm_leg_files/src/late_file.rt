@@ -1,5 +1,5 @@
 //! A file that may be opened later than the server starts.
-ghost use Rattle.std.specs.Prelude.{◌≡◌, ◌≤◌, length, None, Some, IsErr, IfOk, is_some};
+ghost use Rattle.std.specs.Prelude.{◌≡◌, ◌≤◌, length, None, Some, IsErr, IfOk};
 
 use nm_file_leg::BackingFile;
 use std::fs::File;
@@ -35,13 +35,6 @@ impl LateFile {
             first: None,
             later: OnceLock::new(),
         }
-    }
-
-    /// Whether it was open from the start on.
-    pub fn is_first(&self) -> bool
-        ensures { result ≡ is_some self.now.first }
-    {
-        self.first.is_some()
     }
 
     /// The file, if it is open.

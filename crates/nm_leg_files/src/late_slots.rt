@@ -3,12 +3,14 @@ ghost use Rattle.std.specs.Prelude.{false};
 ghost use Rattle.nm_saves.specs.SlotFile.{unknown};
 
 use crate::late_file::LateFile;
+use crate::limited_file::{CallLimit, LimitedFile, share_limit};
+use nm_file_leg::BackingFile;
 use nm_saves::SlotFile;
+use std::alloc::{AllocError, Global};
 use std::fs::File;
 use std::io;
 use std::io::ErrorKind;
 use std::os::fd::AsRawFd;
-use std::os::unix::fs::FileExt;
 use std::sync::Arc;
 
 /// How many bytes a slot has.
@@ -17,9 +19,8 @@ const SLOT_BYTES: usize = 4096;
 /// A superblock's file: one that was found or made at the start, or that of a leg that was not here.
 /// Until the latter is opened it has no superblock, and takes none.
 #[derive(Drop)]
-pub enum LateSlots {
-    Here(File),
-    Late(Arc<LateFile>),
+pub struct LateSlots {
+    file: LimitedFile,
 }
 
 // Where a slot begins.
@@ -36,12 +37,22 @@ fn check_whole(many: usize) -> io::Result<()> {
 }
 
 impl LateSlots {
-    // The file, if it is open.
-    fn file(&self) -> Option<&File> {
-        match self {
-            LateSlots::Here(file) => Some(file),
-            LateSlots::Late(late) => late.file(),
-        }
+    /// Those of a file that is open, under the limit of its leg's calls.
+    pub(crate) fn here(
+        alloc: Global,
+        file: File,
+        limit: &CallLimit,
+    ) -> Result<LateSlots, AllocError> {
+        Ok(LateSlots {
+            file: LimitedFile::of(alloc, LateFile::opened(file), limit)?,
+        })
+    }
+
+    /// Those of a file that is opened later.
+    pub(crate) fn late(file: Arc<LateFile>, limit: &CallLimit) -> Result<LateSlots, AllocError> {
+        Ok(LateSlots {
+            file: LimitedFile::new(file, share_limit(limit)?),
+        })
     }
 }
 
@@ -53,34 +64,26 @@ impl SlotFile for LateSlots {
     ghost held = { λ _. unknown };
 
     fn settle(&mut self) -> io::Result<()> {
-        if let Some(file) = self.file() {
-            file.sync_data()?;
+        if let Some(file) = self.file.late().file() {
+            self.file.sync_bytes()?;
             let _ = libc::posix_fadvise(file.as_raw_fd(), 0, 0, libc::POSIX_FADV_DONTNEED);
         }
         Ok(())
     }
 
     fn read_slot(&mut self, second: bool, into: &mut [u8; 4096]) -> io::Result<()> {
-        match self.file() {
-            Some(file) => check_whole(file.read_at(into, place_of(second))?),
-            None => {
-                into.fill(0);
-                Ok(())
-            }
+        if self.file.late().file().is_none() {
+            into.fill(0);
+            return Ok(());
         }
+        check_whole(self.file.read_bytes(place_of(second), into)?)
     }
 
     fn write_slot(&mut self, second: bool, bytes: &[u8; 4096]) -> io::Result<()> {
-        match self.file() {
-            Some(file) => check_whole(file.write_at(bytes, place_of(second))?),
-            None => Err(io::Error::from(ErrorKind::NotFound)),
-        }
+        check_whole(self.file.write_bytes(place_of(second), bytes)?)
     }
 
     fn sync(&mut self) -> io::Result<()> {
-        match self.file() {
-            Some(file) => file.sync_data(),
-            None => Err(io::Error::from(ErrorKind::NotFound)),
-        }
+        self.file.sync_bytes()
     }
 }

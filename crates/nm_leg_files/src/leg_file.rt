@@ -4,7 +4,8 @@ ghost use Rattle.nm_leg_files.specs.Files.{name_of};
 ghost use Rattle.nm_leg_files.specs.Here.{is_here};
 
 use crate::late_file::LateFile;
-use crate::leg_opening::FoundLeg;
+use crate::leg_opening::{FoundLeg, LegRules};
+use crate::limited_file::LimitedFile;
 use nm_file_leg::SharedFile;
 use nm_geometry::MOST_STRIPES;
 use nm_reports::{LegCounts, LegTrouble, Unopened};
@@ -17,15 +18,21 @@ use std::sync::Arc;
 #[derive(Drop)]
 pub struct LegFile {
     pub(crate) name: String,
-    pub(crate) shared: Arc<SharedFile<LateFile>>,
+    pub(crate) shared: Arc<SharedFile<LimitedFile>>,
     // Why the system did not open it at the start, where that is so.
     pub(crate) unopened: Option<io::Error>,
     pub(crate) trouble: Arc<LegTrouble>,
     pub(crate) counts: Arc<LegCounts>,
 }
 
-/// The file of this name for the stripes, of which there are at most so many.
-pub(crate) fn share(alloc: Global, name: &str, found: FoundLeg) -> Result<LegFile, AllocError>
+/// The file of this name for the stripes, of which there are at most so many, under the limit that
+/// the rules have for its calls.
+pub(crate) fn share(
+    alloc: Global,
+    name: &str,
+    found: FoundLeg,
+    rules: &LegRules,
+) -> Result<LegFile, AllocError>
     ensures name { IfOk result (λ leg. name_of leg ≡ name.now) }
     ensures here { IfOk result (λ leg. is_here leg ≡ not (is_some found.unopened)) }
 {
@@ -34,7 +41,8 @@ pub(crate) fn share(alloc: Global, name: &str, found: FoundLeg) -> Result<LegFil
         Some(file) => LateFile::opened(file),
         None => LateFile::missing(),
     };
-    let shared = SharedFile::new(alloc, file, MOST_STRIPES as usize)?;
+    let limited = LimitedFile::of(alloc, file, &rules.limit(alloc)?)?;
+    let shared = SharedFile::new(alloc, limited, MOST_STRIPES as usize)?;
     Ok(LegFile {
         name,
         shared: Arc::new(alloc, shared)?,

@@ -11,6 +11,8 @@ use crate::counting_file::{BytesRead, CountingFile};
 use crate::leg_file::{LegFile, share, unopened_by};
 use crate::leg_opening::{BLOCK_BYTES, LegLength, LegRules, find_leg, first_of, is_block_device};
 use crate::leg_place::LegPlace;
+use crate::limited_file::{CallLimit, share_limit};
+use crate::timed_calls::TimedCalls;
 use nm_file_leg::{FileLeg, FileUser};
 use nm_geometry::Shape;
 use nm_lanes::NoGate;
@@ -20,6 +22,7 @@ use std::alloc::{AllocError, Global};
 use std::fs::File;
 use std::rt::Files;
 use std::sync::{Arc, Wait};
+use std::thread::Threads;
 
 /// How many blocks a region has.
 pub const REGION: u64 = 128;
@@ -66,7 +69,7 @@ fn open_leg<'a, R: Files<File = File>>(
         Err(fault) => return Err(fault),
     };
     let after = first_of(number, first, &found);
-    match share(alloc, name, found) {
+    match share(alloc, name, found, rules) {
         Ok(leg) => Ok((leg, after)),
         Err(_) => Err(StartFault::Memory),
     }
@@ -157,6 +160,30 @@ impl LegFiles {
         Ok(places)
     }
 
+    /// Starts the threads that make the legs' calls, where these are limited.
+    pub fn start_threads<'a, R>(&self, rt: &R) -> Result<(), StartFault<'a>>
+    where
+        R: Threads + Wait + Copy + Send + 'static,
+    {
+        for file in &self.files {
+            if let Some(calls) = file.shared.file().limit() {
+                if !TimedCalls::start(rt, calls) {
+                    return Err(StartFault::Memory);
+                }
+            }
+        }
+        Ok(())
+    }
+
+    /// The limits of the legs' calls.
+    pub fn limits(&self, alloc: Global) -> Result<Vec<CallLimit>, AllocError> {
+        let mut limits = Vec::new(alloc);
+        for file in &self.files {
+            limits.push(share_limit(file.shared.file().limit())?)?;
+        }
+        Ok(limits)
+    }
+
     // Whether the leg's file is here.
     fn is_here(&self, leg: usize) -> bool
         ensures { result ≡ is_here_at leg self.now }
@@ -234,7 +261,7 @@ impl LegFiles {
             return false;
         }
         match self.files.get(leg) {
-            Some(file) => file.shared.file().settle(),
+            Some(file) => file.shared.file().late().settle(),
             None => false,
         }
     }
@@ -255,7 +282,13 @@ impl LegFiles {
     /// The first leg that is a block device.
     pub fn block_device(&self) -> Option<usize> {
         for (leg, file) in self.files.iter().enumerate() {
-            if file.shared.file().file().is_some_and(is_block_device) {
+            if file
+                .shared
+                .file()
+                .late()
+                .file()
+                .is_some_and(is_block_device)
+            {
                 return Some(leg);
             }
         }

@@ -9,6 +9,8 @@ use std::{fmt, io};
 pub enum Hindrance {
     /// Its file was shorter than at the start for a while: what it lost is not known.
     WasCut,
+    /// A call of its file was left, and has not returned: it may still write.
+    CallLeft,
     /// The system does not open its name.
     Unopened(io::Error),
     /// Another process has its file locked, or it is another leg's.
@@ -56,6 +58,7 @@ impl fmt::Display for Hindrance {
     fn fmt<W: fmt::Write>(&self, f: &mut fmt::Formatter<W>) -> fmt::Result {
         match self {
             Hindrance::WasCut => f.write_str("its file was made shorter, and is not to be trusted"),
+            Hindrance::CallLeft => f.write_str("a call of its file has not returned yet"),
             Hindrance::Unopened(error) => write!(f, "it cannot be opened: {error}"),
             Hindrance::Locked => f.write_str("it is locked by another process, or is another leg"),
             Hindrance::InUse => f.write_str("the system has it in use"),

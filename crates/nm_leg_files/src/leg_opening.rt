@@ -1,20 +1,27 @@
 //! Opens, locks and measures one leg's file.
 ghost use Rattle.std.specs.Prelude.{◌≡◌, ◌≤◌, ◌^◌, ◌||◌, false, not, None, IfSome, IfOk, is_some};
 
+use crate::limited_file::CallLimit;
+use crate::timed_calls::TimedCalls;
+use nm_commands::{Settings, SuperblockPlace};
 use nm_reports::{StartFault, Unopened};
-use nm_system::is_in_use;
-use std::alloc::Global;
+use nm_system::{Limits, is_in_use};
+use std::alloc::{AllocError, Global};
 use std::fs::{File, OpenOptions, TryLockError};
 use std::io;
 use std::io::{ErrorKind, Seek, SeekFrom};
 use std::os::unix::fs::FileTypeExt;
 use std::rt::Files;
+use std::sync::Arc;
 
 /// How many bytes a block has.
 pub const BLOCK_BYTES: u64 = nm_replay::BLOCK_BYTES as u64;
 
 /// How many blocks an export has at most.
 const MOST_BLOCKS: u64 = 1 << 31;
+
+/// How many calls of stripes a leg's threads make at once at most; one more is for its superblock.
+const MOST_CALLS: u8 = 16;
 
 /// Which legs may be opened.
 #[derive(Clone, Copy, Debug)]
@@ -25,15 +32,43 @@ pub struct LegRules {
     pub force_in_use: bool,
     /// How long files may be that are written, in bytes.
     pub file_bytes: Option<u64>,
+    /// After how many seconds a call of theirs is left, where it is.
+    pub leg_timeout: Option<u32>,
+    /// How many threads a leg has then for its calls.
+    pub threads: u8,
+    /// Superblocks stand beside them, so that none may be a block device.
+    pub has_beside: bool,
 }
 
 impl LegRules {
+    /// Those that the settings have, under these limits of the system: without superblocks no leg may
+    /// be missing.
+    pub fn of(settings: &Settings<'_>, limits: &Limits) -> LegRules {
+        LegRules {
+            may_lack: !matches!(settings.superblock, SuperblockPlace::Nowhere),
+            force_in_use: settings.force_in_use,
+            file_bytes: limits.file_bytes,
+            leg_timeout: settings.leg_timeout,
+            threads: settings.stripes.min(MOST_CALLS) + 1,
+            has_beside: matches!(settings.superblock, SuperblockPlace::Beside),
+        }
+    }
+
     /// The limit, where a file of so many bytes is over it.
     pub fn over_limit(&self, file: &File, bytes: u64) -> Option<u64> {
         match self.file_bytes {
             Some(limit) if limit < bytes && is_regular(file) => Some(limit),
             _ => None,
         }
+    }
+
+    /// A limit for the calls of one leg, where they have one.
+    pub fn limit(&self, alloc: Global) -> Result<CallLimit, AllocError> {
+        let Some(seconds) = self.leg_timeout else {
+            return Ok(None);
+        };
+        let calls = TimedCalls::new(alloc, self.threads, seconds)?;
+        Ok(Some(Arc::new(alloc, calls)?))
     }
 }
 

@@ -112,7 +112,7 @@ impl LegPlace {
         Ok(())
     }
 
-    /// Opens the name anew. Refused are a file that may have lost what the server wrote to it,
+    /// Opens the name anew. Refused are a file of which a call was left, one that may have lost what the server wrote to it,
     /// another file than the one that is open and locked, and another length.
     ///
     /// The file of a leg that was missing so far is opened and locked by this, where it has the
@@ -124,7 +124,10 @@ impl LegPlace {
         if file.trouble.was_cut() {
             return Err(Hindrance::WasCut);
         }
-        let late = file.shared.file();
+        if file.shared.file().has_left() {
+            return Err(Hindrance::CallLeft);
+        }
+        let late = file.shared.file().late();
         let Some(held) = late.file() else {
             return self.open_late(opener, late);
         };

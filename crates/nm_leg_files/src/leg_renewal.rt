@@ -2,11 +2,13 @@
 
 use crate::counting_file::BytesRead;
 use crate::file_legs::legs_on;
+use crate::late_slots::LateSlots;
 use crate::leg_file::LegFile;
 use crate::leg_files::Leg;
 use crate::leg_opener::OpensLegs;
-use crate::leg_opening::bytes_of;
+use crate::leg_opening::{bytes_of, is_block_device};
 use crate::leg_place::{LegPlace, is_same};
+use crate::superblock_writer::SuperblockWriter;
 use nm_geometry::Shape;
 use std::alloc::Global;
 use std::fmt;
@@ -24,6 +26,8 @@ pub enum Unrenewed {
     Locked,
     /// The system has it in use.
     InUse,
+    /// It is a block device, beside which no superblock would outlive a restart.
+    NoPlaceBeside,
 }
 
 impl fmt::Display for Unrenewed {
@@ -33,6 +37,7 @@ impl fmt::Display for Unrenewed {
             Unrenewed::OtherLength => "length",
             Unrenewed::Locked => "locked",
             Unrenewed::InUse => "in use",
+            Unrenewed::NoPlaceBeside => "is a block device: give --superblock FOLDER",
         })
     }
 }
@@ -92,13 +97,16 @@ impl LegPlace {
         {
             return Err(Unrenewed::OtherLength);
         }
-        lock_anew(&file, held.shared.file().file())?;
+        if self.rules.has_beside && is_block_device(&file) {
+            return Err(Unrenewed::NoPlaceBeside);
+        }
+        lock_anew(&file, held.shared.file().late().file())?;
         Ok(file)
     }
 
     /// Opens the file that the name leads to now, measures it and locks it, and lets go of the one
-    /// that was held, if one was. One that the system has in use is refused unless that is allowed.
-    /// The answer is the legs of all stripes on it, stripe 0's first.
+    /// that was held, if one was. One that the system has in use is refused unless that is allowed,
+    /// and so is a block device where superblocks stand beside the legs. The answer is the legs of all stripes on it, stripe 0's first.
     pub fn renew<R: Wait, O: OpensLegs>(
         &self,
         rt: &R,
@@ -121,5 +129,21 @@ impl LegPlace {
         *self.superblock.lock(rt) = None;
         *held = anew;
         Ok(legs)
+    }
+
+    /// Gives the leg of this number a superblock's file and an id of its own, under the limit of its
+    /// calls.
+    pub fn renew_superblock<R: Wait, O: OpensLegs>(
+        &self,
+        rt: &R,
+        opener: &O,
+        leg: u8,
+        writer: &mut SuperblockWriter<LateSlots>,
+    ) -> Result<(), Unrenewed> {
+        let held = self.file.lock(rt);
+        match writer.renew_leg(opener, leg, held.shared.file().limit()) {
+            Ok(()) => Ok(()),
+            Err(_) => Err(Unrenewed::CannotOpen),
+        }
     }
 }

@@ -5,6 +5,8 @@
 #![tactic(auto)]
 
 mod alike;
+mod answer_bell;
+mod call_seat;
 mod counting_file;
 mod equal_start;
 mod file_legs;
@@ -22,6 +24,7 @@ mod leg_opener;
 mod leg_opening;
 mod leg_place;
 mod leg_renewal;
+mod limited_file;
 mod needs;
 mod no_superblocks;
 mod saving;
@@ -32,6 +35,7 @@ mod superblock_renewal;
 mod superblock_sets;
 mod superblock_writer;
 mod thread_trial;
+mod timed_calls;
 
 pub use crate::counting_file::BytesRead;
 pub use crate::equal_start::open_untold;
@@ -47,6 +51,7 @@ pub use crate::leg_opener::{LegOpener, OpensLegs};
 pub use crate::leg_opening::LegRules;
 pub use crate::leg_place::LegPlace;
 pub use crate::leg_renewal::Unrenewed;
+pub use crate::limited_file::{CallLimit, share_limit};
 pub use crate::needs::{check_files, check_stack, reply_bytes_of};
 pub use crate::no_superblocks::check_no_superblocks;
 pub use crate::saving::{AfterTry, after_try, is_clean, is_last_somewhere};
@@ -56,3 +61,4 @@ pub use crate::superblock_opening::FoundFiles;
 pub use crate::superblock_renewal::other_id;
 pub use crate::superblock_writer::SuperblockWriter;
 pub use crate::thread_trial::try_threads;
+pub use crate::timed_calls::TimedCalls;

@@ -1,22 +1,24 @@
 //! What the server needs of the system, so that it is told at the start where it is too little.
-ghost use Rattle.std.specs.Prelude.{◌≡◌, ◌+◌};
+ghost use Rattle.std.specs.Prelude.{◌≡◌, ◌+◌, ◌*◌};
 ghost use Rattle.nm_leg_files.specs.Replies.{reply_bytes};
 
+use crate::leg_opening::LegRules;
 use nm_reports::StartFault;
 use nm_system::{Limits, is_below};
 
-/// How many KiB the stack of a thread has at least.
-const LEAST_STACK_KIB: u64 = 256;
+/// How many KiB the stack of a thread has at least: twice what the deepest one needs.
+const LEAST_STACK_KIB: u64 = 1024;
 
 /// How many files are open beside legs and sessions: the standard streams, two sockets that listen,
 /// and connections of the control port and of clients that are turned away.
 const OTHER_FILES: u64 = 16;
 
-// How many files are open at most.
-fn files_needed(legs: u8, sessions: u8) -> u64
-    ensures { result ≡ legs + sessions + 16 }
+// How many files are open at most, where each leg has so many threads for its calls.
+fn files_needed(legs: u8, threads: u8, sessions: u8) -> u64
+    ensures { result ≡ legs + legs * threads + sessions + 16 }
 {
-    u64::from(legs) + u64::from(sessions) + OTHER_FILES
+    let legs = u64::from(legs);
+    legs + legs * u64::from(threads) + u64::from(sessions) + OTHER_FILES
 }
 
 /// How many bytes the replies of all sessions carry at most.
@@ -42,9 +44,20 @@ pub fn check_stack<'a>(limits: &Limits) -> Result<(), StartFault<'a>> {
     Ok(())
 }
 
-/// Refuses limits under which so many sessions over so many legs would run out of descriptors.
-pub fn check_files<'a>(limits: &Limits, legs: u8, sessions: u8) -> Result<(), StartFault<'a>> {
-    let needed = files_needed(legs, sessions);
+/// Refuses limits under which so many sessions over so many legs would run out of descriptors. The
+/// thread of a leg that makes its calls needs one.
+pub fn check_files<'a>(
+    limits: &Limits,
+    legs: u8,
+    rules: &LegRules,
+    sessions: u8,
+) -> Result<(), StartFault<'a>> {
+    let threads = if rules.leg_timeout.is_some() {
+        rules.threads
+    } else {
+        0
+    };
+    let needed = files_needed(legs, threads, sessions);
     if is_below(limits.open_files, needed) {
         return Err(StartFault::FewDescriptors(needed));
     }

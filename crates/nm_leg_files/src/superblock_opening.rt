@@ -3,8 +3,10 @@
 use crate::late_file::LateFile;
 use crate::late_slots::LateSlots;
 use crate::late_superblock::LateSuperblock;
+use crate::leg_files::LegFiles;
 use crate::leg_opener::open_or_make;
 use crate::leg_opening::{bytes_of, lock_opened, open_locked};
+use crate::limited_file::CallLimit;
 use nm_commands::{Settings, SuperblockPlace};
 use nm_reports::{StartFault, Unopened, superblock_name};
 use nm_saves::{SuperblockFile, SuperblockFiles, found_beside};
@@ -25,6 +27,7 @@ pub struct FoundFiles {
     files: Vec<Option<SuperblockFile<LateSlots>>>,
     names: Vec<String>,
     are_beside: bool,
+    limits: Vec<CallLimit>,
 }
 
 /// The files of superblocks while the server serves.
@@ -38,11 +41,18 @@ pub struct AllFiles {
     pub late: Vec<LateSuperblock>,
 }
 
+// Why a file is not opened where there is no memory.
+fn no_memory() -> Unopened {
+    Unopened::by(io::Error::from(ErrorKind::OutOfMemory))
+}
+
 // Opens, locks and reads the superblock's file of this name, if there is one. One that is shorter
 // than it is made to be was cut off while it was made, and never held a superblock.
 fn read_file<R: Files<File = File>>(
     rt: &R,
+    alloc: Global,
     name: &str,
+    limit: &CallLimit,
 ) -> Result<Option<SuperblockFile<LateSlots>>, Unopened> {
     let file = match open_locked(rt, name) {
         Ok(file) => file,
@@ -53,15 +63,25 @@ fn read_file<R: Files<File = File>>(
         Some(bytes) if bytes >= FILE_BYTES => (),
         _ => return Ok(None),
     }
-    match SuperblockFile::open(LateSlots::Here(file)) {
+    let Ok(slots) = LateSlots::here(alloc, file, limit) else {
+        return Err(no_memory());
+    };
+    match SuperblockFile::open(slots) {
         Ok(found) => Ok(Some(found)),
         Err(error) => Err(Unopened::by(error)),
     }
 }
 
 /// The superblock's file that was opened, if it was, locked and with no superblock in it.
-pub(crate) fn blank_file(opened: io::Result<File>) -> Result<SuperblockFile<LateSlots>, Unopened> {
-    match SuperblockFile::create(LateSlots::Here(lock_opened(opened)?)) {
+pub(crate) fn blank_file(
+    alloc: Global,
+    opened: io::Result<File>,
+    limit: &CallLimit,
+) -> Result<SuperblockFile<LateSlots>, Unopened> {
+    let Ok(slots) = LateSlots::here(alloc, lock_opened(opened)?, limit) else {
+        return Err(no_memory());
+    };
+    match SuperblockFile::create(slots) {
         Ok(made) => Ok(made),
         Err(error) => Err(Unopened::by(error)),
     }
@@ -70,9 +90,11 @@ pub(crate) fn blank_file(opened: io::Result<File>) -> Result<SuperblockFile<Late
 // Makes the superblock's file of this name, which holds none yet, and has the folder keep it.
 fn make_file<R: Files<File = File>>(
     rt: &R,
+    alloc: Global,
     name: &str,
+    limit: &CallLimit,
 ) -> Result<SuperblockFile<LateSlots>, Unopened> {
-    blank_file(open_or_make(rt, name))
+    blank_file(alloc, open_or_make(rt, name), limit)
 }
 
 // The superblock's file of this name, of a leg that is missing, as is the file: both are opened
@@ -83,6 +105,7 @@ fn late_file<'a>(
     name: &str,
     is_beside: bool,
     went_by: Superblock,
+    limit: &CallLimit,
 ) -> Result<(SuperblockFile<LateSlots>, LateSuperblock), StartFault<'a>> {
     let Ok(file) = Arc::new(alloc, LateFile::missing()) else {
         return Err(StartFault::Memory);
@@ -94,7 +117,7 @@ fn late_file<'a>(
         is_beside,
         went_by,
     };
-    match SuperblockFile::open(LateSlots::Late(file)) {
+    match SuperblockFile::open(LateSlots::late(file, limit)?) {
         Ok(slots) => Ok((slots, late)),
         Err(error) => Err(StartFault::CannotSave(leg, Unopened::by(error))),
     }
@@ -107,14 +130,18 @@ impl FoundFiles {
         rt: &R,
         alloc: Global,
         settings: &Settings<'_>,
-        here: &[bool; 8],
+        legs: &LegFiles,
     ) -> Result<FoundFiles, StartFault<'a>> {
+        let (here, limits) = (legs.here(), legs.limits(alloc)?);
         let (mut files, mut names) = (Vec::new(alloc), Vec::new(alloc));
         for (leg, own) in settings.legs.iter().enumerate() {
             let Some(name) = superblock_name(alloc, settings.superblock, leg, own)? else {
                 continue;
             };
-            let file = match read_file(rt, name.as_str()) {
+            let Some(limit) = limits.get(leg) else {
+                continue;
+            };
+            let file = match read_file(rt, alloc, name.as_str(), limit) {
                 Ok(file) => file,
                 Err(Unopened::System(_)) if !here.get(leg).copied().unwrap_or(true) => None,
                 Err(why) => return Err(StartFault::CannotSave(leg, why)),
@@ -128,6 +155,7 @@ impl FoundFiles {
             files,
             names,
             are_beside,
+            limits,
         })
     }
 
@@ -148,11 +176,14 @@ impl FoundFiles {
         let (Some(place), Some(name)) = (self.files.get_mut(leg), self.names.get(leg)) else {
             return Ok(None);
         };
+        let Some(limit) = self.limits.get(leg) else {
+            return Ok(None);
+        };
         if place.is_some() {
             return Ok(None);
         }
         if is_here {
-            match make_file(rt, name.as_str()) {
+            match make_file(rt, alloc, name.as_str(), limit) {
                 Ok(made) => *place = Some(made),
                 Err(why) => return Err(StartFault::CannotSave(leg, why)),
             }
@@ -161,7 +192,7 @@ impl FoundFiles {
         let Some(went_by) = went_by else {
             return Ok(None);
         };
-        let (slots, late) = late_file(alloc, leg, name.as_str(), self.are_beside, went_by)?;
+        let (slots, late) = late_file(alloc, leg, name.as_str(), self.are_beside, went_by, limit)?;
         *place = Some(slots);
         Ok(Some(late))
     }

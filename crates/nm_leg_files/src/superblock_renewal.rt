@@ -3,6 +3,7 @@ ghost use Rattle.std.specs.Prelude.{◌≢◌};
 
 use crate::late_slots::LateSlots;
 use crate::leg_opener::OpensLegs;
+use crate::limited_file::CallLimit;
 use crate::superblock_opening::blank_file;
 use crate::superblock_writer::SuperblockWriter;
 use nm_reports::Unopened;
@@ -24,7 +25,12 @@ pub fn other_id(drawn: u64, old: u64) -> u64
 impl SuperblockWriter<LateSlots> {
     /// Lets the leg's superblock go, makes its file anew with none in it, and gives the leg a new
     /// id: what is saved from now on has that one. Nothing is saved beside the leg where this fails.
-    pub fn renew_leg<O: OpensLegs>(&mut self, opener: &O, leg: u8) -> Result<(), Unopened> {
+    pub fn renew_leg<O: OpensLegs>(
+        &mut self,
+        opener: &O,
+        leg: u8,
+        limit: &CallLimit,
+    ) -> Result<(), Unopened> {
         let at = leg as usize;
         if at >= 8 || at >= self.files.legs() || at >= self.names.len() {
             return Err(Unopened::Cut);
@@ -34,7 +40,7 @@ impl SuperblockWriter<LateSlots> {
             Err(error) => return Err(Unopened::by(error)),
         };
         self.files.let_go(at);
-        let made = blank_file(opener.make(self.names[at].as_str()))?;
+        let made = blank_file(self.alloc, opener.make(self.names[at].as_str()), limit)?;
         let id = other_id(drawn, self.files.image().leg_ids[at]);
         self.files.renew(at, made, id);
         Ok(())

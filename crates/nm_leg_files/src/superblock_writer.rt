@@ -73,7 +73,7 @@ fn is_partial(last: &Superblock, leg: u8) -> bool {
 /// went by, if there was one.
 #[derive(Drop)]
 pub struct SuperblockWriter<S: SlotFile> {
-    alloc: Global,
+    pub(crate) alloc: Global,
     pub(crate) files: SuperblockFiles<S>,
     // From leg 0 on.
     pub(crate) names: Vec<String>,
@@ -209,7 +209,7 @@ impl<S: SlotFile> SuperblockWriter<S> {
         mirror.fail_save(rt);
         status.fail();
         let text = format!(in self.alloc;
-            "no superblock can be written any more: the mirror is read-only from now on"
+            "no superblock can be written: the mirror is read-only from now on, until `reopen`"
         );
         lines.alert(rt, text);
         false
@@ -224,6 +224,27 @@ impl<S: SlotFile> SuperblockWriter<S> {
         lines: &LogLines,
     ) -> bool {
         self.save(rt, mirror, status, lines, false)
+    }
+
+    /// Saves what the mirror is, though that could not be done before: each file that has failed is
+    /// settled and read again first. Whether it could be done.
+    pub fn save_again<R: Wait, L: LegPart, G: Gate + Drop>(
+        &mut self,
+        rt: &R,
+        mirror: &Mirror<L, G>,
+        status: &SaveStatus,
+        lines: &LogLines,
+    ) -> bool {
+        let had_failed = status.has_failed();
+        self.files.read_failed_again();
+        if !self.save(rt, mirror, status, lines, false) {
+            return false;
+        }
+        if had_failed {
+            let text = format!(in self.alloc; "superblocks can be written again: writes go on");
+            lines.inform(rt, text);
+        }
+        true
     }
 
     /// Saves for the last time, once nothing else is at work: that the mirror ends in good order,

@@ -9,8 +9,8 @@ use Rattle.nm_gate.specs.Gate.{IsAllowed}
 use Rattle.nm_mirror.specs.declared.ask.Ask.{Ask}
 use Rattle.nm_mirror.specs.declared.ask.Ask.TheVariants.{Answer, Attach, Begin, Copy, Replace}
 
--- the gate lets the steps pass that are asked for: of a copy, where the stripe has the leg, and of a
--- replacement, where that leg is out
+-- the gate lets the steps pass that are asked for: of a copy, where the stripe has the leg, and of
+-- a replacement, where that leg is out
 abbrev pub LetsPass : {L : Type 0} → Option Durable → StripeState L → Ask → Type 0
 LetsPass durable stripe (Begin block) =
     (bytes : Data) → IsAllowed durable stripe (step.Begin block bytes)

@@ -20,15 +20,15 @@ abbrev pub part_after_all : {L : Type 0} → List (Done L) → PartState → Par
 part_after_all [] part = part
 part_after_all (done ∷ list) part = part_after_all list (part_after done.answer part)
 
--- The gate of the stripe let the step pass: what the durable superblock may say of it, if the mirror
--- has any, allowed the step there. A push and a read pass no gate.
+-- The gate of the stripe let the step pass: what the durable superblock may say of it, if there is
+-- one, allowed the step there. A push and a read pass no gate.
 abbrev pub IsLetPass : {L : Type 0} → StripeState L → Step L → Type 0
 IsLetPass stripe (Push ticket leg) = Unit {0}
 IsLetPass stripe (Read block room) = Unit {0}
 IsLetPass stripe step = (durable : Option Durable) × IsAllowed durable stripe step
 
 -- a stripe, whatever its legs are, was asked for the step through the part, and answered so. It has
--- the part's number, or it was found astray; and its gate let the step pass, if it may be asked for.
+-- the part's number, or was found astray; and its gate let the step pass, if it may be asked for.
 pub record WasAskedOne {L : Type 0} (part : PartState) (done : Done L) : Type 0 where
   pub type : LegType L
   pub before : StripeState L
@@ -42,8 +42,8 @@ IsGated (Push ticket leg) = ⊥
 IsGated (Read block room) = ⊥
 IsGated step = Unit {0}
 
--- no stripe was asked for the step, since no superblock can be saved any more: a push and a read need
--- none
+-- no stripe was asked for the step, since no superblock can be saved any more: a push and a read
+-- need none
 abbrev pub IsNotSaved : {L : Type 0} → Done L → Type 0
 IsNotSaved done = IsGated done.step × (done.answer ≡ Refused SaveFailed (handed_in done.step))
 

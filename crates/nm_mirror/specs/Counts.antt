@@ -34,8 +34,8 @@ attached_so (Some refusal) left counts = record counts { not_out = counts.not_ou
 abbrev pub replaces : ReplaceCounts → ℕ
 replaces counts = counts.joining + counts.out + counts.not_out + counts.stopped
 
--- the counts once another leg joined a stripe, with so many blocks left to copy, or that was refused
--- so
+-- the counts once another leg joined a stripe, with so many blocks left to copy, or that was
+-- refused so
 abbrev pub replaced_so : Option Refusal → ℕ → ReplaceCounts → ReplaceCounts
 replaced_so None left counts = record counts {
   joining = counts.joining + 1;

@@ -1,4 +1,5 @@
 pub mod Asks
+pub mod Claiming
 pub mod Closing
 pub mod CopyRound
 pub mod Counting

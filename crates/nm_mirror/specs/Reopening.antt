@@ -1,5 +1,6 @@
 -- A stripe that stopped, once it is opened anew from the leg it stopped on.
-use Rattle.std.specs.Prelude.{◌≡◌, ℕ, ◌+◌, ◌-◌, ◌^◌, ◌<◌, true, List, length, Option, None, Some, min}
+use Rattle.std.specs.Prelude.{◌≡◌, ℕ, ◌+◌, ◌-◌, ◌^◌, ◌<◌, true, min}
+use Rattle.std.specs.Prelude.{List, length, Option, None, Some}
 use Rattle.nm_choice.specs.declared.policy.Policy.{Policy}
 use Rattle.nm_rules.specs.Opening.{opened}
 use Rattle.nm_rules.specs.State.{StripeState, next_number}

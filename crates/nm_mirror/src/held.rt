@@ -11,17 +11,20 @@ ghost use Rattle.nm_stripe.specs.End.{end_of};
 
 use crate::opening::only_bit;
 use crate::stripe_end::{Past, StripeEnd};
+use crate::unclaimed::Unclaimed;
 use nm_gate::{DurableState, GatedStripe};
 use nm_leg::LegPart;
 use nm_stripe::{At, Policy, Stripe};
 use std::alloc::Global;
 
-/// A stripe and its gate, how many times it was opened anew, and what its earlier openings have had.
+/// A stripe and its gate, how many times it was opened anew, what its earlier openings have had, and
+/// which writes nobody is to claim whose call has ended.
 #[derive(Drop)]
 pub struct Held<L: LegPart> {
     pub(crate) gated: GatedStripe<L>,
     pub(crate) openings: u64,
     pub(crate) past: Past,
+    pub(crate) unclaimed: Unclaimed,
 }
 
 /// Whether the superblock may call no leg of so many in sync but the master.
@@ -46,6 +49,7 @@ impl<L: LegPart> Held<L> {
             gated,
             openings: 0,
             past: Past::default(),
+            unclaimed: Unclaimed::new(),
         }
     }
 
@@ -93,6 +97,7 @@ impl<L: LegPart> Held<L> {
                 self.gated.stripe = stripe;
                 self.past.add(&end);
                 self.openings = self.openings.saturating_add(1);
+                self.unclaimed = Unclaimed::new();
                 true
             }
             Err(_) => false,

@@ -127,7 +127,7 @@ impl<L: LegPart> Lock<L> {
     }
 
     /// Waits for the stripe until its gate lets this pass, and takes it until the guard is dropped.
-    /// Meanwhile it asks for saves. None where no save is done any more.
+    /// Meanwhile it asks for saves. None where none can be done.
     #[inline(always)]
     pub(crate) fn hold_for<R: Wait>(&self, rt: &R, ask: Ask) -> Option<MutexGuard<'_, Held<L>>>
         ensures { IfSome result (λ guard. LetsPass (mutex_guard_value guard).gated.durable
@@ -176,6 +176,17 @@ impl<L: LegPart> Lock<L> {
     pub(crate) fn want_save<R: Wait>(&self, rt: &R) {
         if let Some(desk) = &self.desk {
             desk.want(rt);
+        }
+    }
+
+    /// Leaves a write of this opening that could not be claimed, since no superblock can be saved:
+    /// its call has ended. It is claimed once one is.
+    #[cold]
+    pub(crate) fn leave_write<R: Wait>(&self, rt: &R, opening: u64, ticket: u64) {
+        let mut held = self.hold(rt);
+        if held.openings == opening {
+            held.unclaimed.add(ticket);
+            held.claim_left();
         }
     }
 

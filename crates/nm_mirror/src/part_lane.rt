@@ -22,8 +22,8 @@ use std::sync::Wait;
 /// The part of a pass in one stripe, as a lane over the stripe's lock.
 ///
 /// A begin, a claim, a sync and a copy wait until the stripe's gate lets them pass. Where no
-/// superblock can be saved any more, what the gate refuses is refused as `SaveFailed`. A write ends
-/// with the opening of the stripe in which it began: then its claim is refused as `NoTicket`, since
+/// superblock can be saved, what the gate refuses is refused as `SaveFailed`. A write ends with the
+/// opening of the stripe in which it began: then its claim is refused as `NoTicket`, since
 /// another may have its ticket.
 #[derive(Drop)]
 pub struct PartLane<L> {
@@ -112,7 +112,10 @@ impl<L: LegPart> Lane<L, Lock<L>> for PartLane<L> {
         match lock.hold_for(rt, Ask::Answer) {
             Some(held) if held.openings != self.opening => Err(Refusal::NoTicket),
             Some(mut held) => self.part.claim(&mut held.gated.stripe, ticket),
-            None => Err(Refusal::SaveFailed),
+            None => {
+                lock.leave_write(rt, self.opening, ticket);
+                Err(Refusal::SaveFailed)
+            }
         }
     }
 

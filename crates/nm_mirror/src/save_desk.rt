@@ -24,8 +24,10 @@ struct Wants {
     is_wanted: bool,
     begun: u64,
     ended: u64,
-    // Whether one could not be done: none is done any more.
+    // Whether one could not be done: none is done until it is tried again.
     is_broken: bool,
+    // Whether the next one is tried again.
+    is_again: bool,
     is_closed: bool,
 }
 
@@ -46,6 +48,13 @@ impl Wants {
                 self.whole[leg as usize] = true;
             }
         }
+    }
+
+    // Asks for a save though one could not be done.
+    fn ask_again(&mut self) {
+        self.is_broken = false;
+        self.is_again = true;
+        self.ask(None, None);
     }
 
     // Whether nothing is to be done.
@@ -93,6 +102,7 @@ impl SaveDesk {
                 begun: 0,
                 ended: 0,
                 is_broken: false,
+                is_again: false,
                 is_closed: false,
             }),
             changed: Condvar::new(),
@@ -106,8 +116,8 @@ impl SaveDesk {
     }
 
     /// Asks for a save, which marks this span too and calls this leg partial nowhere, and waits
-    /// until one that began afterwards has ended. Whether one has: none does once one could not be
-    /// done, or the desk is closed.
+    /// until one that began afterwards has ended. Whether one has: none does where one could not be
+    /// done, and is not tried again, or once the desk is closed.
     pub(crate) fn wait_for_save<R: Wait>(
         &self,
         rt: &R,
@@ -122,6 +132,27 @@ impl SaveDesk {
             .changed
             .wait_while(rt, wants, |wants| wants.is_to_come(begun));
         wants.ended > begun
+    }
+
+    /// Asks for a save though one could not be done, and waits until one that began afterwards has
+    /// ended. Whether one has.
+    pub(crate) fn wait_for_another_try<R: Wait>(&self, rt: &R) -> bool {
+        let mut wants = self.wants.lock(rt);
+        wants.ask_again();
+        let begun = wants.begun;
+        self.changed.notify_all();
+        let wants = self
+            .changed
+            .wait_while(rt, wants, |wants| wants.is_to_come(begun));
+        wants.ended > begun
+    }
+
+    /// Whether the save that is wanted is tried again. It is told once.
+    pub(crate) fn takes_another_try<R: Wait>(&self, rt: &R) -> bool {
+        let mut wants = self.wants.lock(rt);
+        let is_again = wants.is_again;
+        wants.is_again = false;
+        is_again
     }
 
     /// Waits until a save is wanted: false once the desk is closed.
@@ -145,7 +176,7 @@ impl SaveDesk {
         self.changed.notify_all();
     }
 
-    /// No save is done any more, since one could not be done: nobody waits from now on.
+    /// A save could not be done, and none is until it is tried again: nobody waits from now on.
     pub(crate) fn fail<R: Wait>(&self, rt: &R) {
         let mut wants = self.wants.lock(rt);
         wants.is_broken = true;

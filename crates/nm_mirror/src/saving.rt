@@ -45,6 +45,24 @@ impl<L: LegPart, G: Gate + Drop> Mirror<L, G> {
         }
     }
 
+    /// Tries a save again that could not be done, and waits for it: whether it is done now. Where
+    /// none has failed it is one more.
+    pub fn save_again<R: Wait>(&self, rt: &R) -> bool {
+        match &self.desk {
+            Some(desk) => desk.wait_for_another_try(rt),
+            None => false,
+        }
+    }
+
+    /// Whether the save that `next_save` waited for is tried again: then files that have failed are
+    /// read again first. It is told once.
+    pub fn tries_again<R: Wait>(&self, rt: &R) -> bool {
+        match &self.desk {
+            Some(desk) => desk.takes_another_try(rt),
+            None => false,
+        }
+    }
+
     /// Waits until a save is wanted: false once `close_saves` was called.
     pub fn next_save<R: Wait>(&self, rt: &R) -> bool {
         match &self.desk {
@@ -84,20 +102,23 @@ impl<L: LegPart, G: Gate + Drop> Mirror<L, G> {
         SaveOrder::new(claims, spans, out)
     }
 
-    /// Ends a save: its superblock is durable, and there is no older one. Who waits for it goes on.
+    /// Ends a save: its superblock is durable, and there is no older one. Who waits for it goes on,
+    /// and writes are claimed whose calls ended while no save could be done.
     pub fn end_save<R: Wait>(&self, rt: &R, order: SaveOrder) {
         within_bounds(&self.shape);
         for stripe in 0..self.shape.stripes {
             let claims = order.claims[stripe as usize];
-            self.hold(rt, stripe).gated.end_save(claims, &order.spans);
+            let mut held = self.hold(rt, stripe);
+            held.gated.end_save(claims, &order.spans);
+            held.claim_left();
         }
         if let Some(desk) = &self.desk {
             desk.end(rt);
         }
     }
 
-    /// A save could not be done, and none is done any more: what the gates refuse from now on ends
-    /// as `SaveFailed`, and so do the calls of whoever waits.
+    /// A save could not be done, and none is until `save_again`: what the gates refuse from now on
+    /// ends as `SaveFailed`, and so do the calls of whoever waits.
     pub fn fail_save<R: Wait>(&self, rt: &R) {
         for lock in &self.locks {
             lock.hold(rt).gated.fail_save();

@@ -2,7 +2,7 @@
 
 use crate::mirrors::{close_even, pass_of, read_at, shape, zeroes};
 use nm_leg::FuseLeg;
-use nm_mirror::{CallError, CallErrorKind, Mirror, NoGate, Pass, Refused, WriteFault};
+use nm_mirror::{CallError, CallErrorKind, Mirror, NoGate, Pass, Refused};
 use std::alloc::Global;
 use std::process::Abort;
 use std::test::Fail;
@@ -117,40 +117,4 @@ fn a_mirror_makes_1024_passes(rt: HostRuntime) -> Result<(), Fail> {
         Err(Refused::TooMany) => Ok(()),
         _ => Err(Fail::new("one more")),
     }
-}
-
-/// Looks at a refusal's number and text.
-fn check_refusal<R: Abort>(
-    rt: &R,
-    alloc: Global,
-    refused: Refused<FuseLeg>,
-    number: u8,
-    text: &str,
-) -> Result<(), Fail> {
-    assert_eq!(rt; refused.number(), number);
-    assert_eq!(rt; refused.to_string(alloc)?.as_str(), text);
-    Ok(())
-}
-
-// The calls with a pass answer causes, which have no numbers of their own, and writes' faults,
-// which have the numbers and texts that they have as refusals.
-#[test]
-fn what_ends_a_call_is_a_refusal(rt: HostRuntime) -> Result<(), Fail> {
-    let alloc = rt.alloc();
-    let cause = CallError {
-        stripe: 1,
-        kind: CallErrorKind::Astray,
-    };
-    let text = "a stripe cannot go on";
-    check_refusal(&rt, alloc, cause.into(), 2, text)?;
-    let faults = [
-        (WriteFault::Memory, 1, "out of memory"),
-        (WriteFault::Io(cause), 2, text),
-    ];
-    for (fault, number, text) in faults {
-        assert_eq!(rt; fault.number(), number);
-        assert_eq!(rt; fault.to_string(alloc)?.as_str(), text);
-        check_refusal(&rt, alloc, fault.into(), number, text)?;
-    }
-    Ok(())
 }

@@ -6,8 +6,6 @@ mod beside;
 #[cfg(test)]
 mod closing;
 #[cfg(test)]
-mod edges;
-#[cfg(test)]
 mod full;
 #[cfg(test)]
 mod gates;
@@ -37,8 +35,6 @@ mod openings;
 mod past;
 #[cfg(test)]
 mod power_losses;
-#[cfg(test)]
-mod reading;
 #[cfg(test)]
 mod reopening;
 #[cfg(test)]

@@ -38,14 +38,38 @@ fn legs_of(alloc: Global, shape: &Shape, first: FuseLeg) -> Result<Vec<FuseLeg>,
     Ok(legs)
 }
 
-/// A mirror on these legs; leg 0 of each stripe is in sync, the others join.
-pub fn mirror_of<L: LegPart, G: Gate + Drop>(
+/// How a mirror starts: its master, how it is read, and what is copied.
+#[derive(Clone, Copy)]
+pub struct Opening {
+    /// The leg in sync.
+    pub master: u8,
+    /// Which legs are read.
+    pub policy: Policy,
+    /// What the legs that join are behind.
+    pub start: Start,
+}
+
+/// Leg 0 of each stripe is in sync, the others join.
+pub const FIRST: Opening = Opening {
+    master: 0,
+    policy: Policy::RoundRobin,
+    start: Start::Full,
+};
+
+/// A mirror on these legs that starts so.
+pub fn mirror_from<L: LegPart, G: Gate + Drop>(
     alloc: Global,
     shape: Shape,
     legs: Vec<Vec<L>>,
+    opening: Opening,
     gate: G,
 ) -> Result<Mirror<L, G>, Fail> {
-    let Ok(stripes) = open_stripes(alloc, &shape, legs, 0, Policy::RoundRobin, Start::Full) else {
+    let Opening {
+        master,
+        policy,
+        start,
+    } = opening;
+    let Ok(stripes) = open_stripes(alloc, &shape, legs, master, policy, start) else {
         return Err(Fail::new("no stripes"));
     };
     let Ok(stripes) = ungated(alloc, stripes) else {
@@ -55,6 +79,16 @@ pub fn mirror_of<L: LegPart, G: Gate + Drop>(
         Ok(mirror) => Ok(mirror),
         Err(_) => Err(Fail::new("no memory")),
     }
+}
+
+/// A mirror on these legs; leg 0 of each stripe is in sync, the others join.
+pub fn mirror_of<L: LegPart, G: Gate + Drop>(
+    alloc: Global,
+    shape: Shape,
+    legs: Vec<Vec<L>>,
+    gate: G,
+) -> Result<Mirror<L, G>, Fail> {
+    mirror_from(alloc, shape, legs, FIRST, gate)
 }
 
 /// Legs of zeroes for each stripe of the shape.
@@ -145,6 +179,23 @@ fn put_numbers<R: Abort>(rt: &R, leg: &mut FuseLeg, at: u64, block: u64) -> Resu
     Ok(())
 }
 
+/// A leg for this stripe on which each byte tells its offset in the export.
+pub fn numbered_leg<R: Abort>(
+    rt: &R,
+    alloc: Global,
+    shape: &Shape,
+    stripe: u32,
+) -> Result<FuseLeg, Fail> {
+    assert!(rt; stripe < shape.stripes);
+    let mut leg = FuseLeg::new(alloc, shape.stripe_blocks(stripe))?;
+    for block in 0..shape.blocks {
+        if shape.stripe_of(block) == stripe {
+            put_numbers(rt, &mut leg, shape.block_in_stripe(block), block)?;
+        }
+    }
+    Ok(leg)
+}
+
 /// A mirror of one leg a stripe in which each byte tells its offset.
 pub fn numbered_mirror<R: Abort, G: Gate + Drop>(
     rt: &R,
@@ -154,13 +205,7 @@ pub fn numbered_mirror<R: Abort, G: Gate + Drop>(
 ) -> Result<Mirror<FuseLeg, G>, Fail> {
     let mut legs = Vec::new(alloc);
     for stripe in 0..shape.stripes {
-        let mut first = FuseLeg::new(alloc, shape.stripe_blocks(stripe))?;
-        for block in 0..shape.blocks {
-            if shape.stripe_of(block) == stripe {
-                put_numbers(rt, &mut first, shape.block_in_stripe(block), block)?;
-            }
-        }
-        legs.push(legs_of(alloc, &shape, first)?)?;
+        legs.push(legs_of(alloc, &shape, numbered_leg(rt, alloc, &shape, stripe)?)?)?;
     }
     mirror_of(alloc, shape, legs, gate)
 }
@@ -231,18 +276,6 @@ pub fn write_at<R: Threads + Wait + Sync + Abort, L: LegPart + Send, G: Gate + D
 ) -> Result<(), WriteFault> {
     want_inside(rt, mirror, pass, offset, payload.len() as u64);
     mirror.write_at(rt, alloc, pass, offset, payload)
-}
-
-/// Writes zeroes to these bytes of the export, which must lie in it.
-pub fn zero_at<R: Threads + Wait + Sync + Abort, L: LegPart + Send, G: Gate + Drop + Sync>(
-    rt: &R,
-    mirror: &Mirror<L, G>,
-    pass: &mut Pass<L>,
-    offset: u64,
-    len: u64,
-) -> Result<(), CallError> {
-    want_inside(rt, mirror, pass, offset, len);
-    mirror.zero_at(rt, pass, offset, len, None)
 }
 
 /// Writes zeroes to these bytes of the export, which must lie in it, for a caller that may go.

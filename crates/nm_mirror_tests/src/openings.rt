@@ -1,9 +1,9 @@
 //! Mirrors whose stripes open under another leg than the first, and are read by region.
-use crate::mirrors::{pass_of, read_at, shape};
+use crate::mirrors::{Opening, mirror_from, pass_of, read_at, shape};
 use nm_geometry::Shape;
 use nm_lanes::NoGate;
 use nm_leg::FuseLeg;
-use nm_mirror::{Mirror, Start, open_stripes, ungated};
+use nm_mirror::{Mirror, Start};
 use nm_stripe::Policy;
 use std::alloc::Global;
 use std::process::Abort;
@@ -33,16 +33,12 @@ fn legs(alloc: Global, shape: &Shape) -> Result<Vec<Vec<FuseLeg>>, Fail> {
 fn open_mirror(alloc: Global, start: Start) -> Result<Mirror<FuseLeg, NoGate>, Fail> {
     let shape = shape(24, 4, 2, 3, 2)?;
     let legs = legs(alloc, &shape)?;
-    let Ok(stripes) = open_stripes(alloc, &shape, legs, 1, Policy::Striped, start) else {
-        return Err(Fail::new("no stripes"));
+    let opening = Opening {
+        master: 1,
+        policy: Policy::Striped,
+        start,
     };
-    let Ok(stripes) = ungated(alloc, stripes) else {
-        return Err(Fail::new("no memory"));
-    };
-    match Mirror::new(alloc, shape, stripes, NoGate) {
-        Ok(mirror) => Ok(mirror),
-        Err(_) => Err(Fail::new("no memory")),
-    }
+    mirror_from(alloc, shape, legs, opening, NoGate)
 }
 
 /// Looks at what is told of each stripe.

@@ -1,12 +1,13 @@
 //! Stripes that stopped and are opened anew.
 
 use crate::mirrors::{
-    close_even, fill_bytes, flush, pass_of, read_at, round_of, shape, turn_until_idle, write_at,
+    FIRST, Opening, close_even, fill_bytes, flush, mirror_from, pass_of, read_at, round_of, shape,
+    turn_until_idle, write_at,
 };
 use bytes::Bytes;
 use nm_lanes::{CallErrorKind, Gate, NoGate, Place, StepKind, WriteFault};
 use nm_leg::FuseLeg;
-use nm_mirror::{Mirror, Pass, Reopened, Start, open_stripes, ungated};
+use nm_mirror::{Mirror, Pass, Reopened};
 use nm_stripe::Policy;
 use std::alloc::Global;
 use std::marker::Sync;
@@ -41,18 +42,11 @@ fn failing<G: Gate + Drop>(
     }
     let mut legs = Vec::new(alloc);
     legs.push(own)?;
-    let master = count.saturating_sub(1);
-    let policy = Policy::RoundRobin;
-    let Ok(stripes) = open_stripes(alloc, &shape, legs, master, policy, Start::Full) else {
-        return Err(Fail::new("no stripes"));
+    let opening = Opening {
+        master: count.saturating_sub(1),
+        ..FIRST
     };
-    let Ok(stripes) = ungated(alloc, stripes) else {
-        return Err(Fail::new("no memory"));
-    };
-    match Mirror::new(alloc, shape, stripes, gate) {
-        Ok(mirror) => Ok(mirror),
-        Err(_) => Err(Fail::new("no memory")),
-    }
+    mirror_from(alloc, shape, legs, opening, gate)
 }
 
 /// A leg of eight blocks of this byte, alone.

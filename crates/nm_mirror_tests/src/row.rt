@@ -1,6 +1,6 @@
-//! Writes, zeroes and reads of whole blocks, a flush, and what a close then tells.
+//! Writes, zeroes and reads of whole blocks, and what a close then tells.
 
-use crate::mirrors::{close_even, fill_bytes, flush, in_sync, pass_of, shape};
+use crate::mirrors::{close_even, fill_bytes, in_sync, pass_of, shape};
 use bytes::Bytes;
 use nm_lanes::{CallError, NoGate, WriteFault};
 use nm_leg::FuseLeg;
@@ -57,87 +57,39 @@ fn read<R: Threads + Wait + Sync + Abort>(
     mirror.read(rt, pass, from, into)
 }
 
-/// Reads blocks 127 to 129, which are to hold these bytes.
-fn check_blocks<R: Threads + Wait + Sync + Abort>(
-    rt: &R,
-    mirror: &Row,
-    pass: &mut Pass<FuseLeg>,
-    want: [u8; 3],
-) -> Result<(), Fail> {
-    let mut into = [0x55; 1536];
-    assert!(rt; read(rt, mirror, pass, 127, &mut into).is_ok());
-    for place in 0..into.len() {
-        assert_eq!(rt; into[place], want[place / 512], "at {place}");
-    }
-    Ok(())
-}
-
-/// How many entries the row makes in a stripe: two on block 127, three on 128 and two on 129.
-/// Block 127 is the last of the first region.
-fn entries_in(stripe: u32, stripes: u32) -> u64 {
-    match (stripe, stripes) {
-        (0, 1) => 7,
-        (0, _) => 2,
-        (1, _) => 5,
-        _ => 0,
-    }
-}
-
-/// Does the row to a mirror of so many stripes.
-fn check_row<R: Threads + Wait + Sync + Abort>(
-    rt: &R,
-    alloc: Global,
-    stripes: u32,
-) -> Result<(), Fail> {
-    let mirror = in_sync(rt, alloc, shape(2050, 128, 8, stripes, 2)?, NoGate)?;
-    let mut pass = pass_of(rt, alloc, &mirror)?;
-    let payload = fill_bytes(alloc, 1536, 0xaa)?;
-    assert!(rt; write(rt, alloc, &mirror, &mut pass, 127, payload).is_ok());
-    assert!(rt; zero(rt, &mirror, &mut pass, 128, 1).is_ok());
-    check_blocks(rt, &mirror, &mut pass, [0xaa, 0x00, 0xaa])?;
-    assert!(rt; flush(rt, &mirror, &mut pass).is_ok());
-    let mut passes = Vec::new(alloc);
-    passes.push(pass)?;
-    let totals = close_even(alloc, mirror, passes)?;
-    assert_eq!(rt; totals.ends().len(), stripes as usize);
-    for (end, stripe) in totals.ends().iter().zip(0..) {
-        let total = entries_in(stripe, stripes);
-        assert_eq!(rt; (end.stripe(), end.total(), end.left()), (stripe, total, 0));
-    }
-    Ok(())
-}
-
+// Blocks 127 to 129, the first of which is the last of its region, and then no blocks.
 #[test]
 fn blocks_of_two_regions_are_written_zeroed_and_read(rt: HostRuntime) -> Result<(), Fail> {
     let alloc = rt.alloc();
-    for stripes in [1, 2, 16] {
-        check_row(&rt, alloc, stripes)?;
+    let mirror = in_sync(&rt, alloc, shape(2050, 128, 8, 2, 2)?, NoGate)?;
+    let mut pass = pass_of(&rt, alloc, &mirror)?;
+    let payload = fill_bytes(alloc, 1536, 0xaa)?;
+    assert!(rt; write(&rt, alloc, &mirror, &mut pass, 127, payload).is_ok());
+    assert!(rt; zero(&rt, &mirror, &mut pass, 128, 1).is_ok());
+    let mut into = [0x55; 1536];
+    assert!(rt; read(&rt, &mirror, &mut pass, 127, &mut into).is_ok());
+    let mut wanted = [0xaa; 1536];
+    wanted[512..1024].fill(0);
+    assert!(rt; into == wanted);
+    calls_of_no_blocks(&rt, alloc, &mirror, &mut pass)?;
+    let mut passes = Vec::new(alloc);
+    passes.push(pass)?;
+    for (end, total) in close_even(alloc, mirror, passes)?.ends().iter().zip([2, 5]) {
+        assert_eq!(rt; (end.total(), end.left()), (total, 0));
     }
     Ok(())
 }
 
-#[test]
-fn calls_of_no_blocks_succeed_and_do_nothing(rt: HostRuntime) -> Result<(), Fail> {
-    let alloc = rt.alloc();
-    let mirror = in_sync(&rt, alloc, shape(2050, 128, 8, 2, 2)?, NoGate)?;
-    let mut pass = pass_of(&rt, alloc, &mirror)?;
-    assert!(rt;
-        write(
-            &rt,
-            alloc,
-            &mirror,
-            &mut pass,
-            127,
-            fill_bytes(alloc, 0, 0)?
-        )
-        .is_ok()
-    );
-    assert!(rt; zero(&rt, &mirror, &mut pass, 2050, 0).is_ok());
-    assert!(rt; read(&rt, &mirror, &mut pass, 127, &mut []).is_ok());
-    let mut passes = Vec::new(alloc);
-    passes.push(pass)?;
-    for end in close_even(alloc, mirror, passes)?.ends() {
-        assert_eq!(rt; (end.total(), end.left()), (0, 0));
-    }
+/// Calls of no blocks succeed.
+fn calls_of_no_blocks<R: Threads + Wait + Sync + Abort>(
+    rt: &R,
+    alloc: Global,
+    mirror: &Row,
+    pass: &mut Pass<FuseLeg>,
+) -> Result<(), Fail> {
+    let none = fill_bytes(alloc, 0, 0)?;
+    assert!(rt; write(rt, alloc, mirror, pass, 127, none).is_ok());
+    assert!(rt; zero(rt, mirror, pass, 2050, 0).is_ok());
+    assert!(rt; read(rt, mirror, pass, 127, &mut []).is_ok());
     Ok(())
 }

@@ -65,6 +65,38 @@ fn save<R: Wait>(rt: &R, mirror: &Saved) {
     mirror.end_save(rt, order);
 }
 
+/// Does the next save, or fails in it. Whether it was tried again.
+fn save_one<R: Wait>(rt: &R, mirror: &Saved, fails: bool) -> bool {
+    if !mirror.next_save(rt) {
+        return false;
+    }
+    let is_again = mirror.tries_again(rt);
+    let order = mirror.begin_save(rt);
+    if fails {
+        mirror.fail_save(rt);
+    } else {
+        mirror.end_save(rt, order);
+    }
+    is_again
+}
+
+/// Writes the first block while one save is done, or fails. Whether it was written.
+fn writes_with_a_save<R: Threads + Wait + Sync + Abort>(
+    rt: &R,
+    alloc: Global,
+    mirror: &Saved,
+    pass: &mut Pass<FuseLeg>,
+    payload: Bytes,
+    fails: bool,
+) -> bool {
+    let (_is_again, written) = join(
+        rt,
+        || save_one(rt, mirror, fails),
+        || write_at(rt, alloc, mirror, pass, 0, payload).is_ok(),
+    );
+    written
+}
+
 /// Writes the first block, and closes the saves. Whether it was written.
 fn writes_first<R: Threads + Wait + Sync + Abort>(
     rt: &R,
@@ -169,6 +201,35 @@ fn a_save_that_fails_ends_writes_and_flushes_and_no_reads(rt: HostRuntime) -> Re
     let mut into = [0xff; 512];
     assert!(rt; read_at(&rt, &mirror, &mut pass, 0, &mut into).is_ok());
     assert!(rt; into == [0; 512]);
+    Ok(())
+}
+
+#[test]
+fn a_save_that_failed_is_tried_again_and_writes_go_on(rt: HostRuntime) -> Result<(), Fail> {
+    let alloc = rt.alloc();
+    let mirror = saved_mirror(&rt, alloc)?;
+    sync_leg_1(&rt, alloc, &mirror)?;
+    let mut pass = pass_of(&rt, alloc, &mirror)?;
+    let first = fill_bytes(alloc, 512, 7)?;
+    assert!(rt; writes_with_a_save(&rt, alloc, &mirror, &mut pass, first, false));
+    assert!(rt; mirror.shape().legs == 2);
+    assert_eq!(rt; mirror.fail_leg(&rt, 1).failed, 1);
+    let second = fill_bytes(alloc, 512, 8)?;
+    assert!(rt; !writes_with_a_save(&rt, alloc, &mirror, &mut pass, second, true));
+    assert!(rt; flush(&rt, &mirror, &mut pass).is_err());
+    let (is_again, is_saved) = join(
+        &rt,
+        || save_one(&rt, &mirror, false),
+        || mirror.save_again(&rt),
+    );
+    assert!(rt; is_again && is_saved);
+    // The write that failed stands in no other's way.
+    let third = fill_bytes(alloc, 512, 9)?;
+    assert!(rt; write_at(&rt, alloc, &mirror, &mut pass, 0, third).is_ok());
+    assert!(rt; flush(&rt, &mirror, &mut pass).is_ok());
+    let mut into = [0; 512];
+    assert!(rt; read_at(&rt, &mirror, &mut pass, 0, &mut into).is_ok());
+    assert!(rt; into == [9; 512]);
     Ok(())
 }
 

@@ -1,9 +1,9 @@
 //! Mirrors whose legs are compared as they start.
-use crate::mirrors::shape;
+use crate::mirrors::{FIRST, Opening, mirror_from, shape};
 use nm_geometry::Shape;
 use nm_lanes::NoGate;
 use nm_leg::FuseLeg;
-use nm_mirror::{Mirror, OpenFault, Start, open_stripes, ungated};
+use nm_mirror::{OpenFault, Start, open_stripes};
 use nm_stripe::{Policy, Stripe};
 use std::alloc::Global;
 use std::process::Abort;
@@ -33,16 +33,7 @@ fn shows_status<R: Wait + Abort>(
 ) -> Result<(), Fail> {
     let shape = shape(16, 4, 2, 2, 2)?;
     let legs = legs(alloc, &shape)?;
-    let Ok(stripes) = open_stripes(alloc, &shape, legs, 0, Policy::RoundRobin, start) else {
-        return Err(Fail::new("no stripes"));
-    };
-    let Ok(stripes) = ungated(alloc, stripes) else {
-        return Err(Fail::new("no memory"));
-    };
-    let mirror = match Mirror::new(alloc, shape, stripes, NoGate) {
-        Ok(mirror) => mirror,
-        Err(_) => return Err(Fail::new("no memory")),
-    };
+    let mirror = mirror_from(alloc, shape, legs, Opening { start, ..FIRST }, NoGate)?;
     let told = mirror.status(rt, alloc)?;
     assert_eq!(rt; told.len(), 2);
     for (stripe, text) in told.iter().zip(texts) {
@@ -86,20 +77,6 @@ fn a_master_that_cannot_be_read_is_told(rt: HostRuntime) -> Result<(), Fail> {
     assert!(rt; matches!(compared, Err(OpenFault::MasterFault)));
     // A full start calls no leg.
     assert!(rt; open_on_a_failing_master(alloc, Start::Full)?.is_ok());
-    Ok(())
-}
-
-#[test]
-fn faults_of_a_start_have_numbers_and_texts(rt: HostRuntime) -> Result<(), Fail> {
-    let faults = [
-        (OpenFault::Memory, 1, "out of memory"),
-        (OpenFault::MasterFault, 2, "the master cannot be read"),
-        (OpenFault::Misfit, 3, "the legs do not fit the shape"),
-    ];
-    for (fault, number, text) in faults {
-        assert_eq!(rt; fault.number(), number);
-        assert_eq!(rt; fault.to_string(rt.alloc())?.as_str(), text);
-    }
     Ok(())
 }
 

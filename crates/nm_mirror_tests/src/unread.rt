@@ -1,16 +1,15 @@
 //! A copy whose master has regions that cannot be read, and copies of many legs and stripes.
 
 use crate::mirrors::{
-    byte_at, close_even, fill_bytes, mirror_of, pass_of, read_at, round_of, shape, turn,
-    turn_until_idle, write_at,
+    byte_at, close_even, fill_bytes, mirror_of, numbered_leg, pass_of, read_at, round_of, shape,
+    turn, turn_until_idle, write_at,
 };
 use crate::spot_leg::{Spot, SpotLeg};
 use bytes::Bytes;
 use nm_geometry::Shape;
 use nm_lanes::NoGate;
-use nm_leg::{FuseLeg, LegPart};
+use nm_leg::FuseLeg;
 use nm_mirror::{CopyRound, Mirror, Pass};
-use nm_replay::BLOCK_BYTES;
 use std::alloc::Global;
 use std::marker::Sync;
 use std::process::Abort;
@@ -20,23 +19,6 @@ use std::thread::Threads;
 
 /// A mirror of such legs.
 type Spotted = Mirror<SpotLeg, NoGate>;
-
-/// A master for this stripe whose bytes tell their offsets in the export.
-fn numbered<R: Abort>(rt: &R, alloc: Global, shape: &Shape, stripe: u32) -> Result<FuseLeg, Fail> {
-    assert!(rt; stripe < shape.stripes);
-    let mut leg = FuseLeg::new(alloc, shape.stripe_blocks(stripe))?;
-    for block in 0..shape.blocks {
-        if shape.stripe_of(block) == stripe {
-            let mut bytes = [0; BLOCK_BYTES];
-            for place in 0..BLOCK_BYTES {
-                bytes[place] = byte_at(block.wrapping_mul(512).wrapping_add(place as u64));
-            }
-            let at = shape.block_in_stripe(block);
-            assert!(rt; at < leg.len() && leg.write(at, &bytes).is_ok());
-        }
-    }
-    Ok(leg)
-}
 
 /// A mirror of this shape whose master, leg 0 of each stripe, has a byte for each offset; the
 /// others join. The master of stripe 0 has this spot.
@@ -54,7 +36,7 @@ fn spotted<R: Abort>(
             None
         };
         let mut all = Vec::new(alloc);
-        all.push(SpotLeg::new(numbered(rt, alloc, &shape, stripe)?, own))?;
+        all.push(SpotLeg::new(numbered_leg(rt, alloc, &shape, stripe)?, own))?;
         for _ in 1..shape.legs {
             let leg = FuseLeg::new(alloc, shape.stripe_blocks(stripe))?;
             all.push(SpotLeg::new(leg, None))?;

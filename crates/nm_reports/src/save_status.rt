@@ -31,18 +31,19 @@ impl SaveStatus {
         self.unsaved.store(unsaved, Ordering::SeqCst);
     }
 
-    /// The superblocks have this generation.
+    /// The superblocks have this generation: a save was done.
     pub fn end(&self, generation: u64) {
         self.generation.store(generation, Ordering::SeqCst);
         self.unsaved.store(0, Ordering::SeqCst);
+        self.has_failed.store(false, Ordering::SeqCst);
     }
 
-    /// A save could not be done.
+    /// A save could not be done, and none was since.
     pub fn fail(&self) {
         self.has_failed.store(true, Ordering::SeqCst);
     }
 
-    /// Whether a save could not be done.
+    /// Whether a save could not be done, and none was since.
     pub fn has_failed(&self) -> bool {
         self.has_failed.load(Ordering::SeqCst)
     }

@@ -3,3 +3,4 @@ pub mod FileState
 pub mod Files
 pub mod Renewing
 pub mod SavingAll
+pub mod Rereading

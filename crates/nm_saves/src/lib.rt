@@ -17,6 +17,7 @@ mod found;
 mod knowing;
 mod named;
 mod renewing;
+mod rereading;
 mod saving;
 mod slot_file;
 mod superblock_file;

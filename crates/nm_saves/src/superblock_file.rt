@@ -1,9 +1,11 @@
 ghost use Rattle.std.specs.Prelude.{◌≡◌, IfOk, IsTrue, is_ok};
 ghost use Rattle.nm_saves.specs.FileState.{HoldsBlank, Opens, SavesFile};
 ghost use Rattle.nm_saves.specs.FileState.{newest_in};
+ghost use Rattle.nm_saves.specs.Rereading.{RereadsFile};
 ghost use Rattle.nm_saves.specs.SlotFile.{IsDurably, place_of};
 
 use crate::fitting::all_fit;
+use crate::rereading::read_slots;
 use crate::slot_file::SlotFile;
 use crate::writing::{write_blank, write_superblock};
 use nm_superblock::{Superblock, highest_stamp, is_second_written, newer};
@@ -13,8 +15,8 @@ use std::marker::Model;
 
 /// The file beside a leg that keeps a superblock.
 ///
-/// Once a write or a sync of it has failed it is not written again: what it holds is known only to
-/// a start, which settles it and reads it.
+/// Once a write or a sync of it has failed it is not written again until it was settled and read
+/// again: until then nobody knows what it holds.
 #[derive(Drop)]
 pub struct SuperblockFile<F: SlotFile> {
     file: F,
@@ -102,6 +104,23 @@ impl<F: SlotFile> SuperblockFile<F> {
         ensures { result ≡ self.now.failed }
     {
         self.failed
+    }
+
+    /// Settles a file that has failed, and reads it again: where that goes well it may be written
+    /// again.
+    pub fn read_again(&mut self) -> io::Result<()>
+        ensures { RereadsFile F.honest (is_ok result) self.old self.new }
+    {
+        let mut first = [0; 4096];
+        let mut second = [0; 4096];
+        self.failed = true;
+        read_slots(&mut self.file, &mut first, &mut second)?;
+        let found = highest_stamp(&first).max(highest_stamp(&second));
+        self.highest = self.highest.max(found);
+        self.first = Superblock::decode(&first);
+        self.second = Superblock::decode(&second);
+        self.failed = false;
+        Ok(())
     }
 
     /// Saves the superblock: into the slot that the file's superblock is not in, and durably. A

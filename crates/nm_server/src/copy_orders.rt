@@ -8,6 +8,7 @@ use crate::verify_desk::VerifyDesk;
 use nm_geometry::MOST_LEGS;
 use nm_lanes::Gate;
 use nm_leg::LegPart;
+use nm_leg_files::CallLimit;
 use nm_mirror::{AttachCounts, FailCounts, Mirror};
 use std::alloc::Global;
 use std::sync::atomic::{AtomicBool, AtomicU32, Ordering};
@@ -31,6 +32,8 @@ pub struct CopyOrders {
     replaced: Mutex<ByHand>,
     wants_round: AtomicBool,
     missing: MissingLegs,
+    // The limits of the legs' calls, from leg 0 on.
+    limits: Option<Vec<CallLimit>>,
 }
 
 // Notes of a leg whether it is so.
@@ -55,6 +58,7 @@ impl CopyOrders {
             replaced: Mutex::new([false; LEGS]),
             wants_round: AtomicBool::new(false),
             missing: MissingLegs::none(),
+            limits: None,
         }
     }
 
@@ -63,6 +67,24 @@ impl CopyOrders {
         let mut own = self;
         own.missing = missing;
         own
+    }
+
+    /// The same, and these are the limits of the legs' calls, from leg 0 on.
+    pub fn with_limits(self, limits: Vec<CallLimit>) -> CopyOrders {
+        let mut own = self;
+        own.limits = Some(limits);
+        own
+    }
+
+    // Whether a call of the leg was left and has not returned: it may still write.
+    fn has_left_call(&self, leg: u8) -> bool {
+        let Some(limits) = &self.limits else {
+            return false;
+        };
+        match limits.get(leg as usize) {
+            Some(Some(calls)) => calls.has_left(),
+            _ => false,
+        }
     }
 
     /// The legs whose files are missing.
@@ -121,7 +143,7 @@ impl CopyOrders {
     }
 
     /// Lets the leg join every stripe again by hand, and counts what came of it: none while it is
-    /// being replaced.
+    /// being replaced, or a call of it that was left has not returned.
     pub fn attach<R: Wait, L: LegPart, G: Gate + Drop>(
         &self,
         rt: &R,
@@ -131,7 +153,7 @@ impl CopyOrders {
         requires { leg < mirror.now.shape.legs }
     {
         let mut by_hand = self.by_hand.lock(rt);
-        if is_noted(&self.replaced.lock(rt), leg) {
+        if is_noted(&self.replaced.lock(rt), leg) || self.has_left_call(leg) {
             return None;
         }
         note(&mut by_hand, leg, false);
@@ -143,12 +165,12 @@ impl CopyOrders {
         is_noted(&self.replaced.lock(rt), leg)
     }
 
-    // Notes that the leg is being replaced, unless it is so already, or is taken out or attached
-    // right now. Until that ends it is out by hand. Whether it was noted.
+    // Notes that the leg is being replaced, unless it is so already, a call of it was left, or it is
+    // taken out or attached right now. Until that ends it is out by hand. Whether it was noted.
     fn begin_replace<R: Wait>(&self, rt: &R, leg: u8) -> Option<bool> {
         let mut by_hand = self.by_hand.lock(rt);
         let mut replaced = self.replaced.lock(rt);
-        if is_noted(&replaced, leg) {
+        if is_noted(&replaced, leg) || self.has_left_call(leg) {
             return None;
         }
         let was_out = is_noted(&by_hand, leg);
@@ -189,8 +211,8 @@ impl CopyOrders {
         replaced
     }
 
-    /// Lets the leg join by itself: none where the leg was taken out by hand, or a command on legs
-    /// is under way.
+    /// Lets the leg join by itself: none where the leg was taken out by hand, a command on legs is
+    /// under way, or a call of it that was left has not returned.
     pub fn attach_by_itself<R: Wait, L: LegPart, G: Gate + Drop>(
         &self,
         rt: &R,
@@ -199,7 +221,7 @@ impl CopyOrders {
     ) -> Option<AttachCounts> {
         let by_hand = self.by_hand.try_lock()?;
         let is_out = by_hand.get(leg as usize).copied()?;
-        if is_out || leg >= mirror.legs() {
+        if is_out || leg >= mirror.legs() || self.has_left_call(leg) {
             return None;
         }
         Some(mirror.attach_leg(rt, leg))

@@ -230,7 +230,7 @@ where
 {
     files.check_named(named_master(settings))?;
     let here = files.here();
-    let found = FoundFiles::open(rt, alloc, settings, &here)?;
+    let found = FoundFiles::open(rt, alloc, settings, files)?;
     let seen = Seen {
         found: found.found(),
         trusted: files.settle(),

@@ -14,7 +14,7 @@ use crate::session_rules::SessionRules;
 use crate::sessions::{AT_ONCE, ExportName};
 use clap::Error;
 use clap::error::ErrorKind;
-use nm_commands::{Settings, SuperblockPlace, settings};
+use nm_commands::{Settings, settings};
 use nm_geometry::Shape;
 use nm_leg_files::{
     FileMirror, LateSlots, LateSuperblock, Leg, LegFiles, LegMaker, LegPlace, LegRules, OpensLegs,
@@ -123,15 +123,6 @@ fn healing_of<'a>(
     Ok(Some(Healing::new(alloc, own, settings.auto_attach)?))
 }
 
-// Which legs may be opened by the settings: without superblocks none may be missing.
-fn rules_of(settings: &Settings<'_>, limits: &Limits) -> LegRules {
-    LegRules {
-        may_lack: !matches!(settings.superblock, SuperblockPlace::Nowhere),
-        force_in_use: settings.force_in_use,
-        file_bytes: limits.file_bytes,
-    }
-}
-
 // What an administrator wants of copies at first, and which legs are missing.
 fn orders_of<'a>(
     alloc: Global,
@@ -139,7 +130,8 @@ fn orders_of<'a>(
     files: &LegFiles,
 ) -> Result<CopyOrders, StartFault<'a>> {
     let reasons = files.reasons(alloc)?;
-    Ok(CopyOrders::new(settings.copy_rate).with_missing(MissingLegs::of(reasons)))
+    let orders = CopyOrders::new(settings.copy_rate).with_missing(MissingLegs::of(reasons));
+    Ok(orders.with_limits(files.limits(alloc)?))
 }
 
 // The copier of the mirror, which tells of its legs by their files' names.
@@ -246,10 +238,12 @@ where
         + Wait
         + Sync
         + Copy
+        + Send
         + Clock
         + RandomSource
         + Files<File = File>
-        + Net<Listener = TcpListener, Stream = TcpStream>,
+        + Net<Listener = TcpListener, Stream = TcpStream>
+        + 'static,
 {
     let Some(_streams) = take_standard_streams(rt, alloc) else {
         return Err(StartFault::NoStandardStreams);
@@ -257,14 +251,17 @@ where
     let named = export_asked(settings)?;
     let limits = Limits::read(rt, alloc)?;
     check_stack(&limits)?;
-    let files = LegFiles::open(rt, alloc, &settings.legs, &rules_of(settings, &limits))?;
+    let rules = LegRules::of(settings, &limits);
+    let files = LegFiles::open(rt, alloc, &settings.legs, &rules)?;
     check_files(
         &limits,
         settings.legs.len().min(MOST_LEGS) as u8,
+        &rules,
         settings.sessions,
     )?;
     let clients = listen(rt, alloc, Address::of_clients(settings))?;
     let control = listen(rt, alloc, Address::Named(settings.control))?;
+    files.start_threads(rt)?;
     let opened = open_asked_for(rt, alloc, settings, &files, &control.listener, lines)?;
     files.tell_missing(rt, alloc, lines);
     let mirror = opened.mirror;

@@ -1,4 +1,4 @@
-//! Opens stripes that stopped anew, on legs of their own files.
+//! Opens stripes that stopped anew, on legs of their own files, and tries saves again.
 ghost use Rattle.std.specs.Prelude.{◌<◌};
 
 use crate::copy_orders::CopyOrders;
@@ -53,8 +53,9 @@ fn reopen_one<R: Wait, L: LegPart, G: Gate + Drop, M: MakesLegs<L>>(
     }
 }
 
-/// Opens each of the stripes from the first to the one before the end anew that has stopped, and
-/// has copies begin again, since its legs join with all of their blocks.
+/// Tries a save again that could not be done, and opens each of the stripes from the first to the
+/// one before the end anew that has stopped. Then copies begin again: what could not be saved held
+/// them up, and the legs of a stripe that was opened join with all of their blocks.
 pub fn reopen<R: Wait, L: LegPart, G: Gate + Drop, M: MakesLegs<L>>(
     rt: &R,
     alloc: Global,
@@ -64,12 +65,13 @@ pub fn reopen<R: Wait, L: LegPart, G: Gate + Drop, M: MakesLegs<L>>(
     first: u32,
     end: u32,
 ) -> ReopenCounts {
+    let is_saved = mirror.save_again(rt);
     let mut counts = ReopenCounts::default();
     let stripes = mirror.shape().stripes.min(end);
     for stripe in first..stripes {
         counts.count(reopen_one(rt, alloc, mirror, maker, stripe));
     }
-    if counts.opened > 0 {
+    if is_saved || counts.opened > 0 {
         orders.want_new_round();
     }
     counts

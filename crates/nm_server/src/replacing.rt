@@ -18,7 +18,8 @@ pub enum Replaced {
     Done(ReplaceCounts),
     /// Nothing was done: in some stripe the leg is the only one in sync.
     Last,
-    /// Nothing was done: a replacement of the leg is under way.
+    /// Nothing was done: a replacement of the leg is under way, or a call of it was left and has not
+    /// returned.
     Busy,
     /// The leg is out, and no superblock can be saved that says so.
     NotSaved,
@@ -87,9 +88,7 @@ impl<'x, O: OpensLegs> RenewsLegs<Leg> for LegRenewer<'x, O> {
         };
         let legs = place.renew(rt, alloc, self.opener, number, &self.shape, &self.read)?;
         if let Some(superblocks) = self.superblocks {
-            if superblocks.lock(rt).renew_leg(self.opener, leg).is_err() {
-                return Err(Unrenewed::CannotOpen);
-            }
+            place.renew_superblock(rt, self.opener, leg, &mut superblocks.lock(rt))?;
         }
         Ok(legs)
     }

@@ -138,7 +138,8 @@ where
     })
 }
 
-// Saves superblocks whenever that is wanted, until saves are closed or one could not be done.
+// Saves superblocks whenever that is wanted, until saves are closed. One that could not be done is
+// wanted again by `reopen` alone.
 fn write_superblocks<R: Wait>(
     rt: &R,
     writer: &Mutex<SuperblockWriter<LateSlots>>,
@@ -150,9 +151,12 @@ fn write_superblocks<R: Wait>(
         if !mirror.next_save(rt) {
             return;
         }
-        if !writer.lock(rt).save_once(rt, mirror, info.saves(), lines) {
-            return;
-        }
+        let mut writer = writer.lock(rt);
+        let _ = if mirror.tries_again(rt) {
+            writer.save_again(rt, mirror, info.saves(), lines)
+        } else {
+            writer.save_once(rt, mirror, info.saves(), lines)
+        };
     }
 }
 

@@ -1,10 +1,11 @@
 //! The control port's answers over two legs in memory, without a thread that copies.
 
+use crate::mirrors::mirror_of;
 use nm_geometry::Shape;
 use nm_lanes::NoGate;
 use nm_leg::MemLeg;
 use nm_leg_files::{MakesLegs, Unrenewed};
-use nm_mirror::{Mirror, Start, open_stripes, ungated};
+use nm_mirror::{Mirror, Start};
 use nm_reports::{Metrics, ServerInfo, UnreadList};
 use nm_server::{Controlled, CopyOrders, Quit, RenewsLegs, SessionPlaces, SessionRules, control};
 use nm_stripe::Policy;
@@ -133,24 +134,7 @@ static TALKS: [Talk; 23] = [
 /// A mirror of 1 MiB in two stripes, on two equal legs in memory; leg 0 is in sync, leg 1 joins.
 fn mirror(alloc: Global, start: Start) -> Result<Mirror<MemLeg, NoGate>, Fail> {
     let shape = Shape::new(2048, 128, 8, 2, 2).ok_or("no shape")?;
-    let mut legs = Vec::new(alloc);
-    for stripe in 0..shape.stripes {
-        let blocks = shape.stripe_blocks(stripe);
-        let mut own = Vec::new(alloc);
-        own.push(MemLeg::new(alloc, blocks)?)?;
-        own.push(MemLeg::new(alloc, blocks)?)?;
-        legs.push(own)?;
-    }
-    let Ok(stripes) = open_stripes(alloc, &shape, legs, 0, Policy::RoundRobin, start) else {
-        return Err(Fail::new("no stripes"));
-    };
-    let Ok(stripes) = ungated(alloc, stripes) else {
-        return Err(Fail::new("no memory"));
-    };
-    match Mirror::new(alloc, shape, stripes, NoGate) {
-        Ok(mirror) => Ok(mirror),
-        Err(_) => Err(Fail::new("no memory")),
-    }
+    mirror_of(alloc, shape, start, NoGate)
 }
 
 /// New legs in memory for each of the mirror's stripes.

@@ -1,12 +1,12 @@
 //! What a call of a client that has gone does: zeroes end, all else is done.
 
+use crate::mirrors::mirror_of;
 use nm_lanes::NoGate;
 use nm_leg::MemLeg;
-use nm_mirror::{Mirror, Pass, Shape, Start, open_stripes, ungated};
+use nm_mirror::{Mirror, Pass, Shape, Start};
 use nm_reports::MirrorCall;
 use nm_server::call_mirror;
 use nm_session::TargetFault;
-use nm_stripe::Policy;
 use std::alloc::Global;
 use std::sync::Wait;
 use std::sync::atomic::AtomicBool;
@@ -16,23 +16,7 @@ use std::thread::Threads;
 /// A mirror of 64 blocks in two stripes, on one leg in memory.
 fn mirror(alloc: Global) -> Result<Mirror<MemLeg, NoGate>, Fail> {
     let shape = Shape::new(64, 8, 8, 2, 1).ok_or("no shape")?;
-    let mut legs = Vec::new(alloc);
-    for stripe in 0..shape.stripes {
-        let mut own = Vec::new(alloc);
-        own.push(MemLeg::new(alloc, shape.stripe_blocks(stripe))?)?;
-        legs.push(own)?;
-    }
-    let Ok(stripes) = open_stripes(alloc, &shape, legs, 0, Policy::RoundRobin, Start::Compare)
-    else {
-        return Err(Fail::new("no stripes"));
-    };
-    let Ok(stripes) = ungated(alloc, stripes) else {
-        return Err(Fail::new("no memory"));
-    };
-    match Mirror::new(alloc, shape, stripes, NoGate) {
-        Ok(mirror) => Ok(mirror),
-        Err(_) => Err(Fail::new("no memory")),
-    }
+    mirror_of(alloc, shape, Start::Compare, NoGate)
 }
 
 /// What zeroes of the first half of the mirror are answered.

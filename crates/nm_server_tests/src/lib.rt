@@ -1,4 +1,4 @@
-//! Tests of nm_commands and nm_server through their public surface: what no clause says.
+//! Tests of nm_commands, nm_saves and nm_server through their public surface: what no clause says.
 #![tactic(auto)]
 
 #[cfg(test)]
@@ -9,3 +9,7 @@ mod control_lines;
 mod gone_clients;
 #[cfg(test)]
 mod mirror_sessions;
+#[cfg(test)]
+mod mirrors;
+#[cfg(test)]
+mod superblock_files;

@@ -1,25 +1,21 @@
-//! Sessions over a mirror in memory: the same bytes over 1, 2 and 16 stripes, and clients that
-//! leave while WRITEs are outstanding.
+//! Sessions over a mirror in memory: clients that leave while WRITEs are outstanding.
 
 ghost use Rattle.std.specs.Prelude.{◌*◌, ◌≤◌, All, IsTrue};
 
+use crate::mirrors::mirror_of;
 use nm_geometry::Shape;
 use nm_lanes::{Gate, Place};
 use nm_leg::MemLeg;
-use nm_mirror::{Mirror, Pass, Start, open_stripes, ungated};
+use nm_mirror::{Mirror, Pass, Start};
 use nm_replies::ReplyWriter;
 use nm_reports::MirrorCall;
 use nm_server::{MirrorCalls, MirrorTarget, ReadyMirror, call_mirror};
 use nm_session::{CutReader, CutWriter, End, ServeFault, Served, TargetFault};
-use nm_stripe::Policy;
 use nm_wire::{Export, Memory};
 use nm_workers::{Finished, serve_many};
-use nm_workers_tests::counting_writer::CountingWriter;
 use nm_workers_tests::leaving_reader::LeavingReader;
-use nm_workers_tests::paced_reader::PacedReader;
 use nm_workers_tests::texts::{
-    DESCRIBED, DISC, FLAGS, GO, GREETING, READ, Talk, WRITE, concat, export, one_after_the_other,
-    put_reply, put_request,
+    DESCRIBED, DISC, FLAGS, GO, GREETING, READ, WRITE, concat, export, put_reply, put_request,
 };
 use std::alloc::Global;
 use std::io::{Read, Write};
@@ -95,26 +91,9 @@ impl<'a, R: Threads + Wait + Sync + Copy> MirrorCalls<MemLeg> for MemoryCalls<'a
 type Over<'a, R> = MirrorTarget<'a, MemLeg, MemoryCalls<'a, R>, Nothing>;
 
 /// A mirror of 1 MiB on two legs in memory, whose blocks lie by twos in so many stripes.
-fn mirror_of<'a>(alloc: Global, stripes: u32, gone: &'a AtomicUsize) -> Result<Memories<'a>, Fail> {
+fn mirror<'a>(alloc: Global, stripes: u32, gone: &'a AtomicUsize) -> Result<Memories<'a>, Fail> {
     let shape = Shape::new(2_048, 2, 1, stripes, 2).ok_or("no shape")?;
-    let mut legs = Vec::new(alloc);
-    for stripe in 0..stripes {
-        let blocks = shape.stripe_blocks(stripe);
-        let mut own = Vec::new(alloc);
-        own.push(MemLeg::new(alloc, blocks)?)?;
-        own.push(MemLeg::new(alloc, blocks)?)?;
-        legs.push(own)?;
-    }
-    let Ok(opened) = open_stripes(alloc, &shape, legs, 0, Policy::RoundRobin, Start::Compare) else {
-        return Err(Fail::new("no stripes"));
-    };
-    let Ok(opened) = ungated(alloc, opened) else {
-        return Err(Fail::new("no memory"));
-    };
-    match Mirror::new(alloc, shape, opened, UntilGone { gone }) {
-        Ok(mirror) => Ok(mirror),
-        Err(_) => Err(Fail::new("no memory")),
-    }
+    mirror_of(alloc, shape, Start::Compare, UntilGone { gone })
 }
 
 /// So many passes.
@@ -208,63 +187,6 @@ fn expect_end<R: Abort>(
     assert_eq!(rt; sum, entries);
 }
 
-/// Serves a client that waits for each reply, over so many passes.
-fn talk_over<'a, R: Threads + Wait + Clock + Sync + Copy>(
-    rt: &'a R,
-    alloc: Global,
-    mirror: &Memories<'_>,
-    passes: &mut [Pass<MemLeg>],
-    talk: &'a Talk,
-    sent: &'a AtomicUsize,
-) -> Result<Finished<CountingWriter<'a>>, Fail> {
-    let reader = PacedReader {
-        rt,
-        bytes: talk.stream.as_slice(),
-        gates: talk.gates.as_slice(),
-        cut: 0,
-        longest: usize::MAX,
-        at: 0,
-        sent,
-    };
-    let writer = CountingWriter {
-        held: Vec::new(alloc),
-        sent,
-    };
-    let ready = ReadyMirror::new(MemoryCalls { rt, alloc, mirror });
-    let targets = targets_through(alloc, &ready, passes)?;
-    serve_over(rt, alloc, reader, writer, targets, export(alloc)?)
-}
-
-/// The worked requests, each sent once the one before was replied to, over so many stripes.
-fn expect_rows<R: Threads + Wait + Clock + Sync + Copy + Abort>(
-    rt: &R,
-    alloc: Global,
-    stripes: u32,
-) -> Result<(), Fail> {
-    let gone = AtomicUsize::new(1);
-    let mirror = mirror_of(alloc, stripes, &gone)?;
-    let mut passes = passes_of(rt, alloc, &mirror, 16)?;
-    let talk = one_after_the_other(alloc)?;
-    let sent = AtomicUsize::new(0);
-    let finished = talk_over(rt, alloc, &mirror, passes.as_mut_slice(), &talk, &sent)?;
-    match finished.result {
-        Ok(served) => assert!(rt; served.requests == 9 && served.end == End::Disc),
-        Err(_) => assert!(rt; false),
-    }
-    assert!(rt; finished.sender.device().held.as_slice() == talk.out.as_slice());
-    // A WRITE and a READ of one block; a READ, a WRITE and a READ of parts of two.
-    expect_end(rt, alloc, mirror, passes, 8);
-    Ok(())
-}
-
-#[test]
-fn rows_give_the_same_bytes_over_1_2_and_16_stripes(rt: HostRuntime) -> Result<(), Fail> {
-    for stripes in [1, 2, 16] {
-        expect_rows(&rt, rt.alloc(), stripes)?;
-    }
-    Ok(())
-}
-
 /// The handshake and the WRITEs, of a block each from block 0 on.
 fn writes(alloc: Global) -> Result<Vec<u8>, Fail> {
     let mut stream = concat(alloc, &[&FLAGS, &GO])?;
@@ -313,48 +235,6 @@ fn gets<R: Threads + Wait + Clock + Sync + Copy>(
     Ok(finished.sender.device().as_bytes() == out)
 }
 
-/// A session that writes eight blocks, from block 1 on, and one that reads them with a block
-/// around. Regions have two blocks, so that both calls are at work in up to five stripes at once.
-fn expect_regions<R: Threads + Wait + Clock + Sync + Copy + Abort>(
-    rt: &R,
-    alloc: Global,
-    stripes: u32,
-) -> Result<(), Fail> {
-    let gone = AtomicUsize::new(1);
-    let mirror = mirror_of(alloc, stripes, &gone)?;
-    let mut passes = passes_of(rt, alloc, &mirror, 16)?;
-    let mut blocks = Vec::new(alloc);
-    for block in 0..8u8 {
-        blocks.extend_from_slice(&[0xb0 + block; 512])?;
-    }
-    let mut stream = concat(alloc, &[&FLAGS, &GO])?;
-    put_request(&mut stream, WRITE, 0x41, 512, 4_096)?;
-    stream.extend_from_slice(&blocks)?;
-    stream.extend_from_slice(&DISC)?;
-    let mut out = concat(alloc, &[&GREETING, &DESCRIBED])?;
-    put_reply(&mut out, 0, 0x41)?;
-    assert!(rt; gets(rt, alloc, &mirror, passes.as_mut_slice(), stream, &out)?);
-    let mut stream = concat(alloc, &[&FLAGS, &GO])?;
-    put_request(&mut stream, READ, 0x42, 0, 5_120)?;
-    stream.extend_from_slice(&DISC)?;
-    let mut out = concat(alloc, &[&GREETING, &DESCRIBED])?;
-    put_reply(&mut out, 0, 0x42)?;
-    out.extend_from_slice(&[0; 512])?;
-    out.extend_from_slice(&blocks)?;
-    out.extend_from_slice(&[0; 512])?;
-    assert!(rt; gets(rt, alloc, &mirror, passes.as_mut_slice(), stream, &out)?);
-    expect_end(rt, alloc, mirror, passes, 18);
-    Ok(())
-}
-
-#[test]
-fn regions_side_by_side_give_the_same_bytes(rt: HostRuntime) -> Result<(), Fail> {
-    for stripes in [1, 2, 16] {
-        expect_regions(&rt, rt.alloc(), stripes)?;
-    }
-    Ok(())
-}
-
 /// A new session reads 16 blocks, of which the first 15 are new.
 fn expect_all_new<R: Threads + Wait + Clock + Sync + Copy + Abort>(
     rt: &R,
@@ -385,7 +265,7 @@ fn expect_all_done<R: Threads + Wait + Clock + Sync + Copy + Abort>(
     fails: bool,
 ) -> Result<(), Fail> {
     let gone = AtomicUsize::new(0);
-    let mirror = mirror_of(alloc, stripes, &gone)?;
+    let mirror = mirror(alloc, stripes, &gone)?;
     let mut passes = passes_of(rt, alloc, &mirror, count)?;
     match leave(rt, alloc, &mirror, passes.as_mut_slice(), &gone, fails)? {
         Ok(served) => {

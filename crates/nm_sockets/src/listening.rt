@@ -8,10 +8,12 @@ use std::fs::File;
 use std::io::Write;
 use std::net::{Net, TcpListener, TcpStream};
 use std::rt::Files;
+use std::sync::Wait;
+use std::time::Clock;
 
 /// A socket that listens where it was asked for. The file of a Unix socket is removed with it.
 #[derive(Drop)]
-pub struct Listening<'a, 'p, R: Files> {
+pub struct Listening<'a, 'p, R: Files<File = File> + Clock + Wait> {
     // Dropped first: as long as the socket is there, no other file has the same number.
     file: Option<SocketFile<'a, 'p, R>>,
     /// The socket itself.
@@ -26,7 +28,7 @@ pub fn listen<'a, 'p, R>(
     address: Address<'p>,
 ) -> Result<Listening<'a, 'p, R>, StartFault<'p>>
 where
-    R: Files<File = File> + Net<Listener = TcpListener, Stream = TcpStream>,
+    R: Files<File = File> + Clock + Wait + Net<Listener = TcpListener, Stream = TcpStream>,
 {
     if let Some(path) = address.unix_path() {
         return match bind_at(rt, path) {
@@ -49,7 +51,7 @@ where
     }
 }
 
-impl<R: Files> Listening<'_, '_, R> {
+impl<R: Files<File = File> + Clock + Wait> Listening<'_, '_, R> {
     /// Tells where the socket listens, with the port that it got where any was asked for.
     pub fn tell<O: Write>(&self, out: &mut O, words: &str) {
         let asked = self.address;

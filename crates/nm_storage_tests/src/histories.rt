@@ -1,5 +1,5 @@
 use nm_replay::Kind::{Patch, Read, Write};
-use nm_replay::{BLOCK_BYTES, Block, Entry, Kept, Kind, PlainArray, check, check_indexed};
+use nm_replay::{BLOCK_BYTES, Block, Entry, Kept, Kind, check, check_indexed};
 use std::alloc::{AllocError, Global};
 use std::process::Abort;
 use std::test::Fail;
@@ -257,43 +257,5 @@ fn judges_a_long_history_and_keeps_its_end(rt: HostRuntime) -> Result<(), Fail> 
     }
     assert!(rt; !check(&all));
     assert!(rt; !check_indexed(rt.alloc(), &all, 65_536)?);
-    Ok(())
-}
-
-// Operations on an array of four blocks of zeroes, in order, and whether each fits it.
-static OPERATIONS: [(Row, bool); 14] = [
-    ((0, Read, 3, 0), true),
-    ((1, Write(0), 3, 0xaa), true),
-    ((2, Read, 3, 0xaa), true),
-    ((3, Read, 2, 0), true),
-    ((4, Read, 3, 0), false),
-    ((4, Read, 4, 0), false),
-    ((4, Write(1), 4, 0xbb), false),
-    ((4, Patch(1, 0, 511), 3, 0xbb), false),
-    ((4, Patch(1, 1, 511), 3, 0xbb), false),
-    ((4, Patch(1, 0, 512), 4, 0xbb), false),
-    ((4, Patch(1, 3, 4), 3, 0xaa), true),
-    ((5, Patch(2, 0, 512), 1, 0xcc), true),
-    ((6, Read, 1, 0xcc), true),
-    ((4, Write(1), 18_446_744_073_709_551_615, 0xbb), false),
-];
-
-fn apply_operations(rt: &impl Abort, array: &mut PlainArray) {
-    for &(row, fits) in &OPERATIONS {
-        assert_eq!(rt; array.apply(&entry(row)), fits, "{row:?}");
-    }
-}
-
-#[test]
-fn does_operations_in_order(rt: HostRuntime) -> Result<(), Fail> {
-    let mut array = PlainArray::new(rt.alloc(), 4)?;
-    apply_operations(&rt, &mut array);
-    let end = [
-        Block::ZERO,
-        Block([0xcc; BLOCK_BYTES]),
-        Block::ZERO,
-        Block([0xaa; BLOCK_BYTES]),
-    ];
-    assert_eq!(rt; array.as_slice(), end.as_slice());
     Ok(())
 }

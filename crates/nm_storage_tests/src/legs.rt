@@ -1,8 +1,5 @@
-//! The legs: what they answer at run time, by themselves and called by generic code.
-use nm_leg::{
-    CachedLeg, CountingLeg, FailingLeg, Fuse, FuseLeg, Hold, HoldLeg, LegFault, LegPart, LyingLeg,
-    MemLeg, read_leg_at, sync_leg_at, write_leg_at,
-};
+//! Legs in memory: memory that is not there, calls that a fuse fails, and calls that are held.
+use nm_leg::{CachedLeg, FuseLeg, Hold, HoldLeg, LegFault, LegPart, MemLeg};
 use nm_replay::{Block, Memory};
 use std::alloc::Global;
 use std::cell::Cell;
@@ -11,36 +8,6 @@ use std::test::Fail;
 
 // At 512 bytes a block, more bytes than any process can address.
 const TOO_MANY: u64 = 1 << 60;
-
-// Writes block 1 of the second of two legs: whether that succeeded.
-fn write_second<L: LegPart>(rt: &impl Abort, legs: &mut [L]) -> bool {
-    assert_eq!(rt; legs.len(), 2);
-    assert!(rt; legs[1].len() > 1);
-    write_leg_at(legs, 1, 1, &[0xaa; 512]).is_ok()
-}
-
-// Syncs the second of two legs: whether that succeeded.
-fn sync_second<L: LegPart>(rt: &impl Abort, legs: &mut [L]) -> bool {
-    assert_eq!(rt; legs.len(), 2);
-    sync_leg_at(legs, 1).is_ok()
-}
-
-// Reads block 1 of the second of two legs: whether that succeeded.
-fn read_second<L: LegPart>(rt: &impl Abort, legs: &mut [L], found: &mut Block) -> bool {
-    assert_eq!(rt; legs.len(), 2);
-    assert!(rt; legs[1].len() > 1);
-    read_leg_at(legs, 1, 1, &mut found.0).is_ok()
-}
-
-// Writes block 1 of the second leg, syncs that leg and reads the block back: all of these calls
-// succeed or none does. What was read is then a block of this byte.
-fn write_sync_read<L: LegPart>(rt: &impl Abort, legs: &mut [L], succeeds: bool, read: u8) {
-    let mut found = Block([9; 512]);
-    assert_eq!(rt; write_second(rt, legs), succeeds);
-    assert_eq!(rt; sync_second(rt, legs), succeeds);
-    assert_eq!(rt; read_second(rt, legs, &mut found), succeeds);
-    assert_eq!(rt; found, Block([read; 512]));
-}
 
 // Writes a byte to all of a block of this leg.
 fn write_to<L: LegPart>(rt: &impl Abort, leg: &mut L, at: u64, byte: u8) -> Result<(), LegFault> {
@@ -64,28 +31,6 @@ fn read_fails<L: LegPart>(rt: &impl Abort, leg: &mut L, at: u64) {
 }
 
 #[test]
-fn a_memory_leg_keeps_what_is_written(rt: HostRuntime) -> Result<(), Fail> {
-    let mut leg = MemLeg::new(rt.alloc(), 3)?;
-    write_to(&rt, &mut leg, 1, 0xaa)?;
-    leg.sync()?;
-    read_from(&rt, &mut leg, 1, 0xaa)?;
-    assert_eq!(rt; leg.len(), 3);
-    assert_eq!(rt; *leg.block(0), Block([0; 512]));
-    assert_eq!(rt; *leg.block(2), Block([0; 512]));
-    assert_eq!(rt; leg.faults(), 0);
-    Ok(())
-}
-
-#[test]
-fn a_memory_leg_is_made_of_one_byte(rt: HostRuntime) -> Result<(), Fail> {
-    let leg = MemLeg::with_byte(rt.alloc(), 2, 0xff)?;
-    assert_eq!(rt; leg.len(), 2);
-    assert_eq!(rt; *leg.block(1), Block([0xff; 512]));
-    assert_eq!(rt; MemLeg::new(rt.alloc(), 0)?.len(), 0);
-    Ok(())
-}
-
-#[test]
 fn memory_that_is_not_there_is_refused(rt: HostRuntime) {
     assert_eq!(rt; MemLeg::new(rt.alloc(), TOO_MANY).err(), Some(Memory));
     assert_eq!(rt;
@@ -93,87 +38,6 @@ fn memory_that_is_not_there_is_refused(rt: HostRuntime) {
         Some(Memory)
     );
     assert_eq!(rt; CachedLeg::new(rt.alloc(), TOO_MANY).err(), Some(Memory));
-}
-
-#[test]
-fn generic_code_calls_an_honest_leg(rt: HostRuntime) -> Result<(), Fail> {
-    let alloc = rt.alloc();
-    let mut legs = vec![in alloc; MemLeg::new(alloc, 3)?, MemLeg::new(alloc, 3)?]?;
-    write_sync_read(&rt, &mut legs, true, 0xaa);
-    assert_eq!(rt; legs.len(), 2);
-    assert_eq!(rt; legs[0].len(), 3);
-    assert_eq!(rt; *legs[0].block(1), Block([0; 512]));
-    Ok(())
-}
-
-#[test]
-fn a_cached_leg_is_durable_after_a_sync(rt: HostRuntime) -> Result<(), Fail> {
-    let mut leg = CachedLeg::new(rt.alloc(), 3)?;
-    write_to(&rt, &mut leg, 1, 0xaa)?;
-    assert_eq!(rt; leg.len(), 3);
-    assert_eq!(rt; *leg.durable_block(1), Block([0; 512]));
-    leg.sync()?;
-    assert_eq!(rt; *leg.durable_block(1), Block([0xaa; 512]));
-    read_from(&rt, &mut leg, 1, 0xaa)?;
-    assert_eq!(rt; leg.faults(), 0);
-    Ok(())
-}
-
-#[test]
-fn generic_code_calls_a_cached_leg(rt: HostRuntime) -> Result<(), Fail> {
-    let alloc = rt.alloc();
-    let mut legs = [CachedLeg::new(alloc, 3)?, CachedLeg::new(alloc, 3)?];
-    write_sync_read(&rt, &mut legs, true, 0xaa);
-    Ok(())
-}
-
-#[test]
-fn generic_code_calls_a_failing_leg(rt: HostRuntime) {
-    let mut legs = [FailingLeg::new(3), FailingLeg::new(3)];
-    write_sync_read(&rt, &mut legs, false, 9);
-    assert_eq!(rt; legs[0].faults(), 0);
-    assert_eq!(rt; legs[1].faults(), 3);
-}
-
-#[test]
-fn generic_code_calls_a_lying_leg(rt: HostRuntime) {
-    let mut legs = [LyingLeg::new(3), LyingLeg::new(3)];
-    write_sync_read(&rt, &mut legs, true, 255);
-    assert_eq!(rt; legs[1].faults(), 0);
-}
-
-#[test]
-fn a_fault_prints_its_meaning(rt: HostRuntime) -> Result<(), Fail> {
-    let text = format!(in rt.alloc(); "{LegFault}")?;
-    assert_eq!(rt; text.as_str(), "a call of the leg failed");
-    Ok(())
-}
-
-#[test]
-fn a_counting_leg_counts_what_generic_code_calls(rt: HostRuntime) -> Result<(), Fail> {
-    let alloc = rt.alloc();
-    let mut legs = [
-        CountingLeg::new(MemLeg::new(alloc, 3)?),
-        CountingLeg::new(MemLeg::new(alloc, 3)?),
-    ];
-    write_sync_read(&rt, &mut legs, true, 0xaa);
-    let inner = legs[1].inner();
-    assert!(rt; inner.len() > 1);
-    assert_eq!(rt; *inner.block(1), Block([0xaa; 512]));
-    assert_eq!(rt; legs[0].calls(), 0);
-    assert_eq!(rt; legs[1].calls(), 3);
-    Ok(())
-}
-
-#[test]
-fn a_counting_leg_counts_failed_calls(rt: HostRuntime) {
-    let mut legs = [
-        CountingLeg::new(FailingLeg::new(3)),
-        CountingLeg::new(FailingLeg::new(3)),
-    ];
-    write_sync_read(&rt, &mut legs, false, 9);
-    assert_eq!(rt; legs[1].faults(), 3);
-    assert_eq!(rt; legs[1].calls(), 3);
 }
 
 #[test]
@@ -185,22 +49,6 @@ fn a_fuse_fails_the_call_that_it_names_and_no_other(rt: HostRuntime) -> Result<(
     read_from(&rt, &mut leg, 1, 0xaa)?;
     assert_eq!(rt; leg.sync(), Err(LegFault));
     leg.sync()?;
-    assert_eq!(rt; leg.faults(), 1);
-    Ok(())
-}
-
-#[test]
-fn a_failed_write_is_torn(rt: HostRuntime) -> Result<(), Fail> {
-    let mut leg = FuseLeg::with_byte(rt.alloc(), 3, 0xbb)?;
-    leg.set(2);
-    leg.set(1);
-    assert_eq!(rt; write_to(&rt, &mut leg, 1, 0xaa), Err(LegFault));
-    write_to(&rt, &mut leg, 2, 0xaa)?;
-    let mut torn = Block([0xbb; 512]);
-    torn.0[..256].fill(0xaa);
-    assert_eq!(rt; leg.len(), 3);
-    assert_eq!(rt; *leg.block(1), torn);
-    assert_eq!(rt; *leg.block(2), Block([0xaa; 512]));
     assert_eq!(rt; leg.faults(), 1);
     Ok(())
 }
@@ -226,18 +74,6 @@ fn every_call_fails_from_the_one_that_is_named(rt: HostRuntime) -> Result<(), Fa
     assert_eq!(rt; leg.sync(), Err(LegFault));
     leg.sync()?;
     Ok(())
-}
-
-#[test]
-fn a_fuse_counts_calls(rt: HostRuntime) {
-    let mut fuse = Fuse::Once(2);
-    assert!(rt; !fuse.burn());
-    assert!(rt; fuse.burn());
-    assert_eq!(rt; fuse, Fuse::Never);
-    let mut lasting = Fuse::From(2);
-    assert!(rt; !lasting.burn());
-    assert!(rt; lasting.burn());
-    assert!(rt; lasting.burn());
 }
 
 // Holds a call for so many questions, and counts all questions.

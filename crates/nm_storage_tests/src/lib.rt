@@ -17,17 +17,11 @@ mod holes;
 #[cfg(test)]
 mod legs;
 #[cfg(test)]
-mod media;
-#[cfg(test)]
 mod reads;
-#[cfg(test)]
-mod records;
 #[cfg(test)]
 mod regions;
 #[cfg(test)]
 mod resync;
-#[cfg(test)]
-mod saves;
 #[cfg(test)]
 mod shared_files;
 pub mod shared_medium;

@@ -1,6 +1,5 @@
-//! The superblock of `tests/superblocks`: its bytes, each of them changed, and saves that a crash
-//! cuts off.
-use nm_superblock::{LegSets, SpanMap, Superblock, highest_stamp, is_second_written, newer};
+//! The superblock of `tests/superblocks`: its bytes, and each of them changed.
+use nm_superblock::{LegSets, SpanMap, Superblock};
 use std::process::Abort;
 
 type Slot = [u8; 4096];
@@ -54,7 +53,7 @@ fn worked_sets() -> LegSets {
 }
 
 // The superblock, under this generation.
-pub(crate) fn worked(generation: u64) -> Superblock {
+fn worked(generation: u64) -> Superblock {
     let mut marked = SpanMap { bytes: [0; 2048] };
     marked.mark(0);
     marked.mark(9);
@@ -119,7 +118,7 @@ fn is_unseen(slot: &mut Slot, at: usize) -> bool {
 }
 
 #[test]
-fn a_changed_byte_is_seen_in_each_header(rt: HostRuntime) {
+fn a_changed_byte_is_seen_in_each_header_and_field(rt: HostRuntime) {
     let mut slot = worked_slot();
     for at in 0..128 {
         assert!(rt;
@@ -127,74 +126,8 @@ fn a_changed_byte_is_seen_in_each_header(rt: HostRuntime) {
             "byte {at}"
         );
     }
-}
-
-#[test]
-fn a_changed_byte_is_seen_in_each_field(rt: HostRuntime) {
-    let mut slot = worked_slot();
     for field in FIELDS {
         let at = 512 * (field / 496 % 8) + 16 + field % 496;
         assert!(rt; !is_unseen(&mut slot, at), "field at {field}");
-    }
-}
-
-// What a crash leaves of a slot: the sectors of these numbers are new.
-fn torn(old: &Slot, new: &Slot, sectors: u8) -> Slot {
-    let mut left = *old;
-    for at in 0..4096 {
-        if (sectors >> (at / 512)) & 1 == 1 {
-            left[at] = new[at];
-        }
-    }
-    left
-}
-
-// What a place holds as a save is cut off: the old superblock's slot as it was and as the new one
-// would have it, and the superblock of the other slot.
-#[derive(Drop)]
-struct Save {
-    old: Slot,
-    new: Slot,
-    other: Superblock,
-}
-
-// The save once these sectors are new: the place is read as before, unless all of them are.
-fn see_torn(rt: &impl Abort, save: &Save, sectors: u8) {
-    let left = torn(&save.old, &save.new, sectors);
-    let read = Superblock::decode(&left);
-    assert_eq!(rt;
-        read.is_some(),
-        sectors == 0 || sectors == 255,
-        "sectors {sectors}"
-    );
-    let found = newer(read, Some(save.other));
-    let wanted = if sectors == 255 { 58 } else { 57 };
-    assert_eq!(rt; found, Some(worked(wanted)), "sectors {sectors}");
-    let highest = if sectors == 0 { 56 } else { 58 };
-    assert_eq!(rt; highest_stamp(&left), highest, "sectors {sectors}");
-}
-
-#[test]
-fn a_torn_save_is_the_old_superblock_or_the_new_one(rt: HostRuntime) {
-    let save = Save {
-        old: slot_of(&rt, 56),
-        new: slot_of(&rt, 58),
-        other: worked(57),
-    };
-    for sectors in 0..=255 {
-        see_torn(&rt, &save, sectors);
-    }
-}
-
-#[test]
-fn saves_go_to_the_other_slot(rt: HostRuntime) {
-    for (first, second, wanted) in [
-        (None, None, false),
-        (Some(worked(57)), None, true),
-        (None, Some(worked(57)), false),
-        (Some(worked(57)), Some(worked(56)), true),
-        (Some(worked(56)), Some(worked(57)), false),
-    ] {
-        assert_eq!(rt; is_second_written(&first, &second), wanted);
     }
 }

@@ -102,28 +102,3 @@ fn the_legs_come_back_where_the_master_fails(rt: HostRuntime) -> Result<(), Fail
     assert_eq!(rt; legs[0].faults(), 1);
     Ok(())
 }
-
-/// Compares a fault's number and text.
-fn tells(
-    rt: &impl Abort,
-    alloc: Global,
-    fault: OpenFault,
-    number: u8,
-    text: &str,
-) -> Result<(), Fail> {
-    assert_eq!(rt; fault.number(), number);
-    assert_eq!(rt; fault.to_string(alloc)?.as_str(), text);
-    Ok(())
-}
-
-#[test]
-fn an_open_fault_has_a_number_and_a_text(rt: HostRuntime) -> Result<(), Fail> {
-    tells(&rt, rt.alloc(), OpenFault::Memory, 1, "out of memory")?;
-    tells(
-        &rt,
-        rt.alloc(),
-        OpenFault::MasterFault,
-        2,
-        "the master cannot be read",
-    )
-}

@@ -1,4 +1,4 @@
-//! Tests of nm_stripe and nm_part through their public surface: worked lists of steps with their
+//! Tests of nm_stripe through its public surface: worked lists of steps with their
 //! answers; and what holds of a stripe over legs that share their syncs.
 #![tactic(auto)]
 
@@ -16,12 +16,8 @@ mod memory;
 #[cfg(test)]
 mod opening;
 #[cfg(test)]
-mod parts;
-#[cfg(test)]
 mod patches;
 #[cfg(test)]
 mod scripts;
 #[cfg(test)]
 mod stripes;
-#[cfg(test)]
-mod worked;

@@ -1,7 +1,6 @@
-//! Scripts whose reader or writer fails, or takes few bytes at once, and calls that no script names.
+//! Scripts whose reader or writer fails, or takes few bytes at once.
 //! What scripts print is in `tests/scripts`.
-use nm_script_lib::{run_fused, run_script};
-use std::alloc::Global;
+use nm_script_lib::run_script;
 use std::io::{self, ErrorKind, Read, Write};
 use std::test::Fail;
 
@@ -94,34 +93,6 @@ fn stops_where_the_input_fails(rt: HostRuntime) {
     assert_eq!(rt; out.as_slice(), printed);
 }
 
-/// A reader that never ends, and counts its reads.
-#[derive(Drop)]
-struct EndlessReader {
-    reads: u64,
-}
-
-impl Read for EndlessReader {
-    fn read(&mut self, into: &mut [u8]) -> io::Result<usize> {
-        self.reads = self.reads.wrapping_add(1);
-        if into.is_empty() {
-            return Ok(0);
-        }
-        into[0] = b'#';
-        Ok(1)
-    }
-}
-
-#[test]
-fn gives_up_on_an_input_that_does_not_end(rt: HostRuntime) {
-    let mut input = EndlessReader { reads: 0 };
-    let mut out = Vec::new(rt.alloc());
-    let mut err = Vec::new(rt.alloc());
-    assert_eq!(rt; run_script(rt.alloc(), &mut input, &mut out, &mut err), 4);
-    assert_eq!(rt; input.reads, (1 << 24) + 1);
-    assert_eq!(rt; out.as_slice(), b"".as_slice());
-    assert_eq!(rt; err.as_slice(), b"cannot read\n".as_slice());
-}
-
 /// A writer that takes this many bytes, and then fails or takes no more. It fails when flushed.
 #[derive(Drop)]
 struct FailingWriter {
@@ -175,43 +146,4 @@ fn goes_on_where_standard_error_fails(rt: HostRuntime) {
     assert_eq!(rt; run_script(rt.alloc(), &mut input, &mut out, &mut err), 2);
     assert_eq!(rt; err.taken.as_slice(), b"line 1".as_slice());
     assert_eq!(rt; out.as_slice(), b"".as_slice());
-}
-
-/// The exit status of a run in which one call of a leg fails, and all that it wrote.
-#[derive(Drop)]
-struct Ran {
-    status: u8,
-    out: Vec<u8>,
-    err: Vec<u8>,
-}
-
-fn run_with_fuse(alloc: Global, text: &[u8], leg: u8, call: u64) -> Ran {
-    let mut input = text;
-    let mut out = Vec::new(alloc);
-    let mut err = Vec::new(alloc);
-    let status = run_fused(alloc, &mut input, leg, call, &mut out, &mut err);
-    Ran { status, out, err }
-}
-
-#[test]
-fn a_fuse_fails_the_call_that_it_names(rt: HostRuntime) {
-    let lost = run_with_fuse(rt.alloc(), WRITE.0, 0, 1);
-    assert_eq!(rt; lost.status, 0);
-    assert_eq!(rt;
-        lost.out.as_slice(),
-        b"begun 0\nlost 0\nrefused 8 NotOwed\nrefused 3 Settling\ncomplete 0\nwritten 0\n\
-          value 1 aa\nhistory 2 of 2\n0 write 0 3 aa\n1 read 3 aa\nlegal yes\n"
-            .as_slice()
-    );
-    assert_eq!(rt; lost.err.as_slice(), b"".as_slice());
-}
-
-#[test]
-fn a_fuse_names_a_leg_and_a_call(rt: HostRuntime) {
-    for (leg, call) in [(2, 1), (255, 1), (0, 0)] {
-        let ran = run_with_fuse(rt.alloc(), WRITE.0, leg, call);
-        assert_eq!(rt; ran.status, 2);
-        assert_eq!(rt; ran.out.as_slice(), b"".as_slice());
-        assert_eq!(rt; ran.err.as_slice(), b"line 1: bad step\n".as_slice());
-    }
 }

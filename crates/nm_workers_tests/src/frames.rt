@@ -1,6 +1,6 @@
 //! The largest frame, and devices that take less than they are given.
 use nm_replies::{Reply, ReplyWriter, SendFault, frame};
-use nm_wire::{errors, sizes};
+use nm_wire::sizes;
 use std::alloc::Global;
 use std::io;
 use std::io::{ErrorKind, Write};
@@ -55,16 +55,6 @@ const DONE: [u8; 16] = [
 const REFUSED: [u8; 16] = [
     0x67, 0x44, 0x66, 0x98, 0, 0, 0, 0x16, 0, 0, 0, 0, 0, 0, 0, 0x13,
 ];
-
-#[test]
-fn replies_give_their_data_back(rt: HostRuntime) -> Result<(), Fail> {
-    let reply = Reply::with_data(0x11, [0xaa; 512].to_vec(rt.alloc())?);
-    let back = reply.into_data().ok_or("no data")?;
-    assert_eq!(rt; back.as_slice(), [0xaa; 512].as_slice());
-    assert!(rt; Reply::done(0x11).into_data().is_none());
-    assert!(rt; Reply::error(0x13, errors::EIO).into_data().is_none());
-    Ok(())
-}
 
 // The largest reply, through a device that takes 64 KiB a call.
 #[test]
@@ -130,28 +120,5 @@ fn writes_of_less_than_all_are_continued(rt: HostRuntime) -> Result<(), Fail> {
     for a_call in [1, 7, 16, 100] {
         expect_two_replies(&rt, narrow_device(rt.alloc(), a_call, 32, None));
     }
-    Ok(())
-}
-
-#[test]
-fn a_lent_device_comes_back(rt: HostRuntime) -> Result<(), Fail> {
-    let mut device = narrow_device(rt.alloc(), 16, usize::MAX, None);
-    let mut writer = ReplyWriter::new(&mut device);
-    writer.send(&DONE)?;
-    let lent = writer.into_device();
-    lent.write(&REFUSED)?;
-    assert_eq!(rt; device.held.len(), 32);
-    assert_eq!(rt; &device.held.as_slice()[..16], DONE.as_slice());
-    Ok(())
-}
-
-#[test]
-fn texts_and_numbers_of_send_faults(rt: HostRuntime) -> Result<(), Fail> {
-    let device = format!(in rt.alloc(); "{}", SendFault::Device(7))?;
-    assert_eq!(rt; device.as_str(), "a write failed after 7 bytes");
-    let failed = format!(in rt.alloc(); "{}", SendFault::Failed)?;
-    assert_eq!(rt; failed.as_str(), "an earlier write failed");
-    assert_eq!(rt; SendFault::Device(7).number(), 1);
-    assert_eq!(rt; SendFault::Failed.number(), 2);
     Ok(())
 }

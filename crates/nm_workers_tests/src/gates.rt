@@ -4,9 +4,9 @@ use crate::counting_writer::CountingWriter;
 use crate::found::{Found, front};
 use crate::running::{serve_paced, serve_shared, targets};
 use crate::shared_target::{Hold, SharedBytes};
+use crate::talk::Talk;
 use crate::texts::{
-    DESCRIBED, DISC, FLAGS, GO, GREETING, READ, SIZE, Talk, WRITE, concat, export, put_reply,
-    put_request,
+    DESCRIBED, DISC, FLAGS, GO, GREETING, READ, SIZE, WRITE, concat, export, put_reply, put_request,
 };
 use nm_session::{CutReader, End};
 use nm_wire::Memory;

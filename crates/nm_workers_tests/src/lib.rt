@@ -1,15 +1,14 @@
 //! Tests of the wire's crates, of sessions, mailboxes and workers through their public surface: what
-//! no clause says, and no session of `tests/wire` shows. What the sessions over several targets are
-//! built from is public, for the tests of the server.
+//! no clause says, and no session of `tests/wire` shows. The protocol's bytes and a client that leaves
+//! are public, for the tests of the server.
 #![tactic(auto)]
 
 #[cfg(test)]
 mod alone;
 #[cfg(test)]
-mod copying_target;
-#[cfg(test)]
 mod cores;
-pub mod counting_writer;
+#[cfg(test)]
+mod counting_writer;
 #[cfg(test)]
 mod faults;
 #[cfg(test)]
@@ -21,24 +20,28 @@ mod gates;
 #[cfg(test)]
 mod handshakes;
 #[cfg(test)]
-mod headers;
-#[cfg(test)]
 mod leaving;
 pub mod leaving_reader;
 #[cfg(test)]
 mod mailboxes;
-pub mod paced_reader;
+#[cfg(test)]
+mod paced_reader;
+#[cfg(test)]
+mod payloads;
 #[cfg(test)]
 mod polling;
-pub mod running;
+#[cfg(test)]
+mod running;
 #[cfg(test)]
 mod serving;
 #[cfg(test)]
 mod sessions;
-pub mod shared_target;
+#[cfg(test)]
+mod shared_target;
 #[cfg(test)]
 mod short_target;
 #[cfg(test)]
-mod streams;
+mod talk;
 pub mod texts;
-pub mod waiting;
+#[cfg(test)]
+mod waiting;

@@ -3,7 +3,8 @@
 use crate::counting_writer::CountingWriter;
 use crate::paced_reader::PacedReader;
 use crate::shared_target::{Hold, SharedBytes, SharedTarget, have_bytes};
-use crate::texts::{Talk, export};
+use crate::talk::Talk;
+use crate::texts::export;
 use nm_replies::ReplyWriter;
 use nm_wire::{Export, Memory};
 use nm_workers::{Finished, serve_many};

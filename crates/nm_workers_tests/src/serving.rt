@@ -1,7 +1,6 @@
 //! Whole sessions of `serve` over memory, byte for byte, and broken off at each read and each write.
 //! The expected bytes were written by hand.
 
-use crate::copying_target::CopyingTarget;
 use crate::texts::{
     DESCRIBED, DISC, FLAGS, GO, GREETING, READ, SIZE, WRITE, concat, export, put_reply, put_request,
 };
@@ -237,66 +236,6 @@ fn replies_go_out_once_1_mib_has_gathered(rt: HostRuntime) -> Result<(), Fail> {
     let found = run(&rt, alloc, &mut target, reader, writer)?;
     assert!(rt; found.broke_off(ServeFault::Write(0)));
     assert_eq!(rt; found.out.len(), 104 + 8 * 131_088);
-    Ok(())
-}
-
-// The handshake, a WRITE of block 1, a READ of it, and a DISC, over a target that has memory for so
-// many writes: what went out, and block 1.
-fn run_copying<R: Wait>(rt: &R, alloc: Global, writes: u64) -> Result<(Vec<u8>, Vec<u8>), Memory> {
-    let (stream, _, _) = write_and_read(alloc)?;
-    let export = export(alloc)?;
-    let mut target = CopyingTarget::new(alloc, SIZE, writes)?;
-    if (target.as_bytes().len() as u64) < export.size() {
-        return Err(Memory);
-    }
-    let mut reader = reader(alloc, stream.as_slice(), WHOLE)?;
-    let mut sender = ReplyWriter::new(CutWriter::new(alloc, 4_096)?);
-    let _ = serve(rt, alloc, &mut reader, &mut sender, &mut target, export);
-    let out = sender.device().as_bytes().to_vec(alloc)?;
-    let block = target.as_bytes().get(512..1_024).unwrap_or(&[]);
-    Ok((out, block.to_vec(alloc)?))
-}
-
-// What goes out where the target has no memory for the WRITE, and so the READ finds zeroes.
-fn write_refused(alloc: Global) -> Result<Vec<u8>, AllocError> {
-    let mut out = concat(alloc, &[&GREETING, &DESCRIBED])?;
-    put_reply(&mut out, 0x0c, 0x11)?;
-    put_reply(&mut out, 0, 0x12)?;
-    out.extend_from_slice(&[0; 512])?;
-    Ok(out)
-}
-
-#[test]
-fn a_write_without_memory_gets_error_12_and_leaves_its_block(rt: HostRuntime) -> Result<(), Fail> {
-    let alloc = rt.alloc();
-    let (out, block) = run_copying(&rt, alloc, 0)?;
-    assert!(rt; out.as_slice() == write_refused(alloc)?.as_slice());
-    assert!(rt; block.as_slice() == [0; 512].as_slice());
-    let (out, block) = run_copying(&rt, alloc, 1)?;
-    let (_, done, _) = write_and_read(alloc)?;
-    assert!(rt; out.as_slice() == done.as_slice());
-    assert!(rt; block.as_slice() == [0xaa; 512].as_slice());
-    Ok(())
-}
-
-// Run with each allocation failing in turn, over a target that takes memory for its write: block 1
-// is old where the WRITE got error 12, and old or new as a whole in any case.
-#[test]
-fn no_memory_for_a_write_leaves_its_block(rt: HostRuntime) -> Result<(), Fail> {
-    let alloc = rt.alloc();
-    let Ok(refused) = write_refused(alloc) else {
-        return Ok(());
-    };
-    let Ok((out, block)) = run_copying(&rt, alloc, 1) else {
-        return Ok(());
-    };
-    let is_old = block.as_slice() == [0; 512].as_slice();
-    assert!(rt; is_old || block.as_slice() == [0xaa; 512].as_slice());
-    let got_error = out.len() >= 120
-        && refused
-            .as_slice()
-            .starts_with(out.get(..120).unwrap_or(&[]));
-    assert!(rt; is_old || !got_error);
     Ok(())
 }
 

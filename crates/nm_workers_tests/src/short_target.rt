@@ -5,9 +5,8 @@ use crate::found::{Found, front};
 use crate::paced_reader::Gate;
 use crate::running::{serve_paced, targets};
 use crate::shared_target::{Hold, SharedBytes};
-use crate::texts::{
-    DESCRIBED, DISC, GREETING, READ, SIZE, Talk, WRITE, concat, put_reply, put_request,
-};
+use crate::talk::Talk;
+use crate::texts::{DESCRIBED, DISC, GREETING, READ, SIZE, WRITE, concat, put_reply, put_request};
 use nm_session::End;
 use nm_wire::Memory;
 use std::alloc::{AllocError, Global};

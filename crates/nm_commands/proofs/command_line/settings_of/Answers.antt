@@ -26,6 +26,8 @@ returns-clause-ok c =
           c.get_flag-auto_attach.ensures.value c.get_flag-auto_attach.ensures.other;
       copy_rate = said_number_if_any f rows (codes "copy-rate") _ refl
           c.in_ok-copy_rate.ensures.some c.in_ok-copy_rate.ensures.none;
+      leg_timeout = said_number_if_any f rows (codes "leg-timeout") _ refl
+          c.in_ok-leg_timeout.ensures.some c.in_ok-leg_timeout.ensures.none;
       sessions = said_number f rows (codes "sessions") _ refl c.in_ok-sessions.ensures.ok;
       idle_limit = said_number_if_any f rows (codes "idle-limit") _ refl
           c.in_ok-idle_limit.ensures.some c.in_ok-idle_limit.ensures.none;

@@ -1,5 +1,4 @@
 //! How much memory a reader takes, for payloads of 512 bytes to 32 MiB in pieces of many lengths.
-use super::reading::{feed as feed_again, next as next_again};
 use nm_requests::{Fault, Request, RequestReader};
 use std::alloc::{AllocError, Global};
 use std::process::Abort;
@@ -211,69 +210,5 @@ fn a_short_payload_keeps_no_large_block(rt: HostRuntime) -> Result<(), Fail> {
     for piece in [64 * KIB, 200 * KIB, MIB, 128 * MIB] {
         keep_short_ones(&rt, rt.alloc(), piece)?;
     }
-    Ok(())
-}
-
-// Feeds a stream in pieces of 200 KiB.
-fn feed_all(alloc: Global, reader: &mut RequestReader, stream: &[u8]) -> Result<(), Fault> {
-    for piece in stream.chunks(200 * KIB) {
-        reader.feed(alloc, piece)?;
-    }
-    Ok(())
-}
-
-#[test]
-fn feeds_what_was_reserved(rt: HostRuntime) -> Result<(), Fail> {
-    let mut stream = Vec::new(rt.alloc());
-    put_write(&mut stream, 0, 1_048_576)?;
-    let mut reader = RequestReader::new();
-    reader.reserve(rt.alloc(), 1_048_604)?;
-    assert!(rt; reader.room() >= 1_048_604);
-    feed_all(rt.alloc(), &mut reader, &stream)?;
-    expect_write(&rt, rt.alloc(), &mut reader, 0, 1_048_576)
-}
-
-// Feeds a piece, after which more memory than there is is refused.
-fn refuse_reserve(
-    rt: &impl Abort,
-    alloc: Global,
-    reader: &mut RequestReader,
-    piece: &[u8],
-) -> Result<(), Fault> {
-    reader.feed(alloc, piece)?;
-    let room = reader.room();
-    assert_eq!(rt; reader.reserve(alloc, usize::MAX), Err(AllocError));
-    assert!(rt; reader.room() >= room);
-    assert_eq!(rt; reader.count(), 0);
-    Ok(())
-}
-
-// More memory than there is is refused in the middle of a payload, and reading goes on.
-#[test]
-fn reads_on_after_a_refused_reserve(rt: HostRuntime) -> Result<(), Fail> {
-    let mut stream = Vec::new(rt.alloc());
-    put_write(&mut stream, 0, 8_388_608)?;
-    let mut reader = RequestReader::new();
-    for piece in stream.as_slice().chunks(200 * KIB) {
-        refuse_reserve(&rt, rt.alloc(), &mut reader, piece)?;
-    }
-    expect_write(&rt, rt.alloc(), &mut reader, 0, 8_388_608)
-}
-
-// A WRITE of 200 KiB.
-static HEADER_200_KIB: [u8; 28] =
-    *b"\x25\x60\x95\x13\0\0\0\x01\0\0\0\0\0\0\0\x05\0\0\0\0\0\0\0\0\0\x03\x20\0";
-
-static PAYLOAD_200_KIB: [u8; 204_800] = [5; 204_800];
-
-// Each allocation of a reader may be refused once; the call is made again.
-#[test]
-fn reads_on_after_memory_for_a_long_piece_was_refused(rt: HostRuntime) -> Result<(), Fault> {
-    let mut reader = RequestReader::new();
-    feed_again(&mut reader, rt.alloc(), &HEADER_200_KIB)?;
-    feed_again(&mut reader, rt.alloc(), &PAYLOAD_200_KIB)?;
-    let request = next_again(&mut reader, rt.alloc())?;
-    let length = request.map_or(0, |request| request.payload.len());
-    assert_eq!(rt; length, 204_800);
     Ok(())
 }

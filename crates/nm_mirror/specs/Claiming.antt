@@ -1,0 +1,28 @@
+-- Writes that are claimed for nobody, since the calls that began them have ended.
+use Rattle.std.specs.Prelude.{◌≡◌, ℕ, Bool, true, IsSome, None}
+use Rattle.nm_rules.specs.RunClaim.{ClaimsRun, claim_run_cause}
+use Rattle.nm_rules.specs.Runs.{EntryNames}
+use Rattle.nm_mirror.specs.Reopening.{sum_of}
+use Rattle.nm_mirror.specs.declared.held.Held.{Held}
+use Rattle.nm_mirror.specs.declared.stripe_end.Past.{Past}
+
+-- so many blocks more were left, each with its entry
+abbrev pub with_left : ℕ → Past → Past
+with_left count past = record past {
+  left = sum_of past.left count;
+  landed = sum_of past.landed count;
+}
+
+-- what the superblock may say stays, and so does the opening
+pub record LeavesGate {L : Type 0} (old new : Held L) : Type 0 where
+  pub durable : new.gated.durable ≡ old.gated.durable
+  pub openings : new.openings ≡ old.openings
+
+-- The write of this ticket is claimed, if it is finished, and gone; the stripe's end counts its
+-- entries as ever, among those of writes that were left. If it is not, nothing changes.
+pub record ClaimsFor {L : Type 0} (ticket : ℕ) (gone : Bool) (old new : Held L) : Type 0 where
+  pub claimed : claim_run_cause old.gated.stripe ticket ≡ None → (gone ≡ true)
+      × ((entries : EntryNames) × ClaimsRun old.gated.stripe new.gated.stripe ticket entries
+      × (new.past ≡ with_left entries.count old.past))
+  pub stays : IsSome (claim_run_cause old.gated.stripe ticket) → new ≡ old
+  pub gate : LeavesGate old new

@@ -1,0 +1,24 @@
+-- The slots that were read again are what the file durably holds.
+use Rattle.std.proofs.Common.{arith, refl}
+use Rattle.nm_saves.specs.FileState.{HasStampsUpTo}
+use Rattle.nm_saves.proofs.Settling.{reads-decoded, sound-read, stamps-first, stamps-second}
+use Rattle.nm_saves.proofs.superblock_file.SuperblockFile.read_again.Goals as goal
+
+pub invariant_of-self-2 : goal.invariant_of-self-2
+invariant_of-self-2 g c =
+    let a = c.highest_stamp.result in
+    let b = c.highest_stamp-2.result in
+    let first = c.read_slots.new.first in
+    let second = c.read_slots.new.second in
+    let highest = c.max-self-inside.result in
+    let first_up_to : HasStampsUpTo highest first = λ number below.
+    let bound = stamps-first first a b c.max-found.result c.highest_stamp.ensures c.max-found.ensures number below in
+    omega (arith, bound, c.max-self-inside.ensures) in
+    let second_up_to : HasStampsUpTo highest second = λ number below.
+    let bound = stamps-second second a b c.max-found.result c.highest_stamp-2.ensures c.max-found.ensures number below in
+    omega (arith, bound, c.max-self-inside.ensures) in
+    sound-read g.F.SlotFile.honest (g.F.SlotFile.held c.read_slots.new.file) first second c.decode-self-inside.result c.decode-self-inside-2.result highest
+    (λ honest. c.in_ok-read_slots.ensures.durably honest refl) c.read_slots.array_long c.read_slots.array_long2
+    (reads-decoded first c.decode-self-inside.result c.decode-self-inside.ensures.some c.decode-self-inside.ensures.reads_back)
+    (reads-decoded second c.decode-self-inside-2.result c.decode-self-inside-2.ensures.some c.decode-self-inside-2.ensures.reads_back)
+    first_up_to second_up_to

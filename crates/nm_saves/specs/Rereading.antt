@@ -1,0 +1,44 @@
+-- Files of which a write or a sync failed are read again, and may then be written again.
+use Rattle.std.specs.Prelude.{◌≡◌, ◌<◌, ◌≤◌, ℕ, Bool, IsTrue, IsFalse, List, length}
+use Rattle.std.specs.Prelude.{Option, None, Some}
+use Rattle.nm_saves.specs.FileState.{FileState, IsSettled, newest_in}
+use Rattle.nm_saves.specs.Files.{AreUpTo, file_of}
+use Rattle.nm_saves.specs.SavingAll.{FilesState}
+use Rattle.nm_saves.specs.SlotFile.{KeepsSlots}
+
+-- The file is settled and read again. Done, it is what is known of it, and may be written again;
+-- not done, it is not written again. Nothing is written, and no stamp that was known is forgotten.
+pub record RereadsFile (honest done : Bool) (old new : FileState) : Type 0 where
+  pub fine : IsTrue done → IsFalse new.failed
+  pub failed : IsFalse done → IsTrue new.failed
+  pub settled : IsTrue honest → IsTrue done → IsSettled new
+  pub unread : IsFalse done → newest_in new ≡ newest_in old
+  pub stamps : old.highest ≤ new.highest
+  pub keeps : IsTrue honest → KeepsSlots old.held new.held
+
+-- a leg's file is read again if it has failed, and else left as it is
+abbrev pub RereadsBeside : (honest : Bool) → (old new : Option FileState) → Type 0
+RereadsBeside honest None new = new ≡ None
+RereadsBeside honest (Some f) new =
+    (g : FileState) × (new ≡ Some g) × (IsFalse f.failed → g ≡ f)
+    × (IsTrue f.failed → (done : Bool) × RereadsFile honest done f g)
+
+-- so it is of this leg's alone
+pub record RereadsAt (honest : Bool) (leg : ℕ) (old new : List (Option FileState)) : Type 0 where
+  pub here : RereadsBeside honest (file_of leg old) (file_of leg new)
+  pub others : (other : ℕ) → (other ≡ leg → ⊥) → file_of other new ≡ file_of other old
+
+-- and of those of the first legs
+pub record RereadsTo (count : ℕ) (honest : Bool) (old new : List (Option FileState)) : Type 0 where
+  pub read : (leg : ℕ) → leg < count → RereadsBeside honest (file_of leg old) (file_of leg new)
+  pub others : (leg : ℕ) → count ≤ leg → file_of leg new ≡ file_of leg old
+
+-- All files that have failed are read again. The last superblock whose save was done stays, and the
+-- next save has a generation above each stamp that was known, or is found.
+pub record RereadsFailed (honest : Bool) (old new : FilesState) : Type 0 where
+  pub read : (leg : ℕ) → leg < 8
+      → RereadsBeside honest (file_of leg old.files) (file_of leg new.files)
+  pub count : length new.files ≡ length old.files
+  pub image : new.image ≡ old.image
+  pub highest : old.highest ≤ new.highest
+  pub above : AreUpTo 8 new.highest new.files
