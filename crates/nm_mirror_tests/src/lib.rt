@@ -4,6 +4,8 @@
 #[cfg(test)]
 mod beside;
 #[cfg(test)]
+mod client;
+#[cfg(test)]
 mod closing;
 #[cfg(test)]
 mod full;

@@ -8,7 +8,7 @@ use nm_saves::SlotFile;
 use std::alloc::{AllocError, Global};
 use std::io;
 use std::io::ErrorKind;
-use std::sync::Mutex;
+use std::sync::{Arc, Mutex};
 
 /// How many bytes a sector has, which is written whole or not at all.
 const SECTOR: usize = 512;
@@ -257,14 +257,17 @@ impl Machine {
     }
 }
 
+/// A machine that several have.
+pub type SharedMachine = Arc<Mutex<Machine>>;
+
 /// A leg's file.
 #[derive(Drop)]
-pub struct LegFile<'a> {
-    pub machine: &'a Mutex<Machine>,
+pub struct LegFile {
+    pub machine: SharedMachine,
     pub file: usize,
 }
 
-impl Medium for LegFile<'_> {
+impl Medium for LegFile {
     ghost honest = { false };
 
     ghost held = { λ _. media.unknown };
@@ -306,8 +309,8 @@ impl Medium for LegFile<'_> {
 
 /// The file of a leg's superblock.
 #[derive(Drop)]
-pub struct SuperblockPlace<'a> {
-    pub machine: &'a Mutex<Machine>,
+pub struct SuperblockPlace {
+    pub machine: SharedMachine,
     pub file: usize,
 }
 
@@ -316,7 +319,7 @@ fn slot_at(second: bool) -> u64 {
     if second { 4096 } else { 0 }
 }
 
-impl SlotFile for SuperblockPlace<'_> {
+impl SlotFile for SuperblockPlace {
     ghost honest = { false };
 
     ghost held = { λ _. slots.unknown };

@@ -1,7 +1,7 @@
 //! A mirror with superblocks on a machine in memory: how it starts by them, and saves them.
 ghost use Rattle.std.specs.Prelude.{◌≡◌, ◌<◌};
 
-use crate::machine::{LegFile, Machine, SuperblockPlace};
+use crate::machine::{LegFile, SharedMachine, SuperblockPlace};
 use crate::mirrors::{pass_of, round_of, turn};
 use nm_assemble::{
     AssembleFault, LegStart, NewMirror, assemble, first_superblock, leg_start, named_leg,
@@ -16,26 +16,26 @@ use nm_rules::LegOpening;
 use nm_saves::{FailedFiles, SuperblockFile, SuperblockFiles, found_beside};
 use nm_stripe::{LegState, Policy};
 use nm_superblock::Superblock;
-use std::alloc::Global;
+use std::alloc::{AllocError, Global};
 use std::process::Abort;
-use std::sync::{Mutex, Wait};
+use std::sync::{Arc, Wait};
 use std::test::Fail;
 
 /// How many spans each stripe has, of one region.
 const SPANS: usize = 4;
 
 /// A stripe's leg.
-pub type Leg<'a> = FileLeg<LegFile<'a>>;
+pub type Leg = FileLeg<LegFile>;
 
 /// A leg's file of superblocks.
-type Place<'a> = SuperblockFile<SuperblockPlace<'a>>;
+type Place = SuperblockFile<SuperblockPlace>;
 
 /// A mirror that serves, and what saves its superblocks.
 #[derive(Drop)]
-pub struct Server<'a> {
-    pub mirror: Mirror<Leg<'a>, NoGate>,
-    pub pass: Pass<Leg<'a>>,
-    files: SuperblockFiles<SuperblockPlace<'a>>,
+pub struct Server {
+    pub mirror: Mirror<Leg, NoGate>,
+    pub pass: Pass<Leg>,
+    files: SuperblockFiles<SuperblockPlace>,
     round: CopyRound,
 }
 
@@ -58,15 +58,21 @@ fn others_than(legs: &[bool; 8]) -> [bool; 8] {
 }
 
 /// The file of the leg's superblock, of so many legs.
-fn place_on(machine: &Mutex<Machine>, legs: u8, leg: u8) -> SuperblockPlace<'_> {
-    SuperblockPlace {
-        machine,
+fn place_on(machine: &SharedMachine, legs: u8, leg: u8) -> Result<SuperblockPlace, AllocError> {
+    Ok(SuperblockPlace {
+        machine: Arc::try_clone(machine)?,
         file: (legs as usize).saturating_add(leg as usize),
-    }
+    })
+}
+
+/// A leg's file.
+fn leg_file(machine: &SharedMachine, file: usize) -> Result<LegFile, AllocError> {
+    let machine = Arc::try_clone(machine)?;
+    Ok(LegFile { machine, file })
 }
 
 /// Makes the first superblocks of a mirror whose legs are equal.
-pub fn make_first(alloc: Global, machine: &Mutex<Machine>, shape: &Shape) -> Result<(), Fail> {
+pub fn make_first(alloc: Global, machine: &SharedMachine, shape: &Shape) -> Result<(), Fail> {
     let mut equal = [false; 8];
     for leg in 0..shape.legs.min(8) as usize {
         equal[leg] = true;
@@ -87,7 +93,7 @@ pub fn make_first(alloc: Global, machine: &Mutex<Machine>, shape: &Shape) -> Res
     );
     let mut places = Vec::new(alloc);
     for leg in 0..shape.legs {
-        places.push(Some(SuperblockFile::create(place_on(machine, shape.legs, leg))?))?;
+        places.push(Some(SuperblockFile::create(place_on(machine, shape.legs, leg)?)?))?;
     }
     let mut files = SuperblockFiles::new(places, image);
     match files.save(&image.sets, &image.marked, false, &[false; 8]) {
@@ -97,25 +103,25 @@ pub fn make_first(alloc: Global, machine: &Mutex<Machine>, shape: &Shape) -> Res
 }
 
 /// The files of superblocks that can be opened.
-fn open_places<'a>(
+fn open_places(
     alloc: Global,
-    machine: &'a Mutex<Machine>,
+    machine: &SharedMachine,
     legs: u8,
-) -> Result<Vec<Option<Place<'a>>>, Fail> {
+) -> Result<Vec<Option<Place>>, Fail> {
     let mut places = Vec::new(alloc);
     for leg in 0..legs {
-        places.push(SuperblockFile::open(place_on(machine, legs, leg)).ok())?;
+        places.push(SuperblockFile::open(place_on(machine, legs, leg)?).ok())?;
     }
     Ok(places)
 }
 
 /// The legs whose files can be made durable as they are.
-fn settle_legs(machine: &Mutex<Machine>, legs: u8) -> [bool; 8] {
+fn settle_legs(machine: &SharedMachine, legs: u8) -> Result<[bool; 8], AllocError> {
     let mut settled = [false; 8];
     for leg in 0..legs.min(8) as usize {
-        settled[leg] = LegFile { machine, file: leg }.sync().is_ok();
+        settled[leg] = leg_file(machine, leg)?.sync().is_ok();
     }
-    settled
+    Ok(settled)
 }
 
 /// How a leg stands as its stripe opens.
@@ -166,16 +172,12 @@ fn state_of<R: Abort>(
 }
 
 /// The legs of each stripe.
-fn all_legs<'a>(
-    alloc: Global,
-    machine: &'a Mutex<Machine>,
-    shape: &Shape,
-) -> Result<Vec<Vec<Leg<'a>>>, Fail> {
+fn all_legs(alloc: Global, machine: &SharedMachine, shape: &Shape) -> Result<Vec<Vec<Leg>>, Fail> {
     let mut all = Vec::new(alloc);
     for stripe in 0..shape.stripes {
         let mut own = Vec::new(alloc);
         for file in 0..shape.legs as usize {
-            own.push(FileLeg::new(LegFile { machine, file }, shape, stripe)?)?;
+            own.push(FileLeg::new(leg_file(machine, file)?, shape, stripe)?)?;
         }
         all.push(own)?;
     }
@@ -183,14 +185,14 @@ fn all_legs<'a>(
 }
 
 /// The stripes as they open by the image, behind their gates.
-fn open_by_image<'a, R: Abort>(
+fn open_by_image<R: Abort>(
     rt: &R,
     alloc: Global,
-    machine: &'a Mutex<Machine>,
+    machine: &SharedMachine,
     shape: &Shape,
     image: &Superblock,
     here: &[bool; 8],
-) -> Result<Mirror<Leg<'a>, NoGate>, Fail> {
+) -> Result<Mirror<Leg, NoGate>, Fail> {
     let (mut starts, mut states) = (Vec::new(alloc), Vec::new(alloc));
     for stripe in 0..shape.stripes.min(64) as usize {
         starts.push(stripe_start(image, stripe, here).ok_or("no master")?)?;
@@ -213,7 +215,7 @@ fn open_by_image<'a, R: Abort>(
 }
 
 /// What a start goes by where it saves it, as a start with all files here does.
-fn choose(files: &[Option<Place<'_>>], here: &[bool; 8]) -> Result<Superblock, AssembleFault> {
+fn choose(files: &[Option<Place>], here: &[bool; 8]) -> Result<Superblock, AssembleFault> {
     match assemble(&found_beside(files), here, false) {
         Ok(assembly) => Ok(assembly.image(here, None)),
         Err(why) => Err(why),
@@ -221,7 +223,7 @@ fn choose(files: &[Option<Place<'_>>], here: &[bool; 8]) -> Result<Superblock, A
 }
 
 /// Whether the machine has stopped.
-pub fn has_stopped(machine: &Mutex<Machine>) -> bool {
+pub fn has_stopped(machine: &SharedMachine) -> bool {
     match machine.try_lock() {
         Some(machine) => machine.has_stopped(),
         None => false,
@@ -230,14 +232,14 @@ pub fn has_stopped(machine: &Mutex<Machine>) -> bool {
 
 /// Starts on the machine: none where that stops meanwhile. A start by what the machine has is never
 /// refused. No call of the mirror waits for a save: one that needs a save fails, and asks for it.
-pub fn start<'a, R: Wait + Abort>(
+pub fn start<R: Wait + Abort>(
     rt: &R,
     alloc: Global,
-    machine: &'a Mutex<Machine>,
+    machine: &SharedMachine,
     shape: &Shape,
-) -> Result<Option<Server<'a>>, Fail> {
+) -> Result<Option<Server>, Fail> {
     let places = open_places(alloc, machine, shape.legs)?;
-    let here = settle_legs(machine, shape.legs);
+    let here = settle_legs(machine, shape.legs)?;
     if has_stopped(machine) {
         return Ok(None);
     }
@@ -267,7 +269,7 @@ pub fn start<'a, R: Wait + Abort>(
     }))
 }
 
-impl Server<'_> {
+impl Server {
     /// Takes the first of these legs out. Whether saves go on without it.
     fn take_out<R: Wait>(&self, rt: &R, failed: &FailedFiles) -> bool {
         for leg in 0..self.mirror.legs() {
