@@ -84,6 +84,7 @@ class Forgetful:
         self.files, self.names, self.durable_names = {}, {}, {}
         self.last_number = FOLDER
         self.power, self.is_dark, self.syncs = True, threading.Event(), 0
+        self.has_asked = threading.Event()
         self.device = os.open("/dev/fuse", os.O_RDWR | os.O_CLOEXEC)
         options = f"fd={self.device},rootmode=40755,user_id={os.getuid()},group_id={os.getgid()},allow_other"
         if LIBC.mount(b"forgetful", folder.encode(), b"fuse", 6, options.encode()):
@@ -131,9 +132,10 @@ class Forgetful:
             return lost
 
     def hang(self):
-        """From here on nothing is answered until `go_on`, and nothing is lost."""
+        """From here on nothing is answered until `go_on`, and nothing is lost. `has_asked` says that something waits."""
         with self.lock:
             self.is_dark.clear()
+            self.has_asked.clear()
             self.power = False
 
     def go_on(self):
@@ -175,6 +177,7 @@ class Forgetful:
             if kind in (FORGET, BATCH_FORGET, INTERRUPT):
                 continue
             if not self.power and kind not in (GETATTR, LOOKUP, STATFS):
+                self.has_asked.set()
                 self.is_dark.wait()
             with self.lock:
                 status, data = self.answer(kind, node, text[HEADER.size:])

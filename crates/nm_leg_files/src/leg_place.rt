@@ -112,8 +112,8 @@ impl LegPlace {
         Ok(())
     }
 
-    /// Opens the name anew. Refused are a file of which a call was left, one that may have lost what the server wrote to it,
-    /// another file than the one that is open and locked, and another length.
+    /// Opens the name anew. Refused are a file of which a call was left, one that may have lost what
+    /// the server wrote to it, another file than the one that is open and locked, and another length.
     ///
     /// The file of a leg that was missing so far is opened and locked by this, where it has the
     /// right length, is not in use, and comes with no superblock that may be newer.

@@ -28,6 +28,8 @@ pub enum Unrenewed {
     InUse,
     /// It is a block device, beside which no superblock would outlive a restart.
     NoPlaceBeside,
+    /// A call of the leg was left, and has not returned: it may still write.
+    CallLeft,
 }
 
 impl fmt::Display for Unrenewed {
@@ -38,6 +40,7 @@ impl fmt::Display for Unrenewed {
             Unrenewed::Locked => "locked",
             Unrenewed::InUse => "in use",
             Unrenewed::NoPlaceBeside => "is a block device: give --superblock FOLDER",
+            Unrenewed::CallLeft => "busy",
         })
     }
 }
@@ -105,8 +108,10 @@ impl LegPlace {
     }
 
     /// Opens the file that the name leads to now, measures it and locks it, and lets go of the one
-    /// that was held, if one was. One that the system has in use is refused unless that is allowed,
-    /// and so is a block device where superblocks stand beside the legs. The answer is the legs of all stripes on it, stripe 0's first.
+    /// that was held, if one was. Nothing is opened while a call of that was left. One that the
+    /// system has in use is refused unless that is allowed, and so is a block device where
+    /// superblocks stand beside the legs. The answer is the legs of all stripes on it, stripe 0's
+    /// first.
     pub fn renew<R: Wait, O: OpensLegs>(
         &self,
         rt: &R,
@@ -117,6 +122,9 @@ impl LegPlace {
         read: &BytesRead,
     ) -> Result<Vec<Leg>, Unrenewed> {
         let mut held = self.file.lock(rt);
+        if held.shared.file().has_left() {
+            return Err(Unrenewed::CallLeft);
+        }
         let file = self.open_anew(alloc, opener, &held)?;
         let Ok(anew) = held.anew(alloc, file) else {
             return Err(Unrenewed::CannotOpen);

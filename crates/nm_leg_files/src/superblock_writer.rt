@@ -166,7 +166,18 @@ impl<S: SlotFile> SuperblockWriter<S> {
         true
     }
 
-    // Tries once to save what the mirror is, and says what follows.
+    // Whether the file of a leg has failed that is not out.
+    fn has_failed_beside(&self, out: &[bool; 8]) -> bool {
+        for leg in 0..8usize {
+            if !out[leg] && self.files.error(leg).is_some() {
+                return true;
+            }
+        }
+        false
+    }
+
+    // Tries once to save what the mirror is, and says what follows. The files of legs that have
+    // failed and were attached since are settled and read again first.
     fn try_save<R: Wait, L: LegPart, G: Gate + Drop>(
         &mut self,
         rt: &R,
@@ -175,14 +186,17 @@ impl<S: SlotFile> SuperblockWriter<S> {
         is_last: bool,
     ) -> AfterTry {
         let order = mirror.begin_save(rt);
-        let (sets, marked) = (order.sets(), order.marked());
+        let (sets, marked, out) = (order.sets(), order.marked(), order.out());
+        if self.has_failed_beside(&out) {
+            self.files.read_failed_again();
+        }
         let stripes = mirror.shape().stripes.min(MOST_STRIPES) as usize;
         status.begin(
             marks(marked),
             losses(&self.files.image().sets, sets, stripes),
         );
         let clean = is_last && is_clean(sets, marked, stripes, mirror.legs().min(MOST_LEGS));
-        let after = after_try(&self.files.save(sets, marked, clean, &order.out()));
+        let after = after_try(&self.files.save(sets, marked, clean, &out));
         if after == AfterTry::End {
             mirror.end_save(rt, order);
             status.end(self.files.image().generation);

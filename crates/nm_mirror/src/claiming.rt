@@ -39,6 +39,14 @@ impl<L: LegPart> Held<L> {
         }
     }
 
+    // The same, where the gate lets that pass.
+    fn claim_where_saved(&mut self, ticket: u64) -> bool {
+        match refusal_of(&self.gated, Ask::Answer) {
+            None => self.claim_for_nobody(ticket),
+            Some(_) => false,
+        }
+    }
+
     /// Claims the writes whose calls have ended, as far as the gate lets that pass and they reach
     /// their legs. The others stay for the next save.
     pub(crate) fn claim_left(&mut self) {
@@ -52,9 +60,7 @@ impl<L: LegPart> Held<L> {
                 return;
             };
             push_all(&mut self.gated.stripe, ticket);
-            let is_gone = refusal_of(&self.gated, Ask::Answer).is_none()
-                && self.claim_for_nobody(ticket);
-            if !is_gone {
+            if !self.claim_where_saved(ticket) {
                 self.unclaimed.add(ticket);
             }
         }
