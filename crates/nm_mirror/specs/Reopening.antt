@@ -54,8 +54,8 @@ pub record Reopens {L : Type 0} (place : At) (legs : List L) (policy : Policy) (
   pub past : new.past ≡ past_after (end_of old.gated.stripe) old.past
   pub openings : new.openings ≡ sum_of old.openings 1
 
--- Where there is a superblock, all that the promises on crashes rest on holds of a stripe that opens
--- so.
+-- where there is a superblock, all that the promises on crashes rest on holds of a stripe that
+-- opens so
 abbrev pub GoesOn : {L : Type 0} → LegType L → At → List L → (master first : ℕ) → Policy
     → Option Durable → Type 0
 GoesOn type place legs master first policy None = Unit {0}
