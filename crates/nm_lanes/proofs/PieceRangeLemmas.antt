@@ -1,5 +1,5 @@
 -- A piece range of the runs of a range: its first runs and the others, and what is put into them.
-use Rattle.std.proofs.Common.{◌≡◌, inl, inr, ℕ, zero, suc, ◌+◌, ◌-◌, ◌/◌, ◌%◌, ◌<◌, ◌≤◌, Bool, true, false, IsTrue, List, [], ◌∷◌, ◌++◌, length, take, drop, append-nil, rules, refl, sym, ap, ◌∙◌, subst, ◌^◌, if◌then◌else◌, arith}
+use Rattle.std.proofs.Common.{◌≡◌, inl, inr, ℕ, zero, suc, ◌+◌, ◌-◌, ◌/◌, ◌%◌, ◌<◌, ◌≤◌, Bool, true, false, IsTrue, List, [], ◌∷◌, ◌++◌, length, take, drop, append-nil, rules, refl, sym, ap, ◌∙◌, ◌^◌, if◌then◌else◌, arith}
 use Rattle.std.proofs.Math.Seq.{take-append_seam, drop-append_seam}
 use Rattle.std.proofs.lemmas.List.{length-append, length-drop, drop_at, drop_all}
 use borrow.Rule.Slice.PartMut.{put_mid}
@@ -160,12 +160,11 @@ if-none false n is = refl
 pub target-none : (pieces : PieceRange) → pieces.count ≡ 0 → (from all : ℕ) → from + target_of pieces ≡ all → all ≤ from
 target-none pieces none from all is = let no = if-none pieces.is_read (bytes_of pieces pieces.count) (omega (arith, none)) in omega (arith, is, no)
 
-if-read : (b : Bool) (n : ℕ) → IsTrue b → (if b then n else 0) ≡ n
-if-read true n is = refl
-if-read false n is = absurd is
+if-read : (b : Bool) (n : ℕ) → b ≡ true → (if b then n else 0) ≡ n
+if-read b n is = rw is refl
 
 pub target-read : (pieces : PieceRange) (n : ℕ) (reads : Bool) → pieces.is_read ≡ reads → IsTrue reads → target_of (first_of n pieces) ≡ bytes_of pieces n
-target-read pieces n reads same is = if-read pieces.is_read (bytes_of pieces n) (subst (λ (b : Bool). IsTrue b) (sym same) is)
+target-read pieces n reads same is = if-read pieces.is_read (bytes_of pieces n) (same ∙ is)
 
 -- all runs of a range
 abbrev pub all_of : ByteRange → ℕ → Bool → Bool → PieceRange

@@ -31,7 +31,7 @@ module _ {L D : Type 0} (follows : D → List (Done L) → D → Type 0) (stays 
   rests : (writes : List RunWrite) (cause : CallError) (stripe : ℕ) (lane : D) → (stripe ≡ cause.stripe → ⊥) → LaneTries follows (λ own. DoesSomeIn shape reads writes stripe own) cause stripe lane lane
   rests writes cause stripe lane other = record {
     own = [];
-    share = none-some shape reads (writes_in shape stripe writes);
+    share = none-some L shape reads (writes_in shape stripe writes);
     did = inl (tt, record { list = []; leads = stays lane; own_is = refl });
     ends = λ same. absurd (other same);
   }
@@ -123,7 +123,7 @@ module _ {L D : Type 0} (follows : D → List (Done L) → D → Type 0)
 
 module _ {L D : Type 0} (follows : D → List (Done L) → D → Type 0) (stays : (lane : D) → follows lane [] lane) where
   pub all-begins : (shape : Geometry) (pieces : PieceRange) (cuts : List RunWrite) (old : List D) → IsPieceRange shape pieces cuts → AllSoFar follows shape pieces.is_read (filling shape pieces cuts) pieces cuts [] old old
-  all-begins shape pieces cuts old a = record { done = []; all_are = refl; does = record { own = []; does = does-none follows stays old; each = none-done shape pieces.is_read }; rest = a }
+  all-begins shape pieces cuts old a = record { done = []; all_are = refl; does = record { own = []; does = does-none follows stays old; each = none-done L shape pieces.is_read }; rest = a }
 
 module _ {L D : Type 0} (follows : D → List (Done L) → D → Type 0) (shape : Geometry) where
   -- no round is left

@@ -182,7 +182,7 @@ module _ {L D : Type 0} (follows : D → List (Done L) → D → Type 0) (stays 
   work-begins pieces stripe cuts old a = record {
     first = [];
     all_are = refl;
-    did = record { own = []; all = none-done shape pieces.is_read; claimed = tt; does = record { list = []; leads = stays old; own_is = refl } };
+    did = record { own = []; all = none-done L shape pieces.is_read; claimed = tt; does = record { list = []; leads = stays old; own_is = refl } };
     rest = a;
   }
 
@@ -199,10 +199,10 @@ module _ {L D : Type 0} (follows : D → List (Done L) → D → Type 0) (stays 
         each = a.all;
       }
 
-  pub done-one : {A : Type 0} (reads : Bool) (writes : List RunWrite) (target : List ℕ) (stripe : ℕ) (xs : List D) (d u : D) (done : A) → length xs ≡ 1 → LaneDid follows (λ own. Did shape reads writes target stripe own) (get_or xs 0 d) u → EndsWork {A = A} follows shape reads writes stripe (xs, slice_set xs 0 u) target (Ok done)
-  done-one reads writes target stripe [] d u done one a = absurd (omega (arith, one))
-  done-one reads writes target stripe (x ∷ []) d u done one a = λ before after at. done-at reads writes target before x u after (subst (λ (n : ℕ). LaneDid follows (λ own. Did shape reads writes target n own) x u) (sym at) a)
-  done-one reads writes target stripe (x ∷ (y ∷ xs)) d u done one a = absurd (omega (arith, one))
+  pub done-one : (reads : Bool) (writes : List RunWrite) (target : List ℕ) (stripe : ℕ) (xs : List D) (d u : D) → length xs ≡ 1 → LaneDid follows (λ own. Did shape reads writes target stripe own) (get_or xs 0 d) u → EndsWork {A = Unit {0}} follows shape reads writes stripe (xs, slice_set xs 0 u) target (Ok (tt {0}))
+  done-one reads writes target stripe [] d u one a = absurd (omega (arith, one))
+  done-one reads writes target stripe (x ∷ []) d u one a = λ before after at. done-at reads writes target before x u after (subst (λ (n : ℕ). LaneDid follows (λ own. Did shape reads writes target n own) x u) (sym at) a)
+  done-one reads writes target stripe (x ∷ (y ∷ xs)) d u one a = absurd (omega (arith, one))
 
 module _ {L D : Type 0} (follows : D → List (Done L) → D → Type 0) (shape : Geometry) (reads : Bool) (stripe : ℕ) where
   -- no run is left

@@ -28,13 +28,13 @@ in-runs shape stripe (w ∷ writes) = kept (stripe_of w.run.block shape == strip
 abbrev pub DoesAll : {L : Type 0} → Geometry → Bool → List RunWrite → List (MirrorStep L) → Type 0
 DoesAll shape reads writes own = (target : List ℕ) × DoesEach shape reads writes target own
 
-pub none-done : {L : Type 0} (shape : Geometry) (reads : Bool) → DoesEach {L = L} shape reads [] [] []
-none-done shape true = record { each = tt; filled = refl }
-none-done shape false = tt
+pub none-done : (L : Type 0) (shape : Geometry) (reads : Bool) → DoesEach {L = L} shape reads [] [] []
+none-done L shape true = record { each = tt; filled = refl }
+none-done L shape false = tt
 
-pub none-some : {L : Type 0} (shape : Geometry) (reads : Bool) (xs : List RunWrite) → DoesSome {L = L} shape reads xs []
-none-some shape true xs = tt
-none-some shape false xs = tt
+pub none-some : (L : Type 0) (shape : Geometry) (reads : Bool) (xs : List RunWrite) → DoesSome {L = L} shape reads xs []
+none-some L shape true xs = tt
+none-some L shape false xs = tt
 
 pub some-right : {L : Type 0} (shape : Geometry) (reads : Bool) (xs ys : List RunWrite) (own : List (MirrorStep L)) → DoesSome shape reads xs own → DoesSome shape reads (xs ++ ys) own
 some-right shape true xs ys own a = rw (written-append xs ys) (get.some-right shape (runs_written xs) (runs_written ys) own a)

@@ -1,7 +1,7 @@
 -- What came of both halves.
 use Rattle.std.proofs.Common.{rules, arith, ◌≡◌, ◌+◌, ◌-◌, ◌/◌, ◌<◌, ◌∙◌, Bool, length, length-append, sym, ap, subst}
 use Rattle.nm_lanes.specs.declared.region_range.RegionRange.{RegionRange}
-use Rattle.nm_lanes.specs.Fillings.{filling}
+use Rattle.nm_lanes.specs.Fillings.{filling, target_of}
 use Rattle.nm_lanes.specs.Works.{DoesLanes}
 use Rattle.nm_lanes.proofs.RegionLemmas.{range-apart, half-fits, halved, targets-halved}
 use Rattle.nm_lanes.proofs.WorkRoundLemmas.{work-halves}
@@ -80,12 +80,14 @@ do_round-do_halves-requires-clause-targets g t c =
     let less : lanes / 2 < lanes = search rules in
     let both = targets-halved shape lanes (lanes / 2) c.args.regions c.halves.result.0 c.halves.result.1 c.requires.regions some less c.halves.ensures.lower c.halves.ensures.upper in
     let split : length c.args.into.now ≡ length near.result.0.now + length near.result.1.now = ap (λ bs. length bs) near.ensures.value ∙ length-append near.result.0.now near.result.1.now in
-    let own = near.ensures.front_len ∙ c.target_of.ensures in
-    (own, omega (arith, both, split, own, c.requires.target))
+    let own : length near.result.0.now ≡ target_of c.halves.result.0.pieces = near.ensures.front_len ∙ c.target_of.ensures in
+    let rest : length near.result.1.now ≡ target_of c.halves.result.1.pieces = omega (arith, both, split, own, c.requires.target) in
+    search (rules, own, rest)
 
 pub do_round-do_halves-requires-clause-read : goal.do_round-do_halves-requires-clause-read
 do_round-do_halves-requires-clause-read g t c =
-    ap (λ (r : RegionRange). r.pieces.is_read) c.halves.ensures.upper ∙ sym (ap (λ (r : RegionRange). r.pieces.is_read) c.halves.ensures.lower)
+    let same : c.halves.result.1.pieces.is_read ≡ c.halves.result.0.pieces.is_read = ap (λ (r : RegionRange). r.pieces.is_read) c.halves.ensures.upper ∙ sym (ap (λ (r : RegionRange). r.pieces.is_read) c.halves.ensures.lower) in
+    search (rules, same)
 
 pub do_round-returns : goal.do_round-returns
 do_round-returns g t c =

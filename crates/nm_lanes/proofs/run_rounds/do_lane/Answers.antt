@@ -59,8 +59,8 @@ loop-left-preserved g c =
     let from = loop.from in
     let into = loop.into in
     let last = c.do_one.new.into in
-    let more = c.target_of-to.result in
-    let target : more ≡ target_of (first_of blocks loop.left) = c.target_of-to.ensures ∙ ap (λ (p : PieceRange). target_of p) c.first_of.ensures in
+    let more = c.target_of.result in
+    let target : more ≡ target_of (first_of blocks loop.left) = c.target_of.ensures ∙ ap (λ (p : PieceRange). target_of p) c.first_of.ensures in
     let both = targets-add loop.left blocks first.most in
     let fits : from + more ≤ length into = omega (arith, target, both, loop.invariant.target) in
     let low : from ≤ length into = omega (arith, fits) in
@@ -110,9 +110,9 @@ pub overflow_add-to : goal.overflow_add-to
 overflow_add-to g c =
     let loop = c.loop-left in
     let blocks = c.take-write.result.1 in
-    let target : c.target_of-to.result ≡ target_of (first_of blocks loop.left) = c.target_of-to.ensures ∙ ap (λ (p : PieceRange). target_of p) c.first_of.ensures in
+    let target : c.target_of.result ≡ target_of (first_of blocks loop.left) = c.target_of.ensures ∙ ap (λ (p : PieceRange). target_of p) c.first_of.ensures in
     let both = targets-add loop.left blocks c.take-write.ensures.first.most in
-    let fits : loop.from + c.target_of-to.result ≤ length loop.into = omega (arith, target, both, loop.invariant.target) in
+    let fits : loop.from + c.target_of.result ≤ length loop.into = omega (arith, target, both, loop.invariant.target) in
     search (rules, fits)
 
 pub do_one-requires-clause-long : goal.do_one-requires-clause-long
@@ -120,8 +120,8 @@ do_one-requires-clause-long g c = λ is.
     let loop = c.loop-left in
     let blocks = c.take-write.result.1 in
     let first = c.take-write.ensures.first in
-    let target : c.target_of-to.result ≡ target_of (first_of blocks loop.left) = c.target_of-to.ensures ∙ ap (λ (p : PieceRange). target_of p) c.first_of.ensures in
+    let target : c.target_of.result ≡ target_of (first_of blocks loop.left) = c.target_of.ensures ∙ ap (λ (p : PieceRange). target_of p) c.first_of.ensures in
     let both = targets-add loop.left blocks first.most in
-    let fits : loop.from + c.target_of-to.result ≤ length loop.into = omega (arith, target, both, loop.invariant.target) in
-    let long : c.target_of-to.result ≡ c.take-write.result.0.run.len = target ∙ target-read loop.left blocks c.args.regions.pieces.is_read loop.invariant.read is ∙ sym first.bytes in
+    let fits : loop.from + c.target_of.result ≤ length loop.into = omega (arith, target, both, loop.invariant.target) in
+    let long : c.target_of.result ≡ c.take-write.result.0.run.len = target ∙ target-read loop.left blocks c.args.regions.pieces.is_read loop.invariant.read is ∙ sym first.bytes in
     search (rules, fits, long)

@@ -24,7 +24,7 @@ returns-in-Ok g c =
     record {
       does = record {
         each = each-one (λ stripe before after. LaneDid g.D.Lane.follows (λ own. DoesSomeIn shape reads writes stripe own) before after) regions.stripe lanes any new c.requires.one (did-some g.D.Lane.follows shape reads regions.stripe writes into (get_or lanes 0 any) new own c.in-Ok.ensures.ok);
-        all = done-one g.D.Lane.follows g.met.D.Lane.stays shape reads writes into regions.stripe lanes any new tt c.requires.one c.in-Ok.ensures.ok;
+        all = done-one g.D.Lane.follows g.met.D.Lane.stays shape reads writes into regions.stripe lanes any new c.requires.one c.in-Ok.ensures.ok;
       };
     }
 
