@@ -19,10 +19,10 @@ pub mod PieceRangeLemmas
 pub mod LawLemmas
 pub mod RegionLemmas
 pub mod GetListLemmas
-pub mod WorkListLemmas
-pub mod WorkLaneLemmas
-pub mod WorkRoundLemmas
-pub mod WorkAllLemmas
+pub mod RunListLemmas
+pub mod RunLaneLemmas
+pub mod RunRoundLemmas
+pub mod RunAllLemmas
 pub mod Moving
 pub mod Weaving
 pub mod Wholes

@@ -17,7 +17,7 @@ pub mod Fillings
 pub mod RegionRanges
 pub mod WriteFault
 pub mod Writes
-pub mod Works
+pub mod RunRounds
 pub mod Flushes
 pub mod Syncs
 pub mod Moved

@@ -5,8 +5,8 @@ ghost use Rattle.nm_lanes.specs.Ends.{LaneDid, LaneTries};
 ghost use Rattle.nm_lanes.specs.Fillings.{filling, target_of, IsPieceRange};
 ghost use Rattle.nm_lanes.specs.Lists.{steps_in};
 ghost use Rattle.nm_lanes.specs.RegionRanges.{IsRegionRange};
-ghost use Rattle.nm_lanes.specs.Works.{DoesEach, DoesLanes, DoesNext, DoesSome};
-ghost use Rattle.nm_lanes.specs.Works.{HasDone, HasDoneSome};
+ghost use Rattle.nm_lanes.specs.RunRounds.{DoesEach, DoesLanes, DoesNext, DoesSome};
+ghost use Rattle.nm_lanes.specs.RunRounds.{HasDone, HasDoneSome};
 
 use crate::call::{Call, within_bounds};
 use crate::call_error::CallError;

@@ -3,10 +3,11 @@ use Rattle.std.proofs.Common.{rules, [], true, ◌≡◌, ◌<◌, ◌^◌, ◌�
 use Rattle.nm_geometry.specs.declared.byte_range.ByteRange.{ByteRange}
 use Rattle.nm_geometry.specs.Pieces.{LiesInside, end_of}
 use Rattle.nm_lanes.specs.Cuts.{zeroes_for}
+use Rattle.nm_lanes.specs.Fillings.{target_of}
 use Rattle.nm_lanes.specs.PieceRanges.{runs_in_pieces}
 use Rattle.nm_lanes.specs.Runs.{runs_of_range}
 use Rattle.nm_lanes.proofs.PieceRangeLemmas.{all_of, all-runs, all-target, zeroes-piece_range, zeroes-runs}
-use Rattle.nm_lanes.proofs.WorkAllLemmas.{has-read, has-read-some}
+use Rattle.nm_lanes.proofs.RunAllLemmas.{has-read, has-read-some}
 use Rattle.nm_lanes.proofs.reading.read_by.Goals as goal
 
 pub do_all-read-requires-clause-pieces : goal.do_all-read-requires-clause-pieces
@@ -21,7 +22,8 @@ pub do_all-read-requires-clause-target : goal.do_all-read-requires-clause-target
 do_all-read-requires-clause-target g c =
     let range = c.range_inside-range.result in
     let long : length c.args.into.now ≡ range.length = search rules in
-    long ∙ sym (all-target range c.pieces.result c.pieces.ensures.pieces)
+    let all : length c.args.into.now ≡ target_of (all_of range c.pieces.result true true) = long ∙ sym (all-target range c.pieces.result c.pieces.ensures.pieces) in
+    search (rules, all)
 
 pub returns-in-Ok-clause-ok : goal.returns-in-Ok-clause-ok
 returns-in-Ok-clause-ok g c =

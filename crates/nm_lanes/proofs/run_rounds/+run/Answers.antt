@@ -2,9 +2,9 @@
 use Rattle.std.proofs.Common.{rules, arith, ◌≡◌, ◌+◌, ◌-◌, ◌/◌, ◌<◌, ◌∙◌, Bool, length, length-append, sym, ap, subst}
 use Rattle.nm_lanes.specs.declared.region_range.RegionRange.{RegionRange}
 use Rattle.nm_lanes.specs.Fillings.{filling, target_of}
-use Rattle.nm_lanes.specs.Works.{DoesLanes}
+use Rattle.nm_lanes.specs.RunRounds.{DoesLanes}
 use Rattle.nm_lanes.proofs.RegionLemmas.{range-apart, half-fits, halved, targets-halved}
-use Rattle.nm_lanes.proofs.WorkRoundLemmas.{work-halves}
+use Rattle.nm_lanes.proofs.RunRoundLemmas.{run-halves}
 use Rattle.nm_lanes.proofs.run_rounds.+run.Goals as goal
 
 pub do_halves-returns : goal.do_halves-returns
@@ -17,7 +17,7 @@ do_halves-returns g t c =
     let lower : DoesLanes g.D.Lane.follows shape c.args.low.pieces.is_read low c.args.low.stripe (c.args.front.now, c.front-1.given.0) c.near-1.given.0 ran.lower = search (rules, ran.low) in
     let other : DoesLanes g.D.Lane.follows shape c.args.high.pieces.is_read high c.args.high.stripe (c.args.back.now, c.back-1.given.0) c.far-1.given.0 ran.upper = search (rules, ran.high) in
     let upper = subst (λ (r : Bool). DoesLanes g.D.Lane.follows shape r high c.args.high.stripe (c.args.back.now, c.back-1.given.0) c.far-1.given.0 ran.upper) c.requires.read other in
-    let both = work-halves g.D.Lane.follows laws.joins shape c.args.low.pieces.is_read low high c.args.low.stripe c.args.high.stripe c.args.front.now c.front-1.given.0 c.args.back.now c.back-1.given.0 c.near-1.given.0 c.far-1.given.0 ran.lower ran.upper c.requires.next
+    let both = run-halves g.D.Lane.follows laws.joins shape c.args.low.pieces.is_read low high c.args.low.stripe c.args.high.stripe c.args.front.now c.front-1.given.0 c.args.back.now c.back-1.given.0 c.near-1.given.0 c.far-1.given.0 ran.lower ran.upper c.requires.next
     (λ stripe from. range-apart shape (length c.args.front.now) c.args.low c.args.own.now stripe c.within_bounds.ensures c.requires.low.0 c.requires.low.1 from) lower upper in
     record { does = rw ran.told both }
 

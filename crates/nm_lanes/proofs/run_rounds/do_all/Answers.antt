@@ -6,9 +6,9 @@ use Rattle.nm_lanes.specs.declared.piece_range.PieceRange.{PieceRange}
 use Rattle.nm_lanes.specs.declared.run_write.RunWrite.{RunWrite}
 use Rattle.nm_lanes.specs.Fillings.{cuts_of, filling, target_of}
 use Rattle.nm_lanes.specs.PieceRanges.{first_of}
-use Rattle.nm_lanes.specs.Works.{DoesNext, HasDoneSome}
+use Rattle.nm_lanes.specs.RunRounds.{DoesNext, HasDoneSome}
 use Rattle.nm_lanes.proofs.PieceRangeLemmas.{cuts-fit, parts, rest-written, target-none, targets-add}
-use Rattle.nm_lanes.proofs.WorkAllLemmas.{all-begins, all-done, all-more, all-ended, taken-more}
+use Rattle.nm_lanes.proofs.RunAllLemmas.{all-begins, all-done, all-more, all-ended, taken-more}
 use Rattle.nm_lanes.proofs.run_rounds.do_all.Goals as goal
 
 pub loop-left-init : goal.loop-left-init

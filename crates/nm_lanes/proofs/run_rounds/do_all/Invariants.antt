@@ -1,7 +1,7 @@
 -- The rounds before this one are done.
 use Rattle.std.proofs.Common.{◌≡◌, ◌+◌, ◌≤◌, length, take, drop}
 use Rattle.nm_lanes.specs.Fillings.{filling, target_of}
-use Rattle.nm_lanes.proofs.WorkAllLemmas.{AllSoFar}
+use Rattle.nm_lanes.proofs.RunAllLemmas.{AllSoFar}
 use Rattle.nm_lanes.proofs.run_rounds.do_all.Given as goal
 
 abbrev pub invariant-loop-left : goal.invariant-loop-left

@@ -10,12 +10,12 @@ use Rattle.nm_lanes.specs.Fillings.{filling, target_of}
 use Rattle.nm_lanes.specs.PieceRanges.{block_of, first_of}
 use Rattle.nm_lanes.proofs.PieceRangeLemmas.{target-none, target-read, targets-add}
 use Rattle.nm_lanes.proofs.RegionLemmas.{one-stripe}
-use Rattle.nm_lanes.proofs.WorkLaneLemmas.{DidSome, handed-on, work-begins, work-leaves, work-more, work-stops, work-ends}
+use Rattle.nm_lanes.proofs.RunLaneLemmas.{DidSome, handed-on, run-begins, run-leaves, run-more, run-stops, run-ends}
 use Rattle.nm_lanes.proofs.run_rounds.do_lane.Goals as goal
 
 pub loop-left-init : goal.loop-left-init
 loop-left-init g c = record {
-  far = work-begins g.D.Lane.follows g.met.D.Lane.stays c.args.call.now.shape.now c.args.regions.pieces c.args.regions.stripe c.args.cuts.now c.args.lane.now c.requires.pieces;
+  far = run-begins g.D.Lane.follows g.met.D.Lane.stays c.args.call.now.shape.now c.args.regions.pieces c.args.regions.stripe c.args.cuts.now c.args.lane.now c.requires.pieces;
   read = refl;
   target = omega (arith, c.requires.target);
   long = refl;
@@ -39,7 +39,7 @@ returns-in_err-do_one-clause-err g c =
     let here : block_of loop.left + 0 ≡ write.run.block = omega (arith, first.block) in
     let next : loop.block + 0 ≡ loop.block = omega arith in
     let block : loop.block ≡ block_in_stripe write.run.block shape = sym next ∙ loop.invariant.follow 0 some ∙ ap (λ b. block_in_stripe b shape) here in
-    let tries = work-stops g.D.Lane.follows g.met.D.Lane.joins shape c.args.regions.stripe reads all loop.left _ _ write c.take-write.result.1 loop.block c.in_err-do_one.field-0.0 (take loop.from loop.into) c.args.lane.now loop.lane c.do_one.new.lane
+    let tries = run-stops g.D.Lane.follows g.met.D.Lane.joins shape c.args.regions.stripe reads all loop.left _ _ write c.take-write.result.1 loop.block c.in_err-do_one.field-0.0 (take loop.from loop.into) c.args.lane.now loop.lane c.do_one.new.lane
     c.take-write.ensures in_stripe block loop.invariant.far c.in_err-do_one.ensures.err in
     handed-on c.from_residual.result c.in_err-do_one.field-0.0 (λ kind. LaneTries g.D.Lane.follows (λ own. DidSome shape reads all c.args.regions.stripe own) (record { stripe = c.args.regions.stripe; kind = kind }) c.args.regions.stripe c.args.lane.now c.do_one.new.lane)
     c.from_residual.ensures.1 tries
@@ -69,7 +69,7 @@ loop-left-preserved g c =
     let joined : take (from + more) written ≡ take from into ++ last = take-put_mid from (from + more - from) into last (from + more) (omega (arith, long)) low in
     let same : length written ≡ length into = search (rules, fits) in
     rw c.rest_of-left.ensures (record {
-      far = work-more g.D.Lane.follows g.met.D.Lane.joins shape c.args.regions.stripe c.args.regions.pieces.is_read (filling shape c.args.regions.pieces c.args.cuts.now) loop.left _ _ write blocks loop.block (take from into) last (take (from + more) written) c.args.lane.now loop.lane c.do_one.new.lane
+      far = run-more g.D.Lane.follows g.met.D.Lane.joins shape c.args.regions.stripe c.args.regions.pieces.is_read (filling shape c.args.regions.pieces c.args.cuts.now) loop.left _ _ write blocks loop.block (take from into) last (take (from + more) written) c.args.lane.now loop.lane c.do_one.new.lane
           c.take-write.ensures in_stripe block joined loop.invariant.far c.in_ok-do_one.ensures.ok;
       read = loop.invariant.read;
       target = omega (arith, same, target, both, loop.invariant.target);
@@ -91,7 +91,7 @@ returns-clause-ok g c =
     let loop = c.loop-left in
     let none : loop.left.count ≡ 0 = search rules in
     let over : length loop.into ≤ loop.from = target-none loop.left none loop.from (length loop.into) loop.invariant.target in
-    work-ends g.D.Lane.follows shape c.args.regions.pieces.is_read c.args.regions.stripe (filling shape c.args.regions.pieces c.args.cuts.now) loop.left _ (take loop.from loop.into) loop.into c.args.lane.now loop.lane none (sym (take_all loop.from loop.into over)) loop.invariant.far
+    run-ends g.D.Lane.follows shape c.args.regions.pieces.is_read c.args.regions.stripe (filling shape c.args.regions.pieces c.args.cuts.now) loop.left _ (take loop.from loop.into) loop.into c.args.lane.now loop.lane none (sym (take_all loop.from loop.into over)) loop.invariant.far
 
 pub returns-then-gives_up-clause-err : goal.returns-then-gives_up-clause-err
 returns-then-gives_up-clause-err g c =
@@ -102,7 +102,7 @@ returns-then-gives_up-clause-err g c =
     let some : 0 < loop.left.count = c.loop-left-test.true in
     let in_stripe = one-stripe shape c.args.regions write.run.block c.within_bounds.ensures c.requires.regions (omega (arith, first.block, loop.invariant.begins)) (omega (arith, first.block, some, loop.invariant.ends)) in
     let gone = c.gives_up.ensures (search rules) in
-    work-leaves g.D.Lane.follows g.met.D.Lane.joins shape c.args.regions.stripe c.args.regions.pieces.is_read (filling shape c.args.regions.pieces c.args.cuts.now) loop.left _ _ write c.take-write.result.1 (take loop.from loop.into) c.args.lane.now loop.lane
+    run-leaves g.D.Lane.follows g.met.D.Lane.joins shape c.args.regions.stripe c.args.regions.pieces.is_read (filling shape c.args.regions.pieces c.args.cuts.now) loop.left _ _ write c.take-write.result.1 (take loop.from loop.into) c.args.lane.now loop.lane
     c.take-write.ensures gone.0 (sym loop.invariant.read ∙ gone.1) in_stripe loop.invariant.far
 
 -- the bytes that a run has in the target

@@ -3,7 +3,7 @@ use Rattle.std.proofs.Common.{◌≡◌, ℕ, ◌+◌, ◌≤◌, ◌<◌, lengt
 use Rattle.nm_geometry.specs.Geometry.{block_in_stripe}
 use Rattle.nm_lanes.specs.Fillings.{filling, target_of}
 use Rattle.nm_lanes.specs.PieceRanges.{block_of}
-use Rattle.nm_lanes.proofs.WorkLaneLemmas.{SoFar}
+use Rattle.nm_lanes.proofs.RunLaneLemmas.{SoFar}
 use Rattle.nm_lanes.proofs.run_rounds.do_lane.Given as goal
 
 abbrev pub invariant-loop-left : goal.invariant-loop-left

@@ -3,10 +3,10 @@ use Rattle.std.proofs.Common.{get_or, arith, subst}
 use Rattle.nm_lanes.specs.Ends.{LaneDid, LaneTries}
 use Rattle.nm_lanes.specs.Fillings.{filling}
 use Rattle.nm_lanes.specs.RegionRanges.{IsRegionRange}
-use Rattle.nm_lanes.specs.Works.{DoesSomeIn}
+use Rattle.nm_lanes.specs.RunRounds.{DoesSomeIn}
 use Rattle.nm_lanes.proofs.EachLemmas.{each-one}
 use Rattle.nm_lanes.proofs.RegionLemmas.{range-one, range-lies}
-use Rattle.nm_lanes.proofs.WorkLaneLemmas.{did-some, done-one, tries-some}
+use Rattle.nm_lanes.proofs.RunLaneLemmas.{did-some, done-one, tries-some}
 use Rattle.nm_lanes.proofs.run_rounds.do_stripe.Goals as goal
 
 pub returns-in-Ok : goal.returns-in-Ok

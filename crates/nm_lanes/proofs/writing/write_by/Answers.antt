@@ -6,7 +6,7 @@ use Rattle.nm_lanes.specs.declared.run.Run.{Run}
 use Rattle.nm_lanes.specs.Cuts.{cuts_for}
 use Rattle.nm_lanes.specs.Runs.{runs_of_range}
 use Rattle.nm_lanes.proofs.PieceRangeLemmas.{all-runs, cuts-piece_range}
-use Rattle.nm_lanes.proofs.WorkAllLemmas.{has-written, has-written-some}
+use Rattle.nm_lanes.proofs.RunAllLemmas.{has-written, has-written-some}
 use Rattle.nm_lanes.proofs.writing.write_by.Goals as goal
 
 pub do_all-written-requires-clause-pieces : goal.do_all-written-requires-clause-pieces
@@ -17,15 +17,15 @@ do_all-written-requires-clause-pieces g c =
     let all = cuts-piece_range c.args.shape.now range c.pieces.result c.in-Ok.writes.items c.args.payload inside end c.pieces.ensures.pieces c.in-Ok.ensures.cuts in
     search (rules, all)
 
-pub returns-in-Ok-clause-ok : goal.returns-in-Ok-clause-ok
-returns-in-Ok-clause-ok g c =
+pub returns-in-Ok-written-clause-ok : goal.returns-in-Ok-written-clause-ok
+returns-in-Ok-written-clause-ok g c =
     let shape = c.args.shape.now in
     let range = c.range_inside-range.result in
     let runs = all-runs shape range c.pieces.result false false c.pieces.ensures.pieces ∙ ap (λ (r : ByteRange). runs_of_range shape r) c.range_inside-range.ensures.range in
-    has-written g.D.Lane.follows shape _ _ (c.args.lanes.now, c.do_all-written.new.lanes) _ (c.in-Ok.ensures.cuts ∙ ap (λ (rs : List Run). cuts_for rs c.args.payload) runs) c.in-Ok-2.ensures.ok
+    has-written g.D.Lane.follows shape _ _ (c.args.lanes.now, c.do_all-written.new.lanes) _ (c.in-Ok.ensures.cuts ∙ ap (λ (rs : List Run). cuts_for rs c.args.payload) runs) c.in-Ok-written.ensures.ok
 
-pub returns-in-Err-clause-err : goal.returns-in-Err-clause-err
-returns-in-Err-clause-err g c =
+pub returns-clause-err : goal.returns-clause-err
+returns-clause-err g c =
     let shape = c.args.shape.now in
     let range = c.range_inside-range.result in
     let runs = all-runs shape range c.pieces.result false false c.pieces.ensures.pieces ∙ ap (λ (r : ByteRange). runs_of_range shape r) c.range_inside-range.ensures.range in

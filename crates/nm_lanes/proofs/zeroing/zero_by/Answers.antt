@@ -6,7 +6,7 @@ use Rattle.nm_lanes.specs.declared.run.Run.{Run}
 use Rattle.nm_lanes.specs.Cuts.{zeroes_for}
 use Rattle.nm_lanes.specs.Runs.{runs_of_range}
 use Rattle.nm_lanes.proofs.PieceRangeLemmas.{all-runs, zeroes-piece_range}
-use Rattle.nm_lanes.proofs.WorkAllLemmas.{has-written, has-written-some}
+use Rattle.nm_lanes.proofs.RunAllLemmas.{has-written, has-written-some}
 use Rattle.nm_lanes.proofs.zeroing.zero_by.Goals as goal
 
 pub do_all-zeroed-requires-clause-pieces : goal.do_all-zeroed-requires-clause-pieces

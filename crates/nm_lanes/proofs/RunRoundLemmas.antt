@@ -9,14 +9,14 @@ use Rattle.nm_lanes.specs.Ends.{LaneDid}
 use Rattle.nm_lanes.specs.Halves.{first_cause}
 use Rattle.nm_lanes.specs.Lists.{steps_in}
 use Rattle.nm_lanes.specs.Rounds.{RunsLanes}
-use Rattle.nm_lanes.specs.Works.{DoesLanes, DoesSomeIn, EndsWork, HasDone}
+use Rattle.nm_lanes.specs.RunRounds.{DoesLanes, DoesSomeIn, EndsRuns, HasDone}
 use Rattle.nm_lanes.specs.Writes.{writes_in}
 use Rattle.nm_lanes.proofs.EachLemmas.{each-long}
 use Rattle.nm_lanes.proofs.LiftLemmas.{does-append}
 use Rattle.nm_lanes.proofs.PutListLemmas.{writes_in-append, lies-left, lies-right}
 use Rattle.nm_lanes.proofs.RoundLemmas.{both-halves}
 use Rattle.nm_lanes.proofs.ShareLemmas.{runs-share}
-use Rattle.nm_lanes.proofs.WorkListLemmas.{some-right, each-append}
+use Rattle.nm_lanes.proofs.RunListLemmas.{some-right, each-append}
 
 module _ {L : Type 0} (shape : Geometry) (reads : Bool) where
   -- some of the first runs of a stripe, or some of the others where the first are none of its own
@@ -39,7 +39,7 @@ module _ {L D : Type 0} (follows : D → List (Done L) → D → Type 0)
 
   -- both halves went through, or the lower did
   ends-both : {A : Type 0} (low high : List RunWrite) (first : ℕ) (xs us ys vs : List D) (front back : List ℕ) (done : A) (upper : Result A CallError) → length us ≡ length xs
-      → EndsWork {A = A} follows shape reads low first (xs, us) front (Ok done) → EndsWork follows shape reads high (first + length xs) (ys, vs) back upper → EndsWork follows shape reads (low ++ high) first (xs ++ ys, us ++ vs) (front ++ back) upper
+      → EndsRuns {A = A} follows shape reads low first (xs, us) front (Ok done) → EndsRuns follows shape reads high (first + length xs) (ys, vs) back upper → EndsRuns follows shape reads (low ++ high) first (xs ++ ys, us ++ vs) (front ++ back) upper
   ends-both low high first xs us ys vs front back done (Ok too) same a b = λ before after at.
       let long = length-append before us in
       let one : HasDone follows shape reads low (before ++ (xs ++ (ys ++ after)), before ++ (us ++ (ys ++ after))) front = a before (ys ++ after) at in
@@ -53,17 +53,17 @@ module _ {L D : Type 0} (follows : D → List (Done L) → D → Type 0)
 
   ends-halves : {A : Type 0} (low high : List RunWrite) (first : ℕ) (xs us ys vs : List D) (front back : List ℕ) (lower upper : Result A CallError)
       → RunsLanes follows (λ stripe own. DoesSomeIn shape reads low stripe own) (λ stripe own. DoesSomeIn shape reads low stripe own) first (xs, us) lower
-      → EndsWork follows shape reads low first (xs, us) front lower → EndsWork follows shape reads high (first + length xs) (ys, vs) back upper → EndsWork follows shape reads (low ++ high) first (xs ++ ys, us ++ vs) (front ++ back) (first_cause lower upper)
+      → EndsRuns follows shape reads low first (xs, us) front lower → EndsRuns follows shape reads high (first + length xs) (ys, vs) back upper → EndsRuns follows shape reads (low ++ high) first (xs ++ ys, us ++ vs) (front ++ back) (first_cause lower upper)
   ends-halves low high first xs us ys vs front back (Ok done) upper each a b = ends-both low high first xs us ys vs front back done upper (each-long (λ stripe old new. LaneDid follows (λ own. DoesSomeIn shape reads low stripe own) old new) first xs us each) a b
   ends-halves low high first xs us ys vs front back (Err cause) upper each a b = lies-left shape low high cause.stripe a
 
   -- two halves, of which the second has no run in a stripe of the first
-  pub work-halves : {A : Type 0} (low high : List RunWrite) (first next : ℕ) (xs us ys vs : List D) (front back : List ℕ) (lower upper : Result A CallError) → next ≡ first + length xs
+  pub run-halves : {A : Type 0} (low high : List RunWrite) (first next : ℕ) (xs us ys vs : List D) (front back : List ℕ) (lower upper : Result A CallError) → next ≡ first + length xs
       → ((stripe : ℕ) → first + length xs ≤ stripe → writes_in shape stripe low ≡ [])
       → DoesLanes follows shape reads low first (xs, us) front lower → DoesLanes follows shape reads high next (ys, vs) back upper → DoesLanes follows shape reads (low ++ high) first (xs ++ ys, us ++ vs) (front ++ back) (first_cause lower upper)
-  work-halves low high first next xs us ys vs front back lower upper at apart a b = record {
+  run-halves low high first next xs us ys vs front back lower upper at apart a b = record {
     each = both-halves follows (λ stripe own. DoesSomeIn shape reads (low ++ high) stripe own) (λ stripe own. DoesSomeIn shape reads (low ++ high) stripe own) (λ stripe own all. all) first next xs us ys vs lower upper at
         (runs-share follows (λ stripe own. DoesSomeIn shape reads low stripe own) (λ stripe own. DoesSomeIn shape reads (low ++ high) stripe own) first xs us lower (λ stripe from own some. some-low shape reads low high stripe own some) a.each)
         (runs-share follows (λ stripe own. DoesSomeIn shape reads high stripe own) (λ stripe own. DoesSomeIn shape reads (low ++ high) stripe own) next ys vs upper (λ stripe from own some. some-high shape reads low high stripe own (apart stripe (omega (arith, at, from))) some) b.each);
-    all = ends-halves low high first xs us ys vs front back lower upper a.each a.all (subst (λ (n : ℕ). EndsWork follows shape reads high n (ys, vs) back upper) at b.all);
+    all = ends-halves low high first xs us ys vs front back lower upper a.each a.all (subst (λ (n : ℕ). EndsRuns follows shape reads high n (ys, vs) back upper) at b.all);
   }

@@ -25,14 +25,14 @@ use Rattle.nm_lanes.specs.PieceRanges.{rest_of, runs_in_pieces}
 use Rattle.nm_lanes.specs.Reads.{IsValue, run_bytes}
 use Rattle.nm_lanes.specs.Runs.{is_whole}
 use Rattle.nm_lanes.specs.Steps.{IsWritten, Nobodys, Only}
-use Rattle.nm_lanes.specs.Works.{DoesEach, DoesOne, DoesSome, DoesSomeIn, EndsWork, HasDone, OneStops}
+use Rattle.nm_lanes.specs.RunRounds.{DoesEach, DoesOne, DoesSome, DoesSomeIn, EndsRuns, HasDone, OneStops}
 use Rattle.nm_lanes.specs.Writes.{writes_in}
 use Rattle.nm_lanes.proofs.ClaimedLemmas.{claimed-append, not-begun}
 use Rattle.nm_lanes.proofs.LaneLemmas.{does-does, does-stops, stops-more}
 use Rattle.nm_lanes.proofs.LiftLemmas.{does-lane, in-append}
 use Rattle.nm_lanes.proofs.PieceRangeLemmas.{filling-none}
 use Rattle.nm_lanes.proofs.ShareLemmas.{tries-share}
-use Rattle.nm_lanes.proofs.WorkListLemmas.{each-append, each-some, none-done, none-some, some-append}
+use Rattle.nm_lanes.proofs.RunListLemmas.{each-append, each-some, none-done, none-some, some-append}
 
 -- the own steps of a stripe that did these runs
 abbrev pub Did : {L : Type 0} → Geometry → Bool → List RunWrite → List ℕ → ℕ → List (Done L) → Type 0
@@ -116,10 +116,10 @@ module _ {L D : Type 0} (follows : D → List (Done L) → D → Type 0)
   }
 
   -- one run more
-  pub work-more : (reads : Bool) (all : List RunWrite) (left : PieceRange) (cuts next : List RunWrite) (write : RunWrite) (blocks block : ℕ) (found last both : List ℕ) (old mid new : D)
+  pub run-more : (reads : Bool) (all : List RunWrite) (left : PieceRange) (cuts next : List RunWrite) (write : RunWrite) (blocks block : ℕ) (found last both : List ℕ) (old mid new : D)
       → TakesRun shape left cuts next write blocks → stripe ≡ stripe_of write.run.block shape → block ≡ block_in_stripe write.run.block shape → both ≡ found ++ last
       → SoFar follows shape reads stripe all left cuts found old mid → DoesOne follows (mid, new) reads block write last → SoFar follows shape reads stripe all (rest_of blocks left) next both old new
-  work-more reads all left cuts next write blocks block found last both old mid new takes in_stripe is joined a b = record {
+  run-more reads all left cuts next write blocks block found last both old mid new takes in_stripe is joined a b = record {
     first = a.first ++ write ∷ [];
     all_are = a.all_are ∙ ap (λ (ws : List RunWrite). a.first ++ ws) takes.taken ∙ sym (append_assoc a.first (write ∷ []) (filling shape (rest_of blocks left) next));
     did = rw joined (did-did reads a.first (write ∷ []) found last old mid new a.did (one-did reads write block last mid new in_stripe is b));
@@ -140,26 +140,26 @@ module _ {L D : Type 0} (follows : D → List (Done L) → D → Type 0)
       let stops = stops-more follows old new (done ++ own) Ours (BeganOwn (done ++ own)) kind began (does-stops follows joins old mid new done own (EndsSo Ours kind) a b) in
       record { own = done ++ own; share = some; did = inr (omega arith, kind, ByStep stops); ends = λ same. ByStep stops }
 
-  pub work-stops : (reads : Bool) (all : List RunWrite) (left : PieceRange) (cuts next : List RunWrite) (write : RunWrite) (blocks block : ℕ) (kind : CallErrorKind) (found : List ℕ) (old mid new : D)
+  pub run-stops : (reads : Bool) (all : List RunWrite) (left : PieceRange) (cuts next : List RunWrite) (write : RunWrite) (blocks block : ℕ) (kind : CallErrorKind) (found : List ℕ) (old mid new : D)
       → TakesRun shape left cuts next write blocks → stripe ≡ stripe_of write.run.block shape → block ≡ block_in_stripe write.run.block shape
       → SoFar follows shape reads stripe all left cuts found old mid → OneStops follows (mid, new) reads block write kind
       → LaneTries follows (λ own. DidSome shape reads all stripe own) (record { stripe = stripe; kind = kind }) stripe old new
-  work-stops true all left cuts next write blocks block kind found old mid new takes in_stripe is a b =
+  run-stops true all left cuts next write blocks block kind found old mid new takes in_stripe is a b =
       stops-so true all kind a.did.own [] Nobodys old mid new (some-more true all left cuts next write blocks found old mid takes a [] tt) (λ ticket none. absurd none) a.did.does b
-  work-stops false all left cuts next write blocks block kind found old mid new takes in_stripe is a (inl b) =
+  run-stops false all left cuts next write blocks block kind found old mid new takes in_stripe is a (inl b) =
       stops-so false all kind a.did.own [] Nobodys old mid new (some-more false all left cuts next write blocks found old mid takes a [] tt) (λ ticket none. absurd none) a.did.does b
-  work-stops false all left cuts next write blocks block kind found old mid new takes in_stripe is a (inr b) =
+  run-stops false all left cuts next write blocks block kind found old mid new takes in_stripe is a (inr b) =
       let begun = done_as (Begin block write.bytes) (Begun b.0) in
       stops-so false all kind a.did.own (begun ∷ []) (Only b.0) old mid new
       (some-more false all left cuts next write blocks found old mid takes a (begun ∷ []) (b.0, record { stripe = in_stripe; step = ap (λ n. Begin n write.bytes) is; begun = refl }))
       (λ ticket same. record { before = a.did.own; last = begun; own_is = refl; begun = ap (λ n. Begun n) (sym same) }) a.did.does b.1
 
   -- the caller is gone before a run of zeroes
-  pub work-leaves : (reads : Bool) (all : List RunWrite) (left : PieceRange) (cuts next : List RunWrite) (write : RunWrite) (blocks : ℕ) (found : List ℕ) (old lane : D)
+  pub run-leaves : (reads : Bool) (all : List RunWrite) (left : PieceRange) (cuts next : List RunWrite) (write : RunWrite) (blocks : ℕ) (found : List ℕ) (old lane : D)
       → TakesRun shape left cuts next write blocks → left.no_payload ≡ true → reads ≡ false → stripe ≡ stripe_of write.run.block shape
       → SoFar follows shape reads stripe all left cuts found old lane → LaneTries follows (λ own. DidSome shape reads all stripe own) (record { stripe = stripe; kind = Gone }) stripe old lane
-  work-leaves true all left cuts next write blocks found old lane takes zeroes not_read in_stripe a = absurd (true≢false not_read)
-  work-leaves false all left cuts next write blocks found old lane takes zeroes not_read in_stripe a =
+  run-leaves true all left cuts next write blocks found old lane takes zeroes not_read in_stripe a = absurd (true≢false not_read)
+  run-leaves false all left cuts next write blocks found old lane takes zeroes not_read in_stripe a =
       let block = block_in_stripe write.run.block shape in
       let begun : Done L = done_as (Begin block write.bytes) (Begun 0) in
       let some = some-more false all left cuts next write blocks found old lane takes a in
@@ -178,8 +178,8 @@ module _ {L D : Type 0} (follows : D → List (Done L) → D → Type 0)
       }
 
 module _ {L D : Type 0} (follows : D → List (Done L) → D → Type 0) (stays : (lane : D) → follows lane [] lane) (shape : Geometry) where
-  pub work-begins : (pieces : PieceRange) (stripe : ℕ) (cuts : List RunWrite) (old : D) → IsPieceRange shape pieces cuts → SoFar follows shape pieces.is_read stripe (filling shape pieces cuts) pieces cuts [] old old
-  work-begins pieces stripe cuts old a = record {
+  pub run-begins : (pieces : PieceRange) (stripe : ℕ) (cuts : List RunWrite) (old : D) → IsPieceRange shape pieces cuts → SoFar follows shape pieces.is_read stripe (filling shape pieces cuts) pieces cuts [] old old
+  run-begins pieces stripe cuts old a = record {
     first = [];
     all_are = refl;
     did = record { own = []; all = none-done L shape pieces.is_read; claimed = tt; does = record { list = []; leads = stays old; own_is = refl } };
@@ -199,15 +199,15 @@ module _ {L D : Type 0} (follows : D → List (Done L) → D → Type 0) (stays 
         each = a.all;
       }
 
-  pub done-one : (reads : Bool) (writes : List RunWrite) (target : List ℕ) (stripe : ℕ) (xs : List D) (d u : D) → length xs ≡ 1 → LaneDid follows (λ own. Did shape reads writes target stripe own) (get_or xs 0 d) u → EndsWork {A = Unit {0}} follows shape reads writes stripe (xs, slice_set xs 0 u) target (Ok (tt {0}))
+  pub done-one : (reads : Bool) (writes : List RunWrite) (target : List ℕ) (stripe : ℕ) (xs : List D) (d u : D) → length xs ≡ 1 → LaneDid follows (λ own. Did shape reads writes target stripe own) (get_or xs 0 d) u → EndsRuns {A = Unit {0}} follows shape reads writes stripe (xs, slice_set xs 0 u) target (Ok (tt {0}))
   done-one reads writes target stripe [] d u one a = absurd (omega (arith, one))
   done-one reads writes target stripe (x ∷ []) d u one a = λ before after at. done-at reads writes target before x u after (subst (λ (n : ℕ). LaneDid follows (λ own. Did shape reads writes target n own) x u) (sym at) a)
   done-one reads writes target stripe (x ∷ (y ∷ xs)) d u one a = absurd (omega (arith, one))
 
 module _ {L D : Type 0} (follows : D → List (Done L) → D → Type 0) (shape : Geometry) (reads : Bool) (stripe : ℕ) where
   -- no run is left
-  pub work-ends : (all : List RunWrite) (left : PieceRange) (cuts : List RunWrite) (found target : List ℕ) (old new : D) → left.count ≡ 0 → target ≡ found → SoFar follows shape reads stripe all left cuts found old new → LaneDid follows (λ own. Did shape reads all target stripe own) old new
-  work-ends all left cuts found target old new none is a =
+  pub run-ends : (all : List RunWrite) (left : PieceRange) (cuts : List RunWrite) (found target : List ℕ) (old new : D) → left.count ≡ 0 → target ≡ found → SoFar follows shape reads stripe all left cuts found old new → LaneDid follows (λ own. Did shape reads all target stripe own) old new
+  run-ends all left cuts found target old new none is a =
       let all_are : all ≡ a.first = a.all_are ∙ ap (λ (ws : List RunWrite). a.first ++ ws) (filling-none shape left cuts none a.rest) ∙ append-nil a.first in
       rw (all_are, is) a.did
 

@@ -1,4 +1,4 @@
--- Runs that are to be written or read by rounds: what came of them on some lanes.
+-- Runs that are written or read by rounds: what came of them on some lanes.
 use Rattle.std.specs.Prelude.{Result, Ok, Err, ◌≡◌, Bool, true, false, ℕ, ◌-◌, ◌<◌, ◌≤◌}
 use Rattle.std.specs.Prelude.{List, [], ◌++◌, length, take, drop}
 use Rattle.nm_geometry.specs.Geometry.{Geometry}
@@ -78,15 +78,15 @@ pub record HasDoneSome {L D : Type 0} (follows : D → List (Done L) → D → T
   pub tried :
       HasTried follows (λ stripe own. DoesSomeIn shape reads writes stripe own) lanes cause
 
--- wherever these lanes stand, of which the first is this stripe's, all runs were done; or the
--- cause's stripe is one of theirs
-abbrev pub EndsWork : {L D A : Type 0} → (D → List (Done L) → D → Type 0) → Geometry → Bool
+-- wherever these lanes stand, of which the first is this stripe's, all runs were read or written;
+-- or the cause's stripe is one of theirs
+abbrev pub EndsRuns : {L D A : Type 0} → (D → List (Done L) → D → Type 0) → Geometry → Bool
     → List RunWrite → ℕ → List D × List D → List ℕ → Result A CallError → Type 0
-EndsWork {L} {D} follows shape reads writes first lanes target (Ok done) =
+EndsRuns {L} {D} follows shape reads writes first lanes target (Ok done) =
     (before after : List D) → length before ≡ first
     → HasDone follows shape reads writes
     (before ++ (lanes.0 ++ after), before ++ (lanes.1 ++ after)) target
-EndsWork follows shape reads writes first lanes target (Err cause) =
+EndsRuns follows shape reads writes first lanes target (Err cause) =
     LiesIn shape writes cause.stripe
 
 -- what came of these runs on these lanes, of which the first is this stripe's: on each of them, and
@@ -97,10 +97,10 @@ pub record DoesLanes {L D A : Type 0} (follows : D → List (Done L) → D → T
   pub each :
       RunsLanes follows (λ stripe own. DoesSomeIn shape reads writes stripe own)
       (λ stripe own. DoesSomeIn shape reads writes stripe own) first lanes result
-  pub all : EndsWork follows shape reads writes first lanes target result
+  pub all : EndsRuns follows shape reads writes first lanes target result
 
--- the runs of a piece range's first blocks were done, of as many as were told, into the front of the
--- target, and the others are left
+-- the runs of a piece range's first blocks were read into the front of the target, or written, of
+-- as many blocks as were told, and the others are left
 pub record DoesNext {L D : Type 0} (follows : D → List (Done L) → D → Type 0)
     (shape : Geometry) (pieces : PieceRange) (cuts : List RunWrite × List RunWrite)
     (lanes : List D × List D) (target : List ℕ) (done : ℕ) : Type 0 where
