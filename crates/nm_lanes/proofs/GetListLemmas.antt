@@ -1,11 +1,10 @@
 -- Lists of reads: those of one stripe, and one list after the other.
-use Rattle.std.proofs.Common.{◌≡◌, inl, inr, ℕ, ◌<◌, ◌≤◌, ◌==◌, Bool, true, false, List, [], ◌∷◌, ◌++◌, length, refl, sym, ap, ◌∙◌, append_assoc, if◌then◌else◌, arith}
+use Rattle.std.proofs.Common.{◌≡◌, inl, inr, ℕ, List, [], ◌∷◌, ◌++◌, refl, sym, ap, ◌∙◌, append_assoc}
 use Rattle.std.proofs.lemmas.Bool.Decides.{eqb_tells}
 use Rattle.nm_lanes.specs.declared.run.Run.{Run}
 use Rattle.nm_geometry.specs.Geometry.{Geometry, stripe_of}
 use Rattle.nm_lanes.specs.Lists.{MirrorStep, stripe_list, steps_in}
-use Rattle.nm_lanes.specs.Reads.{ReadsRun, ReadsEach, ReadsSome, RunIn, bytes_found, run_bytes, runs_in}
-use Rattle.nm_lanes.proofs.RunLemmas.{AllWithin}
+use Rattle.nm_lanes.specs.Reads.{ReadsRun, ReadsEach, ReadsSome, bytes_found, run_bytes, runs_in}
 
 -- some of the first are some of all
 pub some-right : {L : Type 0} (shape : Geometry) (xs ys : List Run) (own : List (MirrorStep L)) → ReadsSome shape xs own → ReadsSome shape (xs ++ ys) own

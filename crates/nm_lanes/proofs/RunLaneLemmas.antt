@@ -32,7 +32,7 @@ use Rattle.nm_lanes.proofs.LaneLemmas.{does-does, does-stops, stops-more}
 use Rattle.nm_lanes.proofs.LiftLemmas.{does-lane, in-append}
 use Rattle.nm_lanes.proofs.PieceRangeLemmas.{filling-none}
 use Rattle.nm_lanes.proofs.ShareLemmas.{tries-share}
-use Rattle.nm_lanes.proofs.RunListLemmas.{each-append, each-some, none-done, none-some, some-append}
+use Rattle.nm_lanes.proofs.RunListLemmas.{each-append, each-some, none-done, some-append}
 
 -- the own steps of a stripe that did these runs
 abbrev pub Did : {L : Type 0} → Geometry → Bool → List RunWrite → List ℕ → ℕ → List (Done L) → Type 0

@@ -8,7 +8,7 @@ use Rattle.nm_lanes.specs.Cuts.{runs_written, zeroes_for}
 use Rattle.nm_lanes.specs.PieceRanges.{block_of, bytes_of, first_of, rest_of, runs_in_pieces}
 use Rattle.nm_lanes.specs.PieceRanges.{IsFirstRun}
 
--- what is to be put into a piece range's runs: zeroes, or the cuts; a read takes only the runs of it
+-- what is to be put into a piece range's runs: zeroes, or the cuts; of a read only the runs count
 abbrev pub filling : Geometry → PieceRange → List RunWrite → List RunWrite
 filling shape pieces cuts =
     if pieces.no_payload then zeroes_for (runs_in_pieces shape pieces) else cuts

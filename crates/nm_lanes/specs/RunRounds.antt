@@ -1,5 +1,5 @@
 -- Runs that are written or read by rounds: what came of them on some lanes.
-use Rattle.std.specs.Prelude.{Result, Ok, Err, ◌≡◌, Bool, true, false, ℕ, ◌-◌, ◌<◌, ◌≤◌}
+use Rattle.std.specs.Prelude.{Result, Ok, Err, ◌≡◌, Bool, true, false, ℕ, ◌<◌, ◌≤◌}
 use Rattle.std.specs.Prelude.{List, [], ◌++◌, length, take, drop}
 use Rattle.nm_geometry.specs.Geometry.{Geometry}
 use Rattle.nm_lanes.specs.declared.call_error.CallError.{CallError}

@@ -225,8 +225,8 @@ fn do_next<
     }
 }
 
-/// Writes all runs of a piece range, or reads them into the target, in rounds. After a round in which
-/// a stripe could not go on comes no other.
+/// Writes all runs of a piece range, or reads them into the target, in rounds. After a round in
+/// which a stripe could not go on comes no other.
 pub(crate) fn do_all<
     L: LegPart + Send,
     K: Sync,

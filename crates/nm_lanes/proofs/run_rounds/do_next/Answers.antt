@@ -6,7 +6,7 @@ use Rattle.nm_lanes.specs.declared.piece_range.PieceRange.{PieceRange}
 use Rattle.nm_lanes.specs.declared.run_write.RunWrite.{RunWrite}
 use Rattle.nm_lanes.specs.Fillings.{cuts_of, filling, target_of, IsPieceRange}
 use Rattle.nm_lanes.specs.PieceRanges.{first_of, rest_of}
-use Rattle.nm_lanes.specs.RunRounds.{HasDone, HasDoneSome}
+use Rattle.nm_lanes.specs.RunRounds.{HasDone}
 use Rattle.nm_lanes.proofs.PieceRangeLemmas.{cuts-fit, filling-split, first-piece_range, parts, rest-piece_range, targets-add}
 use Rattle.nm_lanes.proofs.RunAllLemmas.{round-ended}
 use Rattle.nm_lanes.proofs.run_rounds.do_next.Goals as goal
