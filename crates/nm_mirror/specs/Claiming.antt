@@ -13,10 +13,11 @@ with_left count past = record past {
   landed = sum_of past.landed count;
 }
 
--- what the superblock may say stays, and so does the opening
+-- what the superblock may say stays, and so do the opening and the writes that are to be claimed
 pub record LeavesGate {L : Type 0} (old new : Held L) : Type 0 where
   pub durable : new.gated.durable ≡ old.gated.durable
   pub openings : new.openings ≡ old.openings
+  pub unclaimed : new.unclaimed ≡ old.unclaimed
 
 -- The write of this ticket is claimed, if it is finished, and gone; the stripe's end counts its
 -- entries as ever, among those of writes that were left. If it is not, nothing changes.

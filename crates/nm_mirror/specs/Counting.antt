@@ -20,8 +20,9 @@ abbrev pub part_after_all : {L : Type 0} → List (Done L) → PartState → Par
 part_after_all [] part = part
 part_after_all (done ∷ list) part = part_after_all list (part_after done.answer part)
 
--- The gate of the stripe let the step pass: what the durable superblock may say of it, if there is
--- one, allowed the step there. A push and a read pass no gate.
+-- What some durable superblock may say of the stripe, if there is one, allows the step there. Which
+-- the stripe has is not carried out of the hold: its own gate is asked by the functions that do the
+-- step (`Held::begin`). A push and a read pass no gate.
 abbrev pub IsLetPass : {L : Type 0} → StripeState L → Step L → Type 0
 IsLetPass stripe (Push ticket leg) = Unit {0}
 IsLetPass stripe (Read block room) = Unit {0}

@@ -16,6 +16,10 @@ use Rattle.nm_mirror.specs.declared.stripe_end.Past.{Past}
 abbrev pub sum_of : ℕ → ℕ → ℕ
 sum_of one other = min (one + other) (2 ^ 64 - 1)
 
+-- what the earlier openings have had of a stripe in its first one
+abbrev pub no_past : Past
+no_past = record { total = 0; left = 0; landed = 0 }
+
 -- what the earlier openings of a stripe have had, once one more has ended so
 abbrev pub past_after : EndOf → Past → Past
 past_after end past = record {
@@ -39,7 +43,8 @@ NamesAtMost legs master (Some d) =
 -- The stripe had stopped, and now has these legs at its place: the one that it stopped on is in
 -- sync, each other joins with all of its regions behind, no record of a write is left, and its
 -- first number is the one that was next. What the superblock may say stays, and calls no other leg
--- in sync. The end of what it was is added to those of its earlier openings.
+-- in sync. The end of what it was is added to those of its earlier openings, and no write of it is
+-- to be claimed any more.
 pub record Reopens {L : Type 0} (place : At) (legs : List L) (policy : Policy) (old new : Held L)
     : Type 0 where
   pub stopped : old.gated.stripe.stopped ≡ true
@@ -51,3 +56,4 @@ pub record Reopens {L : Type 0} (place : At) (legs : List L) (policy : Policy) (
   pub durable : new.gated.durable ≡ old.gated.durable
   pub past : new.past ≡ past_after (end_of old.gated.stripe) old.past
   pub openings : new.openings ≡ sum_of old.openings 1
+  pub unclaimed : new.unclaimed.count ≡ 0

@@ -1,6 +1,6 @@
 //! What is asked of a stripe's gate before a step.
-ghost use Rattle.std.specs.Prelude.{IfNone};
-ghost use Rattle.nm_mirror.specs.Asks.{LetsPass};
+ghost use Rattle.std.specs.Prelude.{IfNone, IfSome};
+ghost use Rattle.nm_mirror.specs.Asks.{LetsPass, Refuses};
 
 use nm_gate::{GateRefusal, GatedStripe};
 use nm_leg::LegPart;
@@ -24,7 +24,8 @@ pub enum Ask {
 /// Why the gate refuses it; none where it lets it pass.
 #[inline(always)]
 pub(crate) fn refusal_of<L: LegPart>(gated: &GatedStripe<L>, ask: Ask) -> Option<GateRefusal>
-    ensures { IfNone result (LetsPass gated.now.durable gated.now.stripe ask) }
+    ensures passes { IfNone result (LetsPass gated.now.durable gated.now.stripe ask) }
+    ensures refused { IfSome result (Refuses gated.now.durable gated.now.stripe ask) }
 {
     match ask {
         Ask::Begin(block) => gated.may_begin(block),

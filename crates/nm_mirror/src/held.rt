@@ -1,9 +1,9 @@
 //! What is behind a stripe's lock.
-ghost use Rattle.std.specs.Prelude.{◌≡◌, ◌<◌, ℕ, length, false, true, IsTrue};
+ghost use Rattle.std.specs.Prelude.{◌≡◌, ◌<◌, ◌↔◌, ℕ, length, false, true, IsTrue};
 ghost use Rattle.nm_gate.specs.Durable.{is_named};
 ghost use Rattle.nm_leg.specs.LegCalls.{EachHas};
 ghost use Rattle.nm_mirror.specs.Asks.{LetsPass};
-ghost use Rattle.nm_mirror.specs.Reopening.{NamesAtMost, Reopens, with_past};
+ghost use Rattle.nm_mirror.specs.Reopening.{NamesAtMost, Reopens, no_past, with_past};
 ghost use Rattle.nm_mirror.specs.declared.ask.Ask.TheVariants.{Answer};
 ghost use Rattle.nm_regions.specs.Sound.{AreSizes};
 ghost use Rattle.nm_resync.specs.Chunk.{IsChunkSize};
@@ -29,8 +29,8 @@ pub struct Held<L: LegPart> {
 
 /// Whether the superblock may call no leg of so many in sync but the master.
 fn names_at_most(durable: &DurableState, legs: u8, master: u8) -> bool
-    ensures { IsTrue result → (leg : ℕ) → leg < legs → is_named leg durable.now ≡ true
-        → leg ≡ master }
+    ensures { IsTrue result ↔ ((leg : ℕ) → leg < legs → is_named leg durable.now ≡ true
+        → leg ≡ master) }
 {
     'legs: for leg in 0..legs {
         if leg != master && durable.is_named(leg) {
@@ -43,7 +43,10 @@ fn names_at_most(durable: &DurableState, legs: u8, master: u8) -> bool
 impl<L: LegPart> Held<L> {
     /// A stripe in its first opening.
     pub(crate) fn new(gated: GatedStripe<L>) -> Self
-        ensures { result.gated ≡ gated }
+        ensures gated { result.gated ≡ gated }
+        ensures first { result.openings ≡ 0 }
+        ensures past { result.past ≡ no_past }
+        ensures claimed { result.unclaimed.count ≡ 0 }
     {
         Held {
             gated,
@@ -62,7 +65,7 @@ impl<L: LegPart> Held<L> {
 
     /// Whether the superblock may call no leg in sync but the master.
     fn names_at_most_the_master(&self) -> bool
-        ensures { IsTrue result → NamesAtMost (length self.now.gated.stripe.legs)
+        ensures { IsTrue result ↔ NamesAtMost (length self.now.gated.stripe.legs)
             self.now.gated.stripe.master self.now.gated.durable }
     {
         let legs = self.gated.stripe.legs() as u8;

@@ -1,7 +1,10 @@
 //! Takes a leg out of every stripe, and lets it join again.
-ghost use Rattle.std.specs.Prelude.{◌≡◌, ◌-◌, ◌^◌, ◌<◌, length};
-ghost use Rattle.nm_rules.specs.Attach.{attach_cause};
-ghost use Rattle.nm_rules.specs.Failing.{fail_cause};
+ghost use Rattle.std.specs.Prelude.{◌≡◌, ◌+◌, ◌-◌, ◌^◌, ◌<◌, ◌≤◌, ◌↔◌, length, None};
+ghost use Rattle.std.specs.Prelude.{IfSome, IsSome, IsTrue};
+ghost use Rattle.std.specs.Sync.Mutex.{mutex_guard_value};
+ghost use Rattle.nm_mirror.specs.Asks.{LetsJoin};
+ghost use Rattle.nm_rules.specs.Attach.{Attaches, attach_cause};
+ghost use Rattle.nm_rules.specs.Failing.{GoesOut, fail_cause};
 ghost use Rattle.nm_rules.specs.State.{left};
 ghost use Rattle.nm_mirror.specs.Counts.{attached_so, attaches, failed_so, fails};
 
@@ -19,7 +22,9 @@ use std::sync::{MutexGuard, Wait};
 pub(crate) fn fail_in<L: LegPart>(stripe: &mut Stripe<L>, leg: u8, counts: &mut FailCounts)
     requires leg { leg < length stripe.old.legs }
     requires room { fails counts.old < 2 ^ 64 - 1 }
-    ensures { counts.new ≡ failed_so (fail_cause stripe.old leg) counts.old }
+    ensures counts { counts.new ≡ failed_so (fail_cause stripe.old leg) counts.old }
+    ensures fails { fail_cause stripe.old leg ≡ None → GoesOut stripe.old stripe.new leg }
+    ensures stays { IsSome (fail_cause stripe.old leg) → stripe.new ≡ stripe.old }
 {
     match stripe.fail(leg) {
         Ok(_) => counts.failed += 1,
@@ -33,8 +38,10 @@ pub(crate) fn fail_in<L: LegPart>(stripe: &mut Stripe<L>, leg: u8, counts: &mut 
 fn attach_in<L: LegPart>(stripe: &mut Stripe<L>, leg: u8, counts: &mut AttachCounts)
     requires leg { leg < length stripe.old.legs }
     requires room { attaches counts.old < 2 ^ 64 - 1 }
-    ensures { counts.new
+    ensures counts { counts.new
         ≡ attached_so (attach_cause stripe.old leg) (left leg stripe.new) counts.old }
+    ensures attaches { attach_cause stripe.old leg ≡ None → Attaches stripe.old stripe.new leg }
+    ensures stays { IsSome (attach_cause stripe.old leg) → stripe.new ≡ stripe.old }
 {
     match stripe.attach(leg) {
         Ok(left) => {
@@ -46,8 +53,23 @@ fn attach_in<L: LegPart>(stripe: &mut Stripe<L>, leg: u8, counts: &mut AttachCou
     }
 }
 
+impl<L: LegPart> Held<L> {
+    /// The same, which the stripe's gate has to let pass where the leg joins.
+    fn attach(&mut self, leg: u8, counts: &mut AttachCounts)
+        requires joins { LetsJoin self.old.gated.durable self.old.gated.stripe leg }
+        requires leg { leg < length self.old.gated.stripe.legs }
+        requires room { attaches counts.old < 2 ^ 64 - 1 }
+        ensures { attaches counts.new ≤ attaches counts.old + 1 }
+    {
+        attach_in(&mut self.gated.stripe, leg, counts);
+    }
+}
+
 /// Whether the leg may join the stripe: it is out, and the stripe runs.
-fn may_join<L: LegPart>(stripe: &Stripe<L>, leg: u8) -> bool {
+fn may_join<L: LegPart>(stripe: &Stripe<L>, leg: u8) -> bool
+    ensures { IsTrue result
+        ↔ (leg < length stripe.now.legs) × (attach_cause stripe.now leg ≡ None) }
+{
     (leg as usize) < stripe.legs() && !stripe.is_stopped() && stripe.state(leg) == LegState::Out
 }
 
@@ -57,7 +79,10 @@ fn hold_to_attach<'x, L: LegPart, R: Wait>(
     lock: &'x Lock<L>,
     rt: &R,
     leg: u8,
-) -> Option<MutexGuard<'x, Held<L>>> {
+) -> Option<MutexGuard<'x, Held<L>>>
+    ensures { IfSome result (λ guard. LetsJoin (mutex_guard_value guard).gated.durable
+        (mutex_guard_value guard).gated.stripe leg) }
+{
     let held = lock.hold(rt);
     if !may_join(&held.gated.stripe, leg) {
         return Some(held);
@@ -96,7 +121,7 @@ impl<L: LegPart, G: Gate + Drop> Mirror<L, G> {
             match hold_to_attach(&self.locks[stripe as usize], rt, leg) {
                 Some(mut held) => {
                     if (leg as usize) < held.gated.stripe.legs() {
-                        attach_in(&mut held.gated.stripe, leg, &mut counts);
+                        held.attach(leg, &mut counts);
                     }
                 }
                 None => counts.stopped += 1,

@@ -39,6 +39,7 @@ mod claiming;
 mod closing;
 mod copy_round;
 mod counts;
+mod gated_steps;
 mod gating;
 mod glance;
 mod held;

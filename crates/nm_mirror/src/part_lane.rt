@@ -82,7 +82,7 @@ impl<L: LegPart> Lane<L, Lock<L>> for PartLane<L> {
         match lock.hold_for(rt, Ask::Begin(block)) {
             Some(mut held) => {
                 self.opening = held.openings;
-                self.part.begin(&mut held.gated.stripe, block, data)
+                held.begin(&mut self.part, block, data)
             }
             None => Err((Refusal::SaveFailed, data)),
         }
@@ -111,7 +111,7 @@ impl<L: LegPart> Lane<L, Lock<L>> for PartLane<L> {
     {
         match lock.hold_for(rt, Ask::Answer) {
             Some(held) if held.openings != self.opening => Err(Refusal::NoTicket),
-            Some(mut held) => self.part.claim(&mut held.gated.stripe, ticket),
+            Some(mut held) => held.claim(&mut self.part, ticket),
             None => {
                 lock.leave_write(rt, self.opening, ticket);
                 Err(Refusal::SaveFailed)
@@ -142,7 +142,7 @@ impl<L: LegPart> Lane<L, Lock<L>> for PartLane<L> {
             return Err(Refusal::SaveFailed);
         };
         lock.note_sync();
-        self.part.sync(&mut held.gated.stripe, leg)
+        held.sync(&mut self.part, leg)
     }
 
     fn copy<R: Wait>(
@@ -160,7 +160,7 @@ impl<L: LegPart> Lane<L, Lock<L>> for PartLane<L> {
             return Err(Refusal::SaveFailed);
         };
         lock.note_write();
-        self.part.copy(&mut held.gated.stripe, leg, most, from)
+        held.copy(&mut self.part, leg, most, from)
     }
 
     fn owed<R: Wait>(&self, rt: &R, lock: &Lock<L>, ticket: Option<u64>) -> Option<(u64, u8)> {

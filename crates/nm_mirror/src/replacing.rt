@@ -3,11 +3,14 @@ ghost use Rattle.std.specs.Prelude.{◌≡◌, ◌≢◌, ◌+◌, ◌-◌, ◌^
 ghost use Rattle.std.specs.Prelude.{IfErr, IsSome, IsTrue, OnOk};
 ghost use Rattle.nm_rules.specs.Attach.{Replaces, attach_cause};
 ghost use Rattle.nm_rules.specs.State.{left};
+ghost use Rattle.nm_mirror.specs.Asks.{LetsPass};
 ghost use Rattle.nm_mirror.specs.Counts.{replaced_so, replaces};
 ghost use Rattle.nm_mirror.specs.Replacing.{IsOnlyOne};
+ghost use Rattle.nm_mirror.specs.declared.ask.Ask.TheVariants as ask;
 
 use crate::ask::Ask;
 use crate::counts::ReplaceCounts;
+use crate::held::Held;
 use crate::legs::fail_in;
 use crate::mirror::Mirror;
 use nm_lanes::{CallKind, Gate, StepKind};
@@ -62,6 +65,19 @@ fn replace_in<L: LegPart>(stripe: &mut Stripe<L>, leg: u8, part: L, counts: &mut
         }
         Err((Refusal::Stopped, _)) => counts.stopped += 1,
         Err(_) => counts.not_out += 1,
+    }
+}
+
+impl<L: LegPart> Held<L> {
+    /// The same, which the stripe's gate has to let pass where the leg is out.
+    fn replace(&mut self, leg: u8, part: L, counts: &mut ReplaceCounts)
+        requires passes { LetsPass self.old.gated.durable self.old.gated.stripe (ask.Replace leg) }
+        requires leg { leg < length self.old.gated.stripe.legs }
+        requires length { length (L.model part).contents ≡ self.old.gated.stripe.place.blocks }
+        requires room { replaces counts.old < 2 ^ 64 - 1 }
+        ensures { replaces counts.new ≤ replaces counts.old + 1 }
+    {
+        replace_in(&mut self.gated.stripe, leg, part, counts);
     }
 }
 
@@ -165,7 +181,7 @@ impl<L: LegPart, G: Gate + Drop> Mirror<L, G> {
         let fits = (leg as usize) < held.gated.stripe.legs()
             && part.len() == held.gated.stripe.blocks();
         if fits {
-            replace_in(&mut held.gated.stripe, leg, part, counts);
+            held.replace(leg, part, counts);
         } else {
             counts.out += 1;
         }

@@ -86,6 +86,7 @@ impl SaveOrder {
     ) -> SaveOrder
         ensures claims { result.claims ≡ claims }
         ensures spans { result.spans ≡ spans }
+        ensures out { result.out ≡ out }
     {
         let sets = sets_of(&claims);
         let marked = map_of(&spans);
@@ -113,7 +114,9 @@ impl SaveOrder {
     }
 
     /// The legs that are out in every stripe.
-    pub fn out(&self) -> [bool; 8] {
+    pub fn out(&self) -> [bool; 8]
+        ensures { result ≡ self.now.out }
+    {
         self.out
     }
 }

@@ -1,4 +1,5 @@
 //! Writes whose calls ended before they could be claimed.
+ghost use Rattle.std.specs.Prelude.{◌≡◌};
 
 /// How many writes of a stripe are under way at most.
 pub(crate) const MOST_WRITES: usize = 256;
@@ -13,7 +14,9 @@ pub struct Unclaimed {
 
 impl Unclaimed {
     /// No writes.
-    pub(crate) fn new() -> Unclaimed {
+    pub(crate) fn new() -> Unclaimed
+        ensures { result.count ≡ 0 }
+    {
         Unclaimed {
             tickets: [0; MOST_WRITES],
             count: 0,

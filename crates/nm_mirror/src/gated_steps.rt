@@ -1,0 +1,71 @@
+//! The steps of a pass that a stripe's gate has to let pass.
+ghost use Rattle.std.specs.Prelude.{[], ◌∷◌};
+ghost use Rattle.nm_lanes.specs.Answers.{answer_of_begin, answer_of_claim, answer_of_copy};
+ghost use Rattle.nm_lanes.specs.Answers.{answer_of_sync, HandsBack};
+ghost use Rattle.nm_lanes.specs.Done.{done_as};
+ghost use Rattle.nm_mirror.specs.Asks.{LetsPass};
+ghost use Rattle.nm_mirror.specs.Counting.{Follows};
+ghost use Rattle.nm_mirror.specs.declared.ask.Ask.TheVariants as ask;
+ghost use Rattle.nm_stripe.specs.declared.step.Step.TheVariants as step;
+
+use crate::held::Held;
+use nm_fanout::Data;
+use nm_leg::LegPart;
+use nm_part::Part;
+use nm_stripe::{Beginning, Copying, Refusal, Syncing, Written};
+
+/// Each step asks the stripe through the part, and may be done only where the gate lets it pass: no
+/// contract of a lane can say that of what stands behind a lock.
+impl<L: LegPart> Held<L> {
+    /// Begins a write.
+    #[inline(always)]
+    pub(crate) fn begin(
+        &mut self,
+        part: &mut Part<L>,
+        block: u64,
+        data: Data,
+    ) -> Result<Beginning, (Refusal, Data)>
+        requires { LetsPass self.old.gated.durable self.old.gated.stripe (ask.Begin block) }
+        ensures follows { Follows {L = L} part.old
+            (done_as (step.Begin block «data») (answer_of_begin result) ∷ []) part.new }
+        ensures handed_back { HandsBack «data» result }
+    {
+        part.begin(&mut self.gated.stripe, block, data)
+    }
+
+    /// Claims a write.
+    #[inline(always)]
+    pub(crate) fn claim(&mut self, part: &mut Part<L>, ticket: u64) -> Result<Written<L>, Refusal>
+        requires { LetsPass self.old.gated.durable self.old.gated.stripe ask.Answer }
+        ensures { Follows {L = L} part.old
+            (done_as (step.Claim ticket) (answer_of_claim result) ∷ []) part.new }
+    {
+        part.claim(&mut self.gated.stripe, ticket)
+    }
+
+    /// Syncs a leg.
+    #[inline(always)]
+    pub(crate) fn sync(&mut self, part: &mut Part<L>, leg: u8) -> Result<Syncing, Refusal>
+        requires { LetsPass self.old.gated.durable self.old.gated.stripe ask.Answer }
+        ensures { Follows {L = L} part.old
+            (done_as (step.Sync leg) (answer_of_sync result) ∷ []) part.new }
+    {
+        part.sync(&mut self.gated.stripe, leg)
+    }
+
+    /// Does a step of the copy to a leg.
+    #[inline(always)]
+    pub(crate) fn copy(
+        &mut self,
+        part: &mut Part<L>,
+        leg: u8,
+        most: u64,
+        from: u64,
+    ) -> Result<Copying, Refusal>
+        requires { LetsPass self.old.gated.durable self.old.gated.stripe (ask.Copy leg from) }
+        ensures { Follows {L = L} part.old
+            (done_as (step.Copy leg most from) (answer_of_copy result) ∷ []) part.new }
+    {
+        part.copy(&mut self.gated.stripe, leg, most, from)
+    }
+}
