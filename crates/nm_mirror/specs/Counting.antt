@@ -29,7 +29,7 @@ IsLetPass stripe (Read block room) = Unit {0}
 IsLetPass stripe step = (durable : Option Durable) × IsAllowed durable stripe step
 
 -- a stripe, whatever its legs are, was asked for the step through the part, and answered so. It has
--- the part's number, or was found astray; and its gate let the step pass, if it may be asked for.
+-- the part's number, or was found astray; and some gate lets the step pass, if it may be asked for.
 pub record WasAskedOne {L : Type 0} (part : PartState) (done : Done L) : Type 0 where
   pub type : LegType L
   pub before : StripeState L
