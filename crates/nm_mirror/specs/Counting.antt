@@ -20,15 +20,16 @@ abbrev pub part_after_all : {L : Type 0} → List (Done L) → PartState → Par
 part_after_all [] part = part
 part_after_all (done ∷ list) part = part_after_all list (part_after done.answer part)
 
--- The gate of the stripe let the step pass: what the durable superblock may say of it, if there is
--- one, allowed the step there. A push and a read pass no gate.
+-- What some durable superblock may say of the stripe, if there is one, allows the step there. Which
+-- the stripe has is not carried out of the hold: its own gate is asked by the functions that do the
+-- step (`Held::begin`). A push and a read pass no gate.
 abbrev pub IsLetPass : {L : Type 0} → StripeState L → Step L → Type 0
 IsLetPass stripe (Push ticket leg) = Unit {0}
 IsLetPass stripe (Read block room) = Unit {0}
 IsLetPass stripe step = (durable : Option Durable) × IsAllowed durable stripe step
 
 -- a stripe, whatever its legs are, was asked for the step through the part, and answered so. It has
--- the part's number, or was found astray; and its gate let the step pass, if it may be asked for.
+-- the part's number, or was found astray; and some gate lets the step pass, if it may be asked for.
 pub record WasAskedOne {L : Type 0} (part : PartState) (done : Done L) : Type 0 where
   pub type : LegType L
   pub before : StripeState L

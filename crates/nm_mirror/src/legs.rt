@@ -1,5 +1,6 @@
 //! Takes a leg out of every stripe, and lets it join again.
-ghost use Rattle.std.specs.Prelude.{◌≡◌, ◌+◌, ◌-◌, ◌^◌, ◌<◌, ◌≤◌, ◌↔◌, length, IsSome, IsTrue, IfSome, None};
+ghost use Rattle.std.specs.Prelude.{◌≡◌, ◌+◌, ◌-◌, ◌^◌, ◌<◌, ◌≤◌, ◌↔◌, length, None};
+ghost use Rattle.std.specs.Prelude.{IfSome, IsSome, IsTrue};
 ghost use Rattle.std.specs.Sync.Mutex.{mutex_guard_value};
 ghost use Rattle.nm_mirror.specs.Asks.{LetsJoin};
 ghost use Rattle.nm_rules.specs.Attach.{Attaches, attach_cause};
@@ -53,7 +54,7 @@ fn attach_in<L: LegPart>(stripe: &mut Stripe<L>, leg: u8, counts: &mut AttachCou
 }
 
 impl<L: LegPart> Held<L> {
-    /// The same, which the gate has to let pass where the leg joins.
+    /// The same, which the stripe's gate has to let pass where the leg joins.
     fn attach(&mut self, leg: u8, counts: &mut AttachCounts)
         requires joins { LetsJoin self.old.gated.durable self.old.gated.stripe leg }
         requires leg { leg < length self.old.gated.stripe.legs }

@@ -69,7 +69,7 @@ fn replace_in<L: LegPart>(stripe: &mut Stripe<L>, leg: u8, part: L, counts: &mut
 }
 
 impl<L: LegPart> Held<L> {
-    /// The same, which the gate has to let pass where the leg is out.
+    /// The same, which the stripe's gate has to let pass where the leg is out.
     fn replace(&mut self, leg: u8, part: L, counts: &mut ReplaceCounts)
         requires passes { LetsPass self.old.gated.durable self.old.gated.stripe (ask.Replace leg) }
         requires leg { leg < length self.old.gated.stripe.legs }
