@@ -4,6 +4,8 @@
 #[cfg(test)]
 mod beside;
 #[cfg(test)]
+mod client;
+#[cfg(test)]
 mod closing;
 #[cfg(test)]
 mod full;
@@ -22,6 +24,8 @@ mod legs;
 #[cfg(test)]
 mod losing;
 #[cfg(test)]
+mod machine;
+#[cfg(test)]
 mod meeting;
 #[cfg(test)]
 mod mirrors;
@@ -32,7 +36,11 @@ mod openings;
 #[cfg(test)]
 mod past;
 #[cfg(test)]
+mod power_losses;
+#[cfg(test)]
 mod reopening;
+#[cfg(test)]
+mod restarts;
 #[cfg(test)]
 mod rounds;
 #[cfg(test)]

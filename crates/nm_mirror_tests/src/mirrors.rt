@@ -301,6 +301,18 @@ pub fn flush<R: Threads + Wait + Sync + Abort, L: LegPart + Send, G: Gate + Drop
     mirror.flush(rt, pass)
 }
 
+/// Syncs each leg of the stripes of these bytes of the export, which must lie in it.
+pub fn sync_touched<R: Threads + Wait + Sync + Abort, L: LegPart + Send, G: Gate + Drop + Sync>(
+    rt: &R,
+    mirror: &Mirror<L, G>,
+    pass: &mut Pass<L>,
+    offset: u64,
+    len: u64,
+) -> Result<(), CallError> {
+    want_inside(rt, mirror, pass, offset, len);
+    mirror.sync_touched(rt, pass, offset, len)
+}
+
 /// Closes the mirror where it is to be even.
 pub fn close_even<L: LegPart, G: Gate + Drop>(
     alloc: Global,
