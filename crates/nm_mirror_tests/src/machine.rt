@@ -62,8 +62,8 @@ impl Reach {
     }
 }
 
-/// A machine, which stops in the last of so many calls of its files. One call more of one file
-/// fails: of this file, after so many.
+/// A machine, which stops in the last of so many calls of its files. Of the file that the fuse
+/// names, the call of this number from now fails too; 0 is none.
 #[derive(Drop)]
 pub struct Machine {
     pub files: Vec<[Sector; SECTORS]>,
