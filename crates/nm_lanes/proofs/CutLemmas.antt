@@ -40,3 +40,13 @@ touched-fits shape range inside = elim (eqb_tells range.length 0) [
   where
     full : (range.length == 0) ≡ false → 0 < range.length → range.offset / 512 + touched range ≤ shape.blocks
     full much some = let upto : touched range ≡ (end_of range - 1) / 512 - range.offset / 512 + 1 = rw much refl in omega (arith, upto, some, inside)
+
+-- the bytes of a range
+pub bytes-all : (range : ByteRange) → bytes_in (range.offset / 512) (touched range) range ≡ range.length
+bytes-all range = elim (eqb_tells range.length 0) [
+  | inl none ↦ rw none.1 (omega arith)
+  | inr some ↦ all-of some.0 (pos_of_ne-zero some.1)
+]
+  where
+    all-of : (range.length == 0) ≡ false → 0 < range.length → bytes_in (range.offset / 512) (touched range) range ≡ range.length
+    all-of full some = let upto : touched range ≡ (end_of range - 1) / 512 - range.offset / 512 + 1 = rw full refl in omega (arith, upto, some)

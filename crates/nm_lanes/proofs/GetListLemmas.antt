@@ -1,20 +1,10 @@
--- Lists of runs that are read: those of one stripe, and one list after the other.
-use Rattle.std.proofs.Common.{◌≡◌, inl, inr, ℕ, ◌<◌, ◌≤◌, ◌==◌, Bool, true, false, List, [], ◌∷◌, ◌++◌, length, refl, sym, ap, ◌∙◌, append_assoc, if◌then◌else◌, arith}
+-- Lists of reads: those of one stripe, and one list after the other.
+use Rattle.std.proofs.Common.{◌≡◌, inl, inr, ℕ, List, [], ◌∷◌, ◌++◌, refl, sym, ap, ◌∙◌, append_assoc}
 use Rattle.std.proofs.lemmas.Bool.Decides.{eqb_tells}
 use Rattle.nm_lanes.specs.declared.run.Run.{Run}
 use Rattle.nm_geometry.specs.Geometry.{Geometry, stripe_of}
 use Rattle.nm_lanes.specs.Lists.{MirrorStep, stripe_list, steps_in}
-use Rattle.nm_lanes.specs.Reads.{ReadsRun, ReadsEach, ReadsSome, RunIn, bytes_found, run_bytes, runs_in}
-use Rattle.nm_lanes.proofs.RunLemmas.{AllWithin}
-
-kept-append : {A : Type 0} (b : Bool) (x : A) (all xs ys : List A) → all ≡ xs ++ ys → (if b then x ∷ all else all) ≡ (if b then x ∷ xs else xs) ++ ys
-kept-append false x all xs ys is = is
-kept-append true x all xs ys is = ap (λ zs. x ∷ zs) is
-
-pub runs_in-append : (shape : Geometry) (stripe : ℕ) (xs ys : List Run) → runs_in shape stripe (xs ++ ys) ≡ runs_in shape stripe xs ++ runs_in shape stripe ys
-runs_in-append shape stripe [] ys = refl
-runs_in-append shape stripe (x ∷ xs) ys =
-    kept-append (stripe_of x.block shape == stripe) x (runs_in shape stripe (xs ++ ys)) (runs_in shape stripe xs) (runs_in shape stripe ys) (runs_in-append shape stripe xs ys)
+use Rattle.nm_lanes.specs.Reads.{ReadsRun, ReadsEach, ReadsSome, bytes_found, run_bytes, runs_in}
 
 -- some of the first are some of all
 pub some-right : {L : Type 0} (shape : Geometry) (xs ys : List Run) (own : List (MirrorStep L)) → ReadsSome shape xs own → ReadsSome shape (xs ++ ys) own
@@ -47,53 +37,6 @@ found-append shape (x ∷ xs) ys (d ∷ own) more a =
     ap (λ bs. run_bytes x d.done.answer ++ bs) (found-append shape xs ys own more a.1) ∙ sym (append_assoc (run_bytes x d.done.answer) (bytes_found xs own) (bytes_found ys more))
 found-append shape [] ys (d ∷ own) more a = absurd a
 found-append shape (x ∷ xs) ys [] more a = absurd a
-
--- each run lies in a stripe of this kind
-abbrev pub AllLie : (ℕ → Type 0) → Geometry → List Run → Type 0
-AllLie In shape [] = Unit {0}
-AllLie In shape (run ∷ runs) = In (stripe_of run.block shape) × AllLie In shape runs
-
-pub none-in : (shape : Geometry) (stripe : ℕ) (runs : List Run) → AllLie (λ n. n ≡ stripe → ⊥) shape runs → runs_in shape stripe runs ≡ []
-none-in shape stripe [] a = refl
-none-in shape stripe (x ∷ xs) a = elim (eqb_tells (stripe_of x.block shape) stripe) [
-  | inl hit ↦ absurd (a.0 hit.1)
-  | inr miss ↦ rw miss.0 (none-in shape stripe xs a.1)
-]
-
-pub all-in : (shape : Geometry) (stripe : ℕ) (runs : List Run) → AllLie (λ n. n ≡ stripe) shape runs → runs_in shape stripe runs ≡ runs
-all-in shape stripe [] a = refl
-all-in shape stripe (x ∷ xs) a = elim (eqb_tells (stripe_of x.block shape) stripe) [
-  | inl hit ↦ rw hit.0 (ap (λ (ps : List Run). x ∷ ps) (all-in shape stripe xs a.1))
-  | inr miss ↦ absurd (miss.1 a.0)
-]
-
--- runs lie where their first blocks do
-pub within-lie : (In : ℕ → Type 0) (shape : Geometry) (low high : ℕ) (runs : List Run) → ((b : ℕ) → low ≤ b → b < high → In (stripe_of b shape)) → AllWithin low high runs → AllLie In shape runs
-within-lie In shape low high [] are a = tt
-within-lie In shape low high (x ∷ xs) are a = (are x.block a.0 a.1, within-lie In shape low high xs are a.2)
-
-pub lies-left : (shape : Geometry) (xs ys : List Run) (stripe : ℕ) → RunIn shape xs stripe → RunIn shape (xs ++ ys) stripe
-lies-left shape xs ys stripe a = record {
-  first = a.first;
-  run = a.run;
-  rest = a.rest ++ ys;
-  runs_are = ap (λ (ps : List Run). ps ++ ys) a.runs_are ∙ append_assoc a.first (a.run ∷ a.rest) ys;
-  stripe_is = a.stripe_is;
-}
-
-pub lies-right : (shape : Geometry) (xs ys : List Run) (stripe : ℕ) → RunIn shape ys stripe → RunIn shape (xs ++ ys) stripe
-lies-right shape xs ys stripe a = record {
-  first = xs ++ a.first;
-  run = a.run;
-  rest = a.rest;
-  runs_are = ap (λ (ps : List Run). xs ++ ps) a.runs_are ∙ sym (append_assoc xs a.first (a.run ∷ a.rest));
-  stripe_is = a.stripe_is;
-}
-
--- the first run lies in its stripe
-pub lies-first : (shape : Geometry) (stripe : ℕ) (runs : List Run) → 0 < length runs → AllLie (λ n. n ≡ stripe) shape runs → RunIn shape runs stripe
-lies-first shape stripe [] some a = absurd (omega (arith, some))
-lies-first shape stripe (x ∷ xs) some a = record { first = []; run = x; rest = xs; runs_are = refl; stripe_is = sym a.0 }
 
 -- a stripe's steps of a list of reads are the reads of the stripe's runs
 each-here : {L : Type 0} (shape : Geometry) (stripe : ℕ) (x : Run) (xs : List Run) (d : MirrorStep L) (own : List (MirrorStep L))

@@ -56,7 +56,7 @@ blocks-one shape range some a =
     let long : 512 * suc more ≡ range.length = omega (arith, any, a.ends) in
     let full : (range.length == 0) ≡ false = elim (eqb_tells range.length 0) [ inl none ↦ absurd (omega (arith, none.1, any)) | inr other ↦ other.0 ] in
     let all : touched range ≡ suc more = rw full (omega (arith, any, a.begins, a.ends)) in
-    let pieces = all_of range (suc more) true in
+    let pieces = all_of range (suc more) true false in
     let last : first + range.length / 512 - 1 ≡ first + more = omega (arith, any, a.ends) in
     let one : in_one_run shape first (first + more) ≡ true = let told = rw last at a.one in search (rules, told) in
     let far = one-far shape first more some (are-one shape first (first + more) one) in
@@ -64,7 +64,7 @@ blocks-one shape range some a =
     let runs = (first-whole shape pieces more (omega (arith, all)) (omega arith) (omega arith) (omega (arith, long, a.begins)) (rw here far.0) (rw here far.1) (inl refl)).runs in
     let none : suc more - suc more ≡ 0 = omega arith in
     let rest : runs_in_pieces shape (rest_of (suc more) pieces) ≡ [] = ap (λ (k : ℕ). runs_of shape (pieces_from (first + (0 + suc more)) k range)) none in
-    sym (all-runs shape range (suc more) true (sym all)) ∙ runs ∙ ap (λ (rs : List Run). whole_run (first + 0) (suc more) ∷ rs) rest
+    sym (all-runs shape range (suc more) true false (sym all)) ∙ runs ∙ ap (λ (rs : List Run). whole_run (first + 0) (suc more) ∷ rs) rest
     ∙ (rw (here, long) refl)
 
 -- regions of at most 128 blocks

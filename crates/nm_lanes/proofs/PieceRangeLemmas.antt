@@ -1,5 +1,5 @@
 -- A piece range of the runs of a range: its first runs and the others, and what is put into them.
-use Rattle.std.proofs.Common.{◌≡◌, inl, inr, ℕ, zero, suc, ◌+◌, ◌-◌, ◌/◌, ◌%◌, ◌<◌, ◌≤◌, Bool, true, false, List, [], ◌∷◌, ◌++◌, length, take, drop, append-nil, rules, refl, sym, ap, ◌∙◌, ◌^◌, if◌then◌else◌, arith}
+use Rattle.std.proofs.Common.{◌≡◌, inl, inr, ℕ, zero, suc, ◌+◌, ◌-◌, ◌/◌, ◌%◌, ◌<◌, ◌≤◌, Bool, true, false, IsTrue, List, [], ◌∷◌, ◌++◌, length, take, drop, append-nil, rules, refl, sym, ap, ◌∙◌, ◌^◌, if◌then◌else◌, arith}
 use Rattle.std.proofs.Math.Seq.{take-append_seam, drop-append_seam}
 use Rattle.std.proofs.lemmas.List.{length-append, length-drop, drop_at, drop_all}
 use borrow.Rule.Slice.PartMut.{put_mid}
@@ -10,10 +10,10 @@ use Rattle.nm_lanes.specs.declared.run.Run.{Run}
 use Rattle.nm_lanes.specs.declared.piece_range.PieceRange.{PieceRange}
 use Rattle.nm_lanes.specs.declared.run_write.RunWrite.{RunWrite}
 use Rattle.nm_lanes.specs.Cuts.{cuts_for, runs_written, zero_for, zeroes_for}
-use Rattle.nm_lanes.specs.Fillings.{cuts_of, filling, IsPieceRange}
+use Rattle.nm_lanes.specs.Fillings.{cuts_of, filling, target_of, IsPieceRange}
 use Rattle.nm_lanes.specs.Runs.{runs_of}
-use Rattle.nm_lanes.specs.PieceRanges.{block_of, runs_in_pieces, first_of, rest_of, EndsRegion}
-use Rattle.nm_lanes.proofs.CutLemmas.{touched-fits}
+use Rattle.nm_lanes.specs.PieceRanges.{block_of, bytes_of, runs_in_pieces, first_of, rest_of, EndsRegion}
+use Rattle.nm_lanes.proofs.CutLemmas.{bytes-all, rest-bytes, touched-fits}
 use Rattle.nm_lanes.proofs.RunLemmas.{runs-part, some-runs}
 
 -- what is put into runs, and the runs of it
@@ -32,7 +32,7 @@ pub cuts-runs : (runs : List Run) (payload : List ℕ) → runs_written (cuts_fo
 cuts-runs [] payload = refl
 cuts-runs (r ∷ runs) payload = ap (λ (rs : List Run). r ∷ rs) (cuts-runs runs (drop r.len payload))
 
-written-append : (low high : List RunWrite) → runs_written (low ++ high) ≡ runs_written low ++ runs_written high
+pub written-append : (low high : List RunWrite) → runs_written (low ++ high) ≡ runs_written low ++ runs_written high
 written-append [] high = refl
 written-append (w ∷ low) high = ap (λ (rs : List Run). w.run ∷ rs) (written-append low high)
 
@@ -144,33 +144,61 @@ filling-some shape pieces cuts some a =
     let any = piece_range-some shape pieces some in
     omega (arith, long, any)
 
--- all runs of a range
-abbrev pub all_of : ByteRange → ℕ → Bool → PieceRange
-all_of range count zeroes = record { range = range; first = 0; count = count; no_payload = zeroes }
+-- the target of a piece range: of its first pieces, and of the others
+if-add : (b : Bool) (all first rest : ℕ) → all ≡ first + rest → (if b then all else 0) ≡ (if b then first else 0) + (if b then rest else 0)
+if-add true all first rest is = is
+if-add false all first rest is = refl
 
-pub all-runs : (shape : Geometry) (range : ByteRange) (count : ℕ) (zeroes : Bool) → count ≡ touched range → runs_in_pieces shape (all_of range count zeroes) ≡ runs_of shape (pieces_of range)
-all-runs shape range count zeroes is =
+pub targets-add : (pieces : PieceRange) (n : ℕ) → n ≤ pieces.count → target_of pieces ≡ target_of (first_of n pieces) + target_of (rest_of n pieces)
+targets-add pieces n le = if-add pieces.is_read (bytes_of pieces pieces.count) (bytes_of pieces n) (bytes_of (rest_of n pieces) (pieces.count - n)) (rest-bytes pieces n le)
+
+-- a piece range without pieces has none of it, and one that is not read
+if-none : (b : Bool) (n : ℕ) → n ≡ 0 → (if b then n else 0) ≡ 0
+if-none true n is = is
+if-none false n is = refl
+
+pub target-none : (pieces : PieceRange) → pieces.count ≡ 0 → (from all : ℕ) → from + target_of pieces ≡ all → all ≤ from
+target-none pieces none from all is = let no = if-none pieces.is_read (bytes_of pieces pieces.count) (omega (arith, none)) in omega (arith, is, no)
+
+if-read : (b : Bool) (n : ℕ) → b ≡ true → (if b then n else 0) ≡ n
+if-read b n is = rw is refl
+
+pub target-read : (pieces : PieceRange) (n : ℕ) (reads : Bool) → pieces.is_read ≡ reads → IsTrue reads → target_of (first_of n pieces) ≡ bytes_of pieces n
+target-read pieces n reads same is = if-read pieces.is_read (bytes_of pieces n) (same ∙ is)
+
+-- all runs of a range
+abbrev pub all_of : ByteRange → ℕ → Bool → Bool → PieceRange
+all_of range count zeroes reads = record { range = range; first = 0; count = count; no_payload = zeroes; is_read = reads }
+
+pub all-target : (range : ByteRange) (count : ℕ) → count ≡ touched range → target_of (all_of range count true true) ≡ range.length
+all-target range count is =
+    let first : range.offset / 512 + 0 ≡ range.offset / 512 = omega arith in
+    let all : bytes_of (all_of range count true true) count ≡ range.length = rw (first, is) (bytes-all range) in
+    all
+
+pub all-runs : (shape : Geometry) (range : ByteRange) (count : ℕ) (zeroes reads : Bool) → count ≡ touched range → runs_in_pieces shape (all_of range count zeroes reads) ≡ runs_of shape (pieces_of range)
+all-runs shape range count zeroes reads is =
     let first : range.offset / 512 + 0 ≡ range.offset / 512 = omega arith in
     rw (first, is) refl
 
-pub zeroes-piece_range : (shape : Geometry) (range : ByteRange) (count : ℕ) (cuts : List RunWrite) → LiesInside range shape → end_of range < 2 ^ 64 → count ≡ touched range → IsPieceRange shape (all_of range count true) cuts
-zeroes-piece_range shape range count cuts inside end is =
+pub zeroes-piece_range : (shape : Geometry) (range : ByteRange) (count : ℕ) (reads : Bool) (cuts : List RunWrite) → LiesInside range shape → end_of range < 2 ^ 64 → count ≡ touched range → IsPieceRange shape (all_of range count true reads) cuts
+zeroes-piece_range shape range count reads cuts inside end is =
     let fits = touched-fits shape range inside in
     record {
       end = end;
       inside = omega (arith, is);
       blocks = omega (arith, is, fits);
-      runs = zeroes-runs (runs_in_pieces shape (all_of range count true));
+      runs = zeroes-runs (runs_in_pieces shape (all_of range count true reads));
     }
 
-pub cuts-piece_range : (shape : Geometry) (range : ByteRange) (count : ℕ) (cuts : List RunWrite) (payload : List ℕ) → LiesInside range shape → end_of range < 2 ^ 64 → count ≡ touched range → cuts ≡ cuts_for (runs_in_pieces shape (all_of range count false)) payload → IsPieceRange shape (all_of range count false) cuts
+pub cuts-piece_range : (shape : Geometry) (range : ByteRange) (count : ℕ) (cuts : List RunWrite) (payload : List ℕ) → LiesInside range shape → end_of range < 2 ^ 64 → count ≡ touched range → cuts ≡ cuts_for (runs_in_pieces shape (all_of range count false false)) payload → IsPieceRange shape (all_of range count false false) cuts
 cuts-piece_range shape range count cuts payload inside end is are =
     let fits = touched-fits shape range inside in
     record {
       end = end;
       inside = omega (arith, is);
       blocks = omega (arith, is, fits);
-      runs = ap (λ (ws : List RunWrite). runs_written ws) are ∙ cuts-runs (runs_in_pieces shape (all_of range count false)) payload;
+      runs = ap (λ (ws : List RunWrite). runs_written ws) are ∙ cuts-runs (runs_in_pieces shape (all_of range count false false)) payload;
     }
 
 -- after the cuts that were taken, once what lies there was written

@@ -7,13 +7,13 @@ use Rattle.nm_geometry.specs.Geometry.{Geometry, IsGeometry, stripe_of, block_in
 use Rattle.nm_lanes.specs.declared.piece_range.PieceRange.{PieceRange}
 use Rattle.nm_lanes.specs.declared.run_write.RunWrite.{RunWrite}
 use Rattle.nm_lanes.specs.declared.region_range.RegionRange.{RegionRange}
-use Rattle.nm_lanes.specs.Fillings.{filling, cuts_of, IsPieceRange}
+use Rattle.nm_lanes.specs.Fillings.{filling, cuts_of, target_of, IsPieceRange}
 use Rattle.nm_lanes.specs.RegionRanges.{blocks_in, lower, upper, IsRegionRange}
 use Rattle.nm_lanes.specs.Cuts.{runs_written}
 use Rattle.nm_lanes.specs.PieceRanges.{block_of, first_of, EndsRegion}
 use Rattle.nm_lanes.specs.Writes.{writes_in, LiesIn}
 use Rattle.nm_lanes.proofs.RunLemmas.{runs-within, AllWithin}
-use Rattle.nm_lanes.proofs.PieceRangeLemmas.{cuts-fit, filling-some, filling-split, first-piece_range, parts, rest-piece_range, Parts}
+use Rattle.nm_lanes.proofs.PieceRangeLemmas.{cuts-fit, filling-some, filling-split, first-piece_range, parts, rest-piece_range, targets-add, Parts}
 use Rattle.nm_lanes.proofs.PutListLemmas.{AllLie, within-lie, none-in, all-in, lies-first}
 
 turned : (first number stripes : ℕ) → (first + number) % stripes ≡ (first % stripes + number) % stripes
@@ -193,6 +193,7 @@ pub record Halved (shape : Geometry) (fronts backs : ℕ) (regions low high : Re
   pub high_regions : IsRegionRange shape backs high
   pub fill : filling shape regions.pieces cuts ≡ filling shape low.pieces own ++ filling shape high.pieces rest
   pub stripe : regions.stripe ≡ low.stripe
+  pub read : regions.pieces.is_read ≡ low.pieces.is_read
 
 halved-as : (shape : Geometry) (lanes half : ℕ) (regions : RegionRange) (cuts own rest : List RunWrite) → IsGeometry shape → IsPieceRange shape regions.pieces cuts → IsRegionRange shape lanes regions → 0 < half → half < lanes
     → cuts ≡ own ++ rest → length own ≡ cuts_of shape (lower shape half regions).pieces → Halved shape half (lanes - half) regions (lower shape half regions) (upper shape half regions) cuts own rest
@@ -207,12 +208,18 @@ halved-as shape lanes half regions cuts own rest is pieces a some less split lon
       high_regions = upper-range shape lanes half regions a some less is.some_region;
       fill = filling-split shape regions.pieces (blocks_in shape half regions) cuts own rest part split;
       stripe = refl;
+      read = refl;
     }
 
 pub half-fits : (shape : Geometry) (lanes half : ℕ) (regions low : RegionRange) (cuts : List RunWrite) → IsPieceRange shape regions.pieces cuts → IsRegionRange shape lanes regions → 0 < half → half < lanes → low ≡ lower shape half regions → cuts_of shape low.pieces ≤ length cuts
 half-fits shape lanes half regions low cuts pieces a some less low_is =
     let part = halves-part shape half regions (halves-fit shape lanes half regions a some less) in
     rw low_is (cuts-fit shape regions.pieces (blocks_in shape half regions) cuts part pieces)
+
+pub targets-halved : (shape : Geometry) (lanes half : ℕ) (regions low high : RegionRange) → IsRegionRange shape lanes regions → 0 < half → half < lanes → low ≡ lower shape half regions → high ≡ upper shape half regions → target_of regions.pieces ≡ target_of low.pieces + target_of high.pieces
+targets-halved shape lanes half regions low high a some less low_is high_is =
+    let fit = halves-fit shape lanes half regions a some less in
+    rw (low_is, high_is) (targets-add regions.pieces (blocks_in shape half regions) (omega (arith, fit.less)))
 
 pub halved : (shape : Geometry) (lanes half fronts backs : ℕ) (regions low high : RegionRange) (cuts own rest : List RunWrite) → IsGeometry shape → IsPieceRange shape regions.pieces cuts → IsRegionRange shape lanes regions → 0 < half → half < lanes
     → low ≡ lower shape half regions → high ≡ upper shape half regions → cuts ≡ own ++ rest → length own ≡ cuts_of shape low.pieces → fronts ≡ half → backs ≡ lanes - half → Halved shape fronts backs regions low high cuts own rest

@@ -6,7 +6,6 @@ use Rattle.nm_lanes.specs.declared.call_error.CallError.{CallError}
 use Rattle.nm_lanes.specs.declared.call_error_kind.CallErrorKind.{CallErrorKind}
 use Rattle.nm_lanes.specs.Done.{Done, done_as}
 use Rattle.nm_lanes.specs.Ends.{BeganOwn, ByLeaving, ByStep, EachLane, LaneDid, LaneEnds, LaneTries, LeavesZeroes}
-use Rattle.nm_lanes.specs.Lane.{LaneDoes}
 use Rattle.nm_lanes.specs.Lists.{MirrorStep, stripe_list, own_steps}
 use Rattle.nm_lanes.specs.Own.{helps, own_done, EndsSo}
 use Rattle.nm_lanes.specs.Rounds.{RunsLanes}

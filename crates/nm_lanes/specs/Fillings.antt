@@ -5,9 +5,10 @@ use Rattle.nm_geometry.specs.Pieces.{end_of, touched}
 use Rattle.nm_lanes.specs.declared.run_write.RunWrite.{RunWrite}
 use Rattle.nm_lanes.specs.declared.piece_range.PieceRange.{PieceRange}
 use Rattle.nm_lanes.specs.Cuts.{runs_written, zeroes_for}
-use Rattle.nm_lanes.specs.PieceRanges.{block_of, first_of, rest_of, runs_in_pieces, IsFirstRun}
+use Rattle.nm_lanes.specs.PieceRanges.{block_of, bytes_of, first_of, rest_of, runs_in_pieces}
+use Rattle.nm_lanes.specs.PieceRanges.{IsFirstRun}
 
--- what is to be put into a piece range's runs: zeroes, or the cuts
+-- what is to be put into a piece range's runs: zeroes, or the cuts; of a read only the runs count
 abbrev pub filling : Geometry → PieceRange → List RunWrite → List RunWrite
 filling shape pieces cuts =
     if pieces.no_payload then zeroes_for (runs_in_pieces shape pieces) else cuts
@@ -20,6 +21,10 @@ cuts_of shape pieces =
 -- the cuts after those of so many blocks
 abbrev pub cuts_after : Geometry → PieceRange → ℕ → List RunWrite → List RunWrite
 cuts_after shape pieces count cuts = drop (cuts_of shape (first_of count pieces)) cuts
+
+-- how many bytes of the target a piece range has: those of its pieces, where it is read
+abbrev pub target_of : PieceRange → ℕ
+target_of pieces = if pieces.is_read then bytes_of pieces pieces.count else 0
 
 -- a piece range of a range that lies in the export, with its cuts
 pub record IsPieceRange (shape : Geometry) (pieces : PieceRange) (cuts : List RunWrite)

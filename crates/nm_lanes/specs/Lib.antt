@@ -17,8 +17,7 @@ pub mod Fillings
 pub mod RegionRanges
 pub mod WriteFault
 pub mod Writes
-pub mod Puts
-pub mod Gets
+pub mod RunRounds
 pub mod Flushes
 pub mod Syncs
 pub mod Moved

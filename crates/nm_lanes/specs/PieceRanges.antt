@@ -28,6 +28,7 @@ first_of count pieces = record {
   first = pieces.first;
   count = count;
   no_payload = pieces.no_payload;
+  is_read = pieces.is_read;
 }
 
 -- those after so many
@@ -37,6 +38,7 @@ rest_of count pieces = record {
   first = pieces.first + count;
   count = pieces.count - count;
   no_payload = pieces.no_payload;
+  is_read = pieces.is_read;
 }
 
 -- after so many blocks the piece range ends, or a region does

@@ -1,5 +1,5 @@
 //! A call of a mirror: what its steps on each stripe have in common.
-ghost use Rattle.std.specs.Prelude.{◌≡◌, ◌<◌, ◌^◌, IsTrue, Some, length, slice_get};
+ghost use Rattle.std.specs.Prelude.{◌≡◌, ◌<◌, ◌^◌, false, IsTrue, Some, length, slice_get};
 ghost use Rattle.nm_geometry.specs.Geometry.{IsGeometry};
 ghost use Rattle.nm_geometry.specs.Pieces.{LiesInside, end_of};
 
@@ -95,10 +95,10 @@ impl<R: Wait, G: Gate, K> Call<'_, R, G, K> {
     /// Whether these pieces are not to be begun: they are zeroes, and the caller is gone. When that
     /// is so is not promised: it tells where a call's work would be for nobody.
     pub(crate) fn gives_up(&self, left: PieceRange) -> bool
-        ensures { IsTrue result → IsTrue left.no_payload }
+        ensures { IsTrue result → IsTrue left.no_payload × (left.is_read ≡ false) }
     {
         match self.is_gone {
-            Some(is_gone) => left.no_payload && is_gone.load(Ordering::SeqCst),
+            Some(is_gone) => left.no_payload && !left.is_read && is_gone.load(Ordering::SeqCst),
             None => false,
         }
     }

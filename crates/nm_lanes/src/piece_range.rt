@@ -2,9 +2,10 @@
 ghost use Rattle.std.specs.Prelude.{◌≡◌, ◌<◌, ◌≤◌, ◌+◌, ◌^◌, drop};
 ghost use Rattle.nm_geometry.specs.Pieces.{end_of, touched};
 ghost use Rattle.nm_lanes.specs.Cuts.{zero_for};
-ghost use Rattle.nm_lanes.specs.Fillings.{cuts_of, IsPieceRange, TakesRun};
+ghost use Rattle.nm_lanes.specs.Fillings.{cuts_of, target_of, IsPieceRange, TakesRun};
 ghost use Rattle.nm_lanes.specs.PieceRanges.{block_of, first_of, rest_of};
 
+use crate::call::within_bounds;
 use crate::run::{Run, count_runs, first_run};
 use crate::run_write::RunWrite;
 use nm_fanout::Data;
@@ -37,6 +38,8 @@ pub(crate) struct PieceRange {
     pub(crate) count: u64,
     /// Whether they have no cuts: zeroes are to be put into them, or they are to be read.
     pub(crate) no_payload: bool,
+    /// Whether they are to be read, into a target that has room for their bytes.
+    pub(crate) is_read: bool,
 }
 
 impl PieceRange {
@@ -78,6 +81,25 @@ impl PieceRange {
             return 0;
         }
         count_runs(shape, self)
+    }
+
+    /// How many bytes of the target the piece range has: those of its pieces, where it is read.
+    pub(crate) fn target_of(self, shape: &Shape) -> usize
+        requires end { end_of self.range < 2 ^ 64 }
+        requires blocks { block_of self + self.count ≤ shape.now.blocks }
+        ensures { result ≡ target_of self }
+    {
+        if !self.is_read {
+            return 0;
+        }
+        within_bounds(shape);
+        let start = self.block() * BLOCK_BYTES as u64;
+        let end = self.range.offset + self.range.length;
+        let skipped = self.range.offset.saturating_sub(start);
+        let upto = end
+            .saturating_sub(start)
+            .min(self.count * BLOCK_BYTES as u64);
+        upto.saturating_sub(skipped) as usize
     }
 
     /// What is to be put into the first run, and how many blocks that one has. A cut is taken away:

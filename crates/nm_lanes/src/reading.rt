@@ -8,9 +8,9 @@ use crate::call::{Call, enter_call, leave_call, range_inside};
 use crate::call_error::CallError;
 use crate::call_kind::CallKind;
 use crate::gate::Gate;
-use crate::getting::read_all;
 use crate::lane::Lane;
 use crate::piece_range::PieceRange;
+use crate::run_rounds::do_all;
 use nm_geometry::Shape;
 use nm_leg::LegPart;
 use std::marker::{Send, Sync};
@@ -67,8 +67,9 @@ pub fn read_by<
         first: 0,
         count: range.pieces(),
         no_payload: true,
+        is_read: true,
     };
-    let read = read_all(&call, pieces, lanes, into);
+    let read = do_all(&call, pieces, lanes, &mut [], into);
     leave_call(shape, locks, lanes, into.len() as u64);
     match read {
         Ok(()) => Ok(()),

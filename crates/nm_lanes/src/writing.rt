@@ -11,7 +11,7 @@ use crate::cutting::split_payload;
 use crate::gate::Gate;
 use crate::lane::Lane;
 use crate::piece_range::PieceRange;
-use crate::putting::write_all;
+use crate::run_rounds::do_all;
 use crate::write_fault::WriteFault;
 use bytes::Bytes;
 use nm_geometry::Shape;
@@ -75,6 +75,7 @@ pub fn write_by<
         first: 0,
         count: range.pieces(),
         no_payload: false,
+        is_read: false,
     };
     let Ok(mut writes) = split_payload(alloc, shape, pieces, payload) else {
         return Err(WriteFault::Memory);
@@ -89,7 +90,7 @@ pub fn write_by<
         starts_threads: enter_call(shape, locks, lanes, len),
         is_gone: None,
     };
-    let written = write_all(&call, pieces, lanes, writes.as_mut_slice());
+    let written = do_all(&call, pieces, lanes, writes.as_mut_slice(), &mut []);
     leave_call(shape, locks, lanes, len);
     match written {
         Ok(()) => Ok(()),

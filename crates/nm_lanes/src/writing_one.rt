@@ -1,15 +1,18 @@
-//! The write of one run: its begin, its pushes and its claim.
-ghost use Rattle.std.specs.Prelude.{[], IfOk, IfErr, OnOk};
+//! The write of one run: its begin, its pushes and its claim; or its read.
+ghost use Rattle.std.specs.Prelude.{◌≡◌, [], length, IsTrue, IfOk, IfErr, OnOk};
 ghost use Rattle.nm_stripe.specs.declared.step.Step.TheVariants as step;
 ghost use Rattle.nm_lanes.specs.Lane.{LaneDoes, LaneStops};
 ghost use Rattle.nm_lanes.specs.Own.{EndsSo};
 ghost use Rattle.nm_lanes.specs.Steps.{BeginTurns, Completes, IsWritten, LaneBegins, LaneWrites};
+ghost use Rattle.nm_lanes.specs.Runs.{IsRun};
 ghost use Rattle.nm_lanes.specs.Steps.{LaneWriteStops, Nobodys, Only, Turns};
+ghost use Rattle.nm_lanes.specs.RunRounds.{DoesOne, OneStops};
 
 use crate::blocker::claim_end_of;
 use crate::call_error_kind::CallErrorKind;
 use crate::gate::Gate;
 use crate::lane::Lane;
+use crate::run_write::RunWrite;
 use crate::stripe_call::StripeCall;
 use nm_fanout::Data;
 use nm_leg::LegPart;
@@ -138,5 +141,27 @@ impl<R: Wait, G: Gate, K> StripeCall<'_, R, G, K> {
             Ok(()) => Ok(()),
             Err(kind) => Err(kind),
         }
+    }
+
+    /// Reads a run into a target of its length, or writes it on so many legs.
+    pub(crate) fn do_one<L: LegPart, D: Lane<L, K>>(
+        &self,
+        lane: &mut D,
+        block: u64,
+        write: RunWrite,
+        is_read: bool,
+        legs: u8,
+        into: &mut [u8],
+    ) -> Result<(), CallErrorKind>
+        requires run { IsRun write.run }
+        requires long { IsTrue is_read → length into.old ≡ write.run.len }
+        ensures ok { OnOk result (DoesOne D.follows (lane.old, lane.new) is_read block write
+            into.new) }
+        ensures err { IfErr result (OneStops D.follows (lane.old, lane.new) is_read block write) }
+    {
+        if is_read {
+            return self.read_one(lane, block, write.run, into);
+        }
+        self.write_one(lane, block, write.bytes, legs)
     }
 }

@@ -11,7 +11,7 @@ use crate::call_kind::CallKind;
 use crate::gate::Gate;
 use crate::lane::Lane;
 use crate::piece_range::PieceRange;
-use crate::putting::write_all;
+use crate::run_rounds::do_all;
 use nm_geometry::Shape;
 use nm_leg::LegPart;
 use std::marker::{Send, Sync};
@@ -71,8 +71,9 @@ pub fn zero_by<
         first: 0,
         count: range.pieces(),
         no_payload: true,
+        is_read: false,
     };
-    let zeroed = write_all(&call, pieces, lanes, &mut []);
+    let zeroed = do_all(&call, pieces, lanes, &mut [], &mut []);
     leave_call(shape, locks, lanes, len);
     match zeroed {
         Ok(()) => Ok(()),

@@ -9,16 +9,16 @@ use nm_system::{Limits, is_below};
 /// How many KiB the stack of a thread has at least: twice what the deepest one needs.
 const LEAST_STACK_KIB: u64 = 1024;
 
-/// How many files are open beside legs and sessions: the standard streams, two sockets that listen,
+/// How many files are open beside those of legs and sessions: the standard streams, two sockets that listen,
 /// and connections of the control port and of clients that are turned away.
 const OTHER_FILES: u64 = 16;
 
-// How many files are open at most, where each leg has so many threads for its calls.
+// How many files are open at most: each leg's own, its superblock's, and one for each thread that
+// makes its calls.
 fn files_needed(legs: u8, threads: u8, sessions: u8) -> u64
-    ensures { result ≡ legs + legs * threads + sessions + 16 }
+    ensures { result ≡ legs * (2 + threads) + sessions + 16 }
 {
-    let legs = u64::from(legs);
-    legs + legs * u64::from(threads) + u64::from(sessions) + OTHER_FILES
+    u64::from(legs) * (2 + u64::from(threads)) + u64::from(sessions) + OTHER_FILES
 }
 
 /// How many bytes the replies of all sessions carry at most.

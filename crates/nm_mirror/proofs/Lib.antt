@@ -4,6 +4,7 @@ mod OneInSync
 mod OpenedLemmas
 mod OpeningLemmas
 mod Places
+mod ReopenLemmas
 mod RoundLemmas
 mod SaveLemmas
 mod StatusLemmas

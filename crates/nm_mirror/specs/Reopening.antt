@@ -2,10 +2,12 @@
 use Rattle.std.specs.Prelude.{◌≡◌, ℕ, ◌+◌, ◌-◌, ◌^◌, ◌<◌, true, min}
 use Rattle.std.specs.Prelude.{List, length, Option, None, Some}
 use Rattle.nm_choice.specs.declared.policy.Policy.{Policy}
+use Rattle.nm_leg.specs.Leg.{LegType}
 use Rattle.nm_rules.specs.Opening.{opened}
 use Rattle.nm_rules.specs.State.{StripeState, next_number}
 use Rattle.nm_rules.specs.declared.at.At.{At}
 use Rattle.nm_stripe.specs.End.{EndOf, end_of}
+use Rattle.nm_gate.specs.Anew.{GoesOnAnew}
 use Rattle.nm_gate.specs.Durable.{Durable, is_named}
 use Rattle.nm_mirror.specs.Asks.{LetsPass}
 use Rattle.nm_mirror.specs.declared.ask.Ask.TheVariants.{Answer}
@@ -51,3 +53,11 @@ pub record Reopens {L : Type 0} (place : At) (legs : List L) (policy : Policy) (
   pub durable : new.gated.durable ≡ old.gated.durable
   pub past : new.past ≡ past_after (end_of old.gated.stripe) old.past
   pub openings : new.openings ≡ sum_of old.openings 1
+
+-- where there is a superblock, all that the promises on crashes rest on holds of a stripe that
+-- opens so
+abbrev pub GoesOn : {L : Type 0} → LegType L → At → List L → (master first : ℕ) → Policy
+    → Option Durable → Type 0
+GoesOn type place legs master first policy None = Unit {0}
+GoesOn type place legs master first policy (Some d) =
+    GoesOnAnew type place legs d master first policy

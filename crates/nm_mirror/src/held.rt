@@ -1,12 +1,14 @@
 //! What is behind a stripe's lock.
 ghost use Rattle.std.specs.Prelude.{◌≡◌, ◌<◌, ℕ, length, false, true, IsTrue};
 ghost use Rattle.nm_gate.specs.Durable.{is_named};
+ghost use Rattle.nm_leg.specs.Leg.{leg_type};
 ghost use Rattle.nm_leg.specs.LegCalls.{EachHas};
 ghost use Rattle.nm_mirror.specs.Asks.{LetsPass};
-ghost use Rattle.nm_mirror.specs.Reopening.{NamesAtMost, Reopens, with_past};
+ghost use Rattle.nm_mirror.specs.Reopening.{GoesOn, NamesAtMost, Reopens, with_past};
 ghost use Rattle.nm_mirror.specs.declared.ask.Ask.TheVariants.{Answer};
 ghost use Rattle.nm_regions.specs.Sound.{AreSizes};
 ghost use Rattle.nm_resync.specs.Chunk.{IsChunkSize};
+ghost use Rattle.nm_rules.specs.State.{next_number};
 ghost use Rattle.nm_stripe.specs.End.{end_of};
 
 use crate::opening::only_bit;
@@ -81,6 +83,9 @@ impl<L: LegPart> Held<L> {
         requires chunk { IsChunkSize place.chunk }
         requires lengths { EachHas L.model legs.items place.blocks }
         ensures opened { IsTrue result → Reopens place legs.items policy self.old self.new }
+        ensures right { IsTrue result → GoesOn (leg_type L.model L.honest) place legs.items
+            self.old.gated.stripe.master (next_number self.old.gated.stripe) policy
+            self.old.gated.durable }
         ensures stays { result ≡ false → self.new ≡ self.old }
     {
         let master = self.gated.stripe.master();

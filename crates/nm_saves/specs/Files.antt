@@ -40,6 +40,11 @@ AreFound count files found =
 abbrev pub AreUpTo : (count highest : ℕ) → List (Option FileState) → Type 0
 AreUpTo count highest files = (leg : ℕ) → leg < count → stamp_in (file_of leg files) ≤ highest
 
+-- no number is lower that is this one or higher, and that no stamp in them is higher than
+abbrev pub IsLeastUpTo : (count after highest : ℕ) → List (Option FileState) → Type 0
+IsLeastUpTo count after highest files =
+    (number : ℕ) → after ≤ number → AreUpTo count number files → highest ≤ number
+
 -- those of the first legs whose file has failed
 abbrev pub AreFailed : ℕ → List (Option FileState) → List Bool → Type 0
 AreFailed count files failed =

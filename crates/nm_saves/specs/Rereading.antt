@@ -2,18 +2,20 @@
 use Rattle.std.specs.Prelude.{◌≡◌, ◌<◌, ◌≤◌, ℕ, Bool, IsTrue, IsFalse, List, length}
 use Rattle.std.specs.Prelude.{Option, None, Some}
 use Rattle.nm_saves.specs.FileState.{FileState, IsSettled, newest_in}
-use Rattle.nm_saves.specs.Files.{AreUpTo, file_of}
+use Rattle.nm_saves.specs.Files.{AreUpTo, IsLeastUpTo, file_of}
 use Rattle.nm_saves.specs.SavingAll.{FilesState}
 use Rattle.nm_saves.specs.SlotFile.{KeepsSlots}
 
 -- The file is settled and read again. Done, it is what is known of it, and may be written again;
--- not done, it is not written again. Nothing is written, and no stamp that was known is forgotten.
+-- not done, it is not written again, and no more is known. Nothing is written, and no stamp that was
+-- known is forgotten.
 pub record RereadsFile (honest done : Bool) (old new : FileState) : Type 0 where
   pub fine : IsTrue done → IsFalse new.failed
   pub failed : IsFalse done → IsTrue new.failed
   pub settled : IsTrue honest → IsTrue done → IsSettled new
   pub unread : IsFalse done → newest_in new ≡ newest_in old
   pub stamps : old.highest ≤ new.highest
+  pub unfound : IsFalse done → new.highest ≡ old.highest
   pub keeps : IsTrue honest → KeepsSlots old.held new.held
 
 -- a leg's file is read again if it has failed, and else left as it is
@@ -34,7 +36,7 @@ pub record RereadsTo (count : ℕ) (honest : Bool) (old new : List (Option FileS
   pub others : (leg : ℕ) → count ≤ leg → file_of leg new ≡ file_of leg old
 
 -- All files that have failed are read again. The last superblock whose save was done stays, and the
--- next save has a generation above each stamp that was known, or is found.
+-- next save has the first generation above all that was known, and each stamp that is found.
 pub record RereadsFailed (honest : Bool) (old new : FilesState) : Type 0 where
   pub read : (leg : ℕ) → leg < 8
       → RereadsBeside honest (file_of leg old.files) (file_of leg new.files)
@@ -42,3 +44,4 @@ pub record RereadsFailed (honest : Bool) (old new : FilesState) : Type 0 where
   pub image : new.image ≡ old.image
   pub highest : old.highest ≤ new.highest
   pub above : AreUpTo 8 new.highest new.files
+  pub least : IsLeastUpTo 8 old.highest new.highest new.files

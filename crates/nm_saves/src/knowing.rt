@@ -1,6 +1,7 @@
 //! What is known of the files of all legs.
 ghost use Rattle.std.specs.Prelude.{◌≡◌, ◌≤◌};
-ghost use Rattle.nm_saves.specs.Files.{AreFailed, AreOthers, AreUpTo, IsSeenAfter, file_of};
+ghost use Rattle.nm_saves.specs.Files.{AreFailed, AreOthers, AreUpTo, IsLeastUpTo};
+ghost use Rattle.nm_saves.specs.Files.{IsSeenAfter, file_of};
 ghost use Rattle.nm_saves.specs.Files.{has_failed_in, round_of, stamp_in};
 
 use crate::slot_file::SlotFile;
@@ -11,6 +12,7 @@ use nm_superblock::Superblock;
 pub(crate) fn highest_of<F: SlotFile>(files: &[Option<SuperblockFile<F>>], after: u64) -> u64
     ensures own { after ≤ result }
     ensures above { AreUpTo 8 result files.now }
+    ensures least { IsLeastUpTo 8 after result files.now }
 {
     let mut highest = after;
     'legs: for leg in 0..8 {

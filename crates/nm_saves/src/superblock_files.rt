@@ -1,5 +1,5 @@
 ghost use Rattle.std.specs.Prelude.{◌≡◌, ◌≤◌, ◌⊎◌, IfErr, OnOk};
-ghost use Rattle.nm_saves.specs.Files.{AreFailed, AreUpTo};
+ghost use Rattle.nm_saves.specs.Files.{AreFailed, AreUpTo, IsLeastUpTo};
 ghost use Rattle.nm_saves.specs.SavingAll.{IsDone, IsUndone, TakesNone, request_of};
 
 use crate::knowing::{failed_legs, highest_of, other_legs, seen_after};
@@ -39,6 +39,7 @@ impl<F: SlotFile> SuperblockFiles<F> {
         ensures image { result.image ≡ image }
         ensures own { image.generation ≤ result.highest }
         ensures above { AreUpTo 8 result.highest files.items }
+        ensures least { IsLeastUpTo 8 image.generation result.highest files.items }
     {
         let highest = highest_of(&files, image.generation);
         SuperblockFiles {

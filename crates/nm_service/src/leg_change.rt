@@ -62,6 +62,9 @@ impl LegChange {
         ensures none { result ≡ false → (self.now.goes_out ≡ false) × (self.now.stops ≡ false)
             × (self.now.takes_over ≡ false) × (self.now.comes_back ≡ false)
             × (self.now.begins_copy ≡ false) × (self.now.is_whole ≡ false) }
+        ensures quiet { self.now.goes_out ≡ false → self.now.stops ≡ false
+            → self.now.takes_over ≡ false → self.now.comes_back ≡ false
+            → self.now.begins_copy ≡ false → self.now.is_whole ≡ false → result ≡ false }
     {
         let is_worse = self.goes_out || self.stops || self.takes_over;
         is_worse || self.comes_back || self.begins_copy || self.is_whole
