@@ -3,25 +3,21 @@ ghost use Rattle.std.specs.Prelude.{◌≡◌};
 ghost use Rattle.clap.specs.Values.{kind_of};
 ghost use Rattle.nm_reports.specs.StartFault.{status_of, status_of_words};
 
-use crate::copier::Copier;
-use crate::copy_orders::CopyOrders;
-use crate::healing::Healing;
 use crate::kept_mirror::open_asked_for;
-use crate::missing_legs::MissingLegs;
-use crate::replacing::LegRenewer;
 use crate::serving::serve_and_copy;
-use crate::session_rules::SessionRules;
-use crate::sessions::{AT_ONCE, ExportName};
 use clap::Error;
 use clap::error::ErrorKind;
 use nm_commands::{Settings, settings};
+use nm_control::{Copier, CopyOrders, Healing, LegRenewer, MissingLegs};
 use nm_geometry::Shape;
 use nm_leg_files::{
     FileMirror, LateSlots, LateSuperblock, Leg, LegFiles, LegMaker, LegPlace, LegRules, OpensLegs,
     SuperblockWriter, Superblocks, check_files, check_stack, reply_bytes_of, try_threads,
 };
 use nm_mirror::Pass;
+use nm_places::SessionRules;
 use nm_reports::{Address, LogForm, LogLines, Metrics, StartFault, tell_reason};
+use nm_serving::{AT_ONCE, ExportName};
 use nm_sockets::{Listener, listen};
 use nm_system::{Limits, take_standard_streams};
 use std::alloc::{AllocError, Global};

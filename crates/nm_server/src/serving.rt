@@ -1,19 +1,12 @@
 //! Everything that is at work while the server serves.
 
-use crate::control_port::serve_control;
-use crate::controlled::Controlled;
-use crate::copier::Copier;
-use crate::copy_orders::CopyOrders;
-use crate::ending::Ending;
-use crate::replacing::LegRenewer;
-use crate::resync::resynchronise;
-use crate::session_places::SessionPlaces;
-use crate::session_rules::SessionRules;
-use crate::sessions::{AT_ONCE, ExportName, see_off, serve_place, take_clients};
+use nm_control::{Controlled, Copier, CopyOrders, LegRenewer, resynchronise, serve_control};
 use nm_lanes::NoGate;
 use nm_leg_files::{FileMirror, LateSlots, Leg, LegMaker, OpensLegs, SuperblockWriter};
 use nm_mirror::Pass;
+use nm_places::{Ending, SessionPlaces, SessionRules};
 use nm_reports::{LogLines, Metrics, ServerInfo, StartFault, UnreadList};
+use nm_serving::{AT_ONCE, ExportName, see_off, serve_place, take_clients};
 use nm_sockets::{ControlPlaces, Listener};
 use std::alloc::Global;
 use std::net::{Net, TcpListener, TcpStream};

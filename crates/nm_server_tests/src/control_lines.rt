@@ -1,13 +1,14 @@
 //! The control port's answers over two legs in memory, without a thread that copies.
 
 use crate::mirrors::mirror_of;
+use nm_control::{Controlled, CopyOrders, RenewsLegs, control};
 use nm_geometry::Shape;
 use nm_lanes::NoGate;
 use nm_leg::MemLeg;
 use nm_leg_files::{MakesLegs, Unrenewed};
 use nm_mirror::{Mirror, Start};
+use nm_places::{Quit, SessionPlaces, SessionRules};
 use nm_reports::{Metrics, ServerInfo, UnreadList};
-use nm_server::{Controlled, CopyOrders, Quit, RenewsLegs, SessionPlaces, SessionRules, control};
 use nm_stripe::Policy;
 use std::alloc::{AllocError, Global};
 use std::process::Abort;

@@ -5,7 +5,7 @@ use nm_lanes::NoGate;
 use nm_leg::MemLeg;
 use nm_mirror::{Mirror, Pass, Shape, Start};
 use nm_reports::MirrorCall;
-use nm_server::call_mirror;
+use nm_serving::call_mirror;
 use nm_session::TargetFault;
 use std::alloc::Global;
 use std::sync::Wait;

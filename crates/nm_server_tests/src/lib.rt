@@ -1,4 +1,5 @@
-//! Tests of nm_commands, nm_saves and nm_server through their public surface: what no clause says.
+//! Tests of nm_commands, nm_saves, nm_control and nm_serving through their public surface: what no
+//! clause says.
 #![tactic(auto)]
 
 #[cfg(test)]

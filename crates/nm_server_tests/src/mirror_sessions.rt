@@ -9,7 +9,7 @@ use nm_leg::MemLeg;
 use nm_mirror::{Mirror, Pass, Start};
 use nm_replies::ReplyWriter;
 use nm_reports::MirrorCall;
-use nm_server::{MirrorCalls, MirrorTarget, ReadyMirror, call_mirror};
+use nm_serving::{MirrorCalls, MirrorTarget, ReadyMirror, call_mirror};
 use nm_session::{CutReader, CutWriter, End, ServeFault, Served, TargetFault};
 use nm_wire::{Export, Memory};
 use nm_workers::{Finished, serve_many};

@@ -1,0 +1,24 @@
+//! What the control port's commands tell of and change.
+
+use crate::copy_orders::CopyOrders;
+use crate::replacing::RenewsLegs;
+use nm_lanes::Gate;
+use nm_leg::LegPart;
+use nm_leg_files::MakesLegs;
+use nm_mirror::Mirror;
+use nm_places::SessionPlaces;
+use nm_reports::{Metrics, ServerInfo, UnreadList};
+
+/// What the control port's commands tell of and change: the mirror, and what the server knows beside
+/// it.
+#[derive(Drop)]
+pub struct Controlled<'x, L: LegPart, G: Gate + Drop, N: RenewsLegs<L>, M: MakesLegs<L>> {
+    pub mirror: &'x Mirror<L, G>,
+    pub unread: &'x UnreadList,
+    pub sessions: &'x SessionPlaces,
+    pub info: &'x ServerInfo,
+    pub metrics: &'x Metrics,
+    pub orders: &'x CopyOrders,
+    pub legs: &'x N,
+    pub maker: &'x M,
+}

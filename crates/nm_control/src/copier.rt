@@ -1,0 +1,136 @@
+//! Who copies legs, and tells what happens to them.
+ghost use Rattle.nm_control.specs.Rounds.{IsRoundOf};
+
+use crate::copy_orders::CopyOrders;
+use crate::healing::Healing;
+use crate::verifier::Verifier;
+use nm_geometry::Shape;
+use nm_lanes::Gate;
+use nm_leg::LegPart;
+use nm_leg_files::OpensLegs;
+use nm_mirror::{CopyRound, Mirror};
+use nm_reports::{LegLines, LegStory, LogLines, UnreadList};
+use std::alloc::{AllocError, Global};
+use std::sync::Wait;
+use std::time::Clock;
+
+/// Copies the legs of a mirror of this shape, and tells what happens to them and what could not be
+/// read.
+#[derive(Drop)]
+pub struct Copier {
+    alloc: Global,
+    shape: Shape,
+    round: CopyRound,
+    story: LegStory,
+    healing: Option<Healing>,
+    verifier: Verifier,
+    ghost fits: { IsRoundOf shape round },
+}
+
+impl Copier {
+    /// A copier of mirrors of this shape, before its first turn, which tells of these legs, and
+    /// attaches again those that are to heal. It takes no more memory but for lines.
+    pub fn new(
+        alloc: Global,
+        shape: &Shape,
+        legs: Vec<LegLines>,
+        healing: Option<Healing>,
+    ) -> Result<Copier, AllocError> {
+        let round = CopyRound::new(alloc, shape.stripes, shape.legs)?;
+        let story = LegStory::new(alloc, shape, legs)?;
+        Ok(Copier {
+            alloc,
+            shape: *shape,
+            round,
+            story,
+            healing,
+            verifier: Verifier::new(alloc)?,
+        })
+    }
+
+    /// Takes a turn at copying, in a mirror of its shape. How many steps were done.
+    pub fn turn<R: Wait, L: LegPart, G: Gate + Drop>(
+        &mut self,
+        rt: &R,
+        mirror: &Mirror<L, G>,
+    ) -> u32 {
+        let shape = mirror.shape();
+        if shape.stripes != self.shape.stripes || shape.legs != self.shape.legs {
+            return 0;
+        }
+        mirror.resync_turn(rt, &mut self.round)
+    }
+
+    /// Takes a turn at comparing legs, where that is asked for. How many runs were looked at.
+    pub fn verify<R: Wait + Clock, L: LegPart, G: Gate + Drop>(
+        &mut self,
+        rt: &R,
+        mirror: &Mirror<L, G>,
+        orders: &CopyOrders,
+        lines: &LogLines,
+        now: u64,
+    ) -> u32 {
+        self.verifier.turn(rt, mirror, orders.verify(), lines, now)
+    }
+
+    /// Tells how each leg stands, as the server begins or ends.
+    pub fn tell_all<R: Wait + Clock, L: LegPart, G: Gate + Drop>(
+        &mut self,
+        rt: &R,
+        mirror: &Mirror<L, G>,
+        lines: &LogLines,
+        when: &str,
+    ) {
+        self.story.tell_all(rt, self.alloc, lines, mirror, when);
+    }
+
+    /// Tells what has happened by this time, in milliseconds.
+    pub fn tell<R: Wait + Clock, L: LegPart, G: Gate + Drop>(
+        &mut self,
+        rt: &R,
+        mirror: &Mirror<L, G>,
+        unread: &UnreadList,
+        lines: &LogLines,
+        now: u64,
+    ) {
+        unread.set(rt, &self.round);
+        let known = self.round.unread();
+        self.story
+            .tell_unread(rt, self.alloc, lines, mirror.shape(), known);
+        self.story.tell_changes(rt, self.alloc, lines, mirror, now);
+    }
+
+    /// Attaches the legs that are to heal and due at this time, in milliseconds, as last told.
+    pub fn heal<R: Wait, O: OpensLegs, L: LegPart, G: Gate + Drop>(
+        &mut self,
+        rt: &R,
+        opener: &O,
+        mirror: &Mirror<L, G>,
+        orders: &CopyOrders,
+        lines: &LogLines,
+        now: u64,
+    ) {
+        if let Some(healing) = &mut self.healing {
+            healing.look(
+                rt,
+                self.alloc,
+                opener,
+                &self.story,
+                mirror,
+                orders,
+                lines,
+                now,
+            );
+        }
+    }
+
+    /// Whether something could not be read.
+    pub fn has_unread(&self) -> bool {
+        self.round.unread_count() > 0
+    }
+
+    /// Has all that could not be read be tried again.
+    pub fn begin_again(&mut self) {
+        self.round.begin_again();
+    }
+}

@@ -1,0 +1,31 @@
+//! What cares for a mirror's legs, and the control port that answers for it.
+//!
+//! Legs are copied, compared, attached again, replaced and opened anew: that it is safe is proved.
+#![tactic(auto)]
+
+mod answering;
+mod control_port;
+mod controlled;
+mod copier;
+mod copy_orders;
+mod copy_pacer;
+mod healing;
+mod missing_legs;
+mod reopening;
+mod replacing;
+mod resync;
+mod verifier;
+mod verify_answers;
+mod verify_desk;
+mod verify_text;
+
+pub use crate::answering::{AnswersControl, control};
+pub use crate::control_port::serve_control;
+pub use crate::controlled::Controlled;
+pub use crate::copier::Copier;
+pub use crate::copy_orders::CopyOrders;
+pub use crate::healing::Healing;
+pub use crate::missing_legs::MissingLegs;
+pub use crate::reopening::{ReopenCounts, reopen};
+pub use crate::replacing::{LegRenewer, RenewsLegs, Replaced};
+pub use crate::resync::resynchronise;

@@ -1,0 +1,41 @@
+//! A session's calls of the mirror, counted while they are under way.
+ghost use Rattle.std.specs.Prelude.{length};
+ghost use Rattle.nm_serving.specs.Calls.{Acts, IsEven, IsInside, answered};
+
+use crate::mirror_calls::MirrorCalls;
+use nm_geometry::Shape;
+use nm_mirror::Pass;
+use nm_reports::MirrorCall;
+use nm_session::TargetFault;
+use nm_sockets::Activity;
+use std::sync::atomic::AtomicBool;
+
+/// Calls of a mirror, of which the session's activity tells while they are under way.
+#[derive(Drop)]
+pub struct CountedCalls<'a, C> {
+    pub(crate) calls: C,
+    pub(crate) activity: &'a Activity,
+}
+
+impl<'a, L, C: MirrorCalls<L>> MirrorCalls<L> for CountedCalls<'a, C> {
+    ghost ready = { λ counted. C.ready counted.calls };
+
+    ghost shape = { λ counted. C.shape counted.calls };
+
+    fn layout(&self) -> &Shape {
+        self.calls.layout()
+    }
+
+    fn call_through(
+        &self,
+        pass: &mut Pass<L>,
+        call: MirrorCall,
+        into: &mut [u8],
+        is_gone: Option<&AtomicBool>,
+    ) -> Result<(), TargetFault> {
+        self.activity.begin_call();
+        let done = self.calls.call_through(pass, call, into, is_gone);
+        self.activity.end_call();
+        done
+    }
+}

@@ -1,0 +1,120 @@
+//! The calls of the mirror that the program serves.
+ghost use Rattle.std.specs.Prelude.{◌≡◌, length};
+ghost use Rattle.nm_serving.specs.Calls.{Acts, IsEven, IsInside, answered, told};
+
+use crate::mirror_calls::MirrorCalls;
+use nm_geometry::Shape;
+use nm_lanes::{Gate, WriteFault};
+use nm_leg::LegPart;
+use nm_leg_files::{FileMirror, Leg};
+use nm_mirror::{Mirror, Pass};
+use nm_places::SessionPlaces;
+use nm_reports::{Metrics, MirrorCall, MirrorCallKind, bytes_of, microseconds_since};
+use nm_session::TargetFault;
+use std::alloc::Global;
+use std::marker::{Send, Sync};
+use std::sync::Wait;
+use std::sync::atomic::AtomicBool;
+use std::thread::Threads;
+use std::time::{Clock, Instant};
+
+/// The mirror of the program, with the runtime whose threads are at work in its stripes, and where
+/// its calls are counted: those of a place, and those of all places.
+#[derive(Drop)]
+pub struct FileCalls<'a, R> {
+    pub(crate) rt: &'a R,
+    pub(crate) alloc: Global,
+    pub(crate) mirror: &'a FileMirror,
+    pub(crate) metrics: &'a Metrics,
+    pub(crate) place: usize,
+    pub(crate) places: &'a SessionPlaces,
+}
+
+// What is told of an answer: that there is no space left, where that is all that can have failed.
+fn told(answer: Result<(), TargetFault>, is_full: bool) -> Result<(), TargetFault>
+    ensures { result ≡ told is_full answer }
+{
+    match answer {
+        Err(TargetFault::Io) if is_full => Err(TargetFault::Full),
+        _ => answer,
+    }
+}
+
+impl<'a, R: Threads + Wait + Sync + Copy + Clock> MirrorCalls<Leg> for FileCalls<'a, R> {
+    ghost use Rattle.std.specs.Thread.{IsSync};
+
+    ghost ready = { λ calls. IsSync R.row };
+
+    ghost shape = { λ calls. calls.mirror.now.shape };
+
+    fn layout(&self) -> &Shape {
+        self.mirror.shape()
+    }
+
+    fn call_through(
+        &self,
+        pass: &mut Pass<Leg>,
+        call: MirrorCall,
+        into: &mut [u8],
+        is_gone: Option<&AtomicBool>,
+    ) -> Result<(), TargetFault> {
+        self.places.count_call();
+        let (kind, bytes) = (MirrorCallKind::of(&call), bytes_of(&call, into.len()));
+        let changes = call.changes();
+        let begun = Instant::now(self.rt).ok();
+        let answer = call_mirror(self.rt, self.alloc, self.mirror, pass, call, into, is_gone);
+        if let Some(counts) = self.metrics.calls_of(self.place) {
+            counts.note(
+                kind,
+                bytes,
+                microseconds_since(self.rt, &begun),
+                answer.is_ok(),
+            );
+        }
+        told(answer, changes && self.metrics.is_full_alone())
+    }
+}
+
+/// Makes this call of the mirror through the pass, a read's into the buffer. Refused memory is told
+/// as such, and a fault of the mirror as an I/O fault; so are zeroes that ended before their next
+/// region, since their client `is_gone`.
+pub fn call_mirror<R: Threads + Wait + Sync, L: LegPart + Send, G: Gate + Drop + Sync>(
+    rt: &R,
+    alloc: Global,
+    mirror: &Mirror<L, G>,
+    pass: &mut Pass<L>,
+    call: MirrorCall,
+    into: &mut [u8],
+    is_gone: Option<&AtomicBool>,
+) -> Result<(), TargetFault>
+    requires even { IsEven mirror.now.shape pass.old.parts.items }
+    requires inside { IsInside mirror.now.shape call (length into.old) }
+    ensures { Acts L mirror.now.shape (answered call into.new result)
+        (pass.old.parts.items, pass.new.parts.items) }
+{
+    match call {
+        MirrorCall::Read(offset) => match mirror.read_at(rt, pass, offset, into) {
+            Ok(()) => Ok(()),
+            Err(_) => Err(TargetFault::Io),
+        },
+        MirrorCall::Write(offset, payload) => {
+            match mirror.write_at(rt, alloc, pass, offset, payload) {
+                Ok(()) => Ok(()),
+                Err(WriteFault::Memory) => Err(TargetFault::Memory),
+                Err(WriteFault::Io(_)) => Err(TargetFault::Io),
+            }
+        }
+        MirrorCall::Zero(offset, count) => match mirror.zero_at(rt, pass, offset, count, is_gone) {
+            Ok(()) => Ok(()),
+            Err(_) => Err(TargetFault::Io),
+        },
+        MirrorCall::Flush => match mirror.flush(rt, pass) {
+            Ok(()) => Ok(()),
+            Err(_) => Err(TargetFault::Io),
+        },
+        MirrorCall::Sync(offset, count) => match mirror.sync_touched(rt, pass, offset, count) {
+            Ok(()) => Ok(()),
+            Err(_) => Err(TargetFault::Io),
+        },
+    }
+}

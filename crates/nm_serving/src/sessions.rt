@@ -1,0 +1,306 @@
+//! Sessions: who takes clients, who serves them.
+ghost use Rattle.std.specs.Prelude.{◌≡◌, ◌*◌, ◌≤◌, ◌^◌, ◌↔◌, [], length, map, true, All};
+ghost use Rattle.std.specs.Prelude.{IsSome, IfSome, IfOk, IfErr};
+ghost use Rattle.nm_serving.specs.Handshake.{HasNegotiated};
+ghost use Rattle.nm_session.specs.declared.serve_fault.ServeFault.TheVariants.{Memory};
+ghost use Rattle.nm_wire.specs.Export.{size_of};
+
+use crate::counted_calls::CountedCalls;
+use crate::file_calls::FileCalls;
+use crate::mirror_calls::{MirrorCalls, ReadyMirror};
+use crate::mirror_target::MirrorTarget;
+use nm_leg::LegPart;
+use nm_leg_files::{FileMirror, Leg};
+use nm_mirror::Pass;
+use nm_places::{Ending, SessionPlaces};
+use nm_replies::ReplyWriter;
+use nm_reports::{Incident, LogLines, Metrics};
+use nm_session::{Limit, ServeFault, Served, SessionCore};
+use nm_sockets::{
+    ClientReader, ClientStream, ClientWriter, HangUp, Listener, Peer, SessionEnd, Stream,
+    TimedStream, tell_begin, tell_end,
+};
+use nm_wire::{Export, Name};
+use nm_workers::{SpinToken, negotiate, transmit};
+use std::alloc::Global;
+use std::cell::Cell;
+use std::net::Shutdown;
+use std::sync::Wait;
+use std::sync::atomic::AtomicBool;
+use std::thread;
+use std::thread::Threads;
+use std::time::{Clock, Duration, Instant};
+
+/// How many requests of a session are served at once: each goes through a pass of its own.
+pub const AT_ONCE: usize = 16;
+
+/// How many bytes of a handshake are read at once.
+const ROOM: usize = 4096;
+
+/// How many seconds a handshake may take.
+const HANDSHAKE_SECONDS: u64 = 30;
+
+/// How many milliseconds pass after an accept that failed.
+const AFTER_FAILURE_MILLISECONDS: u64 = 100;
+
+/// How many milliseconds pass from one look at the time of a `quit` to the next.
+const BETWEEN_LOOKS_MILLISECONDS: u64 = 100;
+
+/// The export as each session is told of it.
+#[derive(Drop)]
+pub struct ExportName<'a> {
+    name: &'a str,
+    read_only: bool,
+    ghost short_name: { length name.now ≤ 255 },
+}
+
+impl<'a> ExportName<'a> {
+    /// An export of this name, where it has 1 to 255 bytes.
+    pub fn new(name: &'a str, read_only: bool) -> Option<Self>
+        ensures some { IsSome result ↔ ((1 ≤ length name.now) × (length name.now ≤ 255)) }
+        ensures named { IfSome result (λ named.
+            (named.name.now ≡ name.now) × (named.read_only ≡ read_only)) }
+    {
+        if name.is_empty() || name.len() > 255 {
+            return None;
+        }
+        Some(ExportName { name, read_only })
+    }
+}
+
+// The export for one session.
+fn export_of(alloc: Global, named: &ExportName<'_>, blocks: u64) -> Option<Export>
+    requires { blocks ≤ 2 ^ 31 }
+    ensures named { IfSome result (λ export. export.name ≡ named.now.name.now) }
+    ensures blocks { IfSome result (λ export. export.blocks ≡ blocks) }
+    ensures read_only { IfSome result (λ export. export.read_only ≡ named.now.read_only) }
+{
+    let mut name = Vec::new(alloc);
+    name.extend_from_slice(named.name.as_bytes()).ok()?;
+    Some(Export {
+        name: Name::new(name),
+        blocks,
+        read_only: named.read_only,
+    })
+}
+
+// Negotiates with a client within its time, and tells whether requests follow. After it no limit
+// stands.
+fn negotiate_in_time<R: Wait + Clock>(
+    rt: &R,
+    alloc: Global,
+    stream: &Stream,
+    core: &mut SessionCore,
+) -> Result<bool, ServeFault>
+    requires idle { core.old.outstanding ≡ [] }
+    ensures negotiated { IfOk result (λ goes_on. HasNegotiated goes_on core.old core.new) }
+    ensures export { IfOk result (λ goes_on. goes_on ≡ true
+        → core.new.haggling.export ≡ core.old.haggling.export) }
+{
+    let within = Duration::from_secs(HANDSHAKE_SECONDS);
+    let Ok(mut room) = vec![in alloc; 0; ROOM] else {
+        return Err(ServeFault::Memory);
+    };
+    let Ok(begun) = Instant::now(rt) else {
+        return Err(ServeFault::Read);
+    };
+    let begun = Cell::new(begun);
+    let mut reader = TimedStream::new(rt, stream, &begun, within);
+    let mut sender = ReplyWriter::new(TimedStream::new(rt, stream, &begun, within));
+    match negotiate(rt, alloc, core, &mut room, &mut reader, &mut sender) {
+        Ok(None) => {
+            let _ = stream.set_read_timeout(None);
+            let _ = stream.set_write_timeout(None);
+            Ok(true)
+        }
+        Ok(Some(_)) => Ok(false),
+        Err(fault) => Err(fault),
+    }
+}
+
+// The mirror as a target through each of the passes. The first of them that ends, once the session
+// asks for nothing more, ends the read under way.
+//
+// A pass of another shape, which the mirror itself never makes, is told as memory that is refused.
+fn targets_of<'a, L, C: MirrorCalls<L> + Drop>(
+    alloc: Global,
+    mirror: &'a ReadyMirror<L, C>,
+    passes: &'a mut [Pass<L>],
+    client: &'a ClientStream,
+) -> Result<Vec<MirrorTarget<'a, L, C, HangUp<'a>>>, ServeFault>
+    ensures mirror { IfOk result (λ targets.
+        All (λ target. target.mirror.now ≡ mirror.now) targets.items) }
+    ensures passes { IfOk result (λ targets.
+        map (λ target. target.pass.now) targets.items ≡ passes.old) }
+    ensures memory { IfErr result (λ fault. fault ≡ Memory) }
+{
+    let mut targets = Vec::new(alloc);
+    'passes: for pass in passes.iter_mut() {
+        let hang_up = HangUp {
+            stream: &client.stream,
+        };
+        let is_gone = Some(client.is_gone());
+        let Some(target) = MirrorTarget::new(mirror, pass, is_gone, hang_up) else {
+            return Err(ServeFault::Memory);
+        };
+        if targets.push(target).is_err() {
+            return Err(ServeFault::Memory);
+        }
+    }
+    Ok(targets)
+}
+
+// Answers a client's requests until it asks for nothing more.
+fn answer_requests<R, L: LegPart + Send, C: MirrorCalls<L> + Sync + Drop>(
+    rt: &R,
+    alloc: Global,
+    client: &ClientStream,
+    mirror: &ReadyMirror<L, C>,
+    passes: &mut [Pass<L>],
+    core: SessionCore,
+    is_over: &AtomicBool,
+    lookout: &SpinToken,
+) -> Result<Served, ServeFault>
+where
+    R: Threads + Wait + Sync,
+    requires size { size_of core.haggling.export ≤ 512 * mirror.now.blocks }
+{
+    let targets = targets_of(alloc, mirror, passes, client)?;
+    let reader = ClientReader::new(client, is_over);
+    let sender = ReplyWriter::new(ClientWriter::new(client));
+    transmit(rt, alloc, core, reader, sender, targets, lookout).result
+}
+
+// Serves one client from its greeting to its end.
+fn serve_client<R: Threads + Wait + Sync + Copy + Clock>(
+    rt: &R,
+    alloc: Global,
+    client: &ClientStream,
+    named: &ExportName<'_>,
+    mirror: &FileMirror,
+    passes: &mut [Pass<Leg>],
+    places: &SessionPlaces,
+    metrics: &Metrics,
+    place: usize,
+) -> Result<SessionEnd, ServeFault> {
+    let _ = client.stream.set_nodelay();
+    let Some(export) = export_of(alloc, named, mirror.shape().blocks) else {
+        return Err(ServeFault::Memory);
+    };
+    let limit = Limit {
+        requests: AT_ONCE,
+        bytes: places.reply_bytes(),
+    };
+    let Ok(mut core) = SessionCore::new(alloc, export, limit) else {
+        return Err(ServeFault::Memory);
+    };
+    if !negotiate_in_time(rt, alloc, &client.stream, &mut core)? {
+        return Ok(SessionEnd::InHandshake);
+    }
+    client.activity.note_negotiated();
+    let ready = ReadyMirror::new(CountedCalls {
+        calls: FileCalls {
+            rt,
+            alloc,
+            mirror,
+            metrics,
+            place,
+            places,
+        },
+        activity: &client.activity,
+    });
+    let (is_over, lookout) = (places.is_over(), places.lookout());
+    let served = answer_requests(rt, alloc, client, &ready, passes, core, is_over, lookout)?;
+    Ok(SessionEnd::By(served.end))
+}
+
+/// Serves the clients that get the place of this number, one after the other, until the places are
+/// closed. Their requests take the passes, as many at once as there are.
+///
+/// A client's place is free again before its connection is closed.
+pub fn serve_place<R>(
+    rt: &R,
+    alloc: Global,
+    places: &SessionPlaces,
+    number: usize,
+    named: &ExportName<'_>,
+    mirror: &FileMirror,
+    passes: &mut [Pass<Leg>],
+    metrics: &Metrics,
+    lines: &LogLines,
+)
+where
+    R: Threads + Wait + Sync + Copy + Clock,
+{
+    for _ in rt.forever() {
+        let Some(client) = places.take(rt, number) else {
+            return;
+        };
+        if places.is_verbose() {
+            tell_begin(rt, alloc, &client, lines);
+        }
+        metrics.begin_session();
+        let ended = serve_client(
+            rt, alloc, &client, named, mirror, passes, places, metrics, number,
+        );
+        metrics.end_session(ended.is_ok());
+        let closing = places.free(rt, number);
+        let is_verbose = places.is_verbose();
+        tell_end(rt, alloc, &client, ended, closing, is_verbose, lines);
+        let _ = client.stream.shutdown(Shutdown::Write);
+    }
+}
+
+/// Takes connections and gives them places, until the server ends.
+///
+/// An accept that fails, as where there are no descriptors left, ends nothing: the next comes after
+/// a pause.
+pub fn take_clients<R: Wait + Clock>(
+    rt: &R,
+    alloc: Global,
+    listener: &Listener,
+    places: &SessionPlaces,
+    ending: &Ending,
+    metrics: &Metrics,
+    lines: &LogLines,
+) {
+    for _ in rt.forever() {
+        let accepted = listener.accept();
+        if ending.has_begun() {
+            return;
+        }
+        match accepted {
+            Ok((stream, address)) => {
+                if !places.offer(rt, ClientStream::new(stream, address)) {
+                    metrics.refuse_client();
+                    let count = places.count();
+                    let text = format!(in alloc;
+                        "client {address}: refused: all {count} places are taken (--sessions)"
+                    );
+                    lines.warn_of(rt, Incident::ClientRefused, text);
+                }
+            }
+            Err(error) => {
+                let text = format!(in alloc; "a client's connection could not be taken: {error}");
+                lines.warn_of(rt, Incident::ClientNotAccepted, text);
+                thread::sleep(rt, Duration::from_millis(AFTER_FAILURE_MILLISECONDS));
+            }
+        }
+    }
+}
+
+/// Waits until the sessions have ended, or closes those that are left once their time is over.
+/// Looks for clients that have gone or are idle meanwhile.
+pub fn see_off<R: Wait + Clock>(rt: &R, places: &SessionPlaces, ending: &Ending) {
+    for _ in rt.forever() {
+        if ending.is_due(rt) {
+            places.hang_up(rt);
+            return;
+        }
+        places.look(rt);
+        let within = Duration::from_millis(BETWEEN_LOOKS_MILLISECONDS);
+        if places.wait_until_free(rt, within) {
+            return;
+        }
+    }
+}
