@@ -195,8 +195,8 @@ impl Play {
             4 | 5 => self.flush(rt, server),
             6..=9 => self.fail(rt, server)?,
             10 => {
-                let leg = self.chance.below(u64::from(self.shape.legs)) as u8;
-                server.attach(rt, leg);
+                let leg = self.chance.below(u64::from(self.shape.legs)) % 8;
+                server.attach(rt, leg as u8);
             }
             11 | 12 => {
                 let turns = self.chance.below(12);
