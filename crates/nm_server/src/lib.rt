@@ -1,11 +1,9 @@
-//! The server `nbdmirror` as a library: how its mirror is opened, and the program itself.
+//! The server `nbdmirror` as a library: the threads of a server, and the program itself.
 //!
 //! `start` reads the command line, opens the legs, listens, and serves until a `quit`: that it is
 //! safe is proved.
 #![tactic(auto)]
 
-mod answering_meanwhile;
-mod kept_mirror;
 mod program;
 mod serving;
 

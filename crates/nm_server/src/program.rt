@@ -3,7 +3,6 @@ ghost use Rattle.std.specs.Prelude.{◌≡◌};
 ghost use Rattle.clap.specs.Values.{kind_of};
 ghost use Rattle.nm_reports.specs.StartFault.{status_of, status_of_words};
 
-use crate::kept_mirror::open_asked_for;
 use crate::serving::serve_and_copy;
 use clap::Error;
 use clap::error::ErrorKind;
@@ -15,6 +14,7 @@ use nm_leg_files::{
     SuperblockWriter, Superblocks, check_files, check_stack, reply_bytes_of, try_threads,
 };
 use nm_mirror::Pass;
+use nm_opening::open_asked_for;
 use nm_places::SessionRules;
 use nm_reports::{Address, LogForm, LogLines, Metrics, StartFault, tell_reason};
 use nm_serving::{AT_ONCE, ExportName};

@@ -1,0 +1,8 @@
+//! The mirror over the legs' files, as a start opens it: by superblocks, or by comparing the legs
+//! while the control port tells how far that is.
+#![tactic(auto)]
+
+mod answering_meanwhile;
+mod kept_mirror;
+
+pub use crate::kept_mirror::{OpenedMirror, open_asked_for};
