@@ -5,6 +5,7 @@
 #![tactic(auto)]
 
 mod answering_meanwhile;
+mod equipment;
 mod kept_mirror;
 mod program;
 mod serving;
