@@ -130,9 +130,9 @@ pub record IsForced (leg lineage : ℕ) (newest image : Superblock) : Type 0 whe
   pub unmarked : IsUnmarked 16384 image.marked
   pub sets : NamesAlone 64 newest.stripes leg (replicate 8 false) image.sets
 
--- The first image of a mirror: it has the mirror's id, shape and legs, is of a lineage that descends
--- from none, names this leg alone, says of the others that are equal to it that they lack nothing,
--- and marks nothing.
+-- The first image of a mirror: it has the mirror's id, shape and legs, is of a lineage that
+-- descends from none, names this leg alone, says of the others that are equal to it that they lack
+-- nothing, and marks nothing.
 pub record IsFirst (new : NewMirror) (master : ℕ) (equal : List Bool) (image : Superblock)
     : Type 0 where
   pub generation : image.generation ≡ 0

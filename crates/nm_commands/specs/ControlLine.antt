@@ -2,9 +2,10 @@
 use Rattle.std.specs.Prelude.{◌≡◌, ◌<◌, ◌≤◌, ℕ, ◌^◌, List, ◌++◌, length, codes}
 use Rattle.std.specs.Str.Parse.{IsNumeral, digits_value}
 use Rattle.nm_commands.specs.declared.control_command.ControlCommand.{ControlCommand}
-use Rattle.nm_commands.specs.declared.control_command.ControlCommand.TheVariants.{Status, Unread, Fail}
+use Rattle.nm_commands.specs.declared.control_command.ControlCommand.TheVariants.{Status, Unread}
 use Rattle.nm_commands.specs.declared.control_command.ControlCommand.TheVariants.{Info, Metrics}
-use Rattle.nm_commands.specs.declared.control_command.ControlCommand.TheVariants.{Attach, Quit, Replace}
+use Rattle.nm_commands.specs.declared.control_command.ControlCommand.TheVariants.{Attach, Quit}
+use Rattle.nm_commands.specs.declared.control_command.ControlCommand.TheVariants.{Fail, Replace}
 use Rattle.nm_commands.specs.declared.control_command.ControlCommand.TheVariants.{QuitWithin, Bad}
 use Rattle.nm_commands.specs.declared.control_command.ControlCommand.TheVariants.{Clients, Kick}
 use Rattle.nm_commands.specs.declared.control_command.ControlCommand.TheVariants.{Reopen, ReopenAll}

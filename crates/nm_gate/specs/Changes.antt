@@ -18,8 +18,9 @@ widened claims d = record d {
   lacking = legs_where (λ leg. is_lacking leg d || has leg claims.partial);
 }
 
--- the claims may be said of this leg, once steps, and marks that were cleared, came between the begin
--- and the end of a save: they are within the bounds, and a leg in sync that was listed still is
+-- the claims may be said of this leg, once steps, and marks that were cleared, came between the
+-- begin and the end of a save: they are within the bounds, and a leg in sync that was listed
+-- still is
 abbrev pub may_say : {L : Type 0} → StripeState L → Durable → LegClaims → ℕ → Bool
 may_say stripe d claims leg =
     let named : Bool = is_named leg d || is_current_leg stripe leg in
@@ -34,8 +35,8 @@ pub record MayEnd {L : Type 0} (stripe : StripeState L) (d : Durable) (claims : 
   pub legs : (leg : ℕ) → leg < 8 → may_say stripe d claims leg ≡ true
   pub marks : HasMarks (Some d) marked
 
--- the bounds once it has ended: they are what it says, with as many marks as before, and a save that
--- could not be done is made good
+-- the bounds once it has ended: they are what it says, with as many marks as before, and a save
+-- that could not be done is made good
 pub record Ends (claims : LegClaims) (marked : List Bool) (old new : Durable) : Type 0 where
   pub after : new ≡ superblock_of claims new.marked old
   pub marks : (span : ℕ) → span < length old.marked

@@ -1,6 +1,6 @@
 -- Which steps may be done by what the durable superblock may say, and why the others may not.
-use Rattle.std.specs.Prelude.{◌≡◌, ◌<◌, ℕ, ◌/◌, Bool, true, false, if◌then◌else◌, Option, None, Some}
-use Rattle.std.specs.Prelude.{length}
+use Rattle.std.specs.Prelude.{◌≡◌, ◌<◌, ℕ, ◌/◌, Bool, true, false, if◌then◌else◌}
+use Rattle.std.specs.Prelude.{Option, None, Some, length}
 use Rattle.nm_choice.specs.declared.leg_state.LegState.TheVariants.{InSync}
 use Rattle.nm_rules.specs.State.{StripeState, leg_state}
 use Rattle.nm_stripe.specs.declared.step.Step.{Step}

@@ -13,8 +13,8 @@ use Rattle.nm_lanes.specs.Done.{Done}
 use Rattle.nm_lanes.specs.Ends.{HasTried}
 use Rattle.nm_lanes.specs.Lists.{MirrorStep, stripe_list, Does}
 
--- The step synced this leg, or found it out. A sync that lost its leg is not enough: what is durable
--- of the legs may still call it in sync.
+-- The step synced this leg, or found it out. A sync that lost its leg is not enough: what is
+-- durable of the legs may still call it in sync.
 abbrev pub SyncsOrFindsOut : {L : Type 0} → ℕ → Step L → Answer L → Type 0
 SyncsOrFindsOut leg (Sync other) Synced = other ≡ leg
 SyncsOrFindsOut leg (Sync other) (Refused AlreadyOut handed) = other ≡ leg

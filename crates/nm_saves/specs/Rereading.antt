@@ -7,8 +7,8 @@ use Rattle.nm_saves.specs.SavingAll.{FilesState}
 use Rattle.nm_saves.specs.SlotFile.{KeepsSlots}
 
 -- The file is settled and read again. Done, it is what is known of it, and may be written again;
--- not done, it is not written again, and no more is known. Nothing is written, and no stamp that was
--- known is forgotten.
+-- not done, it is not written again, and no more is known. Nothing is written, and no stamp that
+-- was known is forgotten.
 pub record RereadsFile (honest done : Bool) (old new : FileState) : Type 0 where
   pub fine : IsTrue done → IsFalse new.failed
   pub failed : IsFalse done → IsTrue new.failed
