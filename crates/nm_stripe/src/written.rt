@@ -1,20 +1,13 @@
 ghost use Rattle.std.specs.Prelude.{◌≡◌, ◌+◌, ◌<◌, ◌≤◌, ◌^◌};
-ghost use Rattle.nm_rules.specs.Runs.{EntryNames};
-ghost use Rattle.nm_stripe.specs.Names.{AreNamed};
 
-use std::marker::{Model, PhantomData};
+use crate::receipt::Receipt;
+use std::marker::Model;
 
 /// The answer of a claim: the entries of a finished write in the stripe's history.
 ///
 /// Only a `Stripe<L>` makes one, once the write has reached every leg that it owed.
 #[derive(Drop)]
-pub struct Written<L> {
-    stripe: u32,
-    block: u64,
-    number: u64,
-    count: u64,
-    of: PhantomData<L>,
-}
+pub struct Written<L>(Receipt<L>);
 
 impl<L> Model for Written<L> {
     ghost use Rattle.nm_rules.specs.Runs.{EntryNames};
@@ -22,19 +15,9 @@ impl<L> Model for Written<L> {
 
     ghost Value = { EntryNames };
 
-    ghost view = { λ w. record {
-      stripe = w.stripe;
-      block = w.block;
-      number = w.number;
-      count = w.count;
-    } };
+    ghost view = { λ w. w.0 };
 
-    ghost invariant = { λ w. AreNamed (record {
-      stripe = w.stripe;
-      block = w.block;
-      number = w.number;
-      count = w.count;
-    }) };
+    ghost invariant = { λ w. AreNamed w.0 };
 }
 
 impl<L> Written<L> {
@@ -45,27 +28,21 @@ impl<L> Written<L> {
         ensures { result
             ≡ record { stripe = stripe; block = block; number = number; count = count } }
     {
-        Written {
-            stripe,
-            block,
-            number,
-            count,
-            of: PhantomData,
-        }
+        Written(Receipt::new(stripe, block, number, count))
     }
 
     /// The stripe's number.
     pub fn stripe(&self) -> u32
         ensures { result ≡ self.now.stripe }
     {
-        self.stripe
+        self.0.stripe()
     }
 
     /// The first block, by its number in the stripe.
     pub fn block(&self) -> u64
         ensures { result ≡ self.now.block }
     {
-        self.block
+        self.0.block()
     }
 
     /// The number of the first block's entry. Each further block has the next number, and all are
@@ -75,7 +52,7 @@ impl<L> Written<L> {
         ensures below { result < 2 ^ 63 }
         ensures last { result + self.now.count ≤ 2 ^ 63 }
     {
-        self.number
+        self.0.number()
     }
 
     /// How many blocks were written, each with its entry: at least one and at most 128.
@@ -84,6 +61,6 @@ impl<L> Written<L> {
         ensures some { 0 < result }
         ensures most { result ≤ 128 }
     {
-        self.count
+        self.0.count()
     }
 }
