@@ -1,6 +1,5 @@
--- Going through the lists of a copier's round, and what is told in it.
-use Rattle.std.proofs.Common.{◌≡◌, ◌≢◌, ◌⊎◌, ⊎_elim, inl, inr, ℕ, zero, suc, ◌+◌, ◌-◌, ◌*◌, ◌^◌, ◌<◌, ◌≤◌, ◌==◌, ◌||◌, not, min, nat_lt, Bool, true, false, List, [], ◌∷◌, ◌++◌, length, map, take, drop, set, get_or, slice_set, slice_index_or, refl, sym, ap, subst, ◌∙◌, cond, arith}
-use Rattle.std.proofs.lemmas.List.{append_assoc, drop_more, map_more, set_at, get_or_at, length-map, length-take-le}
+-- What is told in a copier's round, and how the round goes on.
+use Rattle.std.proofs.Common.{◌≡◌, ◌≢◌, ◌⊎◌, ⊎_elim, inl, inr, ℕ, zero, suc, ◌+◌, ◌-◌, ◌*◌, ◌^◌, ◌<◌, ◌≤◌, ◌==◌, ◌||◌, not, min, nat_lt, Bool, true, false, List, [], ◌∷◌, ◌++◌, length, map, get_or, slice_set, slice_index_or, refl, sym, subst, ◌∙◌, cond, arith}
 use Rattle.std.proofs.lemmas.List.Elements.{All-map, All-set}
 use Rattle.std.specs.List.{filter, list_any}
 use Rattle.std.specs.Prelude.{All}
@@ -10,22 +9,6 @@ use Rattle.nm_mirror.specs.declared.copy_round.Visit.{Visit}
 use Rattle.nm_mirror.specs.declared.copy_round.Visit.TheVariants.{Rests, GoesOn, Ends, PassesOver}
 use Rattle.nm_mirror.specs.CopyRound.{Round, HasUnread, PassesNothing, begun, is_new}
 use Rattle.nm_mirror.specs.RoundChanges.{GoesOnTo, IsLater, Same, AfterVisit, AfterStripe, after_visit, begun_again, is_region, noted, renewed, settled, told_by, visited}
-
--- the element at a place is changed as those before it are
-pub map-step : {X : Type 0} (f : X → X) (old now : List X) (i : ℕ) (d : X) → i < length old
-    → now ≡ map f (take i old) ++ drop i old
-    → set now i (f (get_or now i d)) ≡ map f (take (i + 1) old) ++ drop (i + 1) old
-map-step f old now i d lt is =
-    let front : length (map f (take i old)) ≡ i =
-    length-map (take i old) f ∙ length-take-le i old (omega arith) in
-    let whole : now ≡ map f (take i old) ++ get_or old i d ∷ drop (i + 1) old =
-    is ∙ ap (λ rest. map f (take i old) ++ rest) (drop_more old i d lt) in
-    let same : get_or now i d ≡ get_or old i d = ap (λ l. get_or l i d) whole
-    ∙ get_or_at (map f (take i old)) (get_or old i d) (drop (i + 1) old) d i front in
-    ap (λ y. set now i (f y)) same ∙ ap (λ l. set l i (f (get_or old i d))) whole
-    ∙ set_at (map f (take i old)) (get_or old i d) (drop (i + 1) old) (f (get_or old i d)) i front
-    ∙ sym (append_assoc (map f (take i old)) (f (get_or old i d) ∷ []) (drop (i + 1) old))
-    ∙ ap (λ l. l ++ drop (i + 1) old) (sym (map_more f old i d lt))
 
 true_or_false : (b : Bool) → (b ≡ true) ⊎ (b ≡ false)
 true_or_false true = inl refl

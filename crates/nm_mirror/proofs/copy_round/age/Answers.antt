@@ -1,7 +1,7 @@
 -- One region more is of an earlier round.
 use Rattle.std.proofs.Common.{false, arith}
 use Rattle.nm_mirror.specs.RoundChanges.{aged}
-use Rattle.nm_mirror.proofs.RoundLemmas.{map-step}
+use Rattle.nm_regions.proofs.Marking.{map-step}
 use Rattle.nm_mirror.proofs.copy_round.age.Goals as goal
 
 pub loop-one-preserved : goal.loop-one-preserved

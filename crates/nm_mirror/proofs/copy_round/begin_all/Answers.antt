@@ -2,7 +2,7 @@
 use Rattle.std.proofs.Common.{arith}
 use Rattle.nm_mirror.specs.declared.copy_round.LegRound.{LegRound}
 use Rattle.nm_mirror.specs.CopyRound.{begun}
-use Rattle.nm_mirror.proofs.RoundLemmas.{map-step}
+use Rattle.nm_regions.proofs.Marking.{map-step}
 use Rattle.nm_mirror.proofs.copy_round.begin_all.Goals as goal
 
 pub loop-place-preserved : goal.loop-place-preserved

@@ -1,7 +1,7 @@
 -- One region more is looked at.
 use Rattle.std.proofs.Common.{false, arith}
 use Rattle.nm_mirror.specs.RoundChanges.{renewed}
-use Rattle.nm_mirror.proofs.RoundLemmas.{map-step}
+use Rattle.nm_regions.proofs.Marking.{map-step}
 use Rattle.nm_mirror.proofs.copy_round.renew.Goals as goal
 
 pub loop-one-preserved : goal.loop-one-preserved
