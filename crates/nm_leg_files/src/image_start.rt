@@ -8,15 +8,12 @@ use crate::superblock_sets::marks_in;
 use nm_assemble::{LegStart, leg_start, named_leg};
 use nm_choice::Policy;
 use nm_geometry::Shape;
-use nm_mirror::{StripeStart, open_marked_stripes};
+use nm_mirror::{MOST_SPANS, StripeStart, open_marked_stripes};
 use nm_reports::StartFault;
 use nm_rules::LegOpening;
 use nm_stripe::Stripe;
 use nm_superblock::Superblock;
 use std::alloc::Global;
-
-/// How many spans a stripe has at most.
-const MOST_SPANS: usize = 16_384;
 
 // How a leg stands as a stripe opens. How its master does is not looked at.
 fn opening_of(start: LegStart) -> LegOpening {

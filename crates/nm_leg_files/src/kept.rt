@@ -10,7 +10,7 @@ use crate::superblock_sets::{legs_in, marks_in};
 use crate::superblock_writer::SuperblockWriter;
 use nm_gate::{DurableState, GatedStripe};
 use nm_geometry::Shape;
-use nm_mirror::{gated, ungated};
+use nm_mirror::{MOST_SPANS, gated, ungated};
 use nm_reports::{StartFault, Unopened};
 use nm_saves::SuperblockFiles;
 use nm_stripe::Stripe;
@@ -18,9 +18,6 @@ use nm_superblock::Superblock;
 use std::alloc::Global;
 use std::fs::File;
 use std::rt::Files;
-
-/// How many spans a stripe has at most.
-const MOST_SPANS: u64 = 16_384;
 
 /// The files of superblocks, and what a start by them goes by.
 #[derive(Drop)]
@@ -94,7 +91,7 @@ fn durable_states<'a>(
         let place = stripe.place();
         let regions = place.blocks.div_ceil(place.region.max(1));
         let span = u64::from(image.span_regions.max(1));
-        let spans = regions.div_ceil(span).min(MOST_SPANS) as usize;
+        let spans = regions.div_ceil(span).min(MOST_SPANS as u64) as usize;
         let state = match durable_state(alloc, image, number, spans) {
             Ok(state) => state,
             Err(fault) => return Err(fault),

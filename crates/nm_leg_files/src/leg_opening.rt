@@ -4,6 +4,7 @@ ghost use Rattle.std.specs.Prelude.{◌≡◌, ◌≤◌, ◌^◌, ◌||◌, fal
 use crate::limited_file::CallLimit;
 use crate::timed_calls::TimedCalls;
 use nm_commands::{Settings, SuperblockPlace};
+use nm_geometry::MOST_BLOCKS;
 use nm_reports::{StartFault, Unopened};
 use nm_system::{Limits, is_in_use};
 use std::alloc::{AllocError, Global};
@@ -16,9 +17,6 @@ use std::sync::Arc;
 
 /// How many bytes a block has.
 pub const BLOCK_BYTES: u64 = nm_replay::BLOCK_BYTES as u64;
-
-/// How many blocks an export has at most.
-const MOST_BLOCKS: u64 = 1 << 31;
 
 /// How many calls of stripes a leg's threads make at once at most; one more is for its superblock.
 const MOST_CALLS: u8 = 16;

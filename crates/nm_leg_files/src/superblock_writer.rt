@@ -3,22 +3,16 @@
 ghost use Rattle.std.specs.Prelude.{◌≤◌};
 
 use crate::saving::{AfterTry, after_try, is_clean, is_last_somewhere};
-use nm_geometry::MOST_LEGS;
+use nm_geometry::{MOST_LEGS, MOST_STRIPES};
 use nm_lanes::Gate;
 use nm_leg::LegPart;
-use nm_mirror::{Mirror, SaveOrder};
+use nm_mirror::{MOST_SPANS, Mirror, SaveOrder};
 use nm_reports::{LogLines, SaveStatus};
 use nm_saves::{SlotFile, SuperblockFiles};
 use nm_superblock::{LegSets, SpanMap, Superblock};
 use std::alloc::{AllocError, Global};
 use std::sync::Wait;
 use std::{fmt, io};
-
-/// How many stripes a superblock tells of at most.
-const MOST_STRIPES: u32 = 64;
-
-/// How many spans each stripe has at most.
-const MOST_SPANS: usize = 16_384;
 
 // In how many of so many stripes a leg is in sync by the first sets and not by the second.
 fn losses(before: &LegSets, after: &LegSets, stripes: usize) -> u32

@@ -26,6 +26,7 @@ pub use pass::Pass;
 pub use refused::Refused;
 pub use reopening::Reopened;
 pub use replacing::Withdrawal;
+pub use save_desk::MOST_SPANS;
 pub use save_order::SaveOrder;
 pub use start::Start;
 pub use status::{LegStatus, StripeStatus};

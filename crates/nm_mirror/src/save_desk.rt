@@ -3,7 +3,7 @@
 use std::sync::{Condvar, Mutex, Wait};
 
 /// How many spans a stripe has at most.
-pub(crate) const MOST_SPANS: usize = 16_384;
+pub const MOST_SPANS: usize = 16_384;
 
 /// What is wanted of a save.
 #[derive(Clone, Copy)]

@@ -7,7 +7,7 @@ use nm_gate::LegClaims;
 use nm_superblock::{LegSets, SpanMap};
 
 /// How many stripes a mirror has at most.
-pub(crate) const MOST_STRIPES: usize = 64;
+pub(crate) const MOST_STRIPES: usize = nm_geometry::MOST_STRIPES as usize;
 
 /// The claims on no leg.
 pub(crate) const NO_CLAIMS: LegClaims = LegClaims {

@@ -8,7 +8,7 @@ use clap::Error;
 use clap::error::ErrorKind;
 use nm_commands::{Settings, settings};
 use nm_control::{Copier, CopyOrders, Healing, LegRenewer, MissingLegs};
-use nm_geometry::Shape;
+use nm_geometry::{MOST_LEGS, Shape};
 use nm_leg_files::{
     FileMirror, LateSlots, LateSuperblock, Leg, LegFiles, LegMaker, LegPlace, LegRules, OpensLegs,
     SuperblockWriter, Superblocks, check_files, check_stack, reply_bytes_of, try_threads,
@@ -33,16 +33,13 @@ use std::sync::{Arc, Mutex, Wait};
 use std::thread::Threads;
 use std::time::Clock;
 
-/// How many legs a mirror has at most.
-const MOST_LEGS: usize = 8;
-
 /// How many threads there are beside those of sessions: the control port's, the one that copies,
 /// the one that saves superblocks, and one that reads for a session.
 const OTHER_THREADS: usize = 9;
 
 // The export that the settings ask for, unless they are wrong by themselves.
 fn export_asked<'a>(settings: &Settings<'a>) -> Result<ExportName<'a>, StartFault<'a>> {
-    if settings.legs.len() > MOST_LEGS {
+    if settings.legs.len() > MOST_LEGS as usize {
         return Err(StartFault::TooManyLegs);
     }
     for named in [settings.master, settings.force_master] {
@@ -251,7 +248,7 @@ where
     let files = LegFiles::open(rt, alloc, &settings.legs, &rules)?;
     check_files(
         &limits,
-        settings.legs.len().min(MOST_LEGS) as u8,
+        settings.legs.len().min(MOST_LEGS as usize) as u8,
         &rules,
         settings.sessions,
     )?;
