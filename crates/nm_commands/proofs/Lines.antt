@@ -5,7 +5,8 @@ use Rattle.std.specs.Str.Parse.{digits_value}
 use Rattle.std.proofs.lemmas.Str.{IsUtf8-from_ascii}
 use Rattle.std.proofs.lemmas.Fmt.{IsAscii-from_digits}
 use Rattle.std.proofs.Math.Seq.{take-append_seam}
-use Rattle.nm_commands.specs.ControlLine.{Asks, IsCopyRate, IsNumeralOf, IsQuitWithin, IsWithNumber}
+use Rattle.nm_commands.specs.ControlLine.{Asks, IsCopyRate, IsNumbered, IsNumeralOf, IsQuitWithin}
+use Rattle.nm_commands.specs.ControlLine.{IsWithNumber}
 use Rattle.nm_commands.specs.declared.control_command.ControlCommand.{ControlCommand}
 use Rattle.nm_commands.specs.declared.control_command.ControlCommand.TheVariants.{Status, Unread, Info, Fail}
 use Rattle.nm_commands.specs.declared.control_command.ControlCommand.TheVariants.{Metrics, Clients, Kick, Bad}
@@ -49,24 +50,43 @@ no_end_within line found named late seconds within =
     let bound : seconds ≤ 86400 = within.bound in
     absurd (omega (arith, late, same, bound))
 
-pub no_such_rate : (line : List ℕ) (found : ℕ) → IsWithNumber (codes "copy-rate ") line found →
-    (0 < found → found ≤ 65535 → ⊥) → (mib : ℕ) → IsCopyRate line mib → ⊥
-no_such_rate line found named out mib asked =
-    let same : mib ≡ found =
-    one_number (codes "copy-rate ") line mib found asked.number named in
-    out (rw (← same) asked.some) (rw (← same) asked.most)
-
 pub other_start : (start line word : List ℕ) → (take (length start) line ≡ start → ⊥) →
     line ≡ start ++ word → ⊥
 other_start start line word other e =
     other (ap (take (length start)) e ∙ take-append_seam start word)
 
-pub asks_nothing : (line : List ℕ) → (line ≡ codes "status" → ⊥) → (line ≡ codes "unread" → ⊥) →
-    (line ≡ codes "info" → ⊥) → (line ≡ codes "metrics" → ⊥) →
+-- a line that says none of these words asks for a command with a number, if for one
+pub asks_a_number : (line : List ℕ) → (line ≡ codes "status" → ⊥) →
+    (line ≡ codes "unread" → ⊥) → (line ≡ codes "info" → ⊥) → (line ≡ codes "metrics" → ⊥) →
     (line ≡ codes "copy-rate" → ⊥) → (line ≡ codes "copy-rate default" → ⊥) →
     (line ≡ codes "verify" → ⊥) → (line ≡ codes "verify stop" → ⊥) →
     (line ≡ codes "clients" → ⊥) → (line ≡ codes "quit" → ⊥) →
     (line ≡ codes "reopen all" → ⊥) →
+    (command : ControlCommand) → Asks line command → IsNumbered command
+asks_a_number line status unread info metrics rate default verify halt clients quit all = go
+  where
+    go : (command : ControlCommand) → Asks line command → IsNumbered command
+    go Status asks = absurd (status asks)
+    go Unread asks = absurd (unread asks)
+    go Info asks = absurd (info asks)
+    go Metrics asks = absurd (metrics asks)
+    go (Fail leg) asks = tt
+    go (Attach leg) asks = tt
+    go (Replace leg) asks = tt
+    go (Reopen number) asks = tt
+    go ReopenAll asks = absurd (all asks)
+    go CopyRate asks = absurd (rate asks)
+    go (SetCopyRate number) asks = tt
+    go DefaultCopyRate asks = absurd (default asks)
+    go Verify asks = absurd (verify asks)
+    go VerifyStop asks = absurd (halt asks)
+    go Clients asks = absurd (clients asks)
+    go (Kick client) asks = tt
+    go Quit asks = absurd (quit asks)
+    go (QuitWithin seconds) asks = tt
+    go Bad asks = absurd asks
+
+pub asks_no_number : (line : List ℕ) →
     ((leg : ℕ) → IsWithNumber (codes "fail ") line leg → ⊥) →
     ((leg : ℕ) → IsWithNumber (codes "attach ") line leg → ⊥) →
     ((leg : ℕ) → IsWithNumber (codes "replace ") line leg → ⊥) →
@@ -74,27 +94,26 @@ pub asks_nothing : (line : List ℕ) → (line ≡ codes "status" → ⊥) → (
     ((client : ℕ) → IsWithNumber (codes "kick ") line client → ⊥) →
     ((mib : ℕ) → IsCopyRate line mib → ⊥) →
     ((seconds : ℕ) → IsQuitWithin line seconds → ⊥) →
-    (command : ControlCommand) → Asks line command → ⊥
-asks_nothing line status unread info metrics rate default verify halt clients quit all fail attach
-    replace stripe kick mib within = go
+    (command : ControlCommand) → Asks line command → IsNumbered command → ⊥
+asks_no_number line fail attach replace stripe kick mib within = go
   where
-    go : (command : ControlCommand) → Asks line command → ⊥
-    go Status asks = status asks
-    go Unread asks = unread asks
-    go Info asks = info asks
-    go Metrics asks = metrics asks
-    go (Fail leg) asks = fail leg asks
-    go (Attach leg) asks = attach leg asks
-    go (Replace leg) asks = replace leg asks
-    go (Reopen number) asks = stripe number asks
-    go ReopenAll asks = all asks
-    go CopyRate asks = rate asks
-    go (SetCopyRate number) asks = mib number asks
-    go DefaultCopyRate asks = default asks
-    go Verify asks = verify asks
-    go VerifyStop asks = halt asks
-    go Clients asks = clients asks
-    go (Kick client) asks = kick client asks
-    go Quit asks = quit asks
-    go (QuitWithin seconds) asks = within seconds asks
-    go Bad asks = asks
+    go : (command : ControlCommand) → Asks line command → IsNumbered command → ⊥
+    go Status asks is = is
+    go Unread asks is = is
+    go Info asks is = is
+    go Metrics asks is = is
+    go (Fail leg) asks is = fail leg asks
+    go (Attach leg) asks is = attach leg asks
+    go (Replace leg) asks is = replace leg asks
+    go (Reopen number) asks is = stripe number asks
+    go ReopenAll asks is = is
+    go CopyRate asks is = is
+    go (SetCopyRate number) asks is = mib number asks
+    go DefaultCopyRate asks is = is
+    go Verify asks is = is
+    go VerifyStop asks is = is
+    go Clients asks is = is
+    go (Kick client) asks is = kick client asks
+    go Quit asks is = is
+    go (QuitWithin seconds) asks is = within seconds asks
+    go Bad asks is = is

@@ -1,5 +1,5 @@
 -- The lines of the control port.
-use Rattle.std.specs.Prelude.{◌≡◌, ◌<◌, ◌≤◌, ℕ, ◌^◌, List, ◌++◌, length, codes}
+use Rattle.std.specs.Prelude.{◌≡◌, ◌<◌, ◌≤◌, ℕ, ◌^◌, List, ◌++◌, length, codes, ⊤}
 use Rattle.std.specs.Str.Parse.{IsNumeral, digits_value}
 use Rattle.nm_commands.specs.declared.control_command.ControlCommand.{ControlCommand}
 use Rattle.nm_commands.specs.declared.control_command.ControlCommand.TheVariants.{Status, Unread}
@@ -59,6 +59,17 @@ Asks line (QuitWithin seconds) = IsQuitWithin line seconds
 Asks line Clients = line ≡ codes "clients"
 Asks line (Kick client) = IsWithNumber (codes "kick ") line client
 Asks line Bad = ⊥
+
+-- The command has a number.
+abbrev pub IsNumbered : ControlCommand → Type 0
+IsNumbered (Fail leg) = ⊤
+IsNumbered (Attach leg) = ⊤
+IsNumbered (Replace leg) = ⊤
+IsNumbered (Reopen stripe) = ⊤
+IsNumbered (SetCopyRate mib) = ⊤
+IsNumbered (QuitWithin seconds) = ⊤
+IsNumbered (Kick client) = ⊤
+IsNumbered command = ⊥
 
 -- The line is read as what it asks for, or as bad where it asks for nothing.
 abbrev pub IsReadAs : List ℕ → ControlCommand → Type 0

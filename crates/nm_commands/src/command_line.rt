@@ -260,16 +260,11 @@ fn settings_of<'a>(alloc: Global, matches: &ArgMatches<'a>) -> Result<Settings<'
     let master = bare_number(matches, "master")?;
     let start = start_of(matches)?;
     let superblock = superblock_place(matches)?;
-    let degraded = matches.get_flag("degraded");
     let force_master = bare_number(matches, "force-master")?;
-    let auto_attach = matches.get_flag("auto-attach");
     let copy_rate = copy_rate(matches)?;
     let leg_timeout = leg_timeout(matches)?;
     let sessions = number(matches, "sessions")?;
     let idle_limit = idle_limit(matches)?;
-    let verbose = matches.get_flag("verbose");
-    let read_only = matches.get_flag("read-only");
-    let force_in_use = matches.get_flag("force-in-use");
     let legs = legs_of(alloc, matches)?;
     Ok(Settings {
         listen,
@@ -281,16 +276,16 @@ fn settings_of<'a>(alloc: Global, matches: &ArgMatches<'a>) -> Result<Settings<'
         master,
         start,
         superblock,
-        degraded,
+        degraded: matches.get_flag("degraded"),
         force_master,
-        auto_attach,
+        auto_attach: matches.get_flag("auto-attach"),
         copy_rate,
         leg_timeout,
         sessions,
         idle_limit,
-        verbose,
-        read_only,
-        force_in_use,
+        verbose: matches.get_flag("verbose"),
+        read_only: matches.get_flag("read-only"),
+        force_in_use: matches.get_flag("force-in-use"),
         legs,
     })
 }

@@ -1,7 +1,7 @@
 //! The lines of the control port.
 ghost use Rattle.std.specs.Prelude.{◌≡◌, ℕ, List, ◌++◌, IfSome, IsNone};
-ghost use Rattle.nm_commands.specs.ControlLine.{IsCopyRate, IsNumeralOf, IsQuitWithin, IsReadAs};
-ghost use Rattle.nm_commands.specs.ControlLine.{IsWithNumber};
+ghost use Rattle.nm_commands.specs.ControlLine.{Asks, IsCopyRate, IsNumbered, IsNumeralOf};
+ghost use Rattle.nm_commands.specs.ControlLine.{IsQuitWithin, IsReadAs, IsWithNumber};
 
 use std::str::from_utf8;
 
@@ -113,63 +113,85 @@ fn copy_rate(line: &[u8]) -> Option<u64>
     Some(mib)
 }
 
+// The command of a line that has no number.
+fn bare_command(line: &[u8]) -> Option<ControlCommand>
+    ensures some { IfSome result (λ command. Asks line.now command) }
+    ensures none { IsNone result
+        → (command : ControlCommand) → Asks line.now command → IsNumbered command }
+{
+    if line == b"status".as_slice() {
+        return Some(ControlCommand::Status);
+    }
+    if line == b"unread".as_slice() {
+        return Some(ControlCommand::Unread);
+    }
+    if line == b"info".as_slice() {
+        return Some(ControlCommand::Info);
+    }
+    if line == b"metrics".as_slice() {
+        return Some(ControlCommand::Metrics);
+    }
+    if line == b"copy-rate".as_slice() {
+        return Some(ControlCommand::CopyRate);
+    }
+    if line == b"copy-rate default".as_slice() {
+        return Some(ControlCommand::DefaultCopyRate);
+    }
+    if line == b"verify".as_slice() {
+        return Some(ControlCommand::Verify);
+    }
+    if line == b"verify stop".as_slice() {
+        return Some(ControlCommand::VerifyStop);
+    }
+    if line == b"clients".as_slice() {
+        return Some(ControlCommand::Clients);
+    }
+    if line == b"quit".as_slice() {
+        return Some(ControlCommand::Quit);
+    }
+    if line == b"reopen all".as_slice() {
+        return Some(ControlCommand::ReopenAll);
+    }
+    None
+}
+
+// The command of a line that has a number.
+fn numbered_command(line: &[u8]) -> Option<ControlCommand>
+    ensures some { IfSome result (λ command. Asks line.now command) }
+    ensures none { IsNone result
+        → (command : ControlCommand) → Asks line.now command → IsNumbered command → ⊥ }
+{
+    if let Some(leg) = number_after(line, b"fail ") {
+        return Some(ControlCommand::Fail(leg));
+    }
+    if let Some(leg) = number_after(line, b"attach ") {
+        return Some(ControlCommand::Attach(leg));
+    }
+    if let Some(leg) = number_after(line, b"replace ") {
+        return Some(ControlCommand::Replace(leg));
+    }
+    if let Some(stripe) = number_after(line, b"reopen ") {
+        return Some(ControlCommand::Reopen(stripe));
+    }
+    if let Some(client) = number_after(line, b"kick ") {
+        return Some(ControlCommand::Kick(client));
+    }
+    if let Some(mib) = copy_rate(line) {
+        return Some(ControlCommand::SetCopyRate(mib));
+    }
+    let seconds = quit_within(line)?;
+    Some(ControlCommand::QuitWithin(seconds))
+}
+
 /// Reads a line, without its LF.
 pub fn control_line(line: &[u8]) -> ControlCommand
     ensures { IsReadAs line.now result }
 {
-    if line == b"status".as_slice() {
-        return ControlCommand::Status;
+    if let Some(command) = bare_command(line) {
+        return command;
     }
-    if line == b"unread".as_slice() {
-        return ControlCommand::Unread;
-    }
-    if line == b"info".as_slice() {
-        return ControlCommand::Info;
-    }
-    if line == b"metrics".as_slice() {
-        return ControlCommand::Metrics;
-    }
-    if line == b"copy-rate".as_slice() {
-        return ControlCommand::CopyRate;
-    }
-    if line == b"copy-rate default".as_slice() {
-        return ControlCommand::DefaultCopyRate;
-    }
-    if line == b"verify".as_slice() {
-        return ControlCommand::Verify;
-    }
-    if line == b"verify stop".as_slice() {
-        return ControlCommand::VerifyStop;
-    }
-    if line == b"clients".as_slice() {
-        return ControlCommand::Clients;
-    }
-    if line == b"quit".as_slice() {
-        return ControlCommand::Quit;
-    }
-    if line == b"reopen all".as_slice() {
-        return ControlCommand::ReopenAll;
-    }
-    if let Some(leg) = number_after(line, b"fail ") {
-        return ControlCommand::Fail(leg);
-    }
-    if let Some(leg) = number_after(line, b"attach ") {
-        return ControlCommand::Attach(leg);
-    }
-    if let Some(leg) = number_after(line, b"replace ") {
-        return ControlCommand::Replace(leg);
-    }
-    if let Some(stripe) = number_after(line, b"reopen ") {
-        return ControlCommand::Reopen(stripe);
-    }
-    if let Some(client) = number_after(line, b"kick ") {
-        return ControlCommand::Kick(client);
-    }
-    if let Some(mib) = copy_rate(line) {
-        return ControlCommand::SetCopyRate(mib);
-    }
-    match quit_within(line) {
-        Some(seconds) => ControlCommand::QuitWithin(seconds),
+    match numbered_command(line) {
+        Some(command) => command,
         None => ControlCommand::Bad,
     }
 }

@@ -1,14 +1,14 @@
 //! The control port's threads.
 
 use crate::answering::AnswersControl;
-use nm_places::{Ending, Quit};
-use nm_reports::{Incident, LogLines};
-use nm_sockets::{CONNECTIONS, ControlPlaces, ControlStream, Listener, Stream, TimedStream};
+use nm_places::{Quit, Shared};
+use nm_reports::Incident;
+use nm_sockets::{CONNECTIONS, ControlPlaces, ControlStream, Stream, TimedStream};
 use std::alloc::Global;
 use std::cell::Cell;
 use std::net::{Net, Shutdown, TcpListener, TcpStream};
 use std::sync::Wait;
-use std::sync::atomic::{AtomicBool, Ordering};
+use std::sync::atomic::Ordering;
 use std::thread;
 use std::thread::Threads;
 use std::time::{Clock, Duration, Instant};
@@ -51,51 +51,38 @@ fn serve_connection<R: Wait + Clock, S: AnswersControl>(
     server.answer(rt, alloc, &mut reader, &mut writer)
 }
 
-/// Serves the connections that get the place of this number, one after the other, until the places
-/// are closed. One that asks the server to end has the clients' listener end.
-fn serve_seat<R, S: AnswersControl>(
-    rt: &R,
-    alloc: Global,
-    places: &ControlPlaces,
-    number: usize,
-    clients: &Listener,
-    server: &S,
-    ending: &Ending,
-)
+// Serves the connections that get the place of this number, one after the other, until the places
+// are closed. One that asks the server to end has the clients' listener end.
+fn serve_seat<R, S: AnswersControl>(rt: &R, shared: &Shared<'_>, number: usize, server: &S)
 where
     R: Wait + Clock + Net<Listener = TcpListener, Stream = TcpStream>,
 {
+    let (seats, alloc) = (&shared.state.seats, shared.alloc);
     for _ in rt.forever() {
-        let Some(stream) = places.take(rt, number) else {
+        let Some(stream) = seats.take(rt, number) else {
             return;
         };
-        let asked = serve_connection(rt, alloc, &stream, places, number, server);
-        places.free(rt, number);
+        let asked = serve_connection(rt, alloc, &stream, seats, number, server);
+        seats.free(rt, number);
         let _ = stream.shutdown(Shutdown::Write);
         if let Some(quit) = asked {
-            ending.begin(rt, quit);
-            clients.wake(rt);
+            shared.state.ending.begin(rt, quit);
+            shared.clients.wake(rt);
         }
     }
 }
 
 // Takes the control port's connections and gives them places, until the server has ended.
-fn take_connections<R: Wait + Clock>(
-    rt: &R,
-    alloc: Global,
-    listener: &Listener,
-    places: &ControlPlaces,
-    has_ended: &AtomicBool,
-    lines: &LogLines,
-) {
+fn take_connections<R: Wait + Clock>(rt: &R, shared: &Shared<'_>) {
+    let (alloc, state, lines) = (shared.alloc, shared.state, shared.lines);
     for _ in rt.forever() {
-        let accepted = listener.accept();
-        if has_ended.load(Ordering::SeqCst) {
+        let accepted = shared.control.accept();
+        if state.has_ended.load(Ordering::SeqCst) {
             return;
         }
         match accepted {
             Ok((stream, address)) => {
-                if !places.offer(rt, stream) {
+                if !state.seats.offer(rt, stream) {
                     let text = format!(in alloc;
                         "control port: {address}: refused: all {CONNECTIONS} places are taken"
                     );
@@ -114,35 +101,23 @@ fn take_connections<R: Wait + Clock>(
 /// Serves the control port, four connections at once, until the server has ended: also while the
 /// last clients are served. Where a thread could not be started it answers false, and the server
 /// ends.
-pub fn serve_control<R, S: AnswersControl + Sync>(
-    rt: &R,
-    alloc: Global,
-    listeners: (&Listener, &Listener),
-    places: &ControlPlaces,
-    controlled: &S,
-    ending: &Ending,
-    has_ended: &AtomicBool,
-    lines: &LogLines,
-) -> bool
+pub fn serve_control<R, S: AnswersControl + Sync>(rt: &R, shared: &Shared<'_>, server: &S) -> bool
 where
     R: Threads + Wait + Sync + Clock + Net<Listener = TcpListener, Stream = TcpStream>,
 {
-    let (clients, control) = listeners;
-    let server = controlled;
+    let state = shared.state;
     thread::scope(thread::scope_env(), rt, |scope| {
         for number in 0..CONNECTIONS {
-            let start = scope.spawn(move || {
-                serve_seat(rt, alloc, places, number, clients, server, ending)
-            });
+            let start = scope.spawn(move || serve_seat(rt, shared, number, server));
             if start.is_err() {
-                places.close(rt);
-                ending.begin(rt, Quit::WhenTheyLeave);
-                clients.wake(rt);
+                state.seats.close(rt);
+                state.ending.begin(rt, Quit::WhenTheyLeave);
+                shared.clients.wake(rt);
                 return false;
             }
         }
-        take_connections(rt, alloc, control, places, has_ended, lines);
-        places.close(rt);
+        take_connections(rt, shared);
+        state.seats.close(rt);
         true
     })
 }

@@ -7,11 +7,11 @@ use nm_lanes::Gate;
 use nm_leg::LegPart;
 use nm_leg_files::OpensLegs;
 use nm_mirror::Mirror;
-use nm_places::SessionPlaces;
-use nm_reports::{LogLines, UnreadList, milliseconds_since};
+use nm_places::Shared;
+use nm_reports::milliseconds_since;
 use nm_service::Interval;
 use std::sync::Wait;
-use std::sync::atomic::{AtomicBool, Ordering};
+use std::sync::atomic::Ordering;
 use std::thread;
 use std::time::{Clock, Duration, Instant};
 
@@ -27,6 +27,43 @@ const AGAIN_MILLISECONDS: u64 = 60_000;
 /// How many milliseconds pass at least from one look at stripes that are at rest to the next.
 const SETTLE_MILLISECONDS: u64 = 5_000;
 
+// Looks for clients that have gone or are idle, tells what happens to legs, and attaches those that
+// are to heal.
+fn look<R: Wait + Clock, O: OpensLegs, L: LegPart, G: Gate + Drop>(
+    rt: &R,
+    opener: &O,
+    copier: &mut Copier,
+    mirror: &Mirror<L, G>,
+    orders: &CopyOrders,
+    shared: &Shared<'_>,
+    now: u64,
+) {
+    let (state, lines) = (shared.state, shared.lines);
+    state.places.look(rt);
+    copier.tell(rt, mirror, &state.unread, lines, now);
+    copier.heal(rt, opener, mirror, orders, lines, now);
+    lines.flush_incidents(rt);
+}
+
+// Takes a turn at copying, or at comparing legs; a pause where neither did something.
+fn take_turn<R: Wait + Clock, L: LegPart, G: Gate + Drop>(
+    rt: &R,
+    copier: &mut Copier,
+    pacer: &mut CopyPacer,
+    mirror: &Mirror<L, G>,
+    orders: &CopyOrders,
+    shared: &Shared<'_>,
+    now: u64,
+) {
+    let (places, lines) = (&shared.state.places, shared.lines);
+    if !pacer.rest(rt)
+        && !pacer.turn(rt, copier, mirror, places, orders)
+        && !pacer.verify(rt, copier, mirror, places, orders, lines, now)
+    {
+        thread::sleep(rt, Duration::from_millis(PAUSE_MILLISECONDS));
+    }
+}
+
 /// Takes turns at copying until all sessions have ended, at the pace that is ordered, with a pause
 /// after a turn that did nothing.
 ///
@@ -38,11 +75,8 @@ pub fn resynchronise<R: Wait + Clock, O: OpensLegs, L: LegPart, G: Gate + Drop>(
     opener: &O,
     copier: Copier,
     mirror: &Mirror<L, G>,
-    places: &SessionPlaces,
-    unread: &UnreadList,
     orders: &CopyOrders,
-    lines: &LogLines,
-    has_ended: &AtomicBool,
+    shared: &Shared<'_>,
 ) {
     let (mut copier, mut pacer) = (copier, CopyPacer::new());
     let begun = Instant::now(rt).ok();
@@ -50,17 +84,14 @@ pub fn resynchronise<R: Wait + Clock, O: OpensLegs, L: LegPart, G: Gate + Drop>(
     let mut tries = Interval::new(AGAIN_MILLISECONDS);
     let mut settles = Interval::new(SETTLE_MILLISECONDS);
     let _ = tries.take(0);
-    copier.tell_all(rt, mirror, lines, "serving");
+    copier.tell_all(rt, mirror, shared.lines, "serving");
     for _ in rt.forever() {
-        if has_ended.load(Ordering::SeqCst) {
+        if shared.state.has_ended.load(Ordering::SeqCst) {
             break;
         }
         let now = milliseconds_since(rt, &begun);
         if looks.take(now) {
-            places.look(rt);
-            copier.tell(rt, mirror, unread, lines, now);
-            copier.heal(rt, opener, mirror, orders, lines, now);
-            lines.flush_incidents(rt);
+            look(rt, opener, &mut copier, mirror, orders, shared, now);
         }
         if orders.take_new_round() || copier.has_unread() && tries.take(now) {
             copier.begin_again();
@@ -68,12 +99,7 @@ pub fn resynchronise<R: Wait + Clock, O: OpensLegs, L: LegPart, G: Gate + Drop>(
         if settles.take(now) {
             mirror.settle_turn(rt);
         }
-        if !pacer.rest(rt)
-            && !pacer.turn(rt, &mut copier, mirror, places, orders)
-            && !pacer.verify(rt, &mut copier, mirror, places, orders, lines, now)
-        {
-            thread::sleep(rt, Duration::from_millis(PAUSE_MILLISECONDS));
-        }
+        take_turn(rt, &mut copier, &mut pacer, mirror, orders, shared, now);
     }
-    copier.tell_all(rt, mirror, lines, "at the end");
+    copier.tell_all(rt, mirror, shared.lines, "at the end");
 }

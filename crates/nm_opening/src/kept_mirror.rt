@@ -216,6 +216,35 @@ fn fits(shape: &Shape, image: &Superblock) -> bool {
         && u32::from(image.stripes) == shape.stripes
 }
 
+// The image that the legs are opened by, and whether it is the first of a mirror.
+fn image_for<'a, R: RandomSource>(
+    rt: &R,
+    settings: &Settings<'a>,
+    files: &LegFiles,
+    seen: &Seen,
+    lineage: u64,
+) -> Result<(Superblock, bool), StartFault<'a>> {
+    match choose(settings, seen, lineage)? {
+        Choice::First => {
+            // Without superblocks nobody knows what a missing leg has.
+            if let Some((leg, why)) = files.missing() {
+                return Err(StartFault::CannotOpen(leg, why));
+            }
+            let Some(shape) = files.shape(settings.stripes) else {
+                return Err(StartFault::Memory);
+            };
+            let image = first_image(rt, settings, &shape, &seen.here, lineage)?;
+            Ok((image, true))
+        }
+        Choice::Image(image) => {
+            let mut image = image;
+            renew_ids(rt, &mut image, &seen.here)?;
+            image.legs = image.legs.max(settings.legs.len().min(8) as u8);
+            Ok((image, false))
+        }
+    }
+}
+
 // The mirror that superblocks open, or that gets its first ones.
 fn open_kept<'a, R>(
     rt: &R,
@@ -238,24 +267,7 @@ where
     };
     let lineage = draw_id(rt)?;
     let went_by = newest_of(&seen.found);
-    let (image, is_first) = match choose(settings, &seen, lineage)? {
-        Choice::First => {
-            // Without superblocks nobody knows what a missing leg has.
-            if let Some((leg, why)) = files.missing() {
-                return Err(StartFault::CannotOpen(leg, why));
-            }
-            let Some(shape) = files.shape(settings.stripes) else {
-                return Err(StartFault::Memory);
-            };
-            (first_image(rt, settings, &shape, &here, lineage)?, true)
-        }
-        Choice::Image(image) => {
-            let mut image = image;
-            renew_ids(rt, &mut image, &here)?;
-            image.legs = image.legs.max(settings.legs.len().min(8) as u8);
-            (image, false)
-        }
-    };
+    let (image, is_first) = image_for(rt, settings, files, &seen, lineage)?;
     let kept = KeptImage {
         files: found,
         image,

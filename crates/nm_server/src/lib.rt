@@ -4,6 +4,7 @@
 //! safe is proved.
 #![tactic(auto)]
 
+mod equipment;
 mod program;
 mod serving;
 

@@ -3,24 +3,24 @@ ghost use Rattle.std.specs.Prelude.{◌≡◌};
 ghost use Rattle.clap.specs.Values.{kind_of};
 ghost use Rattle.nm_reports.specs.StartFault.{status_of, status_of_words};
 
+use crate::equipment::{Opened, metrics_of, open};
 use crate::serving::serve_and_copy;
 use clap::Error;
 use clap::error::ErrorKind;
 use nm_commands::{Settings, settings};
-use nm_control::{Copier, CopyOrders, Healing, LegRenewer, MissingLegs};
+use nm_control::LegRenewer;
 use nm_geometry::{MOST_LEGS, Shape};
 use nm_leg_files::{
-    FileMirror, LateSlots, LateSuperblock, Leg, LegFiles, LegMaker, LegPlace, LegRules, OpensLegs,
-    SuperblockWriter, Superblocks, check_files, check_stack, reply_bytes_of, try_threads,
+    FileMirror, Leg, LegFiles, LegMaker, LegPlace, LegRules, OpensLegs, check_files, check_stack,
+    reply_bytes_of, try_threads,
 };
 use nm_mirror::Pass;
-use nm_opening::open_asked_for;
-use nm_places::SessionRules;
+use nm_places::{ServingState, SessionRules, Shared};
 use nm_reports::{Address, LogForm, LogLines, Metrics, StartFault, tell_reason};
 use nm_serving::{AT_ONCE, ExportName};
 use nm_sockets::{Listener, listen};
 use nm_system::{Limits, take_standard_streams};
-use std::alloc::{AllocError, Global};
+use std::alloc::Global;
 use std::convert::AsStr;
 use std::fs::File;
 use std::io;
@@ -29,7 +29,7 @@ use std::net::{Net, TcpListener, TcpStream};
 use std::random::RandomSource;
 use std::rt::{Env, Files};
 use std::sync::atomic::AtomicU64;
-use std::sync::{Arc, Mutex, Wait};
+use std::sync::{Arc, Wait};
 use std::thread::Threads;
 use std::time::Clock;
 
@@ -55,96 +55,6 @@ fn export_asked<'a>(settings: &Settings<'a>) -> Result<ExportName<'a>, StartFaul
     }
 }
 
-// The passes of so many sessions.
-fn passes_of<'a, R: Wait>(
-    rt: &R,
-    alloc: Global,
-    mirror: &FileMirror,
-    sessions: u8,
-) -> Result<Vec<Pass<Leg>>, StartFault<'a>> {
-    let mut passes = Vec::new(alloc);
-    for _ in 0..sessions as usize * AT_ONCE {
-        let Ok(pass) = mirror.pass(rt, alloc) else {
-            return Err(StartFault::Memory);
-        };
-        if passes.push(pass).is_err() {
-            return Err(StartFault::Memory);
-        }
-    }
-    Ok(passes)
-}
-
-// Each leg's place, with its superblock where that comes late.
-fn places_of(
-    alloc: Global,
-    files: &LegFiles,
-    late: Vec<LateSuperblock>,
-) -> Result<Vec<Arc<LegPlace>>, AllocError> {
-    let mut places = files.places(alloc)?;
-    for superblock in late {
-        if let Some(place) = places.get_mut(superblock.leg) {
-            place.set_superblock(superblock);
-        }
-    }
-    let mut all = Vec::new(alloc);
-    for place in places {
-        all.push(Arc::new(alloc, place)?)?;
-    }
-    Ok(all)
-}
-
-// A share of each leg's place.
-fn shares_of(alloc: Global, places: &[Arc<LegPlace>]) -> Result<Vec<Arc<LegPlace>>, AllocError> {
-    let mut shares = Vec::new(alloc);
-    for place in places {
-        shares.push(Arc::try_clone(place)?)?;
-    }
-    Ok(shares)
-}
-
-// What attaches legs again, where that is asked for, or where one is missing.
-fn healing_of<'a>(
-    alloc: Global,
-    settings: &Settings<'a>,
-    files: &LegFiles,
-    places: &[Arc<LegPlace>],
-) -> Result<Option<Healing>, StartFault<'a>> {
-    if !settings.auto_attach && files.missing().is_none() {
-        return Ok(None);
-    }
-    let own = shares_of(alloc, places)?;
-    Ok(Some(Healing::new(alloc, own, settings.auto_attach)?))
-}
-
-// What an administrator wants of copies at first, and which legs are missing.
-fn orders_of<'a>(
-    alloc: Global,
-    settings: &Settings<'_>,
-    files: &LegFiles,
-) -> Result<CopyOrders, StartFault<'a>> {
-    let reasons = files.reasons(alloc)?;
-    let orders = CopyOrders::new(settings.copy_rate).with_missing(MissingLegs::of(reasons));
-    Ok(orders.with_limits(files.limits(alloc)?))
-}
-
-// The copier of the mirror, which tells of its legs by their files' names.
-fn copier_of<'a>(
-    alloc: Global,
-    mirror: &FileMirror,
-    files: &LegFiles,
-    places: &[Arc<LegPlace>],
-    settings: &Settings<'a>,
-) -> Result<Copier, StartFault<'a>> {
-    let Ok(legs) = files.lines(alloc) else {
-        return Err(StartFault::Memory);
-    };
-    let healing = healing_of(alloc, settings, files, places)?;
-    match Copier::new(alloc, mirror.shape(), legs, healing) {
-        Ok(copier) => Ok(copier),
-        Err(_) => Err(StartFault::Memory),
-    }
-}
-
 // What makes the legs of stripes that are opened anew.
 fn maker_of<'a, 'x>(
     alloc: Global,
@@ -155,35 +65,6 @@ fn maker_of<'a, 'x>(
     match Arc::new(alloc, AtomicU64::new(0)) {
         Ok(read) => Ok(LegMaker::new(places, shape, read, settings.policy)),
         Err(_) => Err(StartFault::Memory),
-    }
-}
-
-// What is counted of the clients of so many places, and of these files.
-fn metrics_of<'a>(
-    alloc: Global,
-    files: &LegFiles,
-    sessions: u8,
-) -> Result<Metrics, StartFault<'a>> {
-    let Ok(legs) = files.counts(alloc) else {
-        return Err(StartFault::Memory);
-    };
-    match Metrics::new(alloc, sessions as usize, legs) {
-        Ok(metrics) => Ok(metrics),
-        Err(_) => Err(StartFault::Memory),
-    }
-}
-
-// What saves superblocks behind a lock, if there is something, and those that come late.
-fn locked(
-    alloc: Global,
-    superblocks: Option<Superblocks>,
-) -> (
-    Option<Mutex<SuperblockWriter<LateSlots>>>,
-    Vec<LateSuperblock>,
-) {
-    match superblocks {
-        Some(own) => (Some(Mutex::new(own.writer)), own.late),
-        None => (None, Vec::new(alloc)),
     }
 }
 
@@ -217,7 +98,73 @@ fn warn_if_open<R: Wait>(rt: &R, alloc: Global, control: &Listener, port: &str, 
     );
 }
 
-// Serves what the settings ask for until a `quit`.
+// The files of the legs that the settings name, where the limits allow them.
+fn open_files<'a, R: Files<File = File>>(
+    rt: &R,
+    alloc: Global,
+    settings: &Settings<'a>,
+    limits: &Limits,
+) -> Result<LegFiles, StartFault<'a>> {
+    let rules = LegRules::of(settings, limits);
+    let files = LegFiles::open(rt, alloc, &settings.legs, &rules)?;
+    let legs = settings.legs.len().min(MOST_LEGS as usize) as u8;
+    check_files(limits, legs, &rules, settings.sessions)?;
+    Ok(files)
+}
+
+// A server that serves nobody yet, where its threads can be had.
+fn state_of<'a, R: Threads + Wait + Sync + Clock>(
+    rt: &R,
+    alloc: Global,
+    settings: &Settings<'a>,
+    limits: &Limits,
+    metrics: Metrics,
+) -> Result<ServingState, StartFault<'a>> {
+    let sessions = settings.sessions as usize;
+    let bytes = reply_bytes_of(limits, settings.sessions) as usize;
+    let rules = SessionRules::of(settings, bytes);
+    let Ok(state) = ServingState::new(rt, alloc, sessions, rules, metrics) else {
+        return Err(StartFault::Memory);
+    };
+    try_threads(rt, alloc, sessions + AT_ONCE + OTHER_THREADS)?;
+    Ok(state)
+}
+
+// Serves the mirror that was opened until a `quit`, and ends it.
+fn serve<'a, R, P: OpensLegs + Sync, O: Write>(
+    rt: &R,
+    opener: &P,
+    settings: &Settings<'a>,
+    named: &ExportName<'a>,
+    opened: Opened,
+    shared: &Shared<'_>,
+    out: &mut O,
+) -> Result<(), StartFault<'a>>
+where
+    R: Threads + Wait + Sync + Copy + Clock + Net<Listener = TcpListener, Stream = TcpStream>,
+{
+    let (alloc, mirror, mut passes) = (shared.alloc, opened.mirror, opened.passes);
+    let (own, copier) = (opened.own, opened.copier);
+    let (places, writer) = (own.places.as_slice(), own.superblocks.as_ref());
+    let legs = LegRenewer::new(alloc, opener, places, writer, mirror.shape())?;
+    let maker = maker_of(alloc, settings, places, mirror.shape())?;
+    serve_and_copy(
+        rt,
+        opener,
+        shared,
+        named,
+        &mirror,
+        passes.as_mut_slice(),
+        copier,
+        &own.orders,
+        &legs,
+        &maker,
+        writer,
+    )?;
+    close(alloc, mirror, passes, out)
+}
+
+// Opens what the settings ask for, and serves it until a `quit`.
 fn run<'a, R, P: OpensLegs + Sync, O: Write>(
     rt: &R,
     alloc: Global,
@@ -244,59 +191,18 @@ where
     let named = export_asked(settings)?;
     let limits = Limits::read(rt, alloc)?;
     check_stack(&limits)?;
-    let rules = LegRules::of(settings, &limits);
-    let files = LegFiles::open(rt, alloc, &settings.legs, &rules)?;
-    check_files(
-        &limits,
-        settings.legs.len().min(MOST_LEGS as usize) as u8,
-        &rules,
-        settings.sessions,
-    )?;
+    let files = open_files(rt, alloc, settings, &limits)?;
     let clients = listen(rt, alloc, Address::of_clients(settings))?;
     let control = listen(rt, alloc, Address::Named(settings.control))?;
     files.start_threads(rt)?;
-    let opened = open_asked_for(rt, alloc, settings, &files, &control.listener, lines)?;
-    files.tell_missing(rt, alloc, lines);
-    let mirror = opened.mirror;
-    let (superblocks, late) = locked(alloc, opened.superblocks);
-    let places = places_of(alloc, &files, late)?;
-    let copier = copier_of(alloc, &mirror, &files, &places, settings)?;
-    let orders = orders_of(alloc, settings, &files)?;
-    let maker = maker_of(alloc, settings, &places, mirror.shape())?;
     let metrics = metrics_of(alloc, &files, settings.sessions)?;
-    // From now on a leg's file is held by its place and its stripes alone, which another may get.
-    drop(files);
-    let legs = LegRenewer::new(alloc, opener, &places, superblocks.as_ref(), mirror.shape())?;
-    let mut passes = passes_of(rt, alloc, &mirror, settings.sessions)?;
-    try_threads(
-        rt,
-        alloc,
-        settings.sessions as usize + AT_ONCE + OTHER_THREADS,
-    )?;
+    let opened = open(rt, alloc, settings, files, &control.listener, lines)?;
+    let state = state_of(rt, alloc, settings, &limits, metrics)?;
     warn_if_open(rt, alloc, &control.listener, settings.control, lines);
     clients.tell(out, "listening on");
     control.tell(out, "control on");
-    serve_and_copy(
-        rt,
-        alloc,
-        opener,
-        &named,
-        (&clients.listener, &control.listener),
-        &mirror,
-        passes.as_mut_slice(),
-        SessionRules::of(
-            settings,
-            reply_bytes_of(&limits, settings.sessions) as usize,
-        ),
-        copier,
-        &metrics,
-        &orders,
-        &legs,
-        &maker,
-        lines,
-        superblocks.as_ref(),
-    )?;
-    close(alloc, mirror, passes, out)
+    let shared = Shared::new(alloc, &clients.listener, &control.listener, lines, &state);
+    serve(rt, opener, settings, &named, opened, &shared, out)
 }
 
 // Tells why the server does not start or does not end well. What cannot be written is lost.

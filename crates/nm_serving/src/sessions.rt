@@ -12,13 +12,13 @@ use crate::mirror_target::MirrorTarget;
 use nm_leg::LegPart;
 use nm_leg_files::{FileMirror, Leg};
 use nm_mirror::Pass;
-use nm_places::{Ending, SessionPlaces};
+use nm_places::{Ending, SessionPlaces, Shared};
 use nm_replies::ReplyWriter;
-use nm_reports::{Incident, LogLines, Metrics};
+use nm_reports::Incident;
 use nm_session::{Limit, ServeFault, Served, SessionCore};
 use nm_sockets::{
-    ClientReader, ClientStream, ClientWriter, HangUp, Listener, Peer, SessionEnd, Stream,
-    TimedStream, tell_begin, tell_end,
+    ClientReader, ClientStream, ClientWriter, HangUp, Peer, SessionEnd, Stream, TimedStream,
+    tell_begin, tell_end,
 };
 use nm_wire::{Export, Name};
 use nm_workers::{SpinToken, negotiate, transmit};
@@ -171,27 +171,37 @@ where
     transmit(rt, alloc, core, reader, sender, targets, lookout).result
 }
 
+// The core of a session that has not begun, with the export of a mirror of so many blocks.
+fn core_of(alloc: Global, named: &ExportName<'_>, blocks: u64, bytes: usize) -> Option<SessionCore>
+    requires { blocks ≤ 2 ^ 31 }
+    ensures idle { IfSome result (λ core. core.outstanding ≡ []) }
+    ensures blocks { IfSome result (λ core. core.haggling.export.blocks ≡ blocks) }
+{
+    let export = export_of(alloc, named, blocks)?;
+    let limit = Limit {
+        requests: AT_ONCE,
+        bytes,
+    };
+    match SessionCore::new(alloc, export, limit) {
+        Ok(core) => Some(core),
+        Err(_) => None,
+    }
+}
+
 // Serves one client from its greeting to its end.
 fn serve_client<R: Threads + Wait + Sync + Copy + Clock>(
     rt: &R,
-    alloc: Global,
     client: &ClientStream,
     named: &ExportName<'_>,
     mirror: &FileMirror,
     passes: &mut [Pass<Leg>],
-    places: &SessionPlaces,
-    metrics: &Metrics,
+    shared: &Shared<'_>,
     place: usize,
 ) -> Result<SessionEnd, ServeFault> {
+    let (alloc, places, metrics) = (shared.alloc, &shared.state.places, &shared.state.metrics);
     let _ = client.stream.set_nodelay();
-    let Some(export) = export_of(alloc, named, mirror.shape().blocks) else {
-        return Err(ServeFault::Memory);
-    };
-    let limit = Limit {
-        requests: AT_ONCE,
-        bytes: places.reply_bytes(),
-    };
-    let Ok(mut core) = SessionCore::new(alloc, export, limit) else {
+    let blocks = mirror.shape().blocks;
+    let Some(mut core) = core_of(alloc, named, blocks, places.reply_bytes()) else {
         return Err(ServeFault::Memory);
     };
     if !negotiate_in_time(rt, alloc, &client.stream, &mut core)? {
@@ -220,18 +230,17 @@ fn serve_client<R: Threads + Wait + Sync + Copy + Clock>(
 /// A client's place is free again before its connection is closed.
 pub fn serve_place<R>(
     rt: &R,
-    alloc: Global,
-    places: &SessionPlaces,
+    shared: &Shared<'_>,
     number: usize,
     named: &ExportName<'_>,
     mirror: &FileMirror,
     passes: &mut [Pass<Leg>],
-    metrics: &Metrics,
-    lines: &LogLines,
 )
 where
     R: Threads + Wait + Sync + Copy + Clock,
 {
+    let (alloc, state, lines) = (shared.alloc, shared.state, shared.lines);
+    let (places, metrics) = (&state.places, &state.metrics);
     for _ in rt.forever() {
         let Some(client) = places.take(rt, number) else {
             return;
@@ -240,9 +249,7 @@ where
             tell_begin(rt, alloc, &client, lines);
         }
         metrics.begin_session();
-        let ended = serve_client(
-            rt, alloc, &client, named, mirror, passes, places, metrics, number,
-        );
+        let ended = serve_client(rt, &client, named, mirror, passes, shared, number);
         metrics.end_session(ended.is_ok());
         let closing = places.free(rt, number);
         let is_verbose = places.is_verbose();
@@ -255,24 +262,18 @@ where
 ///
 /// An accept that fails, as where there are no descriptors left, ends nothing: the next comes after
 /// a pause.
-pub fn take_clients<R: Wait + Clock>(
-    rt: &R,
-    alloc: Global,
-    listener: &Listener,
-    places: &SessionPlaces,
-    ending: &Ending,
-    metrics: &Metrics,
-    lines: &LogLines,
-) {
+pub fn take_clients<R: Wait + Clock>(rt: &R, shared: &Shared<'_>) {
+    let (alloc, state, lines) = (shared.alloc, shared.state, shared.lines);
+    let places = &state.places;
     for _ in rt.forever() {
-        let accepted = listener.accept();
-        if ending.has_begun() {
+        let accepted = shared.clients.accept();
+        if state.ending.has_begun() {
             return;
         }
         match accepted {
             Ok((stream, address)) => {
                 if !places.offer(rt, ClientStream::new(stream, address)) {
-                    metrics.refuse_client();
+                    state.metrics.refuse_client();
                     let count = places.count();
                     let text = format!(in alloc;
                         "client {address}: refused: all {count} places are taken (--sessions)"

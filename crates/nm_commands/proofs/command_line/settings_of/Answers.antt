@@ -18,12 +18,12 @@ returns-clause-ok c =
       master = said_number_if_any f rows (codes "master") _ refl c.in_ok-master.ensures.some c.in_ok-master.ensures.none;
       start = said_text f rows (codes "start") _ refl c.in_ok-start.ensures.ok;
       superblock = said_place f rows (codes "superblock") _ refl c.in_ok-superblock.ensures.ok;
-      degraded = said_flag f rows (codes "degraded") _ refl c.get_flag-degraded.ensures.value
-          c.get_flag-degraded.ensures.other;
+      degraded = said_flag f rows (codes "degraded") _ refl c.get_flag.ensures.value
+          c.get_flag.ensures.other;
       force_master = said_number_if_any f rows (codes "force-master") _ refl
           c.in_ok-force_master.ensures.some c.in_ok-force_master.ensures.none;
       auto_attach = said_flag f rows (codes "auto-attach") _ refl
-          c.get_flag-auto_attach.ensures.value c.get_flag-auto_attach.ensures.other;
+          c.get_flag-2.ensures.value c.get_flag-2.ensures.other;
       copy_rate = said_number_if_any f rows (codes "copy-rate") _ refl
           c.in_ok-copy_rate.ensures.some c.in_ok-copy_rate.ensures.none;
       leg_timeout = said_number_if_any f rows (codes "leg-timeout") _ refl
@@ -31,11 +31,11 @@ returns-clause-ok c =
       sessions = said_number f rows (codes "sessions") _ refl c.in_ok-sessions.ensures.ok;
       idle_limit = said_number_if_any f rows (codes "idle-limit") _ refl
           c.in_ok-idle_limit.ensures.some c.in_ok-idle_limit.ensures.none;
-      verbose = said_flag f rows (codes "verbose") _ refl c.get_flag-verbose.ensures.value
-          c.get_flag-verbose.ensures.other;
-      read_only = said_flag f rows (codes "read-only") _ refl c.get_flag-read_only.ensures.value
-          c.get_flag-read_only.ensures.other;
+      verbose = said_flag f rows (codes "verbose") _ refl c.get_flag-3.ensures.value
+          c.get_flag-3.ensures.other;
+      read_only = said_flag f rows (codes "read-only") _ refl c.get_flag-4.ensures.value
+          c.get_flag-4.ensures.other;
       force_in_use = said_flag f rows (codes "force-in-use") _ refl
-          c.get_flag-force_in_use.ensures.value c.get_flag-force_in_use.ensures.other;
+          c.get_flag-5.ensures.value c.get_flag-5.ensures.other;
       legs = said_words f rows (codes "leg") _ refl c.in_ok-legs.ensures.ok;
     }

@@ -1,0 +1,204 @@
+//! The mirror of the program, with all that it is served by.
+
+use nm_commands::Settings;
+use nm_control::{Copier, CopyOrders, Healing, MissingLegs};
+use nm_leg_files::{
+    FileMirror, LateSlots, LateSuperblock, Leg, LegFiles, LegPlace, SuperblockWriter, Superblocks,
+};
+use nm_mirror::Pass;
+use nm_opening::open_asked_for;
+use nm_reports::{LogLines, Metrics, StartFault};
+use nm_serving::AT_ONCE;
+use nm_sockets::Listener;
+use std::alloc::{AllocError, Global};
+use std::fs::File;
+use std::random::RandomSource;
+use std::rt::Files;
+use std::sync::{Arc, Mutex, Wait};
+use std::thread::Threads;
+use std::time::Clock;
+
+// The passes of so many sessions.
+fn passes_of<'a, R: Wait>(
+    rt: &R,
+    alloc: Global,
+    mirror: &FileMirror,
+    sessions: u8,
+) -> Result<Vec<Pass<Leg>>, StartFault<'a>> {
+    let mut passes = Vec::new(alloc);
+    for _ in 0..sessions as usize * AT_ONCE {
+        let Ok(pass) = mirror.pass(rt, alloc) else {
+            return Err(StartFault::Memory);
+        };
+        if passes.push(pass).is_err() {
+            return Err(StartFault::Memory);
+        }
+    }
+    Ok(passes)
+}
+
+// Each leg's place, with its superblock where that comes late.
+fn places_of(
+    alloc: Global,
+    files: &LegFiles,
+    late: Vec<LateSuperblock>,
+) -> Result<Vec<Arc<LegPlace>>, AllocError> {
+    let mut places = files.places(alloc)?;
+    for superblock in late {
+        if let Some(place) = places.get_mut(superblock.leg) {
+            place.set_superblock(superblock);
+        }
+    }
+    let mut all = Vec::new(alloc);
+    for place in places {
+        all.push(Arc::new(alloc, place)?)?;
+    }
+    Ok(all)
+}
+
+// A share of each leg's place.
+fn shares_of(alloc: Global, places: &[Arc<LegPlace>]) -> Result<Vec<Arc<LegPlace>>, AllocError> {
+    let mut shares = Vec::new(alloc);
+    for place in places {
+        shares.push(Arc::try_clone(place)?)?;
+    }
+    Ok(shares)
+}
+
+// What attaches legs again, where that is asked for, or where one is missing.
+fn healing_of<'a>(
+    alloc: Global,
+    settings: &Settings<'a>,
+    files: &LegFiles,
+    places: &[Arc<LegPlace>],
+) -> Result<Option<Healing>, StartFault<'a>> {
+    if !settings.auto_attach && files.missing().is_none() {
+        return Ok(None);
+    }
+    let own = shares_of(alloc, places)?;
+    Ok(Some(Healing::new(alloc, own, settings.auto_attach)?))
+}
+
+// What an administrator wants of copies at first, and which legs are missing.
+fn orders_of<'a>(
+    alloc: Global,
+    settings: &Settings<'_>,
+    files: &LegFiles,
+) -> Result<CopyOrders, StartFault<'a>> {
+    let reasons = files.reasons(alloc)?;
+    let orders = CopyOrders::new(settings.copy_rate).with_missing(MissingLegs::of(reasons));
+    Ok(orders.with_limits(files.limits(alloc)?))
+}
+
+// The copier of the mirror, which tells of its legs by their files' names.
+fn copier_of<'a>(
+    alloc: Global,
+    mirror: &FileMirror,
+    files: &LegFiles,
+    places: &[Arc<LegPlace>],
+    settings: &Settings<'a>,
+) -> Result<Copier, StartFault<'a>> {
+    let Ok(legs) = files.lines(alloc) else {
+        return Err(StartFault::Memory);
+    };
+    let healing = healing_of(alloc, settings, files, places)?;
+    match Copier::new(alloc, mirror.shape(), legs, healing) {
+        Ok(copier) => Ok(copier),
+        Err(_) => Err(StartFault::Memory),
+    }
+}
+
+/// What is counted of the clients of so many places, and of these files.
+pub fn metrics_of<'a>(
+    alloc: Global,
+    files: &LegFiles,
+    sessions: u8,
+) -> Result<Metrics, StartFault<'a>> {
+    let Ok(legs) = files.counts(alloc) else {
+        return Err(StartFault::Memory);
+    };
+    match Metrics::new(alloc, sessions as usize, legs) {
+        Ok(metrics) => Ok(metrics),
+        Err(_) => Err(StartFault::Memory),
+    }
+}
+
+// What saves superblocks behind a lock, if there is something, and those that come late.
+fn locked(
+    alloc: Global,
+    superblocks: Option<Superblocks>,
+) -> (
+    Option<Mutex<SuperblockWriter<LateSlots>>>,
+    Vec<LateSuperblock>,
+) {
+    match superblocks {
+        Some(own) => (Some(Mutex::new(own.writer)), own.late),
+        None => (None, Vec::new(alloc)),
+    }
+}
+
+/// What is at hand beside the mirror while it is served.
+#[derive(Drop)]
+pub struct Equipment {
+    /// Each leg's place.
+    pub places: Vec<Arc<LegPlace>>,
+    /// What saves its superblocks, if it has some.
+    pub superblocks: Option<Mutex<SuperblockWriter<LateSlots>>>,
+    /// What an administrator wants of copies.
+    pub orders: CopyOrders,
+}
+
+// What is at hand beside the mirror over these files.
+fn equip<'a>(
+    alloc: Global,
+    settings: &Settings<'a>,
+    files: &LegFiles,
+    superblocks: Option<Superblocks>,
+) -> Result<Equipment, StartFault<'a>> {
+    let (superblocks, late) = locked(alloc, superblocks);
+    Ok(Equipment {
+        places: places_of(alloc, files, late)?,
+        superblocks,
+        orders: orders_of(alloc, settings, files)?,
+    })
+}
+
+/// The mirror with its passes, who copies its legs, and what is at hand beside it.
+#[derive(Drop)]
+pub struct Opened {
+    /// The mirror.
+    pub mirror: FileMirror,
+    /// The passes of its sessions.
+    pub passes: Vec<Pass<Leg>>,
+    /// Who copies its legs.
+    pub copier: Copier,
+    /// What is at hand beside it.
+    pub own: Equipment,
+}
+
+/// Opens the mirror over these files. From then on a leg's file is held by its place and its
+/// stripes alone, which another may get.
+pub fn open<'a, R>(
+    rt: &R,
+    alloc: Global,
+    settings: &Settings<'a>,
+    files: LegFiles,
+    control: &Listener,
+    lines: &LogLines,
+) -> Result<Opened, StartFault<'a>>
+where
+    R: Threads + Wait + Sync + Clock + RandomSource + Files<File = File>,
+{
+    let opened = open_asked_for(rt, alloc, settings, &files, control, lines)?;
+    files.tell_missing(rt, alloc, lines);
+    let mirror = opened.mirror;
+    let own = equip(alloc, settings, &files, opened.superblocks)?;
+    let copier = copier_of(alloc, &mirror, &files, &own.places, settings)?;
+    let passes = passes_of(rt, alloc, &mirror, settings.sessions)?;
+    Ok(Opened {
+        mirror,
+        passes,
+        copier,
+        own,
+    })
+}
