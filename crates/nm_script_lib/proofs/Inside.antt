@@ -1,5 +1,5 @@
 -- The steps of a script name blocks and legs of its stripe, before and after each step.
-use Rattle.std.proofs.Common.{◌≡◌, ℕ, ◌+◌, ◌*◌, ◌/◌, ◌%◌, ◌<◌, ◌≤◌, zero, suc, min, List, [], ◌∷◌, length, take, replicate, get_or, Option, Some, None, refl, sym, ap, subst, ◌∙◌, arith}
+use Rattle.std.proofs.Common.{◌≡◌, ℕ, ◌*◌, ◌/◌, ◌<◌, ◌≤◌, zero, suc, List, [], ◌∷◌, length, take, replicate, get_or, Option, Some, None, refl, sym, ap, subst, ◌∙◌, arith}
 use Rattle.std.specs.List.{AllByRecursion, AllZip}
 use Rattle.std.proofs.Math.Nat.{mod-lt}
 use Rattle.std.proofs.lemmas.List.{length-replicate, take-replicate}
@@ -13,7 +13,6 @@ use Rattle.nm_stripe.specs.declared.step.Step.{Step as MachineStep}
 use Rattle.nm_stripe.specs.declared.step.Step.TheVariants.{Replace as ReplaceStep}
 use Rattle.nm_stripe.specs.Run.{MayBeAsked, StepOf}
 use Rattle.nm_stripe.proofs.RunLemmas.{step-shape}
-use Rattle.nm_script_lib.specs.declared.fused_call.FusedCall.{FusedCall}
 use Rattle.nm_script_lib.specs.declared.load.Load.{Load}
 use Rattle.nm_script_lib.specs.declared.mirror_line.MirrorLine.{MirrorLine}
 use Rattle.nm_script_lib.specs.declared.step.Step.{Step}
@@ -22,7 +21,7 @@ use Rattle.nm_script_lib.specs.declared.step.StripeStep.{StripeStep}
 use Rattle.nm_script_lib.specs.declared.step.StripeStep.TheVariants.{Begin, Zero, Patch, Push, Claim, Read, Run, Get, Fail, Attach, Replace, Copy, Promote, Sync}
 use Rattle.nm_script_lib.specs.Forms.{IsLine}
 use Rattle.nm_script_lib.specs.Grammar.{IsStepLine, IsOpening, IsScript, load_form, start_form, mirror_form, step_form, patch_args, run_args, get_args, run_form, leg_form, look_form, most_run}
-use Rattle.nm_script_lib.specs.MemStripe.{MemStripe, InRange, FitsLoad, FitOpening, HasCall, IsNew, IsOpened, HasShape, IsInside, IsAsked, IsFilled, filled, filled_block, fuse_legs, place_of}
+use Rattle.nm_script_lib.specs.MemStripe.{MemStripe, InRange, FitsLoad, FitOpening, IsNew, IsOpened, HasShape, IsInside, IsAsked, IsFilled, filled, filled_block, fuse_legs, place_of}
 use Rattle.nm_script_lib.proofs.FormLaws.{Always, line_always}
 use Rattle.nm_script_lib.proofs.Legs.{new_lengths, filled_length}
 use Rattle.nm_script_lib.proofs.Loaded.{compared_shape}
@@ -50,16 +49,6 @@ pub opened_shape : (m : MirrorLine) (loads : List Load) (master : Option ℕ) (s
 opened_shape m loads None stripe range fits is = new_shape m stripe range is
 opened_shape m loads (Some master) stripe range fits is =
     compared_shape m loads is.0 master stripe range is.1 fits.1 is.2
-
--- the leg of which a call is to fail is one of the stripe's
-pub call_fits : (m : MirrorLine) (loads : List Load) (master : Option ℕ) (stripe : MemStripe)
-    (fuse : Option FusedCall) (fused : FusedCall) → InRange m → FitOpening m loads master →
-    HasCall m fuse → IsOpened m loads master stripe → fuse ≡ Some fused →
-    fused.leg < length stripe.legs
-call_fits m loads master stripe fuse fused range fits call opened is =
-    let shape = opened_shape m loads master stripe range fits opened in
-    let has : HasCall m (Some fused) = subst (λ (f : Option FusedCall). HasCall m f) is call in
-    omega (arith, has.0, shape.legs)
 
 fills_block : (fill : ℕ) → length (filled_block fill) ≡ 512
 unfolding filled_block

@@ -6,7 +6,7 @@ use Rattle.std.proofs.lemmas.List.{length-replicate}
 use Rattle.std.proofs.lemmas.Option.{same_Some, slice_get_within}
 use Rattle.nm_replay.proofs.Arrays.{slice_get-set_same, slice_get-set_other}
 use Rattle.nm_replay.specs.Array.{Array}
-use Rattle.nm_leg.specs.Leg.{IsRun, Leg, block_of, filled_array}
+use Rattle.nm_leg.specs.Leg.{Leg, block_of, filled_array}
 use Rattle.nm_leg.specs.LegCalls.{EachHas, HasRun}
 use Rattle.nm_leg.specs.TestLegs.{of_fuse}
 use Rattle.nm_leg.specs.declared.fuse_leg.FuseLeg.{FuseLeg}

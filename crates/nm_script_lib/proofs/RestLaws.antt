@@ -6,7 +6,7 @@ use Rattle.nm_script_lib.specs.declared.load.Load.{Load}
 use Rattle.nm_script_lib.specs.declared.mirror_line.MirrorLine.{MirrorLine}
 use Rattle.nm_script_lib.specs.declared.step.Step.{Step}
 use Rattle.nm_script_lib.specs.Grammar.{IsStepLine, IsOpening, has_content}
-use Rattle.nm_script_lib.specs.BadLine.{FollowsOpening, Opens, StepFollows, NothingFollows, IsNoLoad, IsStart, IsBetween, IsWrongOpening, HasContent, IsBadStep, IsFirst}
+use Rattle.nm_script_lib.specs.BadLine.{FollowsOpening, Opens, StepFollows, NothingFollows, IsBetween, IsWrongOpening, IsBadStep, IsFirst}
 use Rattle.nm_script_lib.specs.ScriptReading.{Opened, Said, opening_of, steps_of, with_opening, from_opening}
 use Rattle.nm_script_lib.proofs.LineLaws.{later_first, steps_sound, steps_bad, steps_read}
 use Rattle.nm_script_lib.proofs.BetweenLaws.{IsBetweenFrom}

@@ -1,7 +1,6 @@
 -- How a run ends: what was read, what was written, and what is reported.
 use Rattle.std.specs.Prelude.{◌≡◌, ℕ, List, Option, Result, Ok, Err, ◌⊎◌}
 use Rattle.std.specs.Io.KnownBytes.{Appends, Keeps}
-use Rattle.nm_script_lib.specs.declared.fused_call.FusedCall.{FusedCall}
 use Rattle.nm_script_lib.specs.declared.load.Load.{Load}
 use Rattle.nm_script_lib.specs.declared.mirror_line.MirrorLine.{MirrorLine}
 use Rattle.nm_script_lib.specs.declared.step.Step.{Step}
@@ -10,7 +9,6 @@ use Rattle.nm_script_lib.specs.declared.run_error.RunError.TheVariants.{BadStep,
 use Rattle.nm_script_lib.specs.declared.run_error.RunError.TheVariants.{Output}
 use Rattle.nm_script_lib.specs.Grammar.{IsScript}
 use Rattle.nm_script_lib.specs.BadLine.{NamesLine}
-use Rattle.nm_script_lib.specs.MemStripe.{HasCall}
 use Rattle.nm_script_lib.specs.Streams.{Change, AppendsPrefix, ReadsAll}
 use Rattle.nm_script_lib.specs.RunErrors.{status_of, error_line}
 use Rattle.nm_script_lib.specs.Runs.{WholeRun, PartOfRun, Writes}
@@ -30,44 +28,32 @@ pub record ReadsNone (old new : Option (List ℕ)) (line : ℕ) : Type 0 where
   pub none : (m : MirrorLine) (loads : List Load) (master : Option ℕ) (steps : List Step)
       → IsScript text m loads master steps → ⊥
 
--- The input is a script whose mirror lacks the call that is to fail. Line 1 is named.
-pub record LacksCall (fuse : Option FusedCall) (old new : Option (List ℕ)) (line : ℕ)
-    : Type 0 where
-  pub mirror : MirrorLine
-  pub loads : List Load
-  pub master : Option ℕ
-  pub steps : List Step
-  pub read : ReadsScript old new mirror loads master steps
-  pub lacks : HasCall mirror fuse → ⊥
-  pub named : line ≡ 1
-
--- The input is a script whose mirror has the call that is to fail, and of its run this was written.
-abbrev pub Wrote : Option FusedCall → (old new : Option (List ℕ))
+-- The input is a script, and of its run this was written.
+abbrev pub Wrote : (old new : Option (List ℕ))
     → (MirrorLine → List Load → Option ℕ → List Step → Type 0) → Type 0
-Wrote fuse old new Done =
+Wrote old new Done =
     (m : MirrorLine) × (loads : List Load) × (master : Option ℕ) × (steps : List Step)
-    × ReadsScript old new m loads master steps × HasCall m fuse × Done m loads master steps
+    × ReadsScript old new m loads master steps × Done m loads master steps
 
 -- A part of its run's lines was written.
-abbrev pub PartDone : Option FusedCall → (in_old in_new out_old out_new : Option (List ℕ)) → Type 0
-PartDone fuse in_old in_new out_old out_new =
-    Wrote fuse in_old in_new
+abbrev pub PartDone : (in_old in_new out_old out_new : Option (List ℕ)) → Type 0
+PartDone in_old in_new out_old out_new =
+    Wrote in_old in_new
     (λ m loads master steps.
     Writes (PartOfRun m loads master steps) (AppendsPrefix out_old out_new))
 
--- What was read and written, by how the run ended. A call of a leg may be set to fail before the
--- first step; no clause sees which call it is.
-abbrev pub Ended : Option FusedCall → Result (Unit {0}) RunError
+-- What was read and written, by how the run ended.
+abbrev pub Ended : Result (Unit {0}) RunError
     → (in_old in_new out_old out_new : Option (List ℕ)) → Type 0
-Ended fuse (Ok done) in_old in_new out_old out_new =
-    Wrote fuse in_old in_new
+Ended (Ok done) in_old in_new out_old out_new =
+    Wrote in_old in_new
     (λ m loads master steps. Writes (WholeRun m loads master steps) (Appends out_old out_new))
-Ended fuse (Err (BadStep line)) in_old in_new out_old out_new =
-    (ReadsNone in_old in_new line ⊎ LacksCall fuse in_old in_new line) × Keeps out_old out_new
-Ended fuse (Err Memory) in_old in_new out_old out_new =
-    Keeps out_old out_new ⊎ PartDone fuse in_old in_new out_old out_new
-Ended fuse (Err Input) in_old in_new out_old out_new = Keeps out_old out_new
-Ended fuse (Err Output) in_old in_new out_old out_new = PartDone fuse in_old in_new out_old out_new
+Ended (Err (BadStep line)) in_old in_new out_old out_new =
+    ReadsNone in_old in_new line × Keeps out_old out_new
+Ended (Err Memory) in_old in_new out_old out_new =
+    Keeps out_old out_new ⊎ PartDone in_old in_new out_old out_new
+Ended (Err Input) in_old in_new out_old out_new = Keeps out_old out_new
+Ended (Err Output) in_old in_new out_old out_new = PartDone in_old in_new out_old out_new
 
 -- The exit status.
 abbrev pub exit_status : Result (Unit {0}) RunError → ℕ
@@ -80,10 +66,10 @@ IsReported (Ok done) old new = Keeps old new
 IsReported (Err error) old new = AppendsPrefix old new (error_line error)
 
 -- A run ended, with this exit status.
-pub record Ends (fuse : Option FusedCall) (status : ℕ) (input out err : Change) : Type 0 where
+pub record Ends (status : ℕ) (input out err : Change) : Type 0 where
   pub run_result : Result (Unit {0}) RunError
   pub exits : status ≡ exit_status run_result
-  pub ended : Ended fuse run_result input.old input.new out.old out.new
+  pub ended : Ended run_result input.old input.new out.old out.new
   pub reported : IsReported run_result err.old err.new
 
 -- Why the input was not read as a script.

@@ -22,7 +22,6 @@ use Rattle.nm_rules.specs.State.{StripeState}
 use Rattle.nm_rules.specs.Comparing.{comparing}
 use Rattle.nm_rules.specs.RunComparing.{OpensComparedRuns}
 use Rattle.nm_rules.specs.Opening.{opened}
-use Rattle.nm_script_lib.specs.declared.fused_call.FusedCall.{FusedCall}
 use Rattle.nm_script_lib.specs.declared.load.Load.{Load}
 use Rattle.nm_script_lib.specs.declared.mirror_line.MirrorLine.{MirrorLine}
 use Rattle.nm_script_lib.specs.declared.step.Step.{Step}
@@ -90,11 +89,6 @@ pub record AreLoadedLegs (m : MirrorLine) (loads : List Load) (legs : List FuseL
 -- The place of the stripe.
 abbrev pub place_of : MirrorLine → At
 place_of m = record { stripe = 0; blocks = m.blocks; region = m.region; chunk = m.chunk }
-
--- The mirror has the leg of this call, and the call is not call 0.
-abbrev pub HasCall : MirrorLine → Option FusedCall → Type 0
-HasCall m None = Unit {0}
-HasCall m (Some fused) = (fused.leg < m.legs) × (0 < fused.call)
 
 -- A new stripe has the mirror's shape, such legs, all of them in sync, and the mirror's first
 -- number and policy.

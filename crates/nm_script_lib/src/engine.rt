@@ -2,7 +2,7 @@
 ghost use Rattle.std.specs.Prelude.{◌≡◌, ℕ, ◌+◌, ◌<◌, ◌≤◌, List, ◌++◌, length, IfOk, IfErr, OnOk};
 ghost use Rattle.std.specs.Prelude.{OnErr};
 ghost use Rattle.std.specs.List.{flat_map, AllByRecursion};
-ghost use Rattle.nm_script_lib.specs.MemStripe.{InRange, IsInside, FitOpening, HasShape, HasCall};
+ghost use Rattle.nm_script_lib.specs.MemStripe.{InRange, IsInside, FitOpening, HasShape};
 ghost use Rattle.std.specs.Io.KnownBytes.{Appends};
 ghost use Rattle.nm_script_lib.specs.Streams.{AppendsPrefix, FlushesPrefix};
 ghost use Rattle.nm_script_lib.specs.Printing.{entry_line};
@@ -12,9 +12,8 @@ ghost use Rattle.nm_script_lib.specs.Runs.{JudgesHistory, Writes, history, loade
 ghost use Rattle.nm_script_lib.specs.Runs.{opening_text};
 
 use crate::do_step::do_step;
-use crate::fused_call::FusedCall;
 use crate::load::Load;
-use crate::mem_stripe::open_fused;
+use crate::mem_stripe::open_script;
 use crate::mirror_line::MirrorLine;
 use crate::printing::{put_counts, put_entry, put_legal, put_loaded, put_started};
 use crate::run_error::RunError;
@@ -180,16 +179,10 @@ fn put_opening<W: Write>(
 }
 
 /// Runs a script on a stripe of memory legs: writes the lines of its opening, a line a step, and
-/// then the history. One call of a leg may be set to fail before the first step.
-pub fn run<W: Write>(
-    alloc: Global,
-    script: &Script,
-    fuse: Option<FusedCall>,
-    out: &mut W,
-) -> Result<(), RunError>
+/// then the history.
+pub fn run<W: Write>(alloc: Global, script: &Script, out: &mut W) -> Result<(), RunError>
     requires range { InRange script.now.mirror }
     requires fits { FitOpening script.now.mirror script.now.loads.items script.now.master }
-    requires call { HasCall script.now.mirror fuse }
     requires inside { AllByRecursion (IsInside script.now.mirror) script.now.steps.items }
     ensures ok { OnOk result (Writes (WholeRun script.now.mirror script.now.loads.items
         script.now.master script.now.steps.items)
@@ -200,7 +193,7 @@ pub fn run<W: Write>(
     ensures cause { IfErr result EndsRun }
 {
     let mut buffer = Vec::with_capacity(alloc, BUFFER_SIZE + LINE_SIZE)?;
-    let mut stripe = open_fused(alloc, script, fuse)?;
+    let mut stripe = open_script(alloc, script)?;
     put_opening(&script.loads, script.master, out, &mut buffer)?;
     run_steps(
         alloc,

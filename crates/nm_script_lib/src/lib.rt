@@ -2,14 +2,12 @@
 //!
 //! `run_script` reads the whole script, does its steps one after the other, and writes a line for
 //! each answer, the history that the stripe keeps, and whether that history is legal. What it
-//! writes is proved to be the lines of the answers, with `legal yes` as the last line. `run_fused`
-//! does the same while one call of a leg fails.
+//! writes is proved to be the lines of the answers, with `legal yes` as the last line.
 #![tactic(auto)]
 
 mod do_step;
 mod engine;
 mod fill;
-mod fused_call;
 mod input_error;
 mod load;
 mod mem_stripe;
@@ -25,4 +23,4 @@ mod streams;
 mod words;
 mod write_error;
 
-pub use crate::program::{run_fused, run_script};
+pub use crate::program::run_script;

@@ -8,7 +8,7 @@ ghost use Rattle.nm_leg.specs.LegCalls.{HasRun, WritesLegAt};
 ghost use Rattle.nm_leg.specs.TestLegs.{of_fuse};
 ghost use Rattle.nm_script_lib.specs.declared.step.Step.TheVariants.{Ask};
 ghost use Rattle.nm_script_lib.specs.MemStripe.{InRange, AreNewLegs, AreLoadedLegs, IsNew};
-ghost use Rattle.nm_script_lib.specs.MemStripe.{IsOpened, FitsLoad, FitOpening, place_of, HasCall};
+ghost use Rattle.nm_script_lib.specs.MemStripe.{IsOpened, FitsLoad, FitOpening, place_of};
 ghost use Rattle.nm_script_lib.specs.MemStripe.{HasShape, IsInside, IsAsked, filled_block};
 ghost use Rattle.nm_script_lib.specs.MemStripe.{filled, fuse_legs};
 ghost use Rattle.nm_stripe.specs.declared.step.Step.TheVariants.{Begin as BeginStep};
@@ -16,7 +16,6 @@ ghost use Rattle.nm_stripe.specs.declared.step.Step.TheVariants.{Read as ReadSte
 ghost use Rattle.nm_script_lib.specs.declared.run_error.RunError.TheVariants.{Memory};
 ghost use Rattle.nm_script_lib.specs.Runs.{Answers};
 
-use crate::fused_call::FusedCall;
 use crate::load::Load;
 use crate::mirror_line::MirrorLine;
 use crate::run_error::RunError;
@@ -125,7 +124,7 @@ fn open_compared(
 }
 
 /// The stripe of a script.
-fn open_script(alloc: Global, script: &Script) -> Result<Stripe<FuseLeg>, RunError>
+pub fn open_script(alloc: Global, script: &Script) -> Result<Stripe<FuseLeg>, RunError>
     requires range { InRange script.now.mirror }
     requires fits { FitOpening script.now.mirror script.now.loads.items script.now.master }
     ensures opened { IfOk result
@@ -136,26 +135,6 @@ fn open_script(alloc: Global, script: &Script) -> Result<Stripe<FuseLeg>, RunErr
         Some(master) => open_compared(alloc, &script.mirror, &script.loads, master),
         None => open(alloc, &script.mirror),
     }
-}
-
-/// The stripe of a script, of whose legs one call fails once it is open.
-pub fn open_fused(
-    alloc: Global,
-    script: &Script,
-    fuse: Option<FusedCall>,
-) -> Result<Stripe<FuseLeg>, RunError>
-    requires range { InRange script.now.mirror }
-    requires fits { FitOpening script.now.mirror script.now.loads.items script.now.master }
-    requires call { HasCall script.now.mirror fuse }
-    ensures opened { IfOk result
-        (IsOpened script.now.mirror script.now.loads.items script.now.master) }
-    ensures cause { IfErr result (λ e. e ≡ Memory) }
-{
-    let stripe = open_script(alloc, script)?;
-    if let Some(fused) = fuse {
-        stripe.part(fused.leg).set(fused.call);
-    }
-    Ok(stripe)
 }
 
 /// A block of one byte throughout.

@@ -1,5 +1,5 @@
 //! The whole program: a script in, its lines out.
-ghost use Rattle.std.specs.Prelude.{◌≡◌, ℕ, List, ◌++◌, length, None, Some, IfOk, IfErr, OnOk};
+ghost use Rattle.std.specs.Prelude.{◌≡◌, ℕ, List, ◌++◌, length, IfOk, IfErr, OnOk};
 ghost use Rattle.std.specs.Prelude.{OnErr, MatchResult, codes, decimal};
 ghost use Rattle.std.specs.Io.KnownBytes.{Appends, Keeps};
 ghost use Rattle.std.specs.List.{AllByRecursion};
@@ -8,7 +8,6 @@ ghost use Rattle.nm_script_lib.specs.RunErrors.{error_line, bad_step_line};
 ghost use Rattle.nm_script_lib.specs.Ending.{ReadsScript, CannotRead, Ended, Ends};
 
 use crate::engine::run;
-use crate::fused_call::{FusedCall, has_call};
 use crate::run_error::RunError;
 use crate::script::{Script, parse};
 use crate::streams::{read_all, send};
@@ -31,17 +30,13 @@ fn read_script<R: Read>(alloc: Global, input: &mut R) -> Result<Script, RunError
 fn read_and_run<R: Read, W: Write>(
     alloc: Global,
     input: &mut R,
-    fuse: Option<FusedCall>,
     out: &mut W,
 ) -> Result<(), RunError>
-    ensures { Ended fuse result (R.remaining input.old) (R.remaining input.new)
+    ensures { Ended result (R.remaining input.old) (R.remaining input.new)
         (W.contents out.old) (W.contents out.new) }
 {
     let script = read_script(alloc, input)?;
-    if !has_call(&script.mirror, fuse) {
-        return Err(RunError::BadStep { line: 1 });
-    }
-    run(alloc, &script, fuse, out)
+    run(alloc, &script, out)
 }
 
 /// Reports why a run stopped.
@@ -72,28 +67,6 @@ fn report_bad_line<E: Write>(err: &mut E, line: u64) -> Result<(), WriteError>
     send(err, b": bad step\n")
 }
 
-/// Runs the script that `input` holds while one call of a leg may fail, and returns the exit
-/// status.
-fn run_and_report<R: Read, W: Write, E: Write>(
-    alloc: Global,
-    input: &mut R,
-    fuse: Option<FusedCall>,
-    out: &mut W,
-    err: &mut E,
-) -> u8
-    ensures { Ends fuse result (change (R.remaining input.old) (R.remaining input.new))
-        (change (W.contents out.old) (W.contents out.new))
-        (change (E.contents err.old) (E.contents err.new)) }
-{
-    match read_and_run(alloc, input, fuse, out) {
-        Ok(()) => 0,
-        Err(error) => {
-            let _ = report(err, error);
-            error.status()
-        }
-    }
-}
-
 /// Runs the script that `input` holds, and returns the exit status.
 ///
 /// `out` gets the lines of the opening, a line for each step, and then the history of the stripe.
@@ -106,30 +79,15 @@ pub fn run_script<R: Read, W: Write, E: Write>(
     out: &mut W,
     err: &mut E,
 ) -> u8
-    ensures { Ends None result (change (R.remaining input.old) (R.remaining input.new))
+    ensures { Ends result (change (R.remaining input.old) (R.remaining input.new))
         (change (W.contents out.old) (W.contents out.new))
         (change (E.contents err.old) (E.contents err.new)) }
 {
-    run_and_report(alloc, input, None, out, err)
-}
-
-/// Runs the script that `input` holds as `run_script` does, while the `call`-th call of this leg,
-/// counted from 1 and from the first step, fails once. What a start reads is not counted.
-///
-/// Where the script's mirror lacks the leg, or `call` is 0, the status is 2 with
-/// `line 1: bad step`, and nothing is written to `out`.
-pub fn run_fused<R: Read, W: Write, E: Write>(
-    alloc: Global,
-    input: &mut R,
-    leg: u8,
-    call: u64,
-    out: &mut W,
-    err: &mut E,
-) -> u8
-    ensures { Ends (Some (record { leg = leg; call = call })) result
-        (change (R.remaining input.old) (R.remaining input.new))
-        (change (W.contents out.old) (W.contents out.new))
-        (change (E.contents err.old) (E.contents err.new)) }
-{
-    run_and_report(alloc, input, Some(FusedCall { leg, call }), out, err)
+    match read_and_run(alloc, input, out) {
+        Ok(()) => 0,
+        Err(error) => {
+            let _ = report(err, error);
+            error.status()
+        }
+    }
 }

@@ -1,6 +1,6 @@
 use Rattle.std.proofs.Common.{Err}
 use Rattle.nm_script_lib.proofs.EndLaws.{reported_prefix}
-use Rattle.nm_script_lib.proofs.program.run_and_report.Goals as goal
+use Rattle.nm_script_lib.proofs.program.run_script.Goals as goal
 
 pub returns-in-Err : goal.returns-in-Err
 returns-in-Err g c = record {
