@@ -16,7 +16,7 @@ use Rattle.nm_leg.specs.Leg.{LegType, blocks_in, blocks_of, block_of, cut_into}
 use Rattle.nm_rules.specs.Acts.{IsExplainedStep}
 use Rattle.nm_rules.specs.BlockCalls.{ReadsBlockAt}
 use Rattle.nm_rules.specs.Begin.{Begins, FailsToBegin, LosesInBegin, FailsInBegin, ReadsBase, after_begin, begin_cause}
-use Rattle.nm_rules.specs.Invariant.{HasLegs, Keeps}
+use Rattle.nm_rules.specs.Invariant.{Keeps}
 use Rattle.nm_rules.specs.Lost.{lost}
 use Rattle.nm_rules.specs.Read.{current_legs}
 use Rattle.nm_rules.specs.RunBegin.{AreWhole, BeginsRun, after_begin_run, begin_run_cause, begins_of}
@@ -24,12 +24,10 @@ use Rattle.nm_rules.specs.RunCalls.{ReadsRunAt}
 use Rattle.nm_rules.specs.Runs.{FitsRun}
 use Rattle.nm_rules.specs.State.{StripeState, is_last}
 use Rattle.nm_rules.proofs.BeginLemmas.{begins-explained, begins-keeps}
-use Rattle.nm_rules.proofs.LegLemmas.{calls-length}
 use Rattle.nm_rules.proofs.ReadLegLemmas.{some_current}
 use Rattle.nm_rules.proofs.RunBeginLemmas.{begins_run-explained, begins_run-keeps, may_begin_run}
 use Rattle.nm_rules.proofs.RunCallLemmas.{first-read}
 use Rattle.nm_rules.proofs.RunOneLemmas.{one-begins}
-use Rattle.nm_rules.proofs.StateLemmas.{master_inside}
 use Rattle.nm_stripe.specs.Begin.{BeginsWith, puts_in}
 use Rattle.nm_stripe.proofs.LostLemmas.{lost-after, lost-legs_after}
 

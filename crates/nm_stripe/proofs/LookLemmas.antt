@@ -1,5 +1,5 @@
 -- A look at a leg in sync: it changes no contents, and finds the array where no write is under way.
-use Rattle.std.proofs.Common.{Result, Ok, Err, OnOk, is_ok, ◌≡◌, ⊎_elim, ℕ, ◌+◌, ◌-◌, ◌/◌, ◌%◌, ◌<◌, ◌≤◌, Bool, true, false, IsTrue, List, [], ◌∷◌, length, slice_get, refl, sym, ap, ◌∙◌, subst, arith}
+use Rattle.std.proofs.Common.{Result, Ok, Err, OnOk, is_ok, ◌≡◌, ⊎_elim, ℕ, ◌+◌, ◌-◌, ◌/◌, ◌<◌, ◌≤◌, Bool, true, false, IsTrue, List, [], ◌∷◌, length, slice_get, refl, sym, ap, ◌∙◌, subst, arith}
 use Rattle.nm_choice.specs.declared.leg_state.LegState.TheVariants.{InSync}
 use Rattle.nm_replay.specs.declared.block.Block.{Block}
 use Rattle.nm_replay.specs.Array.{Array}
@@ -11,7 +11,7 @@ use Rattle.nm_rules.specs.Invariant.{Keeps}
 use Rattle.nm_rules.specs.RunCalls.{ReadsRunAt}
 use Rattle.nm_rules.specs.Runs.{FitsRun}
 use Rattle.nm_rules.specs.State.{StripeState, is_quiet, leg_state, table}
-use Rattle.nm_rules.proofs.CalledLemmas.{SameContents, called-acts, called-keeps, with_legs}
+use Rattle.nm_rules.proofs.CalledLemmas.{SameContents, called-acts, called-keeps}
 use Rattle.nm_rules.proofs.LegLemmas.{calls-after, calls-before, calls-length, calls-lengths, calls-other}
 use Rattle.nm_rules.proofs.ReadLegLemmas.{quiet_free}
 use Rattle.nm_rules.proofs.RecordLemmas.{one_or_two}
