@@ -6,16 +6,16 @@ use Rattle.nm_commands.specs.declared.start.Start.TheVariants as asked_start
 use Rattle.nm_geometry.specs.Geometry.{Geometry}
 use Rattle.nm_leg.specs.Leg.{LegType}
 use Rattle.nm_mirror.specs.Opening.{Asked, AreAllOpened, RefusesOpening}
-use Rattle.nm_mirror.specs.declared.open_fault.OpenFault.TheVariants.{MasterFault}
-use Rattle.nm_mirror.specs.declared.start.Start as mirror
-use Rattle.nm_mirror.specs.declared.start.Start.TheVariants as mirror_start
+use Rattle.nm_mirror.specs.declared.mirror_fault.MirrorFault.TheVariants.{MasterFault}
+use Rattle.nm_mirror.specs.declared.initial_sync.InitialSync as mirror
+use Rattle.nm_mirror.specs.declared.initial_sync.InitialSync.TheVariants as mirror_start
 use Rattle.nm_rules.specs.State.{StripeState}
 use Rattle.nm_leg_files.specs.Alike.{AreAlike}
 use Rattle.nm_reports.specs.declared.start_fault.StartFault.{StartFault}
 use Rattle.nm_reports.specs.declared.start_fault.StartFault.TheVariants as fault
 
 -- the mirror's word for a start; legs that are taken to be equal are not compared
-abbrev pub start_for : asked.Start → mirror.Start
+abbrev pub start_for : asked.Start → mirror.InitialSync
 start_for asked_start.Compare = mirror_start.Compare
 start_for asked_start.Full = mirror_start.Full
 start_for asked_start.Equal = mirror_start.Full

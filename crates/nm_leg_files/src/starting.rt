@@ -15,19 +15,19 @@ use nm_commands::Settings;
 use nm_file_leg::FileLeg;
 use nm_geometry::Shape;
 use nm_leg::LegPart;
-use nm_mirror::{OpenFault, Start, open_stripes};
+use nm_mirror::{InitialSync, MirrorFault, open_stripes};
 use nm_reports::StartFault;
 use nm_stripe::Stripe;
 use std::alloc::Global;
 
 /// How the mirror's legs stand as it is opened. Those that are taken to be equal are not compared.
-pub fn start_for(start: nm_commands::Start) -> Start
+pub fn start_for(start: nm_commands::Start) -> InitialSync
     ensures { result ≡ start_for start }
 {
     match start {
-        nm_commands::Start::Compare => Start::Compare,
-        nm_commands::Start::Full => Start::Full,
-        nm_commands::Start::Equal => Start::Full,
+        nm_commands::Start::Compare => InitialSync::Compare,
+        nm_commands::Start::Full => InitialSync::Full,
+        nm_commands::Start::Equal => InitialSync::Full,
     }
 }
 
@@ -82,9 +82,9 @@ pub fn open_asked<'a, L: LegPart>(
     let start = start_for(settings.start);
     let stripes = match open_stripes(alloc, shape, legs, master, settings.policy, start) {
         Ok(stripes) => stripes,
-        Err(OpenFault::MasterFault) => return Err(unread_master(named)),
+        Err(MirrorFault::MasterFault) => return Err(unread_master(named)),
         // That they do not fit cannot be: each leg was made with the blocks of its stripe.
-        Err(OpenFault::Memory | OpenFault::Misfit) => return Err(StartFault::Memory),
+        Err(MirrorFault::Memory | MirrorFault::Misfit) => return Err(StartFault::Memory),
     };
     if named.is_none() && !are_alike(&stripes) {
         return Err(StartFault::LegsDiffer);

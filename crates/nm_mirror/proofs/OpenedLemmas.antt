@@ -7,8 +7,8 @@ use Rattle.nm_leg.specs.Leg.{LegType}
 use Rattle.nm_rules.specs.State.{StripeState}
 use Rattle.nm_mirror.proofs.Places.{one_more}
 use Rattle.nm_mirror.specs.Opening.{AddsNext, AreOpened, Asked, IsOpened, RefusesFitting, RefusesLegs, start_of}
-use Rattle.nm_mirror.specs.declared.open_fault.OpenFault.{OpenFault}
-use Rattle.nm_mirror.specs.declared.open_fault.OpenFault.TheVariants.{Memory, MasterFault, Misfit}
+use Rattle.nm_mirror.specs.declared.mirror_fault.MirrorFault.{MirrorFault}
+use Rattle.nm_mirror.specs.declared.mirror_fault.MirrorFault.TheVariants.{Memory, MasterFault, Misfit}
 use Rattle.nm_mirror.specs.Stripes.{FitNext}
 
 at_front : {A : Type 0} (xs : List A) (k : ℕ) (x : A) (ys : List A) → drop k xs ≡ x ∷ ys → (slice_get xs k ≡ Some x) × (drop (suc k) xs ≡ ys)
@@ -70,12 +70,12 @@ none_opened {L} type asked legs stripes none = rw none (record {
 })
 
 -- legs that fit a stripe and do not open it are refused for the same
-pub fit_but_refused : {L : Type 0} (type : LegType L) (asked : Asked) (number : ℕ) (own : List L) (fault : OpenFault) → FitNext type.model asked.shape number own asked.master → RefusesFitting type asked (start_of asked.shape.legs asked.start) number own fault → RefusesLegs type asked number own fault
+pub fit_but_refused : {L : Type 0} (type : LegType L) (asked : Asked) (number : ℕ) (own : List L) (fault : MirrorFault) → FitNext type.model asked.shape number own asked.master → RefusesFitting type asked (start_of asked.shape.legs asked.start) number own fault → RefusesLegs type asked number own fault
 fit_but_refused type asked number own Memory fit why = (fit, why)
 fit_but_refused type asked number own MasterFault fit why = (fit, why)
 fit_but_refused type asked number own Misfit fit why = absurd why
 
 -- what `?` hands on
-pub handed_on : {T : Type 0} (r : Result T OpenFault) (fault : OpenFault) (P : OpenFault → Type 0) → IsErrAnd r (λ x. x ≡ fault) → P fault → IfErr r P
+pub handed_on : {T : Type 0} (r : Result T MirrorFault) (fault : MirrorFault) (P : MirrorFault → Type 0) → IsErrAnd r (λ x. x ≡ fault) → P fault → IfErr r P
 handed_on (Ok x) fault P same p = absurd same
 handed_on (Err x) fault P same p = rw same p

@@ -6,7 +6,7 @@ pub mod Counting
 pub mod Counts
 pub mod Marked
 pub mod Numbers
-pub mod OpenFault
+pub mod MirrorFault
 pub mod Opening
 pub mod Passes
 pub mod Refused

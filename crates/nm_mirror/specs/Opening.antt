@@ -9,10 +9,10 @@ use Rattle.nm_rules.specs.Opening.{opened}
 use Rattle.nm_rules.specs.RunComparing.{FailsOnMasterRun, OpensComparedRuns}
 use Rattle.nm_rules.specs.State.{StripeState}
 use Rattle.nm_mirror.specs.Stripes.{FitNext, place_of}
-use Rattle.nm_mirror.specs.declared.open_fault.OpenFault.{OpenFault}
-use Rattle.nm_mirror.specs.declared.open_fault.OpenFault.TheVariants.{Memory, MasterFault, Misfit}
-use Rattle.nm_mirror.specs.declared.start.Start.{Start}
-use Rattle.nm_mirror.specs.declared.start.Start.TheVariants.{Compare, Full}
+use Rattle.nm_mirror.specs.declared.mirror_fault.MirrorFault.{MirrorFault}
+use Rattle.nm_mirror.specs.declared.mirror_fault.MirrorFault.TheVariants.{Memory, MasterFault, Misfit}
+use Rattle.nm_mirror.specs.declared.initial_sync.InitialSync.{InitialSync}
+use Rattle.nm_mirror.specs.declared.initial_sync.InitialSync.TheVariants.{Compare, Full}
 
 -- what is asked for: the shape of the mirror, the leg of each stripe that is in sync, the policy of
 -- its reads, and how its other legs stand
@@ -20,15 +20,15 @@ pub record Asked : Type 0 where
   pub shape : Geometry
   pub master : ℕ
   pub policy : Policy
-  pub start : Start
+  pub start : InitialSync
 
 -- how stripes of so many legs are opened: a single leg has no other to be compared with
-abbrev pub start_of : ℕ → Start → Start
+abbrev pub start_of : ℕ → InitialSync → InitialSync
 start_of legs start = if legs == 1 then Full else start
 
 -- the stripe of this number was opened on these legs: with all legs but the master behind
 -- everywhere, or by comparing them with it
-abbrev pub OpensOn : {L : Type 0} → LegType L → Asked → Start → ℕ → List L → StripeState L → Type 0
+abbrev pub OpensOn : {L : Type 0} → LegType L → Asked → InitialSync → ℕ → List L → StripeState L → Type 0
 OpensOn type asked Full number legs stripe =
     stripe ≡ opened (place_of number asked.shape) legs (2 ^ asked.master) 0 asked.policy
 OpensOn type asked Compare number legs stripe =
@@ -64,7 +64,7 @@ pub record AreAllOpened {L : Type 0} (type : LegType L) (asked : Asked) (legs : 
   pub opened : AreOpened type asked legs stripes
 
 -- why legs that fit the stripe of this number do not open it
-abbrev pub RefusesFitting : {L : Type 0} → LegType L → Asked → Start → ℕ → List L → OpenFault
+abbrev pub RefusesFitting : {L : Type 0} → LegType L → Asked → InitialSync → ℕ → List L → MirrorFault
     → Type 0
 RefusesFitting type asked start number legs Memory = Unit {0}
 RefusesFitting {L} type asked Compare number legs MasterFault =
@@ -75,7 +75,7 @@ RefusesFitting type asked Full number legs MasterFault = ⊥
 RefusesFitting type asked start number legs Misfit = ⊥
 
 -- why the stripe of this number is not opened on these legs: they do not fit it, or they do
-abbrev pub RefusesLegs : {L : Type 0} → LegType L → Asked → ℕ → List L → OpenFault → Type 0
+abbrev pub RefusesLegs : {L : Type 0} → LegType L → Asked → ℕ → List L → MirrorFault → Type 0
 RefusesLegs type asked number legs Misfit =
     ¬ FitNext type.model asked.shape number legs asked.master
 RefusesLegs type asked number legs fault =
@@ -84,14 +84,14 @@ RefusesLegs type asked number legs fault =
 
 -- why the stripe of this number is not opened on what the list has there: no legs, though the shape
 -- has such a stripe, or these
-abbrev pub RefusesNext : {L : Type 0} → LegType L → Asked → ℕ → Option (List L) → OpenFault → Type 0
+abbrev pub RefusesNext : {L : Type 0} → LegType L → Asked → ℕ → Option (List L) → MirrorFault → Type 0
 RefusesNext type asked number None Misfit = number < asked.shape.stripes
 RefusesNext type asked number None fault = ⊥
 RefusesNext type asked number (Some own) fault = RefusesLegs type asked number own fault
 
 -- some first stripes were opened on these legs, by rising number, and the next was not
 pub record RefusesOpening {L : Type 0} (type : LegType L) (asked : Asked) (legs : List (List L))
-    (fault : OpenFault) : Type 0 where
+    (fault : MirrorFault) : Type 0 where
   pub stripes : List (StripeState L)
   pub opened : AreOpened type asked legs stripes
   pub next : RefusesNext type asked (length stripes) (slice_get legs (length stripes)) fault

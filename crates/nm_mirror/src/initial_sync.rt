@@ -1,6 +1,6 @@
 /// How the legs other than the master stand as a mirror is opened.
 #[derive(Clone, Copy, Debug, PartialEq, Eq)]
-pub enum Start {
+pub enum InitialSync {
     /// Each is compared with the master, and only what differs is copied.
     Compare,
     /// Each is copied whole.

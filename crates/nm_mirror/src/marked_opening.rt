@@ -5,7 +5,7 @@ ghost use Rattle.nm_mirror.specs.Marked.{AgreesAt, AllAgree, AreMarked, marked_s
 ghost use Rattle.nm_mirror.specs.Stripes.{AreStripesOf, FitNext};
 
 use crate::bounds::within_bounds;
-use crate::open_fault::OpenFault;
+use crate::mirror_fault::MirrorFault;
 use crate::opening::Opening;
 use nm_geometry::Shape;
 use nm_leg::LegPart;
@@ -33,7 +33,7 @@ impl<L: LegPart> Opening<L> {
         marked: &[bool],
         span: u64,
         policy: Policy,
-    ) -> Result<(), OpenFault>
+    ) -> Result<(), MirrorFault>
         requires fit { FitNext L.model self.old.shape (length self.old.stripes.items) legs.items
             start.now.master }
         requires some { 0 < span }
@@ -54,7 +54,7 @@ impl<L: LegPart> Opening<L> {
         within_bounds(&self.shape);
         let place = self.place();
         if self.stripes.reserve(1).is_err() {
-            return Err(OpenFault::Memory);
+            return Err(MirrorFault::Memory);
         }
         let others = &start.legs[..legs.len()];
         match Stripe::open_marked(
@@ -72,7 +72,7 @@ impl<L: LegPart> Opening<L> {
                 self.stripes.push_reserved(stripe);
                 Ok(())
             }
-            Err(_) => Err(OpenFault::Memory),
+            Err(_) => Err(MirrorFault::Memory),
         }
     }
 }
@@ -101,7 +101,7 @@ pub fn open_marked_stripes<L: LegPart>(
     marked: &[bool],
     span: u64,
     policy: Policy,
-) -> Result<Vec<Stripe<L>>, OpenFault>
+) -> Result<Vec<Stripe<L>>, MirrorFault>
     requires some { 0 < span }
     requires equal { IsTrue L.honest → AllAgree L.model (record {
       shape = shape.now;
@@ -120,15 +120,15 @@ pub fn open_marked_stripes<L: LegPart>(
     rest.reverse();
     while let Some(own) = rest.pop() {
         let Some(start) = start_at(starts, opening.count()) else {
-            return Err(OpenFault::Misfit);
+            return Err(MirrorFault::Misfit);
         };
         if !opening.fits(&own, start.master) {
-            return Err(OpenFault::Misfit);
+            return Err(MirrorFault::Misfit);
         }
         opening.open_marked(alloc, own, &start, marked, span, policy)?;
     }
     match opening.next_place() {
-        Some(_) => Err(OpenFault::Misfit),
+        Some(_) => Err(MirrorFault::Misfit),
         None => Ok(opening.into_stripes()),
     }
 }

@@ -1,12 +1,12 @@
 ghost use Rattle.std.specs.Prelude.{◌≡◌, Some};
-ghost use Rattle.nm_mirror.specs.OpenFault.{fault_number, fault_text};
+ghost use Rattle.nm_mirror.specs.MirrorFault.{fault_number, fault_text};
 
 use std::error::Error;
 use std::fmt;
 
 /// Why the stripes of a mirror were not opened.
 #[derive(Clone, Copy, Debug, PartialEq, Eq)]
-pub enum OpenFault {
+pub enum MirrorFault {
     /// Out of memory.
     Memory,
     /// The master cannot be read, in a start that compares.
@@ -15,29 +15,29 @@ pub enum OpenFault {
     Misfit,
 }
 
-impl OpenFault {
+impl MirrorFault {
     /// The fault's number: 1 Memory, 2 MasterFault, 3 Misfit.
     pub fn number(&self) -> u8
         ensures { result ≡ fault_number self.now }
     {
         match self {
-            OpenFault::Memory => 1,
-            OpenFault::MasterFault => 2,
-            OpenFault::Misfit => 3,
+            MirrorFault::Memory => 1,
+            MirrorFault::MasterFault => 2,
+            MirrorFault::Misfit => 3,
         }
     }
 }
 
-impl fmt::Display for OpenFault {
+impl fmt::Display for MirrorFault {
     ghost output = { λ fault. Some (fault_text fault) };
 
     fn fmt<W: fmt::Write>(&self, f: &mut fmt::Formatter<W>) -> fmt::Result {
         f.write_str(match self {
-            OpenFault::Memory => "out of memory",
-            OpenFault::MasterFault => "the master cannot be read",
-            OpenFault::Misfit => "the legs do not fit the shape",
+            MirrorFault::Memory => "out of memory",
+            MirrorFault::MasterFault => "the master cannot be read",
+            MirrorFault::Misfit => "the legs do not fit the shape",
         })
     }
 }
 
-impl Error for OpenFault {}
+impl Error for MirrorFault {}

@@ -16,8 +16,8 @@ ghost use Rattle.nm_mirror.specs.Stripes.{AreFirst, AreStripesOf, ComparesNext, 
 ghost use Rattle.nm_mirror.specs.Stripes.{place_of};
 
 use crate::bounds::within_bounds;
-use crate::open_fault::OpenFault;
-use crate::start::Start;
+use crate::initial_sync::InitialSync;
+use crate::mirror_fault::MirrorFault;
 use nm_geometry::Shape;
 use nm_leg::LegPart;
 use nm_replay::Memory;
@@ -68,10 +68,10 @@ pub(crate) fn only_bit<L: LegPart>(leg: u8) -> u8
 
 /// How stripes of so many legs are opened: a single leg has no other to be compared with, so it is
 /// not read.
-fn start_of(legs: u8, start: Start) -> Start
+fn start_of(legs: u8, start: InitialSync) -> InitialSync
     ensures { result ≡ start_of legs start }
 {
-    if legs == 1 { Start::Full } else { start }
+    if legs == 1 { InitialSync::Full } else { start }
 }
 
 impl<L: LegPart> Opening<L> {
@@ -231,8 +231,8 @@ impl<L: LegPart> Opening<L> {
         legs: Vec<L>,
         master: u8,
         policy: Policy,
-        start: Start,
-    ) -> Result<(), OpenFault>
+        start: InitialSync,
+    ) -> Result<(), MirrorFault>
         requires { FitNext L.model self.old.shape (length self.old.stripes.items) legs.items
             master }
         ensures opened { OnOk result (AddsNext (leg_type L.model L.honest)
@@ -245,14 +245,14 @@ impl<L: LegPart> Opening<L> {
         ensures stays { OnErr result (self.new.stripes.items ≡ self.old.stripes.items) }
     {
         match start_of(self.shape.legs, start) {
-            Start::Full => match self.open_under(alloc, legs, master, policy) {
+            InitialSync::Full => match self.open_under(alloc, legs, master, policy) {
                 Ok(()) => Ok(()),
-                Err(_) => Err(OpenFault::Memory),
+                Err(_) => Err(MirrorFault::Memory),
             },
-            Start::Compare => match self.open_compared(alloc, legs, master, policy) {
+            InitialSync::Compare => match self.open_compared(alloc, legs, master, policy) {
                 Ok(()) => Ok(()),
-                Err((nm_stripe::OpenFault::Memory, _)) => Err(OpenFault::Memory),
-                Err((nm_stripe::OpenFault::MasterFault, _)) => Err(OpenFault::MasterFault),
+                Err((nm_stripe::OpenFault::Memory, _)) => Err(MirrorFault::Memory),
+                Err((nm_stripe::OpenFault::MasterFault, _)) => Err(MirrorFault::MasterFault),
             },
         }
     }
@@ -279,8 +279,8 @@ pub fn open_stripes<L: LegPart>(
     legs: Vec<Vec<L>>,
     master: u8,
     policy: Policy,
-    start: Start,
-) -> Result<Vec<Stripe<L>>, OpenFault>
+    start: InitialSync,
+) -> Result<Vec<Stripe<L>>, MirrorFault>
     ensures stripes { IfOk result (λ stripes. AreStripesOf shape.now stripes.items) }
     ensures opened { IfOk result (λ stripes. AreAllOpened (leg_type L.model L.honest)
         (record { shape = shape.now; master = master; policy = policy; start = start })
@@ -294,12 +294,12 @@ pub fn open_stripes<L: LegPart>(
     rest.reverse();
     while let Some(own) = rest.pop() {
         if !opening.fits(&own, master) {
-            return Err(OpenFault::Misfit);
+            return Err(MirrorFault::Misfit);
         }
         opening.open_next(alloc, own, master, policy, start)?;
     }
     match opening.next_place() {
-        Some(_) => Err(OpenFault::Misfit),
+        Some(_) => Err(MirrorFault::Misfit),
         None => Ok(opening.into_stripes()),
     }
 }

@@ -10,7 +10,7 @@ use nm_lanes::{
     read_by, sync_by, write_by, zero_by,
 };
 use nm_leg::FuseLeg;
-use nm_mirror::{Start, open_stripes};
+use nm_mirror::{InitialSync, open_stripes};
 use nm_part::Part;
 use nm_stripe::Policy;
 use std::alloc::Global;
@@ -45,7 +45,14 @@ pub fn open_lanes_on<R: Wait>(
     shape: Shape,
     legs: Vec<Vec<FuseLeg>>,
 ) -> Result<Lanes, Fail> {
-    let Ok(stripes) = open_stripes(alloc, &shape, legs, 0, Policy::RoundRobin, Start::Full) else {
+    let Ok(stripes) = open_stripes(
+        alloc,
+        &shape,
+        legs,
+        0,
+        Policy::RoundRobin,
+        InitialSync::Full,
+    ) else {
         return Err(Fail::new("no stripes"));
     };
     let mut locks = Vec::new(alloc);

@@ -6,7 +6,7 @@ use bytes::Bytes;
 use nm_geometry::{ByteRange, Shape};
 use nm_lanes::{CallError, Gate, WriteFault};
 use nm_leg::{FuseLeg, LegPart};
-use nm_mirror::{CopyRound, Mirror, Pass, Start, Totals, open_stripes, ungated};
+use nm_mirror::{CopyRound, InitialSync, Mirror, Pass, Totals, open_stripes, ungated};
 use nm_replay::BLOCK_BYTES;
 use nm_stripe::Policy;
 use std::alloc::Global;
@@ -46,14 +46,14 @@ pub struct Opening {
     /// Which legs are read.
     pub policy: Policy,
     /// What the legs that join are behind.
-    pub start: Start,
+    pub start: InitialSync,
 }
 
 /// Leg 0 of each stripe is in sync, the others join.
 pub const FIRST: Opening = Opening {
     master: 0,
     policy: Policy::RoundRobin,
-    start: Start::Full,
+    start: InitialSync::Full,
 };
 
 /// A mirror on these legs that starts so.

@@ -3,7 +3,7 @@ use crate::mirrors::{Opening, mirror_from, pass_of, read_at, shape};
 use nm_geometry::Shape;
 use nm_lanes::NoGate;
 use nm_leg::FuseLeg;
-use nm_mirror::{Mirror, Start};
+use nm_mirror::{InitialSync, Mirror};
 use nm_stripe::Policy;
 use std::alloc::Global;
 use std::process::Abort;
@@ -30,7 +30,7 @@ fn legs(alloc: Global, shape: &Shape) -> Result<Vec<Vec<FuseLeg>>, Fail> {
 }
 
 /// A mirror of three stripes of two regions, with leg 1 in sync, which is read by region.
-fn open_mirror(alloc: Global, start: Start) -> Result<Mirror<FuseLeg, NoGate>, Fail> {
+fn open_mirror(alloc: Global, start: InitialSync) -> Result<Mirror<FuseLeg, NoGate>, Fail> {
     let shape = shape(24, 4, 2, 3, 2)?;
     let legs = legs(alloc, &shape)?;
     let opening = Opening {
@@ -59,7 +59,7 @@ fn check_told<R: Wait + Abort>(
 #[test]
 fn each_stripe_opens_under_the_leg_that_was_asked_for(rt: HostRuntime) -> Result<(), Fail> {
     let alloc = rt.alloc();
-    let mirror = open_mirror(alloc, Start::Full)?;
+    let mirror = open_mirror(alloc, InitialSync::Full)?;
     let text = "master 1 settling no legs join(8) in";
     check_told(&rt, alloc, &mirror, [text, text, text])
 }
@@ -68,7 +68,7 @@ fn each_stripe_opens_under_the_leg_that_was_asked_for(rt: HostRuntime) -> Result
 #[test]
 fn each_region_is_read_from_its_own_leg(rt: HostRuntime) -> Result<(), Fail> {
     let alloc = rt.alloc();
-    let mirror = open_mirror(alloc, Start::Compare)?;
+    let mirror = open_mirror(alloc, InitialSync::Compare)?;
     let mut pass = pass_of(&rt, alloc, &mirror)?;
     let joins = "master 1 settling no legs join(0) in";
     let out = "master 1 settling no legs out in";

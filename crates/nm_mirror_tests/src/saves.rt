@@ -6,7 +6,7 @@ use crate::mirrors::{
 use bytes::Bytes;
 use nm_gate::DurableState;
 use nm_leg::FuseLeg;
-use nm_mirror::{CopyRound, Mirror, NoGate, Pass, Start, gated, open_stripes};
+use nm_mirror::{CopyRound, InitialSync, Mirror, NoGate, Pass, gated, open_stripes};
 use nm_stripe::Policy;
 use std::alloc::Global;
 use std::process::Abort;
@@ -21,7 +21,14 @@ type Saved = Mirror<FuseLeg, NoGate>;
 fn saved_mirror<R: Abort>(rt: &R, alloc: Global) -> Result<Saved, Fail> {
     let shape = shape(16, 4, 2, 1, 2)?;
     let legs = legs_of_zeroes(alloc, &shape)?;
-    let Ok(stripes) = open_stripes(alloc, &shape, legs, 0, Policy::RoundRobin, Start::Full) else {
+    let Ok(stripes) = open_stripes(
+        alloc,
+        &shape,
+        legs,
+        0,
+        Policy::RoundRobin,
+        InitialSync::Full,
+    ) else {
         return Err(Fail::new("no stripes"));
     };
     let mut first = [false; 8];

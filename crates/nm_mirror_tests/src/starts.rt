@@ -3,7 +3,7 @@ use crate::mirrors::{FIRST, Opening, mirror_from, shape};
 use nm_geometry::Shape;
 use nm_lanes::NoGate;
 use nm_leg::FuseLeg;
-use nm_mirror::{OpenFault, Start, open_stripes};
+use nm_mirror::{InitialSync, MirrorFault, open_stripes};
 use nm_stripe::{Policy, Stripe};
 use std::alloc::Global;
 use std::process::Abort;
@@ -28,7 +28,7 @@ fn legs(alloc: Global, shape: &Shape) -> Result<Vec<Vec<FuseLeg>>, Fail> {
 fn shows_status<R: Wait + Abort>(
     rt: &R,
     alloc: Global,
-    start: Start,
+    start: InitialSync,
     texts: [&str; 2],
 ) -> Result<(), Fail> {
     let shape = shape(16, 4, 2, 2, 2)?;
@@ -48,20 +48,20 @@ fn legs_are_behind_where_they_differ(rt: HostRuntime) -> Result<(), Fail> {
         "master 0 settling no legs in join(0)",
         "master 0 settling no legs in join(8)",
     ];
-    shows_status(&rt, rt.alloc(), Start::Compare, texts)
+    shows_status(&rt, rt.alloc(), InitialSync::Compare, texts)
 }
 
 #[test]
 fn a_full_start_copies_equal_legs_too(rt: HostRuntime) -> Result<(), Fail> {
     let text = "master 0 settling no legs in join(8)";
-    shows_status(&rt, rt.alloc(), Start::Full, [text, text])
+    shows_status(&rt, rt.alloc(), InitialSync::Full, [text, text])
 }
 
 /// Opens the stripes of a mirror whose master fails each call in stripe 1.
 fn open_on_a_failing_master(
     alloc: Global,
-    start: Start,
-) -> Result<Result<Vec<Stripe<FuseLeg>>, OpenFault>, Fail> {
+    start: InitialSync,
+) -> Result<Result<Vec<Stripe<FuseLeg>>, MirrorFault>, Fail> {
     let shape = shape(16, 4, 2, 2, 2)?;
     let legs = legs(alloc, &shape)?;
     if let Some(master) = legs.last().and_then(|own| own.first()) {
@@ -73,10 +73,10 @@ fn open_on_a_failing_master(
 #[test]
 fn a_master_that_cannot_be_read_is_told(rt: HostRuntime) -> Result<(), Fail> {
     let alloc = rt.alloc();
-    let compared = open_on_a_failing_master(alloc, Start::Compare)?;
-    assert!(rt; matches!(compared, Err(OpenFault::MasterFault)));
+    let compared = open_on_a_failing_master(alloc, InitialSync::Compare)?;
+    assert!(rt; matches!(compared, Err(MirrorFault::MasterFault)));
     // A full start calls no leg.
-    assert!(rt; open_on_a_failing_master(alloc, Start::Full)?.is_ok());
+    assert!(rt; open_on_a_failing_master(alloc, InitialSync::Full)?.is_ok());
     Ok(())
 }
 
@@ -90,7 +90,14 @@ fn a_single_leg_is_not_read(rt: HostRuntime) -> Result<(), Fail> {
     own.push(leg)?;
     let mut legs = Vec::new(alloc);
     legs.push(own)?;
-    let opened = open_stripes(alloc, &shape, legs, 0, Policy::RoundRobin, Start::Compare);
+    let opened = open_stripes(
+        alloc,
+        &shape,
+        legs,
+        0,
+        Policy::RoundRobin,
+        InitialSync::Compare,
+    );
     assert!(rt; opened.is_ok());
     Ok(())
 }

@@ -5,7 +5,7 @@ ghost use Rattle.nm_mirror.specs.Stripes.{AreStripesOf};
 use crate::answering_meanwhile::answer_meanwhile;
 use crossbeam_channel::bounded;
 use nm_assemble::{NewMirror, first_superblock, newest_of};
-use nm_commands::{Settings, Start as AskedStart, SuperblockPlace};
+use nm_commands::{Settings, Start, SuperblockPlace};
 use nm_gate::GatedStripe;
 use nm_geometry::Shape;
 use nm_lanes::NoGate;
@@ -14,7 +14,7 @@ use nm_leg_files::{
     check_no_superblocks, choose, draw_id, draw_mirror_id, named_master, open_by_image, open_gates,
     open_untold, start_for,
 };
-use nm_mirror::{Mirror, Start};
+use nm_mirror::{InitialSync, Mirror};
 use nm_reports::{Comparison, LogLines, StartFault, tell_progress};
 use nm_sockets::Listener;
 use nm_superblock::Superblock;
@@ -107,7 +107,7 @@ where
     let Ok(read) = Arc::new(alloc, AtomicU64::new(0)) else {
         return Err(StartFault::Memory);
     };
-    if start_for(settings.start) == Start::Full || settings.legs.len() < 2 {
+    if start_for(settings.start) == InitialSync::Full || settings.legs.len() < 2 {
         return open_mirror(rt, alloc, settings, files, &read, kept);
     }
     let Ok((comparing, has_ended)) = bounded(alloc, 1) else {
@@ -154,7 +154,7 @@ fn first_image<'a, R: RandomSource>(
         lineage,
     };
     let named = named_master(settings);
-    let equal = if named.is_none() || settings.start == AskedStart::Equal {
+    let equal = if named.is_none() || settings.start == Start::Equal {
         *here
     } else {
         [false; 8]

@@ -3,7 +3,7 @@ use Rattle.std.proofs.Common.{◌≡◌, ◌<◌, [], length, map, sym, ap, subs
 use Rattle.nm_geometry.specs.Geometry.{Geometry}
 use Rattle.nm_leg.specs.Leg.{leg_type}
 use Rattle.nm_mirror.specs.Opening.{AddsNext, Asked, RefusesFitting, RefusesNext, RefusesOpening, start_of}
-use Rattle.nm_mirror.specs.declared.open_fault.OpenFault.TheVariants.{Misfit}
+use Rattle.nm_mirror.specs.declared.mirror_fault.MirrorFault.TheVariants.{Misfit}
 use Rattle.nm_mirror.specs.Stripes.{FitNext}
 use Rattle.nm_mirror.proofs.OpenedLemmas.{all_left, fit_but_refused, mapped, next_left, none_left, handed_on, none_opened, one_less, opened_more, past_end}
 use Rattle.nm_mirror.proofs.opening.open_stripes.Goals as goal
