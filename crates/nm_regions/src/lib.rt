@@ -6,7 +6,7 @@
 
 pub use copy_place::CopyPlace;
 pub use region_state::RegionState;
-pub use regions::{LEGS, MOST_BLOCKS, MOST_REGION, Regions};
+pub use regions::{LEGS, Regions};
 
 mod copy_place;
 pub mod laws;

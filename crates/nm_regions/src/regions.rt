@@ -19,12 +19,6 @@ use std::marker::Model;
 /// How many legs a table has places for.
 pub const LEGS: usize = 8;
 
-/// How many blocks a stripe has at most.
-pub const MOST_BLOCKS: u64 = 1 << 31;
-
-/// How many blocks a region has at most.
-pub const MOST_REGION: u64 = 65_536;
-
 /// The table of one stripe's regions.
 ///
 /// A region holds so many blocks of the stripe, one after the other; only the last may be shorter.

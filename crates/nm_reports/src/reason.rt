@@ -117,6 +117,14 @@ fn superblock_of(alloc: Global, settings: &Settings<'_>, leg: usize) -> Result<S
     }
 }
 
+// Tells that the name's file is longer than it may be.
+fn put_limit<E: Write>(name: &str, bytes: u64, limit: u64, err: &mut E) {
+    let _ = writeln!(
+        err,
+        "nbdmirror: {name}: has {bytes} bytes, and the limit is {limit}"
+    );
+}
+
 /// Tells which file or address is meant by a refusal, and why it is refused. A refusal that says
 /// all by itself has no such line.
 pub fn tell_reason<E: Write>(
@@ -150,11 +158,7 @@ pub fn tell_reason<E: Write>(
             );
         }
         StartFault::OverFileLimit(leg, bytes, limit) => {
-            let name = name_of(names, leg);
-            let _ = writeln!(
-                err,
-                "nbdmirror: {name}: has {bytes} bytes, and the limit is {limit}"
-            );
+            put_limit(name_of(names, leg), bytes, limit, err);
         }
         StartFault::CannotRead(leg) => {
             put_line(name_of(names, leg as usize), "a read failed", err);
