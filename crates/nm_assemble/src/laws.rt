@@ -13,7 +13,8 @@ pub fn sure_sees_all()
     ensures { SureSeesAll }
 {}
 
-/// A start that found a superblock beside each leg that the newest one lists is sure in each stripe.
+/// A start that found a superblock beside each leg that the newest one lists is sure in each
+/// stripe.
 pub fn sure_start_is_sure()
     ensures { SureStartIsSure }
 {}

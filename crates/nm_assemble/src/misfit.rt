@@ -1,5 +1,6 @@
 ghost use Rattle.std.specs.Prelude.{◌≡◌, ◌↔◌, None, Some, IsTrue, IfSome, IfNone};
-ghost use Rattle.nm_assemble.specs.Start.{AllFit, IsFirstMisfit, IsMisfit, IsMisfitting, IsOfMirror};
+ghost use Rattle.nm_assemble.specs.Start.{AllFit, IsFirstMisfit, IsMisfit, IsMisfitting};
+ghost use Rattle.nm_assemble.specs.Start.{IsOfMirror};
 
 use crate::lineages::leads_to;
 use nm_superblock::Superblock;

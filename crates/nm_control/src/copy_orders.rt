@@ -121,8 +121,8 @@ impl CopyOrders {
         self.wants_round.swap(false, Ordering::SeqCst)
     }
 
-    /// Takes the leg out of every stripe by hand, and counts what came of it: none while it is being
-    /// replaced.
+    /// Takes the leg out of every stripe by hand, and counts what came of it: none while it is
+    /// being replaced.
     pub fn fail<R: Wait, L: LegPart, G: Gate + Drop>(
         &self,
         rt: &R,
@@ -165,8 +165,8 @@ impl CopyOrders {
         is_noted(&self.replaced.lock(rt), leg)
     }
 
-    // Notes that the leg is being replaced, unless it is so already, a call of it was left, or it is
-    // taken out or attached right now. Until that ends it is out by hand. Whether it was noted.
+    // Notes that the leg is being replaced, unless it is so already, a call of it was left, or it
+    // is taken out or attached right now. Until that ends it is out by hand. Whether it was noted.
     fn begin_replace<R: Wait>(&self, rt: &R, leg: u8) -> Option<bool> {
         let mut by_hand = self.by_hand.lock(rt);
         let mut replaced = self.replaced.lock(rt);
@@ -179,8 +179,8 @@ impl CopyOrders {
         Some(was_out)
     }
 
-    /// Puts a leg on a file that is opened anew in the place of this one in every stripe. Where that
-    /// is not done once it is out, it is out by hand.
+    /// Puts a leg on a file that is opened anew in the place of this one in every stripe. Where
+    /// that is not done once it is out, it is out by hand.
     pub fn replace<R: Wait, L: LegPart, G: Gate + Drop, N: RenewsLegs<L>>(
         &self,
         rt: &R,

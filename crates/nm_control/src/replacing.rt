@@ -18,8 +18,8 @@ pub enum Replaced {
     Done(ReplaceCounts),
     /// Nothing was done: in some stripe the leg is the only one in sync.
     Last,
-    /// Nothing was done: a replacement of the leg is under way, or a call of it was left and has not
-    /// returned.
+    /// Nothing was done: a replacement of the leg is under way, or a call of it was left and has
+    /// not returned.
     Busy,
     /// The leg is out, and no superblock can be saved that says so.
     NotSaved,

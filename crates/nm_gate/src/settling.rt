@@ -1,5 +1,6 @@
 //! Clears a stripe's marks once its legs are equal, durably.
-ghost use Rattle.std.specs.Prelude.{◌≡◌, ◌<◌, ◌⊎◌, ◌↔◌, ◌||◌, ℕ, length, true, false, IsTrue, IfSome};
+ghost use Rattle.std.specs.Prelude.{◌≡◌, ◌<◌, ◌⊎◌, ◌↔◌, ◌||◌, ℕ, length, true, false, IsTrue};
+ghost use Rattle.std.specs.Prelude.{IfSome};
 ghost use Rattle.std.specs.Prelude.{None, slice_index_or};
 ghost use Rattle.std.specs.List.{list_any};
 ghost use Rattle.nm_leg.specs.Leg.{leg_type};

@@ -30,8 +30,8 @@ pub fn mirror_acts<L: LegPart>()
     ensures { MirrorActs L.model }
 {}
 
-/// What a flush does in a stripe is a flush as `Stripe::run` has it, so that what it promises of one
-/// holds.
+/// What a flush does in a stripe is a flush as `Stripe::run` has it, so that what it promises of
+/// one holds.
 pub fn flushes_are_a_stripes<L: LegPart>()
     ensures { FlushesAreAStripes L }
 {}

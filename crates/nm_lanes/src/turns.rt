@@ -121,8 +121,8 @@ impl<R: Wait, G: Gate, K> StripeCall<'_, R, G, K> {
         unreachable!()
     }
 
-    /// One try of a sync: true where the leg was synced, or found out. One that lost its leg is tried
-    /// again, and finds it out.
+    /// One try of a sync: true where the leg was synced, or found out. One that lost its leg is
+    /// tried again, and finds it out.
     fn try_sync_once<L: LegPart, D: Lane<L, K>>(
         &self,
         lane: &mut D,

@@ -8,8 +8,8 @@ use std::os::fd::RawFd;
 /// How many bytes a ring has.
 const RING_BYTES: usize = 8;
 
-/// A bell: one thread rings it, and another waits for that without a runtime's leave to wait, for at
-/// most a time.
+/// A bell: one thread rings it, and another waits for that without a runtime's leave to wait, for
+/// at most a time.
 pub(crate) struct AnswerBell {
     fd: RawFd,
 }

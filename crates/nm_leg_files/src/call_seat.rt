@@ -162,8 +162,8 @@ impl CallSeat {
         self.step(FREE, TAKEN)
     }
 
-    /// Has the thread make a call for who has the seat. A write moves these bytes, as far as there is
-    /// room. Whether it was asked; otherwise the seat is free again.
+    /// Has the thread make a call for who has the seat. A write moves these bytes, as far as there
+    /// is room. Whether it was asked; otherwise the seat is free again.
     pub(crate) fn ask(&self, file: Arc<LateFile>, asked: Asked, at: u64, bytes: &[u8]) -> bool {
         let Some(mut work) = self.work.try_lock() else {
             self.state.store(FREE, Ordering::SeqCst);

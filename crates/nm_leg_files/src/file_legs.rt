@@ -26,8 +26,8 @@ impl LegFile {
         })
     }
 
-    /// The leg's file in the place of this one, under the same limit. What fails of it and how often it is called is
-    /// noted where it was.
+    /// The leg's file in the place of this one, under the same limit. What fails of it and how
+    /// often it is called is noted where it was.
     pub(crate) fn anew(&self, alloc: Global, file: File) -> Result<LegFile, AllocError> {
         let late = LateFile::opened(file);
         let limited = LimitedFile::of(alloc, late, self.shared.file().limit())?;

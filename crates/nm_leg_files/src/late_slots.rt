@@ -16,8 +16,8 @@ use std::sync::Arc;
 /// How many bytes a slot has.
 const SLOT_BYTES: usize = 4096;
 
-/// A superblock's file: one that was found or made at the start, or that of a leg that was not here.
-/// Until the latter is opened it has no superblock, and takes none.
+/// A superblock's file: one that was found or made at the start, or that of a leg that was not
+/// here. Until the latter is opened it has no superblock, and takes none.
 #[derive(Drop)]
 pub struct LateSlots {
     file: LimitedFile,

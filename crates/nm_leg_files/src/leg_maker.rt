@@ -28,8 +28,8 @@ pub struct LegMaker<'x> {
 }
 
 impl<'x> LegMaker<'x> {
-    /// Those of a mirror of this shape over the files of these legs. What is read of them is counted
-    /// here.
+    /// Those of a mirror of this shape over the files of these legs. What is read of them is
+    /// counted here.
     pub fn new(
         places: &'x [Arc<LegPlace>],
         shape: &Shape,

@@ -39,8 +39,8 @@ pub struct LegRules {
 }
 
 impl LegRules {
-    /// Those that the settings have, under these limits of the system: without superblocks no leg may
-    /// be missing.
+    /// Those that the settings have, under these limits of the system: without superblocks no leg
+    /// may be missing.
     pub fn of(settings: &Settings<'_>, limits: &Limits) -> LegRules {
         LegRules {
             may_lack: !matches!(settings.superblock, SuperblockPlace::Nowhere),

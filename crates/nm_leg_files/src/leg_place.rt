@@ -33,8 +33,8 @@ pub(crate) fn is_same(one: &Metadata, other: &Metadata) -> bool {
 }
 
 impl LegPlace {
-    /// The file of so many bytes that is opened by this name, and what it has to keep to where it is
-    /// opened later.
+    /// The file of so many bytes that is opened by this name, and what it has to keep to where it
+    /// is opened later.
     pub fn new(
         alloc: Global,
         name: String,
@@ -112,8 +112,9 @@ impl LegPlace {
         Ok(())
     }
 
-    /// Opens the name anew. Refused are a file of which a call was left, one that may have lost what
-    /// the server wrote to it, another file than the one that is open and locked, and another length.
+    /// Opens the name anew. Refused are a file of which a call was left, one that may have lost
+    /// what the server wrote to it, another file than the one that is open and locked, and another
+    /// length.
     ///
     /// The file of a leg that was missing so far is opened and locked by this, where it has the
     /// right length, is not in use, and comes with no superblock that may be newer.

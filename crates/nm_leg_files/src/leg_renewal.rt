@@ -139,8 +139,8 @@ impl LegPlace {
         Ok(legs)
     }
 
-    /// Gives the leg of this number a superblock's file and an id of its own, under the limit of its
-    /// calls.
+    /// Gives the leg of this number a superblock's file and an id of its own, under the limit of
+    /// its calls.
     pub fn renew_superblock<R: Wait, O: OpensLegs>(
         &self,
         rt: &R,

@@ -9,8 +9,8 @@ use nm_system::{Limits, is_below};
 /// How many KiB the stack of a thread has at least: twice what the deepest one needs.
 const LEAST_STACK_KIB: u64 = 1024;
 
-/// How many files are open beside those of legs and sessions: the standard streams, two sockets that listen,
-/// and connections of the control port and of clients that are turned away.
+/// How many files are open beside those of legs and sessions: the standard streams, two sockets
+/// that listen, and connections of the control port and of clients that are turned away.
 const OTHER_FILES: u64 = 16;
 
 // How many files are open at most: each leg's own, its superblock's, and one for each thread that
@@ -24,8 +24,8 @@ fn files_needed(legs: u8, threads: u8, sessions: u8) -> u64
 /// How many bytes the replies of all sessions carry at most.
 const MOST_REPLY_BYTES: u64 = 4 << 30;
 
-/// How many bytes the replies to what is outstanding in each of so many sessions may carry: its part
-/// of 4 GiB, or of half of the address space where that is less.
+/// How many bytes the replies to what is outstanding in each of so many sessions may carry: its
+/// part of 4 GiB, or of half of the address space where that is less.
 pub fn reply_bytes_of(limits: &Limits, sessions: u8) -> u64
     ensures { result ≡ reply_bytes limits.now.address_space sessions }
 {

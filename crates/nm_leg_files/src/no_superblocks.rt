@@ -22,8 +22,8 @@ fn file_beside<R: Files<File = File>>(
     }
 }
 
-/// Refuses the first leg that has a superblock's file beside it. Where a leg was named as the newest
-/// by force, these files are removed.
+/// Refuses the first leg that has a superblock's file beside it. Where a leg was named as the
+/// newest by force, these files are removed.
 pub fn check_no_superblocks<'a, R: Files<File = File>>(
     rt: &R,
     alloc: Global,

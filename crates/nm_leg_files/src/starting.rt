@@ -5,7 +5,8 @@ ghost use Rattle.nm_mirror.specs.Opening.{AreAllOpened};
 ghost use Rattle.nm_mirror.specs.Stripes.{AreStripesOf};
 ghost use Rattle.nm_leg_files.specs.Alike.{AreAlike};
 ghost use Rattle.nm_leg_files.specs.Files.{AreOpenedOn, leg_place};
-ghost use Rattle.nm_leg_files.specs.Starting.{RefusesStart, asked_by, master_or_first, named_master};
+ghost use Rattle.nm_leg_files.specs.Starting.{RefusesStart, asked_by, master_or_first};
+ghost use Rattle.nm_leg_files.specs.Starting.{named_master};
 ghost use Rattle.nm_leg_files.specs.Starting.{start_for, unread_master};
 
 use crate::alike::are_alike;

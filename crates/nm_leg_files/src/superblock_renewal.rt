@@ -24,7 +24,8 @@ pub fn other_id(drawn: u64, old: u64) -> u64
 
 impl SuperblockWriter<LateSlots> {
     /// Lets the leg's superblock go, makes its file anew with none in it, and gives the leg a new
-    /// id: what is saved from now on has that one. Nothing is saved beside the leg where this fails.
+    /// id: what is saved from now on has that one. Nothing is saved beside the leg where this
+    /// fails.
     pub fn renew_leg<O: OpensLegs>(
         &mut self,
         opener: &O,

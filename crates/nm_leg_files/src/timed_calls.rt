@@ -22,8 +22,8 @@ const ETIME: i32 = 62;
 /// A call that takes longer is left: it has failed, and until it has returned every other call of
 /// the leg fails at once. So a call that was left ends before any later one begins, and what it may
 /// still write is written before the leg's blocks are copied again: the leg is not attached before.
-/// That is what `SharedFile` needs of calls that failed: who writes marks that before its call looks
-/// whether one was left, and who leaves a sync notes that before it looks for such marks.
+/// That is what `SharedFile` needs of calls that failed: who writes marks that before its call
+/// looks whether one was left, and who leaves a sync notes that before it looks for such marks.
 #[derive(Drop)]
 pub struct TimedCalls {
     seats: Vec<CallSeat>,

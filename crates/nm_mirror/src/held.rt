@@ -20,8 +20,8 @@ use nm_leg::LegPart;
 use nm_stripe::{At, Policy, Stripe};
 use std::alloc::Global;
 
-/// A stripe and its gate, how many times it was opened anew, what its earlier openings have had, and
-/// which writes nobody is to claim whose call has ended.
+/// A stripe and its gate, how many times it was opened anew, what its earlier openings have had,
+/// and which writes nobody is to claim whose call has ended.
 #[derive(Drop)]
 pub struct Held<L: LegPart> {
     pub(crate) gated: GatedStripe<L>,
@@ -78,8 +78,8 @@ impl<L: LegPart> Held<L> {
         }
     }
 
-    /// Opens a stripe that stopped anew, at its place and on these legs: from the leg it stopped on.
-    /// Whether it did: not where it runs, where the superblock may call another leg in sync, or
+    /// Opens a stripe that stopped anew, at its place and on these legs: from the leg it stopped
+    /// on. Whether it did: not where it runs, where the superblock may call another leg in sync, or
     /// where memory is refused. Then nothing changes.
     pub(crate) fn reopen(&mut self, alloc: Global, place: At, legs: Vec<L>, policy: Policy) -> bool
         requires saved { LetsPass self.old.gated.durable self.old.gated.stripe Answer }

@@ -132,8 +132,8 @@ impl<L: LegPart, G: Gate + Drop> Mirror<L, G> {
     /// and counts what came of it. The new leg joins every stripe with all of its regions behind.
     /// Nobody attaches the old one meanwhile: where somebody does, it stays.
     ///
-    /// Where there are more or fewer legs than stripes they come back, and nothing is done. One that
-    /// is not as long as its stripe does not join it: the old one stays out.
+    /// Where there are more or fewer legs than stripes they come back, and nothing is done. One
+    /// that is not as long as its stripe does not join it: the old one stays out.
     pub fn replace_leg<R: Wait>(
         &self,
         rt: &R,

@@ -86,8 +86,9 @@ impl<L: LegPart, G: Gate + Drop> Mirror<L, G> {
         wanted
     }
 
-    /// Begins a save: what the next superblock says of each stripe. It marks all spans that a stripe
-    /// has marked, and those that are wanted. A leg that is to be replaced is partial nowhere.
+    /// Begins a save: what the next superblock says of each stripe. It marks all spans that a
+    /// stripe has marked, and those that are wanted. A leg that is to be replaced is partial
+    /// nowhere.
     pub fn begin_save<R: Wait>(&self, rt: &R) -> SaveOrder {
         within_bounds(&self.shape);
         let Wanted { mut spans, whole } = self.wanted_to_save(rt);

@@ -16,8 +16,8 @@ use std::thread::{Threads, join};
 
 type Saved = Mirror<FuseLeg, NoGate>;
 
-/// A mirror of one stripe of four spans, of which none is marked, on two legs: leg 0 is in sync, and
-/// the superblock says so; leg 1 joins.
+/// A mirror of one stripe of four spans, of which none is marked, on two legs: leg 0 is in sync,
+/// and the superblock says so; leg 1 joins.
 fn saved_mirror<R: Abort>(rt: &R, alloc: Global) -> Result<Saved, Fail> {
     let shape = shape(16, 4, 2, 1, 2)?;
     let legs = legs_of_zeroes(alloc, &shape)?;

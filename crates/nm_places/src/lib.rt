@@ -1,5 +1,5 @@
-//! The places of sessions, the rules that hold for each session, how the server is asked to end, and
-//! what its threads share.
+//! The places of sessions, the rules that hold for each session, how the server is asked to end,
+//! and what its threads share.
 #![tactic(auto)]
 
 mod ending;

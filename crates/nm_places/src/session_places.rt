@@ -111,8 +111,8 @@ impl SessionPlaces {
         &self.is_over
     }
 
-    /// Gives a connection a place, and a number that no other has had, or drops it where no place is
-    /// free. Whether it has one.
+    /// Gives a connection a place, and a number that no other has had, or drops it where no place
+    /// is free. Whether it has one.
     pub fn offer<R: Wait>(&self, rt: &R, client: ClientStream) -> bool {
         let mut waiting = self.waiting.lock(rt);
         if waiting.free == 0 || waiting.is_closed {

@@ -99,8 +99,8 @@ impl Kept {
         self.total += 1;
     }
 
-    /// Adds the entries of a run at the end, one for each block of the bytes: the numbers, kinds and
-    /// blocks are those from these on. The last 1,024 entries stay. The bytes are copied once.
+    /// Adds the entries of a run at the end, one for each block of the bytes: the numbers, kinds
+    /// and blocks are those from these on. The last 1,024 entries stay. The bytes are copied once.
     pub fn push_run(&mut self, number: u64, kind: Kind, block: u64, bytes: &[u8])
         requires whole { length bytes.now ≡ 512 * (length bytes.now / 512) }
         requires total { self.old.total + length bytes.now / 512 ≤ 2 ^ 63 }

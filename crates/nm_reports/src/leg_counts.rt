@@ -65,7 +65,8 @@ pub struct LegCounts {
     reads: Counts,
     writes: Counts,
     syncs: Counts,
-    // How many calls failed since the file system had no space left, and how many for another reason.
+    // How many calls failed since the file system had no space left, and how many for another
+    // reason.
     full: AtomicU64,
     other_faults: AtomicU64,
 }

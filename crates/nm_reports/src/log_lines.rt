@@ -89,7 +89,8 @@ impl LogLines {
         })
     }
 
-    /// No lines, and a thread that writes those that come, in this form, until the lines are closed.
+    /// No lines, and a thread that writes those that come, in this form, until the lines are
+    /// closed.
     pub fn start<R>(rt: &R, alloc: Global, form: LogForm) -> Result<Arc<LogLines>, Memory>
     where
         R: Threads + Wait + Clock + Eprint + Copy + Send + 'static,

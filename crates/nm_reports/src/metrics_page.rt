@@ -56,7 +56,8 @@ impl<'a> MetricsPage<'a> {
         put_sample(self.text, name, labels, value.as_str())
     }
 
-    /// Puts how many calls took so long, each bucket with all below it, under the label `operation`.
+    /// Puts how many calls took so long, each bucket with all below it, under the label
+    /// `operation`.
     pub fn put_buckets(
         &mut self,
         name: &str,

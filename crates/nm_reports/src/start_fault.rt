@@ -38,7 +38,8 @@ pub enum StartFault<'a> {
     /// The system has this leg in use.
     #[error("nbdmirror: leg {0}: is in use")]
     InUse(usize),
-    /// This leg's length, if it has one, is no positive multiple of 512, or is more than 2^40 bytes.
+    /// This leg's length, if it has one, is no positive multiple of 512, or is more than 2^40
+    /// bytes.
     #[error("nbdmirror: leg {0}: bad length")]
     BadLength(usize, Option<u64>),
     /// This leg is so many bytes long, and that one, the first that is here, has another length.

@@ -1,4 +1,5 @@
-ghost use Rattle.std.specs.Prelude.{◌≡◌, ◌+◌, ◌<◌, ◌≤◌, ◌++◌, [], length, None, IfSome, IfNone, IfOk};
+ghost use Rattle.std.specs.Prelude.{◌≡◌, ◌+◌, ◌<◌, ◌≤◌, ◌++◌, [], length, None, IfSome, IfNone};
+ghost use Rattle.std.specs.Prelude.{IfOk};
 ghost use Rattle.std.specs.Prelude.{OnOk, OnErr, List, ℕ};
 ghost use Rattle.nm_wire.specs.Sizes.{max_payload};
 ghost use Rattle.nm_requests.specs.First.{HasPayload, BeginsRead, message_of};

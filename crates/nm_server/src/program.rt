@@ -249,7 +249,8 @@ pub fn refuse_words<E: Write>(error: &io::Error, err: &mut E) -> u8 {
 /// 0 after a `quit`, or where the words ask for the help or the version, which `out` has then.
 /// Otherwise `err` says why: status 2 for words that are no command line, 3 for
 /// settings or legs that do not fit, 4 where it cannot listen, 5 out of memory, 6 where what the
-/// stripes have had is not what the sessions counted, 7 where no master is named and the legs differ.
+/// stripes have had is not what the sessions counted, 7 where no master is named and the legs
+/// differ.
 pub fn start<R, P: OpensLegs + Sync, S: AsStr, O: Write, E: Write>(
     rt: &R,
     alloc: Global,

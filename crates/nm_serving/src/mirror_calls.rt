@@ -23,8 +23,8 @@ pub trait MirrorCalls<L> {
     fn layout(&self) -> &Shape
         ensures { result.now ≡ shape self.now };
 
-    /// Makes this call, a read's into the buffer. Any other call leaves the buffer alone. Zeroes may
-    /// end before their end once `is_gone`, where that is told.
+    /// Makes this call, a read's into the buffer. Any other call leaves the buffer alone. Zeroes
+    /// may end before their end once `is_gone`, where that is told.
     fn call_through(
         &self,
         pass: &mut Pass<L>,

@@ -38,9 +38,9 @@ use std::mem;
 /// The server's side of one client's session: takes the client's bytes and the outcomes of its
 /// requests, hands requests out to be done, and gathers the bytes that go to the client.
 ///
-/// Up to 16 requests are outstanding at once, and they are answered in any order. A request that was
-/// read is only taken where the replies to all that are outstanding then carry no more bytes than
-/// its limit says; a READ that is longer by itself is refused.
+/// Up to 16 requests are outstanding at once, and they are answered in any order. A request that
+/// was read is only taken where the replies to all that are outstanding then carry no more bytes
+/// than its limit says; a READ that is longer by itself is refused.
 #[derive(Debug, Drop)]
 pub struct SessionCore {
     limit: Limit,

@@ -16,7 +16,8 @@ use std::thread::{Threads, join, yield_now};
 /// How often a held sync yields at most.
 const TURNS: u64 = 1_000_000;
 
-/// A file for tests that keeps nothing. It counts its syncs, and fails or holds them while it is to.
+/// A file for tests that keeps nothing. It counts its syncs, and fails or holds them while it is
+/// to.
 #[derive(Drop)]
 struct TestFile {
     syncs: AtomicU64,

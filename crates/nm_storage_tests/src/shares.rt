@@ -1,4 +1,5 @@
-//! Legs on shares of one array: a sync that fails is told to each user, and what it lost stays lost.
+//! Legs on shares of one array: a sync that fails is told to each user, and what it lost stays
+//! lost.
 use crate::shared_medium::{SharedMedium, leg_on_share};
 use crate::shared_syncs::SharedSyncs;
 use nm_file_leg::Medium;

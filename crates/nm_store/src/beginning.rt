@@ -23,9 +23,9 @@ fn block_len(block: &Block) -> usize
 }
 
 impl<L: LegPart> Store<L> {
-    /// A write of a run from this block on begins, under the next tickets, of which the first is the
-    /// result: it owes each leg that is current there. A part is laid over `base`, what the block
-    /// holds.
+    /// A write of a run from this block on begins, under the next tickets, of which the first is
+    /// the result: it owes each leg that is current there. A part is laid over `base`, what the
+    /// block holds.
     pub fn begin(&mut self, block: u64, data: Data, base: &Block) -> u64
         requires run { FitsRun self.old.place block (data_blocks «data») }
         requires current { 0 < length (current_legs block self.old) }

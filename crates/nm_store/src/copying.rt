@@ -214,8 +214,8 @@ fn read_slots<L: LegPart>(
     read_leg_at(legs, leg, at, buffer.read_slots(count))
 }
 
-/// Keeps so many blocks in the buffer's places as the chunk's next ones. Where no chunk is open, one
-/// of so many blocks opens with them.
+/// Keeps so many blocks in the buffer's places as the chunk's next ones. Where no chunk is open,
+/// one of so many blocks opens with them.
 fn keep_slots(buffer: &mut CopyBuffer, blocks: u64, count: u64)
     requires reads { Reads (next_move buffer.old) }
     requires some { 0 < blocks }

@@ -76,8 +76,8 @@ static LISTS: [(Setup, &[(Ask, Summary)]); 21] = [
     (LONG_OF_TWO, &WHOLE_REGIONS),
 ];
 
-/// Takes all memory that these lists need, and then that for the list of the last leg, for one that is
-/// longer than what is kept of the history, and for one longer than what is kept of the records.
+/// Takes all memory that these lists need, and then that for the list of the last leg, for one that
+/// is longer than what is kept of the history, and for one longer than what is kept of the records.
 fn prepare_all(
     rt: &impl Abort,
     alloc: Global,

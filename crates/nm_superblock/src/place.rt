@@ -1,6 +1,7 @@
 //! A place: which of its two slots is read, which is written, and under which stamp.
 ghost use Rattle.std.specs.Prelude.{◌≡◌, ◌⊎◌, ◌≤◌, ◌^◌, IfSome, IfNone};
-ghost use Rattle.nm_superblock.specs.Slots.{IsHighestStamp, IsNextGeneration, IsPastAll, newer_of, writes_second};
+ghost use Rattle.nm_superblock.specs.Slots.{IsHighestStamp, IsNextGeneration, IsPastAll, newer_of};
+ghost use Rattle.nm_superblock.specs.Slots.{writes_second};
 
 use crate::sectors::read_stamp;
 use crate::superblock::Superblock;

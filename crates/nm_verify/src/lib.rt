@@ -1,5 +1,5 @@
-//! Compares what the legs in sync of a mirror hold, two legs and one run of blocks at a time, by one
-//! look a hold of a stripe, so that calls go on in between.
+//! Compares what the legs in sync of a mirror hold, two legs and one run of blocks at a time, by
+//! one look a hold of a stripe, so that calls go on in between.
 //!
 //! What it finds counts only where no write came between both looks. It changes nothing of a stripe
 //! but what a read does to a leg: a leg that differs, or that cannot be read, stays in sync.

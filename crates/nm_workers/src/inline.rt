@@ -188,8 +188,8 @@ fn answer_deferred<S, E: Extent, T: Target + Drop>(
 }
 
 // Reads a piece where no whole request is there and the client's bytes have not ended, and sends it
-// to the mailbox, where it is received next. No reply waits for what the client sends: no request is
-// outstanding.
+// to the mailbox, where it is received next. No reply waits for what the client sends: no request
+// is outstanding.
 fn read_here<R: Wait, I: BusyPoll, C, M: Drop>(
     rt: &R,
     alloc: Global,

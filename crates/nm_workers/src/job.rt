@@ -86,8 +86,9 @@ impl<E: Extent> Job<E> {
         }
     }
 
-    // Whether the session's owner may do it itself for a client that waits for each reply: to hand it
-    // on takes longer than to read or write so much, and who waits for a sync waits for nothing else.
+    // Whether the session's owner may do it itself for a client that waits for each reply: to hand
+    // it on takes longer than to read or write so much, and who waits for a sync waits for nothing
+    // else.
     pub(crate) fn is_short(&self) -> bool {
         match self.task {
             Task::Read { offset: _, length } => length <= SHORT,

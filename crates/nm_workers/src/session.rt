@@ -133,9 +133,9 @@ where
 
 /// Serves the requests of a session whose haggling has ended, up to its end, as `serve_many` does.
 ///
-/// A program that does something between the two parts, as to clear a timeout, calls `negotiate` and
-/// then this. Over no target the first request that needs one breaks the session off. Sessions that
-/// share a token do not all spin at once.
+/// A program that does something between the two parts, as to clear a timeout, calls `negotiate`
+/// and then this. Over no target the first request that needs one breaks the session off. Sessions
+/// that share a token do not all spin at once.
 pub fn transmit<R, I, O, T>(
     rt: &R,
     alloc: Global,

@@ -69,11 +69,11 @@ where
 }
 
 // Hands out the requests that are there, sends the replies that wait in one write and, unless the
-// session is over, waits for what the threads report. Where no request is left it gives the permit to
-// read, and does so before the last one is given to a worker: the thread that reads mostly looks
+// session is over, waits for what the threads report. Where no request is left it gives the permit
+// to read, and does so before the last one is given to a worker: the thread that reads mostly looks
 // for it still then, and to give a job takes longer where a worker has to be woken for it. It does
-// neither where the owner is to do the last one itself. Many bytes of replies are sent first, so that
-// they are gone before more are asked for.
+// neither where the owner is to do the last one itself. Many bytes of replies are sent first, so
+// that they are gone before more are asked for.
 fn round_with_threads<'s, S, E, R, O, T>(
     rt: &'s R,
     alloc: Global,

@@ -1,6 +1,6 @@
-//! Tests of the wire's crates, of sessions, mailboxes and workers through their public surface: what
-//! no clause says, and no session of `tests/wire` shows. The protocol's bytes and a client that leaves
-//! are public, for the tests of the server.
+//! Tests of the wire's crates, of sessions, mailboxes and workers through their public surface:
+//! what no clause says, and no session of `tests/wire` shows. The protocol's bytes and a client
+//! that leaves are public, for the tests of the server.
 #![tactic(auto)]
 
 #[cfg(test)]

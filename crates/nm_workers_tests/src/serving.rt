@@ -1,5 +1,5 @@
-//! Whole sessions of `serve` over memory, byte for byte, and broken off at each read and each write.
-//! The expected bytes were written by hand.
+//! Whole sessions of `serve` over memory, byte for byte, and broken off at each read and each
+//! write. The expected bytes were written by hand.
 
 use crate::texts::{
     DESCRIBED, DISC, FLAGS, GO, GREETING, READ, SIZE, WRITE, concat, export, put_reply, put_request,
