@@ -1,7 +1,7 @@
 pub mod ResultRuns
 pub mod Results
 pub mod Steps
-pub mod Requests
+pub mod RequestLemmas
 pub mod Rounds
 pub mod ReadPieces
 pub mod WholeSessions

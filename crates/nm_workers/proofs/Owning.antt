@@ -1,11 +1,10 @@
 -- What the owner of a core and the reading thread did together.
-use Rattle.std.proofs.Common.{◌≡◌, ◌≤◌, ℕ, All, List, [], Option, Result, Err, IfOk, IfErr, sym, subst}
+use Rattle.std.proofs.Common.{◌≡◌, ◌≤◌, ℕ, true, All, List, [], Option, Result, Ok, Err, IfOk, IfErr, sym, subst}
 use Rattle.nm_mailbox.specs.declared.message.Message.{Message}
-use Rattle.nm_mailbox.specs.declared.message.Piece.{Piece}
+use Rattle.nm_mailbox.specs.Ends.{pieces_by}
 use Rattle.nm_mailbox.specs.Messages.{pieces_of, IsBeginning}
 use Rattle.nm_replies.specs.declared.reply_writer.ReplyWriter.{ReplyWriter}
 use Rattle.nm_replies.specs.Sending.{device_of}
-use Rattle.nm_session.proofs.WholeSessions.{if_ok, if_err}
 use Rattle.nm_session.specs.declared.serve_fault.ServeFault.{ServeFault}
 use Rattle.nm_session.specs.declared.serve_fault.ServeFault.TheVariants as fault
 use Rattle.nm_session.specs.declared.served.Served.{Served}
@@ -17,34 +16,42 @@ use Rattle.nm_session.specs.Laws.{SoFar}
 use Rattle.nm_session.specs.Session.{Session, session_of, so_many}
 use Rattle.nm_wire.specs.declared.export.Export.{Export}
 use Rattle.nm_wire.specs.Export.{size_of}
-use Rattle.nm_workers.specs.Moving.{owner_state, Attends, BreaksOff}
-use Rattle.nm_workers.specs.Reading.{HasRead}
+use Rattle.nm_workers.specs.declared.reader.Reader.{Reader}
+use Rattle.nm_workers.specs.Moving.{owner_state, Attends, BreaksOff, EndsAs}
+use Rattle.nm_workers.specs.Reading.{HasRead, ReadsFurther}
 use Rattle.nm_workers.specs.Serving.{io, Ends, Breaks, IsServed, IsBrokenOff}
-use Rattle.nm_workers.proofs.Requests.{export_stays}
+use Rattle.nm_workers.proofs.ReadPieces.{reads_first, has_read}
+use Rattle.nm_workers.proofs.RequestLemmas.{export_stays}
 use Rattle.nm_workers.proofs.WholeSessions.{ends_there, breaks_there, breaks_at_once, whole, broken}
 
 module _ (F : Task → TaskResult → Type 0) where
-  module _ (bytes unread output after : Option (List ℕ)) (pieces : List Piece)
-      (core last : Session) (first heard : List (Message CalledValue)) (fresh : first ≡ [])
-      (read : HasRead bytes unread pieces) (begins : IsBeginning (pieces_of heard) pieces)
-      (result : Result Served ServeFault) where
-    -- a session that came to its end
-    pub owned_ends : IfOk result (λ served. Attends F served (owner_state core first output) (owner_state last heard after))
-        → IfOk result (λ served. Ends F served core (io bytes output) after)
-    owned_ends holds = if_ok result (λ served. Attends F served (owner_state core first output) (owner_state last heard after))
-        (λ served. Ends F served core (io bytes output) after)
-        (λ served attends. ends_there bytes unread output after pieces core last heard read begins served
-        (subst (λ (f : List (Message CalledValue)). Attends F served (owner_state core f output) (owner_state last heard after)) fresh attends))
-        holds
+  module _ {I M : Type 0} (remaining : I → Option (List ℕ)) (reader back : Reader I M)
+      (fresh : pieces_by reader.pieces ≡ []) (is_open : reader.is_open ≡ true) (reads : ReadsFurther remaining reader back) where
+    -- all that was read since was sent, or lost at the end
+    read_all : HasRead (remaining reader.source) (remaining back.source) (pieces_by back.pieces)
+    read_all = has_read back.is_open (remaining reader.source) (remaining back.source) (pieces_by back.pieces)
+        (reads.0 (remaining reader.source)
+        (reads_first (remaining reader.source) (pieces_by reader.pieces) reader.is_open fresh is_open))
 
-    -- a session that broke off
-    pub owned_breaks : IfErr result (λ found. BreaksOff F found (owner_state core first output) (owner_state last heard after))
-        → IfErr result (λ found. Breaks F found core (io bytes output) after)
-    owned_breaks holds = if_err result (λ found. BreaksOff F found (owner_state core first output) (owner_state last heard after))
-        (λ found. Breaks F found core (io bytes output) after)
-        (λ found breaks. breaks_there bytes unread output after pieces core last heard read begins found
-        (subst (λ (f : List (Message CalledValue)). BreaksOff F found (owner_state core f output) (owner_state last heard after)) fresh breaks))
-        holds
+    module _ (core last : Session) (first heard : List (Message CalledValue)) (output after : Option (List ℕ))
+        (unheard : first ≡ []) (begins : IsBeginning (pieces_of heard) (pieces_by back.pieces)) where
+      -- a session that came to its end, or broke off
+      pub owned : (result : Result Served ServeFault)
+          → EndsAs F result (owner_state core first output) (owner_state last heard after)
+          → IfOk result (λ served. Ends F served core (io (remaining reader.source) output) after)
+          × IfErr result (λ found. Breaks F found core (io (remaining reader.source) output) after)
+      owned (Ok served) attends = (
+        ends_there (remaining reader.source) (remaining back.source) output after (pieces_by back.pieces)
+            core last heard read_all begins served
+            (subst (λ (f : List (Message CalledValue)). Attends F served (owner_state core f output) (owner_state last heard after)) unheard attends),
+        tt,
+      )
+      owned (Err found) breaks = (
+        tt,
+        breaks_there (remaining reader.source) (remaining back.source) output after (pieces_by back.pieces)
+            core last heard read_all begins found
+            (subst (λ (f : List (Message CalledValue)). BreaksOff F found (owner_state core f output) (owner_state last heard after)) unheard breaks),
+      )
 
   -- a session that broke off before anything happened
   module _ {O : Type 0} (contents : O → Option (List ℕ)) (core : Session) (bytes : Option (List ℕ))

@@ -4,8 +4,9 @@ use Rattle.std.specs.Io.KnownBytes.{Consumes}
 use Rattle.std.proofs.KnownBytes.{Consumes-trans, Consumes-nil}
 use Rattle.nm_mailbox.specs.declared.message.Piece.{Piece}
 use Rattle.nm_mailbox.specs.declared.message.Piece.TheVariants.{Bytes, Ended, Failed}
+use Rattle.nm_workers.specs.declared.reader.Reader.{Reader}
 use Rattle.nm_workers.specs.Pieces.{bytes_of}
-use Rattle.nm_workers.specs.Reading.{Gives, AreBytes, ReadsOn, HasRead, Reads, brings_bytes}
+use Rattle.nm_workers.specs.Reading.{Gives, AreBytes, ReadsOn, HasRead, Reads, ReadsFurther, brings_bytes}
 use Rattle.nm_workers.proofs.Steps.{bytes-append}
 
 bytes_on : (pieces : List Piece) (more : List Piece) → AreBytes pieces → AreBytes more → AreBytes (pieces ++ more)
@@ -119,3 +120,9 @@ module _ (bytes old new : Option (List ℕ)) (before after : List Piece) (result
 
   pub unsent_at : (piece : Piece) → Gives piece old new → result ≡ false → after ≡ before → Reads result bytes new after
   unsent_at piece gives is same = rw (is, same) (unsent_ends bytes old new before reads piece gives)
+
+-- what is read by one and then by another
+pub more_on : {I M : Type 0} (remaining : I → Option (List ℕ)) (a b c : Reader I M)
+    → ReadsFurther remaining a b → ReadsFurther remaining b c → ReadsFurther remaining a c
+more_on remaining a b c first second =
+    (λ input goes. second.0 input (first.0 input goes), second.1 ∙ first.1)

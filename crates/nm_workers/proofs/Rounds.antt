@@ -1,5 +1,5 @@
 -- What the parts of a round do together.
-use Rattle.std.proofs.Common.{◌≡◌, ℕ, List, [], Option, inl, inr, Result, Ok, Err, IfOk, IfErr, refl, sym, subst}
+use Rattle.std.proofs.Common.{◌≡◌, ℕ, List, [], Option, inl, inr, Result, Ok, Err, IfErr, IsErrAnd, refl, sym, subst}
 use Rattle.nm_mailbox.specs.declared.message.Message.{Message}
 use Rattle.nm_session.proofs.Pieces.{none_after_send}
 use Rattle.nm_session.specs.declared.serve_fault.ServeFault.{ServeFault}
@@ -14,11 +14,11 @@ use Rattle.nm_session.specs.Session.{IsFull, IsReading, LacksRoom, Session}
 use Rattle.nm_session.specs.Batch.{IsStarved}
 use Rattle.nm_workers.specs.declared.round.NoRequest.{NoRequest}
 use Rattle.nm_workers.specs.declared.round.NoRequest.TheVariants as why
+use Rattle.nm_workers.specs.declared.round.Owner.{Owner}
 use Rattle.nm_workers.specs.declared.round.Round.{Round}
-use Rattle.nm_workers.specs.declared.round.Round.TheVariants as round
 use Rattle.nm_workers.specs.declared.round.ReadState.{ReadState}
 use Rattle.nm_workers.specs.declared.round.ReadState.TheVariants as state
-use Rattle.nm_workers.specs.Moving.{OwnerState, owner_state, Moves, BreaksOff, HasNoRequest, IsKnown, IsOverAt, Attends, IsRound, EndsAs}
+use Rattle.nm_workers.specs.Moving.{OwnerState, owner_state, Moves, BreaksOff, HasNoRequest, IsKnown, IsOverAt, Attends, Leads, state_of}
 use Rattle.nm_workers.proofs.Steps.{moves_on, breaks_on, stops, reads, sends, sends_part}
 
 module _ {F : Task → TaskResult → Type 0} where
@@ -32,22 +32,24 @@ module _ {F : Task → TaskResult → Type 0} where
     is_over = second.is_over;
   }
 
-  -- a move, and then a round
-  pub round_on : (round : Round) (a b c : OwnerState) → Moves F a b → IsRound F round b c
-      → IsRound F round a c
-  round_on (round.Continue next) a b c first (second, known) = (moves_on a b c first second, known)
-  round_on (round.SwitchReader next) a b c first (second, known) = (moves_on a b c first second, known)
-  round_on (round.Done served) a b c first second = attends_on served a b c first second
-
-  -- a move, and then the session's end
-  pub ends_on : (result : Result Served ServeFault) (a b c : OwnerState) → Moves F a b → EndsAs F result b c → EndsAs F result a c
-  ends_on (Ok served) a b c first second = attends_on served a b c first second
-  ends_on (Err found) a b c first second = breaks_on found a b c first second
-
   -- there is no memory, after a move
   pub stops_there : (found : ServeFault) → found ≡ fault.Memory → (a b : OwnerState) → Moves F a b → BreaksOff F found a b
   stops_there found is a b moves =
       subst (λ (f : ServeFault). BreaksOff F f a b) (sym is) (stops fault.Memory tt a b moves)
+
+-- what is said of a fault is said of it where it is handed on
+pub handed_on : {T : Type 0} (result : Result T ServeFault) (found : ServeFault) (P : ServeFault → Type 0)
+    → IsErrAnd result (λ handed. handed ≡ found) → P found → IfErr result P
+handed_on (Ok done) found P same holds = absurd same
+handed_on (Err handed) found P same holds = rw same holds
+
+-- a fault that is handed on breaks the session off
+pub led_off : {O : Type 0} {F : Task → TaskResult → Type 0} (contents : O → Option (List ℕ))
+    (result : Result Round ServeFault) (found : ServeFault) (old new : Owner O CalledValue)
+    → IsErrAnd result (λ handed. handed ≡ found)
+    → BreaksOff F found (state_of contents old) (state_of contents new) → Leads F contents result old new
+led_off contents (Ok round) found old new same breaks = absurd same
+led_off contents (Err handed) found old new same breaks = rw same breaks
 
 -- what is known of the client's bytes is not called more than it is
 pub known_as : (next before : ReadState) (heard : List (Message CalledValue)) → (next ≡ state.Eof → before ≡ state.Eof)
@@ -107,14 +109,3 @@ module _ {F : Task → TaskResult → Type 0} where
       is_known = is_known;
       is_over = over;
     }
-
-module _ (F : Task → TaskResult → Type 0) where
-  pub ends_ok : (result : Result Served ServeFault) (a b : OwnerState) → EndsAs F result a b
-      → IfOk result (λ served. Attends F served a b)
-  ends_ok (Ok served) a b ends = ends
-  ends_ok (Err found) a b ends = tt
-
-  pub ends_err : (result : Result Served ServeFault) (a b : OwnerState) → EndsAs F result a b
-      → IfErr result (λ found. BreaksOff F found a b)
-  ends_err (Ok served) a b ends = tt
-  ends_err (Err found) a b ends = ends

@@ -5,7 +5,9 @@ use Rattle.std.specs.Io.KnownBytes.{Appends}
 use Rattle.nm_mailbox.specs.declared.message.Message.{Message}
 use Rattle.nm_mailbox.specs.declared.message.Message.TheVariants as message
 use Rattle.nm_mailbox.specs.declared.message.Piece.TheVariants.{Ended}
+use Rattle.nm_mailbox.specs.Ends.{received_by}
 use Rattle.nm_mailbox.specs.Messages.{pieces_of}
+use Rattle.nm_replies.specs.Sending.{device_of}
 use Rattle.nm_session.specs.declared.end.End.{End}
 use Rattle.nm_session.specs.declared.end.End.TheVariants as end
 use Rattle.nm_session.specs.declared.serve_fault.ServeFault.{ServeFault}
@@ -25,8 +27,7 @@ use Rattle.nm_workers.specs.declared.round.ReadState.{ReadState}
 use Rattle.nm_workers.specs.declared.round.ReadState.TheVariants as state
 use Rattle.nm_workers.specs.declared.round.NoRequest.{NoRequest}
 use Rattle.nm_workers.specs.declared.round.NoRequest.TheVariants as why
-use Rattle.nm_workers.specs.declared.round.PhaseEnd.{PhaseEnd}
-use Rattle.nm_workers.specs.declared.round.PhaseEnd.TheVariants as phase
+use Rattle.nm_workers.specs.declared.round.Owner.{Owner}
 use Rattle.nm_workers.specs.Pieces.{bytes_of, HasEnded}
 use Rattle.nm_workers.specs.Results.{RunsWith}
 
@@ -129,9 +130,15 @@ abbrev pub EndsAs : (HasResult : Task → TaskResult → Type 0) → Result Serv
 EndsAs HasResult (Ok served) from to = Attends HasResult served from to
 EndsAs HasResult (Err fault) from to = BreaksOff HasResult fault from to
 
--- some rounds lead to where another thread is to read, or to the session's end
-abbrev pub IsPhase : (HasResult : Task → TaskResult → Type 0) → PhaseEnd → OwnerState
-    → OwnerState → Type 0
-IsPhase HasResult (phase.SwitchReader next) from to =
-    Moves HasResult from to × IsKnown next to.heard
-IsPhase HasResult (phase.Finished result) from to = EndsAs HasResult result from to
+-- an owner at one moment, where its writer's device holds this
+abbrev pub state_of : {O : Type 0} → (O → Option (List ℕ)) → Owner O CalledValue → OwnerState
+state_of contents owner =
+    owner_state owner.core (received_by owner.inbox) (contents (device_of owner.sender))
+
+-- a round leads an owner on, or a fault breaks its session off
+abbrev pub Leads : {O : Type 0} → (HasResult : Task → TaskResult → Type 0)
+    → (O → Option (List ℕ)) → Result Round ServeFault → (old new : Owner O CalledValue) → Type 0
+Leads HasResult contents (Ok round) old new =
+    IsRound HasResult round (state_of contents old) (state_of contents new)
+Leads HasResult contents (Err fault) old new =
+    BreaksOff HasResult fault (state_of contents old) (state_of contents new)

@@ -3,7 +3,9 @@ use Rattle.std.specs.Prelude.{◌≡◌, ℕ, Bool, true, false, List, [], ◌�
 use Rattle.std.specs.Io.KnownBytes.{Consumes, IsAtEnd}
 use Rattle.nm_mailbox.specs.declared.message.Piece.{Piece}
 use Rattle.nm_mailbox.specs.declared.message.Piece.TheVariants.{Bytes, Ended, Failed}
-use Rattle.nm_mailbox.specs.Ends.{pieces_by}
+use Rattle.nm_mailbox.specs.Ends.{pieces_by, IsSameEnd}
+use Rattle.nm_workers.specs.declared.read_by.ReadBy.{ReadBy}
+use Rattle.nm_workers.specs.declared.read_by.ReadBy.TheVariants as by
 use Rattle.nm_workers.specs.declared.reader.Reader.{Reader}
 use Rattle.nm_workers.specs.Pieces.{bytes_of}
 
@@ -44,9 +46,15 @@ abbrev pub Reads : Bool → (input unread : Option (List ℕ)) → List Piece �
 Reads true input unread pieces = ReadsOn input unread pieces
 Reads false input unread pieces = HasRead input unread pieces
 
--- what was read by then and sent, and more
+-- what was read by then and sent, and more, to the same mailbox
 abbrev pub ReadsFurther : {I M : Type 0} → (I → Option (List ℕ)) → (old new : Reader I M)
     → Type 0
-ReadsFurther remaining old new = (input : Option (List ℕ))
+ReadsFurther remaining old new = ((input : Option (List ℕ))
     → Reads old.is_open input (remaining old.source) (pieces_by old.pieces)
-    → Reads new.is_open input (remaining new.source) (pieces_by new.pieces)
+    → Reads new.is_open input (remaining new.source) (pieces_by new.pieces))
+    × IsSameEnd new.pieces old.pieces
+
+-- the reader of the owner, or that with which the thread began that reads
+abbrev pub reader_of : {I M : Type 0} → ReadBy I M → Reader I M
+reader_of (by.Thread permits thread) = thread.promise.0.value
+reader_of (by.Owner reader) = reader

@@ -50,8 +50,7 @@ where
     I: Read + Send + Drop + 's,
     M: Send + Drop + 's,
     ensures ok { IfOk result (λ started. started.1.promise.0.value ≡ reader) }
-    ensures reads { IfErr result (λ back. ReadsFurther I.remaining reader back) }
-    ensures channel { IfErr result (λ back. IsSameEnd back.pieces reader.pieces) }
+    ensures err { IfErr result (λ back. ReadsFurther I.remaining reader back) }
 {
     let Ok((permits, given)) = permit_channel(alloc) else {
         return Err(reader);
@@ -75,7 +74,6 @@ fn read_pieces<R: Wait, I: Read, M: Drop>(
     permits: PermitReceiver,
 ) -> Reader<I, M>
     ensures reads { ReadsFurther I.remaining reader result }
-    ensures channel { IsSameEnd result.pieces reader.pieces }
 {
     let (mut reader, mut permits) = (reader, permits);
     'permits: for _ in rt.forever() {
@@ -98,7 +96,6 @@ pub(crate) fn poll_and_read<R: Wait, I: BusyPoll, M: Drop>(
     permit: ReadPermit,
 )
     ensures reads { ReadsFurther I.remaining reader.old reader.new }
-    ensures channel { IsSameEnd reader.new.pieces reader.old.pieces }
 {
     spin_wait.poll(&mut reader.source);
     read_on(rt, reader, permit);
@@ -107,7 +104,6 @@ pub(crate) fn poll_and_read<R: Wait, I: BusyPoll, M: Drop>(
 // Reads a piece and sends it, unless no more is to be read.
 fn read_on<R: Wait, I: Read, M: Drop>(rt: &R, reader: &mut Reader<I, M>, permit: ReadPermit)
     ensures reads { ReadsFurther I.remaining reader.old reader.new }
-    ensures channel { IsSameEnd reader.new.pieces reader.old.pieces }
 {
     if reader.is_open {
         reader.is_open = read_piece(rt, &mut reader.source, &mut reader.pieces, permit);
@@ -165,9 +161,7 @@ fn take_piece<I: Read>(source: &mut I, permit: ReadPermit) -> Piece
 pub(crate) struct AllRead<I, M: Drop>(pub(crate) Snapshot<Reader<I, M>>);
 
 impl<I: Read, M: Drop> Promise<Reader<I, M>> for AllRead<I, M> {
-    ghost use Rattle.nm_mailbox.specs.Ends.{IsSameEnd};
     ghost use Rattle.nm_workers.specs.Reading.{ReadsFurther};
 
-    ghost kept_by = { λ promise reader. ReadsFurther I.remaining promise.0.value reader
-        × IsSameEnd reader.pieces promise.0.value.pieces };
+    ghost kept_by = { λ promise reader. ReadsFurther I.remaining promise.0.value reader };
 }

@@ -1,5 +1,16 @@
-//! What a round of a session's owner finds, and what came of it.
-use nm_session::{ServeFault, Served};
+//! What a session's owner has, what a round of it finds, and what comes of the round.
+use nm_mailbox::Inbox;
+use nm_replies::ReplyWriter;
+use nm_session::{Served, SessionCore};
+
+// What one thread of a session has to itself: the core, the inbox to which the others send, and the
+// writer of the replies.
+#[derive(Drop)]
+pub struct Owner<O, M: Drop> {
+    pub(crate) core: SessionCore,
+    pub(crate) inbox: Inbox<M>,
+    pub(crate) sender: ReplyWriter<O>,
+}
 
 // Why no further request is handed out.
 #[derive(Clone, Copy, Debug, PartialEq, Eq)]
@@ -23,22 +34,13 @@ pub enum ReadState {
     Eof,
 }
 
-// What came of one round of a session's owner. It tells what is known of the client's bytes.
+// What came of a round. It tells what is known of the client's bytes.
 #[derive(Clone, Copy, Debug)]
 pub enum Round {
     // It goes on.
     Continue(ReadState),
-    // It goes on, but another thread is to read from now on.
+    // It goes on, but another is to read from now on: the owner, or a thread.
     SwitchReader(ReadState),
     // The session is over.
     Done(Served),
-}
-
-// What came of some rounds of a session's owner, during which the same thread read.
-#[derive(Clone, Copy, Debug)]
-pub enum PhaseEnd {
-    // Another thread is to read from now on; this is known of the client's bytes.
-    SwitchReader(ReadState),
-    // The session is over, or a fault broke it off.
-    Finished(Result<Served, ServeFault>),
 }

@@ -9,10 +9,11 @@ ghost use Rattle.nm_mailbox.specs.Ends.{pieces_by, received_by, SendsTo};
 use crate::dispatcher::{Dispatcher, SerialClient};
 use crate::job::{Extent, JobResult};
 use crate::negotiation::negotiate;
-use crate::phases::{AllServed, serve_requests};
 use crate::pool::{IdleWorkers, WorkerPool};
 use crate::read_buffer::ReadBuffer;
 use crate::reader::Reader;
+use crate::requests::{AllServed, serve_requests};
+use crate::round::Owner;
 use crate::spin_wait::{BusyPoll, SpinToken, SpinWait, Unpolled};
 use nm_mailbox::{Inbox, mailbox};
 use nm_replies::ReplyWriter;
@@ -256,17 +257,17 @@ where
         (io (I.remaining reader.source) (O.contents (device_of sender)))
         (O.contents (device_of result.sender))) }
 {
-    let (mut core, mut sender, mut inbox) = (core, sender, inbox);
-    let served = serve_requests(
-        rt,
-        alloc,
-        &mut core,
-        &mut sender,
-        &mut inbox,
-        dispatcher,
-        reader,
-    );
-    let AllServed { result, reader } = served;
+    let mut owner = Owner {
+        core,
+        inbox,
+        sender,
+    };
+    let AllServed { result, reader } = serve_requests(rt, alloc, &mut owner, dispatcher, reader);
+    let Owner {
+        core: _,
+        mut inbox,
+        sender,
+    } = owner;
     reader.pieces.settle(&mut inbox);
     Finished { result, sender }
 }

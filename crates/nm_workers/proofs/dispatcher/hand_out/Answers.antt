@@ -1,5 +1,5 @@
 -- Requests that are read one after the other are read.
-use Rattle.nm_workers.proofs.Requests.{reads_on, size_stays}
+use Rattle.nm_workers.proofs.RequestLemmas.{reads_on, size_stays}
 use Rattle.nm_workers.proofs.dispatcher.hand_out.Goals as goal
 
 pub issue-requires-clause-size : goal.issue-requires-clause-size

@@ -1,10 +1,8 @@
 -- So far pieces were read and sent.
-use Rattle.nm_mailbox.specs.Ends.{IsSameEnd}
 use Rattle.nm_workers.specs.Reading.{ReadsFurther}
 use Rattle.nm_workers.proofs.reader.read_pieces.Given as goal
 
 abbrev pub invariant-permits : goal.invariant-permits
 invariant-permits g l = record {
   reads : ReadsFurther g.I.Read.remaining l.fn.reader l.reader;
-  channel : IsSameEnd l.reader.pieces l.fn.reader.pieces;
 }

@@ -1,7 +1,7 @@
 -- What comes next is that requests are read.
 use Rattle.std.proofs.Common.{refl}
 use Rattle.nm_session.proofs.ReadEvents.{next_reads, next_reads_on}
-use Rattle.nm_workers.proofs.Requests.{ends, fills_up, issued_callable, starves}
+use Rattle.nm_workers.proofs.RequestLemmas.{ends, fills_up, issued_callable, starves}
 use Rattle.nm_workers.proofs.job.Job.next.Goals as goal
 
 pub returns-in_default-clause-err : goal.returns-in_default-clause-err

@@ -1,0 +1,184 @@
+//! Who reads what the client sends: a thread, while the owner of the session's core waits for
+//! messages; or the owner itself, while its client waits for each reply before it sends the next
+//! request. To hand such requests on and to wait for their results would take longer than to do
+//! them.
+ghost use Rattle.std.specs.Prelude.{◌≡◌, [], IfOk, IfErr};
+ghost use Rattle.nm_session.specs.declared.serve_fault.ServeFault.TheVariants.{Memory};
+ghost use Rattle.nm_workers.specs.declared.round.ReadState.TheVariants.{Eof};
+ghost use Rattle.nm_workers.specs.Moving.{HasNoRequest};
+ghost use Rattle.nm_workers.specs.Reading.{ReadsFurther, reader_of};
+
+use crate::dispatcher::Dispatcher;
+use crate::permits::{PermitSender, ReadPermit};
+use crate::reader::{AllRead, Reader, poll_and_read, start_reading};
+use crate::round::{NoRequest, ReadState};
+use crate::spin_wait::BusyPoll;
+use nm_session::{ServeFault, SessionCore};
+use std::alloc::Global;
+use std::io::Read;
+use std::sync::Wait;
+use std::thread::{PromisedHandle, Scope, Threads};
+
+// Who reads.
+#[derive(Drop)]
+pub enum ReadBy<I: Read, M: Drop> {
+    // A thread, a piece for each permit. It gives the reader back.
+    Thread(PermitSender, PromisedHandle<Reader<I, M>, AllRead<I, M>>),
+    // The owner.
+    Owner(Reader<I, M>),
+}
+
+impl<I: Read, M: Drop> ReadBy<I, M> {
+    // Whether the owner reads.
+    pub(crate) fn is_owner(&self) -> bool {
+        match self {
+            ReadBy::Thread(_, _) => false,
+            ReadBy::Owner(_) => true,
+        }
+    }
+}
+
+// Has the owner read where a thread did, and a thread where the owner did. Where there is no memory
+// or no thread for it, the reader comes back.
+pub(crate) fn switch_reader<'s, S, R, I, M>(
+    rt: &'s R,
+    alloc: Global,
+    scope: &Scope<'s, S>,
+    by: ReadBy<I, M>,
+) -> Result<ReadBy<I, M>, Reader<I, M>>
+where
+    R: Threads + Wait + Sync + 's,
+    I: Read + Send + Drop + 's,
+    M: Send + Drop + 's,
+    ensures ok { IfOk result (λ next. ReadsFurther I.remaining (reader_of by) (reader_of next)) }
+    ensures err { IfErr result (λ back. ReadsFurther I.remaining (reader_of by) back) }
+{
+    match by {
+        ReadBy::Thread(permits, thread) => {
+            drop(permits);
+            Ok(ReadBy::Owner(thread.join(rt)))
+        }
+        ReadBy::Owner(reader) => match start_reading(rt, alloc, scope, reader) {
+            Ok((permits, thread)) => Ok(ReadBy::Thread(permits, thread)),
+            Err(back) => Err(back),
+        },
+    }
+}
+
+// The reader, once nothing reads any more.
+pub(crate) fn into_reader<R: Threads, I: Read, M: Drop>(rt: &R, by: ReadBy<I, M>) -> Reader<I, M>
+    ensures { ReadsFurther I.remaining (reader_of by) result }
+{
+    match by {
+        ReadBy::Thread(permits, thread) => {
+            drop(permits);
+            thread.join(rt)
+        }
+        ReadBy::Owner(reader) => reader,
+    }
+}
+
+// Permits the thread to read a piece, if one reads.
+pub(crate) fn permit_piece<R: Wait, C, I: Read, M: Drop>(
+    rt: &R,
+    alloc: Global,
+    core: &SessionCore,
+    why: NoRequest,
+    state: ReadState,
+    dispatcher: &mut Dispatcher<'_, C>,
+    by: &mut ReadBy<I, M>,
+) -> Result<ReadState, ServeFault>
+    requires why { HasNoRequest why core.now }
+    ensures ok { IfOk result (λ next. next ≡ Eof → state ≡ Eof) }
+    ensures memory { IfErr result (λ fault. fault ≡ Memory) }
+    ensures reads { ReadsFurther I.remaining (reader_of by.old) (reader_of by.new) }
+{
+    match by {
+        ReadBy::Thread(permits, _) => {
+            ask_for_piece(rt, alloc, core, why, state, dispatcher, permits)
+        }
+        ReadBy::Owner(_) => Ok(state),
+    }
+}
+
+// Gives the permit to read a piece where no whole request is there, no piece is still to come, and
+// the client's bytes have not ended.
+fn ask_for_piece<R: Wait, C>(
+    rt: &R,
+    alloc: Global,
+    core: &SessionCore,
+    why: NoRequest,
+    state: ReadState,
+    dispatcher: &mut Dispatcher<'_, C>,
+    permits: &mut PermitSender,
+) -> Result<ReadState, ServeFault>
+    requires why { HasNoRequest why core.now }
+    ensures ok { IfOk result (λ next. next ≡ Eof → state ≡ Eof) }
+    ensures memory { IfErr result (λ fault. fault ≡ Memory) }
+{
+    match ReadPermit::next(alloc, core, why, state, &mut dispatcher.buffer) {
+        Ok(Some(permit)) => {
+            if permits.send(rt, permit) {
+                Ok(ReadState::Pending)
+            } else {
+                Err(ServeFault::Memory)
+            }
+        }
+        Ok(None) => Ok(state),
+        Err(_) => Err(ServeFault::Memory),
+    }
+}
+
+// Reads a piece, if the owner reads and no request is outstanding: no reply waits for what the
+// client sends.
+pub(crate) fn read_piece_here<R: Wait, C, I: BusyPoll, M: Drop>(
+    rt: &R,
+    alloc: Global,
+    core: &SessionCore,
+    why: NoRequest,
+    state: ReadState,
+    dispatcher: &mut Dispatcher<'_, C>,
+    by: &mut ReadBy<I, M>,
+) -> Result<ReadState, ServeFault>
+    requires why { HasNoRequest why core.now }
+    ensures ok { IfOk result (λ next. next ≡ Eof → state ≡ Eof) }
+    ensures memory { IfErr result (λ fault. fault ≡ Memory) }
+    ensures reads { ReadsFurther I.remaining (reader_of by.old) (reader_of by.new) }
+{
+    match by {
+        ReadBy::Thread(_, _) => Ok(state),
+        ReadBy::Owner(reader) => {
+            if !core.is_idle() {
+                return Ok(state);
+            }
+            read_here(rt, alloc, core, why, state, reader, dispatcher)
+        }
+    }
+}
+
+// Reads a piece where no whole request is there and the client's bytes have not ended, and sends it
+// to the mailbox, where it is received next.
+fn read_here<R: Wait, I: BusyPoll, C, M: Drop>(
+    rt: &R,
+    alloc: Global,
+    core: &SessionCore,
+    why: NoRequest,
+    state: ReadState,
+    reader: &mut Reader<I, M>,
+    dispatcher: &mut Dispatcher<'_, C>,
+) -> Result<ReadState, ServeFault>
+    requires why { HasNoRequest why core.now }
+    requires idle { core.now.outstanding ≡ [] }
+    ensures ok { IfOk result (λ next. next ≡ Eof → state ≡ Eof) }
+    ensures memory { IfErr result (λ fault. fault ≡ Memory) }
+    ensures reads { ReadsFurther I.remaining reader.old reader.new }
+{
+    match ReadPermit::next(alloc, core, why, state, &mut dispatcher.buffer) {
+        Ok(Some(permit)) => {
+            poll_and_read(rt, &mut dispatcher.spin_wait, reader, permit);
+            Ok(ReadState::Pending)
+        }
+        Ok(None) => Ok(state),
+        Err(_) => Err(ServeFault::Memory),
+    }
+}
