@@ -15,7 +15,7 @@ use Rattle.nm_reports.specs.declared.start_fault.StartFault.{StartFault}
 use Rattle.nm_reports.specs.declared.start_fault.StartFault.TheVariants as fault
 use Rattle.nm_leg_files.specs.declared.superblock_choice.Choice.{Choice}
 use Rattle.nm_leg_files.specs.declared.superblock_choice.Choice.TheVariants.{First, Image}
-use Rattle.nm_leg_files.specs.declared.superblock_choice.Seen.{Seen}
+use Rattle.nm_leg_files.specs.declared.superblock_choice.FoundLegs.{FoundLegs}
 use Rattle.nm_superblock.specs.declared.superblock.Superblock.{Superblock}
 
 -- every stripe may open on the leg that was named, if one was
@@ -25,17 +25,17 @@ MayBeAsked (Some leg) a = OpensAll leg a
 
 -- the image is that of a sure start; or of one that goes on though it is not sure, and begins a
 -- lineage
-pub record IsDegraded (lineage : ℕ) (seen : Seen) (newest sure image : Superblock) : Type 0 where
+pub record IsDegraded (lineage : ℕ) (seen : FoundLegs) (newest sure image : Superblock) : Type 0 where
   pub missing : (leg : ℕ) × IsMissing leg newest seen.found
   pub fork : IsFork lineage sure image
   pub others : image ≡ record sure { lineages = image.lineages; forks = image.forks }
 
-abbrev pub IsSureOr : (lineage : ℕ) → Seen → (newest sure image : Superblock) → Type 0
+abbrev pub IsSureOr : (lineage : ℕ) → FoundLegs → (newest sure image : Superblock) → Type 0
 IsSureOr lineage seen newest sure image =
     (IsSureStart newest seen.found × (image ≡ sure)) ⊎ IsDegraded lineage seen newest sure image
 
 -- the image of a start that nobody forced
-pub record IsAssembled (s : Settings) (seen : Seen) (lineage : ℕ) (newest image : Superblock)
+pub record IsAssembled (s : Settings) (seen : FoundLegs) (lineage : ℕ) (newest image : Superblock)
     : Type 0 where
   pub start : s.start ≢ Equal
   pub assembly : Assembly
@@ -46,13 +46,13 @@ pub record IsAssembled (s : Settings) (seen : Seen) (lineage : ℕ) (newest imag
   pub goes_on : IsSureOr lineage seen newest sure image
 
 -- the image that a start goes by: a leg that was forced on it is the only one that is named
-abbrev pub GoesBy : (forced : Option ℕ) → Settings → Seen → (lineage : ℕ)
+abbrev pub GoesBy : (forced : Option ℕ) → Settings → FoundLegs → (lineage : ℕ)
     → (newest image : Superblock) → Type 0
 GoesBy (Some leg) s seen lineage newest image = IsForced leg lineage newest image
 GoesBy None s seen lineage newest image = IsAssembled s seen lineage newest image
 
 -- what a start goes by
-abbrev pub Chooses : Settings → Seen → (lineage : ℕ) → Choice → Type 0
+abbrev pub Chooses : Settings → FoundLegs → (lineage : ℕ) → Choice → Type 0
 Chooses s seen lineage First = IsEmpty 8 seen.found
 Chooses s seen lineage (Image image) =
     (newest : Superblock) × IsNewest 8 newest seen.found
@@ -74,7 +74,7 @@ told (refused.MayBeNewer leg) found newest = fault.MayBeNewer leg
 told (refused.NoneInSync stripe) found newest = fault.NoneInSync stripe
 
 -- superblocks do not decide
-pub record IsTold (s : Settings) (seen : Seen) (tells : StartFault) : Type 0 where
+pub record IsTold (s : Settings) (seen : FoundLegs) (tells : StartFault) : Type 0 where
   pub unforced : s.force_master ≡ None
   pub newest : Superblock
   pub greatest : IsNewest 8 newest seen.found
@@ -83,7 +83,7 @@ pub record IsTold (s : Settings) (seen : Seen) (tells : StartFault) : Type 0 whe
   pub told : tells ≡ told why seen.found newest
 
 -- a leg was named that cannot be the master of each stripe
-pub record IsNotInSync (s : Settings) (seen : Seen) (leg : ℕ) : Type 0 where
+pub record IsNotInSync (s : Settings) (seen : FoundLegs) (leg : ℕ) : Type 0 where
   pub unforced : s.force_master ≡ None
   pub named : s.master ≡ Some leg
   pub assembly : Assembly
@@ -91,7 +91,7 @@ pub record IsNotInSync (s : Settings) (seen : Seen) (leg : ℕ) : Type 0 where
   pub closed : (stripe : ℕ) × IsClosedTo leg assembly stripe
 
 -- why a start by superblocks is refused
-abbrev pub RefusesChoice : Settings → Seen → StartFault → Type 0
+abbrev pub RefusesChoice : Settings → FoundLegs → StartFault → Type 0
 RefusesChoice s seen (fault.NoMaster leg) =
     (8 ≤ leg) × ((s.force_master ≡ Some leg) ⊎ (s.master ≡ Some leg))
 RefusesChoice s seen fault.NotFirstStart =

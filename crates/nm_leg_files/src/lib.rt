@@ -56,7 +56,7 @@ pub use crate::needs::{check_files, check_stack, reply_bytes_of};
 pub use crate::no_superblocks::check_no_superblocks;
 pub use crate::saving::{AfterTry, after_try, is_clean, is_last_somewhere};
 pub use crate::starting::{named_master, start_for};
-pub use crate::superblock_choice::{Choice, Seen, choose};
+pub use crate::superblock_choice::{Choice, FoundLegs, choose};
 pub use crate::superblock_opening::FoundFiles;
 pub use crate::superblock_renewal::other_id;
 pub use crate::superblock_writer::SuperblockWriter;

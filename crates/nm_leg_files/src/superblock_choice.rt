@@ -14,7 +14,7 @@ use nm_superblock::Superblock;
 
 /// What a start finds of the legs.
 #[derive(Clone, Copy, Debug, PartialEq, Eq)]
-pub struct Seen {
+pub struct FoundLegs {
     /// Their superblocks.
     pub found: [Option<Superblock>; 8],
     /// Whose files are here and hold what was written to them.
@@ -97,7 +97,12 @@ fn asked_master(asked: Option<u8>, assembly: &Assembly) -> Result<Option<usize>,
 }
 
 // The image of a start that may not be sure: then it begins a lineage.
-fn sure_or_forked(seen: &Seen, newest: &Superblock, sure: &Superblock, lineage: u64) -> Superblock
+fn sure_or_forked(
+    seen: &FoundLegs,
+    newest: &Superblock,
+    sure: &Superblock,
+    lineage: u64,
+) -> Superblock
     ensures { IsSureOr lineage seen.now newest.now sure.now result }
 {
     match missing_leg(newest, &seen.found) {
@@ -109,7 +114,7 @@ fn sure_or_forked(seen: &Seen, newest: &Superblock, sure: &Superblock, lineage: 
 // The image of a start that nobody forced.
 fn assembled<'a>(
     settings: &Settings<'_>,
-    seen: &Seen,
+    seen: &FoundLegs,
     newest: &Superblock,
     lineage: u64,
 ) -> Result<Superblock, StartFault<'a>>
@@ -138,7 +143,7 @@ fn assembled<'a>(
 /// superblock, if it decides. A start that is not sure, or that is forced, begins this lineage.
 pub fn choose<'a>(
     settings: &Settings<'_>,
-    seen: &Seen,
+    seen: &FoundLegs,
     lineage: u64,
 ) -> Result<Choice, StartFault<'a>>
     ensures ok { IfOk result (Chooses settings.now seen.now lineage) }

@@ -10,9 +10,9 @@ use nm_gate::GatedStripe;
 use nm_geometry::Shape;
 use nm_lanes::NoGate;
 use nm_leg_files::{
-    BytesRead, Choice, FileMirror, FoundFiles, KeptImage, Leg, LegFiles, REGION, Seen, Superblocks,
-    check_no_superblocks, choose, draw_id, draw_mirror_id, named_master, open_by_image, open_gates,
-    open_untold, start_for,
+    BytesRead, Choice, FileMirror, FoundFiles, FoundLegs, KeptImage, Leg, LegFiles, REGION,
+    Superblocks, check_no_superblocks, choose, draw_id, draw_mirror_id, named_master,
+    open_by_image, open_gates, open_untold, start_for,
 };
 use nm_mirror::{InitialSync, Mirror};
 use nm_reports::{Comparison, LogLines, StartFault, tell_progress};
@@ -221,7 +221,7 @@ fn image_for<'a, R: RandomSource>(
     rt: &R,
     settings: &Settings<'a>,
     files: &LegFiles,
-    seen: &Seen,
+    seen: &FoundLegs,
     lineage: u64,
 ) -> Result<(Superblock, bool), StartFault<'a>> {
     match choose(settings, seen, lineage)? {
@@ -260,7 +260,7 @@ where
     files.check_named(named_master(settings))?;
     let here = files.here();
     let found = FoundFiles::open(rt, alloc, settings, files)?;
-    let seen = Seen {
+    let seen = FoundLegs {
         found: found.found(),
         trusted: files.settle(),
         here,
