@@ -25,7 +25,8 @@ MayBeAsked (Some leg) a = OpensAll leg a
 
 -- the image is that of a sure start; or of one that goes on though it is not sure, and begins a
 -- lineage
-pub record IsDegraded (lineage : ℕ) (seen : FoundLegs) (newest sure image : Superblock) : Type 0 where
+pub record IsDegraded (lineage : ℕ) (seen : FoundLegs) (newest sure image : Superblock)
+    : Type 0 where
   pub missing : (leg : ℕ) × IsMissing leg newest seen.found
   pub fork : IsFork lineage sure image
   pub others : image ≡ record sure { lineages = image.lineages; forks = image.forks }

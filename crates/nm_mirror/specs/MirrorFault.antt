@@ -1,7 +1,8 @@
 -- The numbers and texts of the faults for which a mirror's stripes are not opened.
 use Rattle.std.specs.Prelude.{ℕ, List, codes}
 use Rattle.nm_mirror.specs.declared.mirror_fault.MirrorFault.{MirrorFault}
-use Rattle.nm_mirror.specs.declared.mirror_fault.MirrorFault.TheVariants.{Memory, MasterFault, Misfit}
+use Rattle.nm_mirror.specs.declared.mirror_fault.MirrorFault.TheVariants.{Memory}
+use Rattle.nm_mirror.specs.declared.mirror_fault.MirrorFault.TheVariants.{MasterFault, Misfit}
 
 -- the number of each fault
 abbrev pub fault_number : MirrorFault → ℕ

@@ -10,7 +10,8 @@ use Rattle.nm_rules.specs.RunComparing.{FailsOnMasterRun, OpensComparedRuns}
 use Rattle.nm_rules.specs.State.{StripeState}
 use Rattle.nm_mirror.specs.Stripes.{FitNext, place_of}
 use Rattle.nm_mirror.specs.declared.mirror_fault.MirrorFault.{MirrorFault}
-use Rattle.nm_mirror.specs.declared.mirror_fault.MirrorFault.TheVariants.{Memory, MasterFault, Misfit}
+use Rattle.nm_mirror.specs.declared.mirror_fault.MirrorFault.TheVariants.{Memory}
+use Rattle.nm_mirror.specs.declared.mirror_fault.MirrorFault.TheVariants.{MasterFault, Misfit}
 use Rattle.nm_mirror.specs.declared.initial_sync.InitialSync.{InitialSync}
 use Rattle.nm_mirror.specs.declared.initial_sync.InitialSync.TheVariants.{Compare, Full}
 
@@ -28,7 +29,8 @@ start_of legs start = if legs == 1 then Full else start
 
 -- the stripe of this number was opened on these legs: with all legs but the master behind
 -- everywhere, or by comparing them with it
-abbrev pub OpensOn : {L : Type 0} → LegType L → Asked → InitialSync → ℕ → List L → StripeState L → Type 0
+abbrev pub OpensOn : {L : Type 0} → LegType L → Asked → InitialSync → ℕ → List L → StripeState L
+    → Type 0
 OpensOn type asked Full number legs stripe =
     stripe ≡ opened (place_of number asked.shape) legs (2 ^ asked.master) 0 asked.policy
 OpensOn type asked Compare number legs stripe =
@@ -64,8 +66,8 @@ pub record AreAllOpened {L : Type 0} (type : LegType L) (asked : Asked) (legs : 
   pub opened : AreOpened type asked legs stripes
 
 -- why legs that fit the stripe of this number do not open it
-abbrev pub RefusesFitting : {L : Type 0} → LegType L → Asked → InitialSync → ℕ → List L → MirrorFault
-    → Type 0
+abbrev pub RefusesFitting : {L : Type 0} → LegType L → Asked → InitialSync → ℕ → List L
+    → MirrorFault → Type 0
 RefusesFitting type asked start number legs Memory = Unit {0}
 RefusesFitting {L} type asked Compare number legs MasterFault =
     (back : List L)
@@ -84,7 +86,8 @@ RefusesLegs type asked number legs fault =
 
 -- why the stripe of this number is not opened on what the list has there: no legs, though the shape
 -- has such a stripe, or these
-abbrev pub RefusesNext : {L : Type 0} → LegType L → Asked → ℕ → Option (List L) → MirrorFault → Type 0
+abbrev pub RefusesNext : {L : Type 0} → LegType L → Asked → ℕ → Option (List L) → MirrorFault
+    → Type 0
 RefusesNext type asked number None Misfit = number < asked.shape.stripes
 RefusesNext type asked number None fault = ⊥
 RefusesNext type asked number (Some own) fault = RefusesLegs type asked number own fault
