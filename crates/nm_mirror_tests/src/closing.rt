@@ -31,24 +31,6 @@ fn not_closed(
 }
 
 #[test]
-fn a_mirror_is_not_closed_without_its_passes(rt: HostRuntime) -> Result<(), Fail> {
-    let alloc = rt.alloc();
-    let mirror = row(alloc)?;
-    let pass = pass_of(&rt, alloc, &mirror)?;
-    let (mirror, mut passes) = not_closed(alloc, mirror, Vec::new(alloc), 4)?;
-    assert_eq!(rt; passes.len(), 0);
-    passes.push(pass)?;
-    let Ok(totals) = mirror.close(alloc, passes) else {
-        return Err(Fail::new("not closed"));
-    };
-    assert_eq!(rt; totals.ends().len(), 2);
-    for (end, stripe) in totals.ends().iter().zip(0..) {
-        assert_eq!(rt; (end.stripe(), end.total(), end.left()), (stripe, 0, 0));
-    }
-    Ok(())
-}
-
-#[test]
 fn a_pass_of_another_mirror_is_astray(rt: HostRuntime) -> Result<(), Fail> {
     let alloc = rt.alloc();
     let own = row(alloc)?;
@@ -66,23 +48,6 @@ fn a_pass_of_another_mirror_is_astray(rt: HostRuntime) -> Result<(), Fail> {
         ) => Ok(()),
         _ => Err(Fail::new("not astray")),
     }
-}
-
-#[test]
-fn a_mirror_is_not_closed_with_a_pass_of_another(rt: HostRuntime) -> Result<(), Fail> {
-    let alloc = rt.alloc();
-    let own = row(alloc)?;
-    let other = row(alloc)?;
-    let mut pass = pass_of(&rt, alloc, &own)?;
-    let mut passes = Vec::new(alloc);
-    passes.push(pass_of(&rt, alloc, &other)?)?;
-    let mut into = [0; 512];
-    assert!(rt; read_at(&rt, &own, &mut pass, 0, &mut into).is_ok());
-    passes.clear();
-    passes.push(pass)?;
-    let (_, passes) = not_closed(alloc, other, passes, 5)?;
-    assert_eq!(rt; passes.len(), 1);
-    Ok(())
 }
 
 // Stripe 0 is uneven too: it has had an entry that no pass which comes back counted.

@@ -189,24 +189,36 @@ fn gate_master_change(rt: HostRuntime) -> Result<(), Fail> {
         || writes_block_3(&rt, alloc, &mirror, &mut writer, payload),
         || fails_the_master(&rt, &mirror, &mut reader),
     );
-    let gate = mirror.gate();
-    assert!(rt; written && found && gate.meeting.was_in_time());
-    // Refused while the failover is not over, it pushed the write to each of the legs 1 and 2.
+    assert!(rt; written && found);
+    check_counts(&rt, mirror.gate());
+    let entries = [entry(0, Kind::Write(0)), entry(1, Kind::Read)];
+    check_kept(&rt, alloc, &mirror, entries)?;
+    let mut passes = Vec::new(alloc);
+    passes.push(writer)?;
+    passes.push(reader)?;
+    check_end(&rt, alloc, mirror, passes)
+}
+
+/// Looks at what the gate counted. Refused while the failover is not over, the second pass pushed
+/// the write to each of the legs 1 and 2.
+fn check_counts<R: Abort>(rt: &R, gate: &AfterAPush) {
+    assert!(rt; gate.meeting.was_in_time());
     assert_eq!(rt; gate.pushes_of_second.load(Ordering::SeqCst), 2);
     assert_eq!(rt; gate.reads_of_second.load(Ordering::SeqCst), 3);
     assert_eq!(rt; gate.entries_of_first.load(Ordering::SeqCst), 1);
     assert_eq!(rt; gate.entries_of_second.load(Ordering::SeqCst), 1);
-    check_kept(
-        &rt,
-        alloc,
-        &mirror,
-        [entry(0, Kind::Write(0)), entry(1, Kind::Read)],
-    )?;
-    let mut passes = Vec::new(alloc);
-    passes.push(writer)?;
-    passes.push(reader)?;
+}
+
+/// Closes the mirror of one stripe, which has had two entries.
+fn check_end<R: Abort>(
+    rt: &R,
+    alloc: Global,
+    mirror: Mirror<FuseLeg, AfterAPush>,
+    passes: Vec<Pass<FuseLeg>>,
+) -> Result<(), Fail> {
     for end in close_even(alloc, mirror, passes)?.ends() {
-        assert_eq!(rt; (end.total(), end.left()), (2, 0));
+        assert_eq!(rt; end.total(), 2);
+        assert_eq!(rt; end.left(), 0);
     }
     Ok(())
 }
@@ -255,6 +267,20 @@ fn writes_block_4<R: Threads + Wait + Sync + Abort>(
     write_at(rt, alloc, mirror, pass, 4 * 512, payload).is_ok()
 }
 
+/// Takes leg 2 out, writes a block of the second region, and lets the leg join.
+fn leave_behind<R: Threads + Wait + Sync + Abort>(
+    rt: &R,
+    alloc: Global,
+    mirror: &Mirror<FuseLeg, AfterAPush>,
+    pass: &mut Pass<FuseLeg>,
+) -> Result<(), Fail> {
+    assert!(rt; fails(rt, mirror, 2));
+    let early = fill_bytes(alloc, 512, 0xcc)?;
+    assert!(rt; write_at(rt, alloc, mirror, pass, 7 * 512, early).is_ok());
+    assert!(rt; joins(rt, mirror, 2, 4));
+    Ok(())
+}
+
 /// Legs 0 and 1 are in sync, and leg 2 joins with the second region behind. A write of that
 /// region's first block is held after its push to leg 0, while one turn is done: the copy is
 /// refused, and the push to leg 1 is not.
@@ -266,10 +292,7 @@ fn check_turn<R: Threads + Wait + Sync + Abort>(
     let mirror = in_sync(rt, alloc, shape(8, 4, 2, 1, 3)?, AfterAPush::new())?;
     let mut writer = pass_of(rt, alloc, &mirror)?;
     let mut before = pass_of(rt, alloc, &mirror)?;
-    assert!(rt; fails(rt, &mirror, 2));
-    let early = fill_bytes(alloc, 512, 0xcc)?;
-    assert!(rt; write_at(rt, alloc, &mirror, &mut before, 7 * 512, early).is_ok());
-    assert!(rt; joins(rt, &mirror, 2, 4));
+    leave_behind(rt, alloc, &mirror, &mut before)?;
     let payload = fill_bytes(alloc, 512, 0xaa)?;
     let mut round = round_of(alloc, &mirror)?;
     let (written, done) = join(
@@ -277,8 +300,8 @@ fn check_turn<R: Threads + Wait + Sync + Abort>(
         || writes_block_4(rt, alloc, &mirror, &mut writer, payload),
         || turns_beside_a_write(rt, &mirror, &mut round, loses_master),
     );
-    assert!(rt; written && mirror.gate().meeting.was_in_time());
-    assert_eq!(rt; done, 1);
+    let in_time = mirror.gate().meeting.was_in_time();
+    assert!(rt; written && in_time && done == 1);
     assert!(rt; finds(rt, &mirror, &mut before, 4, 0xaa));
     Ok(())
 }

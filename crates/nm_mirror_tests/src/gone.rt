@@ -80,10 +80,21 @@ fn zeroes_of_one_that_goes<R: Threads + Wait + Sync + Abort>(
     let zeroes = count_zeroes(rt, &mirror, &mut pass)?;
     let mut passes = Vec::new(alloc);
     passes.push(pass)?;
+    check_none_left(rt, alloc, mirror, passes)?;
+    Ok(zeroes)
+}
+
+/// Closes the mirror, in which no write is under way.
+fn check_none_left<R: Abort>(
+    rt: &R,
+    alloc: Global,
+    mirror: Mirror<FuseLeg, GoneAfter>,
+    passes: Vec<Pass<FuseLeg>>,
+) -> Result<(), Fail> {
     for end in close_even(alloc, mirror, passes)?.ends() {
         assert_eq!(rt; end.left(), 0);
     }
-    Ok(zeroes)
+    Ok(())
 }
 
 #[test]

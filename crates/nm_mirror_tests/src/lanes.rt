@@ -363,14 +363,24 @@ fn a_call_begins_where_nobody_is(rt: HostRuntime) -> Result<(), Fail> {
             (2, [0, 1, 3, 2]),
             (3, [0, 1, 2, 3]),
         ] {
-            let mut on = open_lanes(&rt, alloc, shape(16, 4, 2, 4, 1)?)?;
-            assert!(rt; taken < on.lanes.len());
-            on.lanes[taken].tell_taken();
-            let seen = stripes_of_a_call(&rt, alloc, &mut on, kind)?;
+            let seen = stripes_beside_one(&rt, alloc, kind, taken)?;
             assert_eq!(rt; seen.as_slice(), &want[..], "stripe {taken} is taken");
         }
     }
     Ok(())
+}
+
+/// The stripes in the order of a call's steps, while this one is told as taken.
+fn stripes_beside_one<R: Threads + Wait + Clock + Sync + Abort>(
+    rt: &R,
+    alloc: Global,
+    kind: CallKind,
+    taken: usize,
+) -> Result<Vec<u32>, Fail> {
+    let mut on = open_lanes(rt, alloc, shape(16, 4, 2, 4, 1)?)?;
+    assert!(rt; taken < on.lanes.len());
+    on.lanes[taken].tell_taken();
+    stripes_of_a_call(rt, alloc, &mut on, kind)
 }
 
 // The same four stripes, none of them taken, beside another long call.
@@ -378,13 +388,23 @@ fn a_call_begins_where_nobody_is(rt: HostRuntime) -> Result<(), Fail> {
 fn a_call_beside_another_goes_one_stripe_after_the_other(rt: HostRuntime) -> Result<(), Fail> {
     let alloc = rt.alloc();
     for kind in [CallKind::Read, CallKind::Write, CallKind::Zero] {
-        let mut on = open_lanes(&rt, alloc, shape(16, 4, 2, 4, 1)?)?;
-        assert!(rt; !on.lanes.is_empty() && !on.locks.is_empty());
-        assert!(rt; on.lanes[0].enter(&on.locks[0]));
-        let seen = stripes_of_a_call(&rt, alloc, &mut on, kind)?;
+        let seen = stripes_beside_a_call(&rt, alloc, kind)?;
         assert_eq!(rt; seen.as_slice(), &[0, 1, 2, 3][..]);
-        assert!(rt; !on.lanes.is_empty());
-        assert_eq!(rt; on.lanes[0].calls(), 1);
     }
     Ok(())
+}
+
+/// The stripes in the order of a call's steps, while another call is counted in stripe 0.
+fn stripes_beside_a_call<R: Threads + Wait + Clock + Sync + Abort>(
+    rt: &R,
+    alloc: Global,
+    kind: CallKind,
+) -> Result<Vec<u32>, Fail> {
+    let mut on = open_lanes(rt, alloc, shape(16, 4, 2, 4, 1)?)?;
+    assert!(rt; !on.lanes.is_empty() && !on.locks.is_empty());
+    assert!(rt; on.lanes[0].enter(&on.locks[0]));
+    let seen = stripes_of_a_call(rt, alloc, &mut on, kind)?;
+    assert!(rt; !on.lanes.is_empty());
+    assert_eq!(rt; on.lanes[0].calls(), 1);
+    Ok(seen)
 }

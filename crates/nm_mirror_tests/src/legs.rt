@@ -1,6 +1,6 @@
 //! A leg that is taken out of every stripe, and joins again.
 
-use crate::mirrors::{round_of, shape, turn, zeroes};
+use crate::mirrors::{check_status, round_of, shape, turn, zeroes};
 use nm_lanes::NoGate;
 use nm_leg::FuseLeg;
 use nm_mirror::{AttachCounts, FailCounts, Mirror};
@@ -8,21 +8,6 @@ use std::alloc::Global;
 use std::process::Abort;
 use std::sync::Wait;
 use std::test::Fail;
-
-/// Looks at what is told of each stripe.
-fn check_states<R: Wait + Abort>(
-    rt: &R,
-    alloc: Global,
-    mirror: &Mirror<FuseLeg, NoGate>,
-    text: &str,
-) -> Result<(), Fail> {
-    let told = mirror.status(rt, alloc)?;
-    assert_eq!(rt; told.len(), 2);
-    for stripe in &told {
-        assert_eq!(rt; stripe.to_string(alloc)?.as_str(), text);
-    }
-    Ok(())
-}
 
 /// Takes a leg out.
 fn fail<R: Wait + Abort>(
@@ -52,7 +37,8 @@ fn a_leg_is_taken_out_of_each_stripe_once(rt: HostRuntime) -> Result<(), Fail> {
     assert_eq!(rt; fail(&rt, &mirror, 1)?, FailCounts { failed: 2, ..none });
     assert_eq!(rt; fail(&rt, &mirror, 1)?, FailCounts { out: 2, ..none });
     assert_eq!(rt; fail(&rt, &mirror, 0)?, FailCounts { last: 2, ..none });
-    check_states(&rt, alloc, &mirror, "master 0 settling no legs in out")
+    let text = "master 0 settling no legs in out";
+    check_status(&rt, alloc, &mirror, &[text, text])
 }
 
 #[test]
@@ -72,12 +58,8 @@ fn a_leg_that_is_out_joins_again(rt: HostRuntime) -> Result<(), Fail> {
         ..none
     };
     assert_eq!(rt; attach(&rt, &mirror, 1)?, again);
-    check_states(
-        &rt,
-        alloc,
-        &mirror,
-        "master 0 settling no legs in join(1024)",
-    )
+    let text = "master 0 settling no legs in join(1024)";
+    check_status(&rt, alloc, &mirror, &[text, text])
 }
 
 #[test]
@@ -90,7 +72,8 @@ fn a_joining_leg_is_copied_to_and_called_in_sync(rt: HostRuntime) -> Result<(), 
         assert_eq!(rt; turn(&rt, &mirror, &mut round), 2);
     }
     assert_eq!(rt; turn(&rt, &mirror, &mut round), 0);
-    check_states(&rt, alloc, &mirror, "master 0 settling no legs in in")
+    let text = "master 0 settling no legs in in";
+    check_status(&rt, alloc, &mirror, &[text, text])
 }
 
 // The copy to leg 2 meets that to leg 1, and helps it. So a chunk of two blocks is read and written
@@ -105,7 +88,7 @@ fn a_turn_helps_the_copy_that_stands_in_its_way(rt: HostRuntime) -> Result<(), F
         "master 0 settling no legs in join(0) join(4)",
     ] {
         assert_eq!(rt; turn(&rt, &mirror, &mut round), 4);
-        check_states(&rt, alloc, &mirror, text)?;
+        check_status(&rt, alloc, &mirror, &[text, text])?;
     }
     Ok(())
 }

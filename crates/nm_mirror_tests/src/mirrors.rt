@@ -313,6 +313,21 @@ pub fn sync_touched<R: Threads + Wait + Sync + Abort, L: LegPart + Send, G: Gate
     mirror.sync_touched(rt, pass, offset, len)
 }
 
+/// Looks at what is told of the stripes: a text each.
+pub fn check_status<R: Wait + Abort, L: LegPart, G: Gate + Drop>(
+    rt: &R,
+    alloc: Global,
+    mirror: &Mirror<L, G>,
+    texts: &[&str],
+) -> Result<(), Fail> {
+    let told = mirror.status(rt, alloc)?;
+    assert_eq!(rt; told.len(), texts.len());
+    for (stripe, text) in told.iter().zip(texts) {
+        assert_eq!(rt; stripe.to_string(alloc)?.as_str(), *text);
+    }
+    Ok(())
+}
+
 /// Closes the mirror where it is to be even.
 pub fn close_even<L: LegPart, G: Gate + Drop>(
     alloc: Global,

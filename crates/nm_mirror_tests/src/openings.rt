@@ -1,5 +1,6 @@
 //! Mirrors whose stripes open under another leg than the first, and are read by region.
-use crate::mirrors::{Opening, mirror_from, pass_of, read_at, shape};
+use crate::gates::finds;
+use crate::mirrors::{Opening, check_status, mirror_from, pass_of, read_at, shape};
 use nm_geometry::Shape;
 use nm_lanes::NoGate;
 use nm_leg::FuseLeg;
@@ -41,27 +42,12 @@ fn open_mirror(alloc: Global, start: InitialSync) -> Result<Mirror<FuseLeg, NoGa
     mirror_from(alloc, shape, legs, opening, NoGate)
 }
 
-/// Looks at what is told of each stripe.
-fn check_told<R: Wait + Abort>(
-    rt: &R,
-    alloc: Global,
-    mirror: &Mirror<FuseLeg, NoGate>,
-    texts: [&str; 3],
-) -> Result<(), Fail> {
-    let told = mirror.status(rt, alloc)?;
-    assert_eq!(rt; told.len(), 3);
-    for (stripe, text) in told.iter().zip(texts) {
-        assert_eq!(rt; stripe.to_string(alloc)?.as_str(), text);
-    }
-    Ok(())
-}
-
 #[test]
 fn each_stripe_opens_under_the_leg_that_was_asked_for(rt: HostRuntime) -> Result<(), Fail> {
     let alloc = rt.alloc();
     let mirror = open_mirror(alloc, InitialSync::Full)?;
     let text = "master 1 settling no legs join(8) in";
-    check_told(&rt, alloc, &mirror, [text, text, text])
+    check_status(&rt, alloc, &mirror, &[text, text, text])
 }
 
 // Both legs are current in both regions. In turn, each second read would take leg 0.
@@ -76,10 +62,8 @@ fn each_region_is_read_from_its_own_leg(rt: HostRuntime) -> Result<(), Fail> {
     let mut row = [0x55; 3 * REGION_BYTES];
     let behind = 3 * REGION_BYTES as u64;
     assert!(rt; read_at(&rt, &mirror, &mut pass, behind, &mut row).is_ok());
-    check_told(&rt, alloc, &mirror, [joins, joins, joins])?;
+    check_status(&rt, alloc, &mirror, &[joins, joins, joins])?;
     // A read in region 0 of stripe 1 is leg 0's, which fails; leg 1 is asked then.
-    let mut block = [0x55; 512];
-    assert!(rt; read_at(&rt, &mirror, &mut pass, REGION_BYTES as u64, &mut block).is_ok());
-    assert!(rt; block.iter().all(|byte| *byte == 0));
-    check_told(&rt, alloc, &mirror, [joins, out, joins])
+    assert!(rt; finds(&rt, &mirror, &mut pass, 4, 0));
+    check_status(&rt, alloc, &mirror, &[joins, out, joins])
 }

@@ -2,7 +2,9 @@
 
 use crate::gates::{count, finds};
 use crate::meeting::{Meeting, TURNS};
-use crate::mirrors::{fill_bytes, mirror_of, pass_of, round_of, shape, turn, write_at, zeroes};
+use crate::mirrors::{
+    check_status, fill_bytes, mirror_of, pass_of, round_of, shape, turn, write_at, zeroes,
+};
 use nm_lanes::{CallKind, Gate, NoGate, Place, StepKind};
 use nm_leg::{Hold, HoldLeg, MemLeg};
 use nm_mirror::{Mirror, Pass};
@@ -51,6 +53,12 @@ impl Gate for Counting {
     }
 }
 
+/// Looks whether a write began twice, and copied once.
+fn check_counts<R: Abort>(rt: &R, gate: &Counting) {
+    assert_eq!(rt; gate.begins.load(Ordering::SeqCst), 2);
+    assert_eq!(rt; gate.copies.load(Ordering::SeqCst), 1);
+}
+
 // A write copies the chunk that stands in its way.
 #[test]
 fn gate_copy(rt: HostRuntime) -> Result<(), Fail> {
@@ -65,12 +73,13 @@ fn gate_copy(rt: HostRuntime) -> Result<(), Fail> {
     assert_eq!(rt; turn(&rt, &mirror, &mut round), 1);
     let payload = fill_bytes(alloc, 512, 0xbb)?;
     assert!(rt; write_at(&rt, alloc, &mirror, &mut pass, 0, payload).is_ok());
-    assert_eq!(rt; mirror.gate().begins.load(Ordering::SeqCst), 2);
-    assert_eq!(rt; mirror.gate().copies.load(Ordering::SeqCst), 1);
-    for told in &mirror.status(&rt, alloc)? {
-        let text = told.to_string(alloc)?;
-        assert_eq!(rt; text.as_str(), "master 0 settling no legs in join(6)");
-    }
+    check_counts(&rt, mirror.gate());
+    check_status(
+        &rt,
+        alloc,
+        &mirror,
+        &["master 0 settling no legs in join(6)"],
+    )?;
     assert!(rt; finds(&rt, &mirror, &mut pass, 0, 0xbb));
     Ok(())
 }

@@ -51,6 +51,22 @@ fn flush_each<R: Threads + Wait + Sync + Abort>(rt: &R, server: &mut Server) -> 
 }
 
 impl Play {
+    /// A mirror of so many legs on a new machine.
+    fn new(alloc: Global, legs: u8, seed: u64) -> Result<Play, Fail> {
+        let chance = Chance { state: !seed };
+        let machine = Machine::new(alloc, legs.saturating_mul(2), chance)?;
+        let machine = Arc::new(alloc, Mutex::new(machine))?;
+        let shape = shape(BLOCKS, 2, 1, 2, legs)?;
+        make_first(alloc, &machine, &shape)?;
+        Ok(Play {
+            alloc,
+            machine,
+            shape,
+            chance: Chance { state: seed },
+            client: Client::new(),
+        })
+    }
+
     /// The machine stops after so many calls, and no call fails before.
     fn stop_after(&self, calls: u64) {
         if let Some(mut machine) = self.machine.try_lock() {
@@ -109,14 +125,19 @@ impl Play {
             assert!(rt; server.save(rt));
         }
         assert!(rt; server.is_in_sync(rt, self.alloc)?);
+        self.check_legs(rt);
+        self.client.healed = self.client.healed.saturating_add(1);
+        Ok(())
+    }
+
+    /// Looks whether each leg's file holds what was answered last.
+    fn check_legs<R: Abort>(&self, rt: &R) {
         for leg in 0..self.shape.legs {
             for (block, held) in self.client.answered.iter().enumerate() {
                 let word = self.word_on(leg, block);
                 assert_eq!(rt; word, Some(held.word), "leg {leg}, block {block}");
             }
         }
-        self.client.healed = self.client.healed.saturating_add(1);
-        Ok(())
     }
 
     /// Writes some blocks, with the saves that it needs.
@@ -210,19 +231,24 @@ impl Play {
         Ok(())
     }
 
+    /// Now and then the machine stops in a start. Whether the power was lost so.
+    fn crash_in_a_start<R: Wait + Abort>(&mut self, rt: &R) -> Result<bool, Fail> {
+        if self.chance.below(3) > 0 {
+            return Ok(false);
+        }
+        let calls = self.chance.below(16).saturating_add(1);
+        self.stop_after(calls);
+        drop(start(rt, self.alloc, &self.machine, &self.shape)?);
+        Ok(self.crash())
+    }
+
     /// Starts after a crash. Where the machine stops in the start, it starts again.
     fn start<R: Threads + Wait + Sync + Abort>(
         &mut self,
         rt: &R,
         was_power: bool,
     ) -> Result<Server, Fail> {
-        let mut is_power = was_power;
-        if self.chance.below(3) == 0 {
-            let calls = self.chance.below(16).saturating_add(1);
-            self.stop_after(calls);
-            drop(start(rt, self.alloc, &self.machine, &self.shape)?);
-            is_power = self.crash() || is_power;
-        }
+        let is_power = self.crash_in_a_start(rt)? || was_power;
         let mut server = start(rt, self.alloc, &self.machine, &self.shape)?.ok_or("not started")?;
         self.check(rt, &mut server, is_power)?;
         if self.chance.below(3) == 0 {
@@ -248,6 +274,19 @@ impl Play {
         }
         Ok(self.crash())
     }
+
+    /// Lives again and again, until the power was lost often enough, and heals at last.
+    fn live_often<R: Threads + Wait + Sync + Abort>(&mut self, rt: &R) -> Result<(), Fail> {
+        let mut was_power = true;
+        for _ in 0..LIVES {
+            if self.client.losses >= LOSSES {
+                break;
+            }
+            was_power = self.live(rt, was_power)?;
+        }
+        let mut server = self.start(rt, was_power)?;
+        self.heal(rt, &mut server)
+    }
 }
 
 /// Loses a mirror of so many legs again and again.
@@ -257,27 +296,8 @@ fn lose_often<R: Threads + Wait + Sync + Abort>(
     legs: u8,
     seed: u64,
 ) -> Result<(), Fail> {
-    let chance = Chance { state: !seed };
-    let machine = Machine::new(alloc, legs.saturating_mul(2), chance)?;
-    let machine = Arc::new(alloc, Mutex::new(machine))?;
-    let shape = shape(BLOCKS, 2, 1, 2, legs)?;
-    make_first(alloc, &machine, &shape)?;
-    let mut play = Play {
-        alloc,
-        machine,
-        shape,
-        chance: Chance { state: seed },
-        client: Client::new(),
-    };
-    let mut was_power = true;
-    for _ in 0..LIVES {
-        if play.client.losses >= LOSSES {
-            break;
-        }
-        was_power = play.live(rt, was_power)?;
-    }
-    let mut server = play.start(rt, was_power)?;
-    play.heal(rt, &mut server)?;
+    let mut play = Play::new(alloc, legs, seed)?;
+    play.live_often(rt)?;
     let client = &play.client;
     assert!(rt; client.losses >= LOSSES && client.healed >= 5);
     assert!(rt; client.written >= 30 && client.flushes >= 15);

@@ -1,8 +1,9 @@
 //! Stripes that stopped and are opened anew.
 
+use crate::gates::finds;
 use crate::mirrors::{
-    FIRST, Opening, close_even, fill_bytes, flush, mirror_from, pass_of, read_at, round_of, shape,
-    turn_until_idle, write_at,
+    FIRST, Opening, check_status, close_even, fill_bytes, flush, mirror_from, pass_of, round_of,
+    shape, turn_until_idle, write_at,
 };
 use bytes::Bytes;
 use nm_lanes::{CallErrorKind, Gate, NoGate, Place, StepKind, WriteFault};
@@ -84,36 +85,92 @@ fn reopen<R: Wait + Abort, G: Gate + Drop>(
     mirror.reopen(rt, alloc, 0, legs, Policy::RoundRobin)
 }
 
-// One write is done and claimed; the second one fails on the only leg.
+/// Does one write, which is claimed, and one that fails on the last leg, so that the stripe stops.
+fn stop<R: Threads + Wait + Sync + Abort>(
+    rt: &R,
+    alloc: Global,
+    mirror: &Mirror<FuseLeg, NoGate>,
+    pass: &mut Pass<FuseLeg>,
+) -> Result<(), Fail> {
+    assert!(rt; put(rt, alloc, mirror, pass, 0, 5)?.is_none());
+    assert!(rt; put(rt, alloc, mirror, pass, 1, 6)?.is_some());
+    Ok(())
+}
+
+/// Writes block 2, which is to be refused since the stripe has stopped.
+fn check_stopped<R: Threads + Wait + Sync + Abort>(
+    rt: &R,
+    alloc: Global,
+    mirror: &Mirror<FuseLeg, NoGate>,
+    pass: &mut Pass<FuseLeg>,
+) -> Result<(), Fail> {
+    let ended = put(rt, alloc, mirror, pass, 2, 7)?;
+    assert!(rt; ended == Some(CallErrorKind::Stopped));
+    Ok(())
+}
+
+/// Looks whether the stripe holds nines, as its leg does, and goes on.
+fn check_goes_on<R: Threads + Wait + Sync + Abort>(
+    rt: &R,
+    alloc: Global,
+    mirror: &Mirror<FuseLeg, NoGate>,
+    pass: &mut Pass<FuseLeg>,
+) -> Result<(), Fail> {
+    assert!(rt; finds(rt, mirror, pass, 1, 9));
+    assert!(rt; put(rt, alloc, mirror, pass, 2, 7)?.is_none());
+    assert!(rt; finds(rt, mirror, pass, 2, 7));
+    assert!(rt; flush(rt, mirror, pass).is_ok());
+    Ok(())
+}
+
+/// Looks at the numbers of the entries that the only stripe keeps: 1 to 3.
+fn check_numbers<R: Wait + Abort>(
+    rt: &R,
+    alloc: Global,
+    mirror: &Mirror<FuseLeg, NoGate>,
+) -> Result<(), Fail> {
+    assert!(rt; mirror.shape().stripes > 0);
+    let kept = mirror.kept(rt, alloc, 0)?;
+    assert_eq!(rt; kept.len(), 3);
+    for (entry, number) in kept.iter().zip(1..) {
+        assert_eq!(rt; entry.seq, number);
+    }
+    Ok(())
+}
+
+/// Closes the mirror of one stripe, which has had so many entries, was left with so many writes
+/// under way, and has landed none.
+fn check_end<R: Abort, G: Gate + Drop>(
+    rt: &R,
+    alloc: Global,
+    mirror: Mirror<FuseLeg, G>,
+    passes: Vec<Pass<FuseLeg>>,
+    entries: u64,
+    left: u64,
+) -> Result<(), Fail> {
+    for end in close_even(alloc, mirror, passes)?.ends() {
+        assert_eq!(rt; end.total(), entries);
+        assert_eq!(rt; end.left(), left);
+        assert_eq!(rt; end.landed(), 0);
+    }
+    Ok(())
+}
+
+// A write before the stop has number 0; a read, a write and a read since go on from 1.
 #[test]
 fn a_stripe_that_stopped_goes_on_from_its_leg(rt: HostRuntime) -> Result<(), Fail> {
     let alloc = rt.alloc();
     let mirror = failing(alloc, 1, 2, NoGate)?;
     let mut pass = pass_of(&rt, alloc, &mirror)?;
-    assert!(rt; put(&rt, alloc, &mirror, &mut pass, 0, 5)?.is_none());
-    assert!(rt; put(&rt, alloc, &mirror, &mut pass, 1, 6)?.is_some());
-    assert!(rt; put(&rt, alloc, &mirror, &mut pass, 2, 7)? == Some(CallErrorKind::Stopped));
-    assert!(rt; reopen(&rt, alloc, &mirror, one_leg(alloc, 9)?) == Reopened::Opened(0));
-    // It holds what its leg holds, and goes on.
-    let mut found = [0; 512];
-    assert!(rt; read_at(&rt, &mirror, &mut pass, 512, &mut found).is_ok());
-    assert_eq!(rt; found, [9; 512]);
-    assert!(rt; put(&rt, alloc, &mirror, &mut pass, 2, 7)?.is_none());
-    assert!(rt; read_at(&rt, &mirror, &mut pass, 1024, &mut found).is_ok());
-    assert_eq!(rt; found, [7; 512]);
-    assert!(rt; flush(&rt, &mirror, &mut pass).is_ok());
-    // The first write has number 0; a read, a write and a read since go on from 1.
-    let kept = mirror.kept(&rt, alloc, 0)?;
-    assert_eq!(rt; kept.len(), 3);
-    for (entry, number) in kept.iter().zip(1..) {
-        assert_eq!(rt; entry.seq, number);
-    }
+    stop(&rt, alloc, &mirror, &mut pass)?;
+    check_stopped(&rt, alloc, &mirror, &mut pass)?;
+    let legs = one_leg(alloc, 9)?;
+    assert!(rt; reopen(&rt, alloc, &mirror, legs) == Reopened::Opened(0));
+    check_goes_on(&rt, alloc, &mirror, &mut pass)?;
+    check_numbers(&rt, alloc, &mirror)?;
     let mut passes = Vec::new(alloc);
     passes.push(pass)?;
-    for end in close_even(alloc, mirror, passes)?.ends() {
-        assert_eq!(rt; (end.total(), end.left(), end.landed()), (4, 1, 0));
-    }
-    Ok(())
+    check_end(&rt, alloc, mirror, passes, 4, 1)
 }
 
 #[test]
@@ -122,9 +179,7 @@ fn a_stripe_that_runs_is_left_as_it_is(rt: HostRuntime) -> Result<(), Fail> {
     let mirror = failing(alloc, 1, 2, NoGate)?;
     let mut pass = pass_of(&rt, alloc, &mirror)?;
     assert!(rt; reopen(&rt, alloc, &mirror, one_leg(alloc, 9)?) == Reopened::Runs);
-    let mut found = [0; 512];
-    assert!(rt; read_at(&rt, &mirror, &mut pass, 512, &mut found).is_ok());
-    assert_eq!(rt; found, [1; 512]);
+    assert!(rt; finds(&rt, &mirror, &mut pass, 1, 1));
     Ok(())
 }
 
@@ -134,20 +189,13 @@ fn the_other_leg_joins_from_the_one_it_stopped_on(rt: HostRuntime) -> Result<(),
     let alloc = rt.alloc();
     let mirror = failing(alloc, 2, 2, NoGate)?;
     let mut pass = pass_of(&rt, alloc, &mirror)?;
-    assert!(rt; put(&rt, alloc, &mirror, &mut pass, 0, 5)?.is_none());
-    assert!(rt; put(&rt, alloc, &mirror, &mut pass, 1, 6)?.is_some());
+    stop(&rt, alloc, &mirror, &mut pass)?;
     let legs = legs_with(alloc, 8, 3, 4)?;
     assert!(rt; reopen(&rt, alloc, &mirror, legs) == Reopened::Opened(8));
-    let mut found = [0; 512];
-    assert!(rt; read_at(&rt, &mirror, &mut pass, 0, &mut found).is_ok());
-    assert_eq!(rt; found, [4; 512]);
+    assert!(rt; finds(&rt, &mirror, &mut pass, 0, 4));
     let mut round = round_of(alloc, &mirror)?;
     turn_until_idle(&rt, &mirror, &mut round);
-    for stripe in &mirror.status(&rt, alloc)? {
-        let text = stripe.to_string(alloc)?;
-        assert_eq!(rt; text.as_str(), "master 1 settling no legs in in");
-    }
-    Ok(())
+    check_status(&rt, alloc, &mirror, &["master 1 settling no legs in in"])
 }
 
 #[test]
@@ -155,15 +203,13 @@ fn legs_that_do_not_fit_leave_it_stopped(rt: HostRuntime) -> Result<(), Fail> {
     let alloc = rt.alloc();
     let mirror = failing(alloc, 1, 2, NoGate)?;
     let mut pass = pass_of(&rt, alloc, &mirror)?;
-    assert!(rt; put(&rt, alloc, &mirror, &mut pass, 0, 5)?.is_none());
-    assert!(rt; put(&rt, alloc, &mirror, &mut pass, 1, 6)?.is_some());
+    stop(&rt, alloc, &mirror, &mut pass)?;
     let two = legs_with(alloc, 8, 3, 4)?;
     assert!(rt; reopen(&rt, alloc, &mirror, two) == Reopened::Stays);
     let mut short = Vec::new(alloc);
     short.push(FuseLeg::new(alloc, 7)?)?;
     assert!(rt; reopen(&rt, alloc, &mirror, short) == Reopened::Stays);
-    assert!(rt; put(&rt, alloc, &mirror, &mut pass, 2, 7)? == Some(CallErrorKind::Stopped));
-    Ok(())
+    check_stopped(&rt, alloc, &mirror, &mut pass)
 }
 
 /// Holds the first pass once its write has begun until the second has pushed a write of its own to
@@ -262,8 +308,5 @@ fn an_old_ticket_is_refused(rt: HostRuntime) -> Result<(), Fail> {
     passes.push(old)?;
     passes.push(new)?;
     // Two writes were left as the first opening ended, and one is claimed in the second.
-    for end in close_even(alloc, mirror, passes)?.ends() {
-        assert_eq!(rt; (end.total(), end.left(), end.landed()), (1, 2, 0));
-    }
-    Ok(())
+    check_end(&rt, alloc, mirror, passes, 1, 2)
 }

@@ -136,6 +136,34 @@ fn all_legs(alloc: Global, machine: &SharedMachine, shape: &Shape) -> Result<Vec
     Ok(all)
 }
 
+/// How each stripe opens by the image.
+fn stripe_starts(
+    alloc: Global,
+    shape: &Shape,
+    image: &Superblock,
+    here: &[bool; 8],
+) -> Result<Vec<StripeStart>, Fail> {
+    let mut starts = Vec::new(alloc);
+    for stripe in 0..shape.stripes.min(64) as usize {
+        starts.push(stripe_start(image, stripe, here).ok_or("no master")?)?;
+    }
+    Ok(starts)
+}
+
+/// What an image says of each stripe.
+fn states_of<R: Abort>(
+    rt: &R,
+    alloc: Global,
+    shape: &Shape,
+    image: &Superblock,
+) -> Result<Vec<DurableState>, Fail> {
+    let mut states = Vec::new(alloc);
+    for stripe in 0..shape.stripes.min(64) as usize {
+        states.push(state_of(rt, alloc, image, stripe)?)?;
+    }
+    Ok(states)
+}
+
 /// The stripes as they open by the image, behind their gates.
 fn open_by_image<R: Abort>(
     rt: &R,
@@ -145,11 +173,8 @@ fn open_by_image<R: Abort>(
     image: &Superblock,
     here: &[bool; 8],
 ) -> Result<Mirror<Leg, NoGate>, Fail> {
-    let (mut starts, mut states) = (Vec::new(alloc), Vec::new(alloc));
-    for stripe in 0..shape.stripes.min(64) as usize {
-        starts.push(stripe_start(image, stripe, here).ok_or("no master")?)?;
-        states.push(state_of(rt, alloc, image, stripe)?)?;
-    }
+    let starts = stripe_starts(alloc, shape, image, here)?;
+    let states = states_of(rt, alloc, shape, image)?;
     let marks = marks_of(alloc, image)?;
     let legs = all_legs(alloc, machine, shape)?;
     let (span, policy) = (u64::from(SPAN), Policy::RoundRobin);
@@ -166,6 +191,22 @@ fn open_by_image<R: Abort>(
     }
 }
 
+/// Opens the superblocks' files that can be read, and says whose legs' files are here.
+fn open_files(
+    alloc: Global,
+    machine: &SharedMachine,
+    shape: &Shape,
+) -> Result<(Vec<Option<SuperblockFile<MachineFile>>>, [bool; 8]), Fail> {
+    let (mut files, mut here) = (Vec::new(alloc), [false; 8]);
+    for leg in 0..shape.legs.min(8) {
+        let mut own = MachineFile::new(machine, leg)?;
+        here[leg as usize] = Medium::sync(&mut own).is_ok();
+        let file = MachineFile::new(machine, shape.legs.saturating_add(leg))?;
+        files.push(SuperblockFile::open(file).ok())?;
+    }
+    Ok((files, here))
+}
+
 /// Starts on the machine, as a start does that finds all files: none where the machine stops
 /// meanwhile, and else it is never refused. No call of the mirror waits for a save: one that needs
 /// a save fails, and asks for it.
@@ -175,13 +216,7 @@ pub fn start<R: Wait + Abort>(
     machine: &SharedMachine,
     shape: &Shape,
 ) -> Result<Option<Server>, Fail> {
-    let (mut files, mut here) = (Vec::new(alloc), [false; 8]);
-    for leg in 0..shape.legs.min(8) {
-        let mut own = MachineFile::new(machine, leg)?;
-        here[leg as usize] = Medium::sync(&mut own).is_ok();
-        let file = MachineFile::new(machine, shape.legs.saturating_add(leg))?;
-        files.push(SuperblockFile::open(file).ok())?;
-    }
+    let (files, here) = open_files(alloc, machine, shape)?;
     if has_stopped(machine) {
         return Ok(None);
     }

@@ -86,6 +86,19 @@ fn hold_calls(both: &BothCalled) {
     both.second.store(0, Ordering::SeqCst);
 }
 
+/// Looks whether both stripes' legs were called, and neither waited for its last look.
+fn check_met<R: Abort>(rt: &R, both: &BothCalled) {
+    assert_eq!(rt; both.first.load(Ordering::SeqCst), 1);
+    assert_eq!(rt; both.second.load(Ordering::SeqCst), 1);
+    assert!(rt; both.looks.load(Ordering::SeqCst) < LOOKS as u64);
+}
+
+/// Looks whether the first stripe's call looked in vain 20 times before the second's began.
+fn check_in_a_row<R: Abort>(rt: &R, both: &BothCalled) {
+    assert_eq!(rt; both.second.load(Ordering::SeqCst), 1);
+    assert_eq!(rt; both.looks.load(Ordering::SeqCst), 20);
+}
+
 // One stripe after the other: the first call goes on after its last look, and the test fails.
 #[test]
 fn a_flush_syncs_two_stripes_at_once(rt: HostRuntime) -> Result<(), Fail> {
@@ -99,9 +112,7 @@ fn a_flush_syncs_two_stripes_at_once(rt: HostRuntime) -> Result<(), Fail> {
     }
     hold_calls(&both);
     assert!(rt; flush(&rt, &mirror, &mut pass).is_ok());
-    assert_eq!(rt; both.first.load(Ordering::SeqCst), 1);
-    assert_eq!(rt; both.second.load(Ordering::SeqCst), 1);
-    assert!(rt; both.looks.load(Ordering::SeqCst) < LOOKS as u64);
+    check_met(&rt, &both);
     Ok(())
 }
 
@@ -114,8 +125,7 @@ fn a_flush_of_stripes_without_writes_starts_no_thread(rt: HostRuntime) -> Result
     let mut pass = pass_of(&rt, alloc, &mirror)?;
     hold_calls(&both);
     assert!(rt; flush(&rt, &mirror, &mut pass).is_ok());
-    assert_eq!(rt; both.second.load(Ordering::SeqCst), 1);
-    assert_eq!(rt; both.looks.load(Ordering::SeqCst), 20);
+    check_in_a_row(&rt, &both);
     Ok(())
 }
 
@@ -130,8 +140,7 @@ fn a_mirror_kept_to_one_thread_starts_none(rt: HostRuntime) -> Result<(), Fail> 
     hold_calls(&both);
     let payload = fill_bytes(alloc, 8 * 512, 7)?;
     assert!(rt; write_at(&rt, alloc, &mirror, &mut pass, 0, payload).is_ok());
-    assert_eq!(rt; both.second.load(Ordering::SeqCst), 1);
-    assert_eq!(rt; both.looks.load(Ordering::SeqCst), 20);
+    check_in_a_row(&rt, &both);
     Ok(())
 }
 
@@ -219,6 +228,12 @@ fn mirror_that_counts<'a>(
     )
 }
 
+/// Looks whether the second stripe's blocks were done before the first's last look.
+fn check_done<R: Abort>(rt: &R, told: &Told) {
+    assert_eq!(rt; told.steps.load(Ordering::SeqCst), STEPS);
+    assert!(rt; told.looks.load(Ordering::SeqCst) < LOOKS as u64);
+}
+
 // One piece after the other: the first call goes on after its last look, and the test fails.
 #[test]
 fn gate_two_pieces(rt: HostRuntime) -> Result<(), Fail> {
@@ -229,8 +244,7 @@ fn gate_two_pieces(rt: HostRuntime) -> Result<(), Fail> {
     told.steps.store(0, Ordering::SeqCst);
     let payload = fill_bytes(alloc, 8 * 512, 7)?;
     assert!(rt; write_at(&rt, alloc, &mirror, &mut pass, 0, payload).is_ok());
-    assert_eq!(rt; told.steps.load(Ordering::SeqCst), STEPS);
-    assert!(rt; told.looks.load(Ordering::SeqCst) < LOOKS as u64);
+    check_done(&rt, &told);
     Ok(())
 }
 
@@ -243,14 +257,11 @@ fn a_read_is_at_work_in_two_stripes_at_once(rt: HostRuntime) -> Result<(), Fail>
     let mut pass = pass_of(&rt, alloc, &mirror)?;
     let mut into = Vec::new(alloc);
     into.resize(8 * 512, 255)?;
-    assert!(rt; read_at(&rt, &mirror, &mut pass, 0, &mut into).is_ok());
+    assert!(rt; reads_zeroes(&rt, &mirror, &mut pass, 0, &mut into));
     told.steps.store(0, Ordering::SeqCst);
-    assert!(rt; read_at(&rt, &mirror, &mut pass, 0, &mut into).is_ok());
-    for byte in into.iter() {
-        assert_eq!(rt; *byte, 0);
-    }
-    assert_eq!(rt; told.steps.load(Ordering::SeqCst), STEPS);
-    assert!(rt; told.looks.load(Ordering::SeqCst) < LOOKS as u64);
+    into.fill(255);
+    assert!(rt; reads_zeroes(&rt, &mirror, &mut pass, 0, &mut into));
+    check_done(&rt, &told);
     Ok(())
 }
 
@@ -294,9 +305,7 @@ fn a_read_begins_in_the_stripe_that_nobody_has(rt: HostRuntime) -> Result<(), Fa
             reads_zeroes(&rt, &mirror, &mut reader, 512, &mut others)
         },
     );
-    assert!(rt; held && read);
-    assert_eq!(rt; told.steps.load(Ordering::SeqCst), STEPS);
-    assert!(rt; told.looks.load(Ordering::SeqCst) > 0);
-    assert!(rt; told.looks.load(Ordering::SeqCst) < LOOKS as u64);
+    assert!(rt; held && read && told.looks.load(Ordering::SeqCst) > 0);
+    check_done(&rt, &told);
     Ok(())
 }

@@ -63,19 +63,41 @@ fn blocks_of_two_regions_are_written_zeroed_and_read(rt: HostRuntime) -> Result<
     let alloc = rt.alloc();
     let mirror = in_sync(&rt, alloc, shape(2050, 128, 8, 2, 2)?, NoGate)?;
     let mut pass = pass_of(&rt, alloc, &mirror)?;
-    let payload = fill_bytes(alloc, 1536, 0xaa)?;
-    assert!(rt; write(&rt, alloc, &mirror, &mut pass, 127, payload).is_ok());
-    assert!(rt; zero(&rt, &mirror, &mut pass, 128, 1).is_ok());
-    let mut into = [0x55; 1536];
-    assert!(rt; read(&rt, &mirror, &mut pass, 127, &mut into).is_ok());
-    let mut wanted = [0xaa; 1536];
-    wanted[512..1024].fill(0);
-    assert!(rt; into == wanted);
+    check_three_blocks(&rt, alloc, &mirror, &mut pass)?;
     calls_of_no_blocks(&rt, alloc, &mirror, &mut pass)?;
     let mut passes = Vec::new(alloc);
     passes.push(pass)?;
+    check_ends(&rt, alloc, mirror, passes)
+}
+
+/// Writes three blocks, zeroes the second, and reads all.
+fn check_three_blocks<R: Threads + Wait + Sync + Abort>(
+    rt: &R,
+    alloc: Global,
+    mirror: &Row,
+    pass: &mut Pass<FuseLeg>,
+) -> Result<(), Fail> {
+    let payload = fill_bytes(alloc, 1536, 0xaa)?;
+    assert!(rt; write(rt, alloc, mirror, pass, 127, payload).is_ok());
+    assert!(rt; zero(rt, mirror, pass, 128, 1).is_ok());
+    let mut into = [0x55; 1536];
+    assert!(rt; read(rt, mirror, pass, 127, &mut into).is_ok());
+    let mut wanted = [0xaa; 1536];
+    wanted[512..1024].fill(0);
+    assert!(rt; into == wanted);
+    Ok(())
+}
+
+/// Closes the mirror, whose stripes have had two and five entries.
+fn check_ends<R: Abort>(
+    rt: &R,
+    alloc: Global,
+    mirror: Row,
+    passes: Vec<Pass<FuseLeg>>,
+) -> Result<(), Fail> {
     for (end, total) in close_even(alloc, mirror, passes)?.ends().iter().zip([2, 5]) {
-        assert_eq!(rt; (end.total(), end.left()), (total, 0));
+        assert_eq!(rt; end.total(), total);
+        assert_eq!(rt; end.left(), 0);
     }
     Ok(())
 }

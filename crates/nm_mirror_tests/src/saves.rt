@@ -1,7 +1,8 @@
 //! A mirror with superblocks: what waits for a save, and what a save that cannot be done ends.
 
+use crate::gates::finds;
 use crate::mirrors::{
-    fill_bytes, flush, legs_of_zeroes, pass_of, read_at, round_of, shape, turn, write_at,
+    check_status, fill_bytes, flush, legs_of_zeroes, pass_of, round_of, shape, turn, write_at,
 };
 use bytes::Bytes;
 use nm_gate::DurableState;
@@ -139,13 +140,21 @@ fn a_write_waits_for_the_mark_of_its_span(rt: HostRuntime) -> Result<(), Fail> {
         || save_all(&rt, &mirror, false),
         || writes_first(&rt, alloc, &mirror, &mut pass, payload),
     );
-    assert!(rt; written);
-    assert_eq!(rt; saves, 1);
-    // The span is marked from now on, and no other.
+    assert!(rt; written && saves == 1);
+    check_marked(&rt, alloc, &mirror, &mut pass)
+}
+
+/// Looks whether the first span is marked, and no other.
+fn check_marked<R: Threads + Wait + Sync + Abort>(
+    rt: &R,
+    alloc: Global,
+    mirror: &Saved,
+    pass: &mut Pass<FuseLeg>,
+) -> Result<(), Fail> {
     let again = fill_bytes(alloc, 512, 8)?;
-    assert!(rt; write_at(&rt, alloc, &mirror, &mut pass, 512, again).is_ok());
+    assert!(rt; write_at(rt, alloc, mirror, pass, 512, again).is_ok());
     let other = fill_bytes(alloc, 512, 9)?;
-    assert!(rt; write_at(&rt, alloc, &mirror, &mut pass, 4 * 512, other).is_err());
+    assert!(rt; write_at(rt, alloc, mirror, pass, 4 * 512, other).is_err());
     Ok(())
 }
 
@@ -160,14 +169,19 @@ fn sync_leg_1<R: Wait + Abort>(rt: &R, alloc: Global, mirror: &Saved) -> Result<
     for _ in 0..100 {
         let _ = copies(rt, mirror, &mut round);
     }
-    let told = mirror.status(rt, alloc)?;
-    assert!(rt; told.len() == 1);
-    let text = told[0].to_string(alloc)?;
-    assert_eq!(rt; text.as_str(), "master 0 settling no legs in join(0)");
+    check_status(rt, alloc, mirror, &["master 0 settling no legs in join(0)"])?;
     save(rt, mirror);
     assert_eq!(rt; copies(rt, mirror, &mut round), 1);
     save(rt, mirror);
     Ok(())
+}
+
+/// Does one save, in which leg 0 alone is in sync and leg 1 out.
+fn check_lost<R: Wait + Abort>(rt: &R, mirror: &Saved) {
+    let order = mirror.begin_save(rt);
+    assert_eq!(rt; order.sets().in_sync(0), 1);
+    assert!(rt; order.out()[1]);
+    mirror.end_save(rt, order);
 }
 
 #[test]
@@ -177,18 +191,14 @@ fn a_flush_waits_until_a_loss_is_saved(rt: HostRuntime) -> Result<(), Fail> {
     sync_leg_1(&rt, alloc, &mirror)?;
     let mut pass = pass_of(&rt, alloc, &mirror)?;
     assert!(rt; flush(&rt, &mirror, &mut pass).is_ok());
-    assert!(rt; mirror.shape().legs == 2);
-    assert_eq!(rt; mirror.fail_leg(&rt, 1).failed, 1);
+    lose_leg_1(&rt, &mirror);
     let (saves, flushed) = join(
         &rt,
         || save_all(&rt, &mirror, false),
         || flushes(&rt, &mirror, &mut pass),
     );
     assert!(rt; flushed && saves > 0);
-    let order = mirror.begin_save(&rt);
-    assert_eq!(rt; order.sets().in_sync(0), 1);
-    assert!(rt; order.out()[1]);
-    mirror.end_save(&rt, order);
+    check_lost(&rt, &mirror);
     Ok(())
 }
 
@@ -205,9 +215,43 @@ fn a_save_that_fails_ends_writes_and_flushes_and_no_reads(rt: HostRuntime) -> Re
     );
     assert!(rt; !written && saves == 1);
     assert!(rt; flush(&rt, &mirror, &mut pass).is_err());
-    let mut into = [0xff; 512];
-    assert!(rt; read_at(&rt, &mirror, &mut pass, 0, &mut into).is_ok());
-    assert!(rt; into == [0; 512]);
+    assert!(rt; finds(&rt, &mirror, &mut pass, 0, 0));
+    Ok(())
+}
+
+/// Takes leg 1 out.
+fn lose_leg_1<R: Wait + Abort>(rt: &R, mirror: &Saved) {
+    assert!(rt; mirror.shape().legs == 2);
+    assert_eq!(rt; mirror.fail_leg(rt, 1).failed, 1);
+}
+
+/// Writes once while both legs are in sync, and once while the save fails that leg 1's loss asks for.
+fn fail_a_save<R: Threads + Wait + Sync + Abort>(
+    rt: &R,
+    alloc: Global,
+    mirror: &Saved,
+    pass: &mut Pass<FuseLeg>,
+) -> Result<(), Fail> {
+    let first = fill_bytes(alloc, 512, 7)?;
+    assert!(rt; writes_with_a_save(rt, alloc, mirror, pass, first, false));
+    lose_leg_1(rt, mirror);
+    let second = fill_bytes(alloc, 512, 8)?;
+    assert!(rt; !writes_with_a_save(rt, alloc, mirror, pass, second, true));
+    assert!(rt; flush(rt, mirror, pass).is_err());
+    Ok(())
+}
+
+/// Writes, flushes and reads: the write that failed stands in no other's way.
+fn check_goes_on<R: Threads + Wait + Sync + Abort>(
+    rt: &R,
+    alloc: Global,
+    mirror: &Saved,
+    pass: &mut Pass<FuseLeg>,
+) -> Result<(), Fail> {
+    let third = fill_bytes(alloc, 512, 9)?;
+    assert!(rt; write_at(rt, alloc, mirror, pass, 0, third).is_ok());
+    assert!(rt; flush(rt, mirror, pass).is_ok());
+    assert!(rt; finds(rt, mirror, pass, 0, 9));
     Ok(())
 }
 
@@ -217,27 +261,14 @@ fn a_save_that_failed_is_tried_again_and_writes_go_on(rt: HostRuntime) -> Result
     let mirror = saved_mirror(&rt, alloc)?;
     sync_leg_1(&rt, alloc, &mirror)?;
     let mut pass = pass_of(&rt, alloc, &mirror)?;
-    let first = fill_bytes(alloc, 512, 7)?;
-    assert!(rt; writes_with_a_save(&rt, alloc, &mirror, &mut pass, first, false));
-    assert!(rt; mirror.shape().legs == 2);
-    assert_eq!(rt; mirror.fail_leg(&rt, 1).failed, 1);
-    let second = fill_bytes(alloc, 512, 8)?;
-    assert!(rt; !writes_with_a_save(&rt, alloc, &mirror, &mut pass, second, true));
-    assert!(rt; flush(&rt, &mirror, &mut pass).is_err());
+    fail_a_save(&rt, alloc, &mirror, &mut pass)?;
     let (is_again, is_saved) = join(
         &rt,
         || save_one(&rt, &mirror, false),
         || mirror.save_again(&rt),
     );
     assert!(rt; is_again && is_saved);
-    // The write that failed stands in no other's way.
-    let third = fill_bytes(alloc, 512, 9)?;
-    assert!(rt; write_at(&rt, alloc, &mirror, &mut pass, 0, third).is_ok());
-    assert!(rt; flush(&rt, &mirror, &mut pass).is_ok());
-    let mut into = [0; 512];
-    assert!(rt; read_at(&rt, &mirror, &mut pass, 0, &mut into).is_ok());
-    assert!(rt; into == [9; 512]);
-    Ok(())
+    check_goes_on(&rt, alloc, &mirror, &mut pass)
 }
 
 #[test]
@@ -253,13 +284,18 @@ fn marks_go_where_the_legs_are_equal(rt: HostRuntime) -> Result<(), Fail> {
         || writes_first(&rt, alloc, &mirror, &mut pass, payload),
     );
     assert!(rt; written);
-    let marked = mirror.begin_save(&rt);
-    assert!(rt; marked.marked().is_marked(0) && !marked.marked().is_marked(1));
-    mirror.end_save(&rt, marked);
-    mirror.settle_turn(&rt);
-    mirror.settle_turn(&rt);
-    let clean = mirror.begin_save(&rt);
-    assert!(rt; clean.marked().is_empty());
-    mirror.end_save(&rt, clean);
+    check_mark_goes(&rt, &mirror);
     Ok(())
+}
+
+/// Looks whether the first span alone is marked, and after two turns of settling none.
+fn check_mark_goes<R: Wait + Abort>(rt: &R, mirror: &Saved) {
+    let marked = mirror.begin_save(rt);
+    assert!(rt; marked.marked().is_marked(0) && !marked.marked().is_marked(1));
+    mirror.end_save(rt, marked);
+    mirror.settle_turn(rt);
+    mirror.settle_turn(rt);
+    let clean = mirror.begin_save(rt);
+    assert!(rt; clean.marked().is_empty());
+    mirror.end_save(rt, clean);
 }

@@ -1,5 +1,5 @@
 //! Mirrors whose legs are compared as they start.
-use crate::mirrors::{FIRST, Opening, mirror_from, shape};
+use crate::mirrors::{FIRST, Opening, check_status, mirror_from, shape};
 use nm_geometry::Shape;
 use nm_lanes::NoGate;
 use nm_leg::FuseLeg;
@@ -34,12 +34,7 @@ fn shows_status<R: Wait + Abort>(
     let shape = shape(16, 4, 2, 2, 2)?;
     let legs = legs(alloc, &shape)?;
     let mirror = mirror_from(alloc, shape, legs, Opening { start, ..FIRST }, NoGate)?;
-    let told = mirror.status(rt, alloc)?;
-    assert_eq!(rt; told.len(), 2);
-    for (stripe, text) in told.iter().zip(texts) {
-        assert_eq!(rt; stripe.to_string(alloc)?.as_str(), text);
-    }
-    Ok(())
+    check_status(rt, alloc, &mirror, &texts)
 }
 
 #[test]

@@ -255,6 +255,16 @@ fn four_threads(rt: HostRuntime) -> Result<(), Fail> {
     assert_eq!(rt; mirror.gate().falls.load(Ordering::SeqCst), 0);
     check_histories(&rt, alloc, &mirror)?;
     let passes = Vec::from_array(alloc, [a, b, c, d])?;
+    check_total(&rt, alloc, mirror, passes)
+}
+
+/// Closes the mirror, which has had an entry for each call.
+fn check_total<R: Abort>(
+    rt: &R,
+    alloc: Global,
+    mirror: Healing,
+    passes: Vec<Pass<FuseLeg>>,
+) -> Result<(), Fail> {
     let mut total = 0u64;
     for end in close_even(alloc, mirror, passes)?.ends() {
         assert_eq!(rt; end.left(), 0);

@@ -79,6 +79,16 @@ fn places_of_a_call<R: Threads + Wait + Sync + Abort>(
     Ok(places)
 }
 
+/// Looks at the places that a gate was told in a call of this kind.
+fn check_places<R: Abort>(rt: &R, kind: CallKind, places: &[Place], want: &[Stood]) {
+    assert_eq!(rt; places.len(), want.len(), "{kind:?}");
+    for (place, stood) in places.iter().zip(want) {
+        assert_eq!(rt; (place.pass, place.call), (Some(7), kind));
+        let told = (place.stripe, place.block, place.step, place.number);
+        assert_eq!(rt; told, *stood, "{kind:?}");
+    }
+}
+
 // Block 5 is block 3 of stripe 0, and block 6 is block 2 of stripe 1.
 #[test]
 fn a_gate_is_told_the_pass_the_call_and_the_block(rt: HostRuntime) -> Result<(), Fail> {
@@ -90,13 +100,7 @@ fn a_gate_is_told_the_pass_the_call_and_the_block(rt: HostRuntime) -> Result<(),
         (CallKind::Flush, &SYNCED[..]),
         (CallKind::SyncTouched, &SYNCED[..]),
     ] {
-        let places = places_of_a_call(&rt, alloc, kind)?;
-        assert_eq!(rt; places.len(), want.len(), "{kind:?}");
-        for (place, stood) in places.iter().zip(want) {
-            assert_eq!(rt; (place.pass, place.call), (Some(7), kind));
-            let told = (place.stripe, place.block, place.step, place.number);
-            assert_eq!(rt; told, *stood, "{kind:?}");
-        }
+        check_places(&rt, kind, &places_of_a_call(&rt, alloc, kind)?, want);
     }
     Ok(())
 }

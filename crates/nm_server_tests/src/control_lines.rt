@@ -6,7 +6,7 @@ use nm_geometry::Shape;
 use nm_lanes::NoGate;
 use nm_leg::MemLeg;
 use nm_leg_files::{MakesLegs, Unrenewed};
-use nm_mirror::{Mirror, Start};
+use nm_mirror::{InitialSync, Mirror};
 use nm_places::{Quit, SessionPlaces, SessionRules};
 use nm_reports::{Metrics, ServerInfo, UnreadList};
 use nm_stripe::Policy;
@@ -133,7 +133,7 @@ static TALKS: [Talk; 23] = [
 ];
 
 /// A mirror of 1 MiB in two stripes, on two equal legs in memory; leg 0 is in sync, leg 1 joins.
-fn mirror(alloc: Global, start: Start) -> Result<Mirror<MemLeg, NoGate>, Fail> {
+fn mirror(alloc: Global, start: InitialSync) -> Result<Mirror<MemLeg, NoGate>, Fail> {
     let shape = Shape::new(2048, 128, 8, 2, 2).ok_or("no shape")?;
     mirror_of(alloc, shape, start, NoGate)
 }
@@ -217,7 +217,7 @@ fn goes<R: Wait + Abort + Clock>(
 #[test]
 fn lines_are_answered(rt: HostRuntime) -> Result<(), Fail> {
     let alloc = rt.alloc();
-    let mirror = mirror(alloc, Start::Full)?;
+    let mirror = mirror(alloc, InitialSync::Full)?;
     for (place, &(sent, answered, ends)) in TALKS.iter().enumerate() {
         assert!(rt;
             goes(&rt, alloc, &mirror, sent, answered, ends),
@@ -230,7 +230,7 @@ fn lines_are_answered(rt: HostRuntime) -> Result<(), Fail> {
 #[test]
 fn equal_legs_that_are_compared_have_nothing_to_copy(rt: HostRuntime) -> Result<(), Fail> {
     let alloc = rt.alloc();
-    let mirror = mirror(alloc, Start::Compare)?;
+    let mirror = mirror(alloc, InitialSync::Compare)?;
     let told = b"stripe 0: master 0 settling no legs in join(0)\n\
           stripe 1: master 0 settling no legs in join(0)\nend\n";
     assert!(rt; goes(&rt, alloc, &mirror, b"status\n", told, false));
@@ -240,7 +240,7 @@ fn equal_legs_that_are_compared_have_nothing_to_copy(rt: HostRuntime) -> Result<
 #[test]
 fn a_quit_has_its_time(rt: HostRuntime) -> Result<(), Fail> {
     let alloc = rt.alloc();
-    let mirror = mirror(alloc, Start::Full)?;
+    let mirror = mirror(alloc, InitialSync::Full)?;
     let orders = CopyOrders::new(None);
     let (unread, metrics) = (UnreadList::new(alloc)?, metrics(alloc)?);
     let info = ServerInfo::from_now(&rt);

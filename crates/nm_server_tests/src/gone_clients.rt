@@ -3,7 +3,7 @@
 use crate::mirrors::mirror_of;
 use nm_lanes::NoGate;
 use nm_leg::MemLeg;
-use nm_mirror::{Mirror, Pass, Shape, Start};
+use nm_mirror::{InitialSync, Mirror, Pass, Shape};
 use nm_reports::MirrorCall;
 use nm_serving::call_mirror;
 use nm_session::TargetFault;
@@ -16,7 +16,7 @@ use std::thread::Threads;
 /// A mirror of 64 blocks in two stripes, on one leg in memory.
 fn mirror(alloc: Global) -> Result<Mirror<MemLeg, NoGate>, Fail> {
     let shape = Shape::new(64, 8, 8, 2, 1).ok_or("no shape")?;
-    mirror_of(alloc, shape, Start::Compare, NoGate)
+    mirror_of(alloc, shape, InitialSync::Compare, NoGate)
 }
 
 /// What zeroes of the first half of the mirror are answered.

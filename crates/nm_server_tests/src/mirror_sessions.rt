@@ -6,7 +6,7 @@ use crate::mirrors::mirror_of;
 use nm_geometry::Shape;
 use nm_lanes::{Gate, Place};
 use nm_leg::MemLeg;
-use nm_mirror::{Mirror, Pass, Start};
+use nm_mirror::{InitialSync, Mirror, Pass};
 use nm_replies::ReplyWriter;
 use nm_reports::MirrorCall;
 use nm_serving::{MirrorCalls, MirrorTarget, ReadyMirror, call_mirror};
@@ -93,7 +93,7 @@ type Over<'a, R> = MirrorTarget<'a, MemLeg, MemoryCalls<'a, R>, Nothing>;
 /// A mirror of 1 MiB on two legs in memory, whose blocks lie by twos in so many stripes.
 fn mirror<'a>(alloc: Global, stripes: u32, gone: &'a AtomicUsize) -> Result<Memories<'a>, Fail> {
     let shape = Shape::new(2_048, 2, 1, stripes, 2).ok_or("no shape")?;
-    mirror_of(alloc, shape, Start::Compare, UntilGone { gone })
+    mirror_of(alloc, shape, InitialSync::Compare, UntilGone { gone })
 }
 
 /// So many passes.

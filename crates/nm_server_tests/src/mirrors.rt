@@ -3,7 +3,7 @@
 use nm_geometry::Shape;
 use nm_lanes::Gate;
 use nm_leg::MemLeg;
-use nm_mirror::{Mirror, Start, open_stripes, ungated};
+use nm_mirror::{InitialSync, Mirror, open_stripes, ungated};
 use nm_stripe::Policy;
 use std::alloc::Global;
 use std::test::Fail;
@@ -12,7 +12,7 @@ use std::test::Fail;
 pub(crate) fn mirror_of<G: Gate + Drop>(
     alloc: Global,
     shape: Shape,
-    start: Start,
+    start: InitialSync,
     gate: G,
 ) -> Result<Mirror<MemLeg, G>, Fail> {
     let mut legs = Vec::new(alloc);

@@ -131,6 +131,9 @@ where
     ensures channel { IsSameInbox owner.new.inbox owner.old.inbox }
     ensures reads { ReadsFurther I.remaining (reader_of by.old) (reader_of by.new) }
 {
+    if wants_thread(by, dispatcher) {
+        return Ok(Round::SwitchReader(state));
+    }
     if owner.core.waiting() >= GATHERED {
         return send_gathered(owner, state);
     }
@@ -200,11 +203,18 @@ fn is_to_switch<S, E: Extent, I: Read, T: Target>(
     dispatcher: &Dispatcher<'_, WorkerPool<'_, '_, S, E, T>>,
     state: ReadState,
 ) -> bool {
-    let is_serial = dispatcher.client.is_serial();
     if by.is_owner() {
-        return !is_serial;
+        return wants_thread(by, dispatcher);
     }
-    is_serial && dispatcher.pool.has_deferred() && state != ReadState::Pending
+    dispatcher.client.is_serial() && dispatcher.pool.has_deferred() && state != ReadState::Pending
+}
+
+// Whether the owner reads for a client that does not wait for each reply, as at first.
+fn wants_thread<S, E: Extent, I: Read, T: Target>(
+    by: &ReadBy<I, JobResult<T>>,
+    dispatcher: &Dispatcher<'_, WorkerPool<'_, '_, S, E, T>>,
+) -> bool {
+    by.is_owner() && !dispatcher.client.is_serial()
 }
 
 // The session's end, if it has come: nothing more is read and no request is outstanding.

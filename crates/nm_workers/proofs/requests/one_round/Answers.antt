@@ -7,8 +7,12 @@ use Rattle.nm_workers.specs.Moving.{owner_state, state_of}
 use Rattle.nm_workers.specs.Reading.{reader_of}
 use Rattle.nm_workers.proofs.ReadPieces.{more_on}
 use Rattle.nm_workers.proofs.Rounds.{led_off, stops_there, known_as, no_request_sent, reads_sends, reads_sends_part, over_there}
-use Rattle.nm_workers.proofs.Steps.{moves_on, breaks_on, reads}
+use Rattle.nm_workers.proofs.Steps.{moves_on, moves_nowhere, breaks_on, reads}
 use Rattle.nm_workers.proofs.requests.one_round.Goals as goal
+
+pub returns-then-wants_thread-clause-leads : goal.returns-then-wants_thread-clause-leads
+returns-then-wants_thread-clause-leads g c =
+    (moves_nowhere (state_of g.O.Write.contents c.args.owner.now), c.requires.known)
 
 pub returns-in_err-why-clause-leads : goal.returns-in_err-why-clause-leads
 returns-in_err-why-clause-leads g c =
