@@ -57,6 +57,7 @@ pub mod RecordLemmas
 pub mod RelabelLemmas
 pub mod ReopeningLemmas
 pub mod ReplaceLemmas
+pub mod ReturnLemmas
 pub mod RunBeginLemmas
 pub mod RunBeginSteps
 pub mod RunBegunLemmas
