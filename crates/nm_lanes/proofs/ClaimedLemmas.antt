@@ -5,7 +5,7 @@ use Rattle.nm_geometry.specs.Geometry.{Geometry}
 use Rattle.nm_stripe.specs.declared.answer.Answer.{Answer}
 use Rattle.nm_stripe.specs.declared.answer.Answer.TheVariants.{Begun}
 use Rattle.nm_stripe.specs.declared.step.Step.{Step}
-use Rattle.nm_stripe.specs.declared.step.Step.TheVariants.{Begin, Push, Claim, Read, Fail, Attach, Replace, Copy, Promote, Sync}
+use Rattle.nm_stripe.specs.declared.step.Step.TheVariants.{Begin, Push, Claim, Read, Fail, Attach, Return, Replace, Copy, Promote, Sync}
 use Rattle.nm_lanes.specs.declared.run_write.RunWrite.{RunWrite}
 use Rattle.nm_lanes.specs.Done.{Done}
 use Rattle.nm_lanes.specs.Ends.{EndsClaimed}
@@ -50,6 +50,7 @@ module _ {L : Type 0} where
   no-sync leg (Read block room) ticket a = a
   no-sync leg (Fail other) ticket a = a
   no-sync leg (Attach other) ticket a = a
+  no-sync leg (Return other marks) ticket a = a
   no-sync leg (Replace other new) ticket a = a
   no-sync leg (Copy other most from) ticket a = a
   no-sync leg (Promote other) ticket a = a

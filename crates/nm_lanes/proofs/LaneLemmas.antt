@@ -4,7 +4,7 @@ use Rattle.nm_rules.specs.declared.refusal.Refusal.{Refusal}
 use Rattle.nm_rules.specs.declared.refusal.Refusal.TheVariants as refusal
 use Rattle.nm_stripe.specs.declared.answer.Answer.{Answer}
 use Rattle.nm_stripe.specs.declared.step.Step.{Step}
-use Rattle.nm_stripe.specs.declared.step.Step.TheVariants.{Begin, Push, Claim, Read, Fail, Attach, Replace, Copy, Promote, Sync}
+use Rattle.nm_stripe.specs.declared.step.Step.TheVariants.{Begin, Push, Claim, Read, Fail, Attach, Return, Replace, Copy, Promote, Sync}
 use Rattle.nm_lanes.specs.declared.call_error_kind.CallErrorKind.{CallErrorKind}
 use Rattle.nm_lanes.specs.declared.call_error_kind.CallErrorKind.TheVariants as cause
 use Rattle.nm_lanes.specs.Done.{Done, done_as}
@@ -44,6 +44,7 @@ claims-more ours theirs more (Push ticket leg) h = absurd h
 claims-more ours theirs more (Read block room) h = absurd h
 claims-more ours theirs more (Fail leg) h = absurd h
 claims-more ours theirs more (Attach leg) h = absurd h
+claims-more ours theirs more (Return leg marks) h = absurd h
 claims-more ours theirs more (Replace leg part) h = absurd h
 claims-more ours theirs more (Copy leg most from) h = absurd h
 claims-more ours theirs more (Promote leg) h = absurd h

@@ -16,7 +16,7 @@ use Rattle.nm_rules.specs.Lost.{failed_over, lost, settled, without_leg_of}
 use Rattle.nm_stripe.specs.declared.answer.Answer.{Answer}
 use Rattle.nm_stripe.specs.declared.answer.Answer.TheVariants.{Begun, Pushed, Complete, Halted, Written, Value, Failed, MasterChanged, Joining, Copied, Nothing, InSync, Synced, LegLost, Refused}
 use Rattle.nm_stripe.specs.declared.step.Step.{Step as MachineStep}
-use Rattle.nm_stripe.specs.declared.step.Step.TheVariants.{Begin, Push, Claim, Read, Fail, Attach, Replace, Copy, Promote, Sync}
+use Rattle.nm_stripe.specs.declared.step.Step.TheVariants.{Begin, Push, Claim, Read, Fail, Attach, Return, Replace, Copy, Promote, Sync}
 use Rattle.nm_stripe.specs.Begin.{BeginsWith, RefusesBegin, ForCause as BeginCause, ForFault as BeginFault}
 use Rattle.nm_stripe.specs.Copy.{RefusesCopy, ForCause as CopyCause, ForFault as CopyFault}
 use Rattle.nm_stripe.specs.Read.{RefusesRead, ForCause as ReadCause, ForFault as ReadFault}
@@ -102,6 +102,8 @@ step_lengths blocks (Fail leg) (MasterChanged master) old new size may is long =
 step_lengths blocks (Fail leg) (Refused cause handed) old new size may is long = same blocks old new is.2 long
 step_lengths blocks (Attach leg) (Joining left) old new size may is long = same_legs blocks old new (ap (λ (s : MemStripe). s.legs) is.0.after) long
 step_lengths blocks (Attach leg) (Refused cause handed) old new size may is long = same blocks old new is.2 long
+step_lengths blocks (Return leg marks) (Joining left) old new size may is long = same_legs blocks old new (ap (λ (s : MemStripe). s.legs) is.0.after) long
+step_lengths blocks (Return leg marks) (Refused cause handed) old new size may is long = same blocks old new is.2 long
 step_lengths blocks (Replace leg part) (Joining left) old new size may is long =
     subst (λ (legs : List FuseLeg). EachHas of_fuse legs blocks) (sym (ap (λ (s : MemStripe). s.legs) is.0.after))
     (set_long blocks old.legs leg part may.0 (may.1 ∙ size) long)

@@ -1,7 +1,6 @@
 -- A store opens leg by leg: each stands as the plan says, and its regions are marked one by one.
-use Rattle.std.proofs.Common.{◌≡◌, ◌≢◌, ⊎_elim, ℕ, zero, suc, ◌+◌, ◌<◌, ◌≤◌, ◌==◌, Bool, true, false, cond, List, [], ◌∷◌, ◌++◌, map, replicate, length, length-set, refl, sym, ap, ◌∙◌, subst, arith, get_or, slice_set, append_assoc}
+use Rattle.std.proofs.Common.{◌≡◌, ◌≢◌, ⊎_elim, ℕ, zero, suc, ◌+◌, ◌<◌, ◌≤◌, ◌==◌, ◌||◌, Bool, true, false, cond, List, [], ◌∷◌, map, replicate, length, length-set, refl, sym, ap, ◌∙◌, subst, arith, get_or, slice_set}
 use Rattle.std.proofs.lemmas.Bool.Decides.{nat_tests}
-use Rattle.std.proofs.Math.Seq.{set-append_seam}
 use Rattle.std.proofs.lemmas.List.{ext_get_or, get_or-map, get_or-replicate, length-map, length-replicate}
 use Rattle.nm_choice.specs.declared.leg_state.LegState.{LegState}
 use Rattle.nm_choice.specs.declared.leg_state.LegState.TheVariants.{InSync, Joining, Out}
@@ -12,12 +11,14 @@ use Rattle.nm_regions.specs.Table.{regions_of}
 use Rattle.nm_rules.specs.declared.at.At.{At}
 use Rattle.nm_rules.specs.declared.leg_opening.LegOpening.{LegOpening}
 use Rattle.nm_rules.specs.declared.leg_opening.LegOpening.TheVariants.{Missing}
+use Rattle.nm_rules.specs.Attach.{either}
 use Rattle.nm_rules.specs.Comparing.{comparing, waiting}
 use Rattle.nm_rules.specs.Reopening.{Marks, OpeningPlan, is_in_marked, marks_from, planned, reopened, reopened_flags, reopened_leg, reopened_state, reopened_states}
 use Rattle.nm_rules.specs.State.{StripeState, writes_from}
 use Rattle.nm_rules.proofs.AttachLemmas.{set-same, set-other}
 use Rattle.nm_rules.proofs.RecordLemmas.{one_or_two}
 use Rattle.nm_rules.proofs.ReopeningLemmas.{length-marks}
+use Rattle.nm_rules.proofs.ReturnLemmas.{length-either}
 use Rattle.nm_store.specs.Reopening.{AreAside, IsAside, opened_upto, set_others, stands_as}
 
 -- so many regions have so many counters
@@ -32,39 +33,88 @@ marked_upto marks (suc region) flags =
     let rest = marked_upto marks region flags in
     cond (is_in_marked marks region) (slice_set rest region true) rest
 
+or-none : (b : Bool) → b ≡ (b || false)
+or-none true = refl
+or-none false = refl
+
+-- a flag is set where one of both is
+either-at : (flags more : List Bool) (i : ℕ) → i < length flags → get_or (either flags more) i false ≡ (get_or flags i false || get_or more i false)
+either-at [] more i inside = absurd (omega (arith, inside))
+either-at (b ∷ flags) [] zero inside = or-none b
+either-at (b ∷ flags) [] (suc i) inside = or-none (get_or flags i false)
+either-at (b ∷ flags) (m ∷ more) zero inside = refl
+either-at (b ∷ flags) (m ∷ more) (suc i) inside = either-at flags more i (omega (arith, inside))
+
+-- where none was set it is as the other
+pub either-none : (more : List Bool) → either (replicate (length more) false) more ≡ more
+either-none [] = refl
+either-none (m ∷ more) = ap (λ (rest : List Bool). m ∷ rest) (either-none more)
+
 module _ (marks : Marks) where
-  -- the marks of one region more
-  marks-next : (count region : ℕ) → marks_from marks (suc count) region ≡ marks_from marks count region ++ (is_in_marked marks (region + count) ∷ [])
-  marks-next zero region = ap (λ (i : ℕ). is_in_marked marks i ∷ []) (let e : region ≡ region + 0 = omega arith in e)
-  marks-next (suc count) region =
-      ap (λ (rest : List Bool). is_in_marked marks region ∷ rest) (marks-next count (region + 1)
-      ∙ ap (λ (i : ℕ). marks_from marks count (region + 1) ++ (is_in_marked marks i ∷ [])) (let e : region + 1 + count ≡ region + suc count = omega arith in e))
+  -- the marks from a region on, at each place
+  marks-at : (count region i : ℕ) → i < count → get_or (marks_from marks count region) i false ≡ is_in_marked marks (region + i)
+  marks-at zero region i inside = absurd (omega (arith, inside))
+  marks-at (suc count) region zero inside = ap (λ (k : ℕ). is_in_marked marks k) (let e : region ≡ region + 0 = omega arith in e)
+  marks-at (suc count) region (suc i) inside =
+      marks-at count (region + 1) i (omega (arith, inside)) ∙ ap (λ (k : ℕ). is_in_marked marks k) (let e : region + 1 + i ≡ region + suc i = omega arith in e)
 
-  -- from no region behind on
-  upto-is : (region rest : ℕ) → marked_upto marks region (replicate (region + rest) false) ≡ marks_from marks region 0 ++ replicate rest false
-  upto-is zero rest = ap (λ (n : ℕ). replicate n false) (let e : 0 + rest ≡ rest = omega arith in e)
-  upto-is (suc region) rest =
-      let before : marked_upto marks region (replicate (suc region + rest) false) ≡ marks_from marks region 0 ++ false ∷ replicate rest false =
-      ap (λ (n : ℕ). marked_upto marks region (replicate n false)) (let e : suc region + rest ≡ region + suc rest = omega arith in e) ∙ upto-is region (suc rest) in
-      ap (λ (xs : List Bool). cond (is_in_marked marks region) (slice_set xs region true) xs) before
-      ∙ by_mark (is_in_marked marks region)
-      ∙ sym (append_assoc (marks_from marks region 0) (is_in_marked marks region ∷ []) (replicate rest false))
-      ∙ ap (λ (xs : List Bool). xs ++ replicate rest false) (sym (marks-next region 0 ∙ ap (λ (i : ℕ). marks_from marks region 0 ++ (is_in_marked marks i ∷ [])) (let e : 0 + region ≡ region = omega arith in e)))
+  length-upto : (region : ℕ) (flags : List Bool) → length (marked_upto marks region flags) ≡ length flags
+  length-upto zero flags = refl
+  length-upto (suc region) flags =
+      elim (is_in_marked marks region) as (λ b. length (cond b (slice_set (marked_upto marks region flags) region true) (marked_upto marks region flags)) ≡ length flags) [
+        | true ↦ length-set (marked_upto marks region flags) region true ∙ length-upto region flags
+        | false ↦ length-upto region flags
+      ]
+
+  -- a region that was not reached stays as it was
+  upto-past : (region i : ℕ) (flags : List Bool) → region ≤ i → get_or (marked_upto marks region flags) i false ≡ get_or flags i false
+  upto-past zero i flags past = refl
+  upto-past (suc region) i flags past =
+      elim (is_in_marked marks region) as (λ b. get_or (cond b (slice_set (marked_upto marks region flags) region true) (marked_upto marks region flags)) i false ≡ get_or flags i false) [
+        | true ↦ set-other (marked_upto marks region flags) region i true false (λ same. omega (arith, past, same)) ∙ upto-past region i flags (omega (arith, past))
+        | false ↦ upto-past region i flags (omega (arith, past))
+      ]
+
+  -- any other is set too where its span is marked
+  upto-on : (region i : ℕ) (flags : List Bool) → i < region → i < length flags → get_or (marked_upto marks region flags) i false ≡ (get_or flags i false || is_in_marked marks i)
+  upto-on zero i flags low inside = absurd (omega (arith, low))
+  upto-on (suc region) i flags low inside =
+      ⊎_elim
+      (λ same. subst (λ (k : ℕ). get_or (marked_upto marks (suc region) flags) k false ≡ (get_or flags k false || is_in_marked marks k)) (sym same) (here region (omega (arith, same, inside))))
+      (λ apart.
+      let rest : get_or (marked_upto marks region flags) i false ≡ (get_or flags i false || is_in_marked marks i) = upto-on region i flags (omega (arith, low, apart)) inside in
+      elim (is_in_marked marks region) as (λ b. get_or (cond b (slice_set (marked_upto marks region flags) region true) (marked_upto marks region flags)) i false ≡ (get_or flags i false || is_in_marked marks i)) [
+        | true ↦ set-other (marked_upto marks region flags) region i true false apart ∙ rest
+        | false ↦ rest
+      ])
+      (one_or_two i region)
     where
-      by_mark : (b : Bool) → cond b (slice_set (marks_from marks region 0 ++ false ∷ replicate rest false) region true) (marks_from marks region 0 ++ false ∷ replicate rest false) ≡ marks_from marks region 0 ++ b ∷ replicate rest false
-      by_mark true =
-          ap (λ (i : ℕ). slice_set (marks_from marks region 0 ++ false ∷ replicate rest false) i true) (sym (length-marks marks region 0))
-          ∙ set-append_seam (marks_from marks region 0) false (replicate rest false) true
-      by_mark false = refl
+      or-true : (b : Bool) → true ≡ (b || true)
+      or-true true = refl
+      or-true false = refl
 
-  none-rest : (xs : List Bool) → xs ++ [] ≡ xs
-  none-rest [] = refl
-  none-rest (x ∷ xs) = ap (λ (ys : List Bool). x ∷ ys) (none-rest xs)
+      here : (k : ℕ) → k < length flags → get_or (marked_upto marks (suc k) flags) k false ≡ (get_or flags k false || is_in_marked marks k)
+      here k within =
+          elim (is_in_marked marks k) as (λ b. get_or (cond b (slice_set (marked_upto marks k flags) k true) (marked_upto marks k flags)) k false ≡ (get_or flags k false || b)) [
+            | true ↦ set-same (marked_upto marks k flags) k true false (omega (arith, within, length-upto k flags)) ∙ or-true (get_or flags k false)
+            | false ↦ upto-past k k flags (omega arith) ∙ or-none (get_or flags k false)
+          ]
 
-  pub all-marked : (regions : ℕ) → marked_upto marks regions (replicate regions false) ≡ marks_from marks regions 0
-  all-marked regions =
-      ap (λ (n : ℕ). marked_upto marks regions (replicate n false)) (let e : regions ≡ regions + 0 = omega arith in e)
-      ∙ upto-is regions 0 ∙ none-rest (marks_from marks regions 0)
+  -- once all regions were seen, each is set too where its span is marked
+  pub all-marked : (regions : ℕ) (flags : List Bool) → length flags ≡ regions → marked_upto marks regions flags ≡ either flags (marks_from marks regions 0)
+  all-marked regions flags long =
+      ext_get_or false (marked_upto marks regions flags) (either flags (marks_from marks regions 0))
+      (length-upto regions flags ∙ sym (length-either flags (marks_from marks regions 0)))
+      (λ i low.
+      let inside : i < length flags = omega (arith, low, length-upto regions flags) in
+      upto-on regions i flags (omega (arith, inside, long)) inside
+      ∙ ap (λ (b : Bool). get_or flags i false || b) (sym (marks-at regions 0 i (omega (arith, inside, long)) ∙ ap (λ (n : ℕ). is_in_marked marks n) (let e : 0 + i ≡ i = omega arith in e)))
+      ∙ sym (either-at flags (marks_from marks regions 0) i inside))
+
+  -- from no region behind on they are the marks
+  pub from-none : (regions : ℕ) → either (replicate regions false) (marks_from marks regions 0) ≡ marks_from marks regions 0
+  from-none regions =
+      ap (λ (n : ℕ). either (replicate n false) (marks_from marks regions 0)) (sym (length-marks marks regions 0)) ∙ either-none (marks_from marks regions 0)
 
 module _ {X : Type 0} (plan : OpeningPlan) (f : LegOpening → X) (xs : List X) where
   abbrev upto : ℕ → List X

@@ -1,10 +1,11 @@
 //! Opens a store by what a superblock says of its legs, none of which is read.
 ghost use Rattle.std.specs.Prelude.{◌≡◌, ◌≢◌, ◌<◌, ◌==◌, false, true, if◌then◌else◌, length};
-ghost use Rattle.std.specs.Prelude.{slice_index_or, slice_set, IfOk, IfErr};
+ghost use Rattle.std.specs.Prelude.{slice_index_or, slice_set, IfOk, IfErr, IsTrue};
 ghost use Rattle.nm_regions.specs.Changes.{with_leg};
 ghost use Rattle.nm_regions.specs.Sound.{AreSizes};
-ghost use Rattle.nm_regions.specs.Table.{leg_at, regions_of};
+ghost use Rattle.nm_regions.specs.Table.{is_out, leg_at, regions_of};
 ghost use Rattle.nm_resync.specs.Chunk.{IsChunkSize};
+ghost use Rattle.nm_rules.specs.Attach.{fallen};
 ghost use Rattle.nm_rules.specs.Comparing.{waiting};
 ghost use Rattle.nm_rules.specs.Reopening.{Marks, OpeningPlan, marks_from, planned, reopened};
 ghost use Rattle.nm_rules.specs.Reopening.{reopened_leg, reopened_state};
@@ -39,17 +40,16 @@ fn reopened_state(opening: LegOpening) -> LegState
     }
 }
 
-/// A leg that is set aside falls behind in each region whose span is marked.
-fn mark_spans(regions: &mut Regions, leg: u8, marked: &[bool], span: u64)
+/// A leg that is out falls behind in each region whose span is marked, too. Goes over all regions.
+pub(crate) fn mark_spans(regions: &mut Regions, leg: u8, marked: &[bool], span: u64)
     requires leg { leg < length regions.old.legs }
-    requires aside { leg_at leg regions.old ≡ waiting (length regions.old.writes) }
+    requires out { IsTrue (is_out leg regions.old) }
     requires some { 0 < span }
     ensures { let marks : Marks = record { marked = marked.now; span = span } in
-        regions.new ≡ with_leg (λ l. record {
-          out = true;
-          behind = marks_from marks (length regions.old.writes) 0;
-        }) leg regions.old }
+        regions.new ≡ with_leg (fallen (marks_from marks (length regions.old.writes) 0)) leg
+        regions.old }
 {
+    regions.is_sound();
     for region in 0..regions.regions() {
         if is_marked(marked, region / span) {
             regions.mark(leg, region);

@@ -21,7 +21,7 @@ use Rattle.nm_rules.proofs.AttachLemmas.{may_attach, set-other}
 use Rattle.nm_rules.proofs.ElectLemmas.{gone-other}
 use Rattle.nm_rules.proofs.JoiningEndLemmas.{nothing-behind, nothing-promotes, nothing-refused, nothing-left}
 use Rattle.nm_rules.proofs.JoiningLemmas.{fields-work, lost-parts}
-use Rattle.nm_rules.proofs.JoiningStepLemmas.{loses_in_begin-work, fails_in_begin-work, loses_in_read-work, fails_in_read-work, goes_out-work, attaches-work, replaces-work}
+use Rattle.nm_rules.proofs.JoiningStepLemmas.{loses_in_begin-work, fails_in_begin-work, loses_in_read-work, fails_in_read-work, goes_out-work, attaches-work, replaces-work, returns-work}
 use Rattle.nm_rules.proofs.JoiningStepLemmas.{fails_in_copy-work, promotes-work, loses_in_promote-work, synchronizes-work, loses_in_sync-work, fails_in_sync-work}
 use Rattle.nm_rules.proofs.RunCopyLemmas.{fails_in_copy_run-one}
 use Rattle.nm_rules.proofs.RunJoiningLemmas.{claims_run-work, copies_read_run-work, copies_write_run-work, loses_in_copy_run-work, finds_run-work, halts_run-work, loses_in_push_run-work, pushes_run-work}
@@ -31,7 +31,7 @@ use Rattle.nm_stripe.specs.declared.answer.Answer.{Answer}
 use Rattle.nm_stripe.specs.declared.answer.Answer.TheVariants.{Begun, Pushed, Complete, Halted, Written, Value, Failed, MasterChanged, Joining, Copied, InSync, Synced, LegLost, Refused}
 use Rattle.nm_stripe.specs.declared.answer.Answer.TheVariants.{Nothing as NothingLeft}
 use Rattle.nm_stripe.specs.declared.step.Step.{Step}
-use Rattle.nm_stripe.specs.declared.step.Step.TheVariants.{Begin, Push, Claim, Read, Fail, Attach, Replace, Copy, Promote, Sync}
+use Rattle.nm_stripe.specs.declared.step.Step.TheVariants.{Begin, Push, Claim, Read, Fail, Attach, Return, Replace, Copy, Promote, Sync}
 use Rattle.nm_stripe.specs.Bound.{copies, copied_count, StaysBehind, StaysJoining, IsBounded, IsCopied}
 use Rattle.nm_stripe.specs.Begin.{RefusesBegin, ForCause as BeginCause, ForFault as BeginFault}
 use Rattle.nm_stripe.specs.Copy.{RefusesCopy, ForCause as CopyCause, ForFault as CopyFault}
@@ -168,6 +168,9 @@ module _ {L : Type 0} (type : LegType L) (old new : StripeState L) (j : ℕ) (jo
   steps-bound (Attach leg) (Joining blocks) k asked stays is =
       quiet (still-set leg state.Joining (attached-ne leg is.0.no_cause) (ap (λ (s : StripeState L). s.states) is.0.after), attaches-work j old new leg joined is.0)
   steps-bound (Attach leg) (Refused cause handed) k asked stays is = quiet (same-states is.2, same-work is.2)
+  steps-bound (Return leg marks) (Joining blocks) k asked stays is =
+      quiet (still-set leg state.Joining (attached-ne leg is.0.no_cause) (ap (λ (s : StripeState L). s.states) is.0.after), returns-work j old new leg marks joined is.0)
+  steps-bound (Return leg marks) (Refused cause handed) k asked stays is = quiet (same-states is.2, same-work is.2)
   steps-bound (Replace leg part) (Joining blocks) k asked stays is =
       quiet (still-set leg state.Joining (attached-ne leg is.0.no_cause) (ap (λ (s : StripeState L). s.states) is.0.after), replaces-work j old new leg part joined is.0)
   steps-bound (Replace leg part) (Refused cause handed) k asked stays is = quiet (same-states is.2, same-work is.2)

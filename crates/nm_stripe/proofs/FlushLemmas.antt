@@ -13,7 +13,7 @@ use Rattle.nm_rules.specs.Flushed.{DurableAt, KeepsDurable}
 use Rattle.nm_rules.specs.Invariant.{Keeps}
 use Rattle.nm_rules.specs.State.{StripeState, is_out, leg_state}
 use Rattle.nm_rules.proofs.FlushedLemmas.{fails_in_begin-durable, fails_in_read-durable, fails_in_copy-durable}
-use Rattle.nm_rules.proofs.FlushedLostLemmas.{loses_in_begin-durable, loses_in_read-durable, loses_in_promote-durable, loses_in_sync-durable, goes_out-durable, loses_in_sync-makes, attaches-durable, replaces-durable}
+use Rattle.nm_rules.proofs.FlushedLostLemmas.{loses_in_begin-durable, loses_in_read-durable, loses_in_promote-durable, loses_in_sync-durable, goes_out-durable, loses_in_sync-makes, attaches-durable, replaces-durable, returns-durable}
 use Rattle.nm_rules.proofs.FlushedSyncLemmas.{synchronizes-durable, synchronizes-makes, fails_in_sync-durable, promotes-durable, out-durable}
 use Rattle.nm_rules.proofs.RunCopyLemmas.{fails_in_copy_run-one}
 use Rattle.nm_rules.proofs.RunFlushedLemmas.{claims_run-durable, copies_read_run-durable, copies_write_run-durable, loses_in_copy_run-durable, finds_run-durable, halts_run-durable, loses_in_push_run-durable, pushes_run-durable}
@@ -24,7 +24,7 @@ use Rattle.nm_stripe.specs.declared.answer.Answer.{Answer}
 use Rattle.nm_stripe.specs.declared.answer.Answer.TheVariants.{Begun, Pushed, Complete, Halted, Written, Value, Failed, MasterChanged, Joining, Copied, InSync, Synced, LegLost, Refused}
 use Rattle.nm_stripe.specs.declared.answer.Answer.TheVariants.{Nothing as NothingLeft}
 use Rattle.nm_stripe.specs.declared.step.Step.{Step}
-use Rattle.nm_stripe.specs.declared.step.Step.TheVariants.{Begin, Push, Claim, Read, Fail, Attach, Replace, Copy, Promote, Sync}
+use Rattle.nm_stripe.specs.declared.step.Step.TheVariants.{Begin, Push, Claim, Read, Fail, Attach, Return, Replace, Copy, Promote, Sync}
 use Rattle.nm_stripe.specs.Begin.{RefusesBegin, ForCause as BeginCause, ForFault as BeginFault}
 use Rattle.nm_stripe.specs.Copy.{RefusesCopy, ForCause as CopyCause, ForFault as CopyFault}
 use Rattle.nm_stripe.specs.Flush.{Flushes, LeavesBlock, NoneBegins, SyncsLeg, HasSynced}
@@ -91,6 +91,8 @@ module _ {L : Type 0} (type : LegType L) (old new : StripeState L) (b : ℕ) (wa
     step-durable (Fail leg) (Refused cause handed) leaves is = same is.2
     step-durable (Attach leg) (Joining blocks) leaves is = attaches-durable type old new b was_free k leg is.0
     step-durable (Attach leg) (Refused cause handed) leaves is = same is.2
+    step-durable (Return leg marks) (Joining blocks) leaves is = returns-durable type old new b was_free k leg marks is.0
+    step-durable (Return leg marks) (Refused cause handed) leaves is = same is.2
     step-durable (Replace leg part) (Joining blocks) leaves is = replaces-durable type old new b was_free k leg part is.0
     step-durable (Replace leg part) (Refused cause handed) leaves is = same is.2
     step-durable (Copy leg most from) (Copied moved blocks) leaves is = copied leg most from moved is.0

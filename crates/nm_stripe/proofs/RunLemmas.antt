@@ -13,13 +13,13 @@ use Rattle.nm_rules.proofs.ActsLemmas.{acts-none, acts-append}
 use Rattle.nm_rules.proofs.LegLemmas.{calls-length}
 use Rattle.nm_rules.proofs.RunJoiningLemmas.{claims_run-shape, copies_read_run-shape, copies_write_run-shape, finds_run-shape, halts_run-shape, loses_in_copy_run-shape, loses_in_push_run-shape, pushes_run-shape}
 use Rattle.nm_rules.proofs.RunReadLemmas.{fails_in_read_run-last, loses_in_read_run-last}
-use Rattle.nm_rules.proofs.ShapeLemmas.{loses_in_begin-shape, fails_in_begin-shape, loses_in_read-shape, fails_in_read-shape, goes_out-shape, attaches-shape, replaces-shape}
+use Rattle.nm_rules.proofs.ShapeLemmas.{loses_in_begin-shape, fails_in_begin-shape, loses_in_read-shape, fails_in_read-shape, goes_out-shape, attaches-shape, replaces-shape, returns-shape}
 use Rattle.nm_rules.proofs.ShapeLemmas.{promotes-shape, loses_in_promote-shape, synchronizes-shape, loses_in_sync-shape, fails_in_sync-shape}
 use Rattle.nm_stripe.specs.declared.answer.Answer.{Answer}
 use Rattle.nm_stripe.specs.declared.answer.Answer.TheVariants.{Begun, Pushed, Complete, Halted, Written, Value, Failed, MasterChanged, Joining, Copied, InSync, Synced, LegLost, Refused}
 use Rattle.nm_stripe.specs.declared.answer.Answer.TheVariants.{Nothing as NothingLeft}
 use Rattle.nm_stripe.specs.declared.step.Step.{Step}
-use Rattle.nm_stripe.specs.declared.step.Step.TheVariants.{Begin, Push, Claim, Read, Fail, Attach, Replace, Copy, Promote, Sync}
+use Rattle.nm_stripe.specs.declared.step.Step.TheVariants.{Begin, Push, Claim, Read, Fail, Attach, Return, Replace, Copy, Promote, Sync}
 use Rattle.nm_stripe.specs.Begin.{RefusesBegin, ForCause as BeginCause, ForFault as BeginFault}
 use Rattle.nm_stripe.specs.Copy.{RefusesCopy, ForCause as CopyCause, ForFault as CopyFault}
 use Rattle.nm_stripe.specs.Read.{RefusesRead, ForCause as ReadCause, ForFault as ReadFault}
@@ -147,6 +147,8 @@ step-shape type (Fail leg) (MasterChanged master) old new is = goes_out-shape ty
 step-shape type (Fail leg) (Refused cause handed) old new is = same old new is.2
 step-shape type (Attach leg) (Joining blocks) old new is = attaches-shape type old new leg is.0
 step-shape type (Attach leg) (Refused cause handed) old new is = same old new is.2
+step-shape type (Return leg marks) (Joining blocks) old new is = returns-shape type old new leg marks is.0
+step-shape type (Return leg marks) (Refused cause handed) old new is = same old new is.2
 step-shape type (Replace leg part) (Joining blocks) old new is = replaces-shape type old new leg part is.0
 step-shape type (Replace leg part) (Refused cause handed) old new is = same old new is.2
 step-shape type (Copy leg most from) (Copied moved blocks) old new is = ⊎_elim (λ read. copies_read_run-shape type old new leg most read.reads) (λ write. copies_write_run-shape type old new leg most write.writes) is.0
@@ -169,6 +171,7 @@ asked-later model (Claim ticket) old new shape asked = tt
 asked-later model (Read block room) old new shape asked = (rw shape.place asked.0, asked.1)
 asked-later model (Fail leg) old new shape asked = rw shape.legs asked
 asked-later model (Attach leg) old new shape asked = rw shape.legs asked
+asked-later model (Return leg marks) old new shape asked = (rw shape.legs asked.0, asked.1)
 asked-later model (Replace leg part) old new shape asked = (rw shape.legs asked.0, rw shape.place asked.1)
 asked-later model (Copy leg most from) old new shape asked = (rw shape.legs asked.0, asked.1)
 asked-later model (Promote leg) old new shape asked = rw shape.legs asked

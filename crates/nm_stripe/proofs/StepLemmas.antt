@@ -3,13 +3,15 @@ use Rattle.std.proofs.Common.{◌≡◌, ℕ, ◌<◌, List, length, sym, subst}
 use Rattle.nm_leg.specs.Leg.{LegType, blocks_of}
 use Rattle.nm_fanout.specs.declared.block_data.Data.{Data}
 use Rattle.nm_rules.specs.declared.refusal.Refusal.{Refusal}
-use Rattle.nm_rules.specs.Attach.{Attaches, Replaces}
+use Rattle.nm_rules.specs.Attach.{Attaches, Replaces, Returns, regions_in}
 use Rattle.nm_rules.specs.Invariant.{Keeps}
+use Rattle.nm_rules.specs.Reopening.{Marks}
 use Rattle.nm_rules.specs.State.{StripeState}
 use Rattle.nm_rules.proofs.AttachLemmas.{may_attach, attach-keeps}
 use Rattle.nm_rules.proofs.HaltLemmas.{begin_fault-keeps, sync_fault-keeps, copy_fault-keeps}
 use Rattle.nm_rules.proofs.LostStepLemmas.{begin_lost-keeps, sync_lost-keeps, promote_lost-keeps, fail-keeps}
 use Rattle.nm_rules.proofs.ReplaceLemmas.{replace-keeps}
+use Rattle.nm_rules.proofs.ReturnLemmas.{return-keeps}
 use Rattle.nm_rules.proofs.RunClaimLemmas.{claims_run-keeps}
 use Rattle.nm_rules.proofs.RunCopyLemmas.{copy_run_lost-keeps, fails_in_copy_run-one}
 use Rattle.nm_rules.proofs.RunPushLemmas.{halts_run-keeps, push_run_lost-keeps, pushes_run-keeps}
@@ -18,7 +20,7 @@ use Rattle.nm_stripe.specs.declared.answer.Answer.{Answer}
 use Rattle.nm_stripe.specs.declared.answer.Answer.TheVariants.{Begun, Pushed, Complete, Halted, Written, Value, Failed, MasterChanged, Joining, Copied, InSync, Synced, LegLost, Refused}
 use Rattle.nm_stripe.specs.declared.answer.Answer.TheVariants.{Nothing as NothingLeft}
 use Rattle.nm_stripe.specs.declared.step.Step.{Step}
-use Rattle.nm_stripe.specs.declared.step.Step.TheVariants.{Begin, Push, Claim, Read, Fail, Attach, Replace, Copy, Promote, Sync}
+use Rattle.nm_stripe.specs.declared.step.Step.TheVariants.{Begin, Push, Claim, Read, Fail, Attach, Return, Replace, Copy, Promote, Sync}
 use Rattle.nm_stripe.specs.Begin.{RefusesBegin, ForCause as BeginCause, ForFault as BeginFault}
 use Rattle.nm_stripe.specs.Copy.{RefusesCopy, ForCause as CopyCause, ForFault as CopyFault}
 use Rattle.nm_stripe.specs.Read.{RefusesRead, ForCause as ReadCause, ForFault as ReadFault}
@@ -53,6 +55,9 @@ module _ {L : Type 0} (type : LegType L) (old new : StripeState L) (k : Keeps ty
   attaches : (leg : ℕ) → leg < length old.legs → Attaches old new leg → Keeps type new
   attaches leg inside a = subst (λ (s : StripeState L). Keeps type s) (sym a.after) (attach-keeps type old leg inside k (may_attach old leg a.no_cause).out)
 
+  returns : (leg : ℕ) (marks : Marks) → leg < length old.legs → Returns old new leg marks → Keeps type new
+  returns leg marks inside r = subst (λ (s : StripeState L). Keeps type s) (sym r.after) (return-keeps type old leg (regions_in marks old) inside k (may_attach old leg r.no_cause).out)
+
   replaces : (leg : ℕ) (part : L) → leg < length old.legs → length (type.model part).contents ≡ old.place.blocks → Replaces old new leg part → Keeps type new
   replaces leg part inside long r = subst (λ (s : StripeState L). Keeps type s) (sym r.after) (replace-keeps type old leg part inside k (may_attach old leg r.no_cause).out long)
 
@@ -75,6 +80,8 @@ step-keeps type (Fail leg) (MasterChanged master) old new k asked is = fail-keep
 step-keeps type (Fail leg) (Refused cause handed) old new k asked is = same type old new k is.2
 step-keeps type (Attach leg) (Joining blocks) old new k asked is = attaches type old new k leg asked is.0
 step-keeps type (Attach leg) (Refused cause handed) old new k asked is = same type old new k is.2
+step-keeps type (Return leg marks) (Joining blocks) old new k asked is = returns type old new k leg marks asked.0 is.0
+step-keeps type (Return leg marks) (Refused cause handed) old new k asked is = same type old new k is.2
 step-keeps type (Replace leg part) (Joining blocks) old new k asked is = replaces type old new k leg part asked.0 asked.1 is.0
 step-keeps type (Replace leg part) (Refused cause handed) old new k asked is = same type old new k is.2
 step-keeps type (Copy leg most from) (Copied moved blocks) old new k asked is = (moved-run type old new leg most from k asked.1 moved is.0).keeps

@@ -4,7 +4,7 @@ use Rattle.nm_replay.specs.Events.{Event, marks_of}
 use Rattle.nm_fanout.specs.Data.{FitsBlocks, data_blocks}
 use Rattle.nm_leg.specs.Leg.{Leg, LegType, blocks_in, blocks_of}
 use Rattle.nm_rules.specs.Acts.{Acts}
-use Rattle.nm_rules.specs.Attach.{Attaches, Replaces, attach_cause}
+use Rattle.nm_rules.specs.Attach.{Attaches, Replaces, Returns, attach_cause}
 use Rattle.nm_rules.specs.Begin.{LosesInBegin}
 use Rattle.nm_rules.specs.Failing.{fail_cause}
 use Rattle.nm_rules.specs.Promote.{promote_cause}
@@ -28,7 +28,7 @@ use Rattle.nm_stripe.specs.declared.push.Reach.TheVariants as reach
 use Rattle.nm_stripe.specs.declared.read.Reading.TheVariants as reading
 use Rattle.nm_stripe.specs.declared.step.Step.{Step}
 use Rattle.nm_stripe.specs.declared.step.Step.TheVariants.{Begin, Push, Claim, Read, Fail, Attach}
-use Rattle.nm_stripe.specs.declared.step.Step.TheVariants.{Replace, Copy, Promote, Sync}
+use Rattle.nm_stripe.specs.declared.step.Step.TheVariants.{Return, Replace, Copy, Promote, Sync}
 use Rattle.nm_stripe.specs.declared.sync.Promotion.TheVariants as promotion
 use Rattle.nm_stripe.specs.declared.sync.Syncing.TheVariants as syncing
 use Rattle.nm_stripe.specs.Begin.{BeginsWith, RefusesBegin, puts_in}
@@ -39,7 +39,8 @@ use Rattle.nm_stripe.specs.Read.{Reads, RefusesRead}
 use Rattle.nm_stripe.specs.Sync.{EndsJoining, Syncs, RefusesSync}
 
 -- a step that may be asked for: its blocks are a run of the stripe, its leg is there, its data and
--- its room fit the blocks, a new leg is as long as the stripe, and a copy may move some block
+-- its room fit the blocks, its spans have regions, a new leg is as long as the stripe, and a copy
+-- may move some block
 abbrev pub MayBeAsked : {L : Type 0} → (L → Leg) → StripeState L → Step L → Type 0
 MayBeAsked model stripe (Begin block bytes) =
     FitsRun stripe.place block (data_blocks bytes) × FitsBlocks bytes
@@ -49,6 +50,7 @@ MayBeAsked model stripe (Read block room) =
     FitsRun stripe.place block (blocks_in room) × (length room ≡ 512 * blocks_in room)
 MayBeAsked model stripe (Fail leg) = leg < length stripe.legs
 MayBeAsked model stripe (Attach leg) = leg < length stripe.legs
+MayBeAsked model stripe (Return leg marks) = (leg < length stripe.legs) × (0 < marks.span)
 MayBeAsked model stripe (Replace leg part) =
     (leg < length stripe.legs) × (length (model part).contents ≡ stripe.place.blocks)
 MayBeAsked model stripe (Copy leg most from) = (leg < length stripe.legs) × (0 < most)
@@ -101,6 +103,10 @@ StepOf type (Fail leg) (Refused refusal handed) old new =
     (fail_cause old leg ≡ Some refusal) × (handed ≡ Nothing) × (new ≡ old)
 StepOf type (Attach leg) (Joining blocks) old new = Attaches old new leg × (blocks ≡ left leg new)
 StepOf type (Attach leg) (Refused refusal handed) old new =
+    (attach_cause old leg ≡ Some refusal) × (handed ≡ Nothing) × (new ≡ old)
+StepOf type (Return leg marks) (Joining blocks) old new =
+    Returns old new leg marks × (blocks ≡ left leg new)
+StepOf type (Return leg marks) (Refused refusal handed) old new =
     (attach_cause old leg ≡ Some refusal) × (handed ≡ Nothing) × (new ≡ old)
 StepOf type (Replace leg part) (Joining blocks) old new =
     Replaces old new leg part × (blocks ≡ left leg new)

@@ -1,7 +1,8 @@
 //! A leg that is out joins again.
 ghost use Rattle.std.specs.Prelude.{◌≡◌, ◌<◌, [], length, IsTrue, IfOk, IfErr, OnOk, OnErr, Some};
 ghost use Rattle.nm_rules.specs.Acts.{IsExplainedStep};
-ghost use Rattle.nm_rules.specs.Attach.{Attaches, Replaces, attach_cause};
+ghost use Rattle.nm_rules.specs.Attach.{Attaches, Replaces, Returns, attach_cause};
+ghost use Rattle.nm_rules.specs.Reopening.{Marks};
 ghost use Rattle.nm_rules.specs.State.{left};
 
 use crate::stripe::Stripe;
@@ -25,6 +26,28 @@ impl<L: LegPart> Stripe<L> {
             return Err(refusal);
         }
         self.store.attach(leg);
+        Ok(self.store.left(leg))
+    }
+
+    /// The leg joins as one that may have lost what it was written in these marked spans, each of so
+    /// many regions: it is behind also in their regions. Answers how many blocks are left to copy to
+    /// it.
+    ///
+    /// Refused as `attach` is.
+    pub fn return_leg(&mut self, leg: u8, marked: &[bool], span: u64) -> Result<u64, Refusal>
+        requires leg { leg < length self.old.legs }
+        requires some { 0 < span }
+        ensures ok { let marks : Marks = record { marked = marked.now; span = span } in
+            OnOk result (Returns self.old self.new leg marks) }
+        ensures left { IfOk result (λ blocks. blocks ≡ left leg self.new) }
+        ensures acts { OnOk result (IsExplainedStep L.model [] self.old self.new) }
+        ensures cause { IfErr result (λ refusal. attach_cause self.old leg ≡ Some refusal) }
+        ensures stays { OnErr result (self.new ≡ self.old) }
+    {
+        if let Some(refusal) = self.store.attach_cause(leg) {
+            return Err(refusal);
+        }
+        self.store.return_leg(leg, marked, span);
         Ok(self.store.left(leg))
     }
 

@@ -13,6 +13,7 @@ use crate::fail::Failing;
 use crate::push::Reach;
 use crate::read::Reading;
 use crate::room::Room;
+use crate::spans::Spans;
 use crate::stripe::Stripe;
 use crate::sync::{Promotion, Syncing};
 use crate::value::Value;
@@ -35,6 +36,8 @@ pub enum Step<L> {
     Fail(u8),
     /// Lets this leg join again.
     Attach(u8),
+    /// Lets this leg join again as one that may have lost what lies in these spans.
+    Return(u8, Spans),
     /// Puts another leg in the place of this one, which is out.
     Replace(u8, L),
     /// Copies to this joining leg: up to so many blocks, at least one, are read or written. Where
@@ -133,6 +136,22 @@ impl<L: LegPart> Stripe<L> {
         }
     }
 
+    /// A leg returns.
+    fn step_return(&mut self, leg: u8, spans: Spans) -> Answer<L>
+        requires leg { leg < length self.old.legs }
+        requires some { 0 < spans.span }
+        ensures step { StepOf (leg_type L.model L.honest) (Step.Return leg spans) result
+            self.old self.new }
+        ensures acts { IsTrue L.honest
+            → IsExplainedStep L.model (marks (Step.Return leg spans) result) self.old self.new }
+    {
+        self.sound();
+        match self.return_leg(leg, &spans.marked, spans.regions) {
+            Ok(left) => Answer::Joining(left),
+            Err(refusal) => refusal_answer(refusal),
+        }
+    }
+
     /// A step of a copy.
     fn step_copy(&mut self, leg: u8, most: u64, from: u64) -> Answer<L>
         requires leg { leg < length self.old.legs }
@@ -205,6 +224,7 @@ impl<L: LegPart> Stripe<L> {
                 Ok(left) => Answer::Joining(left),
                 Err(refusal) => refusal_answer(refusal),
             },
+            Step::Return(leg, spans) => self.step_return(leg, spans),
             Step::Replace(leg, part) => match self.replace(leg, part) {
                 Ok(left) => Answer::Joining(left),
                 Err((refusal, part)) => Answer::Refused(refusal, Handed::Replacement(part)),

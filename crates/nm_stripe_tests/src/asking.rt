@@ -7,7 +7,7 @@ ghost use Rattle.nm_stripe.specs.Run.{MayBeAsked};
 use bytes::{Bytes, BytesMut};
 use nm_fanout::Data;
 use nm_leg::LegPart;
-use nm_stripe::{Answer, At, Refusal, Room, Step, Stripe};
+use nm_stripe::{Answer, At, Refusal, Room, Spans, Step, Stripe};
 use std::alloc::{AllocError, Global};
 use std::process::Abort;
 use std::test::Fail;
@@ -27,6 +27,8 @@ pub enum Ask {
     Get(u64, u16),
     Fail(u8),
     Attach(u8),
+    /// Of this leg, with the regions of these bits marked.
+    Return(u8, u8),
     Replace(u8),
     Copy(u8),
     Promote(u8),
@@ -81,6 +83,15 @@ pub fn part(alloc: Global, from: u16, len: u16, byte: u8) -> Result<Data, AllocE
     Ok(Data::Part { from, bytes })
 }
 
+/// Spans of a region each, of which those of these bits are marked.
+fn spans(alloc: Global, bits: u8) -> Result<Spans, AllocError> {
+    let marked = [bits & 1 != 0, bits & 2 != 0, bits & 4 != 0];
+    Ok(Spans {
+        marked: Vec::from_array(alloc, marked)?,
+        regions: 1,
+    })
+}
+
 /// The step, whose leg that takes another's place is the last of `spare`.
 pub fn step_of<L: LegPart>(alloc: Global, spare: &mut Vec<L>, ask: Ask) -> Result<Step<L>, Fail> {
     Ok(match ask {
@@ -93,6 +104,7 @@ pub fn step_of<L: LegPart>(alloc: Global, spare: &mut Vec<L>, ask: Ask) -> Resul
         Ask::Get(block, count) => Step::Read(block, room(alloc, count)?),
         Ask::Fail(leg) => Step::Fail(leg),
         Ask::Attach(leg) => Step::Attach(leg),
+        Ask::Return(leg, bits) => Step::Return(leg, spans(alloc, bits)?),
         Ask::Replace(leg) => Step::Replace(leg, spare.pop().ok_or("no spare leg")?),
         Ask::Copy(leg) => Step::Copy(leg, 1, 0),
         Ask::Promote(leg) => Step::Promote(leg),
@@ -135,6 +147,9 @@ pub fn may_ask<L: LegPart>(rt: &impl Abort, stripe: &Stripe<L>, step: &Step<L>)
         }
         Step::Copy(leg, most, _) => {
             assert!(rt; (*leg as usize) < stripe.legs() && *most > 0);
+        }
+        Step::Return(leg, spans) => {
+            assert!(rt; (*leg as usize) < stripe.legs() && spans.regions > 0);
         }
         Step::Push(_, leg)
         | Step::Fail(leg)

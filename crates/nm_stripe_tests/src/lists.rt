@@ -178,7 +178,7 @@ pub const THREE_UNDER_WAY: [(Ask, Summary); 15] = [
     (Ask::Claim(1), Summary::Written(1)),
 ];
 
-pub const SHORT_REGION: [(Ask, Summary); 10] = [
+pub const SHORT_REGION: [(Ask, Summary); 12] = [
     (Ask::Fail(1), Summary::Failed),
     (Ask::Begin(0, 0xaa), Summary::Begun(0)),
     (Ask::Push(0, 0), Summary::Complete(0)),
@@ -189,6 +189,8 @@ pub const SHORT_REGION: [(Ask, Summary); 10] = [
     (Ask::Read(5), Summary::Value(3, 0x00)),
     (Ask::Read(9), Summary::Value(4, 0xbb)),
     (Ask::Attach(1), Summary::Refused(Refusal::NotOut)),
+    (Ask::Fail(1), Summary::Failed),
+    (Ask::Return(1, 0b010), Summary::Joining(10)),
 ];
 
 pub const LAST_LEG_READS: [(Ask, Summary); 5] = [

@@ -1,6 +1,8 @@
 -- Once all regions were seen, each is marked as its span is.
-use Rattle.std.proofs.Common.{rules, ◌≡◌, ℕ, true, false, Bool, List, length, replicate, ap, ◌∙◌}
+use Rattle.std.proofs.Common.{rules, ◌≡◌, ℕ, Bool, List, length, ap, ◌∙◌}
 use Rattle.nm_regions.specs.Changes.{with_leg}
+use Rattle.nm_regions.specs.LegFlags.{no_leg}
+use Rattle.nm_regions.specs.Table.{leg_at}
 use Rattle.nm_rules.specs.Reopening.{Marks}
 use Rattle.nm_store.proofs.ReopeningLemmas.{all-marked, marked_upto}
 use Rattle.nm_store.proofs.reopening.mark_spans.Goals as goal
@@ -11,6 +13,7 @@ returns c =
     let t = c.args.regions.now in
     let n : ℕ = length t.writes in
     let all : c.loop-region.region ≡ n = search rules in
+    let long : length (leg_at c.args.leg t).behind ≡ n = c.is_sound.ensures.table.flags c.args.leg no_leg c.requires.leg in
     c.loop-region.invariant
-    ∙ ap (λ (k : ℕ). with_leg (λ x. record { out = true; behind = marked_upto marks k (replicate n false) }) c.args.leg t) all
-    ∙ ap (λ (behind : List Bool). with_leg (λ x. record { out = true; behind = behind }) c.args.leg t) (all-marked marks n)
+    ∙ ap (λ (k : ℕ). with_leg (λ x. record x { behind = marked_upto marks k x.behind }) c.args.leg t) all
+    ∙ ap (λ (behind : List Bool). with_leg (λ x. record x { behind = behind }) c.args.leg t) (all-marked marks n (leg_at c.args.leg t).behind long)
