@@ -14,7 +14,7 @@ use Rattle.nm_rules.proofs.RecordLemmas.{busy_found, one_or_two}
 use Rattle.nm_stripe.specs.declared.answer.Answer.{Answer}
 use Rattle.nm_stripe.specs.declared.answer.Answer.TheVariants.{Joining, InSync, Written, Refused}
 use Rattle.nm_stripe.specs.declared.step.Step.{Step}
-use Rattle.nm_stripe.specs.declared.step.Step.TheVariants.{Begin, Push, Claim, Read, Fail, Attach, Replace, Copy, Promote, Sync}
+use Rattle.nm_stripe.specs.declared.step.Step.TheVariants.{Begin, Push, Claim, Read, Fail, Attach, Return, Replace, Copy, Promote, Sync}
 use Rattle.nm_stripe.specs.Run.{MayBeAsked, NoneHalted, StepOf}
 use Rattle.nm_stripe.proofs.RunLemmas.{step-shape}
 use Rattle.nm_stripe.proofs.StepLemmas.{step-keeps}
@@ -101,6 +101,7 @@ module _ {L : Type 0} (type : LegType L) (is_honest : IsTrue type.honest) where
 
       step-held : (free : ℕ → Type 0) (step : Step L) (answer : Answer L) → Allows d old step → MayBeAsked type.model old step → StepOf type step answer old new → LegsLeft type b (other_of step answer) free old new → (j : ℕ) → is_named j d ≡ true → Holds type.model new j b
       step-held free (Attach leg) (Joining blocks) allowed asked is left j named = other-held (but leg) free left j (named-other d leg j allowed.1 named) named
+      step-held free (Return leg marks) (Joining blocks) allowed asked is left j named = other-held (but leg) free left j (named-other d leg j allowed.1 named) named
       step-held free (Replace leg part) (Joining blocks) allowed asked is left j named = other-held (but leg) free left j (named-other d leg j allowed.1 named) named
       step-held free (Promote leg) InSync allowed asked is left j named =
           ⊎_elim
@@ -131,6 +132,7 @@ module _ {L : Type 0} (type : LegType L) (is_honest : IsTrue type.honest) where
     step-held_after (Read block room) answer goes allowed asked is = other-step (Read block room) answer (λ t e. cc) goes allowed asked is
     step-held_after (Fail leg) answer goes allowed asked is = other-step (Fail leg) answer (λ t e. cc) goes allowed asked is
     step-held_after (Attach leg) answer goes allowed asked is = other-step (Attach leg) answer (λ t e. cc) goes allowed asked is
+    step-held_after (Return leg marks) answer goes allowed asked is = other-step (Return leg marks) answer (λ t e. cc) goes allowed asked is
     step-held_after (Replace leg part) answer goes allowed asked is = other-step (Replace leg part) answer (λ t e. cc) goes allowed asked is
     step-held_after (Copy leg most from) answer goes allowed asked is = other-step (Copy leg most from) answer (λ t e. cc) goes allowed asked is
     step-held_after (Promote leg) answer goes allowed asked is = other-step (Promote leg) answer (λ t e. cc) goes allowed asked is

@@ -26,7 +26,7 @@ use Rattle.nm_stripe.specs.declared.answer.Answer.{Answer}
 use Rattle.nm_stripe.specs.declared.answer.Answer.TheVariants.{Begun, Pushed, Complete, Halted, Written, Value, Failed, MasterChanged, Joining, Copied, InSync, Synced, LegLost, Refused}
 use Rattle.nm_stripe.specs.declared.answer.Answer.TheVariants.{Nothing as NothingLeft}
 use Rattle.nm_stripe.specs.declared.step.Step.{Step}
-use Rattle.nm_stripe.specs.declared.step.Step.TheVariants.{Begin, Push, Claim, Read, Fail, Attach, Replace, Copy, Promote, Sync}
+use Rattle.nm_stripe.specs.declared.step.Step.TheVariants.{Begin, Push, Claim, Read, Fail, Attach, Return, Replace, Copy, Promote, Sync}
 use Rattle.nm_stripe.specs.Begin.{BeginsWith, RefusesBegin, ForCause as BeginCause, ForFault as BeginFault}
 use Rattle.nm_stripe.specs.Copy.{RefusesCopy, ForCause as CopyCause, ForFault as CopyFault}
 use Rattle.nm_stripe.specs.Flush.{LeavesBlock}
@@ -199,7 +199,9 @@ module _ {L : Type 0} (type : LegType L) (old new : StripeState L) (b : ℕ) (no
   step-still (Fail leg) (MasterChanged master) leaves goes is = lost-now leg old.legs is.0.after
   step-still (Fail leg) (Refused cause handed) leaves goes is = stays is.2
   step-still (Attach leg) (Joining blocks) leaves goes is = as-was (ap (λ (s : StripeState L). s.records) is.0.after)
+  step-still (Return leg marks) (Joining blocks) leaves goes is = as-was (ap (λ (s : StripeState L). s.records) is.0.after)
   step-still (Attach leg) (Refused cause handed) leaves goes is = stays is.2
+  step-still (Return leg marks) (Refused cause handed) leaves goes is = stays is.2
   step-still (Replace leg part) (Joining blocks) leaves goes is = as-was (ap (λ (s : StripeState L). s.records) is.0.after)
   step-still (Replace leg part) (Refused cause handed) leaves goes is = stays is.2
   step-still (Copy leg most from) (Copied moved blocks) leaves goes is = copied leg most from moved is.0

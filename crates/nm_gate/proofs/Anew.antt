@@ -3,7 +3,6 @@ use Rattle.std.proofs.Common.{◌≡◌, ◌⊎◌, ⊎_elim, inl, inr, ℕ, zer
 use Rattle.std.proofs.lemmas.Bool.Decides.{eqb_tells}
 use Rattle.std.proofs.lemmas.Nat.Bits.{bit_at-pow_same, bit_at-pow_other}
 use Rattle.nm_replay.specs.declared.block.Block.{Block}
-use Rattle.nm_choice.specs.declared.leg_state.LegState.{LegState}
 use Rattle.nm_choice.specs.declared.leg_state.LegState.TheVariants.{InSync, Joining, Out}
 use Rattle.nm_choice.specs.declared.policy.Policy.{Policy}
 use Rattle.nm_leg.specs.Leg.{LegType}

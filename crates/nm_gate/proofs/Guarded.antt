@@ -18,7 +18,7 @@ use Rattle.nm_rules.proofs.RecordLemmas.{one_or_two}
 use Rattle.nm_stripe.specs.declared.answer.Answer.{Answer}
 use Rattle.nm_stripe.specs.declared.answer.Answer.TheVariants.{Joining, InSync}
 use Rattle.nm_stripe.specs.declared.step.Step.{Step}
-use Rattle.nm_stripe.specs.declared.step.Step.TheVariants.{Attach, Replace, Promote}
+use Rattle.nm_stripe.specs.declared.step.Step.TheVariants.{Attach, Return, Replace, Promote}
 use Rattle.nm_stripe.specs.Run.{MayBeAsked, StepOf}
 use Rattle.nm_gate.specs.Durable.{Durable, is_named}
 use Rattle.nm_gate.specs.Gate.{Allows, IsSaved}
@@ -58,6 +58,7 @@ module _ {L : Type 0} (type : LegType L) (old new : StripeState L) (d : Durable)
 
   pub step-apart : (b : ℕ) (free : ℕ → Type 0) (step : Step L) (answer : Answer L) → Allows d old step → MayBeAsked type.model old step → StepOf type step answer old new → LegsLeft type b (other_of step answer) free old new → (j : ℕ) → is_named j d ≡ true → leg_state j new ≢ state.Joining
   step-apart b free (Attach leg) (Joining blocks) allowed asked is left j named = other-apart b (but leg) free left j (named-other d leg j allowed.1 named) named
+  step-apart b free (Return leg marks) (Joining blocks) allowed asked is left j named = other-apart b (but leg) free left j (named-other d leg j allowed.1 named) named
   step-apart b free (Replace leg part) (Joining blocks) allowed asked is left j named = other-apart b (but leg) free left j (named-other d leg j allowed.1 named) named
   step-apart b free (Promote leg) InSync allowed asked is left j named =
       ⊎_elim (λ e joins. in_sync-joining (sym (promoted-in_sync leg asked is) ∙ subst (λ (i : ℕ). leg_state i new ≡ state.Joining) e joins)) (λ ne. other-apart b (but leg) free left j ne named) (one_or_two j leg)
@@ -116,6 +117,8 @@ module _ {L : Type 0} (type : LegType L) (old new : StripeState L) (d : Durable)
   -- a step that may be done keeps what leg j holds, where it counts
   pub step-guards : (free : ℕ → Type 0) (step : Step L) (answer : Answer L) → Allows d old step → MayBeAsked type.model old step → StepOf type step answer old new → LegsLeft type b (other_of step answer) free old new → (j : ℕ) → Guards type old d j b → Guards type new d j b
   step-guards free (Attach leg) (Joining blocks) allowed asked is left j guards =
+      ⊎_elim (λ e. subst (λ (i : ℕ). Guards type new d i b) (sym e) (joined-guards leg allowed.1 (ap (λ (x : StripeState L). x.states) is.0.after))) (λ ne. guards-other (but leg) free left j ne guards) (one_or_two j leg)
+  step-guards free (Return leg marks) (Joining blocks) allowed asked is left j guards =
       ⊎_elim (λ e. subst (λ (i : ℕ). Guards type new d i b) (sym e) (joined-guards leg allowed.1 (ap (λ (x : StripeState L). x.states) is.0.after))) (λ ne. guards-other (but leg) free left j ne guards) (one_or_two j leg)
   step-guards free (Replace leg part) (Joining blocks) allowed asked is left j guards =
       ⊎_elim (λ e. subst (λ (i : ℕ). Guards type new d i b) (sym e) (joined-guards leg allowed.1 (ap (λ (x : StripeState L). x.states) is.0.after))) (λ ne. guards-other (but leg) free left j ne guards) (one_or_two j leg)

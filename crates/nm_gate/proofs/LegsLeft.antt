@@ -12,7 +12,7 @@ use Rattle.nm_leg.specs.Leg.{IsOutside, LegType}
 use Rattle.nm_leg.specs.LegCalls.{ChangesLeg, SyncsLegAt}
 use Rattle.nm_regions.specs.declared.copy_place.CopyPlace.{CopyPlace}
 use Rattle.nm_rules.specs.Array.{contents_at, contents_of}
-use Rattle.nm_rules.specs.Attach.{Attaches, Replaces}
+use Rattle.nm_rules.specs.Attach.{Attaches, Replaces, Returns}
 use Rattle.nm_rules.specs.Begin.{Begins, FailsInBegin, LosesInBegin, ReadsBase}
 use Rattle.nm_rules.specs.BlockCalls.{ReadsBlockAt}
 use Rattle.nm_rules.specs.Copy.{GoesOn}
@@ -22,6 +22,7 @@ use Rattle.nm_rules.specs.Invariant.{Keeps}
 use Rattle.nm_rules.specs.Lost.{lost, lost_all}
 use Rattle.nm_rules.specs.Promote.{LosesInPromote, Promotes}
 use Rattle.nm_rules.specs.Read.{FailsInRead, LosesInRead}
+use Rattle.nm_rules.specs.Reopening.{Marks}
 use Rattle.nm_rules.specs.RunCalls.{ReadsRunAt, WritesRunAt}
 use Rattle.nm_rules.specs.RunClaim.{ClaimsRun}
 use Rattle.nm_rules.specs.RunCopy.{CopiesReadRun, CopiesWriteRun, FailsInCopyRun, LosesInCopyRun, next_blocks}
@@ -360,6 +361,10 @@ module _ {L : Type 0} (type : LegType L) (old new : StripeState L) (b : ℕ) (fr
     pub attaches-left : (leg : ℕ) → Attaches old new leg → LegsLeft type b (but leg) free old new
     attaches-left leg a =
         joined-left leg (ap (λ (s : StripeState L). s.stopped) a.after) (ap (λ (s : StripeState L). s.states) a.after) (ap (λ (s : StripeState L). s.master) a.after) (λ j ne. ap (λ (s : StripeState L). slice_get s.legs j) a.after) (may_attach old leg a.no_cause).out
+
+    pub returns-left : (leg : ℕ) (marks : Marks) → Returns old new leg marks → LegsLeft type b (but leg) free old new
+    returns-left leg marks r =
+        joined-left leg (ap (λ (s : StripeState L). s.stopped) r.after) (ap (λ (s : StripeState L). s.states) r.after) (ap (λ (s : StripeState L). s.master) r.after) (λ j ne. ap (λ (s : StripeState L). slice_get s.legs j) r.after) (may_attach old leg r.no_cause).out
 
     pub replaces-left : (leg : ℕ) (part : L) → Replaces old new leg part → LegsLeft type b (but leg) free old new
     replaces-left leg part r =

@@ -9,7 +9,7 @@ use Rattle.nm_rules.proofs.RecordLemmas.{one_or_two}
 use Rattle.nm_stripe.specs.declared.answer.Answer.{Answer}
 use Rattle.nm_stripe.specs.declared.answer.Answer.TheVariants.{Joining, InSync}
 use Rattle.nm_stripe.specs.declared.step.Step.{Step}
-use Rattle.nm_stripe.specs.declared.step.Step.TheVariants.{Attach, Replace, Promote}
+use Rattle.nm_stripe.specs.declared.step.Step.TheVariants.{Attach, Return, Replace, Promote}
 use Rattle.nm_stripe.specs.Run.{NoneHalted, StepOf}
 use Rattle.nm_gate.specs.Durable.{Durable, is_listed}
 use Rattle.nm_gate.specs.Gate.{Allows}
@@ -33,6 +33,8 @@ module _ {L : Type 0} (type : LegType L) (is_honest : IsTrue type.honest) where
 
     step-listed : (b : ℕ) (free : ℕ → Type 0) (step : Step L) (answer : Answer L) → Allows d old step → StepOf type step answer old new → LegsLeft type b (other_of step answer) free old new → AllListed new d
     step-listed b free (Attach leg) (Joining blocks) allowed is left j in_sync =
+        ⊎_elim (λ e. absurd (joined-not leg j (ap (λ (x : StripeState L). x.states) is.0.after) e in_sync)) (λ ne. other-listed b (but leg) free left j ne in_sync) (one_or_two j leg)
+    step-listed b free (Return leg marks) (Joining blocks) allowed is left j in_sync =
         ⊎_elim (λ e. absurd (joined-not leg j (ap (λ (x : StripeState L). x.states) is.0.after) e in_sync)) (λ ne. other-listed b (but leg) free left j ne in_sync) (one_or_two j leg)
     step-listed b free (Replace leg part) (Joining blocks) allowed is left j in_sync =
         ⊎_elim (λ e. absurd (joined-not leg j (ap (λ (x : StripeState L). x.states) is.0.after) e in_sync)) (λ ne. other-listed b (but leg) free left j ne in_sync) (one_or_two j leg)

@@ -1,6 +1,6 @@
 -- A leg is not behind at a block only where it opens behind in marked spans alone, and the block's is not one.
-use Rattle.std.proofs.Common.{◌≡◌, ◌≢◌, ◌⊎◌, ⊎_elim, inl, inr, ℕ, ◌+◌, ◌<◌, ◌/◌, arith, length, length-set, Bool, true, false, List, map, replicate, refl, sym, ap, ◌∙◌, slice_get, slice_index_or, get_or}
-use Rattle.std.proofs.lemmas.List.{get_or-map, get_or-replicate, length-map, length-replicate}
+use Rattle.std.proofs.Common.{◌≡◌, ◌≢◌, ◌⊎◌, ⊎_elim, inl, inr, ℕ, ◌+◌, ◌<◌, ◌/◌, arith, length, length-set, true, false, List, map, replicate, refl, sym, ap, ◌∙◌, slice_get, get_or}
+use Rattle.std.proofs.lemmas.List.{get_or-map, get_or-replicate, length-map}
 use Rattle.nm_choice.specs.declared.leg_state.LegState.TheVariants.{InSync}
 use Rattle.nm_choice.specs.declared.policy.Policy.{Policy}
 use Rattle.nm_leg.specs.Leg.{LegType}
@@ -8,8 +8,8 @@ use Rattle.nm_regions.specs.LegFlags.{LegRegions, is_behind, no_leg, opened_leg}
 use Rattle.nm_regions.specs.Table.{regions_of}
 use Rattle.nm_rules.specs.declared.leg_opening.LegOpening.{LegOpening}
 use Rattle.nm_rules.specs.declared.leg_opening.LegOpening.TheVariants.{Missing, Partial, Whole}
-use Rattle.nm_rules.specs.Array.{contents_of, stripe_array}
-use Rattle.nm_rules.specs.Reopening.{AgreeWhereClear, IsClearAt, MayReopen, OpeningPlan, is_in_marked, marks_from, planned, reopened_flags, reopened_leg, reopened_state, reopened_states}
+use Rattle.nm_rules.specs.Array.{contents_of}
+use Rattle.nm_rules.specs.Reopening.{AgreeWhereClear, IsClearAt, MayReopen, OpeningPlan, is_in_marked, planned, reopened_flags, reopened_leg, reopened_state}
 use Rattle.nm_rules.specs.State.{StripeState}
 use Rattle.nm_rules.proofs.AttachLemmas.{set-other}
 use Rattle.nm_rules.proofs.ChunkLemmas.{region_within}
@@ -20,10 +20,9 @@ use Rattle.nm_gate.specs.Gate.{is_marked_at}
 use Rattle.nm_gate.specs.MarkedStart.{IsPlanBy, MarkedStartsAreRight}
 use Rattle.nm_gate.specs.Moves.{Gated}
 use Rattle.nm_gate.specs.Restart.{AreLeft, GoesBySuperblock}
-use Rattle.nm_gate.specs.Saves.{IsCovered}
 use Rattle.nm_gate.specs.Survive.{EqualOutside, Stands}
 use Rattle.nm_gate.proofs.Bounded.{off-back}
-use Rattle.nm_gate.proofs.Reopened.{left-holds, state-inside}
+use Rattle.nm_gate.proofs.Reopened.{left-holds}
 
 -- the block is in no marked span, and the leg may be called in sync, or lacking no more than these
 abbrev IsLeftOut : {L : Type 0} → StripeState L → Durable → (leg block : ℕ) → Type 0

@@ -1,5 +1,5 @@
 -- What a start finds that opens a stripe by the superblock.
-use Rattle.std.proofs.Common.{◌≡◌, ◌⊎◌, ⊎_elim, inl, inr, ℕ, zero, suc, ◌<◌, ◌/◌, ◌||◌, arith, length, Bool, true, false, not, IsTrue, List, [], ◌∷◌, refl, sym, ap, ◌∙◌, slice_get, slice_index_or, get_or}
+use Rattle.std.proofs.Common.{◌≡◌, ◌⊎◌, ⊎_elim, inl, inr, ℕ, zero, suc, ◌<◌, arith, length, true, false, IsTrue, List, [], ◌∷◌, sym, ap, ◌∙◌, slice_get, slice_index_or}
 use Rattle.nm_choice.specs.declared.leg_state.LegState.{LegState}
 use Rattle.nm_choice.specs.declared.leg_state.LegState.TheVariants.{InSync, Out}
 use Rattle.nm_leg.specs.Leg.{LegType}

@@ -12,17 +12,18 @@ use Rattle.nm_stripe.specs.declared.answer.Answer.{Answer}
 use Rattle.nm_stripe.specs.declared.answer.Answer.TheVariants.{Begun, Pushed, Complete, Halted, Written, Value, Failed, MasterChanged, Joining, Copied, InSync, Synced, LegLost, Refused}
 use Rattle.nm_stripe.specs.declared.answer.Answer.TheVariants.{Nothing as NothingLeft}
 use Rattle.nm_stripe.specs.declared.step.Step.{Step}
-use Rattle.nm_stripe.specs.declared.step.Step.TheVariants.{Begin, Push, Claim, Read, Fail, Attach, Replace, Copy, Promote, Sync}
+use Rattle.nm_stripe.specs.declared.step.Step.TheVariants.{Begin, Push, Claim, Read, Fail, Attach, Return, Replace, Copy, Promote, Sync}
 use Rattle.nm_stripe.specs.Begin.{RefusesBegin, ForCause as BeginCause, ForFault as BeginFault}
 use Rattle.nm_stripe.specs.Copy.{RefusesCopy, ForCause as CopyCause, ForFault as CopyFault}
 use Rattle.nm_stripe.specs.Read.{RefusesRead, ForCause as ReadCause, ForFault as ReadFault}
 use Rattle.nm_stripe.specs.Run.{NoneHalted, StepOf}
 use Rattle.nm_stripe.specs.Sync.{RefusesSync, ForCause as SyncCause, ForFault as SyncFault}
-use Rattle.nm_gate.proofs.LegsLeft.{LegsLeft, NotNext, any, but, stays, begins-left, fails_in_begin-left, loses_in_begin-left, pushes-left, loses_in_push-left, claims-left, finds-left, fails_in_read-left, loses_in_read-left, goes_out-left, attaches-left, replaces-left, copies_read-left, copies_write-left, fails_in_copy-left, loses_in_copy-left, promotes-left, loses_in_promote-left, synchronizes-left, fails_in_sync-left, loses_in_sync-left}
+use Rattle.nm_gate.proofs.LegsLeft.{LegsLeft, NotNext, any, but, stays, begins-left, fails_in_begin-left, loses_in_begin-left, pushes-left, loses_in_push-left, claims-left, finds-left, fails_in_read-left, loses_in_read-left, goes_out-left, attaches-left, replaces-left, returns-left, copies_read-left, copies_write-left, fails_in_copy-left, loses_in_copy-left, promotes-left, loses_in_promote-left, synchronizes-left, fails_in_sync-left, loses_in_sync-left}
 
 -- the legs that a step does not call in sync, nor lets join
 abbrev pub other_of : {L : Type 0} → Step L → Answer L → ℕ → Type 0
 other_of (Attach leg) (Joining blocks) = but leg
+other_of (Return leg marks) (Joining blocks) = but leg
 other_of (Replace leg part) (Joining blocks) = but leg
 other_of (Promote leg) InSync = but leg
 other_of step answer = any
@@ -71,6 +72,8 @@ module _ {L : Type 0} (type : LegType L) (old new : StripeState L) (b : ℕ) (is
   step-left (Fail leg) (Refused cause handed) goes is = stays type old new b (free_of (Fail leg) old b) is.2
   step-left (Attach leg) (Joining blocks) goes is = attaches-left type old new b (free_of (Attach leg) old b) k leg is.0
   step-left (Attach leg) (Refused cause handed) goes is = stays type old new b (free_of (Attach leg) old b) is.2
+  step-left (Return leg marks) (Joining blocks) goes is = returns-left type old new b (free_of (Return leg marks) old b) k leg marks is.0
+  step-left (Return leg marks) (Refused cause handed) goes is = stays type old new b (free_of (Return leg marks) old b) is.2
   step-left (Replace leg part) (Joining blocks) goes is = replaces-left type old new b (free_of (Replace leg part) old b) k leg part is.0
   step-left (Replace leg part) (Refused cause handed) goes is = stays type old new b (free_of (Replace leg part) old b) is.2
   step-left (Copy leg most from) (Copied moved blocks) goes is = copied (free_of (Copy leg most from) old b) leg most from moved (λ j f. f) is.0

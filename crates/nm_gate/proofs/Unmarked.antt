@@ -15,7 +15,7 @@ use Rattle.nm_rules.proofs.StateLemmas.{in_sync_inside}
 use Rattle.nm_stripe.specs.declared.answer.Answer.{Answer}
 use Rattle.nm_stripe.specs.declared.answer.Answer.TheVariants.{Joining, InSync}
 use Rattle.nm_stripe.specs.declared.step.Step.{Step}
-use Rattle.nm_stripe.specs.declared.step.Step.TheVariants.{Attach, Replace, Copy, Promote}
+use Rattle.nm_stripe.specs.declared.step.Step.TheVariants.{Attach, Return, Replace, Copy, Promote}
 use Rattle.nm_stripe.specs.Run.{MayBeAsked, NoneHalted, StepOf}
 use Rattle.nm_stripe.proofs.RunLemmas.{step-shape}
 use Rattle.nm_stripe.proofs.StepLemmas.{step-keeps}
@@ -91,6 +91,18 @@ module _ {L : Type 0} (type : LegType L) (is_honest : IsTrue type.honest) (old n
     step-equal : (step : Step L) (answer : Answer L) → Allows d old step → MayBeAsked type.model old step → StepOf type step answer old new → LegsLeft type b (other_of step answer) (free_of step old b) old new → (j : ℕ) → IsCovered new d j → HoldsDurably type.model new j b
     step-equal (Attach leg) (Joining blocks) allowed asked is left j covered =
         let free = free_of {L = L} (Attach leg) old b in
+        ⊎_elim
+        (λ e. at-leg leg j e (⊎_elim
+        (λ named. absurd (both-ways (is_named leg d) named allowed.1))
+        (λ more. ⊎_elim
+        (λ lacking. equal-joined (but leg) free left leg (ap (λ (x : StripeState L). x.legs) is.0.after) lacking)
+        (λ in_sync. absurd (joins-not old.states leg (subst (λ (xs : List LegState). slice_index_or xs leg Out ≡ state.InSync) (ap (λ (x : StripeState L). x.states) is.0.after) in_sync)))
+        more)
+        (covered-at leg j e covered)))
+        (λ ne. equal-other (but leg) free left j ne (inr tt) covered)
+        (one_or_two j leg)
+    step-equal (Return leg marks) (Joining blocks) allowed asked is left j covered =
+        let free = free_of {L = L} (Return leg marks) old b in
         ⊎_elim
         (λ e. at-leg leg j e (⊎_elim
         (λ named. absurd (both-ways (is_named leg d) named allowed.1))

@@ -18,7 +18,7 @@ use Rattle.nm_stripe.specs.declared.answer.Answer.{Answer}
 use Rattle.nm_stripe.specs.declared.answer.Answer.TheVariants.{Begun, Pushed, Complete, Halted, Value, Failed, MasterChanged, Joining, Copied, InSync, Synced, LegLost, Refused}
 use Rattle.nm_stripe.specs.declared.answer.Answer.TheVariants.{Nothing as NothingLeft}
 use Rattle.nm_stripe.specs.declared.step.Step.{Step}
-use Rattle.nm_stripe.specs.declared.step.Step.TheVariants.{Begin, Push, Claim, Read, Fail, Attach, Replace, Copy, Promote, Sync}
+use Rattle.nm_stripe.specs.declared.step.Step.TheVariants.{Begin, Push, Claim, Read, Fail, Attach, Return, Replace, Copy, Promote, Sync}
 use Rattle.nm_stripe.specs.Begin.{BeginsWith, RefusesBegin, ForCause as BeginCause, ForFault as BeginFault}
 use Rattle.nm_stripe.specs.Copy.{RefusesCopy, ForCause as CopyCause, ForFault as CopyFault}
 use Rattle.nm_stripe.specs.Read.{RefusesRead, ForCause as ReadCause, ForFault as ReadFault}
@@ -163,7 +163,9 @@ module _ {L : Type 0} (type : LegType L) (old new : StripeState L) (b : ℕ) (no
   step-none (Fail leg) (MasterChanged master) other goes is = lost-was leg old.legs is.0.after
   step-none (Fail leg) (Refused cause handed) other goes is = stays is.2
   step-none (Attach leg) (Joining blocks) other goes is = as-was (ap (λ (s : StripeState L). s.records) is.0.after)
+  step-none (Return leg marks) (Joining blocks) other goes is = as-was (ap (λ (s : StripeState L). s.records) is.0.after)
   step-none (Attach leg) (Refused cause handed) other goes is = stays is.2
+  step-none (Return leg marks) (Refused cause handed) other goes is = stays is.2
   step-none (Replace leg part) (Joining blocks) other goes is = as-was (ap (λ (s : StripeState L). s.records) is.0.after)
   step-none (Replace leg part) (Refused cause handed) other goes is = stays is.2
   step-none (Copy leg most from) (Copied moved blocks) other goes is = copied leg most from moved is.0

@@ -8,6 +8,7 @@ pub mod Held
 pub mod MarkedStart
 pub mod Moves
 pub mod Restart
+pub mod Returning
 pub mod Saves
 pub mod Settling
 pub mod Survive

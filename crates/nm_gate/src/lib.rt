@@ -17,5 +17,6 @@ mod gate_refusal;
 mod gated_stripe;
 pub mod laws;
 mod leg_claims;
+mod returning;
 mod saves;
 mod settling;

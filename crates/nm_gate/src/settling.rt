@@ -20,6 +20,18 @@ use nm_rules::Refusal;
 use nm_stripe::{Stripe, Syncing};
 
 impl<L: LegPart> GatedStripe<L> {
+    /// Whether there are marks that may be cleared once each leg is synced.
+    pub fn may_settle(&self) -> bool
+        ensures some { IfSome self.now.durable (λ d. IsTrue result
+            ↔ (IsTrue (list_any (λ marked. marked) d.marked) × MaySettle self.now.stripe d)) }
+        ensures none { self.now.durable ≡ None → result ≡ false }
+    {
+        match &self.durable {
+            Some(durable) => durable.has_marks() && durable.may_settle(&self.stripe),
+            None => false,
+        }
+    }
+
     /// Clears all marks, once the legs hold the same durably: where no write has a record, and each
     /// leg is in sync that the superblock may call in sync, or partial, it syncs each leg that is
     /// not out, and clears the marks if all went well. Whether nothing is marked any more.
