@@ -12,7 +12,7 @@ pub enum Misfit {
     OtherMirror,
     /// It says that it is another leg's.
     OtherLeg,
-    /// Both went on apart: the newest one does not come after it.
+    /// Both went on apart: the newest one neither comes after it, nor is of its save.
     Apart,
 }
 

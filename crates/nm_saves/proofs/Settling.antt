@@ -1,7 +1,8 @@
 -- What the slots of a file are read as, and that no stamp in them is higher.
-use Rattle.std.proofs.Common.{◌≡◌, ℕ, ◌≤◌, List, length, Option, None, Some, IsTrue, Bool, false, sym, ap, ◌∙◌, subst, refl, arith, max, IfSome}
+use Rattle.std.proofs.Common.{◌≡◌, ◌↔◌, ℕ, ◌≤◌, List, length, Option, None, Some, IsTrue, Bool, false, sym, ap, ◌∙◌, subst, refl, arith, max, IfSome}
 use Rattle.nm_superblock.specs.declared.superblock.Superblock.{Superblock}
 use Rattle.nm_superblock.specs.Bounds.{IsSuperblock}
+use Rattle.nm_superblock.specs.Damage.{IsDamagedPlace}
 use Rattle.nm_superblock.specs.Layout.{slot_bytes}
 use Rattle.nm_superblock.specs.Sectors.{stamp_of}
 use Rattle.nm_superblock.specs.Slots.{IsHighestStamp, Place, ReadsAs, ReadsPlace}
@@ -36,12 +37,12 @@ stamps-second slot a b c is at number below =
     omega (arith, bound, at)
 
 -- a file that durably holds slots which are read so is sound
-pub sound-read : (honest : Bool) (held : Held) (first second : List ℕ) (a b : Option Superblock) (highest : ℕ)
+pub sound-read : (honest : Bool) (held : Held) (first second : List ℕ) (a b : Option Superblock) (highest : ℕ) (damaged : Bool)
     → (IsTrue honest → IsDurably (place_of first second) held)
     → length first ≡ 4096 → length second ≡ 4096 → ReadsAs first a → ReadsAs second b
     → HasStampsUpTo highest first → HasStampsUpTo highest second
-    → IsSound honest (state_of held a b highest false)
-sound-read honest held first second a b highest durably first_size second_size reads_a reads_b below_a below_b = record {
+    → IsSound honest (state_of held a b highest false damaged)
+sound-read honest held first second a b highest damaged durably first_size second_size reads_a reads_b below_a below_b = record {
   first = read-up_to first a highest reads_a below_a;
   second = read-up_to second b highest reads_b below_b;
   settled = λ is fine.
@@ -54,3 +55,9 @@ sound-read honest held first second a b highest durably first_size second_size r
         second_stamps = subst (λ (p : Place). HasStampsUpTo highest p.second) (sym durable) below_b;
       };
 }
+
+-- and what was found out of its damage is told of what it durably holds
+pub damage-told : (held : Held) (first second : List ℕ) (damaged : Bool) → IsDurably (place_of first second) held
+    → IsTrue damaged ↔ IsDamagedPlace (place_of first second) → IsTrue damaged ↔ IsDamagedPlace held.durable
+damage-told held first second damaged at told =
+    subst (λ (p : Place). IsTrue damaged ↔ IsDamagedPlace p) (sym at.durable) told

@@ -13,12 +13,12 @@ use Rattle.nm_saves.specs.SlotFile.{Held, IsDurably, WritesDurably, with_slot}
 
 -- what a file is after a superblock was written into the second slot, or the first
 abbrev pub written_in : (second : Bool) → Superblock → Held → FileState → FileState
-written_in true s held f = state_of held f.first (Some s) s.generation false
-written_in false s held f = state_of held (Some s) f.second s.generation false
+written_in true s held f = state_of held f.first (Some s) s.generation false f.damaged
+written_in false s held f = state_of held (Some s) f.second s.generation false f.damaged
 
 -- and where that failed
 abbrev pub failed_in : Superblock → Held → FileState → FileState
-failed_in s held f = state_of held f.first f.second s.generation true
+failed_in s held f = state_of held f.first f.second s.generation true f.damaged
 
 -- a slot has 4,096 bytes
 length-slot : (s : Superblock) → IsSuperblock s → length (slot_bytes s) ≡ 4096
@@ -101,6 +101,10 @@ highest-written : (second : Bool) (s : Superblock) (held : Held) (f : FileState)
 highest-written true s held f = refl
 highest-written false s held f = refl
 
+damage-written : (second : Bool) (s : Superblock) (held : Held) (f : FileState) → (written_in second s held f).damaged ≡ f.damaged
+damage-written true s held f = refl
+damage-written false s held f = refl
+
 failed-written : (second : Bool) (s : Superblock) (held : Held) (f : FileState) → (written_in second s held f).failed ≡ false
 failed-written true s held f = refl
 failed-written false s held f = refl
@@ -164,6 +168,7 @@ saves-written honest s held f is was fine less writes =
     let same = held-written second s held f in
     record {
       stamp = highest-written second s held f;
+      damage = damage-written second s held f;
       newest = λ _. newest-written honest second s held f was less;
       failed = λ _. failed-written second s held f;
       never_again = λ never. absurd (cc);
@@ -191,6 +196,7 @@ pub saves-failed : (honest : Bool) (s : Superblock) (held : Held) (f : FileState
 saves-failed honest s held f is was fine less writes =
     record {
       stamp = refl;
+      damage = refl;
       newest = λ never. absurd (cc);
       failed = λ never. absurd (cc);
       never_again = λ _. refl;

@@ -1,34 +1,46 @@
 -- A superblock's file as the server knows it, and what a save does to it.
-use Rattle.std.specs.Prelude.{◌≡◌, ◌⊎◌, ◌<◌, ◌≤◌, ℕ, Bool, IsTrue, IsFalse}
+use Rattle.std.specs.Prelude.{◌≡◌, ◌⊎◌, ◌<◌, ◌≤◌, ◌↔◌, ℕ, Bool, IsTrue, IsFalse, if◌then◌else◌}
 use Rattle.std.specs.Prelude.{List, replicate, Option, None, Some}
 use Rattle.nm_superblock.specs.declared.superblock.Superblock.{Superblock}
 use Rattle.nm_superblock.specs.Bounds.{IsInBounds}
+use Rattle.nm_superblock.specs.Damage.{IsDamagedPlace}
 use Rattle.nm_superblock.specs.Layout.{slot_bytes}
 use Rattle.nm_superblock.specs.Sectors.{stamp_of}
 use Rattle.nm_superblock.specs.Slots.{IsTornSave, Place, ReadsPlace, newer_of, writes_second}
 use Rattle.nm_saves.specs.SlotFile.{Held, IsDurably, place_of, with_slot}
 
 -- What the file holds, what its slots were read as or written with, the highest stamp in it or
--- tried, and whether a write or a sync of it failed.
+-- tried, whether a write or a sync of it failed, and whether it was damaged when it was read last.
 pub record FileState : Type 0 where
   pub held : Held
   pub first : Option Superblock
   pub second : Option Superblock
   pub highest : ℕ
   pub failed : Bool
+  pub damaged : Bool
 
-abbrev pub state_of : Held → (first second : Option Superblock) → ℕ → Bool → FileState
-state_of held first second highest failed = record {
+abbrev pub state_of : Held → (first second : Option Superblock) → ℕ → (failed damaged : Bool)
+    → FileState
+state_of held first second highest failed damaged = record {
   held = held;
   first = first;
   second = second;
   highest = highest;
   failed = failed;
+  damaged = damaged;
 }
 
 -- the file's superblock
 abbrev pub newest_in : FileState → Option Superblock
 newest_in f = newer_of f.first f.second
+
+-- the superblock that a start finds in the file: none in one that is damaged
+abbrev pub found_in : FileState → Option Superblock
+found_in f = if f.damaged then None else newest_in f
+
+-- it was found out whether the file is damaged
+abbrev pub TellsDamage : FileState → Type 0
+TellsDamage f = IsTrue f.damaged ↔ IsDamagedPlace f.held.durable
 
 -- whether a save writes the second slot
 abbrev pub saves_second : FileState → Bool
@@ -56,10 +68,11 @@ pub record IsSound (honest : Bool) (f : FileState) : Type 0 where
   pub second : IsUpTo f.highest f.second
   pub settled : IsTrue honest → IsFalse f.failed → IsSettled f
 
--- a file that is opened: nothing of it has failed, and it is settled
+-- a file that is opened: nothing of it has failed, it is settled, and known to be damaged or not
 pub record Opens (honest : Bool) (f : FileState) : Type 0 where
   pub fine : IsFalse f.failed
   pub settled : IsTrue honest → IsSettled f
+  pub damage : IsTrue honest → TellsDamage f
 
 -- each byte of the file is zero
 abbrev pub HoldsBlank : Bool → FileState → Type 0
@@ -81,6 +94,7 @@ IsOldOrNew old new place =
 -- before or as the new one, and is not written again.
 pub record Saves (honest done : Bool) (s : Superblock) (old new : FileState) : Type 0 where
   pub stamp : new.highest ≡ s.generation
+  pub damage : new.damaged ≡ old.damaged
   pub newest : IsTrue done → newest_in new ≡ Some s
   pub failed : IsTrue done → IsFalse new.failed
   pub never_again : IsFalse done → IsTrue new.failed

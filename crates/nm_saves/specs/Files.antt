@@ -6,7 +6,7 @@ use Rattle.std.specs.Int.{bit_at}
 use Rattle.nm_superblock.specs.declared.superblock.Superblock.{Superblock}
 use Rattle.nm_superblock.specs.declared.leg_sets.LegSets.{LegSets}
 use Rattle.nm_superblock.specs.Spans.{in_sync_of}
-use Rattle.nm_saves.specs.FileState.{FileState, SavesFile, newest_in}
+use Rattle.nm_saves.specs.FileState.{FileState, SavesFile, found_in, newest_in}
 
 -- the file beside a leg, if it has one
 abbrev pub file_of : (leg : ℕ) → List (Option FileState) → Option FileState
@@ -16,6 +16,11 @@ file_of leg files = slice_index_or files leg None
 abbrev pub newest_of : Option FileState → Option Superblock
 newest_of None = None
 newest_of (Some f) = newest_in f
+
+-- the superblock that a start finds in it
+abbrev pub found_of : Option FileState → Option Superblock
+found_of None = None
+found_of (Some f) = found_in f
 
 -- the highest stamp in it
 abbrev pub stamp_in : Option FileState → ℕ
@@ -31,10 +36,10 @@ has_failed_in (Some f) = f.failed
 abbrev pub told : (leg : ℕ) → List Bool → Bool
 told leg legs = slice_index_or legs leg false
 
--- the superblocks beside the first legs
+-- the superblocks that a start finds beside the first legs
 abbrev pub AreFound : ℕ → List (Option FileState) → List (Option Superblock) → Type 0
 AreFound count files found =
-    (leg : ℕ) → leg < count → slice_index_or found leg None ≡ newest_of (file_of leg files)
+    (leg : ℕ) → leg < count → slice_index_or found leg None ≡ found_of (file_of leg files)
 
 -- no stamp in the files of the first legs is higher
 abbrev pub AreUpTo : (count highest : ℕ) → List (Option FileState) → Type 0

@@ -1,7 +1,7 @@
 -- Files of which a write or a sync failed are read again, and may then be written again.
 use Rattle.std.specs.Prelude.{◌≡◌, ◌<◌, ◌≤◌, ℕ, Bool, IsTrue, IsFalse, List, length}
 use Rattle.std.specs.Prelude.{Option, None, Some}
-use Rattle.nm_saves.specs.FileState.{FileState, IsSettled, newest_in}
+use Rattle.nm_saves.specs.FileState.{FileState, IsSettled, TellsDamage, newest_in}
 use Rattle.nm_saves.specs.Files.{AreUpTo, IsLeastUpTo, file_of}
 use Rattle.nm_saves.specs.SavingAll.{FilesState}
 use Rattle.nm_saves.specs.SlotFile.{KeepsSlots}
@@ -13,6 +13,7 @@ pub record RereadsFile (honest done : Bool) (old new : FileState) : Type 0 where
   pub fine : IsTrue done → IsFalse new.failed
   pub failed : IsFalse done → IsTrue new.failed
   pub settled : IsTrue honest → IsTrue done → IsSettled new
+  pub damage : IsTrue honest → IsTrue done → TellsDamage new
   pub unread : IsFalse done → newest_in new ≡ newest_in old
   pub stamps : old.highest ≤ new.highest
   pub unfound : IsFalse done → new.highest ≡ old.highest

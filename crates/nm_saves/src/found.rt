@@ -1,11 +1,12 @@
 ghost use Rattle.std.specs.Prelude.{◌≡◌};
-ghost use Rattle.nm_saves.specs.Files.{AreFound, file_of, newest_of};
+ghost use Rattle.nm_saves.specs.Files.{AreFound, file_of, found_of};
 
 use crate::slot_file::SlotFile;
 use crate::superblock_file::SuperblockFile;
 use nm_superblock::Superblock;
 
-/// The superblocks that were found beside the legs, for a start that looks which one it goes by.
+/// The superblocks that were found beside the legs, for a start that looks which one it goes by. A
+/// file that is damaged counts as one without a superblock.
 pub fn found_beside<F: SlotFile>(files: &[Option<SuperblockFile<F>>]) -> [Option<Superblock>; 8]
     ensures { AreFound 8 files.now result }
 {
@@ -16,15 +17,15 @@ pub fn found_beside<F: SlotFile>(files: &[Option<SuperblockFile<F>>]) -> [Option
     found
 }
 
-// The superblock beside this leg.
+// The superblock that a start finds beside this leg.
 fn found_at<F: SlotFile>(files: &[Option<SuperblockFile<F>>], leg: usize) -> Option<Superblock>
-    ensures { result ≡ newest_of (file_of leg files.now) }
+    ensures { result ≡ found_of (file_of leg files.now) }
 {
     if leg >= files.len() {
         return None;
     }
     match &files[leg] {
-        Some(file) => file.newest(),
-        None => None,
+        Some(file) if !file.is_damaged() => file.newest(),
+        _ => None,
     }
 }

@@ -8,7 +8,7 @@ use crate::fitting::all_fit;
 use crate::rereading::read_slots;
 use crate::slot_file::SlotFile;
 use crate::writing::{write_blank, write_superblock};
-use nm_superblock::{Superblock, highest_stamp, is_second_written, newer};
+use nm_superblock::{Superblock, highest_stamp, is_place_damaged, is_second_written, newer};
 use std::io;
 use std::io::ErrorKind;
 use std::marker::Model;
@@ -26,6 +26,8 @@ pub struct SuperblockFile<F: SlotFile> {
     highest: u64,
     /// A write or a sync failed.
     failed: bool,
+    /// A slot was damaged when the file was read last.
+    damaged: bool,
 }
 
 impl<F: SlotFile> Model for SuperblockFile<F> {
@@ -33,10 +35,10 @@ impl<F: SlotFile> Model for SuperblockFile<F> {
 
     ghost Value = { FileState };
 
-    ghost view = { λ f. state_of (F.held f.file) f.first f.second f.highest f.failed };
+    ghost view = { λ f. state_of (F.held f.file) f.first f.second f.highest f.failed f.damaged };
 
     ghost invariant = { λ f. IsSound F.honest
-        (state_of (F.held f.file) f.first f.second f.highest f.failed) };
+        (state_of (F.held f.file) f.first f.second f.highest f.failed f.damaged) };
 }
 
 // A fault of a superblock that the file does not take.
@@ -82,6 +84,7 @@ impl<F: SlotFile> SuperblockFile<F> {
             second: Superblock::decode(second),
             highest,
             failed: false,
+            damaged: is_place_damaged(first, second),
         }
     }
 
@@ -106,6 +109,14 @@ impl<F: SlotFile> SuperblockFile<F> {
         self.failed
     }
 
+    /// Whether a slot of it was damaged when it was read last: then a start finds no superblock in
+    /// it, not even the other slot's, which may be older.
+    pub fn is_damaged(&self) -> bool
+        ensures { result ≡ self.now.damaged }
+    {
+        self.damaged
+    }
+
     /// Settles a file that has failed, and reads it again: where that goes well it may be written
     /// again.
     pub fn read_again(&mut self) -> io::Result<()>
@@ -119,6 +130,7 @@ impl<F: SlotFile> SuperblockFile<F> {
         self.highest = self.highest.max(found);
         self.first = Superblock::decode(&first);
         self.second = Superblock::decode(&second);
+        self.damaged = is_place_damaged(&first, &second);
         self.failed = false;
         Ok(())
     }

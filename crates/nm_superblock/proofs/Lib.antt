@@ -4,5 +4,7 @@ pub mod Fields
 pub mod Reading
 pub mod Unique
 pub mod Torn
+pub mod Undamaged
+pub mod Beside
 pub mod Highest
 pub mod Marks

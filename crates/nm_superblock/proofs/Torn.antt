@@ -14,7 +14,7 @@ use Rattle.nm_superblock.proofs.Standing.{length-sectors}
 use Rattle.nm_superblock.proofs.Unique.{length-payload, slot-stamp, slots-are_read}
 
 -- a slot has 4,096 bytes
-length-slot : (s : Superblock) → IsSuperblock s → length (slot_bytes s) ≡ 4096
+pub length-slot : (s : Superblock) → IsSuperblock s → length (slot_bytes s) ≡ 4096
 unfolding slot_bytes
 length-slot s is = length-sectors s.generation 8 (payload_bytes s) (omega (arith, length-payload s is))
 
@@ -25,7 +25,7 @@ in-sector number slot =
     ∙ sym (big_from-take 0 8 504 (drop 8 (drop (512 * number) slot)) (omega arith))
     ∙ ap (big_number 8) (sym (drop-take 8 504 (drop (512 * number) slot)))
 
-same-stamp : (number : ℕ) (a b : List ℕ) → sector_of number a ≡ sector_of number b → stamp_of number a ≡ stamp_of number b
+pub same-stamp : (number : ℕ) (a b : List ℕ) → sector_of number a ≡ sector_of number b → stamp_of number a ≡ stamp_of number b
 same-stamp number a b is = in-sector number a ∙ ap (λ (xs : List ℕ). big_number 8 (drop 8 xs)) is ∙ sym (in-sector number b)
 
 -- slots whose sectors are the same are the same
@@ -42,7 +42,7 @@ same-up (suc n) a b room same =
     ∙ sym (take-add (512 * n) 512 b)
     ∙ ap (λ (k : ℕ). take k b) next
 
-same-slots : (a b : List ℕ) → length a ≡ 4096 → length b ≡ 4096 → ((number : ℕ) → number < 8 → sector_of number a ≡ sector_of number b) → a ≡ b
+pub same-slots : (a b : List ℕ) → length a ≡ 4096 → length b ≡ 4096 → ((number : ℕ) → number < 8 → sector_of number a ≡ sector_of number b) → a ≡ b
 same-slots a b size_a size_b same =
     sym (take_all 4096 a (omega (arith, size_a))) ∙ same-up 8 a b (omega arith) same ∙ take_all 4096 b (omega (arith, size_b))
 

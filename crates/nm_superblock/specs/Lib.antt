@@ -2,4 +2,5 @@ pub mod Layout
 pub mod Bounds
 pub mod Sectors
 pub mod Slots
+pub mod Damage
 pub mod Spans

@@ -1,4 +1,5 @@
 //! What holds of the bytes and of torn saves, as laws.
+ghost use Rattle.nm_superblock.specs.Damage.{TornIsUndamaged};
 ghost use Rattle.nm_superblock.specs.Slots.{SlotsAreRead, TornIsOldOrNew};
 
 /// A slot has the bytes of one superblock at most.
@@ -11,4 +12,11 @@ pub fn slots_are_read()
 /// The premise is that a sector is written whole or not at all.
 pub fn torn_is_old_or_new()
     ensures { TornIsOldOrNew }
+{}
+
+/// A crash at any moment of a save damages no slot that was not damaged before.
+///
+/// The premise is that a sector is written whole or not at all.
+pub fn torn_is_undamaged()
+    ensures { TornIsUndamaged }
 {}

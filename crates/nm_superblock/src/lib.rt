@@ -4,16 +4,19 @@
 //! leaves a slot that is read as it was, as the new superblock, or as nothing.
 #![tactic(auto)]
 
+pub use damage::{is_damaged, is_place_damaged};
 pub use leg_sets::LegSets;
 pub use place::{highest_stamp, is_second_written, newer, next_generation};
 pub use span_map::SpanMap;
 pub use superblock::Superblock;
 
 mod bytes;
+mod damage;
 pub mod laws;
 mod leg_sets;
 mod payload;
 mod place;
+mod restamped;
 mod sectors;
 mod span_map;
 mod superblock;

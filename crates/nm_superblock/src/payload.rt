@@ -54,6 +54,7 @@ impl Superblock {
 // What a payload says, field by field, whatever it is: a superblock's payload says that superblock.
 pub(crate) fn read_payload(generation: u64, payload: &[u8; 3968]) -> Superblock
     ensures fits { Fits result }
+    ensures generation { result.generation ≡ generation }
     ensures reads_back { (s : Superblock) → Fits s → s.generation ≡ generation
         → payload.now ≡ payload_bytes s → result ≡ s }
 {

@@ -1,5 +1,6 @@
 //! The sectors of a slot: a header with the stamp, and a piece of the payload.
-ghost use Rattle.std.specs.Prelude.{◌≡◌, ◌+◌, ◌*◌, ◌<◌, ◌++◌, length, take};
+ghost use Rattle.std.specs.Prelude.{◌≡◌, ◌+◌, ◌*◌, ◌<◌, ◌++◌, ◌↔◌, IsTrue, length, take};
+ghost use Rattle.nm_superblock.specs.Damage.{HasHead, IsBlank};
 ghost use Rattle.nm_superblock.specs.Layout.{header_bytes, sectors_bytes};
 ghost use Rattle.nm_superblock.specs.Sectors.{pieces_of, stamp_of};
 
@@ -42,6 +43,34 @@ pub(crate) fn read_stamp(slot: &[u8; 4096], number: usize) -> u64
     ensures { result ≡ stamp_of number slot.now }
 {
     get_u64(slot, SECTOR * number + 8)
+}
+
+// Whether this sector's head is valid: that of its number under its stamp, which is not 0.
+pub(crate) fn has_head(slot: &[u8; 4096], number: usize) -> bool
+    requires { number < 8 }
+    ensures { IsTrue result ↔ HasHead number slot.now }
+{
+    let stamp = read_stamp(slot, number);
+    let head = header(stamp, number as u8);
+    stamp >= 1 && is_same(&slot[SECTOR * number..SECTOR * number + HEADER], &head)
+}
+
+// Whether this sector has zeroes alone.
+pub(crate) fn is_blank(slot: &[u8; 4096], number: usize) -> bool
+    requires { number < 8 }
+    ensures { IsTrue result ↔ IsBlank number slot.now }
+{
+    is_same(
+        &slot[SECTOR * number..SECTOR * number + SECTOR],
+        &[0; SECTOR],
+    )
+}
+
+// Whether both have the same bytes.
+pub(crate) fn is_same(first: &[u8], second: &[u8]) -> bool
+    ensures { IsTrue result ↔ (first.now ≡ second.now) }
+{
+    first == second
 }
 
 // What stands in the sectors after their headers, whatever these are.

@@ -11,7 +11,7 @@ use Rattle.nm_saves.proofs.superblock_file.SuperblockFile.save.Goals.{then-secon
 pub returns-in_err-write_superblock : goal.returns-in_err-write_superblock
 returns-in_err-write_superblock g c =
     let honest = g.F.SlotFile.honest in
-    let old : FileState = state_of (g.F.SlotFile.held c.self.inside.file) c.self.inside.first c.self.inside.second c.self.inside.highest c.self.inside.failed in
+    let old : FileState = state_of (g.F.SlotFile.held c.self.inside.file) c.self.inside.first c.self.inside.second c.self.inside.highest c.self.inside.failed c.self.inside.damaged in
     let held : Held = g.F.SlotFile.held c.write_superblock.new.file in
     let s = c.args.superblock.now in
     let more : c.self.inside.highest < s.generation = omega arith in
@@ -28,7 +28,7 @@ returns-in_err-write_superblock g c =
 pub invariant_of-self-2 : goal.invariant_of-self-2
 invariant_of-self-2 g c =
     let honest = g.F.SlotFile.honest in
-    let old : FileState = state_of (g.F.SlotFile.held c.self.inside.file) c.self.inside.first c.self.inside.second c.self.inside.highest c.self.inside.failed in
+    let old : FileState = state_of (g.F.SlotFile.held c.self.inside.file) c.self.inside.first c.self.inside.second c.self.inside.highest c.self.inside.failed c.self.inside.damaged in
     let held : Held = g.F.SlotFile.held c.write_superblock.new.file in
     let s = c.args.superblock.now in
     let second = c.is_second_written-second.result in
@@ -36,12 +36,12 @@ invariant_of-self-2 g c =
     let inside = c.if-second.self-inside in
     let sound : IsSound honest (written_in second s held old) =
     sound-written honest second s held old c.all_fit.ensures c.self.invariant c.if-self.false more c.in_ok-write_superblock.ensures in
-    let state : FileState = state_of (g.F.SlotFile.held inside.file) inside.first inside.second inside.highest false in
+    let state : FileState = state_of (g.F.SlotFile.held inside.file) inside.first inside.second inside.highest false inside.damaged in
     let is : state ≡ written_in second s held old =
     elim c.if-second.branch [
-      | then-second w ↦ ap (λ (i : Inside g.row.F.Denot). state_of (g.F.SlotFile.held i.file) i.first i.second i.highest false) w.self-inside-is
+      | then-second w ↦ ap (λ (i : Inside g.row.F.Denot). state_of (g.F.SlotFile.held i.file) i.first i.second i.highest false i.damaged) w.self-inside-is
           ∙ ap (λ (b : Bool). written_in b s held old) (sym w.if-second.true)
-      | else-second w ↦ ap (λ (i : Inside g.row.F.Denot). state_of (g.F.SlotFile.held i.file) i.first i.second i.highest false) w.self-inside-is
+      | else-second w ↦ ap (λ (i : Inside g.row.F.Denot). state_of (g.F.SlotFile.held i.file) i.first i.second i.highest false i.damaged) w.self-inside-is
           ∙ ap (λ (b : Bool). written_in b s held old) (sym w.if-second.false)
     ] in
     subst (λ (f : FileState). IsSound honest f) (sym is) sound
@@ -49,13 +49,13 @@ invariant_of-self-2 g c =
 pub returns : goal.returns
 returns g c =
     let honest = g.F.SlotFile.honest in
-    let old : FileState = state_of (g.F.SlotFile.held c.self.inside.file) c.self.inside.first c.self.inside.second c.self.inside.highest c.self.inside.failed in
+    let old : FileState = state_of (g.F.SlotFile.held c.self.inside.file) c.self.inside.first c.self.inside.second c.self.inside.highest c.self.inside.failed c.self.inside.damaged in
     let held : Held = g.F.SlotFile.held c.write_superblock.new.file in
     let s = c.args.superblock.now in
     let second = c.is_second_written-second.result in
     let more : c.self.inside.highest < s.generation = omega arith in
     let inside = c.if-second.self-inside in
-    let state : FileState = state_of (g.F.SlotFile.held inside.file) inside.first inside.second inside.highest false in
+    let state : FileState = state_of (g.F.SlotFile.held inside.file) inside.first inside.second inside.highest false inside.damaged in
     let writes : WritesDurably honest true (saves_second old) (slot_bytes s) old.held held =
     subst (λ (b : Bool). WritesDurably honest true b (slot_bytes s) old.held held) c.is_second_written-second.ensures c.in_ok-write_superblock.ensures in
     let saves : SavesFile honest true s old (written_in (saves_second old) s held old) =
@@ -63,9 +63,9 @@ returns g c =
     (saves-written honest s held old c.all_fit.ensures c.self.invariant c.if-self.false more writes) in
     let is : state ≡ written_in second s held old =
     elim c.if-second.branch [
-      | then-second w ↦ ap (λ (i : Inside g.row.F.Denot). state_of (g.F.SlotFile.held i.file) i.first i.second i.highest false) w.self-inside-is
+      | then-second w ↦ ap (λ (i : Inside g.row.F.Denot). state_of (g.F.SlotFile.held i.file) i.first i.second i.highest false i.damaged) w.self-inside-is
           ∙ ap (λ (b : Bool). written_in b s held old) (sym w.if-second.true)
-      | else-second w ↦ ap (λ (i : Inside g.row.F.Denot). state_of (g.F.SlotFile.held i.file) i.first i.second i.highest false) w.self-inside-is
+      | else-second w ↦ ap (λ (i : Inside g.row.F.Denot). state_of (g.F.SlotFile.held i.file) i.first i.second i.highest false i.damaged) w.self-inside-is
           ∙ ap (λ (b : Bool). written_in b s held old) (sym w.if-second.false)
     ] in
     let at : state ≡ written_in (saves_second old) s held old = is ∙ ap (λ (b : Bool). written_in b s held old) c.is_second_written-second.ensures in
