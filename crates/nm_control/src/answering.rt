@@ -8,7 +8,7 @@ use crate::verify_answers::{put_known, put_verify, put_verify_stop};
 use nm_commands::{ControlCommand, Fed, LineRoom, control_line};
 use nm_lanes::Gate;
 use nm_leg::LegPart;
-use nm_leg_files::MakesLegs;
+use nm_leg_files::{MakesLegs, Unattached};
 use nm_mirror::Mirror;
 use nm_places::{Quit, SessionPlaces};
 use nm_reports::put_metrics;
@@ -65,6 +65,22 @@ fn put_fail<R: Wait, L: LegPart, G: Gate + Drop, N: RenewsLegs<L>, M: MakesLegs<
     )
 }
 
+// Looks for the file of a leg that is to be attached: why it cannot be. One that is being replaced
+// is not looked for.
+fn find_leg<R: Wait + Clock, L: LegPart, G: Gate + Drop, N: RenewsLegs<L>, M: MakesLegs<L>>(
+    rt: &R,
+    server: &Controlled<'_, L, G, N, M>,
+    leg: u8,
+) -> Result<(), Unattached> {
+    if server.orders.is_replaced(rt, leg) {
+        return Err(Unattached::Busy);
+    }
+    if !server.orders.missing().find(rt, leg) {
+        return Err(Unattached::NoFile);
+    }
+    server.legs.check(leg)
+}
+
 // The answer to `attach`.
 fn put_attach<R: Wait + Clock, L: LegPart, G: Gate + Drop, N: RenewsLegs<L>, M: MakesLegs<L>>(
     rt: &R,
@@ -75,8 +91,8 @@ fn put_attach<R: Wait + Clock, L: LegPart, G: Gate + Drop, N: RenewsLegs<L>, M: 
     if leg >= server.mirror.legs() {
         return text.push_str("bad command\n");
     }
-    if !server.orders.is_replaced(rt, leg) && !server.orders.missing().find(rt, leg) {
-        return writeln!(text, "attach {leg}: no file");
+    if let Err(why) = find_leg(rt, server, leg) {
+        return writeln!(text, "attach {leg}: {why}");
     }
     let Some(counts) = server.orders.attach(rt, server.mirror, leg) else {
         return writeln!(text, "attach {leg}: busy");

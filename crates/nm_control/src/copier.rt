@@ -3,6 +3,7 @@ ghost use Rattle.nm_control.specs.Rounds.{IsRoundOf};
 
 use crate::copy_orders::CopyOrders;
 use crate::healing::Healing;
+use crate::leg_watch::LegWatch;
 use crate::verifier::Verifier;
 use nm_geometry::Shape;
 use nm_lanes::Gate;
@@ -22,18 +23,21 @@ pub struct Copier {
     shape: Shape,
     round: CopyRound,
     story: LegStory,
+    watch: LegWatch,
     healing: Option<Healing>,
     verifier: Verifier,
     ghost fits: { IsRoundOf shape round },
 }
 
 impl Copier {
-    /// A copier of mirrors of this shape, before its first turn, which tells of these legs, and
-    /// attaches again those that are to heal. It takes no more memory but for lines.
+    /// A copier of mirrors of this shape, before its first turn, which tells of these legs, takes
+    /// those out as a whole that are watched and fail, and attaches again those that are to heal.
+    /// It takes no more memory but for lines.
     pub fn new(
         alloc: Global,
         shape: &Shape,
         legs: Vec<LegLines>,
+        watch: LegWatch,
         healing: Option<Healing>,
     ) -> Result<Copier, AllocError> {
         let round = CopyRound::new(alloc, shape.stripes, shape.legs)?;
@@ -43,6 +47,7 @@ impl Copier {
             shape: *shape,
             round,
             story,
+            watch,
             healing,
             verifier: Verifier::new(alloc)?,
         })
@@ -53,12 +58,13 @@ impl Copier {
         &mut self,
         rt: &R,
         mirror: &Mirror<L, G>,
+        orders: &CopyOrders,
     ) -> u32 {
         let shape = mirror.shape();
         if shape.stripes != self.shape.stripes || shape.legs != self.shape.legs {
             return 0;
         }
-        mirror.resync_turn(rt, &mut self.round)
+        mirror.resync_turn(rt, &mut self.round, orders.doubts())
     }
 
     /// Takes a turn at comparing legs, where that is asked for. How many runs were looked at.
@@ -98,6 +104,17 @@ impl Copier {
         self.story
             .tell_unread(rt, self.alloc, lines, mirror.shape(), known);
         self.story.tell_changes(rt, self.alloc, lines, mirror, now);
+    }
+
+    /// Takes the legs out as a whole of which a call failed.
+    pub fn watch<R: Wait, L: LegPart, G: Gate + Drop>(
+        &self,
+        rt: &R,
+        mirror: &Mirror<L, G>,
+        orders: &CopyOrders,
+        lines: &LogLines,
+    ) {
+        self.watch.look(rt, self.alloc, mirror, orders, lines);
     }
 
     /// Attaches the legs that are to heal and due at this time, in milliseconds, as last told.

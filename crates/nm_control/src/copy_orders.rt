@@ -10,6 +10,7 @@ use nm_lanes::Gate;
 use nm_leg::LegPart;
 use nm_leg_files::CallLimit;
 use nm_mirror::{AttachCounts, FailCounts, Mirror};
+use nm_reports::MirrorDoubts;
 use std::alloc::Global;
 use std::sync::atomic::{AtomicBool, AtomicU32, Ordering};
 use std::sync::{Mutex, Wait};
@@ -34,6 +35,7 @@ pub struct CopyOrders {
     missing: MissingLegs,
     // The limits of the legs' calls, from leg 0 on.
     limits: Option<Vec<CallLimit>>,
+    doubts: MirrorDoubts,
 }
 
 // Notes of a leg whether it is so.
@@ -59,6 +61,7 @@ impl CopyOrders {
             wants_round: AtomicBool::new(false),
             missing: MissingLegs::none(),
             limits: None,
+            doubts: MirrorDoubts::none(),
         }
     }
 
@@ -76,6 +79,13 @@ impl CopyOrders {
         own
     }
 
+    /// The same, and these legs are in doubt, or will be.
+    pub fn with_doubts(self, doubts: MirrorDoubts) -> CopyOrders {
+        let mut own = self;
+        own.doubts = doubts;
+        own
+    }
+
     // Whether a call of the leg was left and has not returned: it may still write.
     fn has_left_call(&self, leg: u8) -> bool {
         let Some(limits) = &self.limits else {
@@ -90,6 +100,11 @@ impl CopyOrders {
     /// The legs whose files are missing.
     pub fn missing(&self) -> &MissingLegs {
         &self.missing
+    }
+
+    /// Which legs are in doubt.
+    pub fn doubts(&self) -> &MirrorDoubts {
+        &self.doubts
     }
 
     /// Where a verification is ordered.
@@ -135,11 +150,42 @@ impl CopyOrders {
         if is_noted(&self.replaced.lock(rt), leg) {
             return None;
         }
+        self.doubts.note_taken_out(leg);
         let counts = mirror.fail_leg(rt, leg);
         if counts.failed > 0 || counts.out > 0 {
             note(&mut by_hand, leg, true);
         }
         Some(counts)
+    }
+
+    /// Takes the leg out where it has to be since a call of it failed: of every stripe in which it is
+    /// not the last in sync where it fails as a whole, else of those whose copies it would spoil.
+    /// It is not noted as taken out by hand. Then what was seen failing is handled: whether it is the
+    /// first since the leg came back. Nothing is done while a command on legs is under way, which
+    /// may have the leg come back, or it is being replaced.
+    pub fn take_out_failed<R: Wait, L: LegPart, G: Gate + Drop>(
+        &self,
+        rt: &R,
+        mirror: &Mirror<L, G>,
+        leg: u8,
+        is_whole: bool,
+        seen: u64,
+    ) -> bool {
+        let Some(_by_hand) = self.by_hand.try_lock() else {
+            return false;
+        };
+        if leg >= mirror.legs() || self.is_replaced(rt, leg) {
+            return false;
+        }
+        if is_whole {
+            let _ = mirror.fail_leg(rt, leg);
+        } else {
+            mirror.spare_copies(rt, leg);
+        }
+        match self.doubts.leg(leg) {
+            Some(doubts) => doubts.handle(seen),
+            None => false,
+        }
     }
 
     /// Lets the leg join every stripe again by hand, and counts what came of it: none while it is
@@ -157,7 +203,8 @@ impl CopyOrders {
             return None;
         }
         note(&mut by_hand, leg, false);
-        Some(mirror.attach_leg(rt, leg))
+        let returning = self.doubts.returning(leg);
+        Some(mirror.attach_leg(rt, leg, returning, &self.doubts))
     }
 
     /// Whether the leg is being replaced.
@@ -224,7 +271,8 @@ impl CopyOrders {
         if is_out || leg >= mirror.legs() || self.has_left_call(leg) {
             return None;
         }
-        Some(mirror.attach_leg(rt, leg))
+        let returning = self.doubts.returning(leg);
+        Some(mirror.attach_leg(rt, leg, returning, &self.doubts))
     }
 
     /// Which legs were taken out by hand: none of it where a command on legs is under way.

@@ -55,7 +55,7 @@ impl CopyPacer {
         orders: &CopyOrders,
     ) -> bool {
         let begun = Instant::now(rt).ok();
-        let steps = copier.turn(rt, mirror);
+        let steps = copier.turn(rt, mirror, orders);
         if steps == 0 {
             return false;
         }

@@ -4,7 +4,9 @@ ghost use Rattle.std.specs.Prelude.{◌<◌};
 use nm_geometry::Shape;
 use nm_lanes::Gate;
 use nm_leg::LegPart;
-use nm_leg_files::{BytesRead, LateSlots, Leg, LegPlace, OpensLegs, SuperblockWriter, Unrenewed};
+use nm_leg_files::{
+    BytesRead, LateSlots, Leg, LegPlace, OpensLegs, SuperblockWriter, Unattached, Unrenewed,
+};
 use nm_mirror::{Mirror, ReplaceCounts, Withdrawal};
 use std::alloc::{AllocError, Global};
 use std::fmt;
@@ -49,6 +51,10 @@ pub trait RenewsLegs<L> {
     /// an id of its own, if it has one. The answer is the legs of all stripes on that file, stripe
     /// 0's first. No stripe has the leg meanwhile.
     fn renew<R: Wait>(&self, rt: &R, alloc: Global, leg: u8) -> Result<Vec<L>, Unrenewed>;
+
+    /// Whether the leg's name still leads to its file, as long as it was, so that the leg may be
+    /// attached: why not.
+    fn check(&self, leg: u8) -> Result<(), Unattached>;
 }
 
 /// What opens the files of a mirror of this shape anew.
@@ -91,6 +97,13 @@ impl<'x, O: OpensLegs> RenewsLegs<Leg> for LegRenewer<'x, O> {
             place.renew_superblock(rt, self.opener, leg, &mut superblocks.lock(rt))?;
         }
         Ok(legs)
+    }
+
+    fn check(&self, leg: u8) -> Result<(), Unattached> {
+        match self.places.get(leg as usize) {
+            Some(place) => place.check_by_hand(self.opener),
+            None => Err(Unattached::NoFile),
+        }
     }
 }
 

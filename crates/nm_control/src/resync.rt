@@ -27,8 +27,8 @@ const AGAIN_MILLISECONDS: u64 = 60_000;
 /// How many milliseconds pass at least from one look at stripes that are at rest to the next.
 const SETTLE_MILLISECONDS: u64 = 5_000;
 
-// Looks for clients that have gone or are idle, tells what happens to legs, and attaches those that
-// are to heal.
+// Looks for clients that have gone or are idle, takes legs out as a whole of which a call failed,
+// tells what happens to legs, and attaches those that are to heal.
 fn look<R: Wait + Clock, O: OpensLegs, L: LegPart, G: Gate + Drop>(
     rt: &R,
     opener: &O,
@@ -40,6 +40,7 @@ fn look<R: Wait + Clock, O: OpensLegs, L: LegPart, G: Gate + Drop>(
 ) {
     let (state, lines) = (shared.state, shared.lines);
     state.places.look(rt);
+    copier.watch(rt, mirror, orders, lines);
     copier.tell(rt, mirror, &state.unread, lines, now);
     copier.heal(rt, opener, mirror, orders, lines, now);
     lines.flush_incidents(rt);
@@ -68,8 +69,8 @@ fn take_turn<R: Wait + Clock, L: LegPart, G: Gate + Drop>(
 /// after a turn that did nothing.
 ///
 /// Between them it looks for clients that have gone or are idle, has what could not be read tried
-/// again once a minute, attaches legs that are to heal, and tells what happens. Marks of stripes in
-/// which nothing was written for five seconds are cleared.
+/// again once a minute, takes legs out as a whole that fail, attaches those that are to heal, and
+/// tells what happens. Marks of stripes in which nothing was written for five seconds are cleared.
 pub fn resynchronise<R: Wait + Clock, O: OpensLegs, L: LegPart, G: Gate + Drop>(
     rt: &R,
     opener: &O,
@@ -97,7 +98,7 @@ pub fn resynchronise<R: Wait + Clock, O: OpensLegs, L: LegPart, G: Gate + Drop>(
             copier.begin_again();
         }
         if settles.take(now) {
-            mirror.settle_turn(rt);
+            mirror.settle_turn(rt, orders.doubts());
         }
         take_turn(rt, &mut copier, &mut pacer, mirror, orders, shared, now);
     }

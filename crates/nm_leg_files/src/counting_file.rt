@@ -61,6 +61,18 @@ impl CountingFile {
         self.counts.note_fault(error);
     }
 
+    // Notes a read that came short: at the end of a file that was cut, or before bytes that cannot
+    // be read.
+    fn note_short_read(&self, at: u64, found: usize) {
+        if found == 0 {
+            self.note_fault(FileCall::Length, at, None);
+            return;
+        }
+        let end = at.saturating_add(found as u64);
+        self.note_fault(FileCall::Read, end, None);
+        let _ = Medium::len(self);
+    }
+
     // Notes a write that came short, as on a full file system: why is what a write of the rest is
     // answered.
     fn note_short(&mut self, at: u64, bytes: &[u8], moved: usize) {
@@ -86,8 +98,8 @@ impl Medium for CountingFile {
     fn read_at(&mut self, at: u64, into: &mut [u8]) -> io::Result<usize> {
         match self.file.read_at(at, into) {
             Ok(found) => {
-                if found == 0 && !into.is_empty() {
-                    self.note_fault(FileCall::Length, at, None);
+                if found < into.len() {
+                    self.note_short_read(at, found);
                 }
                 self.read.fetch_add(found as u64, Ordering::SeqCst);
                 self.counts.note(LegCall::Read, Some(found));

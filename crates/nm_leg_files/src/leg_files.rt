@@ -11,13 +11,12 @@ use crate::counting_file::{BytesRead, CountingFile};
 use crate::leg_file::{LegFile, share, unopened_by};
 use crate::leg_opening::{BLOCK_BYTES, LegLength, LegRules, find_leg, first_of, is_block_device};
 use crate::leg_place::LegPlace;
-use crate::limited_file::{CallLimit, share_limit};
 use crate::timed_calls::TimedCalls;
 use nm_file_leg::{FileLeg, FileUser};
 use nm_geometry::Shape;
 use nm_lanes::NoGate;
 use nm_mirror::Mirror;
-use nm_reports::{LegCounts, LegLines, LogLines, StartFault, Unopened};
+use nm_reports::{LogLines, StartFault, Unopened};
 use std::alloc::{AllocError, Global};
 use std::fs::File;
 use std::rt::Files;
@@ -41,7 +40,7 @@ pub type FileMirror = Mirror<Leg, NoGate>;
 /// other leg uses it. Some may be missing, where that is allowed.
 #[derive(Drop)]
 pub struct LegFiles {
-    files: Vec<LegFile>,
+    pub(crate) files: Vec<LegFile>,
     // How many blocks each of them has that is here.
     blocks: u64,
     rules: LegRules,
@@ -128,26 +127,6 @@ impl LegFiles {
         })
     }
 
-    /// The lines on these legs.
-    pub fn lines(&self, alloc: Global) -> Result<Vec<LegLines>, AllocError> {
-        let mut lines = Vec::new(alloc);
-        for (leg, file) in self.files.iter().enumerate() {
-            let name = String::from_str(alloc, file.name.as_str())?;
-            let trouble = Arc::try_clone(&file.trouble)?;
-            lines.push(LegLines::new(leg, name, trouble))?;
-        }
-        Ok(lines)
-    }
-
-    /// Where the calls of each leg are counted.
-    pub fn counts(&self, alloc: Global) -> Result<Vec<Arc<LegCounts>>, AllocError> {
-        let mut counts = Vec::new(alloc);
-        for file in &self.files {
-            counts.push(Arc::try_clone(&file.counts)?)?;
-        }
-        Ok(counts)
-    }
-
     /// The files as they were opened by their names.
     pub fn places(&self, alloc: Global) -> Result<Vec<LegPlace>, AllocError> {
         let mut places = Vec::new(alloc);
@@ -173,15 +152,6 @@ impl LegFiles {
             }
         }
         Ok(())
-    }
-
-    /// The limits of the legs' calls.
-    pub fn limits(&self, alloc: Global) -> Result<Vec<CallLimit>, AllocError> {
-        let mut limits = Vec::new(alloc);
-        for file in &self.files {
-            limits.push(share_limit(file.shared.file().limit())?)?;
-        }
-        Ok(limits)
     }
 
     // Whether the leg's file is here.

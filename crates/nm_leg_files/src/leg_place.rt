@@ -3,15 +3,22 @@
 use crate::late_file::LateFile;
 use crate::late_superblock::LateSuperblock;
 use crate::leg_file::LegFile;
+use crate::leg_files::REGION;
 use crate::leg_hindrance::Hindrance;
 use crate::leg_opener::OpensLegs;
-use crate::leg_opening::{LegRules, bytes_of, lock_opened};
+use crate::leg_opening::{BLOCK_BYTES, LegRules, bytes_of, lock_opened};
+use crate::limited_file::LimitedFile;
+use crate::unattached::Unattached;
+use nm_file_leg::BackingFile;
 use nm_reports::Unopened;
 use std::alloc::Global;
 use std::fs::{File, Metadata};
 use std::io;
 use std::os::unix::fs::MetadataExt;
-use std::sync::Mutex;
+use std::sync::{Arc, Mutex};
+
+/// How many bytes of a leg's file a region has.
+const REGION_BYTES: u64 = REGION * BLOCK_BYTES;
 
 /// A leg's file as the server has it open and locked, or is to have it, and the name by which it is
 /// opened.
@@ -30,6 +37,25 @@ pub struct LegPlace {
 // Whether both are of one file.
 pub(crate) fn is_same(one: &Metadata, other: &Metadata) -> bool {
     one.dev() == other.dev() && one.ino() == other.ino()
+}
+
+// Whether a block of the file can be read at this byte.
+fn can_read(file: &LimitedFile, at: u64) -> bool {
+    let mut block = [0u8; BLOCK_BYTES as usize];
+    matches!(file.read_bytes(at, &mut block), Ok(found) if found == block.len())
+}
+
+// Where a region begins beside the one of this byte, in a file of so many bytes: the one before, or
+// the second. The first, if there is no other.
+fn region_beside(at: u64, bytes: u64) -> u64 {
+    let region = at / REGION_BYTES;
+    if region > 0 {
+        (region - 1).saturating_mul(REGION_BYTES)
+    } else if bytes > REGION_BYTES {
+        REGION_BYTES
+    } else {
+        0
+    }
 }
 
 impl LegPlace {
@@ -137,5 +163,25 @@ impl LegPlace {
             Ok(Some(hindrance)) => Err(hindrance),
             Err(error) => Err(Hindrance::Unopened(error)),
         }
+    }
+
+    /// The same, as it is told to somebody who wants the leg attached.
+    pub fn check_by_hand<O: OpensLegs>(&self, opener: &O) -> Result<(), Unattached> {
+        match self.check(opener) {
+            Ok(()) => Ok(()),
+            Err(why) => Err(Unattached::of(&why, self.bytes)),
+        }
+    }
+
+    /// Whether the file can be read where no read failed, once one failed at this byte: its first
+    /// block, its last one, and one of a region beside. None where it is being opened anew.
+    pub fn probe(&self, at: u64) -> Option<bool> {
+        let file = self.file.try_lock()?;
+        let shared = Arc::try_clone(&file.shared).ok()?;
+        drop(file);
+        let own = shared.file();
+        let last = self.bytes.saturating_sub(BLOCK_BYTES);
+        let beside = region_beside(at, self.bytes);
+        Some(can_read(own, 0) && can_read(own, last) && can_read(own, beside))
     }
 }

@@ -8,7 +8,7 @@ use crate::leg_opener::open_or_make;
 use crate::leg_opening::{bytes_of, lock_opened, open_locked};
 use crate::limited_file::CallLimit;
 use nm_commands::{Settings, SuperblockPlace};
-use nm_reports::{StartFault, Unopened, superblock_name};
+use nm_reports::{LogLines, StartFault, Unopened, superblock_name};
 use nm_saves::{SuperblockFile, SuperblockFiles, found_beside};
 use nm_superblock::Superblock;
 use std::alloc::Global;
@@ -16,7 +16,7 @@ use std::fs::File;
 use std::io;
 use std::io::ErrorKind;
 use std::rt::Files;
-use std::sync::Arc;
+use std::sync::{Arc, Wait};
 
 /// How many bytes a superblock's file has.
 const FILE_BYTES: u64 = 8192;
@@ -159,9 +159,25 @@ impl FoundFiles {
         })
     }
 
-    /// The superblocks that they hold.
+    /// The superblocks that they hold: none in a file that is damaged.
     pub fn found(&self) -> [Option<Superblock>; 8] {
         found_beside(&self.files)
+    }
+
+    /// Tells of each file that is damaged.
+    pub fn tell_damaged<R: Wait>(&self, rt: &R, alloc: Global, lines: &LogLines) {
+        for (leg, file) in self.files.iter().enumerate() {
+            let (Some(file), Some(name)) = (file, self.names.get(leg)) else {
+                continue;
+            };
+            if file.is_damaged() {
+                let name = name.as_str();
+                let text = format!(in alloc;
+                    "leg {leg}: its superblock ({name}) is damaged, and counts as missing"
+                );
+                lines.warn(rt, text);
+            }
+        }
     }
 
     // Makes the file of a leg that has none so far; that of a missing leg is opened later.

@@ -6,7 +6,7 @@ use crate::saving::{AfterTry, after_try, is_clean, is_last_somewhere};
 use nm_geometry::{MOST_LEGS, MOST_STRIPES};
 use nm_lanes::Gate;
 use nm_leg::LegPart;
-use nm_mirror::{MOST_SPANS, Mirror, SaveOrder};
+use nm_mirror::{Doubts, MOST_SPANS, Mirror, SaveOrder};
 use nm_reports::{LogLines, SaveStatus};
 use nm_saves::{SlotFile, SuperblockFiles};
 use nm_superblock::{LegSets, SpanMap, Superblock};
@@ -256,18 +256,19 @@ impl<S: SlotFile> SuperblockWriter<S> {
     }
 
     /// Saves for the last time, once nothing else is at work: that the mirror ends in good order,
-    /// where it does.
-    pub fn end<R: Wait, L: LegPart, G: Gate + Drop>(
+    /// where it does, with no leg in doubt.
+    pub fn end<R: Wait, L: LegPart, G: Gate + Drop, D: Doubts>(
         &mut self,
         rt: &R,
         mirror: &Mirror<L, G>,
+        doubts: &D,
         status: &SaveStatus,
         lines: &LogLines,
     ) {
         if status.has_failed() || !self.save(rt, mirror, status, lines, false) {
             return;
         }
-        mirror.settle_all(rt);
+        mirror.settle_all(rt, doubts);
         let _ = self.save(rt, mirror, status, lines, true);
     }
 }

@@ -16,11 +16,11 @@ pub struct FailCounts {
 /// What came of letting a leg join again in each stripe.
 #[derive(Clone, Copy, Debug, Default, PartialEq, Eq)]
 pub struct AttachCounts {
-    /// Where the leg joins.
+    /// Where the leg joins: it was out, or was taken out for it.
     pub joining: u64,
-    /// How many blocks are left to copy to it in those.
+    /// How many blocks are left to copy to it in those: what it missed, and what it may have lost.
     pub left: u64,
-    /// Where it was not out.
+    /// Where it was not out, and stays as it was.
     pub not_out: u64,
     /// Which have stopped.
     pub stopped: u64,

@@ -1,18 +1,22 @@
 //! Takes a leg out of every stripe, and lets it join again.
 ghost use Rattle.std.specs.Prelude.{◌≡◌, ◌+◌, ◌-◌, ◌^◌, ◌<◌, ◌≤◌, ◌↔◌, length, None};
-ghost use Rattle.std.specs.Prelude.{IfSome, IsSome, IsTrue};
+ghost use Rattle.std.specs.Prelude.{IfErr, IfOk, IfSome, IsSome, IsTrue, OnErr, OnOk, Some};
 ghost use Rattle.std.specs.Sync.Mutex.{mutex_guard_value};
+ghost use Rattle.nm_gate.specs.Returning.{suspects};
 ghost use Rattle.nm_mirror.specs.Asks.{LetsJoin};
-ghost use Rattle.nm_rules.specs.Attach.{Attaches, attach_cause};
+ghost use Rattle.nm_rules.specs.Attach.{Returns, attach_cause};
 ghost use Rattle.nm_rules.specs.Failing.{GoesOut, fail_cause};
 ghost use Rattle.nm_rules.specs.State.{left};
 ghost use Rattle.nm_mirror.specs.Counts.{attached_so, attaches, failed_so, fails};
 
 use crate::ask::Ask;
 use crate::counts::{AttachCounts, FailCounts};
+use crate::doubts::{Doubts, Returning};
 use crate::held::Held;
 use crate::lock::Lock;
 use crate::mirror::Mirror;
+use nm_gate::GatedStripe;
+use nm_geometry::MOST_LEGS;
 use nm_lanes::{CallKind, Gate, StepKind};
 use nm_leg::LegPart;
 use nm_stripe::{LegState, Refusal, Stripe};
@@ -34,16 +38,40 @@ pub(crate) fn fail_in<L: LegPart>(stripe: &mut Stripe<L>, leg: u8, counts: &mut 
     }
 }
 
-/// Lets the leg join this stripe again, and counts what came of it.
-fn attach_in<L: LegPart>(stripe: &mut Stripe<L>, leg: u8, counts: &mut AttachCounts)
-    requires leg { leg < length stripe.old.legs }
-    requires room { attaches counts.old < 2 ^ 64 - 1 }
-    ensures counts { counts.new
-        ≡ attached_so (attach_cause stripe.old leg) (left leg stripe.new) counts.old }
-    ensures attaches { attach_cause stripe.old leg ≡ None → Attaches stripe.old stripe.new leg }
-    ensures stays { IsSome (attach_cause stripe.old leg) → stripe.new ≡ stripe.old }
+/// Lets the leg join this stripe again, as one that may have lost something. Refused as an attach is.
+fn return_to<L: LegPart>(gated: &mut GatedStripe<L>, leg: u8) -> Result<u64, Refusal>
+    requires joins { LetsJoin gated.old.durable gated.old.stripe leg }
+    requires leg { leg < length gated.old.stripe.legs }
+    ensures ok { OnOk result (Returns gated.old.stripe gated.new.stripe leg
+        (suspects leg gated.old.durable)) }
+    ensures left { IfOk result (λ blocks. blocks ≡ left leg gated.new.stripe) }
+    ensures cause { IfErr result (λ refusal. attach_cause gated.old.stripe leg ≡ Some refusal) }
+    ensures stays { OnErr result (gated.new.stripe ≡ gated.old.stripe) }
+    ensures durable { gated.new.durable ≡ gated.old.durable }
 {
-    match stripe.attach(leg) {
+    if gated.stripe.is_stopped() {
+        return Err(Refusal::Stopped);
+    }
+    if gated.stripe.state(leg) != LegState::Out {
+        return Err(Refusal::NotOut);
+    }
+    gated.return_leg(leg)
+}
+
+/// The same, and counts what came of it.
+fn attach_in<L: LegPart>(gated: &mut GatedStripe<L>, leg: u8, counts: &mut AttachCounts)
+    requires joins { LetsJoin gated.old.durable gated.old.stripe leg }
+    requires leg { leg < length gated.old.stripe.legs }
+    requires room { attaches counts.old < 2 ^ 64 - 1 }
+    ensures counts { counts.new ≡ attached_so (attach_cause gated.old.stripe leg)
+        (left leg gated.new.stripe) counts.old }
+    ensures returns { attach_cause gated.old.stripe leg ≡ None
+        → Returns gated.old.stripe gated.new.stripe leg (suspects leg gated.old.durable) }
+    ensures stays { IsSome (attach_cause gated.old.stripe leg)
+        → gated.new.stripe ≡ gated.old.stripe }
+    ensures durable { gated.new.durable ≡ gated.old.durable }
+{
+    match return_to(gated, leg) {
         Ok(left) => {
             counts.joining += 1;
             counts.left = counts.left.saturating_add(left);
@@ -61,7 +89,50 @@ impl<L: LegPart> Held<L> {
         requires room { attaches counts.old < 2 ^ 64 - 1 }
         ensures { attaches counts.new ≤ attaches counts.old + 1 }
     {
-        attach_in(&mut self.gated.stripe, leg, counts);
+        attach_in(&mut self.gated, leg, counts);
+    }
+}
+
+/// Counts a stripe in which the leg stays as it is.
+fn count_unchanged<L: LegPart>(stripe: &Stripe<L>, counts: &mut AttachCounts)
+    requires { attaches counts.old < 2 ^ 64 - 1 }
+    ensures { attaches counts.new ≤ attaches counts.old + 1 }
+{
+    if stripe.is_stopped() {
+        counts.stopped += 1;
+    } else {
+        counts.not_out += 1;
+    }
+}
+
+/// Whether the leg joins the stripe, or is its master while another one joins.
+fn spoils_copies<L: LegPart>(stripe: &Stripe<L>, leg: u8) -> bool
+    requires { leg < length stripe.now.legs }
+{
+    if stripe.state(leg) == LegState::Joining {
+        return true;
+    }
+    if stripe.master() != leg {
+        return false;
+    }
+    let count = stripe.legs().min(MOST_LEGS as usize);
+    for other in 0..count as u8 {
+        if stripe.state(other) == LegState::Joining {
+            return true;
+        }
+    }
+    false
+}
+
+/// Takes the stripe's master out where it is in doubt and not the last in sync, if the leg joins:
+/// nothing is to be copied to it from there.
+fn drop_doubted_master<L: LegPart, D: Doubts>(stripe: &mut Stripe<L>, leg: u8, doubts: &D) {
+    if (leg as usize) >= stripe.legs() || stripe.state(leg) != LegState::Joining {
+        return;
+    }
+    let master = stripe.master();
+    if doubts.is_doubted(master) {
+        let _ = stripe.fail(master);
     }
 }
 
@@ -110,24 +181,77 @@ impl<L: LegPart, G: Gate + Drop> Mirror<L, G> {
         counts
     }
 
-    /// Lets the leg join every stripe again, and counts what came of it. Where it is out and a
-    /// superblock may still call it in sync, it waits for the next one. A stripe for which no
-    /// superblock can be saved counts as stopped.
-    pub fn attach_leg<R: Wait>(&self, rt: &R, leg: u8) -> AttachCounts
-        requires { leg < self.now.shape.legs }
-    {
+    /// Takes the leg out of each stripe in which it joins, or from which others are copied that
+    /// join: what it lost would be copied, or never be mended. It stays where it is the last in
+    /// sync.
+    pub fn spare_copies<R: Wait>(&self, rt: &R, leg: u8) {
+        for lock in &self.locks {
+            let mut held = lock.hold(rt);
+            let stripe = &mut held.gated.stripe;
+            if (leg as usize) < stripe.legs() && spoils_copies(stripe, leg) {
+                let _ = stripe.fail(leg);
+            }
+        }
+        self.want_save(rt);
+    }
+
+    /// How an attach of the leg counts, where it is out in no stripe: none where it is out in one.
+    fn count_attached<R: Wait>(&self, rt: &R, leg: u8) -> Option<AttachCounts> {
+        let mut counts = AttachCounts::default();
+        for stripe in 0..self.shape.stripes {
+            let held = self.hold(rt, stripe);
+            if may_join(&held.gated.stripe, leg) {
+                return None;
+            }
+            count_unchanged(&held.gated.stripe, &mut counts);
+        }
+        Some(counts)
+    }
+
+    /// Lets the leg join each stripe again in which it is out, and counts what came of it. Where a
+    /// superblock may still call it in sync there, it waits for the next one. Nothing is copied to
+    /// it from a master in doubt that is not the last in sync.
+    fn return_leg<R: Wait, D: Doubts>(&self, rt: &R, leg: u8, doubts: &D) -> AttachCounts {
         let mut counts = AttachCounts::default();
         for stripe in 0..self.shape.stripes {
             match hold_to_attach(&self.locks[stripe as usize], rt, leg) {
                 Some(mut held) => {
                     if (leg as usize) < held.gated.stripe.legs() {
                         held.attach(leg, &mut counts);
+                        drop_doubted_master(&mut held.gated.stripe, leg, doubts);
                     }
                 }
                 None => counts.stopped += 1,
             }
             self.pass_gate(CallKind::AttachLeg, stripe, StepKind::Attach);
         }
+        counts
+    }
+
+    /// Lets the leg join every stripe again, and counts what came of it; nothing is done where it is
+    /// out in none of them. It may have lost what it was not synced for, and is copied that too.
+    ///
+    /// Where it may have lost something in any stripe, it is first taken out of each in which it is
+    /// not the last in sync. Only then the doubts about it are forgotten, and it joins the first of
+    /// them. A stripe for which no superblock can be saved counts as stopped.
+    pub fn attach_leg<R: Wait, D: Doubts>(
+        &self,
+        rt: &R,
+        leg: u8,
+        returning: Returning,
+        doubts: &D,
+    ) -> AttachCounts
+        requires { leg < self.now.shape.legs }
+    {
+        if let Some(counts) = self.count_attached(rt, leg) {
+            return counts;
+        }
+        if returning == Returning::Everywhere {
+            let _ = self.fail_leg(rt, leg);
+        }
+        doubts.forget(leg, returning);
+        let counts = self.return_leg(rt, leg, doubts);
+        self.want_save(rt);
         counts
     }
 }

@@ -8,6 +8,7 @@
 
 pub use copy_round::{CopyRound, UnreadRegion};
 pub use counts::{AttachCounts, FailCounts, ReplaceCounts};
+pub use doubts::{Doubts, NoDoubts, Returning};
 pub use gating::{gated, ungated};
 pub use glance::Glance;
 pub use initial_sync::InitialSync;
@@ -40,6 +41,7 @@ mod claiming;
 mod closing;
 mod copy_round;
 mod counts;
+mod doubts;
 mod gated_steps;
 mod gating;
 mod glance;

@@ -8,6 +8,7 @@ ghost use Rattle.nm_mirror.specs.declared.copy_round.Visit.{Visit};
 
 use crate::bounds::within_bounds;
 use crate::copy_round::{CopyRound, LegRound, Visit};
+use crate::doubts::Doubts;
 use crate::mirror::Mirror;
 use nm_fanout::MOST_RUN;
 use nm_gate::{GateRefusal, GatedStripe};
@@ -112,6 +113,16 @@ fn bring_up<L: LegPart>(gated: &mut GatedStripe<L>, leg: u8, place: LegRound) ->
     Tried::Copied(region, gated.stripe.copy(leg, MOST_RUN as u64, place.from))
 }
 
+/// Takes a leg out that was called in sync, where it is in doubt: its sync tells nothing of what it
+/// was written before. Nobody has seen it in sync, as long as the stripe is held.
+fn drop_doubted<L: LegPart, D: Doubts>(stripe: &mut Stripe<L>, leg: u8, tried: Tried, doubts: &D)
+    requires { leg < length stripe.old.legs }
+{
+    if matches!(tried, Tried::Promoted(Ok(Promotion::InSync))) && doubts.is_doubted(leg) {
+        let _ = stripe.fail(leg);
+    }
+}
+
 /// Pushes the write of this ticket to the leg, if there is such a leg.
 fn push_to<L: LegPart>(stripe: &mut Stripe<L>, owed: Option<(u64, u8)>) -> Helped
     ensures { Pushes (leg_type L.model L.honest) owed stripe.old stripe.new result }
@@ -180,10 +191,11 @@ impl<L: LegPart, G: Gate + Drop> Mirror<L, G> {
     /// that. Where a write or another copy stands in the way of the copy, it helps that by one
     /// step.
     ///
-    /// A region that the last leg in sync cannot be read in is passed over, until `begin_again`.
+    /// A region that the last leg in sync cannot be read in is passed over, until `begin_again`. A
+    /// leg in doubt is not called in sync: it goes out there.
     /// What a gate refuses is left for a later turn: it waits for no superblock, but wants one to
     /// be saved wherever that changes something. Answers how many steps were not refused.
-    pub fn resync_turn<R: Wait>(&self, rt: &R, round: &mut CopyRound) -> u32
+    pub fn resync_turn<R: Wait, D: Doubts>(&self, rt: &R, round: &mut CopyRound, doubts: &D) -> u32
         requires stripes { round.old.stripes ≡ self.now.shape.stripes }
         requires legs { round.old.legs ≡ self.now.shape.legs }
         ensures most { result ≤ self.now.shape.stripes * self.now.shape.legs }
@@ -192,13 +204,19 @@ impl<L: LegPart, G: Gate + Drop> Mirror<L, G> {
         within_bounds(&self.shape);
         let mut done = 0u32;
         for stripe in 0..self.shape.stripes {
-            done += self.resync_stripe(rt, stripe, round);
+            done += self.resync_stripe(rt, stripe, round, doubts);
         }
         done
     }
 
     /// The same for one stripe.
-    fn resync_stripe<R: Wait>(&self, rt: &R, stripe: u32, round: &mut CopyRound) -> u32
+    fn resync_stripe<R: Wait, D: Doubts>(
+        &self,
+        rt: &R,
+        stripe: u32,
+        round: &mut CopyRound,
+        doubts: &D,
+    ) -> u32
         requires stripe { stripe < self.now.shape.stripes }
         requires stripes { round.old.stripes ≡ self.now.shape.stripes }
         requires legs { round.old.legs ≡ self.now.shape.legs }
@@ -208,7 +226,7 @@ impl<L: LegPart, G: Gate + Drop> Mirror<L, G> {
         let mut done = 0u32;
         let mut goes_on = false;
         for leg in 0..self.shape.legs {
-            if let Some(first) = self.resync(rt, stripe, leg, round) {
+            if let Some(first) = self.resync(rt, stripe, leg, round, doubts) {
                 goes_on = true;
                 done += self.end_step(rt, stripe, first);
             }
@@ -220,7 +238,14 @@ impl<L: LegPart, G: Gate + Drop> Mirror<L, G> {
     }
 
     /// Does a step for one leg of one stripe, in one hold, and notes what came of it.
-    fn resync<R: Wait>(&self, rt: &R, stripe: u32, leg: u8, round: &mut CopyRound) -> Option<Try>
+    fn resync<R: Wait, D: Doubts>(
+        &self,
+        rt: &R,
+        stripe: u32,
+        leg: u8,
+        round: &mut CopyRound,
+        doubts: &D,
+    ) -> Option<Try>
         requires stripe { stripe < self.now.shape.stripes }
         requires in_round { (stripe < round.old.stripes) × (leg < round.old.legs) }
         ensures round { (visit : Visit) × (round.new ≡ visited stripe leg visit round.old) }
@@ -231,6 +256,7 @@ impl<L: LegPart, G: Gate + Drop> Mirror<L, G> {
             return None;
         }
         let tried = bring_up(&mut held.gated, leg, round.place(stripe, leg));
+        drop_doubted(&mut held.gated.stripe, leg, tried, doubts);
         let is_unsaved = held.gated.wants_save();
         drop(held);
         if is_unsaved {

@@ -1,32 +1,66 @@
 //! The marks of stripes that are at rest.
 
+use crate::doubts::Doubts;
 use crate::lock::Lock;
 use crate::mirror::Mirror;
-use nm_gate::GatedStripe;
+use nm_geometry::MOST_LEGS;
 use nm_lanes::Gate;
 use nm_leg::LegPart;
+use nm_stripe::{LegState, Stripe, Syncing};
 use std::sync::Wait;
 
-/// Whether some span of the stripe is marked.
-fn is_marked<L: LegPart>(gated: &GatedStripe<L>) -> bool {
-    gated.marks().iter().any(|mark| *mark)
+/// Syncs the leg, if the stripe has it and it is not out. Whether it does not fail.
+fn sync_one<L: LegPart>(stripe: &mut Stripe<L>, leg: u8) -> bool {
+    if (leg as usize) >= stripe.legs() || stripe.state(leg) == LegState::Out {
+        return true;
+    }
+    matches!(stripe.sync(leg), Ok(Syncing::Synced))
 }
 
-/// Clears the stripe's marks where its legs are equal, in one hold. Whether it had some, and has
-/// none.
-fn settle<L: LegPart, R: Wait>(rt: &R, lock: &Lock<L>) -> bool {
+/// Syncs each leg of the stripe that is not out, until one fails. Whether none does.
+fn sync_legs<L: LegPart>(stripe: &mut Stripe<L>) -> bool {
+    for leg in 0..MOST_LEGS {
+        if !sync_one(stripe, leg) {
+            return false;
+        }
+    }
+    true
+}
+
+/// Whether a leg is in doubt that is not out in the stripe. A sync of it tells nothing of what it
+/// was written before.
+fn has_doubted<L: LegPart, D: Doubts>(stripe: &Stripe<L>, doubts: &D) -> bool {
+    let count = stripe.legs().min(MOST_LEGS as usize);
+    for leg in 0..count as u8 {
+        if stripe.state(leg) != LegState::Out && doubts.is_doubted(leg) {
+            return true;
+        }
+    }
+    false
+}
+
+/// Clears the stripe's marks where its legs are equal and none is in doubt, in one hold. Whether it
+/// had some, and has none.
+///
+/// Its legs are synced before it is looked whether one is in doubt: a power loss under way would
+/// fail a call by then. The syncs by which the gate settles make no call any more, since nothing
+/// was written since.
+fn settle<L: LegPart, R: Wait, D: Doubts>(rt: &R, lock: &Lock<L>, doubts: &D) -> bool {
     let mut held = lock.hold(rt);
-    is_marked(&held.gated) && held.gated.settle()
+    held.gated.may_settle()
+        && sync_legs(&mut held.gated.stripe)
+        && !has_doubted(&held.gated.stripe, doubts)
+        && held.gated.settle()
 }
 
 impl<L: LegPart, G: Gate + Drop> Mirror<L, G> {
     /// Clears the marks of each stripe in which nothing was written since the last turn, where its
-    /// legs can be synced and are equal. Then it wants a save.
-    pub fn settle_turn<R: Wait>(&self, rt: &R) {
+    /// legs can be synced and are equal, and none is in doubt. Then it wants a save.
+    pub fn settle_turn<R: Wait, D: Doubts>(&self, rt: &R, doubts: &D) {
         let mut is_cleared = false;
         for lock in &self.locks {
             if lock.was_quiet() {
-                is_cleared = settle(rt, lock) || is_cleared;
+                is_cleared = settle(rt, lock, doubts) || is_cleared;
             }
         }
         if is_cleared {
@@ -34,11 +68,11 @@ impl<L: LegPart, G: Gate + Drop> Mirror<L, G> {
         }
     }
 
-    /// Clears the marks of every stripe where its legs can be synced and are equal, for the end of
-    /// a server. The save after it says so.
-    pub fn settle_all<R: Wait>(&self, rt: &R) {
+    /// Clears the marks of every stripe where its legs can be synced and are equal, and none is in
+    /// doubt, for the end of a server. The save after it says so.
+    pub fn settle_all<R: Wait, D: Doubts>(&self, rt: &R, doubts: &D) {
         for lock in &self.locks {
-            let _ = settle(rt, lock);
+            let _ = settle(rt, lock, doubts);
         }
     }
 }

@@ -7,7 +7,7 @@ use crate::mirrors::{
 use bytes::Bytes;
 use nm_lanes::{Gate, Place, StepKind};
 use nm_leg::{FuseLeg, LegPart};
-use nm_mirror::{CopyRound, Mirror, Pass};
+use nm_mirror::{CopyRound, Mirror, NoDoubts, Pass, Returning};
 use nm_replay::{Block, Entry, Kind};
 use std::alloc::Global;
 use std::marker::Sync;
@@ -237,7 +237,7 @@ fn joins<R: Wait + Abort>(
     left: u64,
 ) -> bool {
     assert!(rt; leg < mirror.shape().legs);
-    let told = mirror.attach_leg(rt, leg);
+    let told = mirror.attach_leg(rt, leg, Returning::Everywhere, &NoDoubts);
     told.joining == 1 && told.left == left
 }
 
@@ -256,34 +256,20 @@ fn turns_beside_a_write<R: Wait + Abort>(
     done
 }
 
-/// Writes block 4: whether it was written.
-fn writes_block_4<R: Threads + Wait + Sync + Abort>(
+/// Writes block 0: whether it was written.
+fn writes_block_0<R: Threads + Wait + Sync + Abort>(
     rt: &R,
     alloc: Global,
     mirror: &Mirror<FuseLeg, AfterAPush>,
     pass: &mut Pass<FuseLeg>,
     payload: Bytes,
 ) -> bool {
-    write_at(rt, alloc, mirror, pass, 4 * 512, payload).is_ok()
+    write_at(rt, alloc, mirror, pass, 0, payload).is_ok()
 }
 
-/// Takes leg 2 out, writes a block of the second region, and lets the leg join.
-fn leave_behind<R: Threads + Wait + Sync + Abort>(
-    rt: &R,
-    alloc: Global,
-    mirror: &Mirror<FuseLeg, AfterAPush>,
-    pass: &mut Pass<FuseLeg>,
-) -> Result<(), Fail> {
-    assert!(rt; fails(rt, mirror, 2));
-    let early = fill_bytes(alloc, 512, 0xcc)?;
-    assert!(rt; write_at(rt, alloc, mirror, pass, 7 * 512, early).is_ok());
-    assert!(rt; joins(rt, mirror, 2, 4));
-    Ok(())
-}
-
-/// Legs 0 and 1 are in sync, and leg 2 joins with the second region behind. A write of that
-/// region's first block is held after its push to leg 0, while one turn is done: the copy is
-/// refused, and the push to leg 1 is not.
+/// Legs 0 and 1 are in sync, and leg 2 joins with both regions behind. A write of the first block is
+/// held after its push to leg 0, while one turn is done: the copy is refused, and the push to leg 1
+/// is not.
 fn check_turn<R: Threads + Wait + Sync + Abort>(
     rt: &R,
     alloc: Global,
@@ -291,18 +277,18 @@ fn check_turn<R: Threads + Wait + Sync + Abort>(
 ) -> Result<(), Fail> {
     let mirror = in_sync(rt, alloc, shape(8, 4, 2, 1, 3)?, AfterAPush::new())?;
     let mut writer = pass_of(rt, alloc, &mirror)?;
-    let mut before = pass_of(rt, alloc, &mirror)?;
-    leave_behind(rt, alloc, &mirror, &mut before)?;
+    let mut reader = pass_of(rt, alloc, &mirror)?;
+    assert!(rt; fails(rt, &mirror, 2) && joins(rt, &mirror, 2, 8));
     let payload = fill_bytes(alloc, 512, 0xaa)?;
     let mut round = round_of(alloc, &mirror)?;
     let (written, done) = join(
         rt,
-        || writes_block_4(rt, alloc, &mirror, &mut writer, payload),
+        || writes_block_0(rt, alloc, &mirror, &mut writer, payload),
         || turns_beside_a_write(rt, &mirror, &mut round, loses_master),
     );
     let in_time = mirror.gate().meeting.was_in_time();
     assert!(rt; written && in_time && done == 1);
-    assert!(rt; finds(rt, &mirror, &mut before, 4, 0xaa));
+    assert!(rt; finds(rt, &mirror, &mut reader, 0, 0xaa));
     Ok(())
 }
 

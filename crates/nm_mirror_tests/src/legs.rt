@@ -3,7 +3,7 @@
 use crate::mirrors::{check_status, round_of, shape, turn, zeroes};
 use nm_lanes::NoGate;
 use nm_leg::FuseLeg;
-use nm_mirror::{AttachCounts, FailCounts, Mirror};
+use nm_mirror::{AttachCounts, FailCounts, Mirror, NoDoubts, Returning};
 use std::alloc::Global;
 use std::process::Abort;
 use std::sync::Wait;
@@ -26,7 +26,7 @@ fn attach<R: Wait + Abort>(
     leg: u8,
 ) -> Result<AttachCounts, Fail> {
     assert!(rt; leg < mirror.shape().legs);
-    Ok(mirror.attach_leg(rt, leg))
+    Ok(mirror.attach_leg(rt, leg, Returning::Everywhere, &NoDoubts))
 }
 
 #[test]

@@ -42,6 +42,8 @@ mod reopening;
 #[cfg(test)]
 mod restarts;
 #[cfg(test)]
+mod returning;
+#[cfg(test)]
 mod rounds;
 #[cfg(test)]
 mod row;

@@ -6,7 +6,7 @@ use bytes::Bytes;
 use nm_geometry::{ByteRange, Shape};
 use nm_lanes::{CallError, Gate, WriteFault};
 use nm_leg::{FuseLeg, LegPart};
-use nm_mirror::{CopyRound, InitialSync, Mirror, Pass, Totals, open_stripes, ungated};
+use nm_mirror::{CopyRound, InitialSync, Mirror, NoDoubts, Pass, Totals, open_stripes, ungated};
 use nm_replay::BLOCK_BYTES;
 use nm_stripe::Policy;
 use std::alloc::Global;
@@ -127,7 +127,7 @@ pub fn turn<R: Wait + Abort, L: LegPart, G: Gate + Drop>(
     round: &mut CopyRound,
 ) -> u32 {
     assert!(rt; round.stripes() == mirror.shape().stripes && round.legs() == mirror.shape().legs);
-    mirror.resync_turn(rt, round)
+    mirror.resync_turn(rt, round, &NoDoubts)
 }
 
 /// Does turns until one does nothing.

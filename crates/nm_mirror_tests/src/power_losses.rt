@@ -5,6 +5,7 @@ use crate::machine::{Chance, Machine, SECTORS, SharedMachine, has_stopped};
 use crate::mirrors::{flush, read_at, shape, sync_touched, write_at};
 use crate::restarts::{Server, make_first, start};
 use nm_geometry::Shape;
+use nm_mirror::NoDoubts;
 use std::alloc::Global;
 use std::marker::Sync;
 use std::process::Abort;
@@ -224,7 +225,7 @@ impl Play {
                 server.copy(rt, turns);
             }
             _ => {
-                server.mirror.settle_all(rt);
+                server.mirror.settle_all(rt, &NoDoubts);
                 let _ = server.save(rt);
             }
         }

@@ -8,7 +8,8 @@ use nm_file_leg::{FileLeg, Medium};
 use nm_gate::DurableState;
 use nm_geometry::Shape;
 use nm_mirror::{
-    CopyRound, Mirror, NoGate, Pass, StripeStart, StripeStatus, gated, open_marked_stripes,
+    CopyRound, Mirror, NoDoubts, NoGate, Pass, Returning, StripeStart, StripeStatus, gated,
+    open_marked_stripes,
 };
 use nm_rules::LegOpening;
 use nm_saves::{FailedFiles, SuperblockFile, SuperblockFiles, found_beside};
@@ -291,7 +292,8 @@ impl Server {
             return;
         }
         if leg < self.mirror.legs() {
-            let _ = self.mirror.attach_leg(rt, leg);
+            let how = Returning::Everywhere;
+            let _ = self.mirror.attach_leg(rt, leg, how, &NoDoubts);
             self.files.read_failed_again();
         }
     }

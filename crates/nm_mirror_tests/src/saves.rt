@@ -4,10 +4,11 @@ use crate::gates::finds;
 use crate::mirrors::{
     check_status, fill_bytes, flush, legs_of_zeroes, pass_of, round_of, shape, turn, write_at,
 };
+use crate::returning::Doubted;
 use bytes::Bytes;
 use nm_gate::DurableState;
 use nm_leg::FuseLeg;
-use nm_mirror::{CopyRound, InitialSync, Mirror, NoGate, Pass, gated, open_stripes};
+use nm_mirror::{CopyRound, InitialSync, Mirror, NoDoubts, NoGate, Pass, gated, open_stripes};
 use nm_stripe::Policy;
 use std::alloc::Global;
 use std::process::Abort;
@@ -288,13 +289,18 @@ fn marks_go_where_the_legs_are_equal(rt: HostRuntime) -> Result<(), Fail> {
     Ok(())
 }
 
-/// Looks whether the first span alone is marked, and after two turns of settling none.
+/// Looks whether the first span alone is marked, while leg 1 is in doubt too, and else after two
+/// turns of settling none.
 fn check_mark_goes<R: Wait + Abort>(rt: &R, mirror: &Saved) {
     let marked = mirror.begin_save(rt);
     assert!(rt; marked.marked().is_marked(0) && !marked.marked().is_marked(1));
     mirror.end_save(rt, marked);
-    mirror.settle_turn(rt);
-    mirror.settle_turn(rt);
+    mirror.settle_turn(rt, &Doubted(1));
+    mirror.settle_turn(rt, &Doubted(1));
+    let doubted = mirror.begin_save(rt);
+    assert!(rt; doubted.marked().is_marked(0));
+    mirror.end_save(rt, doubted);
+    mirror.settle_turn(rt, &NoDoubts);
     let clean = mirror.begin_save(rt);
     assert!(rt; clean.marked().is_empty());
     mirror.end_save(rt, clean);

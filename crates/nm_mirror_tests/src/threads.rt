@@ -6,7 +6,7 @@ use crate::mirrors::{
 };
 use nm_lanes::{Gate, Place};
 use nm_leg::FuseLeg;
-use nm_mirror::{CopyRound, LegStatus, Mirror, Pass, StripeStatus};
+use nm_mirror::{CopyRound, LegStatus, Mirror, NoDoubts, Pass, Returning, StripeStatus};
 use nm_replay::check;
 use nm_stripe::LegState;
 use std::alloc::Global;
@@ -127,7 +127,8 @@ fn fail_and_attach<R: Wait + Abort>(rt: &R, mirror: &Healing, leg: u8) -> bool {
     assert!(rt; leg < mirror.shape().legs);
     let failed = mirror.fail_leg(rt, leg).failed;
     mirror.gate().begun.store(1, Ordering::SeqCst);
-    failed == 4 && mirror.attach_leg(rt, leg).joining == 4
+    let returning = Returning::Everywhere;
+    failed == 4 && mirror.attach_leg(rt, leg, returning, &NoDoubts).joining == 4
 }
 
 /// Copies until each leg of every stripe is in sync: whether they could be asked.

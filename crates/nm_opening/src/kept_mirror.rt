@@ -260,6 +260,7 @@ where
     files.check_named(named_master(settings))?;
     let here = files.here();
     let found = FoundFiles::open(rt, alloc, settings, files)?;
+    found.tell_damaged(rt, alloc, lines);
     let seen = FoundLegs {
         found: found.found(),
         trusted: files.settle(),

@@ -1,5 +1,7 @@
 //! What of a leg's file failed last.
 
+use crate::leg_doubts::LegDoubts;
+use nm_mirror::Returning;
 use std::io::ErrorKind;
 use std::sync::atomic::{AtomicBool, AtomicU32, AtomicU64, Ordering};
 use std::{fmt, io};
@@ -64,8 +66,9 @@ impl fmt::Display for Trouble {
     }
 }
 
-/// The last call of a leg's file that failed and is not told yet. The stripes of the leg note it,
-/// whoever tells of the leg takes it; none of them waits.
+/// The last call of a leg's file that failed and is not told yet, and what the leg may have lost by
+/// such calls. The stripes of the leg note it, whoever tells of the leg takes it; none of them
+/// waits.
 #[derive(Drop)]
 pub struct LegTrouble {
     // Whether somebody is at the fields below.
@@ -77,6 +80,23 @@ pub struct LegTrouble {
     at: AtomicU64,
     // The system's number of the error, or 0.
     error: AtomicU32,
+    doubts: LegDoubts,
+}
+
+// Whether the error is that there is no space left.
+fn is_no_space(error: Option<&io::Error>) -> bool {
+    match error {
+        Some(error) => error.kind() == ErrorKind::StorageFull,
+        None => false,
+    }
+}
+
+// Whether the error tells what an earlier call has lost: the system gave it for none of its own.
+fn is_of_an_earlier_call(error: Option<&io::Error>) -> bool {
+    match error {
+        Some(error) => error.raw_os_error().is_none(),
+        None => false,
+    }
 }
 
 impl LegTrouble {
@@ -89,11 +109,29 @@ impl LegTrouble {
             call: AtomicU64::new(0),
             at: AtomicU64::new(0),
             error: AtomicU32::new(0),
+            doubts: LegDoubts::new(),
+        }
+    }
+
+    /// What the leg may have lost.
+    pub fn doubts(&self) -> &LegDoubts {
+        &self.doubts
+    }
+
+    // Notes what the leg may have lost by a call that failed. A sync that fails since an earlier one
+    // did was noted then.
+    fn note_doubt(&self, call: FileCall, at: u64, error: Option<&io::Error>) {
+        match call {
+            FileCall::Read => self.doubts.note_unread(at),
+            FileCall::Write if is_no_space(error) => self.doubts.note_full(),
+            FileCall::Sync if is_of_an_earlier_call(error) => (),
+            FileCall::Write | FileCall::Sync | FileCall::Length => self.doubts.note_failure(),
         }
     }
 
     /// Notes a call that failed, at this byte. Of several at a time one is noted.
     pub fn note(&self, call: FileCall, at: u64, error: Option<&io::Error>) {
+        self.note_doubt(call, at, error);
         if call == FileCall::Length && error.is_none() {
             self.was_cut.store(true, Ordering::SeqCst);
         }
@@ -120,6 +158,7 @@ impl LegTrouble {
     pub fn forget(&self) {
         self.was_cut.store(false, Ordering::SeqCst);
         self.is_new.store(false, Ordering::SeqCst);
+        self.doubts.forget(Returning::Everywhere);
     }
 
     /// Takes what failed last, if something has since this was last asked.

@@ -1,13 +1,13 @@
 //! The mirror of the program, with all that it is served by.
 
 use nm_commands::Settings;
-use nm_control::{Copier, CopyOrders, Healing, MissingLegs};
+use nm_control::{Copier, CopyOrders, Healing, LegWatch, MissingLegs};
 use nm_leg_files::{
     FileMirror, LateSlots, LateSuperblock, Leg, LegFiles, LegPlace, SuperblockWriter, Superblocks,
 };
 use nm_mirror::Pass;
 use nm_opening::open_asked_for;
-use nm_reports::{LogLines, Metrics, StartFault};
+use nm_reports::{LogLines, Metrics, MirrorDoubts, StartFault};
 use nm_serving::AT_ONCE;
 use nm_sockets::Listener;
 use std::alloc::{AllocError, Global};
@@ -87,7 +87,8 @@ fn orders_of<'a>(
 ) -> Result<CopyOrders, StartFault<'a>> {
     let reasons = files.reasons(alloc)?;
     let orders = CopyOrders::new(settings.copy_rate).with_missing(MissingLegs::of(reasons));
-    Ok(orders.with_limits(files.limits(alloc)?))
+    let doubts = MirrorDoubts::of(files.troubles(alloc)?);
+    Ok(orders.with_limits(files.limits(alloc)?).with_doubts(doubts))
 }
 
 // The copier of the mirror, which tells of its legs by their files' names.
@@ -102,7 +103,8 @@ fn copier_of<'a>(
         return Err(StartFault::Memory);
     };
     let healing = healing_of(alloc, settings, files, places)?;
-    match Copier::new(alloc, mirror.shape(), legs, healing) {
+    let watch = LegWatch::new(shares_of(alloc, places)?);
+    match Copier::new(alloc, mirror.shape(), legs, watch, healing) {
         Ok(copier) => Ok(copier),
         Err(_) => Err(StartFault::Memory),
     }

@@ -137,7 +137,8 @@ where
         let is_served = serve_copying(rt, opener, shared, named, passes, copier, controlled);
         mirror.close_saves(rt);
         saving.join(rt);
-        writer.lock(rt).end(rt, mirror, saves, shared.lines);
+        let doubts = controlled.orders.doubts();
+        writer.lock(rt).end(rt, mirror, doubts, saves, shared.lines);
         is_served
     })
 }

@@ -5,7 +5,7 @@ use nm_control::{Controlled, CopyOrders, RenewsLegs, control};
 use nm_geometry::Shape;
 use nm_lanes::NoGate;
 use nm_leg::MemLeg;
-use nm_leg_files::{MakesLegs, Unrenewed};
+use nm_leg_files::{MakesLegs, Unattached, Unrenewed};
 use nm_mirror::{InitialSync, Mirror};
 use nm_places::{Quit, SessionPlaces, SessionRules};
 use nm_reports::{Metrics, ServerInfo, UnreadList};
@@ -153,6 +153,10 @@ impl RenewsLegs<MemLeg> for MemRenewer {
             }
         }
         Ok(legs)
+    }
+
+    fn check(&self, _leg: u8) -> Result<(), Unattached> {
+        Ok(())
     }
 }
 

@@ -1,0 +1,47 @@
+//! What others have of the legs' files: shares of what is noted and counted of them.
+
+use crate::leg_files::LegFiles;
+use crate::limited_file::{CallLimit, share_limit};
+use nm_reports::{LegCounts, LegLines, LegTrouble};
+use std::alloc::{AllocError, Global};
+use std::sync::Arc;
+
+impl LegFiles {
+    /// The lines on these legs.
+    pub fn lines(&self, alloc: Global) -> Result<Vec<LegLines>, AllocError> {
+        let mut lines = Vec::new(alloc);
+        for (leg, file) in self.files.iter().enumerate() {
+            let name = String::from_str(alloc, file.name.as_str())?;
+            let trouble = Arc::try_clone(&file.trouble)?;
+            lines.push(LegLines::new(leg, name, trouble))?;
+        }
+        Ok(lines)
+    }
+
+    /// Where the calls of each leg are counted.
+    pub fn counts(&self, alloc: Global) -> Result<Vec<Arc<LegCounts>>, AllocError> {
+        let mut counts = Vec::new(alloc);
+        for file in &self.files {
+            counts.push(Arc::try_clone(&file.counts)?)?;
+        }
+        Ok(counts)
+    }
+
+    /// Where it is noted what fails of each leg's file.
+    pub fn troubles(&self, alloc: Global) -> Result<Vec<Arc<LegTrouble>>, AllocError> {
+        let mut troubles = Vec::new(alloc);
+        for file in &self.files {
+            troubles.push(Arc::try_clone(&file.trouble)?)?;
+        }
+        Ok(troubles)
+    }
+
+    /// The limits of the legs' calls.
+    pub fn limits(&self, alloc: Global) -> Result<Vec<CallLimit>, AllocError> {
+        let mut limits = Vec::new(alloc);
+        for file in &self.files {
+            limits.push(share_limit(file.shared.file().limit())?)?;
+        }
+        Ok(limits)
+    }
+}
