@@ -29,7 +29,7 @@ COPY_RATE = re.compile(r"copy-rate (\d{1,5}|default)")
 ATTACHED = re.compile(r"attach (\d+): joining (\d+) left (\d+) notout (\d+) stopped (\d+)")
 REPLACED = re.compile(r"replace (\d+): joining (\d+) left (\d+) out (\d+) stopped (\d+)")
 REFUSED = re.compile(r"(?:fail|attach|replace) \d+: (last|busy|in use|locked|length|cannot open|not saved"
-                     r"|is a block device: give --superblock FOLDER)")
+                     r"|is a block device: give --superblock FOLDER|no file|was cut|another file)")
 REOPENED = re.compile(r"reopen: opened (\d+) left (\d+) stopped (\d+)")
 SERVING = re.compile(r"serving: up \d{1,20} s")
 SUPERBLOCK = re.compile(r"superblock: generation (\d{1,20}) marked (\d{1,20}) unsaved (\d{1,20})( failed)?")

@@ -325,12 +325,16 @@ REFUSALS = {
     "not saved": "is out, and stays so: no superblock can be written",
     "is a block device: give --superblock FOLDER":
         "is out, and stays so: the file of its name is a block device, which needs --superblock FOLDER",
+    "no file": "stays as it is: the file of its name cannot be opened",
+    "was cut": "stays as it is: its file was made shorter, and may lack anything. Make it as long as it was, and replace it:"
+               " nbdmirrorctl replace {leg}",
+    "another file": "stays as it is: another file has its name. To have that copied whole: nbdmirrorctl replace {leg}",
 }
 
 
 def refusal_sentence(leg, word):
     """Why a server does not do what was asked of a leg."""
-    return f"leg {leg} {REFUSALS[word]}"
+    return f"leg {leg} {REFUSALS[word].format(leg=leg)}"
 
 
 def reopen_sentence(opened, left, stopped):
