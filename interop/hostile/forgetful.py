@@ -116,11 +116,17 @@ class Forgetful:
         with self.lock:
             return bytes(self.files[self.names[name]].now)
 
-    def cut(self):
-        """The power goes: from here on nothing is answered until `dark`. Gives how many sectors were lost."""
+    def durable_contents(self, name):
+        """What a cut that loses all leaves of it."""
+        with self.lock:
+            return bytes(self.files[self.durable_names[name]].durable)
+
+    def cut(self, share=None):
+        """The power goes: from here on nothing is answered until `dark`. About this share of what was not synced is kept.
+        Gives how many sectors were lost."""
         with self.lock:
             self.power = False
-            share = self.rng.choice([0.0, 0.1, 0.5, 0.9, 1.0])
+            share = self.rng.choice([0.0, 0.1, 0.5, 0.9, 1.0]) if share is None else share
             lost = sum(file.cut(self.rng, share) for file in self.files.values())
             for name in set(self.names) | set(self.durable_names):
                 old, new = self.durable_names.get(name), self.names.get(name)
