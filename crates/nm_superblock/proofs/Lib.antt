@@ -5,6 +5,5 @@ pub mod Reading
 pub mod Unique
 pub mod Torn
 pub mod Undamaged
-pub mod Beside
 pub mod Highest
 pub mod Marks

@@ -3,7 +3,6 @@ ghost use Rattle.std.specs.Prelude.{◌<◌, ◌↔◌, IsTrue};
 ghost use Rattle.nm_superblock.specs.Damage.{HasBadSector, HasOneStamp, IsBad};
 ghost use Rattle.nm_superblock.specs.Damage.{IsDamaged, IsDamagedPlace};
 
-use crate::restamped::is_changed;
 use crate::sectors::{has_head, is_blank, read_stamp};
 use crate::superblock::Superblock;
 
@@ -12,10 +11,7 @@ pub fn is_place_damaged(first: &[u8; 4096], second: &[u8; 4096]) -> bool
     ensures { IsTrue result
         ↔ IsDamagedPlace (record { first = first.now; second = second.now }) }
 {
-    is_damaged(first)
-        || is_damaged(second)
-        || is_changed(first, second)
-        || is_changed(second, first)
+    is_damaged(first) || is_damaged(second)
 }
 
 /// Whether a slot is damaged: it holds no superblock, and bytes that no save has left there, be it

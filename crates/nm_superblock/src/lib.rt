@@ -16,7 +16,6 @@ pub mod laws;
 mod leg_sets;
 mod payload;
 mod place;
-mod restamped;
 mod sectors;
 mod span_map;
 mod superblock;

@@ -67,7 +67,7 @@ pub(crate) fn is_blank(slot: &[u8; 4096], number: usize) -> bool
 }
 
 // Whether both have the same bytes.
-pub(crate) fn is_same(first: &[u8], second: &[u8]) -> bool
+fn is_same(first: &[u8], second: &[u8]) -> bool
     ensures { IsTrue result ↔ (first.now ≡ second.now) }
 {
     first == second
