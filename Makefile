@@ -3,9 +3,10 @@ RT ?= rt
 export RT
 
 .DEFAULT_GOAL := help
-.PHONY: help run script demo interop hostile install deb check gate-cost must-fail wrong-bodies fail-alloc bench bench-server fmt
+.PHONY: help try run script demo interop hostile install deb check tests gate-cost must-fail wrong-bodies fail-alloc bench bench-server fmt
 
 help:
+	@echo 'make try           two legs of 64 MiB from a server that is not proved, within three minutes; PORT as for make run'
 	@echo 'make run           build nbdmirror and serve two legs of 64 MiB, until a quit; PORT=20809 for other ports than 10809 and 10810'
 	@echo 'make demo          build nbdmirror and show it: a leg fails and comes back, the server is killed and starts again by itself'
 	@echo 'make install       build nbdmirror and install it below PREFIX (/usr/local), in DESTDIR'
@@ -14,6 +15,7 @@ help:
 	@echo 'make hostile       clients, legs and crashes that do harm, for about three quarters of an hour; FORM=short for a minute or two'
 	@echo 'make script        build nm_script and run it on the example script'
 	@echo 'make check         the whole gate: every proof from nothing, every must-fail edit, every test'
+	@echo 'make tests         the crates of tests alone, tests/rattle, with no proof'
 	@echo 'make gate-cost     the gate from nothing, with what each crate costs written into docs/gate.txt'
 	@echo 'make must-fail     the must-fail edits alone'
 	@echo 'make wrong-bodies  the wrong bodies that stand outside the gate'
@@ -21,6 +23,9 @@ help:
 	@echo 'make bench         the stripe and the requests, timed beside plain Rust'
 	@echo 'make bench-server  nbdmirror, timed beside nbdkit and qemu-nbd'
 	@echo 'make fmt           lay out every crate'
+
+try:
+	@tools/try-server
 
 run:
 	@tools/preflight ports && tools/build-server && tools/run-server
@@ -46,9 +51,12 @@ script:
 	@cd crates/nm_script && $(RT) run < stdin 2> ../../out/build/nm_script.log || { tail -n 20 ../../out/build/nm_script.log >&2; exit 1; }
 
 check:
-	@echo 'Proving every crate and its tests from nothing, then the must-fail edits, the tests and the programs.'
+	@echo 'Proving every crate from nothing, then the must-fail edits, the tests and the programs.'
 	@echo 'This takes an hour to an hour and a half on 4 cores; a line comes as each crate, edit and run ends, and out/gate.log has the rest.'
 	@tools/gate
+
+tests:
+	@tools/try-tests
 
 gate-cost:
 	@tools/gate-cost --write
@@ -70,3 +78,4 @@ bench-server:
 
 fmt:
 	@for crate in crates/*/; do (cd $$crate && $(RT) fmt) || exit 1; done
+	@tools/try-tests --fmt

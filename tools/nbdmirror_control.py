@@ -18,18 +18,22 @@ TIMEOUT_SECONDS = 70
 QUIET_SECONDS = 2
 # What it means that none comes. An older server serves one connection at a time, and none after a quit.
 NO_ANSWER = "a leg hangs, or the control port is busy"
+# What a line of which no answer came may do yet, where it does something.
+STILL = {"fail", "attach", "replace", "retire", "reopen", "kick", "copy-rate", "verify", "quit"}
 # What no server sends more of: bytes in a line, stripes, and lines of metrics.
 MOST_BYTES, MOST_STRIPES, MOST_METRICS = 4096, 1024, 4096
 STRIPE = re.compile(r"stripe (\d{1,20}): (.*)")
 RUNNING = re.compile(r"master (\d{1,20}) settling (yes|no) legs((?: (?:in|out|join\(\d{1,20}\)))+)")
-FAILED = re.compile(r"fail (\d+): failed (\d+) last (\d+) out (\d+) stopped (\d+)")
+FAILED = re.compile(r"fail (\d+): failed (\d+) last (\d+) out (\d+) stopped (\d+)( unsaved)?")
+UNSYNCED = re.compile(r'nbdmirror_leg_unsynced_bytes\{leg="(\d{1,3})"\} (\d{1,20})')
 UNREAD = re.compile(r"unread (\d{1,20}) (\d{1,20}) (\d{1,20}) (\d{1,20})")
 UNREAD_END = re.compile(r"end (\d{1,20})")
 COPY_RATE = re.compile(r"copy-rate (\d{1,5}|default)")
-ATTACHED = re.compile(r"attach (\d+): joining (\d+) left (\d+) notout (\d+) stopped (\d+)")
-REPLACED = re.compile(r"replace (\d+): joining (\d+) left (\d+) out (\d+) stopped (\d+)")
-REFUSED = re.compile(r"(?:fail|attach|replace) \d+: (last|busy|in use|locked|length|cannot open|not saved"
+ATTACHED = re.compile(r"attach (\d+): joining (\d+) left (\d+) notout (\d+) stopped (\d+)( unsaved)?")
+REPLACED = re.compile(r"replace (\d+): joining (\d+) left (\d+) out (\d+) stopped (\d+)( unsaved)?")
+REFUSED = re.compile(r"(?:fail|attach|replace|retire) \d+: (last|busy|stopped|retired|not the highest|in use|locked|length|cannot open|not saved"
                      r"|is a block device: give --superblock FOLDER|no file|was cut|another file)")
+RETIRED = re.compile(r"retire (\d+): out( unsaved)?")
 REOPENED = re.compile(r"reopen: opened (\d+) left (\d+) stopped (\d+)")
 SERVING = re.compile(r"serving: up \d{1,20} s")
 SUPERBLOCK = re.compile(r"superblock: generation (\d{1,20}) marked (\d{1,20}) unsaved (\d{1,20})( failed)?")
@@ -60,7 +64,7 @@ class Control:
 
     def __init__(self, address, timeout=TIMEOUT_SECONDS, tell=None):
         """`tell` is called with a text where an answer takes long, once."""
-        self.timeout, self.tell, self.data = timeout, tell, b""
+        self.timeout, self.tell, self.data, self.still = timeout, tell, b"", ""
         self.end = time.monotonic() + timeout
         name = f"{UNIX}{address}" if isinstance(address, str) else f"{address[0]}:{address[1]}"
         try:
@@ -79,6 +83,8 @@ class Control:
     def send(self, *lines):
         """Sends these lines in one piece, so that no other command comes between them."""
         self.end = time.monotonic() + self.timeout
+        is_order = any(line.split(" ")[0] in STILL for line in lines)
+        self.still = "; the server may still do it" if is_order else ""
         try:
             self.socket.settimeout(self.timeout)
             self.socket.sendall("".join(f"{line}\n" for line in lines).encode("ascii"))
@@ -94,7 +100,7 @@ class Control:
                 data = self.socket.recv(1 << 16)
             except TimeoutError as error:
                 if not self.tell or self.end <= time.monotonic():
-                    raise Trouble(f"no answer within {self.timeout:g} seconds: {NO_ANSWER}") from error
+                    raise Trouble(f"no answer within {self.timeout:g} seconds: {NO_ANSWER}{self.still}") from error
                 tell, self.tell = self.tell, None
                 tell(f"no answer yet: {NO_ANSWER}; it may take {self.timeout:g} seconds")
                 continue
@@ -178,6 +184,14 @@ class Control:
             if len(lines) > MOST_METRICS:
                 raise Trouble("the server answered with no end of metrics")
         return lines
+
+    def unsynced(self):
+        """How many bytes the regions of each leg have in which something is not synced, where the server tells."""
+        try:
+            found = map(UNSYNCED.fullmatch, self.metrics())
+        except Trouble:
+            return {}
+        return {int(line[1]): int(line[2]) for line in found if line}
 
     def copy_rate(self):
         """At how many MiB a second legs are copied. None where that is not set, or the server does not tell."""

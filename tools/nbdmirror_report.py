@@ -314,8 +314,16 @@ def replace_sentence(leg, joining, left, out, stopped):
     return sentence(leg, parts, stopped, count)
 
 
+def retire_sentence(leg):
+    """That a leg is out for good."""
+    return f"leg {leg} is out for good: start without its name from now on"
+
+
 # What a server answers where it does not do what was asked of a leg.
 REFUSALS = {
+    "stopped": "stays as it is: a stripe is stopped",
+    "retired": "is out for good",
+    "not the highest": "stays as it is: retire the last leg first",
     "last": "is the only one in sync in some stripe, and stays",
     "busy": "is being replaced, or a call of it has not returned: ask again",
     "in use": "is out, and stays so: the file of its name is in use",

@@ -4,7 +4,9 @@
     tests/superblocks/example.py > slot          its 4,096 bytes
     tests/superblocks/example.py --hex           the same as text, as in example.hex
     tests/superblocks/example.py --rows          its rows of 16 bytes that are not zero, as in the test of nm_storage_tests
-    tests/superblocks/example.py --check         fails where example.hex or that test has others
+    tests/superblocks/example.py --check         fails where a file of bytes or that test has others
+    tests/superblocks/example.py --version-1 ..  the same, of version 1 of the format, as in example-1.hex
+    tests/superblocks/example.py --as-version-1 FILE     makes a file of superblocks one of version 1
 """
 import hashlib
 import os
@@ -12,7 +14,7 @@ import struct
 import sys
 
 FOLDER = os.path.dirname(os.path.abspath(__file__))
-TEST = os.path.join(FOLDER, "../../crates/nm_storage_tests/src/superblocks.rt")
+TEST = os.path.join(FOLDER, "../rattle/nm_storage_tests/src/superblocks.rt.in")
 
 GENERATION = 57
 MIRROR = bytes.fromhex("0123456789abcdef0011223344556677")
@@ -25,13 +27,27 @@ SETS = [(0b11, 0, 0)] * 5 + [(0b10, 0b01, 0)] + [(0b10, 0, 0b01)] * 2
 LINEAGES = [0xA0A0A0A0A0A0A0A0, 0xB0B0B0B0B0B0B0B0]
 FORKS = [40]
 MARKED = [0, 9, 15]
+# for each leg what tells its file or device; the second one's is unknown
+IDENTITIES = ["file 131074 born 1700000000.123456789"]
+CHANGED = [1700000100123456789]
 
 
 def table(numbers, count):
     return b"".join(n.to_bytes(8, "big") for n in numbers).ljust(8 * count, b"\0")
 
 
-def payload():
+def identities(version):
+    if version == 1:
+        return bytes(320)
+    known = b"".join(hashlib.sha256(text.encode()).digest() for text in IDENTITIES)
+    return known.ljust(256, b"\0") + table(CHANGED, 8)
+
+
+def with_digest(head, tail):
+    return head + hashlib.sha256(head + bytes(8) + tail).digest()[:8] + tail
+
+
+def payload(version):
     head = MIRROR
     head += struct.pack(">QII", BLOCKS, REGION_BLOCKS, SPAN_REGIONS)
     head += bytes([STRIPES, LEGS, LEG, FLAGS, 0, 0, 0, 0])
@@ -40,18 +56,33 @@ def payload():
     marks = bytearray(2048)
     for span in MARKED:
         marks[span // 8] |= 1 << span % 8
-    tail = table(LINEAGES, 4) + table(FORKS, 4) + bytes(marks) + bytes(1424)
-    digest = hashlib.sha256(head + bytes(8) + tail).digest()[:8]
-    return head + digest + tail
+    tail = table(LINEAGES, 4) + table(FORKS, 4) + bytes(marks) + identities(version) + bytes(1104)
+    return with_digest(head, tail)
 
 
-def slot():
-    whole = payload()
+def slot_of(version, generation, whole):
     assert len(whole) == 8 * 496
     return b"".join(
-        b"NMRS" + bytes([1, number, 0, 0]) + GENERATION.to_bytes(8, "big")
+        b"NMRS" + bytes([version, number, 0, 0]) + generation
         + whole[496 * number:496 * number + 496]
         for number in range(8))
+
+
+def slot(version):
+    return slot_of(version, GENERATION.to_bytes(8, "big"), payload(version))
+
+
+def as_version_1(path):
+    """Makes each superblock of the file one of version 1: it tells of no identities and no times."""
+    with open(path, "r+b") as file:
+        for at in (0, 4096):
+            file.seek(at)
+            old = file.read(4096)
+            if old[:4] == b"NMRS":
+                whole = b"".join(old[512 * n + 16:512 * n + 512] for n in range(8))
+                made = slot_of(1, old[8:16], with_digest(whole[:424], whole[432:2544] + bytes(1424)))
+                file.seek(at)
+                file.write(made)
 
 
 def as_hex(made):
@@ -70,24 +101,30 @@ def contents(path):
         return file.read()
 
 
-def check(made):
+def check():
     wrong = []
-    if contents(os.path.join(FOLDER, "example.hex")) != as_hex(made):
-        wrong.append("example.hex")
-    if rows(made) not in contents(TEST):
-        wrong.append(os.path.basename(TEST))
+    for version, name in ((2, "example.hex"), (1, "example-1.hex")):
+        made = slot(version)
+        if contents(os.path.join(FOLDER, name)) != as_hex(made):
+            wrong.append(name)
+        if rows(made) not in contents(TEST):
+            wrong.append(f"{os.path.basename(TEST)}, version {version}")
     return ", ".join(wrong)
 
 
 if __name__ == "__main__":
-    made = slot()
+    words = sys.argv[1:]
+    made = slot(1 if "--version-1" in words else 2)
     assert len(made) == 4096
-    if sys.argv[1:] == ["--hex"]:
+    words = [word for word in words if word != "--version-1"]
+    if words == ["--hex"]:
         print(as_hex(made), end="")
-    elif sys.argv[1:] == ["--rows"]:
+    elif words == ["--rows"]:
         print(rows(made), end="")
-    elif sys.argv[1:] == ["--check"]:
-        wrong = check(made)
+    elif words == ["--check"]:
+        wrong = check()
         sys.exit(f"other bytes: {wrong}" if wrong else 0)
+    elif words[:1] == ["--as-version-1"]:
+        as_version_1(words[1])
     else:
         sys.stdout.buffer.write(made)

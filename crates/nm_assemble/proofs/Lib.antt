@@ -2,3 +2,4 @@ pub mod NewestLemmas
 pub mod SaveLemmas
 pub mod SureLemmas
 mod SetLemmas
+mod OwnLemmas

@@ -8,6 +8,9 @@ use Rattle.nm_superblock.specs.Spans.{IsUnmarked, candidates_of, in_sync_of, par
 use Rattle.nm_assemble.specs.declared.assembly.Assembly.{Assembly}
 use Rattle.nm_assemble.specs.declared.first.NewMirror.{NewMirror}
 use Rattle.nm_assemble.specs.Masters.{IsMaster, MayOpenOn}
+use Rattle.nm_assemble.specs.Own.{Records}
+use Rattle.nm_assemble.specs.declared.own.LegsHere.{LegsHere}
+use Rattle.nm_superblock.specs.declared.leg_identities.LegIdentities.{LegIdentities}
 
 -- the set has these of eight legs
 abbrev pub IsSetOf : (ℕ → Type 0) → ℕ → Type 0
@@ -104,15 +107,18 @@ pub record GoesOn (s image : Superblock) : Type 0 where
   pub leg_ids : image.leg_ids ≡ s.leg_ids
   pub seen : image.seen ≡ s.seen
   pub unclean : image.clean ≡ false
+  pub version : image.version ≡ 2
+  pub changed : image.changed ≡ replicate 8 0
 
 -- the image of a start by the newest superblock, in which this leg was asked for or none
-pub record IsImage (asked : Option ℕ) (a : Assembly) (here : List Bool) (image : Superblock)
-    : Type 0 where
+pub record IsImage (asked : Option ℕ) (a : Assembly) (here : List Bool)
+    (files : LegIdentities) (image : Superblock) : Type 0 where
   pub goes_on : GoesOn a.newest image
   pub lineages : image.lineages ≡ a.newest.lineages
   pub forks : image.forks ≡ a.newest.forks
   pub marked : image.marked ≡ a.newest.marked
   pub sets : AreSetsOf 64 asked a here image.sets
+  pub identities : Records 8 here files a.newest.identities image.identities
 
 -- the lineage is a new one, which descends from that of the newest superblock as it was found
 pub record IsFork (lineage : ℕ) (newest image : Superblock) : Type 0 where
@@ -123,12 +129,14 @@ pub record IsFork (lineage : ℕ) (newest image : Superblock) : Type 0 where
   pub forks : (i : ℕ) → i < 3 → slice_index image.forks (i + 1) ≡ slice_index newest.forks i
 
 -- The image of a start that a person forced: it goes on from the newest superblock in a lineage of
--- its own, names this leg alone, and marks nothing.
-pub record IsForced (leg lineage : ℕ) (newest image : Superblock) : Type 0 where
+-- its own, names this leg alone, marks nothing, and records the files that are here.
+pub record IsForced (leg lineage : ℕ) (legs : LegsHere) (newest image : Superblock)
+    : Type 0 where
   pub goes_on : GoesOn newest image
   pub forks : IsFork lineage newest image
   pub unmarked : IsUnmarked 16384 image.marked
   pub sets : NamesAlone 64 newest.stripes leg (replicate 8 false) image.sets
+  pub identities : Records 8 legs.here legs.identities newest.identities image.identities
 
 -- The first image of a mirror: it has the mirror's id, shape and legs, is of a lineage that
 -- descends from none, names this leg alone, says of the others that are equal to it that they lack
@@ -149,3 +157,6 @@ pub record IsFirst (new : NewMirror) (master : ℕ) (equal : List Bool) (image :
   pub unclean : image.clean ≡ false
   pub unmarked : IsUnmarked 16384 image.marked
   pub sets : NamesAlone 64 new.stripes master equal image.sets
+  pub version : image.version ≡ 2
+  pub identities : image.identities ≡ new.identities
+  pub changed : image.changed ≡ replicate 8 0

@@ -3,6 +3,7 @@ pub mod Image
 pub mod Legs
 pub mod Lineages
 pub mod Masters
+pub mod Own
 pub mod Saves
 pub mod Start
 pub mod Sure

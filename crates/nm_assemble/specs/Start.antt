@@ -1,5 +1,5 @@
 -- What a start decides from the superblocks that it found, one a leg at most.
-use Rattle.std.specs.Prelude.{◌≡◌, ◌≢◌, ◌⊎◌, ◌<◌, ◌≤◌, ◌↔◌, ℕ, Bool, false, List, slice_index}
+use Rattle.std.specs.Prelude.{◌≡◌, ◌≢◌, ◌⊎◌, ◌<◌, ◌≤◌, ◌↔◌, ℕ, Bool, List, slice_index}
 use Rattle.std.specs.Prelude.{slice_index_or, IsTrue, Option, None, Some}
 use Rattle.std.specs.Int.{bit_at}
 use Rattle.nm_superblock.specs.declared.superblock.Superblock.{Superblock}
@@ -7,6 +7,8 @@ use Rattle.nm_superblock.specs.Spans.{candidates_of, in_sync_of}
 use Rattle.nm_assemble.specs.declared.misfit.Misfit.{Misfit}
 use Rattle.nm_assemble.specs.declared.misfit.Misfit.TheVariants.{Apart, OtherLeg, OtherMirror}
 use Rattle.nm_assemble.specs.Lineages.{LeadsTo, lineage_of}
+use Rattle.nm_assemble.specs.Own.{IsOwn, said}
+use Rattle.nm_assemble.specs.declared.own.LegsHere.{LegsHere}
 
 -- the superblock that was found beside a leg
 abbrev pub beside : ℕ → List (Option Superblock) → Option Superblock
@@ -80,20 +82,21 @@ pub record IsMissing (leg : ℕ) (s : Superblock) (found : List (Option Superblo
   pub listed : (stripe : ℕ) × (stripe < 64) × IsListed leg stripe s
   pub others : AreSeen leg s found
 
--- a leg is fresh: its file is here, and the superblock beside it is of the newest one's lineage, of
--- the leg that the newest one has under that number, and no older than the last that was surely
--- written there
+-- the superblock beside a leg is of the newest one's lineage, of the leg that the newest one has
+-- under that number, and no older than the last that was surely written there
 pub record IsFreshAs (newest s : Superblock) (leg : ℕ) : Type 0 where
   pub lineage : lineage_of s ≡ lineage_of newest
   pub same : slice_index s.leg_ids leg ≡ slice_index newest.leg_ids leg
   pub seen : slice_index newest.seen leg ≤ s.generation
 
-abbrev pub IsFresh : (newest : Superblock) → ℕ → Bool → Option Superblock → Type 0
-IsFresh newest leg is_here None = ⊥
-IsFresh newest leg is_here (Some s) = IsTrue is_here × IsFreshAs newest s leg
+-- a leg is fresh: its file is its own and holds what was written, and its superblock is as above
+abbrev pub IsFresh : (newest : Superblock) → LegsHere → ℕ → Option Superblock → Type 0
+IsFresh newest legs leg None = ⊥
+IsFresh newest legs leg (Some s) =
+    IsOwn newest legs leg × IsTrue (said leg legs.settled) × IsFreshAs newest s leg
 
 -- of the first legs, those that are said to be fresh are
-abbrev pub AreFresh : ℕ → Superblock → List (Option Superblock) → List Bool → List Bool → Type 0
-AreFresh count newest found here fresh =
-    (leg : ℕ) → leg < count → IsTrue (slice_index_or fresh leg false)
-    ↔ IsFresh newest leg (slice_index_or here leg false) (beside leg found)
+abbrev pub AreFresh : ℕ → Superblock → List (Option Superblock) → LegsHere → List Bool → Type 0
+AreFresh count newest found legs fresh =
+    (leg : ℕ) → leg < count
+    → IsTrue (said leg fresh) ↔ IsFresh newest legs leg (beside leg found)

@@ -4,8 +4,9 @@ ghost use Rattle.nm_assemble.specs.Image.{IsEqualTo, IsFirst, IsForced, IsFork, 
 ghost use Rattle.nm_assemble.specs.Image.{NamesAlone};
 ghost use Rattle.nm_superblock.specs.Spans.{IsUnmarked};
 
+use crate::own::{LegsHere, recorded};
 use crate::stripe_sets::{put, with_leg};
-use nm_superblock::{LegSets, SpanMap, Superblock};
+use nm_superblock::{LegIdentities, LegSets, SpanMap, Superblock};
 
 /// A mirror that has no superblock yet.
 #[derive(Clone, Copy, Debug, PartialEq, Eq)]
@@ -26,6 +27,8 @@ pub struct NewMirror {
     pub leg_ids: [u64; 8],
     /// The id of its first lineage, drawn at random.
     pub lineage: u64,
+    /// The identities of its legs' files.
+    pub identities: LegIdentities,
 }
 
 /// The first image of a mirror: this leg is the master, and these others are taken to be equal to
@@ -34,6 +37,7 @@ pub fn first_superblock(new: &NewMirror, master: usize, equal: &[bool; 8]) -> Su
     ensures { IsFirst new.now master equal.now result }
 {
     Superblock {
+        version: 2,
         generation: 0,
         mirror: new.mirror,
         blocks: new.blocks,
@@ -49,20 +53,25 @@ pub fn first_superblock(new: &NewMirror, master: usize, equal: &[bool; 8]) -> Su
         lineages: [new.lineage, 0, 0, 0],
         forks: [0; 4],
         marked: no_marks(),
+        identities: new.identities,
+        changed: [0; 8],
     }
 }
 
 /// The image of a start that a person forced on this leg, whatever superblocks say: a new lineage,
-/// in which no other leg is known.
-pub fn forced_image(newest: &Superblock, leg: usize, lineage: u64) -> Superblock
-    ensures { IsForced leg lineage newest.now result }
+/// in which no other leg is known. Each leg that is here has the file that it has now.
+pub fn forced_image(newest: &Superblock, leg: usize, lineage: u64, legs: &LegsHere) -> Superblock
+    ensures { IsForced leg lineage legs.now newest.now result }
 {
     let fork = begin_lineage(newest, lineage);
     Superblock {
+        version: 2,
         leg: 0,
         clean: false,
         sets: sets_alone(newest.stripes, leg, &[false; 8]),
         marked: no_marks(),
+        identities: recorded(&newest.identities, &legs.here, &legs.identities),
+        changed: [0; 8],
         ..fork
     }
 }

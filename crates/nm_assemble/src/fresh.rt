@@ -1,35 +1,38 @@
 ghost use Rattle.std.specs.Prelude.{◌<◌, ◌↔◌, IsTrue};
 ghost use Rattle.nm_assemble.specs.Start.{AreFresh, IsFresh};
 
+use crate::own::{LegsHere, is_own};
 use nm_superblock::Superblock;
 
-/// Which legs' contents are what the newest superblock says of them: the leg's file is here, and
-/// the superblock beside it is of the same lineage, of the same leg, and no older than the last
-/// that was surely written there. Any other leg is an older copy, or another file.
+/// Which legs' contents are what the newest superblock says of them: the leg's file is its
+/// own and settled, and the superblock beside it is of the same lineage, of the same leg, and no
+/// older than the last that was surely written there. Any other leg is an older copy, or another
+/// file.
 pub fn fresh_legs(
     newest: &Superblock,
     found: &[Option<Superblock>; 8],
-    here: &[bool; 8],
+    legs: &LegsHere,
 ) -> [bool; 8]
-    ensures { AreFresh 8 newest.now found.now here.now result }
+    ensures { AreFresh 8 newest.now found.now legs.now result }
 {
     let mut fresh = [false; 8];
     'legs: for leg in 0..8 {
-        fresh[leg] = is_fresh(newest, leg, here[leg], &found[leg]);
+        fresh[leg] = is_fresh(newest, legs, leg, &found[leg]);
     }
     fresh
 }
 
 // Whether the leg is fresh.
-fn is_fresh(newest: &Superblock, leg: usize, is_here: bool, beside: &Option<Superblock>) -> bool
+fn is_fresh(newest: &Superblock, legs: &LegsHere, leg: usize, beside: &Option<Superblock>) -> bool
     requires { leg < 8 }
-    ensures { IsTrue result ↔ IsFresh newest.now leg is_here beside.now }
+    ensures { IsTrue result ↔ IsFresh newest.now legs.now leg beside.now }
 {
     match beside {
         Some(superblock) => {
             let lineage = superblock.lineages[0] == newest.lineages[0];
             let same = superblock.leg_ids[leg] == newest.leg_ids[leg];
-            is_here && lineage && same && newest.seen[leg] <= superblock.generation
+            let told = lineage && same && newest.seen[leg] <= superblock.generation;
+            told && legs.settled[leg] && is_own(newest, legs, leg)
         }
         None => false,
     }

@@ -6,19 +6,29 @@ ghost use Rattle.nm_assemble.specs.Masters.{MayOpenOn};
 
 use crate::assembly::Assembly;
 use crate::masters::{is_master, may_open_on};
+use crate::own::recorded;
 use crate::stripe_sets::{put, with_leg};
-use nm_superblock::{LegSets, Superblock};
+use nm_superblock::{LegIdentities, LegSets, Superblock};
 
 impl Assembly {
     /// The image of the start: what its first save says. Each stripe opens on the leg that is asked
-    /// for, or on the first that it may open on. Which legs' files are here is told.
-    pub fn image(&self, here: &[bool; 8], asked: Option<usize>) -> Superblock
-        ensures { IsImage asked self.now here.now result }
+    /// for, or on the first that it may open on. Which legs' files are here and their own is told,
+    /// and what identities these have.
+    pub fn image(
+        &self,
+        here: &[bool; 8],
+        identities: &LegIdentities,
+        asked: Option<usize>,
+    ) -> Superblock
+        ensures { IsImage asked self.now here.now identities.now result }
     {
         let mut image = self.newest;
         image.sets = self.sets(here, asked);
         image.leg = 0;
         image.clean = false;
+        image.version = 2;
+        image.identities = recorded(&self.newest.identities, here, identities);
+        image.changed = [0; 8];
         image
     }
 

@@ -10,6 +10,7 @@ pub use masters::master_of;
 pub use misfit::{Misfit, first_misfit};
 pub use missing::missing_leg;
 pub use newest::newest_of;
+pub use own::{LegsHere, own_legs};
 
 mod assembly;
 mod first;
@@ -22,4 +23,5 @@ mod masters;
 mod misfit;
 mod missing;
 mod newest;
+mod own;
 mod stripe_sets;

@@ -12,7 +12,7 @@ use Rattle.nm_commands.specs.declared.control_command.ControlCommand.TheVariants
 use Rattle.nm_commands.specs.declared.control_command.ControlCommand.TheVariants.{Metrics, Clients, Kick, Bad}
 use Rattle.nm_commands.specs.declared.control_command.ControlCommand.TheVariants.{Attach, Quit, QuitWithin}
 use Rattle.nm_commands.specs.declared.control_command.ControlCommand.TheVariants.{CopyRate, Replace, SetCopyRate}
-use Rattle.nm_commands.specs.declared.control_command.ControlCommand.TheVariants.{Reopen, ReopenAll}
+use Rattle.nm_commands.specs.declared.control_command.ControlCommand.TheVariants.{Reopen, ReopenAll, Retire}
 use Rattle.nm_commands.specs.declared.control_command.ControlCommand.TheVariants.{DefaultCopyRate}
 use Rattle.nm_commands.specs.declared.control_command.ControlCommand.TheVariants.{Verify, VerifyStop}
 
@@ -73,6 +73,7 @@ asks_a_number line status unread info metrics rate default verify halt clients q
     go (Fail leg) asks = tt
     go (Attach leg) asks = tt
     go (Replace leg) asks = tt
+    go (Retire leg) asks = tt
     go (Reopen number) asks = tt
     go ReopenAll asks = absurd (all asks)
     go CopyRate asks = absurd (rate asks)
@@ -90,12 +91,13 @@ pub asks_no_number : (line : List ℕ) →
     ((leg : ℕ) → IsWithNumber (codes "fail ") line leg → ⊥) →
     ((leg : ℕ) → IsWithNumber (codes "attach ") line leg → ⊥) →
     ((leg : ℕ) → IsWithNumber (codes "replace ") line leg → ⊥) →
+    ((leg : ℕ) → IsWithNumber (codes "retire ") line leg → ⊥) →
     ((stripe : ℕ) → IsWithNumber (codes "reopen ") line stripe → ⊥) →
     ((client : ℕ) → IsWithNumber (codes "kick ") line client → ⊥) →
     ((mib : ℕ) → IsCopyRate line mib → ⊥) →
     ((seconds : ℕ) → IsQuitWithin line seconds → ⊥) →
     (command : ControlCommand) → Asks line command → IsNumbered command → ⊥
-asks_no_number line fail attach replace stripe kick mib within = go
+asks_no_number line fail attach replace retire stripe kick mib within = go
   where
     go : (command : ControlCommand) → Asks line command → IsNumbered command → ⊥
     go Status asks is = is
@@ -105,6 +107,7 @@ asks_no_number line fail attach replace stripe kick mib within = go
     go (Fail leg) asks is = fail leg asks
     go (Attach leg) asks is = attach leg asks
     go (Replace leg) asks is = replace leg asks
+    go (Retire leg) asks is = retire leg asks
     go (Reopen number) asks is = stripe number asks
     go ReopenAll asks is = is
     go CopyRate asks is = is

@@ -15,7 +15,7 @@ use Rattle.nm_commands.specs.CommandLine.{nbdmirror}
 use Rattle.clap.specs.declared.error.Error.{Error}
 use Rattle.clap.specs.declared.error.kind.ErrorKind.TheVariants.{ArgumentConflict}
 use Rattle.nm_commands.specs.CommandLine.{ArePolicies, AreStarts}
-use Rattle.nm_commands.specs.Settings.{IsNumber, IsPlaceOf, IsRefusal, HasFlag, HasNumber, NamesTwo, source_of}
+use Rattle.nm_commands.specs.Settings.{IsNumber, IsPlaceOf, IsRefusal, AreAll, HasFlag, HasNumber, NamesTwo, source_of}
 use Rattle.nm_commands.specs.declared.superblock_place.SuperblockPlace.{SuperblockPlace}
 
 pub simple : (policies starts : Bor (List (Bor Text))) →
@@ -108,6 +108,10 @@ said_flag f rows id flag e set unset =
 pub said_words : (f : Found) (rows : List Row) (id : Text) (words : List Text) → rows_of f ≡ rows →
     Some words ≡ option_map raw_values (matched_of f id) → all_of id rows ≡ Some words
 said_words f rows id words e h = sym (raw_values-rows f id ∙ ap (all_of id) e) ∙ sym h
+
+pub said_all : (f : Found) (rows : List Row) (id : Text) (words : List Text) → rows_of f ≡ rows →
+    AreAll (option_map raw_values (matched_of f id)) words → AreAll (all_of id rows) words
+said_all f rows id words e h = rw (← raw_values-rows f id ∙ ap (all_of id) e) h
 
 -- what `?` hands on of an error
 pub handed_on : {T : Type 0} (r : Result T Error) (e : Error) (Q : Error → Type 0) →

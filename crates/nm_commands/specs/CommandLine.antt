@@ -5,7 +5,7 @@ use Rattle.clap.specs.Words.{App, Rule, Text, new_app, new_rule, with_rule}
 use Rattle.clap.specs.Simple.{on_top}
 use Rattle.clap.specs.declared.builder.value_parser.ValueParser.{ValueParser}
 use Rattle.clap.specs.declared.builder.value_parser.ValueParser.TheVariants as vp
-use Rattle.clap.specs.declared.builder.action.ArgAction.TheVariants.{SetTrue}
+use Rattle.clap.specs.declared.builder.action.ArgAction.TheVariants.{Append, SetTrue}
 
 -- An option --ID with one value, which is this text where the words have none.
 abbrev pub option_rule : Text → Text → Rule
@@ -28,6 +28,10 @@ bare_number_rule id least most = record (new_rule id) {
   value_names = 1;
   parser = Some (vp.Signed least most);
 }
+
+-- The same, which may come more than once.
+abbrev pub repeated_rule : Text → ℤ → ℤ → Rule
+repeated_rule id least most = record (bare_number_rule id least most) { action = Some Append }
 
 -- The option --ID, without a value.
 abbrev pub flag_rule : Text → Rule
@@ -85,10 +89,12 @@ copying_command policies starts = with_rule (with_rule (with_rule (mirror_comman
 
 -- The same, and the options that say where superblocks are and what a start makes of them.
 abbrev pub with_superblock_options : App → App
-with_superblock_options app = with_rule (with_rule (with_rule app
-    (option_rule (codes "superblock") (codes "beside")))
+with_superblock_options app = with_rule (with_rule (with_rule (with_rule (with_rule app
+    (parsed_rule (codes "superblock") (codes "beside") vp.NonEmptyString))
     (flag_rule (codes "degraded")))
-    (bare_number_rule (codes "force-master") (pos 0) (pos 7))
+    (bare_number_rule (codes "force-master") (pos 0) (pos 7)))
+    (repeated_rule (codes "add-leg") (pos 0) (pos 7)))
+    (repeated_rule (codes "moved") (pos 0) (pos 7))
 
 -- The same, and the options that say what the server does with its clients. `v` is 118.
 abbrev pub with_client_options : App → App

@@ -6,6 +6,7 @@ use Rattle.nm_commands.specs.declared.control_command.ControlCommand.TheVariants
 use Rattle.nm_commands.specs.declared.control_command.ControlCommand.TheVariants.{Info, Metrics}
 use Rattle.nm_commands.specs.declared.control_command.ControlCommand.TheVariants.{Attach, Quit}
 use Rattle.nm_commands.specs.declared.control_command.ControlCommand.TheVariants.{Fail, Replace}
+use Rattle.nm_commands.specs.declared.control_command.ControlCommand.TheVariants.{Retire}
 use Rattle.nm_commands.specs.declared.control_command.ControlCommand.TheVariants.{QuitWithin, Bad}
 use Rattle.nm_commands.specs.declared.control_command.ControlCommand.TheVariants.{Clients, Kick}
 use Rattle.nm_commands.specs.declared.control_command.ControlCommand.TheVariants.{Reopen, ReopenAll}
@@ -47,6 +48,7 @@ Asks line Metrics = line ≡ codes "metrics"
 Asks line (Fail leg) = IsWithNumber (codes "fail ") line leg
 Asks line (Attach leg) = IsWithNumber (codes "attach ") line leg
 Asks line (Replace leg) = IsWithNumber (codes "replace ") line leg
+Asks line (Retire leg) = IsWithNumber (codes "retire ") line leg
 Asks line (Reopen stripe) = IsWithNumber (codes "reopen ") line stripe
 Asks line ReopenAll = line ≡ codes "reopen all"
 Asks line CopyRate = line ≡ codes "copy-rate"
@@ -65,6 +67,7 @@ abbrev pub IsNumbered : ControlCommand → Type 0
 IsNumbered (Fail leg) = ⊤
 IsNumbered (Attach leg) = ⊤
 IsNumbered (Replace leg) = ⊤
+IsNumbered (Retire leg) = ⊤
 IsNumbered (Reopen stripe) = ⊤
 IsNumbered (SetCopyRate mib) = ⊤
 IsNumbered (QuitWithin seconds) = ⊤

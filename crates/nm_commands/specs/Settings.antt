@@ -1,6 +1,6 @@
 -- What the words of a command line ask for.
 use Rattle.std.specs.Prelude.{◌≡◌, ◌≢◌, ◌⊎◌, ℕ, Bool, true, false, List, [], map, Option, None}
-use Rattle.std.specs.Prelude.{Some, codes, find, option_and_then}
+use Rattle.std.specs.Prelude.{Some, codes, find, option_and_then, IsTrue, ◌↔◌}
 use Rattle.std.specs.Str.{bytes_eq}
 use Rattle.std.specs.Borrow.{Bor}
 use Rattle.std.specs.Str.Parse.{IsNumeral, digits_value, without_leading_plus}
@@ -50,6 +50,11 @@ abbrev pub HasNumber : List Row → Text → Option ℕ → Type 0
 HasNumber rows id (Some number) = IsNumber (one_of id rows) number
 HasNumber rows id None = first_of id rows ≡ None
 
+-- The words are those that were found, and none where nothing was.
+abbrev pub AreAll : Option (List Text) → List Text → Type 0
+AreAll (Some found) words = words ≡ found
+AreAll None words = words ≡ []
+
 -- The flag is set where the rows have it as true.
 abbrev pub HasFlag : List Row → Text → Bool → Type 0
 HasFlag rows id flag = (one_of id rows ≡ Some (codes "true") → flag ≡ true)
@@ -63,6 +68,10 @@ source_of id rows = option_and_then (λ row. row.source) (find (λ row. bytes_eq
 abbrev pub IsNamed : Text → List Row → Type 0
 IsNamed id rows = source_of id rows ≡ Some CommandLine
 
+-- It is told whether the words themselves have this option.
+abbrev pub TellsNamed : List Row → Text → Bool → Type 0
+TellsNamed rows id told = IsTrue told ↔ IsNamed id rows
+
 -- The words have both an address and a port for clients.
 abbrev pub NamesTwo : List Row → Type 0
 NamesTwo rows = IsNamed (codes "listen") rows × IsNamed (codes "port") rows
@@ -74,12 +83,15 @@ pub record HasSettings (rows : List Row) (s : Settings) : Type 0 where
   pub control : first_of (codes "control") rows ≡ Some s.control.now
   pub name : first_of (codes "name") rows ≡ Some s.name.now
   pub stripes : IsNumber (one_of (codes "stripes") rows) s.stripes
+  pub names_stripes : TellsNamed rows (codes "stripes") s.names_stripes
   pub policy : first_of (codes "policy") rows ≡ Some (policy_text s.policy)
   pub master : HasNumber rows (codes "master") s.master
   pub start : first_of (codes "start") rows ≡ Some (start_text s.start)
   pub superblock : IsPlaceOf (first_of (codes "superblock") rows) s.superblock
   pub degraded : HasFlag rows (codes "degraded") s.degraded
   pub force_master : HasNumber rows (codes "force-master") s.force_master
+  pub added : AreAll (all_of (codes "add-leg") rows) (map (λ leg. leg.now) s.added.items)
+  pub moved : AreAll (all_of (codes "moved") rows) (map (λ leg. leg.now) s.moved.items)
   pub auto_attach : HasFlag rows (codes "auto-attach") s.auto_attach
   pub copy_rate : HasNumber rows (codes "copy-rate") s.copy_rate
   pub leg_timeout : HasNumber rows (codes "leg-timeout") s.leg_timeout

@@ -18,7 +18,9 @@ use crate::options::{
 };
 use crate::server_settings::Settings;
 use crate::start::Start;
-use crate::superblock_options::{superblock_place, with_superblock_options};
+use crate::superblock_options::{
+    added_legs, moved_legs, superblock_place, with_superblock_options,
+};
 use crate::values::{bare_number, number, text};
 use clap::error::ErrorKind;
 use clap::parser::ValueSource;
@@ -261,10 +263,9 @@ fn settings_of<'a>(alloc: Global, matches: &ArgMatches<'a>) -> Result<Settings<'
     let start = start_of(matches)?;
     let superblock = superblock_place(matches)?;
     let force_master = bare_number(matches, "force-master")?;
-    let copy_rate = copy_rate(matches)?;
-    let leg_timeout = leg_timeout(matches)?;
+    let added = added_legs(alloc, matches)?;
+    let moved = moved_legs(alloc, matches)?;
     let sessions = number(matches, "sessions")?;
-    let idle_limit = idle_limit(matches)?;
     let legs = legs_of(alloc, matches)?;
     Ok(Settings {
         listen,
@@ -272,17 +273,20 @@ fn settings_of<'a>(alloc: Global, matches: &ArgMatches<'a>) -> Result<Settings<'
         control,
         name,
         stripes,
+        names_stripes: is_named(matches, "stripes"),
         policy,
         master,
         start,
         superblock,
         degraded: matches.get_flag("degraded"),
         force_master,
+        added,
+        moved,
         auto_attach: matches.get_flag("auto-attach"),
-        copy_rate,
-        leg_timeout,
+        copy_rate: copy_rate(matches)?,
+        leg_timeout: leg_timeout(matches)?,
         sessions,
-        idle_limit,
+        idle_limit: idle_limit(matches)?,
         verbose: matches.get_flag("verbose"),
         read_only: matches.get_flag("read-only"),
         force_in_use: matches.get_flag("force-in-use"),

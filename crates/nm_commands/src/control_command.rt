@@ -28,6 +28,8 @@ pub enum ControlCommand {
     Attach(u64),
     /// The leg's file is opened anew in every stripe, and copied whole.
     Replace(u64),
+    /// The leg goes out in every stripe for good.
+    Retire(u64),
     /// The stripe is opened anew, if it has stopped.
     Reopen(u64),
     /// Each stripe that has stopped is opened anew.
@@ -169,6 +171,9 @@ fn numbered_command(line: &[u8]) -> Option<ControlCommand>
     }
     if let Some(leg) = number_after(line, b"replace ") {
         return Some(ControlCommand::Replace(leg));
+    }
+    if let Some(leg) = number_after(line, b"retire ") {
+        return Some(ControlCommand::Retire(leg));
     }
     if let Some(stripe) = number_after(line, b"reopen ") {
         return Some(ControlCommand::Reopen(stripe));

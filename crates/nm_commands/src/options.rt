@@ -4,7 +4,8 @@ ghost use Rattle.clap.specs.declared.builder.value_parser.ValueParser.TheVariant
 ghost use Rattle.clap.specs.Words.{rule_of};
 ghost use Rattle.nm_commands.specs.CommandLine.{ArePolicies, AreStarts, bare_number_rule};
 ghost use Rattle.nm_commands.specs.CommandLine.{flag_rule, lettered, number_rule};
-ghost use Rattle.nm_commands.specs.CommandLine.{option_rule, parsed_rule, words_rule};
+ghost use Rattle.nm_commands.specs.CommandLine.{option_rule, parsed_rule, repeated_rule};
+ghost use Rattle.nm_commands.specs.CommandLine.{words_rule};
 
 use clap::builder::ValueParser;
 use clap::{Arg, ArgAction};
@@ -59,6 +60,21 @@ pub fn bare_number_option<'a>(
         .value_name("N")
         .value_parser(ValueParser::Signed(least, most))
         .help(help)
+}
+
+/// An option without a default, whose value is a number in a range, and which may come more than
+/// once.
+pub fn repeated_option<'a>(
+    alloc: Global,
+    id: &'a str,
+    least: i64,
+    most: i64,
+    help: &'a str,
+) -> Arg<'a>
+    ensures rule { rule_of result ≡ repeated_rule id.entry.now least most }
+    ensures own { result.global ≡ false }
+{
+    bare_number_option(alloc, id, least, most, help).action(ArgAction::Append)
 }
 
 /// The option that names the policy.

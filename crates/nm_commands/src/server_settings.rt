@@ -15,6 +15,8 @@ pub struct Settings<'a> {
     pub name: &'a str,
     /// How many stripes are wanted.
     pub stripes: u8,
+    /// Whether the words say so.
+    pub names_stripes: bool,
     /// Which leg a read takes.
     pub policy: Policy,
     /// The leg with the newest contents, where one was named.
@@ -27,6 +29,10 @@ pub struct Settings<'a> {
     pub degraded: bool,
     /// The leg with the newest contents, whatever superblocks say, where one was named.
     pub force_master: Option<u8>,
+    /// The legs that superblocks need not know: each is a number.
+    pub added: Vec<&'a str>,
+    /// The legs that were moved with their superblocks: each is a number.
+    pub moved: Vec<&'a str>,
     /// Whether a leg that went out by a failed call is attached again by itself.
     pub auto_attach: bool,
     /// At how many MiB a second legs are copied, where that was named.

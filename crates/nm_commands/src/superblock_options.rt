@@ -1,15 +1,34 @@
 //! The options that say where superblocks are, and what a start makes of them.
-ghost use Rattle.std.specs.Prelude.{◌≡◌, codes, IfErr, IfOk};
-ghost use Rattle.clap.specs.Words.{app_of, first_value, found_of, kind_of};
+ghost use Rattle.std.specs.Prelude.{◌≡◌, codes, false, map, option_map, IfErr, IfOk};
+ghost use Rattle.clap.specs.Words.{app_of, first_value, found_of, kind_of, matched_of, raw_values};
+ghost use Rattle.clap.specs.Words.{rule_of};
+ghost use Rattle.clap.specs.declared.builder.value_parser.ValueParser.TheVariants.{NonEmptyString};
 ghost use Rattle.clap.specs.declared.error.kind.ErrorKind.TheVariants.{OutOfMemory};
-ghost use Rattle.nm_commands.specs.CommandLine.{with_superblock_options};
-ghost use Rattle.nm_commands.specs.Settings.{IsPlaceOf};
+ghost use Rattle.nm_commands.specs.CommandLine.{parsed_rule, with_superblock_options};
+ghost use Rattle.nm_commands.specs.Settings.{AreAll, IsPlaceOf};
 
-use crate::options::{bare_number_option, flag, option};
+use crate::options::{bare_number_option, flag, option, repeated_option};
 use crate::superblock_place::SuperblockPlace;
 use crate::values::text;
-use clap::{ArgMatches, Command, Error};
+use clap::builder::ValueParser;
+use clap::{Arg, ArgMatches, Command, Error};
 use std::alloc::Global;
+
+// The option that says where superblocks are: a name that is empty is none.
+fn superblock_option<'a>(alloc: Global) -> Arg<'a>
+    ensures rule { rule_of result
+        ≡ parsed_rule (codes "superblock") (codes "beside") NonEmptyString }
+    ensures own { result.global ≡ false }
+{
+    option(
+        alloc,
+        "superblock",
+        "beside",
+        "PLACE",
+        "where superblocks are: beside the legs, none, or a folder",
+    )
+    .value_parser(ValueParser::NonEmptyString)
+}
 
 /// The program, and the options that say where superblocks are and what a start makes of them.
 pub fn with_superblock_options<'a>(
@@ -20,13 +39,7 @@ pub fn with_superblock_options<'a>(
         app_of command ≡ with_superblock_options (app_of program.entry)) }
     ensures memory { IfErr result (λ error. kind_of error ≡ OutOfMemory) }
 {
-    let superblock = option(
-        alloc,
-        "superblock",
-        "beside",
-        "PLACE",
-        "where superblocks are: beside the legs, none, or a folder",
-    );
+    let superblock = superblock_option(alloc);
     let with_superblock = program.arg(superblock)?;
     let degraded = flag(
         alloc,
@@ -41,7 +54,23 @@ pub fn with_superblock_options<'a>(
         7,
         "the leg with the newest contents, whatever superblocks say",
     );
-    let command = with_degraded.arg(force_master)?;
+    let with_force_master = with_degraded.arg(force_master)?;
+    let add_leg = repeated_option(
+        alloc,
+        "add-leg",
+        0,
+        7,
+        "copy the mirror over this leg, which its superblocks do not know",
+    );
+    let with_add_leg = with_force_master.arg(add_leg)?;
+    let moved = repeated_option(
+        alloc,
+        "moved",
+        0,
+        7,
+        "this leg was moved to another file or disk with its superblock",
+    );
+    let command = with_add_leg.arg(moved)?;
     Ok(command)
 }
 
@@ -56,4 +85,32 @@ pub fn superblock_place<'a>(matches: &ArgMatches<'a>) -> Result<SuperblockPlace<
         "beside" => Ok(SuperblockPlace::Beside),
         folder => Ok(SuperblockPlace::Folder(folder)),
     }
+}
+
+/// The legs that superblocks need not know, as the words name them.
+pub fn added_legs<'a>(alloc: Global, matches: &ArgMatches<'a>) -> Result<Vec<&'a str>, Error>
+    ensures ok { IfOk result (λ legs. AreAll
+        (option_map raw_values (matched_of (found_of matches.now) (codes "add-leg")))
+        (map (λ leg. leg.now) legs.items)) }
+    ensures memory { IfErr result (λ error. kind_of error ≡ OutOfMemory) }
+{
+    let mut legs = Vec::new(alloc);
+    if let Some(names) = matches.get_strs("add-leg") {
+        legs.extend_from_slice(names)?;
+    }
+    Ok(legs)
+}
+
+/// The legs that were moved with their superblocks, as the words name them.
+pub fn moved_legs<'a>(alloc: Global, matches: &ArgMatches<'a>) -> Result<Vec<&'a str>, Error>
+    ensures ok { IfOk result (λ legs. AreAll
+        (option_map raw_values (matched_of (found_of matches.now) (codes "moved")))
+        (map (λ leg. leg.now) legs.items)) }
+    ensures memory { IfErr result (λ error. kind_of error ≡ OutOfMemory) }
+{
+    let mut legs = Vec::new(alloc);
+    if let Some(names) = matches.get_strs("moved") {
+        legs.extend_from_slice(names)?;
+    }
+    Ok(legs)
 }

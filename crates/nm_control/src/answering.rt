@@ -3,7 +3,8 @@
 use crate::controlled::Controlled;
 use crate::copy_orders::CopyOrders;
 use crate::reopening::reopen;
-use crate::replacing::RenewsLegs;
+use crate::replacing::{RenewsLegs, Replaced};
+use crate::retiring::{is_retired, put_retire};
 use crate::verify_answers::{put_known, put_verify, put_verify_stop};
 use nm_commands::{ControlCommand, Fed, LineRoom, control_line};
 use nm_lanes::Gate;
@@ -16,10 +17,13 @@ use std::alloc::{AllocError, Global};
 use std::io;
 use std::io::{Read, Write};
 use std::sync::Wait;
-use std::time::Clock;
+use std::time::{Clock, Duration};
 
 /// How many bytes of a connection are read at once.
 const ROOM: usize = 256;
+
+/// How many seconds an answer waits for the superblock that says what was done to a leg.
+const SAVE_SECONDS: u64 = 2;
 
 /// What a connection does after a line.
 #[derive(Clone, Copy, PartialEq, Eq)]
@@ -45,8 +49,18 @@ fn put_status<R: Wait + Clock, L: LegPart, G: Gate + Drop>(
     text.push_str("end\n")
 }
 
+// Ends an answer on what was done to a leg, once a superblock says so, or has not for so long.
+fn put_saved<R: Wait + Clock, L: LegPart, G: Gate + Drop>(
+    rt: &R,
+    mirror: &Mirror<L, G>,
+    text: &mut String,
+) -> Result<(), AllocError> {
+    let is_saved = mirror.save_within(rt, Duration::from_secs(SAVE_SECONDS));
+    text.push_str(if is_saved { "\n" } else { " unsaved\n" })
+}
+
 // The answer to `fail`.
-fn put_fail<R: Wait, L: LegPart, G: Gate + Drop, N: RenewsLegs<L>, M: MakesLegs<L>>(
+fn put_fail<R: Wait + Clock, L: LegPart, G: Gate + Drop, N: RenewsLegs<L>, M: MakesLegs<L>>(
     rt: &R,
     server: &Controlled<'_, L, G, N, M>,
     leg: u8,
@@ -58,11 +72,12 @@ fn put_fail<R: Wait, L: LegPart, G: Gate + Drop, N: RenewsLegs<L>, M: MakesLegs<
     let Some(counts) = server.orders.fail(rt, server.mirror, leg) else {
         return writeln!(text, "fail {leg}: busy");
     };
-    writeln!(
+    write!(
         text,
         "fail {leg}: failed {} last {} out {} stopped {}",
         counts.failed, counts.last, counts.out, counts.stopped
-    )
+    )?;
+    put_saved(rt, server.mirror, text)
 }
 
 // Looks for the file of a leg that is to be attached: why it cannot be. One that is being replaced
@@ -75,8 +90,9 @@ fn find_leg<R: Wait + Clock, L: LegPart, G: Gate + Drop, N: RenewsLegs<L>, M: Ma
     if server.orders.is_replaced(rt, leg) {
         return Err(Unattached::Busy);
     }
-    if !server.orders.missing().find(rt, leg) {
-        return Err(Unattached::NoFile);
+    let missing = server.orders.missing();
+    if !missing.find(rt, leg) {
+        return Err(missing.why_not(leg));
     }
     server.legs.check(leg)
 }
@@ -91,21 +107,25 @@ fn put_attach<R: Wait + Clock, L: LegPart, G: Gate + Drop, N: RenewsLegs<L>, M: 
     if leg >= server.mirror.legs() {
         return text.push_str("bad command\n");
     }
+    if is_retired(server, leg) {
+        return writeln!(text, "attach {leg}: retired");
+    }
     if let Err(why) = find_leg(rt, server, leg) {
         return writeln!(text, "attach {leg}: {why}");
     }
     let Some(counts) = server.orders.attach(rt, server.mirror, leg) else {
         return writeln!(text, "attach {leg}: busy");
     };
-    writeln!(
+    write!(
         text,
         "attach {leg}: joining {} left {} notout {} stopped {}",
         counts.joining, counts.left, counts.not_out, counts.stopped
-    )
+    )?;
+    put_saved(rt, server.mirror, text)
 }
 
 // The answer to `replace`.
-fn put_replace<R: Wait, L: LegPart, G: Gate + Drop, N: RenewsLegs<L>, M: MakesLegs<L>>(
+fn put_replace<R: Wait + Clock, L: LegPart, G: Gate + Drop, N: RenewsLegs<L>, M: MakesLegs<L>>(
     rt: &R,
     alloc: Global,
     server: &Controlled<'_, L, G, N, M>,
@@ -115,10 +135,17 @@ fn put_replace<R: Wait, L: LegPart, G: Gate + Drop, N: RenewsLegs<L>, M: MakesLe
     if leg >= server.mirror.legs() {
         return text.push_str("bad command\n");
     }
+    if is_retired(server, leg) {
+        return writeln!(text, "replace {leg}: retired");
+    }
     let replaced = server
         .orders
         .replace(rt, alloc, server.mirror, leg, server.legs);
-    writeln!(text, "replace {leg}: {replaced}")
+    write!(text, "replace {leg}: {replaced}")?;
+    match replaced {
+        Replaced::Done(_) => put_saved(rt, server.mirror, text),
+        _ => text.push_str("\n"),
+    }
 }
 
 // The answer to `reopen`: of this stripe, or of all.
@@ -219,6 +246,7 @@ fn do_line<R: Wait + Clock, L: LegPart, G: Gate + Drop, N: RenewsLegs<L>, M: Mak
         ControlCommand::Fail(leg) => put_fail(rt, server, leg.min(255) as u8, text),
         ControlCommand::Attach(leg) => put_attach(rt, server, leg.min(255) as u8, text),
         ControlCommand::Replace(leg) => put_replace(rt, alloc, server, leg.min(255) as u8, text),
+        ControlCommand::Retire(leg) => put_retire(rt, server, leg.min(255) as u8, text),
         ControlCommand::Reopen(stripe) => {
             let stripe = stripe.min(u64::from(u32::MAX)) as u32;
             put_reopen(rt, alloc, server, Some(stripe), text)

@@ -2,6 +2,7 @@
 ghost use Rattle.nm_control.specs.Rounds.{IsRoundOf};
 
 use crate::copy_orders::CopyOrders;
+use crate::due_syncs::DueSyncs;
 use crate::healing::Healing;
 use crate::leg_watch::LegWatch;
 use crate::verifier::Verifier;
@@ -24,6 +25,7 @@ pub struct Copier {
     round: CopyRound,
     story: LegStory,
     watch: LegWatch,
+    syncs: DueSyncs,
     healing: Option<Healing>,
     verifier: Verifier,
     ghost fits: { IsRoundOf shape round },
@@ -48,6 +50,7 @@ impl Copier {
             round,
             story,
             watch,
+            syncs: DueSyncs::new(),
             healing,
             verifier: Verifier::new(alloc)?,
         })
@@ -115,6 +118,16 @@ impl Copier {
         lines: &LogLines,
     ) {
         self.watch.look(rt, self.alloc, mirror, orders, lines);
+    }
+
+    /// Syncs what was written and not flushed for five seconds, at this time, in milliseconds.
+    pub fn sync_due<R: Wait, L: LegPart, G: Gate + Drop>(
+        &mut self,
+        rt: &R,
+        mirror: &Mirror<L, G>,
+        now: u64,
+    ) {
+        self.syncs.turn(rt, mirror, &self.watch, now);
     }
 
     /// Attaches the legs that are to heal and due at this time, in milliseconds, as last told.

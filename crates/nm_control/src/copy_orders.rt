@@ -4,6 +4,7 @@ ghost use Rattle.std.specs.Prelude.{◌<◌, IfSome};
 
 use crate::missing_legs::MissingLegs;
 use crate::replacing::{RenewsLegs, Replaced, replace_now};
+use crate::retiring::{Retired, retire_now};
 use crate::verify_desk::VerifyDesk;
 use nm_geometry::MOST_LEGS;
 use nm_lanes::Gate;
@@ -31,6 +32,8 @@ pub struct CopyOrders {
     verify: VerifyDesk,
     // Nobody waits for a lock who has this one.
     replaced: Mutex<ByHand>,
+    // How many of the last legs are out for good.
+    retired: AtomicU32,
     wants_round: AtomicBool,
     missing: MissingLegs,
     // The limits of the legs' calls, from leg 0 on.
@@ -58,6 +61,7 @@ impl CopyOrders {
             by_hand: Mutex::new([false; LEGS]),
             verify: VerifyDesk::new(),
             replaced: Mutex::new([false; LEGS]),
+            retired: AtomicU32::new(0),
             wants_round: AtomicBool::new(false),
             missing: MissingLegs::none(),
             limits: None,
@@ -256,6 +260,55 @@ impl CopyOrders {
         note(&mut by_hand, leg, is_out);
         note(&mut self.replaced.lock(rt), leg, false);
         replaced
+    }
+
+    /// How many legs the mirror has without those that are out for good.
+    pub fn kept_of(&self, legs: u8) -> u8 {
+        let retired = self.retired.load(Ordering::SeqCst).min(255) as u8;
+        legs.saturating_sub(retired)
+    }
+
+    /// Takes the last leg out of every stripe for good. Where that is not done once it is out, it is
+    /// out by hand.
+    pub fn retire<R: Wait, L: LegPart, G: Gate + Drop, N: RenewsLegs<L>>(
+        &self,
+        rt: &R,
+        mirror: &Mirror<L, G>,
+        leg: u8,
+        legs: &N,
+    ) -> Retired
+        requires { leg < mirror.now.shape.legs }
+    {
+        if leg.saturating_add(1) != self.kept_of(mirror.legs()) {
+            return Retired::NotHighest;
+        }
+        let Some(was_out) = self.begin_replace(rt, leg) else {
+            return Retired::Busy;
+        };
+        let retired = retire_now(rt, mirror, leg, legs);
+        let is_out = match retired {
+            Retired::Out | Retired::NotSaved | Retired::Kept(_) => true,
+            _ => was_out,
+        };
+        if retired == Retired::Out {
+            self.retired.fetch_add(1, Ordering::SeqCst);
+        }
+        let mut by_hand = self.by_hand.lock(rt);
+        note(&mut by_hand, leg, is_out);
+        note(&mut self.replaced.lock(rt), leg, false);
+        retired
+    }
+
+    /// Takes those legs out again that are out for good, of stripes that were opened anew.
+    pub fn keep_retired_out<R: Wait, L: LegPart, G: Gate + Drop>(
+        &self,
+        rt: &R,
+        mirror: &Mirror<L, G>,
+    ) {
+        let legs = mirror.legs();
+        for leg in self.kept_of(legs)..legs {
+            let _ = mirror.fail_leg(rt, leg);
+        }
     }
 
     /// Lets the leg join by itself: none where the leg was taken out by hand, a command on legs is

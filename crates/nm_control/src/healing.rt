@@ -65,6 +65,7 @@ impl HealingLeg {
         match self.place.check(opener) {
             Ok(()) => orders.missing().remove(leg),
             Err(why) => {
+                orders.missing().note(leg, &why);
                 let text = format!(in alloc; "leg {leg} ({name}): not attached: {why}");
                 lines.warn(rt, text);
             }

@@ -30,6 +30,15 @@ impl LegWatch {
         LegWatch { places }
     }
 
+    /// Syncs the files of these legs, a bit each, outside every lock.
+    pub fn sync_ahead(&self, legs: u8) {
+        for (leg, place) in self.places.iter().enumerate() {
+            if leg < 8 && (legs >> leg) & 1 == 1 {
+                place.sync_ahead();
+            }
+        }
+    }
+
     /// Takes each leg of which a call failed out of every stripe in which it is not the last in
     /// sync, unless reads alone failed that are a matter of their place. Where nothing failed since
     /// the last look, it makes no call. A leg that a command is at is looked at again.

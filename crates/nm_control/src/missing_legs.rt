@@ -1,6 +1,7 @@
 //! The legs whose files were missing at the start, and those that somebody wants to attach.
 
 use nm_geometry::MOST_LEGS;
+use nm_leg_files::{Hindrance, Unattached};
 use std::alloc::AllocError;
 use std::sync::Wait;
 use std::sync::atomic::{AtomicBool, Ordering};
@@ -22,6 +23,8 @@ const LOOKS: u32 = 600;
 pub struct MissingLegs {
     missing: [AtomicBool; LEGS],
     wanted: [AtomicBool; LEGS],
+    // Whose file was last found to be another.
+    other: [AtomicBool; LEGS],
     // For each leg its file and why that was not opened; empty where it was.
     reasons: Option<Vec<String>>,
 }
@@ -66,6 +69,7 @@ impl MissingLegs {
         MissingLegs {
             missing: flags(),
             wanted: flags(),
+            other: flags(),
             reasons: None,
         }
     }
@@ -108,6 +112,21 @@ impl MissingLegs {
     /// Whether somebody waits for the leg's file.
     pub fn is_wanted(&self, leg: u8) -> bool {
         is_set(&self.wanted, leg)
+    }
+
+    /// What was found in the place of a leg's file, which is not opened.
+    pub fn note(&self, leg: u8, why: &Hindrance) {
+        let is_other = matches!(why, Hindrance::Unknown | Hindrance::OtherFile);
+        set(&self.other, leg, is_other);
+    }
+
+    /// Why the leg's file was not opened, as it is told to who waits for it.
+    pub fn why_not(&self, leg: u8) -> Unattached {
+        if is_set(&self.other, leg) {
+            Unattached::OtherFile
+        } else {
+            Unattached::NoFile
+        }
     }
 
     /// The file that somebody waits for was opened, or could not be.

@@ -71,6 +71,9 @@ pub fn reopen<R: Wait, L: LegPart, G: Gate + Drop, M: MakesLegs<L>>(
     for stripe in first..stripes {
         counts.count(reopen_one(rt, alloc, mirror, maker, stripe));
     }
+    if counts.opened > 0 {
+        orders.keep_retired_out(rt, mirror);
+    }
     if is_saved || counts.opened > 0 {
         orders.want_new_round();
     }

@@ -52,6 +52,9 @@ pub trait RenewsLegs<L> {
     /// 0's first. No stripe has the leg meanwhile.
     fn renew<R: Wait>(&self, rt: &R, alloc: Global, leg: u8) -> Result<Vec<L>, Unrenewed>;
 
+    /// Leaves no superblock of the leg, which is out of every stripe for good.
+    fn retire<R: Wait>(&self, rt: &R, leg: u8) -> Result<(), Unrenewed>;
+
     /// Whether the leg's name still leads to its file, as long as it was, so that the leg may be
     /// attached: why not.
     fn check(&self, leg: u8) -> Result<(), Unattached>;
@@ -97,6 +100,14 @@ impl<'x, O: OpensLegs> RenewsLegs<Leg> for LegRenewer<'x, O> {
             place.renew_superblock(rt, self.opener, leg, &mut superblocks.lock(rt))?;
         }
         Ok(legs)
+    }
+
+    fn retire<R: Wait>(&self, rt: &R, leg: u8) -> Result<(), Unrenewed> {
+        let (Some(place), Some(superblocks)) = (self.places.get(leg as usize), self.superblocks)
+        else {
+            return Ok(());
+        };
+        place.retire_superblock(rt, self.opener, leg, &mut superblocks.lock(rt))
     }
 
     fn check(&self, leg: u8) -> Result<(), Unattached> {

@@ -41,6 +41,7 @@ fn look<R: Wait + Clock, O: OpensLegs, L: LegPart, G: Gate + Drop>(
     let (state, lines) = (shared.state, shared.lines);
     state.places.look(rt);
     copier.watch(rt, mirror, orders, lines);
+    copier.sync_due(rt, mirror, now);
     copier.tell(rt, mirror, &state.unread, lines, now);
     copier.heal(rt, opener, mirror, orders, lines, now);
     lines.flush_incidents(rt);
@@ -70,7 +71,8 @@ fn take_turn<R: Wait + Clock, L: LegPart, G: Gate + Drop>(
 ///
 /// Between them it looks for clients that have gone or are idle, has what could not be read tried
 /// again once a minute, takes legs out as a whole that fail, attaches those that are to heal, and
-/// tells what happens. Marks of stripes in which nothing was written for five seconds are cleared.
+/// tells what happens. What was not flushed for five seconds is synced, and marks of stripes in
+/// which nothing was written for five seconds are cleared.
 pub fn resynchronise<R: Wait + Clock, O: OpensLegs, L: LegPart, G: Gate + Drop>(
     rt: &R,
     opener: &O,

@@ -2,13 +2,14 @@
 use Rattle.std.proofs.Common.{◌≡◌, ⊎_elim, ℕ, ◌+◌, ◌%◌, ◌^◌, ◌<◌, ◌≤◌, Bool, true, false, IsTrue, IsFalse, List, length, refl, ap, sym, ◌∙◌, subst, arith, inl, inr, Result, Ok, slice_get}
 use Rattle.std.specs.Prelude.{Some}
 use Rattle.nm_replay.proofs.Arrays.{same_by_slice_get}
-use Rattle.nm_leg.specs.Leg.{block_of, blocks_in, blocks_of, cut_into, set_run, IsOutside, CallsLeg, ReadsLeg, WritesLeg, SyncsLeg}
+use Rattle.nm_leg.specs.Leg.{block_of, blocks_in, blocks_of, CallsLeg, cut_into, IsOutside, Leg, ReadsLeg, set_run, SyncsLeg, WritesLeg}
 use Rattle.nm_leg.proofs.RunLemmas.{get-cut_into, holds-cut, length-cut_into, set_run-inside, set_run-outside, where_is}
 use Rattle.nm_geometry.specs.Geometry.{Geometry, IsGeometry, stripe_blocks}
 use Rattle.nm_file_leg.specs.Medium.{Held, window, SyncsMedium, Kept}
 use Rattle.nm_file_leg.specs.Blocks.{first_byte, bytes_at, blocks_from, leg_on, length-blocks_from, same_length}
 use Rattle.nm_file_leg.specs.Runs.{run_places, OwnsRun, IsApart, ReadsRun, WritesRun}
-use Rattle.nm_file_leg.specs.FileLeg.{OwnsBlocks, FileRules}
+use Rattle.nm_file_leg.specs.FileLeg.{OwnsBlocks, KeepsBlocks, FileRules}
+use Rattle.nm_file_leg.specs.Remembered.{Remembered}
 use Rattle.nm_file_leg.proofs.BlockLemmas.{get-blocks_from, same-get, same-blocks, bytes-same}
 use Rattle.nm_file_leg.proofs.PlaceLemmas.{blocks-apart}
 
@@ -60,7 +61,7 @@ reads-failed honest succeeded s p f g at old new filled counted reads = record {
 module _ (honest succeeded : Bool) (s : ℕ) (p : Geometry) (at : ℕ) (bytes : List ℕ) (old new : Held)
     (bounds : IsGeometry p) (own : s < p.stripes) (writes : WritesRun honest succeeded (run_places s p at) bytes old new) where
   -- every other block lies apart from the run
-  run-apart : (k : ℕ) → IsOutside at (blocks_in bytes) k → IsApart (run_places s p at) (blocks_in bytes) (first_byte s p k) 512
+  pub run-apart : (k : ℕ) → IsOutside at (blocks_in bytes) k → IsApart (run_places s p at) (blocks_in bytes) (first_byte s p k) 512
   run-apart k out i low = blocks-apart s p (at + i) k bounds own (λ same. ⊎_elim (λ under. omega (arith, under, same)) (λ over. omega (arith, over, same, low)) out)
 
   -- a write leaves the bytes of every other block
@@ -112,9 +113,9 @@ module _ (honest succeeded : Bool) (s : ℕ) (p : Geometry) (at : ℕ) (bytes : 
   }
 
 -- nothing was written since the last sync that succeeded, so all is durable without a call
-pub syncs-quiet : (honest : Bool) (s : ℕ) (p : Geometry) (f r : ℕ) (dirty : Bool) (held : Held) → IsFalse dirty → FileRules honest held s p r dirty
+pub syncs-quiet : (honest : Bool) (s : ℕ) (p : Geometry) (f : ℕ) (memory : Remembered) (dirty : Bool) (held : Held) → IsFalse dirty → FileRules honest held s p memory dirty
     → SyncsLeg honest true (leg_on held s p f) (leg_on held s p f)
-syncs-quiet honest s p f r dirty held undirty rules = record {
+syncs-quiet honest s p f memory dirty held undirty rules = record {
   calls = calls-succeeded s p f held held;
   durable = λ is_honest _. same-blocks s p (stripe_blocks s p) held.durable held.contents (rules.synced is_honest undirty);
   contents = λ _. refl;
@@ -132,14 +133,14 @@ durable-kept honest s p k result old new syncs is_honest was =
     (syncs.durable_kept is_honest _ _ (bytes-same s p (stripe_blocks s p) k old.durable old.contents low was)))
 
 -- the medium was synced, and every block was kept
-pub syncs-medium : {E : Type 0} (honest : Bool) (s : ℕ) (p : Geometry) (f r : ℕ) (dirty : Bool) (result : Result (Unit {0}) E) (old new : Held)
-    → stripe_blocks s p ≤ r → result ≡ Ok tt → FileRules honest old s p r dirty → SyncsMedium honest result old new
+pub syncs-medium : {E : Type 0} (honest : Bool) (s : ℕ) (p : Geometry) (f : ℕ) (result : Result (Unit {0}) E) (old new : Held)
+    → (IsTrue honest → KeepsBlocks old s p (stripe_blocks s p)) → result ≡ Ok tt → SyncsMedium honest result old new
     → SyncsLeg honest true (leg_on old s p f) (leg_on new s p f)
-syncs-medium honest s p f r dirty result old new full done rules syncs = record {
+syncs-medium honest s p f result old new keeps done syncs = record {
   calls = calls-succeeded s p f old new;
   durable = λ is_honest _. same-blocks s p (stripe_blocks s p) new.durable old.contents (λ k below.
       let all : (from many : ℕ) → Kept old from many → window from many new.durable ≡ window from many old.contents = rw done at (syncs.durable is_honest) in
-      all _ _ (rules.kept is_honest k (omega (arith, below, full))));
+      all _ _ (keeps is_honest k below));
   contents = λ is_honest. ap (λ (b : List ℕ). blocks_from s p 0 (stripe_blocks s p) b) (syncs.contents is_honest);
   durable_kept = λ is_honest k was. durable-kept honest s p k result old new syncs is_honest was;
 }
@@ -154,3 +155,19 @@ syncs-failed honest s p f g result old new counted syncs = record {
   contents = λ is_honest. ap (λ (b : List ℕ). blocks_from s p 0 (stripe_blocks s p) b) (syncs.contents is_honest);
   durable_kept = λ is_honest k was. durable-kept honest s p k result old new syncs is_honest was;
 }
+
+-- what a call does is done whatever is marked
+calls-marked : {succeeded : Bool} {old new : Leg} {before after : List Bool} → CallsLeg succeeded old new → CallsLeg succeeded (record old { unsynced = before }) (record new { unsynced = after })
+calls-marked calls = record { contents_length = calls.contents_length; durable_length = calls.durable_length; faults = calls.faults; fault_moves = calls.fault_moves }
+
+pub reads-marked : {honest succeeded : Bool} {at : ℕ} {bytes : List ℕ} {old new : Leg} {before after : List Bool}
+    → ReadsLeg honest succeeded at old new bytes → ReadsLeg honest succeeded at (record old { unsynced = before }) (record new { unsynced = after }) bytes
+reads-marked reads = record { calls = calls-marked reads.calls; found = reads.found; contents = reads.contents; durable = reads.durable }
+
+pub writes-marked : {honest succeeded : Bool} {at : ℕ} {bytes : List ℕ} {old new : Leg} {before after : List Bool}
+    → WritesLeg honest succeeded at bytes old new → WritesLeg honest succeeded at bytes (record old { unsynced = before }) (record new { unsynced = after })
+writes-marked writes = record { calls = calls-marked writes.calls; written = writes.written; others = writes.others; durable_others = writes.durable_others }
+
+pub syncs-marked : {honest succeeded : Bool} {old new : Leg} {before after : List Bool}
+    → SyncsLeg honest succeeded old new → SyncsLeg honest succeeded (record old { unsynced = before }) (record new { unsynced = after })
+syncs-marked syncs = record { calls = calls-marked syncs.calls; durable = syncs.durable; contents = syncs.contents; durable_kept = syncs.durable_kept }

@@ -1,7 +1,9 @@
 pub mod BlockLemmas
 pub mod LegLemmas
+pub mod MarkLemmas
 pub mod MediaLemmas
 pub mod PlaceLemmas
+pub mod RememberedLemmas
 pub mod RuleLemmas
 pub mod RunLemmas
 pub mod StepLemmas

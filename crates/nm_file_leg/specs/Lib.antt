@@ -1,5 +1,7 @@
 pub mod Blocks
 pub mod FileLeg
 pub mod Media
+pub mod Marks
 pub mod Medium
+pub mod Remembered
 pub mod Runs

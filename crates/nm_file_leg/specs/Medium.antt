@@ -56,7 +56,7 @@ pub record WritesMedium {E : Type 0} (honest : Bool) (result : Result ℕ E) (at
   pub kept_others : IsTrue honest → (from many : ℕ) → Kept old from many → Kept new from many
 
 -- A sync. Success makes all durable but what an earlier failure lost, and loses nothing more.
--- A fault may lose every byte that was not durable.
+-- A fault may lose every byte that was not durable, and no other.
 pub record SyncsMedium {E : Type 0} (honest : Bool) (result : Result (Unit {0}) E)
     (old new : Held) : Type 0 where
   pub own : IsTrue honest → new.own ≡ old.own
@@ -64,6 +64,8 @@ pub record SyncsMedium {E : Type 0} (honest : Bool) (result : Result (Unit {0}) 
       → window from many new.durable ≡ window from many old.contents)
   pub kept : IsTrue honest → OnOk result ((from many : ℕ) → Kept old from many
       → Kept new from many)
+  pub kept_durable : IsTrue honest → (from many : ℕ) → Kept old from many
+      → window from many old.durable ≡ window from many old.contents → Kept new from many
   pub contents : IsTrue honest → new.contents ≡ old.contents
   pub durable_kept : IsTrue honest → (from many : ℕ)
       → window from many old.durable ≡ window from many old.contents

@@ -1,16 +1,21 @@
-ghost use Rattle.std.specs.Prelude.{◌≡◌, ◌+◌, ◌%◌, ◌^◌, ◌<◌, ◌≤◌, length, is_ok, IsTrue, IsFalse};
-ghost use Rattle.std.specs.Prelude.{IsErr, OnOk, OnErr, IfOk};
+ghost use Rattle.std.specs.Prelude.{◌≡◌, ◌+◌, ◌%◌, ◌^◌, ◌<◌, ◌≤◌, Bool, length, is_ok, IsTrue};
+ghost use Rattle.std.specs.Prelude.{IsFalse, IsErr, OnOk, OnErr, IfOk};
 ghost use Rattle.nm_leg.specs.Leg.{IsRun, WritesLeg, SyncsLeg, blocks_in};
 ghost use Rattle.nm_geometry.specs.Geometry.{IsGeometry, stripe_blocks};
 ghost use Rattle.nm_file_leg.specs.Blocks.{leg_on, same_length};
-ghost use Rattle.nm_file_leg.specs.FileLeg.{OwnsBlocks, KeepsBlocks, FileRules, Reaches};
-ghost use Rattle.nm_file_leg.specs.FileLeg.{cursor_after};
+ghost use Rattle.nm_file_leg.specs.Runs.{WritesRun, KeepsRun, run_places};
+ghost use Rattle.nm_file_leg.specs.FileLeg.{OwnsBlocks, KeepsBlocks, FileRules, Reaches, file_leg};
+ghost use Rattle.nm_file_leg.specs.Marks.{durable_elsewhere, marked_each};
+ghost use Rattle.nm_file_leg.specs.Remembered.{count_regions, AreWhole, Begins, NotesWrite};
+ghost use Rattle.nm_file_leg.specs.Remembered.{EndsPeriod, NotesFailure};
 
 use crate::Medium;
+use crate::region_writes::{RegionWrites, end_period};
 use crate::runs::{read_run, write_run};
 use nm_geometry::Shape;
 use nm_leg::{LegFault, LegPart};
 use nm_replay::BLOCK_BYTES;
+use std::alloc::Global;
 use std::io;
 
 /// The leg of one stripe on a medium, which has the blocks of the whole export in their order.
@@ -24,22 +29,24 @@ pub struct FileLeg<M: Medium> {
     /// How many bytes the medium had when the leg was made.
     size: u64,
     faults: u64,
-    /// Each block below this one was written since the last sync that failed.
-    rewritten_below: u64,
+    /// Which regions were written since the last sync that succeeded, and what was written again
+    /// since one failed.
+    writes: RegionWrites,
     /// No sync has succeeded since the leg was made or last written.
     dirty: bool,
     ghost bounds: { IsGeometry shape },
     ghost inside: { stripe < shape.stripes },
     ghost owns: { IsTrue M.honest → OwnsBlocks (M.held medium) stripe shape },
-    ghost rules: { FileRules M.honest (M.held medium) stripe shape rewritten_below dirty },
+    ghost rules: { FileRules M.honest (M.held medium) stripe shape writes dirty },
 }
 
 impl<M: Medium> FileLeg<M> {
     /// The leg of this stripe of a mirror of this shape. It is not known to be durable, so its
     /// first sync calls the medium.
     ///
-    /// Fails where the medium does not tell its length, or ends before the stripe's last block.
-    pub fn new(medium: M, shape: &Shape, stripe: u32) -> io::Result<Self>
+    /// Fails where the medium does not tell its length, or ends before the stripe's last block, or
+    /// memory is refused.
+    pub fn new(alloc: Global, medium: M, shape: &Shape, stripe: u32) -> io::Result<Self>
         requires stripe { stripe < shape.now.stripes }
         requires owns { IsTrue M.honest → OwnsBlocks (M.held medium) stripe shape.now }
         requires kept { IsTrue M.honest → KeepsBlocks (M.held medium) stripe shape.now
@@ -50,7 +57,7 @@ impl<M: Medium> FileLeg<M> {
         ensures laid { IfOk result (λ leg. (leg.shape ≡ shape.now) × (leg.stripe ≡ stripe)) }
         ensures medium { IfOk result (λ leg. leg.medium ≡ medium) }
         ensures synced { IfOk result (λ leg. IsTrue leg.dirty
-            × (leg.rewritten_below ≡ stripe_blocks stripe shape.now)) }
+            × Begins shape.now.region (stripe_blocks stripe shape.now) leg.writes) }
         ensures size { IsTrue M.honest
             → IfOk result (λ leg. leg.size ≡ length (M.held medium).contents) }
         ensures reaches { IfOk result (λ leg. Reaches stripe shape.now leg.size) }
@@ -61,13 +68,14 @@ impl<M: Medium> FileLeg<M> {
         if size < BLOCK_BYTES as u64 * last + BLOCK_BYTES as u64 {
             return Err(io::Error::from(io::ErrorKind::UnexpectedEof));
         }
+        let writes = RegionWrites::new(alloc, shape.region, blocks)?;
         Ok(FileLeg {
             medium,
             shape: *shape,
             stripe,
             size,
             faults: 0,
-            rewritten_below: blocks,
+            writes,
             dirty: true,
         })
     }
@@ -78,14 +86,33 @@ impl<M: Medium> FileLeg<M> {
     {
         &self.medium
     }
+}
 
-    /// Asks the medium for its length: it has one, and is not shorter than it was.
-    fn is_whole(&self) -> bool
-        ensures { IsTrue M.honest → IsTrue result
-            → self.now.size ≤ length (M.held self.now.medium).contents }
-    {
-        matches!(self.medium.len(), Ok(size) if size >= self.size)
+/// Writes a run of blocks as `write_run` does, unless the medium tells no length or is shorter than
+/// it was.
+fn write_if_long<M: Medium>(
+    medium: &mut M,
+    size: u64,
+    shape: &Shape,
+    stripe: u32,
+    at: u64,
+    bytes: &[u8],
+    keeps_holes: bool,
+) -> bool
+    requires shape { IsGeometry shape.now }
+    requires stripe { stripe < shape.now.stripes }
+    requires run { IsRun at (stripe_blocks stripe shape.now) bytes.now }
+    requires kept { IsTrue M.honest → IsTrue keeps_holes
+        → KeepsRun (M.held medium.old) (run_places stripe shape.now at) (blocks_in bytes.now) }
+    ensures writes { WritesRun M.honest result (run_places stripe shape.now at) bytes.now
+        (M.held medium.old) (M.held medium.new) }
+    ensures shorter { IsTrue M.honest → length (M.held medium.old).contents < size
+        → IsFalse result × (medium.new ≡ medium.old) }
+{
+    if !matches!(medium.len(), Ok(now) if now >= size) {
+        return false;
     }
+    write_run(medium, shape, stripe, at, bytes, keeps_holes)
 }
 
 /// Counts a call that failed.
@@ -99,11 +126,18 @@ fn count_fault(faults: &mut u64) -> LegFault
 impl<M: Medium> LegPart for FileLeg<M> {
     ghost honest = { M.honest };
 
-    ghost model = { λ leg. leg_on (M.held leg.medium) leg.stripe leg.shape leg.faults };
+    ghost model = { λ leg. file_leg (M.held leg.medium) leg.stripe leg.shape leg.faults
+        leg.writes };
 
     ghost same_length = { λ leg. same_length leg.stripe leg.shape
         (stripe_blocks leg.stripe leg.shape)
         (M.held leg.medium).durable (M.held leg.medium).contents };
+
+    ghost marked_each = { λ leg. marked_each leg.stripe leg.shape leg.writes
+        (stripe_blocks leg.stripe leg.shape) (M.held leg.medium).contents };
+
+    ghost durable_elsewhere = { λ leg is_honest. durable_elsewhere (M.held leg.medium) leg.stripe
+        leg.shape leg.writes leg.rules.region (leg.rules.durable is_honest) leg.faults };
 
     fn len(&self) -> u64 {
         self.shape.stripe_blocks(self.stripe)
@@ -120,67 +154,77 @@ impl<M: Medium> LegPart for FileLeg<M> {
         requires { IsRun at (length (leg_on (M.held self.old.medium) self.old.stripe
             self.old.shape self.old.faults).contents) bytes.now }
         ensures writes { WritesLeg M.honest (is_ok result) at bytes.now
-            (leg_on (M.held self.old.medium) self.old.stripe self.old.shape self.old.faults)
-            (leg_on (M.held self.new.medium) self.new.stripe self.new.shape self.new.faults) }
+            (file_leg (M.held self.old.medium) self.old.stripe self.old.shape self.old.faults
+            self.old.writes)
+            (file_leg (M.held self.new.medium) self.new.stripe self.new.shape self.new.faults
+            self.new.writes) }
         ensures shorter { IsTrue M.honest
             → length (M.held self.old.medium).contents < self.old.size
             → IsErr result × (self.new.medium ≡ self.old.medium) }
-        ensures dirty { OnOk result (IsTrue self.new.dirty) }
-        ensures rewritten { self.new.rewritten_below
-            ≡ cursor_after (is_ok result) at (blocks_in bytes.now) self.old.rewritten_below }
+        ensures dirty { IsTrue self.new.dirty }
+        ensures noted { NotesWrite (is_ok result) at (blocks_in bytes.now) self.old.writes
+            self.new.writes }
     {
-        if !self.is_whole() {
-            return Err(count_fault(&mut self.faults));
-        }
-        self.dirty = true;
-        let keeps_holes = self.rewritten_below >= self.shape.stripe_blocks(self.stripe);
-        if !write_run(
+        let count = (bytes.len() / BLOCK_BYTES) as u64;
+        let keeps_holes = self.writes.is_whole_at(at, count);
+        let is_written = write_if_long(
             &mut self.medium,
+            self.size,
             &self.shape,
             self.stripe,
             at,
             bytes,
             keeps_holes,
-        ) {
+        );
+        self.writes.note_write(at, count, is_written);
+        self.dirty = true;
+        if !is_written {
             return Err(count_fault(&mut self.faults));
-        }
-        let end = at + (bytes.len() / BLOCK_BYTES) as u64;
-        if at <= self.rewritten_below && self.rewritten_below < end {
-            self.rewritten_below = end;
         }
         Ok(())
     }
 
     fn sync(&mut self) -> Result<(), LegFault>
         ensures syncs { SyncsLeg M.honest (is_ok result)
-            (leg_on (M.held self.old.medium) self.old.stripe self.old.shape self.old.faults)
-            (leg_on (M.held self.new.medium) self.new.stripe self.new.shape self.new.faults) }
+            (file_leg (M.held self.old.medium) self.old.stripe self.old.shape self.old.faults
+            self.old.writes)
+            (file_leg (M.held self.new.medium) self.new.stripe self.new.shape self.new.faults
+            self.new.writes) }
         ensures quiet { IsFalse self.old.dirty
             → IsTrue (is_ok result) × (self.new ≡ self.old) }
         ensures lost { IsTrue self.old.dirty
-            → self.old.rewritten_below < stripe_blocks self.old.stripe self.old.shape
+            → ¬ AreWhole 0 (count_regions self.old.writes) self.old.writes
             → IsErr result × (self.new.medium ≡ self.old.medium)
-            × (self.new.rewritten_below ≡ self.old.rewritten_below) × IsTrue self.new.dirty }
-        ensures synced { OnOk result (IsFalse self.new.dirty) }
-        ensures restarts { stripe_blocks self.old.stripe self.old.shape ≤ self.old.rewritten_below
-            → OnErr result (IsTrue self.new.dirty × (self.new.rewritten_below ≡ 0)) }
+            × (self.new.writes ≡ self.old.writes) × IsTrue self.new.dirty }
+        ensures synced { IsTrue self.old.dirty
+            → OnOk result (IsFalse self.new.dirty
+            × ((doubted : Bool) × EndsPeriod doubted self.old.writes self.new.writes)) }
+        ensures failed { IsTrue self.old.dirty
+            → AreWhole 0 (count_regions self.old.writes) self.old.writes
+            → OnErr result (IsTrue self.new.dirty
+            × NotesFailure self.old.writes self.new.writes) }
     {
         if !self.dirty {
             return Ok(());
         }
-        if self.rewritten_below < self.shape.stripe_blocks(self.stripe) {
+        if !self.writes.is_whole() {
             return Err(count_fault(&mut self.faults));
         }
         match self.medium.sync() {
             Ok(()) => {
                 self.dirty = false;
+                end_period(&mut self.writes, self.medium.is_doubted());
                 Ok(())
             }
             Err(_) => {
-                self.rewritten_below = 0;
+                self.writes.note_failure();
                 Err(count_fault(&mut self.faults))
             }
         }
+    }
+
+    fn is_unsynced(&self, at: u64, count: u64) -> bool {
+        self.writes.are_written(at, count)
     }
 
     fn faults(&self) -> u64 {

@@ -22,6 +22,7 @@ mod file_user;
 mod fuse_medium;
 mod medium;
 mod mem_medium;
+mod region_writes;
 mod runs;
 mod shared_file;
 mod splice;

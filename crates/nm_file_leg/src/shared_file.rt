@@ -35,7 +35,7 @@ struct User {
 /// longer writing, finds W's number, which no sync before S covers. So F marks U. U looks at the
 /// mark after it has read how much is covered, so where it reads what S stored it also finds the
 /// mark, and fails. A mark goes only where U's sync fails, and then U's leg believes no sync until
-/// its blocks were written again, by writes that are later than F.
+/// the regions that it wrote since its last good one were written again, by writes later than F.
 ///
 /// Each order is that of one sequence of all these steps (`SeqCst`). A user's own calls come one
 /// after the other. A write that failed counts as one, since it may have left bytes. Zeroes that
@@ -116,6 +116,21 @@ impl<F: BackingFile> SharedFile<F> {
         Err(io::Error::from(ErrorKind::TimedOut))
     }
 
+    /// Syncs the file ahead of its users' syncs, which then have the less to write: where somebody
+    /// wrote since the last good sync, and no other one runs. Where it fails, each user that has
+    /// written since then fails its next sync. Whether it made a call that went well.
+    pub fn sync_ahead(&self) -> bool {
+        let ended = self.ended.load(Ordering::SeqCst);
+        if is_covered(ended, self.covered.load(Ordering::SeqCst))
+            || self.is_syncing.swap(true, Ordering::SeqCst)
+        {
+            return false;
+        }
+        let done = self.sync_file();
+        self.is_syncing.store(false, Ordering::SeqCst);
+        done.is_ok()
+    }
+
     /// What a user's sync answers without a call, if it needs none. How much is covered is read
     /// before the mark.
     fn known(&self, own: &User) -> Option<io::Result<()>> {
@@ -134,14 +149,20 @@ impl<F: BackingFile> SharedFile<F> {
         if let Some(known) = self.known(own) {
             return known;
         }
+        let done = self.sync_file();
+        if done.is_err() {
+            own.has_lost.store(false, Ordering::SeqCst);
+        }
+        done
+    }
+
+    /// Syncs the file while no other sync runs. A failure is told to each user that wrote.
+    fn sync_file(&self) -> io::Result<()> {
         let ended = self.ended.load(Ordering::SeqCst);
         let done = self.file.sync_bytes();
         match &done {
             Ok(()) => self.covered.store(ended, Ordering::SeqCst),
-            Err(_) => {
-                self.mark_users();
-                own.has_lost.store(false, Ordering::SeqCst);
-            }
+            Err(_) => self.mark_users(),
         }
         done
     }

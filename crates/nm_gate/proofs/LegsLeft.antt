@@ -362,7 +362,7 @@ module _ {L : Type 0} (type : LegType L) (old new : StripeState L) (b : ℕ) (fr
     attaches-left leg a =
         joined-left leg (ap (λ (s : StripeState L). s.stopped) a.after) (ap (λ (s : StripeState L). s.states) a.after) (ap (λ (s : StripeState L). s.master) a.after) (λ j ne. ap (λ (s : StripeState L). slice_get s.legs j) a.after) (may_attach old leg a.no_cause).out
 
-    pub returns-left : (leg : ℕ) (marks : Marks) → Returns old new leg marks → LegsLeft type b (but leg) free old new
+    pub returns-left : (leg : ℕ) (marks : Marks) → Returns type.model old new leg marks → LegsLeft type b (but leg) free old new
     returns-left leg marks r =
         joined-left leg (ap (λ (s : StripeState L). s.stopped) r.after) (ap (λ (s : StripeState L). s.states) r.after) (ap (λ (s : StripeState L). s.master) r.after) (λ j ne. ap (λ (s : StripeState L). slice_get s.legs j) r.after) (may_attach old leg r.no_cause).out
 

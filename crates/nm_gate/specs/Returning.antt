@@ -7,9 +7,8 @@ use Rattle.nm_gate.specs.Durable.{Durable, is_lacking}
 abbrev pub everywhere : Marks
 everywhere = record { marked = true ∷ []; span = 2 ^ 31 }
 
--- The leg may have lost what lies in the spans that are surely marked, where the superblock may say
--- that it lacks no more than these: it was not synced since then. Otherwise it may have lost
--- anything.
+-- Where the superblock may say that the leg lacks no more than the spans that are surely marked,
+-- the leg may have lost in these what it has not synced. Otherwise it may have lost that anywhere.
 abbrev pub suspects : ℕ → Option Durable → Marks
 suspects leg None = everywhere
 suspects leg (Some d) =

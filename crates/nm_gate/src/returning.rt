@@ -14,15 +14,15 @@ use nm_rules::Refusal;
 const MOST_REGIONS: u64 = 1 << 31;
 
 impl<L: LegPart> GatedStripe<L> {
-    /// The leg joins as one that may have lost what was written to it since it was last synced. What
-    /// was not synced lies in marked spans where the superblock may say that the leg lacks no more;
-    /// else it may lie anywhere. Answers how many blocks are left to copy to it.
+    /// The leg joins as one that may have lost what it has not synced: it is behind there too. Where
+    /// the superblock may say that the leg lacks no more than the marked spans, what is not synced
+    /// lies in these; else it may lie anywhere. Answers how many blocks are left to copy to it.
     ///
     /// Refused as `Stripe::attach` is.
     pub fn return_leg(&mut self, leg: u8) -> Result<u64, Refusal>
         requires allowed { IsAllowed self.old.durable self.old.stripe (step.Attach leg) }
         requires leg { leg < length self.old.stripe.legs }
-        ensures ok { OnOk result (Returns self.old.stripe self.new.stripe leg
+        ensures ok { OnOk result (Returns L.model self.old.stripe self.new.stripe leg
             (suspects leg self.old.durable)) }
         ensures left { IfOk result (λ blocks. blocks ≡ left leg self.new.stripe) }
         ensures cause { IfErr result (λ refusal. attach_cause self.old.stripe leg ≡ Some refusal) }

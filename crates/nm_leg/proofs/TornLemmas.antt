@@ -1,5 +1,5 @@
 -- A write of a run that failed halfway changes no other block.
-use Rattle.std.proofs.Common.{◌≡◌, ◌≢◌, ⊎_elim, inl, inr, ℕ, ◌+◌, ◌*◌, ◌/◌, ◌%◌, ◌^◌, ◌<◌, true, false, List, length, length-set, drop, refl, ap, ◌∙◌, arith, slice_get}
+use Rattle.std.proofs.Common.{Bool, ◌≡◌, ◌≢◌, ⊎_elim, inl, inr, ℕ, ◌+◌, ◌*◌, ◌/◌, ◌%◌, ◌^◌, ◌<◌, true, false, List, length, length-set, drop, refl, ap, ◌∙◌, arith, slice_get}
 use Rattle.std.proofs.lemmas.List.{length-take-le}
 use Rattle.nm_replay.specs.declared.block.Block.{Block}
 use Rattle.nm_replay.specs.Array.{Array}
@@ -36,8 +36,8 @@ module _ (at blocks : ℕ) (bytes : List ℕ) (was : Block) (xs : Array) (run : 
       ∙ set_run-outside at k (blocks_of (half_of bytes)) xs outside
 
   -- so the write failed as a leg's may
-  pub torn-writes : (ys : Array) (faults : ℕ) → (faults + 1) % 2 ^ 64 ≢ faults → ys ≡ torn_run at bytes was xs
-      → WritesLeg true false at bytes (record { contents = xs; durable = xs; faults = faults }) (record { contents = ys; durable = ys; faults = (faults + 1) % 2 ^ 64 })
+  pub torn-writes : {us vs : List Bool} (ys : Array) (faults : ℕ) → (faults + 1) % 2 ^ 64 ≢ faults → ys ≡ torn_run at bytes was xs
+      → WritesLeg true false at bytes (record { contents = xs; durable = xs; unsynced = us; faults = faults }) (record { contents = ys; durable = ys; unsynced = vs; faults = (faults + 1) % 2 ^ 64 })
   torn-writes ys faults moves is =
       let long : length ys ≡ length xs = ap (λ (zs : Array). length zs) is ∙ torn-long in
       let others : (k : ℕ) → IsOutside at (blocks_in bytes) k → slice_get ys k ≡ slice_get xs k =

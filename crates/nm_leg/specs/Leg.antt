@@ -1,17 +1,34 @@
 -- What a leg holds, and what one call does to it.
 use Rattle.std.specs.Prelude.{◌≡◌, ◌≢◌, ◌⊎◌, ℕ, zero, suc, ◌+◌, ◌*◌, ◌/◌, ◌%◌, ◌^◌, ◌<◌, ◌≤◌}
-use Rattle.std.specs.Prelude.{Bool, IsTrue, IsFalse, if◌then◌else◌, Some, slice_get, slice_set}
-use Rattle.std.specs.Prelude.{List, [], ◌∷◌, length, replicate, take, drop}
+use Rattle.std.specs.Prelude.{Bool, false, IsTrue, IsFalse, if◌then◌else◌, Some, slice_get}
+use Rattle.std.specs.Prelude.{List, [], ◌∷◌, length, replicate, slice_set, take, drop}
+use Rattle.std.specs.List.{list_any}
 use Rattle.nm_replay.specs.declared.block.Block.{Block}
 use Rattle.nm_replay.specs.declared.block.TheConstants.{BLOCK_BYTES}
 use Rattle.nm_replay.specs.Array.{Array}
 
--- An array of blocks as reads find it, the same array as a loss of power would leave it,
--- and how many calls have failed, modulo 2^64.
+-- An array of blocks as reads find it, the same array as a loss of power would leave it, for each
+-- block whether it was written since the leg was last synced, as far as the leg knows, and how many
+-- calls have failed, modulo 2^64.
 pub record Leg : Type 0 where
   pub contents : Array
   pub durable : Array
+  pub unsynced : List Bool
   pub faults : ℕ
+
+-- whether one of so many blocks from `at` on is marked
+abbrev pub is_marked_in : ℕ → ℕ → List Bool → Bool
+is_marked_in at count marks = list_any (λ marked. marked) (take count (drop at marks))
+
+-- no block of so many is marked
+abbrev pub no_marks : ℕ → List Bool
+no_marks blocks = replicate blocks false
+
+-- each block that is not marked is durable as reads find it
+abbrev pub IsDurableElsewhere : Leg → Type 0
+IsDurableElsewhere leg =
+    (k : ℕ) → slice_get leg.unsynced k ≡ Some false
+    → slice_get leg.durable k ≡ slice_get leg.contents k
 
 -- A type of legs: what one of them holds, and whether all of them are honest.
 pub record LegType (L : Type 0) : Type 0 where
@@ -33,7 +50,8 @@ filled_array blocks byte = replicate blocks (block_of (replicate BLOCK_BYTES byt
 -- a leg of so many blocks of one byte, all of it durable, of which no call has failed
 abbrev pub filled_leg : ℕ → ℕ → Leg
 filled_leg blocks byte =
-    let all = filled_array blocks byte in record { contents = all; durable = all; faults = 0 }
+    let all = filled_array blocks byte in
+    record { contents = all; durable = all; unsynced = no_marks blocks; faults = 0 }
 
 -- a leg of so many zero blocks, all of it durable, of which no call has failed
 abbrev pub zeroed_leg : ℕ → Leg

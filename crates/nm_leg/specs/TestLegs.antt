@@ -2,7 +2,7 @@
 use Rattle.std.specs.Prelude.{ℕ, ◌+◌, ◌*◌, ◌/◌, List, ◌++◌, length, take, drop, slice_set}
 use Rattle.nm_replay.specs.declared.block.Block.{Block}
 use Rattle.nm_replay.specs.Array.{Array}
-use Rattle.nm_leg.specs.Leg.{Leg, block_of, blocks_in, blocks_of, set_run, zeroed_leg}
+use Rattle.nm_leg.specs.Leg.{Leg, block_of, blocks_in, blocks_of, no_marks, set_run, zeroed_leg}
 use Rattle.nm_leg.specs.declared.cached_leg.CachedLeg.{CachedLeg}
 use Rattle.nm_leg.specs.declared.failing_leg.FailingLeg.{FailingLeg}
 use Rattle.nm_leg.specs.declared.fuse_leg.FuseLeg.{FuseLeg}
@@ -10,7 +10,12 @@ use Rattle.nm_leg.specs.declared.lying_leg.LyingLeg.{LyingLeg}
 
 -- what was written, what was synced, and no fault
 abbrev pub of_cached : CachedLeg → Leg
-of_cached leg = record { contents = leg.contents.items; durable = leg.durable.items; faults = 0 }
+of_cached leg = record {
+  contents = leg.contents.items;
+  durable = leg.durable.items;
+  unsynced = leg.unsynced.items;
+  faults = 0;
+}
 
 -- zero blocks for ever, and the faults so far
 abbrev pub of_failing : FailingLeg → Leg
@@ -20,10 +25,18 @@ of_failing leg = record (zeroed_leg leg.blocks) { faults = leg.faults }
 abbrev pub of_lying : LyingLeg → Leg
 of_lying leg = zeroed_leg leg.blocks
 
+-- these blocks, all of them durable, and so many faults
+abbrev pub durable_leg : Array → ℕ → Leg
+durable_leg blocks faults = record {
+  contents = blocks;
+  durable = blocks;
+  unsynced = no_marks (length blocks);
+  faults = faults;
+}
+
 -- what was written, all of it durable, and the faults so far
 abbrev pub of_fuse : FuseLeg → Leg
-of_fuse leg =
-    record { contents = leg.blocks.items; durable = leg.blocks.items; faults = leg.faults }
+of_fuse leg = durable_leg leg.blocks.items leg.faults
 
 -- the first half of a run's bytes, 256 of one block
 abbrev pub half_of : List ℕ → List ℕ

@@ -1,9 +1,11 @@
-ghost use Rattle.std.specs.Prelude.{◌≡◌, ◌<◌, true, length, slice_get, is_ok, Some, IfOk, OnErr};
-ghost use Rattle.nm_leg.specs.Leg.{IsRun, WritesLeg, zeroed_leg};
+ghost use Rattle.std.specs.Prelude.{◌≡◌, ◌+◌, ◌<◌, ◌≤◌, ℕ, false, true, length, slice_get, is_ok};
+ghost use Rattle.std.specs.Prelude.{Some, IfOk, OnErr};
+ghost use Rattle.nm_leg.specs.Leg.{IsOutside, IsRun, SyncsLeg, WritesLeg, no_marks};
+ghost use Rattle.nm_leg.specs.Leg.{zeroed_leg};
 
 use crate::moving::{put_blocks, take_blocks};
 use crate::{LegFault, LegPart};
-use nm_replay::{Block, Memory};
+use nm_replay::{BLOCK_BYTES, Block, Memory};
 use std::alloc::Global;
 
 /// An honest leg behind a cache, for tests: writes stay in the cache until a sync, and a loss of
@@ -12,7 +14,24 @@ use std::alloc::Global;
 pub struct CachedLeg {
     contents: Vec<Block>,
     durable: Vec<Block>,
+    /// For each block, whether it was written since the last sync.
+    unsynced: Vec<bool>,
     ghost same_length: { length durable.items ≡ length contents.items },
+    ghost marked_each: { length unsynced.items ≡ length contents.items },
+    ghost elsewhere: { (k : ℕ) → slice_get unsynced.items k ≡ Some false
+        → slice_get durable.items k ≡ slice_get contents.items k },
+}
+
+/// Marks so many blocks from `at` on.
+fn mark(marks: &mut [bool], at: usize, count: usize)
+    requires inside { at + count ≤ length marks.old }
+    ensures length { length marks.new ≡ length marks.old }
+    ensures others { (k : ℕ) → slice_get marks.new k ≡ Some false
+        → IsOutside at count k × (slice_get marks.old k ≡ Some false) }
+{
+    for number in 0..count {
+        marks[at + number] = true;
+    }
 }
 
 impl CachedLeg {
@@ -27,7 +46,13 @@ impl CachedLeg {
         contents.resize(blocks as usize, Block::ZERO)?;
         let mut durable = Vec::new(alloc);
         durable.resize(blocks as usize, Block::ZERO)?;
-        Ok(CachedLeg { contents, durable })
+        let mut unsynced = Vec::new(alloc);
+        unsynced.resize(blocks as usize, false)?;
+        Ok(CachedLeg {
+            contents,
+            durable,
+            unsynced,
+        })
     }
 
     /// What a loss of power would leave of the block at `at`.
@@ -48,6 +73,10 @@ impl LegPart for CachedLeg {
 
     ghost same_length = { λ leg. leg.same_length };
 
+    ghost marked_each = { λ leg. leg.marked_each };
+
+    ghost durable_elsewhere = { λ leg is_honest. leg.elsewhere };
+
     fn len(&self) -> u64 {
         self.contents.len() as u64
     }
@@ -63,13 +92,24 @@ impl LegPart for CachedLeg {
         ensures writes { WritesLeg true (is_ok result) at bytes.now
             (of_cached self.old) (of_cached self.new) }
     {
+        mark(&mut self.unsynced, at as usize, bytes.len() / BLOCK_BYTES);
         put_blocks(&mut self.contents, at as usize, bytes);
         Ok(())
     }
 
-    fn sync(&mut self) -> Result<(), LegFault> {
+    fn sync(&mut self) -> Result<(), LegFault>
+        ensures unmarked { (of_cached self.new).unsynced
+            ≡ no_marks (length (of_cached self.old).unsynced) }
+        ensures syncs { SyncsLeg true (is_ok result) (of_cached self.old) (of_cached self.new) }
+    {
         self.durable.copy_from_slice(&self.contents);
+        self.unsynced.fill(false);
         Ok(())
+    }
+
+    fn is_unsynced(&self, at: u64, count: u64) -> bool {
+        let (at, end) = (at as usize, (at + count) as usize);
+        self.unsynced[at..end].iter().any(|unsynced| *unsynced)
     }
 
     fn faults(&self) -> u64 {

@@ -29,11 +29,19 @@ impl FailingLeg {
 }
 
 impl LegPart for FailingLeg {
+    ghost use Rattle.std.proofs.Common.{false, sym, ◌∙◌};
+    ghost use Rattle.std.proofs.lemmas.List.{length-replicate};
+
     ghost honest = { true };
 
     ghost model = { of_failing };
 
     ghost same_length = { λ leg. refl };
+
+    ghost marked_each = { λ leg. length-replicate leg.blocks false
+        ∙ sym (length-replicate leg.blocks _) };
+
+    ghost durable_elsewhere = { λ leg is_honest k is. refl };
 
     fn len(&self) -> u64 {
         self.blocks
@@ -60,6 +68,10 @@ impl LegPart for FailingLeg {
         ensures syncs { SyncsLeg true (is_ok result) (of_failing self.old) (of_failing self.new) }
     {
         self.fail()
+    }
+
+    fn is_unsynced(&self, _at: u64, _count: u64) -> bool {
+        false
     }
 
     fn faults(&self) -> u64 {

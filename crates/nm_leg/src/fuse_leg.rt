@@ -103,6 +103,8 @@ impl FuseLeg {
 }
 
 impl LegPart for FuseLeg {
+    ghost use Rattle.std.specs.Prelude.{false};
+    ghost use Rattle.std.proofs.lemmas.List.{length-replicate};
     ghost use Rattle.nm_leg.specs.TestLegs.{of_fuse};
 
     ghost honest = { true };
@@ -110,6 +112,10 @@ impl LegPart for FuseLeg {
     ghost model = { of_fuse };
 
     ghost same_length = { λ leg. refl };
+
+    ghost marked_each = { λ leg. length-replicate (length leg.blocks.items) false };
+
+    ghost durable_elsewhere = { λ leg is_honest k is. refl };
 
     fn len(&self) -> u64 {
         self.blocks.len() as u64
@@ -144,6 +150,10 @@ impl LegPart for FuseLeg {
             return self.fail();
         }
         Ok(())
+    }
+
+    fn is_unsynced(&self, _at: u64, _count: u64) -> bool {
+        false
     }
 
     fn faults(&self) -> u64 {

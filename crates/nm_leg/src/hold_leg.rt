@@ -63,6 +63,10 @@ impl<L: LegPart, H: Hold> LegPart for HoldLeg<L, H> {
 
     ghost same_length = { λ held. L.same_length held.leg };
 
+    ghost marked_each = { λ held. L.marked_each held.leg };
+
+    ghost durable_elsewhere = { λ held. L.durable_elsewhere held.leg };
+
     fn len(&self) -> u64 {
         self.leg.len()
     }
@@ -91,6 +95,10 @@ impl<L: LegPart, H: Hold> LegPart for HoldLeg<L, H> {
     {
         self.wait();
         self.leg.sync()
+    }
+
+    fn is_unsynced(&self, at: u64, count: u64) -> bool {
+        self.leg.is_unsynced(at, count)
     }
 
     fn faults(&self) -> u64 {

@@ -21,11 +21,19 @@ impl LyingLeg {
 }
 
 impl LegPart for LyingLeg {
+    ghost use Rattle.std.proofs.Common.{sym, ◌∙◌};
+    ghost use Rattle.std.proofs.lemmas.List.{length-replicate};
+
     ghost honest = { false };
 
     ghost model = { of_lying };
 
     ghost same_length = { λ leg. refl };
+
+    ghost marked_each = { λ leg. length-replicate leg.blocks false
+        ∙ sym (length-replicate leg.blocks _) };
+
+    ghost durable_elsewhere = { λ leg is_honest k is. refl };
 
     fn len(&self) -> u64 {
         self.blocks
@@ -46,6 +54,10 @@ impl LegPart for LyingLeg {
 
     fn sync(&mut self) -> Result<(), LegFault> {
         Ok(())
+    }
+
+    fn is_unsynced(&self, _at: u64, _count: u64) -> bool {
+        false
     }
 
     fn faults(&self) -> u64 {

@@ -6,3 +6,4 @@ pub mod Saving
 pub mod Starting
 pub mod SuperblockChoice
 pub mod SuperblockSets
+pub mod Unknown

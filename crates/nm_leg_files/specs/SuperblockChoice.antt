@@ -1,16 +1,17 @@
 -- What a start by superblocks goes by, and why it is refused: by rows, of which the first that
 -- applies decides.
-use Rattle.std.specs.Prelude.{◌≡◌, ◌≢◌, ◌⊎◌, ◌≤◌, ℕ, List, Option, None, Some, min, max}
+use Rattle.std.specs.Prelude.{◌≡◌, ◌≢◌, ◌⊎◌, ◌≤◌, ℕ, Bool, List, Option, None, Some, min, max}
 use Rattle.std.specs.Prelude.{IsTrue}
 use Rattle.nm_assemble.specs.Assembly.{IsAssembly, IsRefused}
 use Rattle.nm_assemble.specs.Image.{IsClosedTo, IsFork, IsForced, IsImage, OpensAll}
+use Rattle.nm_assemble.specs.Own.{AreOwn}
 use Rattle.nm_assemble.specs.Start.{IsEmpty, IsMissing, IsNewest, IsSureStart, beside}
 use Rattle.nm_assemble.specs.declared.assembly.AssembleFault.{AssembleFault}
 use Rattle.nm_assemble.specs.declared.assembly.AssembleFault.TheVariants as refused
 use Rattle.nm_assemble.specs.declared.assembly.Assembly.{Assembly}
 use Rattle.nm_assemble.specs.declared.misfit.Misfit.TheVariants.{Apart, OtherLeg, OtherMirror}
 use Rattle.nm_commands.specs.declared.server_settings.Settings.{Settings}
-use Rattle.nm_commands.specs.declared.start.Start.TheVariants.{Equal}
+use Rattle.nm_commands.specs.declared.start.Start.TheVariants.{Equal, Full}
 use Rattle.nm_reports.specs.declared.start_fault.StartFault.{StartFault}
 use Rattle.nm_reports.specs.declared.start_fault.StartFault.TheVariants as fault
 use Rattle.nm_leg_files.specs.declared.superblock_choice.Choice.{Choice}
@@ -38,19 +39,30 @@ IsSureOr lineage seen newest sure image =
 -- the image of a start that nobody forced
 pub record IsAssembled (s : Settings) (seen : FoundLegs) (lineage : ℕ) (newest image : Superblock)
     : Type 0 where
-  pub start : s.start ≢ Equal
+  pub unequal : s.start ≢ Equal
+  pub part : s.start ≢ Full
   pub assembly : Assembly
-  pub assembled : IsAssembly assembly seen.found seen.trusted s.degraded
+  pub assembled : IsAssembly assembly seen.found seen.legs s.degraded
   pub asked : MayBeAsked s.master assembly
+  pub own : List Bool
+  pub are_own : AreOwn 8 assembly.newest seen.legs own
   pub sure : Superblock
-  pub says : IsImage s.master assembly seen.here sure
+  pub says : IsImage s.master assembly own seen.legs.identities sure
   pub goes_on : IsSureOr lineage seen newest sure image
 
 -- the image that a start goes by: a leg that was forced on it is the only one that is named
 abbrev pub GoesBy : (forced : Option ℕ) → Settings → FoundLegs → (lineage : ℕ)
     → (newest image : Superblock) → Type 0
-GoesBy (Some leg) s seen lineage newest image = IsForced leg lineage newest image
+GoesBy (Some leg) s seen lineage newest image = IsForced leg lineage seen.legs newest image
 GoesBy None s seen lineage newest image = IsAssembled s seen lineage newest image
+
+-- the legs whose files a start takes: those that are their own by the newest superblock; and all
+-- that are here where a leg was forced on it, or where there is no superblock
+abbrev pub Takes : (forced : Option ℕ) → FoundLegs → List Bool → Type 0
+Takes None seen taken =
+    (IsEmpty 8 seen.found × (taken ≡ seen.legs.here))
+    ⊎ ((newest : Superblock) × IsNewest 8 newest seen.found × AreOwn 8 newest seen.legs taken)
+Takes (Some leg) seen taken = taken ≡ seen.legs.here
 
 -- what a start goes by
 abbrev pub Chooses : Settings → FoundLegs → (lineage : ℕ) → Choice → Type 0
@@ -71,6 +83,8 @@ told (refused.Unfit leg OtherMirror) found newest = fault.OtherMirror leg
 told (refused.Unfit leg OtherLeg) found newest = fault.OtherLeg leg (leg_said (beside leg found))
 told (refused.Unfit leg Apart) found newest =
     fault.WentApart (min leg newest.leg) (max leg newest.leg)
+told (refused.Mixed leg other) found newest = fault.WasLeg leg other
+told (refused.Another leg) found newest = fault.AnotherFile leg
 told (refused.MayBeNewer leg) found newest = fault.MayBeNewer leg
 told (refused.NoneInSync stripe) found newest = fault.NoneInSync stripe
 
@@ -80,7 +94,7 @@ pub record IsTold (s : Settings) (seen : FoundLegs) (tells : StartFault) : Type 
   pub newest : Superblock
   pub greatest : IsNewest 8 newest seen.found
   pub why : AssembleFault
-  pub refused : IsRefused why seen.found seen.trusted s.degraded
+  pub refused : IsRefused why seen.found seen.legs s.degraded
   pub told : tells ≡ told why seen.found newest
 
 -- a leg was named that cannot be the master of each stripe
@@ -88,7 +102,7 @@ pub record IsNotInSync (s : Settings) (seen : FoundLegs) (leg : ℕ) : Type 0 wh
   pub unforced : s.force_master ≡ None
   pub named : s.master ≡ Some leg
   pub assembly : Assembly
-  pub assembled : IsAssembly assembly seen.found seen.trusted s.degraded
+  pub assembled : IsAssembly assembly seen.found seen.legs s.degraded
   pub closed : (stripe : ℕ) × IsClosedTo leg assembly stripe
 
 -- why a start by superblocks is refused
@@ -97,6 +111,9 @@ RefusesChoice s seen (fault.NoMaster leg) =
     (8 ≤ leg) × ((s.force_master ≡ Some leg) ⊎ (s.master ≡ Some leg))
 RefusesChoice s seen fault.NotFirstStart =
     (s.force_master ≡ None) × (s.start ≡ Equal)
+    × ((newest : Superblock) × IsNewest 8 newest seen.found)
+RefusesChoice s seen fault.NotWhole =
+    (s.force_master ≡ None) × (s.start ≡ Full)
     × ((newest : Superblock) × IsNewest 8 newest seen.found)
 RefusesChoice s seen (fault.NotInSync leg) = IsNotInSync s seen leg
 RefusesChoice s seen tells = IsTold s seen tells

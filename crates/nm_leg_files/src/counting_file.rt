@@ -156,4 +156,8 @@ impl Medium for CountingFile {
     fn is_hole(&self, at: u64, many: usize) -> bool {
         self.file.is_hole(at, many)
     }
+
+    fn is_doubted(&self) -> bool {
+        self.trouble.doubts().is_doubted()
+    }
 }

@@ -56,7 +56,7 @@ pub(crate) fn legs_on<'a>(
 {
     let mut legs = Vec::new(alloc);
     for stripe in 0..shape.stripes {
-        let leg = match stripe_leg(file, number, shape, stripe, read) {
+        let leg = match stripe_leg(alloc, file, number, shape, stripe, read) {
             Ok(leg) => leg,
             Err(fault) => return Err(fault),
         };

@@ -103,8 +103,31 @@ fn durable_states<'a>(
     Ok(states)
 }
 
-// Saves the image: from then on no start finds another one.
+// Whether one of the superblocks that were found is of version 1.
+fn has_first_version(found: &[Option<Superblock>; 8]) -> bool {
+    found.iter().any(|beside| match beside {
+        Some(superblock) => superblock.version == 1,
+        None => false,
+    })
+}
+
+// Saves the image, into both slots where this is asked for: from then on no start finds another
+// one.
 fn save_image<'a>(
+    files: &mut SuperblockFiles<LateSlots>,
+    image: &Superblock,
+    here: &[bool; 8],
+    is_twice: bool,
+) -> Result<(), StartFault<'a>> {
+    save_once(files, image, here)?;
+    if is_twice {
+        save_once(files, image, here)?;
+    }
+    Ok(())
+}
+
+// Saves the image once.
+fn save_once<'a>(
     files: &mut SuperblockFiles<LateSlots>,
     image: &Superblock,
     here: &[bool; 8],
@@ -115,7 +138,7 @@ fn save_image<'a>(
             *is_out = !here[leg];
         }
     }
-    let Err(failed) = files.save(&image.sets, &image.marked, false, &out) else {
+    let Err(failed) = files.save(&image.sets, &image.marked, false, &[0; 8], &out) else {
         return Ok(());
     };
     for (leg, has_failed) in failed.legs.iter().enumerate() {
@@ -151,13 +174,18 @@ impl KeptImage {
         if states.len() != stripes.len() {
             return Err(StartFault::Memory);
         }
-        let all = files.complete(rt, alloc, &here, image, went_by)?;
+        let is_twice = has_first_version(&files.found());
+        let mut all = files.complete(rt, alloc, &here, image, went_by)?;
+        if let Err(fault) = save_image(&mut all.files, &image, &here, is_twice) {
+            all.remove_made(rt);
+            return Err(fault);
+        }
         let AllFiles {
-            mut files,
+            files,
             names,
             late,
+            ..
         } = all;
-        save_image(&mut files, &image, &here)?;
         let writer = SuperblockWriter::new(alloc, files, names, went_by);
         match gated(alloc, stripes, states) {
             Ok(all) => Ok((all, Superblocks { writer, late })),

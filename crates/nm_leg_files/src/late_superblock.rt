@@ -1,9 +1,10 @@
 //! The superblock of a leg that was missing at the start.
 
+use crate::adding::with_added;
 use crate::late_file::LateFile;
 use crate::leg_hindrance::Hindrance;
 use crate::leg_opener::OpensLegs;
-use crate::leg_opening::{bytes_of, is_block_device, lock_opened};
+use crate::leg_opening::{is_block_device, lock_opened};
 use nm_assemble::first_misfit;
 use nm_reports::Unopened;
 use nm_superblock::{Superblock, newer};
@@ -65,15 +66,16 @@ fn blank(file: &File) -> io::Result<()> {
 }
 
 impl LateSuperblock {
-    // Refuses a superblock that the one which the start went by does not come after: what its leg
-    // has may be newer, or another mirror's.
+    // Refuses a leg that comes without a superblock: it may be another file. Refuses a superblock
+    // too that the one which the start went by does not come after: what its leg has may be newer,
+    // or another mirror's.
     fn check(&self, file: &File) -> Result<(), Hindrance> {
         let Some(own) = found_in(file) else {
-            return Ok(());
+            return Err(Hindrance::Unknown);
         };
         let mut found = [None; 8];
         if let Some(place) = found.get_mut(self.leg) {
-            *place = Some(own);
+            *place = Some(with_added(&own, self.went_by.legs));
         }
         match first_misfit(&found, &self.went_by) {
             Some((_, why)) => Err(Hindrance::OtherSuperblock(why)),
@@ -81,8 +83,8 @@ impl LateSuperblock {
         }
     }
 
-    /// Opens the file anew, or makes it, and locks it, for the leg on this file, which is copied
-    /// whole. From then on saves go into it.
+    /// Opens the file anew and locks it, for the leg on this file, which is copied whole. From then
+    /// on saves go into it.
     pub fn take<O: OpensLegs>(&self, opener: &O, leg: &File) -> Result<(), Hindrance> {
         if self.is_beside && is_block_device(leg) {
             return Err(Hindrance::NoPlaceBeside);
@@ -90,13 +92,14 @@ impl LateSuperblock {
         if self.file.file().is_some() {
             return Ok(());
         }
-        let file = match lock_opened(opener.make(self.name.as_str())) {
+        let file = match lock_opened(opener.open(self.name.as_str())) {
             Ok(file) => file,
+            Err(Unopened::System(error)) if error.kind() == ErrorKind::NotFound => {
+                return Err(Hindrance::Unknown);
+            }
             Err(why) => return Err(Hindrance::NoSuperblock(why)),
         };
-        if bytes_of(&file).is_some() {
-            self.check(&file)?;
-        }
+        self.check(&file)?;
         match blank(&file) {
             Ok(()) => {
                 self.file.open_later(file);

@@ -3,6 +3,7 @@ ghost use Rattle.std.specs.Prelude.{◌≡◌, IfOk, is_some, not};
 ghost use Rattle.nm_leg_files.specs.Files.{name_of};
 ghost use Rattle.nm_leg_files.specs.Here.{is_here};
 
+use crate::absence::Absence;
 use crate::late_file::LateFile;
 use crate::leg_opening::{FoundLeg, LegRules};
 use crate::limited_file::LimitedFile;
@@ -19,10 +20,20 @@ use std::sync::Arc;
 pub struct LegFile {
     pub(crate) name: String,
     pub(crate) shared: Arc<SharedFile<LimitedFile>>,
-    // Why the system did not open it at the start, where that is so.
-    pub(crate) unopened: Option<io::Error>,
+    // Why the start goes on without it, where that is so.
+    pub(crate) unopened: Option<Absence>,
     pub(crate) trouble: Arc<LegTrouble>,
     pub(crate) counts: Arc<LegCounts>,
+}
+
+// Why a leg is not here, where the system did not open its file.
+fn absence_of(unopened: Option<io::Error>) -> Option<Absence>
+    ensures { is_some result ≡ is_some unopened }
+{
+    match unopened {
+        Some(error) => Some(Absence::Unopened(error)),
+        None => None,
+    }
 }
 
 /// The file of this name for the stripes, of which there are at most so many, under the limit that
@@ -46,7 +57,7 @@ pub(crate) fn share(
     Ok(LegFile {
         name,
         shared: Arc::new(alloc, shared)?,
-        unopened: found.unopened,
+        unopened: absence_of(found.unopened),
         trouble: Arc::new(alloc, LegTrouble::new())?,
         counts: Arc::new(alloc, LegCounts::new())?,
     })
@@ -55,7 +66,7 @@ pub(crate) fn share(
 /// Why the system did not open it.
 pub(crate) fn unopened_by(file: &LegFile) -> Unopened {
     match file.unopened {
-        Some(error) => Unopened::System(error),
-        None => Unopened::Cut,
+        Some(Absence::Unopened(error)) => Unopened::System(error),
+        Some(Absence::Unknown | Absence::Another) | None => Unopened::Cut,
     }
 }

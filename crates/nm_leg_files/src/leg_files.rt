@@ -7,6 +7,7 @@ ghost use Rattle.nm_leg_files.specs.Files.{names_of, place_on, stripe_places};
 ghost use Rattle.nm_leg_files.specs.Here.{AllHere, AreHere, AreOfHere, SomeHere};
 ghost use Rattle.nm_leg_files.specs.Here.{is_here, is_here_at};
 
+use crate::absence::Absence;
 use crate::counting_file::{BytesRead, CountingFile};
 use crate::leg_file::{LegFile, share, unopened_by};
 use crate::leg_opening::{BLOCK_BYTES, LegLength, LegRules, find_leg, first_of, is_block_device};
@@ -17,8 +18,10 @@ use nm_geometry::Shape;
 use nm_lanes::NoGate;
 use nm_mirror::Mirror;
 use nm_reports::{LogLines, StartFault, Unopened};
+use nm_superblock::LegIdentities;
 use std::alloc::{AllocError, Global};
 use std::fs::File;
+use std::io::ErrorKind;
 use std::rt::Files;
 use std::sync::{Arc, Wait};
 use std::thread::Threads;
@@ -44,6 +47,8 @@ pub struct LegFiles {
     // How many blocks each of them has that is here.
     blocks: u64,
     rules: LegRules,
+    // What the superblocks record of their identities, where there are superblocks.
+    pub(crate) recorded: Option<LegIdentities>,
 }
 
 // Opens, locks and measures the file of this leg, and says which leg is the first that is here,
@@ -92,6 +97,27 @@ fn none_here<'a>(files: &[LegFile]) -> StartFault<'a> {
     }
 }
 
+// The line on a leg that is missing: the mirror starts without it.
+fn missing_line(
+    alloc: Global,
+    leg: usize,
+    name: &str,
+    why: &Absence,
+) -> Result<String, AllocError> {
+    match why {
+        Absence::Unopened(error) => format!(in alloc;
+            "leg {leg} ({name}): cannot be opened: {error}; the mirror starts without it"
+        ),
+        Absence::Another => format!(in alloc;
+            "leg {leg} ({name}): {why}; the mirror starts without it"
+        ),
+        Absence::Unknown => format!(in alloc;
+            "leg {leg} ({name}): {why}; the mirror starts without it, until replace {leg} copies \
+             it over"
+        ),
+    }
+}
+
 impl LegFiles {
     /// Opens, locks and measures the legs' files, one after the other, leg 0's by the first name.
     /// One that the system has in use is refused unless the rules allow it, and one that is longer
@@ -124,17 +150,20 @@ impl LegFiles {
             files,
             blocks: own.blocks,
             rules: *rules,
+            recorded: None,
         })
     }
 
     /// The files as they were opened by their names.
     pub fn places(&self, alloc: Global) -> Result<Vec<LegPlace>, AllocError> {
         let mut places = Vec::new(alloc);
-        for file in &self.files {
+        for (leg, file) in self.files.iter().enumerate() {
             let name = String::from_str(alloc, file.name.as_str())?;
             let own = file.share(alloc)?;
             let bytes = self.blocks.saturating_mul(BLOCK_BYTES);
-            places.push(LegPlace::new(alloc, name, own, bytes, self.rules))?;
+            let mut place = LegPlace::new(alloc, name, own, bytes, self.rules);
+            place.recorded = self.recorded.map(|all| (leg, all));
+            places.push(place)?;
         }
         Ok(places)
     }
@@ -214,11 +243,7 @@ impl LegFiles {
     pub fn tell_missing<R: Wait>(&self, rt: &R, alloc: Global, lines: &LogLines) {
         for (leg, file) in self.files.iter().enumerate() {
             if let Some(why) = file.unopened {
-                let name = file.name.as_str();
-                let text = format!(in alloc;
-                    "leg {leg} ({name}): cannot be opened: {why}; the mirror starts without it"
-                );
-                lines.warn(rt, text);
+                lines.warn(rt, missing_line(alloc, leg, file.name.as_str(), &why));
             }
         }
     }
@@ -292,6 +317,7 @@ impl LegFiles {
 
 // The leg of a stripe on this file, whose user of that number it is.
 pub(crate) fn stripe_leg<'a>(
+    alloc: Global,
     file: &LegFile,
     number: usize,
     shape: &Shape,
@@ -310,8 +336,9 @@ pub(crate) fn stripe_leg<'a>(
     let Ok(counting) = own else {
         return Err(StartFault::Memory);
     };
-    match FileLeg::new(counting, shape, stripe) {
+    match FileLeg::new(alloc, counting, shape, stripe) {
         Ok(leg) => Ok(leg),
+        Err(error) if error.kind() == ErrorKind::OutOfMemory => Err(StartFault::Memory),
         Err(_) => Err(StartFault::CannotOpen(number, Unopened::Cut)),
     }
 }
@@ -331,7 +358,7 @@ pub(crate) fn stripe_legs<'a>(
 {
     let mut legs = Vec::new(alloc);
     for (number, file) in files.files.iter().enumerate() {
-        let leg = match stripe_leg(file, number, shape, stripe, read) {
+        let leg = match stripe_leg(alloc, file, number, shape, stripe, read) {
             Ok(leg) => leg,
             Err(fault) => return Err(fault),
         };

@@ -29,6 +29,8 @@ pub enum Hindrance {
     NoSuperblock(Unopened),
     /// The superblock that it comes with does not go with that which the start went by.
     OtherSuperblock(Misfit),
+    /// It comes with no superblock: another file may stand under its name.
+    Unknown,
     /// A `fail` or an `attach` is under way, or has just been.
     Command,
     /// Each stripe that would take it has stopped.
@@ -74,6 +76,7 @@ impl fmt::Display for Hindrance {
                 f.write_str("its superblock cannot be written: ")?;
                 put_unopened(why, f)
             }
+            Hindrance::Unknown => f.write_str("it has no superblock of this mirror"),
             Hindrance::OtherSuperblock(why) => f.write_str(misfit_text(why)),
             Hindrance::Command => f.write_str("a command on legs is under way"),
             Hindrance::Stopped => f.write_str("its stripes have stopped"),

@@ -53,7 +53,8 @@ impl<'x> MakesLegs<Leg> for LegMaker<'x> {
         let mut legs = Vec::new(alloc);
         for (number, place) in self.places.iter().enumerate() {
             let file = place.file.try_lock()?;
-            let Ok(leg) = stripe_leg(&file, number, &self.shape, stripe, &self.read) else {
+            let made = stripe_leg(alloc, &file, number, &self.shape, stripe, &self.read);
+            let Ok(leg) = made else {
                 return None;
             };
             if legs.push(leg).is_err() {

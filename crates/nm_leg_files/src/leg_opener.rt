@@ -1,6 +1,6 @@
 //! Opens legs' files by their names, in threads too.
 
-use nm_system::is_in_use;
+use nm_system::{identity_of, is_in_use};
 use std::alloc::{AllocError, Global};
 use std::fs::{File, OpenOptions};
 use std::io;
@@ -16,6 +16,9 @@ pub trait OpensLegs {
 
     /// The same, and makes it where it is not there: then its folder keeps it durably.
     fn make(&self, name: &str) -> io::Result<File>;
+
+    /// What tells the file from all others, whatever its name is; none where nothing does.
+    fn identity(&self, alloc: Global, file: &File) -> Result<Option<String>, AllocError>;
 
     /// Whether the system has the file in use.
     fn is_in_use(&self, alloc: Global, file: &File) -> Result<bool, AllocError>;
@@ -69,6 +72,10 @@ impl<'a, R: Files<File = File> + RandomSource> OpensLegs for LegOpener<'a, R> {
 
     fn make(&self, name: &str) -> io::Result<File> {
         open_or_make(self.rt, name)
+    }
+
+    fn identity(&self, alloc: Global, file: &File) -> Result<Option<String>, AllocError> {
+        identity_of(self.rt, alloc, file)
     }
 
     fn is_in_use(&self, alloc: Global, file: &File) -> Result<bool, AllocError> {

@@ -1,5 +1,6 @@
 //! Whether a leg's file is still there under its name, or there at last.
 
+use crate::identities::identity_by;
 use crate::late_file::LateFile;
 use crate::late_superblock::LateSuperblock;
 use crate::leg_file::LegFile;
@@ -10,7 +11,8 @@ use crate::leg_opening::{BLOCK_BYTES, LegRules, bytes_of, lock_opened};
 use crate::limited_file::LimitedFile;
 use crate::unattached::Unattached;
 use nm_file_leg::BackingFile;
-use nm_reports::Unopened;
+use nm_reports::{LegCall, Unopened};
+use nm_superblock::LegIdentities;
 use std::alloc::Global;
 use std::fs::{File, Metadata};
 use std::io;
@@ -24,7 +26,7 @@ const REGION_BYTES: u64 = REGION * BLOCK_BYTES;
 /// opened.
 #[derive(Drop)]
 pub struct LegPlace {
-    alloc: Global,
+    pub(crate) alloc: Global,
     name: String,
     pub(crate) file: Mutex<LegFile>,
     pub(crate) bytes: u64,
@@ -32,6 +34,9 @@ pub struct LegPlace {
     // Of a leg that is missing since the start, where its superblock is missing too. Only who has
     // the lock of its file takes this one.
     pub(crate) superblock: Mutex<Option<LateSuperblock>>,
+    // Its number, and what superblocks recorded of legs' identities at the start: a file that was
+    // missing then is to be the one that they are of.
+    pub(crate) recorded: Option<(usize, LegIdentities)>,
 }
 
 // Whether both are of one file.
@@ -75,6 +80,7 @@ impl LegPlace {
             bytes,
             rules,
             superblock: Mutex::new(None),
+            recorded: None,
         }
     }
 
@@ -86,6 +92,24 @@ impl LegPlace {
     /// The name.
     pub fn name(&self) -> &str {
         self.name.as_str()
+    }
+
+    /// Syncs the file ahead of the stripes' syncs, which then have the less to write. A file that a
+    /// command is at is left.
+    pub fn sync_ahead(&self) {
+        let Some(file) = self.file.try_lock() else {
+            return;
+        };
+        let Ok(shared) = Arc::try_clone(&file.shared) else {
+            return;
+        };
+        let Ok(counts) = Arc::try_clone(&file.counts) else {
+            return;
+        };
+        drop(file);
+        if shared.sync_ahead() {
+            counts.note(LegCall::Sync, Some(0));
+        }
     }
 
     // Opens the name anew, and finds the file that is open and locked, as long as it was.
@@ -102,6 +126,17 @@ impl LegPlace {
         }
     }
 
+    // Whether the file is the one that superblocks are of.
+    fn is_own<O: OpensLegs>(&self, opener: &O, file: &File) -> bool {
+        let Some((leg, recorded)) = &self.recorded else {
+            return true;
+        };
+        let Ok(text) = opener.identity(self.alloc, file) else {
+            return false;
+        };
+        *leg < 8 && identity_by(*leg, text.as_deref()).is_same(*leg, recorded, *leg)
+    }
+
     // Refuses a file that was opened by the name, and is not to be the leg's.
     fn check_late<O: OpensLegs>(&self, opener: &O, file: &File) -> Result<(), Hindrance> {
         if !self.rules.force_in_use && !matches!(opener.is_in_use(self.alloc, file), Ok(false)) {
@@ -111,9 +146,13 @@ impl LegPlace {
             Some(bytes) if bytes == self.bytes => (),
             bytes => return Err(Hindrance::OtherLength(bytes.unwrap_or(0))),
         }
-        match self.rules.over_limit(file, self.bytes) {
-            Some(limit) => Err(Hindrance::OverFileLimit(limit)),
-            None => Ok(()),
+        if let Some(limit) = self.rules.over_limit(file, self.bytes) {
+            return Err(Hindrance::OverFileLimit(limit));
+        }
+        if self.is_own(opener, file) {
+            Ok(())
+        } else {
+            Err(Hindrance::OtherFile)
         }
     }
 

@@ -2,6 +2,7 @@
 
 use crate::counting_file::BytesRead;
 use crate::file_legs::legs_on;
+use crate::identities::identity_by;
 use crate::late_slots::LateSlots;
 use crate::leg_file::LegFile;
 use crate::leg_files::Leg;
@@ -139,8 +140,24 @@ impl LegPlace {
         Ok(legs)
     }
 
-    /// Gives the leg of this number a superblock's file and an id of its own, under the limit of
-    /// its calls.
+    /// Leaves no superblock of the leg of this number, which is out for good.
+    pub fn retire_superblock<R: Wait, O: OpensLegs>(
+        &self,
+        rt: &R,
+        opener: &O,
+        leg: u8,
+        writer: &mut SuperblockWriter<LateSlots>,
+    ) -> Result<(), Unrenewed> {
+        let held = self.file.lock(rt);
+        *self.superblock.lock(rt) = None;
+        match writer.retire_leg(opener, leg, held.shared.file().limit()) {
+            Ok(()) => Ok(()),
+            Err(_) => Err(Unrenewed::CannotOpen),
+        }
+    }
+
+    /// Gives the leg of this number a superblock's file, an id of its own, and its file's identity,
+    /// under the limit of its calls.
     pub fn renew_superblock<R: Wait, O: OpensLegs>(
         &self,
         rt: &R,
@@ -149,7 +166,15 @@ impl LegPlace {
         writer: &mut SuperblockWriter<LateSlots>,
     ) -> Result<(), Unrenewed> {
         let held = self.file.lock(rt);
-        match writer.renew_leg(opener, leg, held.shared.file().limit()) {
+        let own = held.shared.file();
+        let Some(file) = own.late().file() else {
+            return Err(Unrenewed::CannotOpen);
+        };
+        let Ok(text) = opener.identity(self.alloc, file) else {
+            return Err(Unrenewed::CannotOpen);
+        };
+        let identities = identity_by(leg as usize, text.as_deref());
+        match writer.renew_leg(opener, leg, &identities, own.limit()) {
             Ok(()) => Ok(()),
             Err(_) => Err(Unrenewed::CannotOpen),
         }

@@ -4,12 +4,15 @@
 //! proved.
 #![tactic(auto)]
 
+mod absence;
+mod adding;
 mod alike;
 mod answer_bell;
 mod call_seat;
 mod counting_file;
 mod equal_start;
 mod file_legs;
+mod identities;
 mod ids;
 mod image_start;
 mod kept;
@@ -26,6 +29,7 @@ mod leg_place;
 mod leg_renewal;
 mod leg_shares;
 mod limited_file;
+mod moving;
 mod needs;
 mod no_superblocks;
 mod saving;
@@ -39,6 +43,8 @@ mod thread_trial;
 mod timed_calls;
 mod unattached;
 
+pub use crate::absence::unknown_legs;
+pub use crate::adding::{check_added, check_known, take_added};
 pub use crate::counting_file::BytesRead;
 pub use crate::equal_start::open_untold;
 pub use crate::ids::{draw_id, draw_mirror_id};
@@ -54,11 +60,12 @@ pub use crate::leg_opening::LegRules;
 pub use crate::leg_place::LegPlace;
 pub use crate::leg_renewal::Unrenewed;
 pub use crate::limited_file::{CallLimit, share_limit};
+pub use crate::moving::{check_moved, moved_legs, tell_unmoved};
 pub use crate::needs::{check_files, check_stack, reply_bytes_of};
 pub use crate::no_superblocks::check_no_superblocks;
 pub use crate::saving::{AfterTry, after_try, is_clean, is_last_somewhere};
 pub use crate::starting::{named_master, start_for};
-pub use crate::superblock_choice::{Choice, FoundLegs, choose};
+pub use crate::superblock_choice::{Choice, FoundLegs, choose, taken_legs};
 pub use crate::superblock_opening::FoundFiles;
 pub use crate::superblock_renewal::other_id;
 pub use crate::superblock_writer::SuperblockWriter;

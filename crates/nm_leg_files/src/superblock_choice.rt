@@ -3,10 +3,11 @@ ghost use Rattle.std.specs.Prelude.{◌≡◌, ◌⊎◌, ◌<◌, ◌≤◌, �
 ghost use Rattle.nm_assemble.specs.Image.{IsClosedTo};
 ghost use Rattle.nm_assemble.specs.Start.{IsNewest};
 ghost use Rattle.nm_leg_files.specs.SuperblockChoice.{Chooses, IsAssembled, IsSureOr, MayBeAsked};
-ghost use Rattle.nm_leg_files.specs.SuperblockChoice.{RefusesChoice, leg_said, told};
+ghost use Rattle.nm_leg_files.specs.SuperblockChoice.{RefusesChoice, Takes, leg_said, told};
 
 use nm_assemble::{
-    AssembleFault, Assembly, Misfit, assemble, begin_lineage, forced_image, missing_leg, newest_of,
+    AssembleFault, Assembly, LegsHere, Misfit, assemble, begin_lineage, forced_image, missing_leg,
+    newest_of, own_legs,
 };
 use nm_commands::{Settings, Start};
 use nm_reports::StartFault;
@@ -17,10 +18,8 @@ use nm_superblock::Superblock;
 pub struct FoundLegs {
     /// Their superblocks.
     pub found: [Option<Superblock>; 8],
-    /// Whose files are here and hold what was written to them.
-    pub trusted: [bool; 8],
-    /// Whose files are here.
-    pub here: [bool; 8],
+    /// What is here of them.
+    pub legs: LegsHere,
 }
 
 /// What a start by superblocks goes by.
@@ -75,6 +74,8 @@ fn told<'a>(
             let other = newest.leg as usize;
             StartFault::WentApart(leg.min(other), leg.max(other))
         }
+        AssembleFault::Mixed(leg, other) => StartFault::WasLeg(leg, other),
+        AssembleFault::Another(leg) => StartFault::AnotherFile(leg),
         AssembleFault::MayBeNewer(leg) => StartFault::MayBeNewer(leg),
         AssembleFault::NoneInSync(stripe) => StartFault::NoneInSync(stripe),
     }
@@ -127,7 +128,10 @@ fn assembled<'a>(
     if settings.start == Start::Equal {
         return Err(StartFault::NotFirstStart);
     }
-    let assembly = match assemble(&seen.found, &seen.trusted, settings.degraded) {
+    if settings.start == Start::Full {
+        return Err(StartFault::NotWhole);
+    }
+    let assembly = match assemble(&seen.found, &seen.legs, settings.degraded) {
         Ok(assembly) => assembly,
         Err(why) => return Err(told(why, &seen.found, newest)),
     };
@@ -135,8 +139,20 @@ fn assembled<'a>(
         Ok(asked) => asked,
         Err(leg) => return Err(StartFault::NotInSync(leg)),
     };
-    let sure = assembly.image(&seen.here, asked);
+    let own = own_legs(&assembly.newest, &seen.legs);
+    let sure = assembly.image(&own, &seen.legs.identities, asked);
     Ok(sure_or_forked(seen, newest, &sure, lineage))
+}
+
+/// The legs whose files a start by superblocks takes: those that are here and their own, and all
+/// that are here where a leg was forced on it, or where there are no superblocks.
+pub fn taken_legs(settings: &Settings<'_>, seen: &FoundLegs) -> [bool; 8]
+    ensures { Takes settings.now.force_master seen.now result }
+{
+    match (settings.force_master, newest_of(&seen.found)) {
+        (None, Some(newest)) => own_legs(&newest, &seen.legs),
+        _ => seen.legs.here,
+    }
 }
 
 /// What a start by superblocks goes by: where a leg was forced on it that leg, else the newest
@@ -159,7 +175,10 @@ pub fn choose<'a>(
         return Ok(Choice::First);
     };
     match settings.force_master {
-        Some(leg) => Ok(Choice::Image(forced_image(&newest, leg as usize, lineage))),
+        Some(leg) => {
+            let image = forced_image(&newest, leg as usize, lineage, &seen.legs);
+            Ok(Choice::Image(image))
+        }
         None => match assembled(settings, seen, &newest, lineage) {
             Ok(image) => Ok(Choice::Image(image)),
             Err(fault) => Err(fault),

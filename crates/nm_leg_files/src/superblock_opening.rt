@@ -28,6 +28,8 @@ pub struct FoundFiles {
     names: Vec<String>,
     are_beside: bool,
     limits: Vec<CallLimit>,
+    // Which of them this start has made.
+    made: [bool; 8],
 }
 
 /// The files of superblocks while the server serves.
@@ -39,6 +41,29 @@ pub struct AllFiles {
     pub names: Vec<String>,
     /// Those of missing legs that are opened later.
     pub late: Vec<LateSuperblock>,
+    // Which of them this start has made.
+    made: [bool; 8],
+}
+
+// Whether a file holds no superblock that a start goes by.
+fn holds_none(file: &SuperblockFile<LateSlots>) -> bool {
+    file.is_damaged() || file.newest().is_none()
+}
+
+// Removes these of the files of these names.
+fn remove<R: Files<File = File>>(rt: &R, names: &[String], made: &[bool; 8]) {
+    for (name, is_made) in names.iter().zip(made.iter()) {
+        if *is_made {
+            let _ = rt.remove_file(name.as_str());
+        }
+    }
+}
+
+impl AllFiles {
+    /// Removes the files that this start has made: it is refused.
+    pub fn remove_made<R: Files<File = File>>(&self, rt: &R) {
+        remove(rt, &self.names, &self.made);
+    }
 }
 
 // Why a file is not opened where there is no memory.
@@ -156,6 +181,7 @@ impl FoundFiles {
             names,
             are_beside,
             limits,
+            made: [false; 8],
         })
     }
 
@@ -195,10 +221,18 @@ impl FoundFiles {
         let Some(limit) = self.limits.get(leg) else {
             return Ok(None);
         };
+        // What stands under the name of a missing leg's superblock and holds none is opened anew
+        // with the leg.
+        if !is_here && matches!(&*place, Some(file) if holds_none(file)) {
+            *place = None;
+        }
         if place.is_some() {
             return Ok(None);
         }
         if is_here {
+            if let Some(is_made) = self.made.get_mut(leg) {
+                *is_made = rt.symlink_metadata(name.as_str()).is_err();
+            }
             match make_file(rt, alloc, name.as_str(), limit) {
                 Ok(made) => *place = Some(made),
                 Err(why) => return Err(StartFault::CannotSave(leg, why)),
@@ -213,8 +247,30 @@ impl FoundFiles {
         Ok(Some(late))
     }
 
+    // Does so for each leg. What is opened later is told.
+    fn complete_legs<'a, R: Files<File = File>>(
+        &mut self,
+        rt: &R,
+        alloc: Global,
+        here: &[bool; 8],
+        went_by: Option<Superblock>,
+    ) -> Result<Vec<LateSuperblock>, StartFault<'a>> {
+        let mut late = Vec::new(alloc);
+        for leg in 0..self.names.len() {
+            let is_here = here.get(leg).copied().unwrap_or(false);
+            let Some(one) = self.complete_leg(rt, alloc, leg, is_here, went_by)? else {
+                continue;
+            };
+            if late.push(one).is_err() {
+                return Err(StartFault::Memory);
+            }
+        }
+        Ok(late)
+    }
+
     /// Makes the files that are not there, of legs that are here; those of missing legs are opened
-    /// later, if the start went by a superblock. What saves go on from is this image.
+    /// later, if the start went by a superblock. What saves go on from is this image. Where one
+    /// cannot be made none is.
     pub fn complete<'a, R: Files<File = File>>(
         self,
         rt: &R,
@@ -223,21 +279,25 @@ impl FoundFiles {
         image: Superblock,
         went_by: Option<Superblock>,
     ) -> Result<AllFiles, StartFault<'a>> {
-        let (mut own, mut late) = (self, Vec::new(alloc));
-        for leg in 0..own.names.len() {
-            let is_here = here.get(leg).copied().unwrap_or(false);
-            let Some(one) = own.complete_leg(rt, alloc, leg, is_here, went_by)? else {
-                continue;
-            };
-            if late.push(one).is_err() {
-                return Err(StartFault::Memory);
+        let mut own = self;
+        let late = match own.complete_legs(rt, alloc, here, went_by) {
+            Ok(late) => late,
+            Err(fault) => {
+                remove(rt, &own.names, &own.made);
+                return Err(fault);
             }
-        }
-        let FoundFiles { files, names, .. } = own;
+        };
+        let FoundFiles {
+            files,
+            names,
+            made,
+            ..
+        } = own;
         Ok(AllFiles {
             files: SuperblockFiles::new(files, image),
             names,
             late,
+            made,
         })
     }
 }

@@ -190,7 +190,7 @@ impl<S: SlotFile> SuperblockWriter<S> {
             losses(&self.files.image().sets, sets, stripes),
         );
         let clean = is_last && is_clean(sets, marked, stripes, mirror.legs().min(MOST_LEGS));
-        let after = after_try(&self.files.save(sets, marked, clean, &out));
+        let after = after_try(&self.files.save(sets, marked, clean, &[0; 8], &out));
         if after == AfterTry::End {
             mirror.end_save(rt, order);
             status.end(self.files.image().generation);

@@ -21,7 +21,9 @@ impl Unattached {
             Hindrance::Command | Hindrance::CallLeft => Unattached::Busy,
             Hindrance::WasCut => Unattached::WasCut,
             Hindrance::OtherLength(found) if *found < bytes => Unattached::WasCut,
-            Hindrance::OtherFile | Hindrance::OtherLength(_) => Unattached::OtherFile,
+            Hindrance::OtherFile | Hindrance::OtherLength(_) | Hindrance::Unknown => {
+                Unattached::OtherFile
+            }
             _ => Unattached::NoFile,
         }
     }

@@ -4,9 +4,11 @@ ghost use Rattle.std.specs.Prelude.{◌≡◌, length, IfOk};
 use crate::lock::Lock;
 use crate::mirror::Mirror;
 use crate::status::{StripeStatus, status_of};
+use nm_geometry::MOST_LEGS;
 use nm_lanes::Gate;
 use nm_leg::LegPart;
 use nm_replay::Memory;
+use nm_stripe::Stripe;
 use std::alloc::Global;
 use std::sync::Wait;
 use std::time::{Clock, Duration, Instant};
@@ -30,16 +32,38 @@ const MOST_LOOKS: u64 = ALL_MILLISECONDS / PAUSE_MILLISECONDS;
 #[derive(Drop)]
 pub struct Glance {
     told: Option<StripeStatus>,
+    // Of each leg, how many blocks have the regions of which something is not synced, where that is
+    // asked for.
+    unsynced: Option<[u64; 8]>,
     // How many threads had waited for the stripe and got it, at the first look.
     got: u64,
     // Whether it is still to be looked at.
     is_open: bool,
 }
 
+// Of each leg, how many blocks have the regions of which something is not synced. Goes over all
+// regions.
+fn unsynced_of<L: LegPart>(stripe: &Stripe<L>) -> [u64; 8] {
+    let mut legs = [0; 8];
+    for leg in 0..stripe.legs().min(8) {
+        legs[leg] = stripe.unsynced(leg as u8);
+    }
+    legs
+}
+
 impl Glance {
     /// What the stripe is doing, unless it is busy.
     pub fn told(&self) -> Option<&StripeStatus> {
         self.told.as_ref()
+    }
+
+    /// How many blocks have the regions of which this leg has something that is not synced. None
+    /// where the stripe is busy, or this is not asked for.
+    pub fn unsynced(&self, leg: u8) -> Option<u64> {
+        match self.unsynced {
+            Some(legs) if leg < MOST_LEGS && self.told.is_some() => Some(legs[leg as usize]),
+            _ => None,
+        }
     }
 
     // Looks at the stripe, if nobody has it right now. Where the same thread may have had it since
@@ -53,6 +77,9 @@ impl Glance {
         match lock.try_hold() {
             Some(held) => {
                 self.told = Some(status_of(&held.gated.stripe, alloc)?);
+                if let Some(legs) = &mut self.unsynced {
+                    *legs = unsynced_of(&held.gated.stripe);
+                }
                 self.is_open = false;
             }
             None => self.is_open = !long || lock.got() != self.got,
@@ -118,11 +145,35 @@ impl<L: LegPart, G: Gate + Drop> Mirror<L, G> {
     pub fn glance<R: Wait + Clock>(&self, rt: &R, alloc: Global) -> Result<Vec<Glance>, Memory>
         ensures { IfOk result (λ all. length all.items ≡ length self.now.locks.items) }
     {
+        self.glance_with(rt, alloc, None)
+    }
+
+    /// The same, and how much each leg has not synced, for which it goes over all regions.
+    pub fn glance_unsynced<R: Wait + Clock>(
+        &self,
+        rt: &R,
+        alloc: Global,
+    ) -> Result<Vec<Glance>, Memory>
+        ensures { IfOk result (λ all. length all.items ≡ length self.now.locks.items) }
+    {
+        self.glance_with(rt, alloc, Some([0; 8]))
+    }
+
+    // What each stripe is doing, and what is asked for beside it.
+    fn glance_with<R: Wait + Clock>(
+        &self,
+        rt: &R,
+        alloc: Global,
+        unsynced: Option<[u64; 8]>,
+    ) -> Result<Vec<Glance>, Memory>
+        ensures { IfOk result (λ all. length all.items ≡ length self.now.locks.items) }
+    {
         let mut all = Vec::new(alloc);
         all.reserve(self.locks.len())?;
         for lock in &self.locks {
             all.push_reserved(Glance {
                 told: None,
+                unsynced,
                 got: lock.got(),
                 is_open: true,
             });

@@ -42,7 +42,7 @@ pub(crate) fn fail_in<L: LegPart>(stripe: &mut Stripe<L>, leg: u8, counts: &mut 
 fn return_to<L: LegPart>(gated: &mut GatedStripe<L>, leg: u8) -> Result<u64, Refusal>
     requires joins { LetsJoin gated.old.durable gated.old.stripe leg }
     requires leg { leg < length gated.old.stripe.legs }
-    ensures ok { OnOk result (Returns gated.old.stripe gated.new.stripe leg
+    ensures ok { OnOk result (Returns L.model gated.old.stripe gated.new.stripe leg
         (suspects leg gated.old.durable)) }
     ensures left { IfOk result (λ blocks. blocks ≡ left leg gated.new.stripe) }
     ensures cause { IfErr result (λ refusal. attach_cause gated.old.stripe leg ≡ Some refusal) }
@@ -66,7 +66,8 @@ fn attach_in<L: LegPart>(gated: &mut GatedStripe<L>, leg: u8, counts: &mut Attac
     ensures counts { counts.new ≡ attached_so (attach_cause gated.old.stripe leg)
         (left leg gated.new.stripe) counts.old }
     ensures returns { attach_cause gated.old.stripe leg ≡ None
-        → Returns gated.old.stripe gated.new.stripe leg (suspects leg gated.old.durable) }
+        → Returns L.model gated.old.stripe gated.new.stripe leg
+        (suspects leg gated.old.durable) }
     ensures stays { IsSome (attach_cause gated.old.stripe leg)
         → gated.new.stripe ≡ gated.old.stripe }
     ensures durable { gated.new.durable ≡ gated.old.durable }

@@ -9,7 +9,7 @@ use crate::stripe_end::StripeEnd;
 use nm_gate::{GateRefusal, GatedStripe};
 use nm_leg::LegPart;
 use std::hint::spin_loop;
-use std::sync::atomic::{AtomicBool, AtomicU64, Ordering};
+use std::sync::atomic::{AtomicBool, AtomicU8, AtomicU64, Ordering};
 use std::sync::{Arc, Mutex, MutexGuard, Wait};
 
 // How often a thread tries again to take a lock before it sleeps.
@@ -19,17 +19,20 @@ const TRIES: u32 = 4;
 // has to do with one stripe.
 const PAUSES: u32 = 256;
 
+// After how many turns, of a second each, what was written and not synced is due.
+const DUE_TURNS: u8 = 6;
+
 // As many bytes as a cache line has.
 type Line = [u64; 8];
 
 /// The lock of one stripe, with the stripe and its gate behind it.
 ///
 /// It lends the stripe to nobody outside: each step takes it once. Beside it stand the stripe's
-/// number, whether something was written since the last sync began, and since the last look at it;
-/// how many long calls are at work in the mirror where the stripe is its first; how many threads
-/// have slept for it; and where saves are asked for, in a mirror with superblocks. No cache line
-/// has parts of two locks, since threads at work on two stripes would else take it from one
-/// another.
+/// number, whether something was written since the last sync began, and for how many turns, and
+/// whether something was since the last look at it; how many long calls are at work in the mirror
+/// where the stripe is its first; how many threads have slept for it; and where saves are asked
+/// for, in a mirror with superblocks. No cache line has parts of two locks, since threads at work
+/// on two stripes would else take it from one another.
 #[derive(Drop)]
 #[repr(C)]
 pub struct Lock<L: LegPart> {
@@ -37,6 +40,8 @@ pub struct Lock<L: LegPart> {
     held: Mutex<Held<L>>,
     pub(crate) number: u32,
     unsynced: AtomicBool,
+    // None where nothing was written since the last sync began, else one more than the turns since.
+    age: AtomicU8,
     written: AtomicBool,
     calls: AtomicU64,
     got: AtomicU64,
@@ -45,7 +50,8 @@ pub struct Lock<L: LegPart> {
 }
 
 impl<L: LegPart> Lock<L> {
-    /// This stripe behind a lock, which has its number. Nothing was written yet.
+    /// This stripe behind a lock, which has its number. Nothing was written yet, and a sync is due:
+    /// what the legs hold may have come before their opening.
     pub(crate) fn new(gated: GatedStripe<L>, desk: Option<Arc<SaveDesk>>) -> Self
         ensures { result.number ≡ gated.stripe.place.stripe }
     {
@@ -54,6 +60,7 @@ impl<L: LegPart> Lock<L> {
             number: gated.stripe.number(),
             held: Mutex::new(Held::new(gated)),
             unsynced: AtomicBool::new(false),
+            age: AtomicU8::new(DUE_TURNS + 1),
             written: AtomicBool::new(false),
             calls: AtomicU64::new(0),
             got: AtomicU64::new(0),
@@ -230,6 +237,9 @@ impl<L: LegPart> Lock<L> {
         if !self.is_unsynced() {
             self.unsynced.store(true, Ordering::SeqCst);
         }
+        if self.age.load(Ordering::SeqCst) == 0 {
+            self.age.store(1, Ordering::SeqCst);
+        }
         if !self.written.load(Ordering::SeqCst) {
             self.written.store(true, Ordering::SeqCst);
         }
@@ -244,5 +254,23 @@ impl<L: LegPart> Lock<L> {
     #[inline(always)]
     pub(crate) fn note_sync(&self) {
         self.unsynced.store(false, Ordering::SeqCst);
+        self.age.store(0, Ordering::SeqCst);
+    }
+
+    /// Counts a turn in which something is unsynced.
+    pub(crate) fn age(&self) {
+        let turns = self.age.load(Ordering::SeqCst);
+        if turns > 0 && turns <= DUE_TURNS {
+            // A sync or a write that comes between counts, and this turn does not.
+            let next = turns + 1;
+            let _ = self
+                .age
+                .compare_exchange(turns, next, Ordering::SeqCst, Ordering::SeqCst);
+        }
+    }
+
+    /// Whether something was unsynced for so many turns that it is to be synced.
+    pub(crate) fn is_due(&self) -> bool {
+        self.age.load(Ordering::SeqCst) > DUE_TURNS
     }
 }

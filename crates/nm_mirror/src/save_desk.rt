@@ -1,6 +1,7 @@
 //! What is wanted of the next superblock, and who waits for it.
 
 use std::sync::{Condvar, Mutex, Wait};
+use std::time::{Clock, Duration};
 
 /// How many spans a stripe has at most.
 pub const MOST_SPANS: usize = 16_384;
@@ -131,6 +132,19 @@ impl SaveDesk {
         let wants = self
             .changed
             .wait_while(rt, wants, |wants| wants.is_to_come(begun));
+        wants.ended > begun
+    }
+
+    /// Asks for a save, and waits for so long at most until one that began afterwards has ended.
+    /// Whether one has.
+    pub(crate) fn wait_within<R: Wait + Clock>(&self, rt: &R, within: Duration) -> bool {
+        let mut wants = self.wants.lock(rt);
+        wants.ask(None, None);
+        let begun = wants.begun;
+        self.changed.notify_all();
+        let (wants, _) = self
+            .changed
+            .wait_timeout_while(rt, wants, within, |wants| wants.is_to_come(begun));
         wants.ended > begun
     }
 

@@ -12,6 +12,7 @@ use nm_lanes::Gate;
 use nm_leg::LegPart;
 use nm_stripe::LegState;
 use std::sync::Wait;
+use std::time::{Clock, Duration};
 
 /// Adds these marks to the spans.
 fn join_marks(spans: &mut [bool; MOST_SPANS], marks: &[bool])
@@ -42,6 +43,16 @@ impl<L: LegPart, G: Gate + Drop> Mirror<L, G> {
     pub fn want_save<R: Wait>(&self, rt: &R) {
         if let Some(desk) = &self.desk {
             desk.want(rt);
+        }
+    }
+
+    /// Asks for a save, and waits for so long at most until one that began afterwards is durable.
+    /// Whether one is: none where none can be done. A mirror without superblocks has nothing to
+    /// save.
+    pub fn save_within<R: Wait + Clock>(&self, rt: &R, within: Duration) -> bool {
+        match &self.desk {
+            Some(desk) => desk.wait_within(rt, within),
+            None => true,
         }
     }
 

@@ -1,5 +1,7 @@
-//! The marks of stripes that are at rest.
+//! Syncs that no client asks for: of what was not flushed, and of stripes that are at rest, whose
+//! marks are cleared.
 
+use crate::ask::{Ask, refusal_of};
 use crate::doubts::Doubts;
 use crate::lock::Lock;
 use crate::mirror::Mirror;
@@ -53,7 +55,58 @@ fn settle<L: LegPart, R: Wait, D: Doubts>(rt: &R, lock: &Lock<L>, doubts: &D) ->
         && held.gated.settle()
 }
 
+/// The legs that are not out in the stripe, a bit each; none where somebody has it.
+fn legs_at_work<L: LegPart>(lock: &Lock<L>) -> u8 {
+    let mut legs = 0;
+    if let Some(held) = lock.try_hold() {
+        for leg in 0..held.gated.stripe.legs().min(MOST_LEGS as usize) as u8 {
+            if held.gated.stripe.state(leg) != LegState::Out {
+                legs |= 1 << leg;
+            }
+        }
+    }
+    legs
+}
+
 impl<L: LegPart, G: Gate + Drop> Mirror<L, G> {
+    /// Counts a turn of each stripe in which something is not synced. After six it is due. No
+    /// stripe is held.
+    pub fn age(&self) {
+        for lock in &self.locks {
+            lock.age();
+        }
+    }
+
+    /// The legs of which something is due, a bit each: those that are not out in a stripe in which
+    /// something is.
+    pub fn due_legs(&self) -> u8 {
+        let mut legs = 0;
+        for lock in &self.locks {
+            if lock.is_due() {
+                legs |= legs_at_work(lock);
+            }
+        }
+        legs
+    }
+
+    /// Syncs the legs of the first stripe from this one on in which something is due, in one hold.
+    /// The number of the one behind it; none where nothing is due. One whose loss of a leg is still
+    /// to be saved is passed over.
+    pub fn sync_due<R: Wait>(&self, rt: &R, from: u32) -> Option<u32> {
+        for lock in &self.locks {
+            if lock.number < from || !lock.is_due() {
+                continue;
+            }
+            let mut held = lock.hold(rt);
+            if refusal_of(&held.gated, Ask::Answer).is_none() {
+                lock.note_sync();
+                let _ = sync_legs(&mut held.gated.stripe);
+            }
+            return Some(lock.number.saturating_add(1));
+        }
+        None
+    }
+
     /// Clears the marks of each stripe in which nothing was written since the last turn, where its
     /// legs can be synced and are equal, and none is in doubt. Then it wants a save.
     pub fn settle_turn<R: Wait, D: Doubts>(&self, rt: &R, doubts: &D) {

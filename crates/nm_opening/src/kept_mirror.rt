@@ -4,15 +4,16 @@ ghost use Rattle.nm_mirror.specs.Stripes.{AreStripesOf};
 
 use crate::answering_meanwhile::answer_meanwhile;
 use crossbeam_channel::bounded;
-use nm_assemble::{NewMirror, first_superblock, newest_of};
+use nm_assemble::{LegsHere, NewMirror, first_superblock, newest_of};
 use nm_commands::{Settings, Start, SuperblockPlace};
 use nm_gate::GatedStripe;
 use nm_geometry::Shape;
 use nm_lanes::NoGate;
 use nm_leg_files::{
     BytesRead, Choice, FileMirror, FoundFiles, FoundLegs, KeptImage, Leg, LegFiles, REGION,
-    Superblocks, check_no_superblocks, choose, draw_id, draw_mirror_id, named_master,
-    open_by_image, open_gates, open_untold, start_for,
+    Superblocks, check_added, check_known, check_no_superblocks, choose, draw_id, draw_mirror_id,
+    moved_legs, named_master, open_by_image, open_gates, open_untold, start_for, take_added,
+    taken_legs, tell_unmoved, unknown_legs,
 };
 use nm_mirror::{InitialSync, Mirror};
 use nm_reports::{Comparison, LogLines, StartFault, tell_progress};
@@ -134,7 +135,7 @@ fn first_image<'a, R: RandomSource>(
     rt: &R,
     settings: &Settings<'_>,
     shape: &Shape,
-    here: &[bool; 8],
+    legs: &LegsHere,
     lineage: u64,
 ) -> Result<Superblock, StartFault<'a>> {
     let mut leg_ids = [0; 8];
@@ -152,10 +153,11 @@ fn first_image<'a, R: RandomSource>(
         legs: shape.legs,
         leg_ids,
         lineage,
+        identities: legs.identities,
     };
     let named = named_master(settings);
     let equal = if named.is_none() || settings.start == Start::Equal {
-        *here
+        legs.here
     } else {
         [false; 8]
     };
@@ -199,6 +201,7 @@ fn open_image<'a, R: Files<File = File>>(
         Some(shape) if fits(&shape, &image) => shape,
         _ => return Err(StartFault::OtherMirror(image.leg as usize)),
     };
+    check_stripes(settings, files, &image)?;
     let policy = settings.policy;
     let stripes = open_by_image(alloc, policy, files, &shape, &read, &image, &here)?;
     let (gated, superblocks) = kept.gate(rt, alloc, &shape, stripes)?;
@@ -206,6 +209,24 @@ fn open_image<'a, R: Files<File = File>>(
         mirror: mirror_of(alloc, shape, gated)?,
         superblocks: Some(superblocks),
     })
+}
+
+// Refuses another number of stripes than the image's, where one was named. More than there are
+// regions are as many as these.
+fn check_stripes<'a>(
+    settings: &Settings<'_>,
+    files: &LegFiles,
+    image: &Superblock,
+) -> Result<(), StartFault<'a>> {
+    if !settings.names_stripes {
+        return Ok(());
+    }
+    match files.shape(settings.stripes) {
+        Some(asked) if asked.stripes != u32::from(image.stripes) => {
+            Err(StartFault::OtherStripes(settings.stripes, image.stripes))
+        }
+        _ => Ok(()),
+    }
 }
 
 // Whether the image is of a mirror of this shape.
@@ -226,6 +247,7 @@ fn image_for<'a, R: RandomSource>(
 ) -> Result<(Superblock, bool), StartFault<'a>> {
     match choose(settings, seen, lineage)? {
         Choice::First => {
+            check_added(settings, false)?;
             // Without superblocks nobody knows what a missing leg has.
             if let Some((leg, why)) = files.missing() {
                 return Err(StartFault::CannotOpen(leg, why));
@@ -233,16 +255,51 @@ fn image_for<'a, R: RandomSource>(
             let Some(shape) = files.shape(settings.stripes) else {
                 return Err(StartFault::Memory);
             };
-            let image = first_image(rt, settings, &shape, &seen.here, lineage)?;
+            let image = first_image(rt, settings, &shape, &seen.legs, lineage)?;
             Ok((image, true))
         }
         Choice::Image(image) => {
             let mut image = image;
-            renew_ids(rt, &mut image, &seen.here)?;
+            if settings.force_master.is_none() {
+                check_known(settings, image.legs)?;
+                for leg in image.legs..settings.legs.len().min(8) as u8 {
+                    files.check_named(Some(leg))?;
+                }
+            }
+            renew_ids(rt, &mut image, &taken_legs(settings, seen))?;
             image.legs = image.legs.max(settings.legs.len().min(8) as u8);
             Ok((image, false))
         }
     }
+}
+
+// Lets go of the files under names of legs that the newest superblock knows, and of which none was
+// found: nothing is copied over them by a start that nobody forced.
+fn lay_unknown_aside<'a>(
+    alloc: Global,
+    settings: &Settings<'_>,
+    newest: Option<Superblock>,
+    found: &[Option<Superblock>; 8],
+    files: &mut LegFiles,
+) -> Result<(), StartFault<'a>> {
+    match newest {
+        Some(newest) if settings.force_master.is_none() => {
+            files.lay_aside(alloc, &unknown_legs(&newest, found))?;
+            Ok(())
+        }
+        _ => Ok(()),
+    }
+}
+
+// Refuses a leg that was named as the newest one, or as one that was moved, and is missing.
+fn check_all_named<'a>(settings: &Settings<'_>, files: &LegFiles) -> Result<(), StartFault<'a>> {
+    files.check_named(named_master(settings))?;
+    for (leg, is_moved) in moved_legs(settings).iter().enumerate() {
+        if *is_moved {
+            files.check_named(Some(leg as u8))?;
+        }
+    }
+    Ok(())
 }
 
 // The mirror that superblocks open, or that gets its first ones.
@@ -250,29 +307,41 @@ fn open_kept<'a, R>(
     rt: &R,
     alloc: Global,
     settings: &Settings<'a>,
-    files: &LegFiles,
+    files: &mut LegFiles,
     control: &Listener,
     lines: &LogLines,
 ) -> Result<OpenedMirror, StartFault<'a>>
 where
     R: Threads + Wait + Sync + Clock + RandomSource + Files<File = File>,
 {
-    files.check_named(named_master(settings))?;
-    let here = files.here();
+    check_all_named(settings, files)?;
     let found = FoundFiles::open(rt, alloc, settings, files)?;
     found.tell_damaged(rt, alloc, lines);
-    let seen = FoundLegs {
-        found: found.found(),
-        trusted: files.settle(),
-        here,
+    let mut superblocks = found.found();
+    let went_by = newest_of(&superblocks);
+    if let Some(newest) = &went_by {
+        take_added(&mut superblocks, newest.legs);
+    }
+    lay_unknown_aside(alloc, settings, went_by, &superblocks, files)?;
+    let legs = LegsHere {
+        here: files.here(),
+        settled: files.settle(),
+        identities: files.identities(rt, alloc, lines)?,
+        moved: moved_legs(settings),
     };
+    let seen = FoundLegs {
+        found: superblocks,
+        legs,
+    };
+    tell_unmoved(rt, alloc, &seen, lines);
     let lineage = draw_id(rt)?;
-    let went_by = newest_of(&seen.found);
     let (image, is_first) = image_for(rt, settings, files, &seen, lineage)?;
+    files.keep_own(alloc, &taken_legs(settings, &seen))?;
+    files.record(&image.identities);
     let kept = KeptImage {
         files: found,
         image,
-        here,
+        here: files.here(),
         went_by,
     };
     if is_first {
@@ -287,7 +356,7 @@ pub fn open_asked_for<'a, R>(
     rt: &R,
     alloc: Global,
     settings: &Settings<'a>,
-    files: &LegFiles,
+    files: &mut LegFiles,
     control: &Listener,
     lines: &LogLines,
 ) -> Result<OpenedMirror, StartFault<'a>>

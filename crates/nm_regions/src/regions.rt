@@ -113,6 +113,15 @@ impl Regions {
         block / self.region
     }
 
+    /// The first block of this region.
+    pub fn first_block(&self, region: u64) -> u64
+        requires region { region < length self.now.writes }
+        ensures first { result ≡ region * self.now.region }
+        ensures inside { result + length_of region self.now ≤ self.now.blocks }
+    {
+        self.region * region
+    }
+
     /// How many blocks this region has.
     pub fn length_of(&self, region: u64) -> u64
         requires region { region < length self.now.writes }

@@ -9,11 +9,16 @@ use Rattle.nm_reports.specs.declared.start_fault.StartFault.TheVariants as fault
 -- the exit status where the server does not start, or does not end well
 abbrev pub status_of : StartFault → ℕ
 status_of fault.NotUtf8 = 2
+status_of (fault.NoLegMoved leg) = 2
+status_of (fault.NothingMoved leg) = 2
 status_of fault.NoStandardStreams = 3
 status_of (fault.FewDescriptors needed) = 3
 status_of (fault.SmallStack needed) = 3
 status_of fault.TooManyLegs = 3
 status_of (fault.NoMaster leg) = 3
+status_of (fault.TwoMasters master forced) = 3
+status_of (fault.NoLegToAdd leg) = 3
+status_of (fault.NothingToAddTo leg) = 3
 status_of fault.BadName = 3
 status_of (fault.CannotOpen leg why) = 3
 status_of (fault.InUse leg) = 3
@@ -25,7 +30,10 @@ status_of (fault.NoPlaceBeside leg) = 3
 status_of (fault.CannotSave leg why) = 3
 status_of (fault.OtherMirror leg) = 3
 status_of (fault.OtherLeg leg said) = 3
+status_of (fault.WasLeg leg other) = 3
 status_of fault.NotFirstStart = 3
+status_of fault.NotWhole = 3
+status_of (fault.OtherStripes asked said) = 3
 status_of (fault.NotInSync leg) = 3
 status_of fault.NoRandomNumbers = 3
 status_of (fault.CannotRead leg) = 3
@@ -34,8 +42,10 @@ status_of fault.Memory = 5
 status_of fault.CannotClose = 6
 status_of fault.LegsDiffer = 7
 status_of (fault.MayBeNewer leg) = 7
+status_of (fault.AnotherFile leg) = 7
 status_of (fault.WentApart leg other) = 7
 status_of (fault.NoneInSync stripe) = 7
+status_of (fault.NotKnown leg name) = 7
 
 -- the exit status where the words of the command line are none, or ask for the help or the version
 abbrev pub status_of_words : ErrorKind → ℕ

@@ -122,9 +122,25 @@ struct LegStand {
     joining: u64,
     out: u64,
     left: u64,
+    unsynced: u64,
+}
+
+// Which blocks of a leg are told in bytes.
+#[derive(Clone, Copy)]
+enum LegSum {
+    Left,
+    Unsynced,
 }
 
 impl LegStand {
+    // How many these blocks are.
+    fn blocks(&self, sum: LegSum) -> u64 {
+        match sum {
+            LegSum::Left => self.left,
+            LegSum::Unsynced => self.unsynced,
+        }
+    }
+
     // Adds how it stands in one more stripe.
     fn add(&mut self, status: &LegStatus) {
         let place = match status.state {
@@ -145,8 +161,11 @@ impl LegStand {
             joining: 0,
             out: 0,
             left: 0,
+            unsynced: 0,
         };
         for glance in glances {
+            let unsynced = glance.unsynced(leg.min(255) as u8).unwrap_or(0);
+            stand.unsynced = stand.unsynced.saturating_add(unsynced);
             if let Some(StripeStatus::Running { legs, .. }) = glance.told() {
                 if let Some(status) = legs.get(leg) {
                     stand.add(status);
@@ -157,7 +176,26 @@ impl LegStand {
     }
 }
 
-// Puts in how many stripes each leg is how, and how much it lacks.
+// Puts blocks of each leg, as bytes.
+fn put_leg_bytes(
+    page: &mut MetricsPage<'_>,
+    name: &str,
+    stands: &[LegStand],
+    sum: LegSum,
+) -> Result<(), AllocError> {
+    let alloc = page.alloc();
+    for (leg, stand) in stands.iter().enumerate() {
+        let labels = format!(in alloc; "leg=\"{leg}\"")?;
+        page.put(
+            name,
+            labels.as_str(),
+            stand.blocks(sum).saturating_mul(BLOCK_BYTES),
+        )?;
+    }
+    Ok(())
+}
+
+// Puts in how many stripes each leg is how, how much it lacks, and how much it has not synced.
 fn put_stands(page: &mut MetricsPage<'_>, glances: &[Glance], legs: u8) -> Result<(), AllocError> {
     let alloc = page.alloc();
     let mut stands = Vec::new(alloc);
@@ -178,15 +216,10 @@ fn put_stands(page: &mut MetricsPage<'_>, glances: &[Glance], legs: u8) -> Resul
     }
     let name = "nbdmirror_leg_left_bytes";
     page.begin_gauge(name, "Bytes that are left to copy to the leg.")?;
-    for (leg, stand) in stands.iter().enumerate() {
-        let labels = format!(in alloc; "leg=\"{leg}\"")?;
-        page.put(
-            name,
-            labels.as_str(),
-            stand.left.saturating_mul(BLOCK_BYTES),
-        )?;
-    }
-    Ok(())
+    put_leg_bytes(page, name, &stands, LegSum::Left)?;
+    let name = "nbdmirror_leg_unsynced_bytes";
+    page.begin_gauge(name, "Bytes in regions that the leg has not synced whole.")?;
+    put_leg_bytes(page, name, &stands, LegSum::Unsynced)
 }
 
 // Puts how many stripes are running, have stopped, and are busy.
@@ -238,7 +271,7 @@ pub fn put_metrics<R: Wait + Clock, L: LegPart, G: Gate + Drop>(
     metrics: &Metrics,
     text: &mut String,
 ) -> Result<(), AllocError> {
-    let Ok(glances) = mirror.glance(rt, alloc) else {
+    let Ok(glances) = mirror.glance_unsynced(rt, alloc) else {
         return Err(AllocError);
     };
     put_all(

@@ -125,6 +125,15 @@ fn put_limit<E: Write>(name: &str, bytes: u64, limit: u64, err: &mut E) {
     );
 }
 
+// Tells of which file a superblock is not, and what can be done.
+fn put_another<E: Write>(name: &str, superblock: &str, leg: usize, err: &mut E) {
+    let _ = writeln!(
+        err,
+        "nbdmirror: {name}: is not the file that {superblock} is of: bring that one back, or give \
+         --moved {leg} where it was moved with its superblock"
+    );
+}
+
 /// Tells which file or address is meant by a refusal, and why it is refused. A refusal that says
 /// all by itself has no such line.
 pub fn tell_reason<E: Write>(
@@ -145,6 +154,10 @@ pub fn tell_reason<E: Write>(
             put_unopened(alloc, name.as_str(), why, err)?;
         }
         StartFault::CannotOpen(leg, why) => put_unopened(alloc, name_of(names, leg), why, err)?,
+        StartFault::AnotherFile(leg) => {
+            let name = superblock_of(alloc, settings, leg)?;
+            put_another(name_of(names, leg), name.as_str(), leg, err);
+        }
         StartFault::InUse(leg) => {
             let text = "is mounted, swapped to, held by another device, or behind a loop device";
             put_line(name_of(names, leg), text, err);

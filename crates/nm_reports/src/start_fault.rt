@@ -29,6 +29,21 @@ pub enum StartFault<'a> {
     /// The master is none of the legs.
     #[error("nbdmirror: master {0} is not a leg")]
     NoMaster(u8),
+    /// That leg was named as the master, and this one by force.
+    #[error("nbdmirror: --master {0} and --force-master {1} name two legs")]
+    TwoMasters(u8, u8),
+    /// Superblocks are to know this leg, and it is none of the legs.
+    #[error("nbdmirror: --add-leg {0} is not a leg")]
+    NoLegToAdd(u8),
+    /// Superblocks are to know this leg, and there are none.
+    #[error("nbdmirror: --add-leg {0}: the legs have no superblocks")]
+    NothingToAddTo(u8),
+    /// This leg was moved, and is none.
+    #[error("nbdmirror: --moved {0} is not a leg")]
+    NoLegMoved(u8),
+    /// This leg was moved, and there are no superblocks to say so of.
+    #[error("nbdmirror: --moved {0}: the legs have no superblocks")]
+    NothingMoved(u8),
     /// The export's name is empty or too long.
     #[error("nbdmirror: name must be 1 to 255 bytes")]
     BadName,
@@ -63,9 +78,18 @@ pub enum StartFault<'a> {
     /// This leg's superblock says that it is that leg's.
     #[error("nbdmirror: leg {0}: its superblock says leg {1}")]
     OtherLeg(usize, u8),
+    /// This leg's file is the one that was that other leg.
+    #[error("nbdmirror: leg {0}: is the disk that was leg {1}")]
+    WasLeg(usize, usize),
     /// There are superblocks, and the legs were to be taken for equal.
     #[error("nbdmirror: --start equal: the legs have superblocks")]
     NotFirstStart,
+    /// There are superblocks, and the legs were to be copied whole.
+    #[error("nbdmirror: --start full: the legs have superblocks: replace N copies a leg whole")]
+    NotWhole,
+    /// So many stripes were asked for, and the superblocks are of a mirror of so many.
+    #[error("nbdmirror: --stripes {0}: the superblocks have {1}")]
+    OtherStripes(u8, u8),
     /// This leg was named as the master, and is not in sync by the superblocks.
     #[error("nbdmirror: master {0} is not in sync by the superblocks")]
     NotInSync(u8),
@@ -81,12 +105,20 @@ pub enum StartFault<'a> {
     /// This leg may have a newer superblock, and none was found.
     #[error("nbdmirror: leg {0} may be newer, and its superblock is not here")]
     MayBeNewer(usize),
+    /// This leg is in sync by the superblocks, in a stripe of which no other such leg is here, and
+    /// its file is not the one that they are of.
+    #[error("nbdmirror: leg {0}: is another file than its superblock is of")]
+    AnotherFile(usize),
     /// Both legs have superblocks of which neither came after the other.
     #[error("nbdmirror: legs {0} and {1} went on apart: name one by --force-master")]
     WentApart(usize, usize),
     /// No leg that is in sync in this stripe by the superblocks is here.
     #[error("nbdmirror: stripe {0}: no leg in sync is here")]
     NoneInSync(usize),
+    /// The superblocks do not know this leg of this name.
+    #[error("nbdmirror: leg {0} ({1}): has no superblock of this mirror: --add-leg {0} copies the \
+         mirror over it")]
+    NotKnown(usize, &'a str),
     /// No socket listens at this address.
     #[error("nbdmirror: cannot listen on {0}")]
     CannotListen(Address<'a>, Unbound),
@@ -104,12 +136,15 @@ impl StartFault<'_> {
         ensures { result ≡ status_of self.now }
     {
         match self {
-            StartFault::NotUtf8 => 2,
+            StartFault::NotUtf8 | StartFault::NoLegMoved(_) | StartFault::NothingMoved(_) => 2,
             StartFault::NoStandardStreams
             | StartFault::FewDescriptors(_)
             | StartFault::SmallStack(_)
             | StartFault::TooManyLegs
             | StartFault::NoMaster(_)
+            | StartFault::TwoMasters(_, _)
+            | StartFault::NoLegToAdd(_)
+            | StartFault::NothingToAddTo(_)
             | StartFault::BadName
             | StartFault::CannotOpen(_, _)
             | StartFault::InUse(_)
@@ -121,7 +156,10 @@ impl StartFault<'_> {
             | StartFault::CannotSave(_, _)
             | StartFault::OtherMirror(_)
             | StartFault::OtherLeg(_, _)
+            | StartFault::WasLeg(_, _)
             | StartFault::NotFirstStart
+            | StartFault::NotWhole
+            | StartFault::OtherStripes(_, _)
             | StartFault::NotInSync(_)
             | StartFault::NoRandomNumbers
             | StartFault::CannotRead(_) => 3,
@@ -130,8 +168,10 @@ impl StartFault<'_> {
             StartFault::CannotClose => 6,
             StartFault::LegsDiffer
             | StartFault::MayBeNewer(_)
+            | StartFault::AnotherFile(_)
             | StartFault::WentApart(_, _)
-            | StartFault::NoneInSync(_) => 7,
+            | StartFault::NoneInSync(_)
+            | StartFault::NotKnown(_, _) => 7,
         }
     }
 }

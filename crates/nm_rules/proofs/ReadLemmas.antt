@@ -19,7 +19,6 @@ use Rattle.nm_rules.specs.Read.{FailsInRead}
 use Rattle.nm_rules.specs.BlockCalls.{ReadsBlockAt}
 use Rattle.nm_rules.specs.State.{StripeState, next_number}
 use Rattle.nm_rules.proofs.CalledLemmas.{SameContents, with_legs, called-keeps, called-acts, read-same}
-use Rattle.nm_rules.proofs.CauseLemmas.{below}
 use Rattle.nm_rules.proofs.ChunkLemmas.{chunk-stays}
 use Rattle.nm_rules.proofs.KeptLemmas.{kept_start, kept-starts, kept-numbered, kept-length, kept-consistent, kept-ends}
 use Rattle.nm_rules.proofs.LegLemmas.{reads-found}

@@ -1,5 +1,5 @@
 -- A leg that is out joins again, behind in more regions than it was: where it is clear, it was.
-use Rattle.std.proofs.Common.{◌≡◌, ◌≢◌, ⊎_elim, ℕ, ◌<◌, zero, suc, ◌/◌, Bool, true, false, not, ◌&&◌, ◌||◌, get_or, List, [], ◌∷◌, length, length-set, refl, sym, ap, ◌∙◌, subst, arith, slice_set}
+use Rattle.std.proofs.Common.{◌≡◌, ◌≢◌, ⊎_elim, ℕ, ◌<◌, zero, suc, Bool, true, false, not, ◌&&◌, ◌||◌, get_or, List, [], ◌∷◌, length, length-set, refl, sym, ap, ◌∙◌, subst, arith}
 use Rattle.std.specs.List.{list_any}
 use Rattle.nm_choice.specs.declared.leg_state.LegState.{LegState}
 use Rattle.nm_choice.specs.declared.leg_state.LegState.TheVariants.{InSync, Joining, Out}

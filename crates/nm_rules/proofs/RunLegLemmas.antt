@@ -52,6 +52,7 @@ abbrev pub between : ℕ → Block → Leg → Leg → Leg
 between at block old new = record {
   contents = slice_set old.contents at block;
   durable = put_at old.durable at (slice_get new.durable at);
+  unsynced = old.unsynced;
   faults = old.faults;
 }
 

@@ -33,3 +33,4 @@ pub mod Shape
 pub mod Sound
 pub mod State
 pub mod Sync
+pub mod Unsynced

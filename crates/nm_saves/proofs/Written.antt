@@ -23,7 +23,7 @@ failed_in s held f = state_of held f.first f.second s.generation true f.damaged
 -- a slot has 4,096 bytes
 length-slot : (s : Superblock) → IsSuperblock s → length (slot_bytes s) ≡ 4096
 unfolding slot_bytes
-length-slot s is = length-sectors s.generation 8 (payload_bytes s) (omega (arith, length-payload s is))
+length-slot s is = length-sectors s.version s.generation 8 (payload_bytes s) (omega (arith, length-payload s is))
 
 up-to-higher : (a b : ℕ) (r : Option Superblock) → a ≤ b → IsUpTo a r → IsUpTo b r
 up-to-higher a b None less is = tt

@@ -3,6 +3,8 @@ use Rattle.std.specs.Prelude.{◌≡◌, ◌≢◌, ℕ, length, max, slice_inde
 use Rattle.nm_saves.specs.FileState.{FileState}
 use Rattle.nm_saves.specs.Files.{file_of}
 use Rattle.nm_saves.specs.SavingAll.{FilesState, Leaves}
+use Rattle.nm_superblock.specs.declared.leg_identities.LegIdentities.{LegIdentities}
+use Rattle.nm_superblock.specs.Identities.{Puts}
 
 -- no other leg's file changed
 abbrev pub LeavesOthers : (leg : ℕ) → (old new : FilesState) → Type 0
@@ -15,13 +17,27 @@ pub record LetsGo (leg : ℕ) (old new : FilesState) : Type 0 where
   pub others : LeavesOthers leg old new
   pub stays : new ≡ record old { files = new.files }
 
--- The leg has this file, and this id, which is neither its old one nor 0. What is saved from now on
--- has it.
-pub record Renews (leg : ℕ) (file : FileState) (id : ℕ) (old new : FilesState) : Type 0 where
-  pub has : file_of leg new.files ≡ Some file
+-- What a leg gets: its superblock's file, its id, and its own file's identity, which it has among
+-- these.
+pub record NewLeg : Type 0 where
+  pub file : FileState
+  pub id : ℕ
+  pub identities : LegIdentities
+
+abbrev pub new_leg : FileState → (id : ℕ) → LegIdentities → NewLeg
+new_leg file id identities = record { file = file; id = id; identities = identities }
+
+-- The leg has this file, this id, which is neither its old one nor 0, and this identity. What is
+-- saved from now on has them.
+pub record Renews (leg : ℕ) (own : NewLeg) (old new : FilesState) : Type 0 where
+  pub has : file_of leg new.files ≡ Some own.file
   pub count : length new.files ≡ length old.files
   pub others : LeavesOthers leg old new
-  pub image : new.image ≡ record old.image { leg_ids = slice_set old.image.leg_ids leg id }
+  pub image : new.image ≡ record old.image {
+    leg_ids = slice_set old.image.leg_ids leg own.id;
+    identities = new.image.identities;
+  }
+  pub identities : Puts leg leg own.identities old.image.identities new.image.identities
   pub other_id : slice_index new.image.leg_ids leg ≢ slice_index old.image.leg_ids leg
   pub some_id : slice_index new.image.leg_ids leg ≢ 0
-  pub highest : new.highest ≡ max old.highest file.highest
+  pub highest : new.highest ≡ max old.highest own.file.highest

@@ -20,11 +20,12 @@ pub record Request : Type 0 where
   pub sets : LegSets
   pub marked : SpanMap
   pub clean : Bool
+  pub changed : List ℕ
   pub out : List Bool
 
-abbrev pub request_of : LegSets → SpanMap → Bool → List Bool → Request
-request_of sets marked clean out =
-    record { sets = sets; marked = marked; clean = clean; out = out }
+abbrev pub request_of : LegSets → SpanMap → Bool → (changed : List ℕ) → (out : List Bool) → Request
+request_of sets marked clean changed out =
+    record { sets = sets; marked = marked; clean = clean; changed = changed; out = out }
 
 -- the next superblock
 abbrev pub next_of : FilesState → Request → Superblock
@@ -33,6 +34,7 @@ next_of s r = record s.image {
   sets = r.sets;
   marked = r.marked;
   clean = r.clean;
+  changed = r.changed;
 }
 
 -- what a save makes of a leg's file

@@ -26,6 +26,11 @@ fn sets_fit(sets: &[u8; 256])
     ensures { length sets.now ≡ 256 }
 {}
 
+// The version.
+fn version_fits(version: u8)
+    ensures { version < 2 ^ 8 }
+{}
+
 // The marks.
 fn marks_fit(marked: &[u8; 2048])
     ensures { length marked.now ≡ 2048 }
@@ -45,4 +50,7 @@ pub(crate) fn all_fit(superblock: &Superblock)
     table_fits(&value.forks);
     sets_fit(&value.sets.bytes);
     marks_fit(&value.marked.bytes);
+    table_fits(&value.identities.words);
+    table_fits(&value.changed);
+    version_fits(value.version);
 }

@@ -1,10 +1,11 @@
 //! A leg that is replaced gets a superblock's file of its own, and a new id.
 ghost use Rattle.std.specs.Prelude.{◌≡◌, ◌≢◌, ◌<◌, length, slice_index};
-ghost use Rattle.nm_saves.specs.Renewing.{LetsGo, Renews};
+ghost use Rattle.nm_saves.specs.Renewing.{LetsGo, Renews, new_leg};
 
 use crate::slot_file::SlotFile;
 use crate::superblock_file::SuperblockFile;
 use crate::superblock_files::SuperblockFiles;
+use nm_superblock::LegIdentities;
 
 impl<F: SlotFile> SuperblockFiles<F> {
     /// How many legs may have a file.
@@ -25,16 +26,24 @@ impl<F: SlotFile> SuperblockFiles<F> {
         self.errors[leg] = None;
     }
 
-    /// Gives the leg this file, and a new id. All that is saved from now on has that id.
-    pub fn renew(&mut self, leg: usize, file: SuperblockFile<F>, id: u64)
+    /// Gives the leg this file, a new id, and the identity that it has in these. All that is saved
+    /// from now on has them.
+    pub fn renew(
+        &mut self,
+        leg: usize,
+        file: SuperblockFile<F>,
+        id: u64,
+        identities: &LegIdentities,
+    )
         requires file { leg < length self.old.files }
         requires leg { leg < 8 }
         requires other { id ≢ slice_index self.old.image.leg_ids leg }
         requires some { id ≢ 0 }
-        ensures { Renews leg file id self.old self.new }
+        ensures { Renews leg (new_leg file id identities.now) self.old self.new }
     {
         self.highest = self.highest.max(file.highest_stamp());
         self.image.leg_ids[leg] = id;
+        self.image.identities.put(leg, identities, leg);
         self.errors[leg] = None;
         self.files[leg] = Some(file);
     }

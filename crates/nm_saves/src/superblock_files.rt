@@ -72,10 +72,10 @@ impl<F: SlotFile> SuperblockFiles<F> {
         self.errors[leg].as_ref()
     }
 
-    /// Saves the next superblock, with these sets and marks: first into the file of each leg that
-    /// it names, which is one that is in sync in some stripe. Where one of these fails, no file of
-    /// another leg is touched, and the answer is which failed. Then into those of the other legs,
-    /// but for these that are out; a failure there is none of the save's.
+    /// Saves the next superblock, with these sets, marks and times of last changes: first into the
+    /// file of each leg that it names, which is one that is in sync in some stripe. Where one of
+    /// these fails, no file of another leg is touched, and the answer is which failed. Then into
+    /// those of the other legs, but for these that are out; a failure there is none of the save's.
     ///
     /// A save that names no leg in some stripe does not begin, nor one without a generation.
     pub fn save(
@@ -83,13 +83,15 @@ impl<F: SlotFile> SuperblockFiles<F> {
         sets: &LegSets,
         marked: &SpanMap,
         clean: bool,
+        changed: &[u64; 8],
         out: &[bool; 8],
     ) -> Result<(), FailedFiles>
         ensures done { OnOk result (IsDone F.honest
-            (request_of sets.now marked.now clean out.now) self.old self.new) }
+            (request_of sets.now marked.now clean changed.now out.now) self.old self.new) }
         ensures undone { IfErr result (λ e.
-            TakesNone (request_of sets.now marked.now clean out.now) e.legs self.old self.new
-            ⊎ IsUndone F.honest (request_of sets.now marked.now clean out.now) e.legs
+            TakesNone (request_of sets.now marked.now clean changed.now out.now) e.legs
+            self.old self.new
+            ⊎ IsUndone F.honest (request_of sets.now marked.now clean changed.now out.now) e.legs
             self.old self.new) }
     {
         if is_nameless(sets, self.image.stripes) {
@@ -103,6 +105,7 @@ impl<F: SlotFile> SuperblockFiles<F> {
         next.sets = *sets;
         next.marked = *marked;
         next.clean = clean;
+        next.changed = *changed;
         self.highest = generation;
         let named = named_legs(sets);
         let failed = save_to(&mut self.files, &mut self.errors, &next, &named);

@@ -1,14 +1,14 @@
 -- Legs that are loaded, and a stripe that opens by comparing them.
-use Rattle.std.proofs.Common.{◌≡◌, ℕ, ◌<◌, ◌==◌, true, false, cond, List, [], ◌∷◌, ◌++◌, length, length-set, slice_set, Some, Option, inl, inr, refl, sym, ap, subst, ◌∙◌, arith}
+use Rattle.std.proofs.Common.{◌≡◌, ℕ, replicate, ◌<◌, ◌==◌, true, false, cond, List, [], ◌∷◌, ◌++◌, length, length-set, slice_set, Some, Option, inl, inr, refl, sym, ap, subst, ◌∙◌, arith}
 use Rattle.std.specs.List.{slice_get}
 use Rattle.std.proofs.lemmas.Bool.{cases_Bool, eqb-true, eqb-false, eq-eqb}
 use Rattle.std.proofs.lemmas.List.{length-replicate}
 use Rattle.std.proofs.lemmas.Option.{same_Some, slice_get_within}
 use Rattle.nm_replay.proofs.Arrays.{slice_get-set_same, slice_get-set_other}
 use Rattle.nm_replay.specs.Array.{Array}
-use Rattle.nm_leg.specs.Leg.{Leg, block_of, filled_array}
+use Rattle.nm_leg.specs.Leg.{Leg, block_of, filled_array, no_marks}
 use Rattle.nm_leg.specs.LegCalls.{EachHas, HasRun}
-use Rattle.nm_leg.specs.TestLegs.{of_fuse}
+use Rattle.nm_leg.specs.TestLegs.{durable_leg, of_fuse}
 use Rattle.nm_leg.specs.declared.fuse_leg.FuseLeg.{FuseLeg}
 use Rattle.nm_rules.specs.Array.{contents_at}
 use Rattle.nm_rules.specs.BlockCalls.{WritesBlockAt}
@@ -56,7 +56,10 @@ loaded_lengths m loads legs are = λ place leg found.
 pub not_loaded : (m : MirrorLine) (legs : List FuseLeg) → AreNewLegs m legs → AreLoadedLegs m [] legs
 not_loaded m legs are = record {
   count = are.count;
-  each = λ place leg found. at_place (IsFilled m.blocks 0) legs place leg found are.zero;
+  each = λ place leg found.
+      let all : Array = filled_array m.blocks 0 in
+      at_place (IsFilled m.blocks 0) legs place leg found are.zero
+      ∙ ap (λ (n : ℕ). let x : Leg = record { contents = all; durable = all; unsynced = no_marks n; faults = 0 } in x) (sym (length-replicate m.blocks (block_of (replicate 512 0))));
 }
 
 -- one load more
@@ -68,18 +71,18 @@ loaded_more leg (l ∷ loads) load array = loaded_more leg loads load (with_load
 
 leg_more : (m : MirrorLine) (loads : List Load) (load : Load) (place : ℕ) (all : Array) →
     with_load place load (loaded place loads (filled_array m.blocks 0)) ≡ all →
-    loaded_leg m (loads ++ load ∷ []) place ≡ record { contents = all; durable = all; faults = 0 }
+    loaded_leg m (loads ++ load ∷ []) place ≡ durable_leg all 0
 leg_more m loads load place all is =
-    ap (λ (xs : Array). let x : Leg = record { contents = xs; durable = xs; faults = 0 } in x)
+    ap (λ (xs : Array). durable_leg xs 0)
     (loaded_more place loads load (filled_array m.blocks 0) ∙ is)
 
 -- a leg with a fuse is what it holds, and its faults
 of_parts : (leg : FuseLeg) (all : Array) (faults : ℕ) → (of_fuse leg).contents ≡ all →
     (of_fuse leg).faults ≡ faults →
-    of_fuse leg ≡ record { contents = all; durable = all; faults = faults }
+    of_fuse leg ≡ durable_leg all faults
 of_parts leg all faults holds failed =
-    ap (λ (xs : Array). let x : Leg = record { contents = xs; durable = xs; faults = leg.faults } in x) holds
-    ∙ ap (λ (k : ℕ). let x : Leg = record { contents = all; durable = all; faults = k } in x) failed
+    ap (λ (xs : Array). durable_leg xs leg.faults) holds
+    ∙ ap (λ (k : ℕ). durable_leg all k) failed
 
 module _ (m : MirrorLine) (loads : List Load) (load : Load) (old new : List FuseLeg) (are : AreLoadedLegs m loads old) (writes : WritesBlockAt fuse_legs true load.leg load.block (filled_block load.fill) old new) where
   abbrev before : Array

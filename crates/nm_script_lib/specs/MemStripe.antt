@@ -8,7 +8,7 @@ use Rattle.nm_fanout.specs.declared.block_data.Data.TheVariants.{Cut, Zero as Ze
 use Rattle.nm_replay.specs.Array.{Array}
 use Rattle.nm_leg.specs.Leg.{Leg, LegType, leg_type, block_of, filled_array, filled_leg}
 use Rattle.nm_leg.specs.LegCalls.{EachHas}
-use Rattle.nm_leg.specs.TestLegs.{of_fuse}
+use Rattle.nm_leg.specs.TestLegs.{durable_leg, of_fuse}
 use Rattle.nm_leg.specs.declared.fuse_leg.FuseLeg.{FuseLeg}
 use Rattle.nm_rules.specs.declared.at.At.{At}
 use Rattle.nm_rules.specs.Runs.{FitsRun}
@@ -76,8 +76,7 @@ loaded leg (load ∷ loads) array = loaded leg loads (with_load leg load array)
 -- of it has failed.
 abbrev pub loaded_leg : MirrorLine → List Load → ℕ → Leg
 loaded_leg m loads place =
-    let all = loaded place loads (filled_array m.blocks 0) in
-    record { contents = all; durable = all; faults = 0 }
+    durable_leg (loaded place loads (filled_array m.blocks 0)) 0
 
 -- As many legs as the mirror has, with these loads.
 pub record AreLoadedLegs (m : MirrorLine) (loads : List Load) (legs : List FuseLeg)

@@ -184,14 +184,14 @@ pub fn open<'a, R>(
     rt: &R,
     alloc: Global,
     settings: &Settings<'a>,
-    files: LegFiles,
+    mut files: LegFiles,
     control: &Listener,
     lines: &LogLines,
 ) -> Result<Opened, StartFault<'a>>
 where
     R: Threads + Wait + Sync + Clock + RandomSource + Files<File = File>,
 {
-    let opened = open_asked_for(rt, alloc, settings, &files, control, lines)?;
+    let opened = open_asked_for(rt, alloc, settings, &mut files, control, lines)?;
     files.tell_missing(rt, alloc, lines);
     let mirror = opened.mirror;
     let own = equip(alloc, settings, &files, opened.superblocks)?;

@@ -11,8 +11,8 @@ use nm_commands::{Settings, settings};
 use nm_control::LegRenewer;
 use nm_geometry::{MOST_LEGS, Shape};
 use nm_leg_files::{
-    FileMirror, Leg, LegFiles, LegMaker, LegPlace, LegRules, OpensLegs, check_files, check_stack,
-    reply_bytes_of, try_threads,
+    FileMirror, Leg, LegFiles, LegMaker, LegPlace, LegRules, OpensLegs, check_added, check_files,
+    check_moved, check_stack, reply_bytes_of, try_threads,
 };
 use nm_mirror::Pass;
 use nm_places::{ServingState, SessionRules, Shared};
@@ -49,6 +49,13 @@ fn export_asked<'a>(settings: &Settings<'a>) -> Result<ExportName<'a>, StartFaul
             }
         }
     }
+    if let (Some(master), Some(forced)) = (settings.master, settings.force_master) {
+        if master != forced {
+            return Err(StartFault::TwoMasters(master, forced));
+        }
+    }
+    check_added(settings, true)?;
+    check_moved(settings)?;
     match ExportName::new(settings.name, settings.read_only) {
         Some(named) => Ok(named),
         None => Err(StartFault::BadName),
@@ -196,8 +203,9 @@ where
     let control = listen(rt, alloc, Address::Named(settings.control))?;
     files.start_threads(rt)?;
     let metrics = metrics_of(alloc, &files, settings.sessions)?;
-    let opened = open(rt, alloc, settings, files, &control.listener, lines)?;
+    // Whatever may be refused is, before a superblock is made.
     let state = state_of(rt, alloc, settings, &limits, metrics)?;
+    let opened = open(rt, alloc, settings, files, &control.listener, lines)?;
     warn_if_open(rt, alloc, &control.listener, settings.control, lines);
     clients.tell(out, "listening on");
     control.tell(out, "control on");

@@ -17,3 +17,4 @@ pub mod RunNameLemmas
 pub mod RunPushedLemmas
 pub mod StoreLemmas
 pub mod TableLemmas
+pub mod UnsyncedLemmas

@@ -7,11 +7,11 @@ use Rattle.nm_choice.specs.declared.leg_state.LegState.TheVariants.{InSync, Join
 use Rattle.nm_choice.specs.declared.policy.Policy.{Policy}
 use Rattle.nm_fanout.specs.declared.write_record.Record.{Record}
 use Rattle.nm_regions.specs.LegFlags.{LegRegions, no_leg, opened_leg}
-use Rattle.nm_regions.specs.Table.{regions_of}
+use Rattle.nm_regions.specs.Table.{RegionTable, regions_of}
 use Rattle.nm_rules.specs.declared.at.At.{At}
 use Rattle.nm_rules.specs.declared.leg_opening.LegOpening.{LegOpening}
 use Rattle.nm_rules.specs.declared.leg_opening.LegOpening.TheVariants.{Missing}
-use Rattle.nm_rules.specs.Attach.{either}
+use Rattle.nm_rules.specs.Attach.{either, lacking_from, may_lack}
 use Rattle.nm_rules.specs.Comparing.{comparing, waiting}
 use Rattle.nm_rules.specs.Reopening.{Marks, OpeningPlan, is_in_marked, marks_from, planned, reopened, reopened_flags, reopened_leg, reopened_state, reopened_states}
 use Rattle.nm_rules.specs.State.{StripeState, writes_from}
@@ -26,12 +26,33 @@ pub writes-length : (size n k : ℕ) (rs : List Record) → length (writes_from 
 writes-length size zero k rs = refl
 writes-length size (suc n) k rs = ap (λ (m : ℕ). suc m) (writes-length size n (k + 1) rs)
 
--- the flags once the first so many regions are marked as their spans are
-abbrev pub marked_upto : Marks → ℕ → List Bool → List Bool
-marked_upto marks zero flags = flags
-marked_upto marks (suc region) flags =
-    let rest = marked_upto marks region flags in
-    cond (is_in_marked marks region) (slice_set rest region true) rest
+-- for each of so many regions, from this one on, what the test says
+abbrev pub flags_from : (ℕ → Bool) → (count region : ℕ) → List Bool
+flags_from test zero region = []
+flags_from test (suc count) region = test region ∷ flags_from test count (region + 1)
+
+length-flags : (test : ℕ → Bool) (count region : ℕ) → length (flags_from test count region) ≡ count
+length-flags test zero region = refl
+length-flags test (suc count) region = ap (λ (k : ℕ). suc k) (length-flags test count (region + 1))
+
+-- so are the marks of spans
+pub marks-are : (marks : Marks) (count region : ℕ) → flags_from (is_in_marked marks) count region ≡ marks_from marks count region
+marks-are marks zero region = refl
+marks-are marks (suc count) region = ap (λ (rest : List Bool). is_in_marked marks region ∷ rest) (marks-are marks count (region + 1))
+
+-- and what a leg may lack
+pub lacking-are : (marks : Marks) (unsynced : List Bool) (t : RegionTable) (count region : ℕ)
+    → flags_from (may_lack marks unsynced t) count region ≡ lacking_from marks unsynced t count region
+lacking-are marks unsynced t zero region = refl
+lacking-are marks unsynced t (suc count) region =
+    ap (λ (rest : List Bool). may_lack marks unsynced t region ∷ rest) (lacking-are marks unsynced t count (region + 1))
+
+-- the flags once the first so many regions are marked as the test says
+abbrev pub marked_upto : (ℕ → Bool) → ℕ → List Bool → List Bool
+marked_upto test zero flags = flags
+marked_upto test (suc region) flags =
+    let rest = marked_upto test region flags in
+    cond (test region) (slice_set rest region true) rest
 
 or-none : (b : Bool) → b ≡ (b || false)
 or-none true = refl
@@ -50,41 +71,41 @@ pub either-none : (more : List Bool) → either (replicate (length more) false) 
 either-none [] = refl
 either-none (m ∷ more) = ap (λ (rest : List Bool). m ∷ rest) (either-none more)
 
-module _ (marks : Marks) where
-  -- the marks from a region on, at each place
-  marks-at : (count region i : ℕ) → i < count → get_or (marks_from marks count region) i false ≡ is_in_marked marks (region + i)
-  marks-at zero region i inside = absurd (omega (arith, inside))
-  marks-at (suc count) region zero inside = ap (λ (k : ℕ). is_in_marked marks k) (let e : region ≡ region + 0 = omega arith in e)
-  marks-at (suc count) region (suc i) inside =
-      marks-at count (region + 1) i (omega (arith, inside)) ∙ ap (λ (k : ℕ). is_in_marked marks k) (let e : region + 1 + i ≡ region + suc i = omega arith in e)
+module _ (test : ℕ → Bool) where
+  -- the flags from a region on, at each place
+  flags-at : (count region i : ℕ) → i < count → get_or (flags_from test count region) i false ≡ test (region + i)
+  flags-at zero region i inside = absurd (omega (arith, inside))
+  flags-at (suc count) region zero inside = ap (λ (k : ℕ). test k) (let e : region ≡ region + 0 = omega arith in e)
+  flags-at (suc count) region (suc i) inside =
+      flags-at count (region + 1) i (omega (arith, inside)) ∙ ap (λ (k : ℕ). test k) (let e : region + 1 + i ≡ region + suc i = omega arith in e)
 
-  length-upto : (region : ℕ) (flags : List Bool) → length (marked_upto marks region flags) ≡ length flags
+  length-upto : (region : ℕ) (flags : List Bool) → length (marked_upto test region flags) ≡ length flags
   length-upto zero flags = refl
   length-upto (suc region) flags =
-      elim (is_in_marked marks region) as (λ b. length (cond b (slice_set (marked_upto marks region flags) region true) (marked_upto marks region flags)) ≡ length flags) [
-        | true ↦ length-set (marked_upto marks region flags) region true ∙ length-upto region flags
+      elim (test region) as (λ b. length (cond b (slice_set (marked_upto test region flags) region true) (marked_upto test region flags)) ≡ length flags) [
+        | true ↦ length-set (marked_upto test region flags) region true ∙ length-upto region flags
         | false ↦ length-upto region flags
       ]
 
   -- a region that was not reached stays as it was
-  upto-past : (region i : ℕ) (flags : List Bool) → region ≤ i → get_or (marked_upto marks region flags) i false ≡ get_or flags i false
+  upto-past : (region i : ℕ) (flags : List Bool) → region ≤ i → get_or (marked_upto test region flags) i false ≡ get_or flags i false
   upto-past zero i flags past = refl
   upto-past (suc region) i flags past =
-      elim (is_in_marked marks region) as (λ b. get_or (cond b (slice_set (marked_upto marks region flags) region true) (marked_upto marks region flags)) i false ≡ get_or flags i false) [
-        | true ↦ set-other (marked_upto marks region flags) region i true false (λ same. omega (arith, past, same)) ∙ upto-past region i flags (omega (arith, past))
+      elim (test region) as (λ b. get_or (cond b (slice_set (marked_upto test region flags) region true) (marked_upto test region flags)) i false ≡ get_or flags i false) [
+        | true ↦ set-other (marked_upto test region flags) region i true false (λ same. omega (arith, past, same)) ∙ upto-past region i flags (omega (arith, past))
         | false ↦ upto-past region i flags (omega (arith, past))
       ]
 
-  -- any other is set too where its span is marked
-  upto-on : (region i : ℕ) (flags : List Bool) → i < region → i < length flags → get_or (marked_upto marks region flags) i false ≡ (get_or flags i false || is_in_marked marks i)
+  -- any other is set too where the test says so
+  upto-on : (region i : ℕ) (flags : List Bool) → i < region → i < length flags → get_or (marked_upto test region flags) i false ≡ (get_or flags i false || test i)
   upto-on zero i flags low inside = absurd (omega (arith, low))
   upto-on (suc region) i flags low inside =
       ⊎_elim
-      (λ same. subst (λ (k : ℕ). get_or (marked_upto marks (suc region) flags) k false ≡ (get_or flags k false || is_in_marked marks k)) (sym same) (here region (omega (arith, same, inside))))
+      (λ same. subst (λ (k : ℕ). get_or (marked_upto test (suc region) flags) k false ≡ (get_or flags k false || test k)) (sym same) (here region (omega (arith, same, inside))))
       (λ apart.
-      let rest : get_or (marked_upto marks region flags) i false ≡ (get_or flags i false || is_in_marked marks i) = upto-on region i flags (omega (arith, low, apart)) inside in
-      elim (is_in_marked marks region) as (λ b. get_or (cond b (slice_set (marked_upto marks region flags) region true) (marked_upto marks region flags)) i false ≡ (get_or flags i false || is_in_marked marks i)) [
-        | true ↦ set-other (marked_upto marks region flags) region i true false apart ∙ rest
+      let rest : get_or (marked_upto test region flags) i false ≡ (get_or flags i false || test i) = upto-on region i flags (omega (arith, low, apart)) inside in
+      elim (test region) as (λ b. get_or (cond b (slice_set (marked_upto test region flags) region true) (marked_upto test region flags)) i false ≡ (get_or flags i false || test i)) [
+        | true ↦ set-other (marked_upto test region flags) region i true false apart ∙ rest
         | false ↦ rest
       ])
       (one_or_two i region)
@@ -93,25 +114,26 @@ module _ (marks : Marks) where
       or-true true = refl
       or-true false = refl
 
-      here : (k : ℕ) → k < length flags → get_or (marked_upto marks (suc k) flags) k false ≡ (get_or flags k false || is_in_marked marks k)
+      here : (k : ℕ) → k < length flags → get_or (marked_upto test (suc k) flags) k false ≡ (get_or flags k false || test k)
       here k within =
-          elim (is_in_marked marks k) as (λ b. get_or (cond b (slice_set (marked_upto marks k flags) k true) (marked_upto marks k flags)) k false ≡ (get_or flags k false || b)) [
-            | true ↦ set-same (marked_upto marks k flags) k true false (omega (arith, within, length-upto k flags)) ∙ or-true (get_or flags k false)
+          elim (test k) as (λ b. get_or (cond b (slice_set (marked_upto test k flags) k true) (marked_upto test k flags)) k false ≡ (get_or flags k false || b)) [
+            | true ↦ set-same (marked_upto test k flags) k true false (omega (arith, within, length-upto k flags)) ∙ or-true (get_or flags k false)
             | false ↦ upto-past k k flags (omega arith) ∙ or-none (get_or flags k false)
           ]
 
-  -- once all regions were seen, each is set too where its span is marked
-  pub all-marked : (regions : ℕ) (flags : List Bool) → length flags ≡ regions → marked_upto marks regions flags ≡ either flags (marks_from marks regions 0)
+  -- once all regions were seen, each is set too where the test says so
+  pub all-marked : (regions : ℕ) (flags : List Bool) → length flags ≡ regions → marked_upto test regions flags ≡ either flags (flags_from test regions 0)
   all-marked regions flags long =
-      ext_get_or false (marked_upto marks regions flags) (either flags (marks_from marks regions 0))
-      (length-upto regions flags ∙ sym (length-either flags (marks_from marks regions 0)))
+      ext_get_or false (marked_upto test regions flags) (either flags (flags_from test regions 0))
+      (length-upto regions flags ∙ sym (length-either flags (flags_from test regions 0)))
       (λ i low.
       let inside : i < length flags = omega (arith, low, length-upto regions flags) in
       upto-on regions i flags (omega (arith, inside, long)) inside
-      ∙ ap (λ (b : Bool). get_or flags i false || b) (sym (marks-at regions 0 i (omega (arith, inside, long)) ∙ ap (λ (n : ℕ). is_in_marked marks n) (let e : 0 + i ≡ i = omega arith in e)))
-      ∙ sym (either-at flags (marks_from marks regions 0) i inside))
+      ∙ ap (λ (b : Bool). get_or flags i false || b) (sym (flags-at regions 0 i (omega (arith, inside, long)) ∙ ap (λ (n : ℕ). test n) (let e : 0 + i ≡ i = omega arith in e)))
+      ∙ sym (either-at flags (flags_from test regions 0) i inside))
 
-  -- from no region behind on they are the marks
+-- from no region behind on they are the marks
+module _ (marks : Marks) where
   pub from-none : (regions : ℕ) → either (replicate regions false) (marks_from marks regions 0) ≡ marks_from marks regions 0
   from-none regions =
       ap (λ (n : ℕ). either (replicate n false) (marks_from marks regions 0)) (sym (length-marks marks regions 0)) ∙ either-none (marks_from marks regions 0)

@@ -30,4 +30,5 @@ mod reopening;
 mod standing;
 mod store;
 mod syncing;
+mod unsynced;
 mod writing;

@@ -20,7 +20,7 @@ use nm_rules::{At, LegOpening};
 use std::alloc::Global;
 
 /// Whether the span is marked. One past the last is not.
-fn is_marked(marked: &[bool], span: u64) -> bool
+pub(crate) fn is_marked(marked: &[bool], span: u64) -> bool
     ensures { result ≡ slice_index_or marked.now span false }
 {
     if span < marked.len() as u64 {
@@ -41,7 +41,7 @@ fn reopened_state(opening: LegOpening) -> LegState
 }
 
 /// A leg that is out falls behind in each region whose span is marked, too. Goes over all regions.
-pub(crate) fn mark_spans(regions: &mut Regions, leg: u8, marked: &[bool], span: u64)
+fn mark_spans(regions: &mut Regions, leg: u8, marked: &[bool], span: u64)
     requires leg { leg < length regions.old.legs }
     requires out { IsTrue (is_out leg regions.old) }
     requires some { 0 < span }

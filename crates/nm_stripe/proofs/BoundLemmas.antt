@@ -169,7 +169,7 @@ module _ {L : Type 0} (type : LegType L) (old new : StripeState L) (j : ℕ) (jo
       quiet (still-set leg state.Joining (attached-ne leg is.0.no_cause) (ap (λ (s : StripeState L). s.states) is.0.after), attaches-work j old new leg joined is.0)
   steps-bound (Attach leg) (Refused cause handed) k asked stays is = quiet (same-states is.2, same-work is.2)
   steps-bound (Return leg marks) (Joining blocks) k asked stays is =
-      quiet (still-set leg state.Joining (attached-ne leg is.0.no_cause) (ap (λ (s : StripeState L). s.states) is.0.after), returns-work j old new leg marks joined is.0)
+      quiet (still-set leg state.Joining (attached-ne leg is.0.no_cause) (ap (λ (s : StripeState L). s.states) is.0.after), returns-work j old new leg type.model marks joined is.0)
   steps-bound (Return leg marks) (Refused cause handed) k asked stays is = quiet (same-states is.2, same-work is.2)
   steps-bound (Replace leg part) (Joining blocks) k asked stays is =
       quiet (still-set leg state.Joining (attached-ne leg is.0.no_cause) (ap (λ (s : StripeState L). s.states) is.0.after), replaces-work j old new leg part joined is.0)

@@ -3,7 +3,7 @@ use Rattle.std.proofs.Common.{◌≡◌, ℕ, ◌<◌, List, length, sym, subst}
 use Rattle.nm_leg.specs.Leg.{LegType, blocks_of}
 use Rattle.nm_fanout.specs.declared.block_data.Data.{Data}
 use Rattle.nm_rules.specs.declared.refusal.Refusal.{Refusal}
-use Rattle.nm_rules.specs.Attach.{Attaches, Replaces, Returns, regions_in}
+use Rattle.nm_rules.specs.Attach.{Attaches, Replaces, Returns, may_lack_each}
 use Rattle.nm_rules.specs.Invariant.{Keeps}
 use Rattle.nm_rules.specs.Reopening.{Marks}
 use Rattle.nm_rules.specs.State.{StripeState}
@@ -55,8 +55,8 @@ module _ {L : Type 0} (type : LegType L) (old new : StripeState L) (k : Keeps ty
   attaches : (leg : ℕ) → leg < length old.legs → Attaches old new leg → Keeps type new
   attaches leg inside a = subst (λ (s : StripeState L). Keeps type s) (sym a.after) (attach-keeps type old leg inside k (may_attach old leg a.no_cause).out)
 
-  returns : (leg : ℕ) (marks : Marks) → leg < length old.legs → Returns old new leg marks → Keeps type new
-  returns leg marks inside r = subst (λ (s : StripeState L). Keeps type s) (sym r.after) (return-keeps type old leg (regions_in marks old) inside k (may_attach old leg r.no_cause).out)
+  returns : (leg : ℕ) (marks : Marks) → leg < length old.legs → Returns type.model old new leg marks → Keeps type new
+  returns leg marks inside r = subst (λ (s : StripeState L). Keeps type s) (sym r.after) (return-keeps type old leg (may_lack_each type.model marks old leg) inside k (may_attach old leg r.no_cause).out)
 
   replaces : (leg : ℕ) (part : L) → leg < length old.legs → length (type.model part).contents ≡ old.place.blocks → Replaces old new leg part → Keeps type new
   replaces leg part inside long r = subst (λ (s : StripeState L). Keeps type s) (sym r.after) (replace-keeps type old leg part inside k (may_attach old leg r.no_cause).out long)

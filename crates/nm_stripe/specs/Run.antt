@@ -105,7 +105,7 @@ StepOf type (Attach leg) (Joining blocks) old new = Attaches old new leg × (blo
 StepOf type (Attach leg) (Refused refusal handed) old new =
     (attach_cause old leg ≡ Some refusal) × (handed ≡ Nothing) × (new ≡ old)
 StepOf type (Return leg marks) (Joining blocks) old new =
-    Returns old new leg marks × (blocks ≡ left leg new)
+    Returns type.model old new leg marks × (blocks ≡ left leg new)
 StepOf type (Return leg marks) (Refused refusal handed) old new =
     (attach_cause old leg ≡ Some refusal) × (handed ≡ Nothing) × (new ≡ old)
 StepOf type (Replace leg part) (Joining blocks) old new =

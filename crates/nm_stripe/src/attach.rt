@@ -29,16 +29,16 @@ impl<L: LegPart> Stripe<L> {
         Ok(self.store.left(leg))
     }
 
-    /// The leg joins as one that may have lost what it was written in these marked spans, each of so
-    /// many regions: it is behind also in their regions. Answers how many blocks are left to copy to
-    /// it.
+    /// The leg joins as one that may have lost what it has not synced in these marked spans, each of
+    /// so many regions: it is behind also in regions of theirs where it has something unsynced.
+    /// Answers how many blocks are left to copy to it.
     ///
     /// Refused as `attach` is.
     pub fn return_leg(&mut self, leg: u8, marked: &[bool], span: u64) -> Result<u64, Refusal>
         requires leg { leg < length self.old.legs }
         requires some { 0 < span }
         ensures ok { let marks : Marks = record { marked = marked.now; span = span } in
-            OnOk result (Returns self.old self.new leg marks) }
+            OnOk result (Returns L.model self.old self.new leg marks) }
         ensures left { IfOk result (λ blocks. blocks ≡ left leg self.new) }
         ensures acts { OnOk result (IsExplainedStep L.model [] self.old self.new) }
         ensures cause { IfErr result (λ refusal. attach_cause self.old leg ≡ Some refusal) }

@@ -44,5 +44,6 @@ mod spans;
 mod step;
 mod stripe;
 mod sync;
+mod unsynced;
 mod value;
 mod written;

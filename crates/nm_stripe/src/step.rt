@@ -36,7 +36,7 @@ pub enum Step<L> {
     Fail(u8),
     /// Lets this leg join again.
     Attach(u8),
-    /// Lets this leg join again as one that may have lost what lies in these spans.
+    /// Lets this leg join again as one that may have lost what it has not synced in these spans.
     Return(u8, Spans),
     /// Puts another leg in the place of this one, which is out.
     Replace(u8, L),

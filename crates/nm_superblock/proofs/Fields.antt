@@ -30,9 +30,11 @@ pub record HasTables (s : Superblock) : Type 0 where
   pub lineages : length s.lineages ≡ 4
   pub forks : length s.forks ≡ 4
   pub marked : length s.marked.bytes ≡ 2048
+  pub identities : length s.identities.words ≡ 32
+  pub changed : length s.changed ≡ 8
 
 pub fits-tables : (s : Superblock) → Fits s → HasTables s
-fits-tables s fits = record { leg_ids = fits.leg_ids.size; seen = fits.seen.size; sets = fits.sets; lineages = fits.lineages.size; forks = fits.forks.size; marked = fits.marked }
+fits-tables s fits = record { leg_ids = fits.leg_ids.size; seen = fits.seen.size; sets = fits.sets; lineages = fits.lineages.size; forks = fits.forks.size; marked = fits.marked; identities = fits.identities.size; changed = fits.changed.size }
 
 -- the digest has 8 bytes
 pub length-digest : (s : Superblock) → length (digest_bytes s) ≡ 8
@@ -59,13 +61,18 @@ pub record Stands (s : Superblock) (payload : List ℕ) : Type 0 where
   pub lineages : (rest : List ℕ) × (drop 432 payload ≡ table_bytes s.lineages ++ rest)
   pub forks : (rest : List ℕ) × (drop 464 payload ≡ table_bytes s.forks ++ rest)
   pub marked : (rest : List ℕ) × (drop 496 payload ≡ s.marked.bytes ++ rest)
+  pub identities : (rest : List ℕ) × (drop 2544 payload ≡ table_bytes s.identities.words ++ rest)
+  pub changed : (rest : List ℕ) × (drop 2800 payload ≡ table_bytes s.changed ++ rest)
   pub whole : length payload ≡ 3968
 
 -- each field stands at its place
 pub stands : (s : Superblock) (payload : List ℕ) → HasTables s → payload ≡ payload_bytes s → Stands s payload
 unfolding payload_bytes head_bytes tail_bytes
 stands s payload has is =
-    let z1 = table_bytes s.forks ++ (s.marked.bytes ++ zeroes 1424) in
+    let y2 = table_bytes s.changed ++ zeroes 1104 in
+    let y1 = table_bytes s.identities.words ++ y2 in
+    let y0 = s.marked.bytes ++ y1 in
+    let z1 = table_bytes s.forks ++ y0 in
     let z2 = table_bytes s.lineages ++ z1 in
     let z3 = digest_bytes s ++ z2 in
     let z4 = s.sets.bytes ++ z3 in
@@ -87,7 +94,10 @@ stands s payload has is =
     let d424 : drop 424 payload ≡ z3 = next 168 256 payload s.sets.bytes z3 d168 has.sets in
     let d432 : drop 432 payload ≡ z2 = next 424 8 payload (digest_bytes s) z2 d424 (length-digest s) in
     let d464 : drop 464 payload ≡ z1 = next 432 32 payload (table_bytes s.lineages) z1 d432 (length-table s.lineages ∙ ap (λ (n : ℕ). 8 * n) has.lineages) in
-    let d496 : drop 496 payload ≡ s.marked.bytes ++ zeroes 1424 = next 464 32 payload (table_bytes s.forks) (s.marked.bytes ++ zeroes 1424) d464 (length-table s.forks ∙ ap (λ (n : ℕ). 8 * n) has.forks) in
+    let d496 : drop 496 payload ≡ y0 = next 464 32 payload (table_bytes s.forks) y0 d464 (length-table s.forks ∙ ap (λ (n : ℕ). 8 * n) has.forks) in
+    let d2544 : drop 2544 payload ≡ y1 = next 496 2048 payload s.marked.bytes y1 d496 has.marked in
+    let d2800 : drop 2800 payload ≡ y2 = next 2544 256 payload (table_bytes s.identities.words) y2 d2544 (length-table s.identities.words ∙ ap (λ (n : ℕ). 8 * n) has.identities) in
+    let d2864 : drop 2864 payload ≡ zeroes 1104 = next 2800 64 payload (table_bytes s.changed) (zeroes 1104) d2800 (length-table s.changed ∙ ap (λ (n : ℕ). 8 * n) has.changed) in
     record {
       mirror = (z10, apart);
       export_blocks = (z9, d16);
@@ -99,12 +109,14 @@ stands s payload has is =
       sets = (z3, d168);
       digest = (z2, d424);
       lineages = (z1, d432);
-      forks = (s.marked.bytes ++ zeroes 1424, d464);
-      marked = (zeroes 1424, d496);
+      forks = (y0, d464);
+      marked = (y1, d496);
+      identities = (y2, d2544);
+      changed = (zeroes 1104, d2800);
       whole =
-          let left = length-drop 496 payload in
-          let end : length (drop 496 payload) ≡ length s.marked.bytes + length (zeroes 1424) = ap length d496 ∙ length-append s.marked.bytes (zeroes 1424) in
-          omega (arith, left, end, has.marked, length-zeroes 1424);
+          let left = length-drop 2864 payload in
+          let end : length (drop 2864 payload) ≡ 1104 = ap length d2864 ∙ length-zeroes 1104 in
+          omega (arith, left, end);
     }
 
 -- the digest takes the place of the zeroes

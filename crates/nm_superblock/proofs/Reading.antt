@@ -55,10 +55,10 @@ flag-back true = refl
 flag-back false = refl
 
 -- a superblock is determined by its fields
-pub same : (s : Superblock) (generation mirror blocks region_blocks span_regions stripes legs leg : ℕ) (clean : Bool) (leg_ids seen sets lineages forks marked : List ℕ)
-    → generation ≡ s.generation → mirror ≡ s.mirror → blocks ≡ s.blocks → region_blocks ≡ s.region_blocks → span_regions ≡ s.span_regions
+pub same : (s : Superblock) (version generation mirror blocks region_blocks span_regions stripes legs leg : ℕ) (clean : Bool) (leg_ids seen sets lineages forks marked identities changed : List ℕ)
+    → version ≡ s.version → generation ≡ s.generation → mirror ≡ s.mirror → blocks ≡ s.blocks → region_blocks ≡ s.region_blocks → span_regions ≡ s.span_regions
     → stripes ≡ s.stripes → legs ≡ s.legs → leg ≡ s.leg → clean ≡ s.clean
-    → leg_ids ≡ s.leg_ids → seen ≡ s.seen → sets ≡ s.sets.bytes → lineages ≡ s.lineages → forks ≡ s.forks → marked ≡ s.marked.bytes
-    → ◌≡◌ {A = Superblock} (record { generation = generation; mirror = mirror; blocks = blocks; region_blocks = region_blocks; span_regions = span_regions; stripes = stripes; legs = legs; leg = leg; clean = clean; leg_ids = leg_ids; seen = seen; sets = record { bytes = sets }; lineages = lineages; forks = forks; marked = record { bytes = marked } }) s
-same s generation mirror blocks region_blocks span_regions stripes legs leg clean leg_ids seen sets lineages forks marked e1 e2 e3 e4 e5 e6 e7 e8 e9 e10 e11 e12 e13 e14 e15 =
-    rw (e1, e2, e3, e4, e5, e6, e7, e8, e9, e10, e11, e12, e13, e14, e15) refl
+    → leg_ids ≡ s.leg_ids → seen ≡ s.seen → sets ≡ s.sets.bytes → lineages ≡ s.lineages → forks ≡ s.forks → marked ≡ s.marked.bytes → identities ≡ s.identities.words → changed ≡ s.changed
+    → ◌≡◌ {A = Superblock} (record { version = version; generation = generation; mirror = mirror; blocks = blocks; region_blocks = region_blocks; span_regions = span_regions; stripes = stripes; legs = legs; leg = leg; clean = clean; leg_ids = leg_ids; seen = seen; sets = record { bytes = sets }; lineages = lineages; forks = forks; marked = record { bytes = marked }; identities = record { words = identities }; changed = changed }) s
+same s version generation mirror blocks region_blocks span_regions stripes legs leg clean leg_ids seen sets lineages forks marked identities changed e1 e2 e3 e4 e5 e6 e7 e8 e9 e10 e11 e12 e13 e14 e15 e16 e17 e18 =
+    rw (e1, e2, e3, e4, e5, e6, e7, e8, e9, e10, e11, e12, e13, e14, e15, e16, e17, e18) refl

@@ -16,7 +16,7 @@ use Rattle.nm_superblock.proofs.Unique.{length-payload, slot-stamp, slots-are_re
 -- a slot has 4,096 bytes
 pub length-slot : (s : Superblock) → IsSuperblock s → length (slot_bytes s) ≡ 4096
 unfolding slot_bytes
-length-slot s is = length-sectors s.generation 8 (payload_bytes s) (omega (arith, length-payload s is))
+length-slot s is = length-sectors s.version s.generation 8 (payload_bytes s) (omega (arith, length-payload s is))
 
 -- a sector's stamp stands in it
 in-sector : (number : ℕ) (slot : List ℕ) → stamp_of number slot ≡ big_number 8 (drop 8 (sector_of number slot))

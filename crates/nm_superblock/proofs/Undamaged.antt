@@ -3,7 +3,7 @@ use Rattle.std.proofs.Common.{◌≡◌, ◌⊎◌, ⊎_elim, inl, inr, ℕ, ◌
 use Rattle.std.proofs.lemmas.List.{take_at}
 use Rattle.nm_superblock.specs.declared.superblock.Superblock.{Superblock}
 use Rattle.nm_superblock.specs.Bounds.{IsSuperblock}
-use Rattle.nm_superblock.specs.Damage.{HasBadSector, HasHead, HasOneStamp, IsBad, IsDamaged, TornIsUndamaged}
+use Rattle.nm_superblock.specs.Damage.{HasBadSector, HasHead, HasHeadOf, HasOneStamp, IsBad, IsDamaged, TornIsUndamaged}
 use Rattle.nm_superblock.specs.Layout.{header_bytes, payload_bytes, piece_bytes, slot_bytes}
 use Rattle.nm_superblock.specs.Sectors.{sector_of}
 use Rattle.nm_superblock.specs.Slots.{HasStampsBelow, IsTorn, ReadsAs}
@@ -17,12 +17,17 @@ unfolding slot_bytes
 slot-head s number is below =
     let stamp = slot-stamp s number is below in
     let bound = is.bounds.generation in
-    let sector = sector-is s.generation 8 number (payload_bytes s) below (omega (arith, length-payload s is)) in
+    let sector = sector-is s.version s.generation 8 number (payload_bytes s) below (omega (arith, length-payload s is)) in
+    let head : HasHeadOf s.version number (slot_bytes s) =
+    ap (take 16) sector
+    ∙ take_at (header_bytes s.version s.generation number) (piece_bytes number (payload_bytes s)) 16 (length-header s.version s.generation number)
+    ∙ ap (λ (g : ℕ). header_bytes s.version g number) (sym stamp) in
     record {
       stamp = omega (arith, stamp, bound);
-      head = ap (take 16) sector
-          ∙ take_at (header_bytes s.generation number) (piece_bytes number (payload_bytes s)) 16 (length-header s.generation number)
-          ∙ ap (λ (g : ℕ). header_bytes g number) (sym stamp);
+      head = ⊎_elim
+          (λ one. inl (subst (λ (v : ℕ). HasHeadOf v number (slot_bytes s)) one.0 head))
+          (λ two. inr (subst (λ (v : ℕ). HasHeadOf v number (slot_bytes s)) two head))
+          is.bounds.version;
     }
 
 -- sectors that are the same have heads that are the same
@@ -31,7 +36,10 @@ same-head number a b is has =
     let stamp = same-stamp number a b is in
     record {
       stamp = subst (λ (g : ℕ). 1 ≤ g) stamp has.stamp;
-      head = ap (take 16) (sym is) ∙ has.head ∙ ap (λ (g : ℕ). header_bytes g number) stamp;
+      head = ⊎_elim
+          (λ one. inl (ap (take 16) (sym is) ∙ one ∙ ap (λ (g : ℕ). header_bytes 1 g number) stamp))
+          (λ two. inr (ap (take 16) (sym is) ∙ two ∙ ap (λ (g : ℕ). header_bytes 2 g number) stamp))
+          has.head;
     }
 
 same-bad : (number : ℕ) (a b : List ℕ) → sector_of number a ≡ sector_of number b → IsBad number a → IsBad number b

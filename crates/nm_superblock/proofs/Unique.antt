@@ -6,11 +6,11 @@ use Rattle.byteorder.specs.Endian.{big_number}
 use Rattle.byteorder.specs.Numbers.{big_number-reads_back, length-bytes_high_first}
 use Rattle.nm_superblock.specs.declared.superblock.Superblock.{Superblock}
 use Rattle.nm_superblock.specs.Bounds.{AreNumbers, IsSuperblock}
-use Rattle.nm_superblock.specs.Layout.{be, payload_bytes, slot_bytes, table_bytes}
+use Rattle.nm_superblock.specs.Layout.{be, header_bytes, payload_bytes, slot_bytes, table_bytes}
 use Rattle.nm_superblock.specs.Slots.{SlotsAreRead}
 use Rattle.nm_superblock.proofs.Fields.{Stands, fits-tables, stands}
 use Rattle.nm_superblock.proofs.Reading.{bytes-at, same}
-use Rattle.nm_superblock.proofs.Standing.{pieces-all, stamp-is}
+use Rattle.nm_superblock.proofs.Standing.{pieces-all, sector-at, stamp-is}
 use Rattle.nm_superblock.specs.Sectors.{pieces_of, stamp_of}
 
 -- a payload has 3,968 bytes
@@ -21,12 +21,19 @@ length-payload s is = (stands s (payload_bytes s) (fits-tables s is.fits) refl).
 pub slot-stamp : (s : Superblock) (number : ℕ) → IsSuperblock s → number < 8 → stamp_of number (slot_bytes s) ≡ s.generation
 unfolding slot_bytes
 slot-stamp s number is below =
-    stamp-is s.generation 8 number (payload_bytes s) below (omega (arith, length-payload s is)) is.fits.generation
+    stamp-is s.version s.generation 8 number (payload_bytes s) below (omega (arith, length-payload s is)) is.fits.generation
+
+-- its version in the head of the first
+pub slot-version : (s : Superblock) → IsSuperblock s → get_or (slot_bytes s) 4 0 ≡ s.version
+unfolding slot_bytes header_bytes
+slot-version s is =
+    let at = sector-at s.version s.generation 8 0 (payload_bytes s) (omega arith) (omega (arith, length-payload s is)) in
+    ap (λ (xs : List ℕ). get_or xs 4 0) at.1
 
 -- and its payload in their pieces
 pub slot-pieces : (s : Superblock) → IsSuperblock s → pieces_of 8 (slot_bytes s) ≡ payload_bytes s
 unfolding slot_bytes
-slot-pieces s is = pieces-all s.generation (payload_bytes s) (length-payload s is)
+slot-pieces s is = pieces-all s.version s.generation (payload_bytes s) (length-payload s is)
 
 -- the number that stands at the head of bytes is one
 one-number : (n x y : ℕ) (xs r q : List ℕ) → x < 256 ^ n → y < 256 ^ n → xs ≡ be n x ++ r → xs ≡ be n y ++ q → x ≡ y
@@ -62,12 +69,12 @@ one-flag false true is = absurd (omega (arith, is))
 one-flag false false is = refl
 
 -- payloads that are the same are of superblocks that are the same
-same-fields : (s t : Superblock) (payload : List ℕ) → IsSuperblock s → IsSuperblock t → s.generation ≡ t.generation
+same-fields : (s t : Superblock) (payload : List ℕ) → IsSuperblock s → IsSuperblock t → s.version ≡ t.version → s.generation ≡ t.generation
     → Stands s payload → Stands t payload → s ≡ t
-same-fields s t payload is_s is_t generation a b =
+same-fields s t payload is_s is_t version generation a b =
     let small = sym a.small.1 ∙ b.small.1 in
-    same t s.generation s.mirror s.blocks s.region_blocks s.span_regions s.stripes s.legs s.leg s.clean s.leg_ids s.seen s.sets.bytes s.lineages s.forks s.marked.bytes
-    generation
+    same t s.version s.generation s.mirror s.blocks s.region_blocks s.span_regions s.stripes s.legs s.leg s.clean s.leg_ids s.seen s.sets.bytes s.lineages s.forks s.marked.bytes s.identities.words s.changed
+    version generation
     (one-number 16 s.mirror t.mirror payload a.mirror.0 b.mirror.0 is_s.fits.mirror is_t.fits.mirror a.mirror.1 b.mirror.1)
     (one-number 8 s.blocks t.blocks (drop 16 payload) a.export_blocks.0 b.export_blocks.0 is_s.fits.blocks is_t.fits.blocks a.export_blocks.1 b.export_blocks.1)
     (one-number 4 s.region_blocks t.region_blocks (drop 24 payload) a.region_blocks.0 b.region_blocks.0 is_s.fits.region_blocks is_t.fits.region_blocks a.region_blocks.1 b.region_blocks.1)
@@ -82,9 +89,12 @@ same-fields s t payload is_s is_t generation a b =
     (same-tables 4 s.lineages t.lineages (drop 432 payload) a.lineages.0 b.lineages.0 is_s.fits.lineages is_t.fits.lineages a.lineages.1 b.lineages.1)
     (same-tables 4 s.forks t.forks (drop 464 payload) a.forks.0 b.forks.0 is_s.fits.forks is_t.fits.forks a.forks.1 b.forks.1)
     (sym (bytes-at 2048 (drop 496 payload) s.marked.bytes a.marked.0 is_s.fits.marked a.marked.1) ∙ bytes-at 2048 (drop 496 payload) t.marked.bytes b.marked.0 is_t.fits.marked b.marked.1)
+    (same-tables 32 s.identities.words t.identities.words (drop 2544 payload) a.identities.0 b.identities.0 is_s.fits.identities is_t.fits.identities a.identities.1 b.identities.1)
+    (same-tables 8 s.changed t.changed (drop 2800 payload) a.changed.0 b.changed.0 is_s.fits.changed is_t.fits.changed a.changed.1 b.changed.1)
 
 pub slots-are_read : SlotsAreRead
 slots-are_read s t is_s is_t is =
     let generation : s.generation ≡ t.generation = sym (slot-stamp s 0 is_s (omega arith)) ∙ ap (stamp_of 0) is ∙ slot-stamp t 0 is_t (omega arith) in
     let payload : payload_bytes s ≡ payload_bytes t = sym (slot-pieces s is_s) ∙ ap (pieces_of 8) is ∙ slot-pieces t is_t in
-    same-fields s t (payload_bytes s) is_s is_t generation (stands s (payload_bytes s) (fits-tables s is_s.fits) refl) (stands t (payload_bytes s) (fits-tables t is_t.fits) payload)
+    let version : s.version ≡ t.version = sym (slot-version s is_s) ∙ ap (λ (xs : List ℕ). get_or xs 4 0) is ∙ slot-version t is_t in
+    same-fields s t (payload_bytes s) is_s is_t version generation (stands s (payload_bytes s) (fits-tables s is_s.fits) refl) (stands t (payload_bytes s) (fits-tables t is_t.fits) payload)

@@ -1,9 +1,19 @@
 -- Which superblocks there are: the numbers' bounds, and that each fits its field.
-use Rattle.std.specs.Prelude.{◌≡◌, ◌<◌, ◌≤◌, ◌^◌, ℕ, List, length, slice_index}
+use Rattle.std.specs.Prelude.{◌≡◌, ◌⊎◌, ◌<◌, ◌≤◌, ◌^◌, ℕ, List, length, replicate, slice_index}
 use Rattle.nm_superblock.specs.declared.superblock.Superblock.{Superblock}
+
+-- a superblock of version 1 tells of no leg's identity, nor of a time
+pub record IsUntold (s : Superblock) : Type 0 where
+  pub identities : s.identities.words ≡ replicate 32 0
+  pub changed : s.changed ≡ replicate 8 0
+
+-- it is of version 2, or of version 1 and tells no more than that has
+abbrev pub HasVersion : Superblock → Type 0
+HasVersion s = ((s.version ≡ 1) × IsUntold s) ⊎ (s.version ≡ 2)
 
 -- each number is within its bounds
 pub record IsInBounds (s : Superblock) : Type 0 where
+  pub version : HasVersion s
   pub generation : 1 ≤ s.generation
   pub blocks : (1 ≤ s.blocks) × (s.blocks ≤ 2 ^ 31)
   pub region_blocks : 1 ≤ s.region_blocks
@@ -30,6 +40,9 @@ pub record Fits (s : Superblock) : Type 0 where
   pub lineages : AreNumbers 4 s.lineages
   pub forks : AreNumbers 4 s.forks
   pub marked : length s.marked.bytes ≡ 2048
+  pub identities : AreNumbers 32 s.identities.words
+  pub changed : AreNumbers 8 s.changed
+  pub version : s.version < 2 ^ 8
 
 -- a superblock that can be kept
 pub record IsSuperblock (s : Superblock) : Type 0 where

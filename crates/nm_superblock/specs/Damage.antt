@@ -6,10 +6,15 @@ use Rattle.nm_superblock.specs.Layout.{header_bytes, slot_bytes, zeroes}
 use Rattle.nm_superblock.specs.Sectors.{sector_of, stamp_of}
 use Rattle.nm_superblock.specs.Slots.{HasStampsBelow, IsTorn, Place, ReadsAs}
 
+-- a sector has the head of a version, under its stamp
+abbrev pub HasHeadOf : (version number : ℕ) → List ℕ → Type 0
+HasHeadOf version number slot =
+    take 16 (sector_of number slot) ≡ header_bytes version (stamp_of number slot) number
+
 -- a sector's head is valid: it is that of its number under its stamp, which is not 0
 pub record HasHead (number : ℕ) (slot : List ℕ) : Type 0 where
   pub stamp : 1 ≤ stamp_of number slot
-  pub head : take 16 (sector_of number slot) ≡ header_bytes (stamp_of number slot) number
+  pub head : HasHeadOf 1 number slot ⊎ HasHeadOf 2 number slot
 
 -- each head is valid, and all have one stamp, as only a save that was whole leaves them
 abbrev pub HasOneStamp : List ℕ → Type 0

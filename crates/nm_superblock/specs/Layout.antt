@@ -28,7 +28,8 @@ head_bytes s =
 -- the payload after its digest, 3,536 bytes
 unfoldable pub tail_bytes : Superblock → List ℕ
 tail_bytes s =
-    table_bytes s.lineages ++ table_bytes s.forks ++ s.marked.bytes ++ zeroes 1424
+    table_bytes s.lineages ++ table_bytes s.forks ++ s.marked.bytes
+    ++ table_bytes s.identities.words ++ table_bytes s.changed ++ zeroes 1104
 
 -- the digest, 8 bytes: the first of the SHA-256 of the payload with zeroes in its place
 unfoldable pub digest_bytes : Superblock → List ℕ
@@ -38,22 +39,22 @@ digest_bytes s = take 8 (sha256 (head_bytes s ++ zeroes 8 ++ tail_bytes s))
 unfoldable pub payload_bytes : Superblock → List ℕ
 payload_bytes s = head_bytes s ++ digest_bytes s ++ tail_bytes s
 
--- a sector's header, 16 bytes: "NMRS", version 1, the sector's number, two zeroes, and the stamp
-unfoldable pub header_bytes : (generation number : ℕ) → List ℕ
-header_bytes generation number =
-    (0x4e ∷ 0x4d ∷ 0x52 ∷ 0x53 ∷ 1 ∷ number ∷ 0 ∷ 0 ∷ []) ++ be 8 generation
+-- a sector's header, 16 bytes: "NMRS", the version, the sector's number, two zeroes, and the stamp
+unfoldable pub header_bytes : (version generation number : ℕ) → List ℕ
+header_bytes version generation number =
+    (0x4e ∷ 0x4d ∷ 0x52 ∷ 0x53 ∷ version ∷ number ∷ 0 ∷ 0 ∷ []) ++ be 8 generation
 
 -- the piece of the payload that a sector has, 496 bytes
 abbrev pub piece_bytes : (number : ℕ) → List ℕ → List ℕ
 piece_bytes number payload = take 496 (drop (496 * number) payload)
 
--- the first sectors of a payload under a stamp
-unfoldable pub sectors_bytes : (generation count : ℕ) → List ℕ → List ℕ
-sectors_bytes generation zero payload = []
-sectors_bytes generation (suc number) payload =
-    sectors_bytes generation number payload
-    ++ (header_bytes generation number ++ piece_bytes number payload)
+-- the first sectors of a payload, of a version and under a stamp
+unfoldable pub sectors_bytes : (version generation count : ℕ) → List ℕ → List ℕ
+sectors_bytes version generation zero payload = []
+sectors_bytes version generation (suc number) payload =
+    sectors_bytes version generation number payload
+    ++ (header_bytes version generation number ++ piece_bytes number payload)
 
 -- the slot of a superblock, 4,096 bytes
 unfoldable pub slot_bytes : Superblock → List ℕ
-slot_bytes s = sectors_bytes s.generation 8 (payload_bytes s)
+slot_bytes s = sectors_bytes s.version s.generation 8 (payload_bytes s)

@@ -1,4 +1,5 @@
 pub mod Layout
+pub mod Identities
 pub mod Bounds
 pub mod Sectors
 pub mod Slots

@@ -5,6 +5,7 @@
 #![tactic(auto)]
 
 pub use damage::{is_damaged, is_place_damaged};
+pub use leg_identities::LegIdentities;
 pub use leg_sets::LegSets;
 pub use place::{highest_stamp, is_second_written, newer, next_generation};
 pub use span_map::SpanMap;
@@ -13,6 +14,7 @@ pub use superblock::Superblock;
 mod bytes;
 mod damage;
 pub mod laws;
+mod leg_identities;
 mod leg_sets;
 mod payload;
 mod place;

@@ -7,6 +7,7 @@ ghost use Rattle.nm_superblock.specs.Layout.{payload_bytes};
 use crate::bytes::{
     get_table, get_u32, get_u64, put_bytes, put_table, put_u32, put_u64, put_u128, put_zeroes,
 };
+use crate::leg_identities::LegIdentities;
 use crate::leg_sets::LegSets;
 use crate::span_map::SpanMap;
 use crate::superblock::Superblock;
@@ -47,16 +48,18 @@ impl Superblock {
         put_table(payload, 432, &self.lineages);
         put_table(payload, 464, &self.forks);
         put_bytes(payload, 496, &self.marked.bytes);
-        put_zeroes(payload, 2544, 1424);
+        put_table(payload, 2544, &self.identities.words);
+        put_table(payload, 2800, &self.changed);
+        put_zeroes(payload, 2864, 1104);
     }
 }
 
 // What a payload says, field by field, whatever it is: a superblock's payload says that superblock.
-pub(crate) fn read_payload(generation: u64, payload: &[u8; 3968]) -> Superblock
+pub(crate) fn read_payload(version: u8, generation: u64, payload: &[u8; 3968]) -> Superblock
     ensures fits { Fits result }
     ensures generation { result.generation ≡ generation }
-    ensures reads_back { (s : Superblock) → Fits s → s.generation ≡ generation
-        → payload.now ≡ payload_bytes s → result ≡ s }
+    ensures reads_back { (s : Superblock) → Fits s → s.version ≡ version
+        → s.generation ≡ generation → payload.now ≡ payload_bytes s → result ≡ s }
 {
     let mut leg_ids = [0; 8];
     get_table(payload, 40, &mut leg_ids);
@@ -70,7 +73,12 @@ pub(crate) fn read_payload(generation: u64, payload: &[u8; 3968]) -> Superblock
     get_table(payload, 464, &mut forks);
     let mut marked = [0; 2048];
     marked.copy_from_slice(&payload[496..2544]);
+    let mut words = [0; 32];
+    get_table(payload, 2544, &mut words);
+    let mut changed = [0; 8];
+    get_table(payload, 2800, &mut changed);
     Superblock {
+        version,
         generation,
         mirror: BigEndian::read_u128(payload),
         blocks: get_u64(payload, 16),
@@ -86,6 +94,8 @@ pub(crate) fn read_payload(generation: u64, payload: &[u8; 3968]) -> Superblock
         lineages,
         forks,
         marked: SpanMap { bytes: marked },
+        identities: LegIdentities { words },
+        changed,
     }
 }
 

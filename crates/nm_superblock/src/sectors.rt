@@ -1,6 +1,7 @@
 //! The sectors of a slot: a header with the stamp, and a piece of the payload.
 ghost use Rattle.std.specs.Prelude.{◌≡◌, ◌+◌, ◌*◌, ◌<◌, ◌++◌, ◌↔◌, IsTrue, length, take};
-ghost use Rattle.nm_superblock.specs.Damage.{HasHead, IsBlank};
+ghost use Rattle.std.specs.Prelude.{slice_index};
+ghost use Rattle.nm_superblock.specs.Damage.{HasHead, HasHeadOf, IsBlank};
 ghost use Rattle.nm_superblock.specs.Layout.{header_bytes, sectors_bytes};
 ghost use Rattle.nm_superblock.specs.Sectors.{pieces_of, stamp_of};
 
@@ -15,22 +16,27 @@ const HEADER: usize = 16;
 const PIECE: usize = SECTOR - HEADER;
 
 // The header of this sector.
-fn header(generation: u64, number: u8) -> [u8; 16]
-    ensures { result ≡ header_bytes generation number }
+fn header(version: u8, generation: u64, number: u8) -> [u8; 16]
+    ensures { result ≡ header_bytes version generation number }
 {
     let mut header = [
-        0x4e, 0x4d, 0x52, 0x53, 1, number, 0, 0, 0, 0, 0, 0, 0, 0, 0, 0,
+        0x4e, 0x4d, 0x52, 0x53, version, number, 0, 0, 0, 0, 0, 0, 0, 0, 0, 0,
     ];
     put_u64(&mut header, 8, generation);
     header
 }
 
-// Writes the sectors of this payload under this stamp.
-pub(crate) fn write_sectors(generation: u64, payload: &[u8; 3968], slot: &mut [u8; 4096])
-    ensures { slot.new ≡ sectors_bytes generation 8 payload.now }
+// Writes the sectors of this payload, of this version and under this stamp.
+pub(crate) fn write_sectors(
+    version: u8,
+    generation: u64,
+    payload: &[u8; 3968],
+    slot: &mut [u8; 4096],
+)
+    ensures { slot.new ≡ sectors_bytes version generation 8 payload.now }
 {
     'sectors: for number in 0..SECTORS {
-        let header = header(generation, number as u8);
+        let header = header(version, generation, number as u8);
         put_bytes(slot, SECTOR * number, &header);
         let piece = &payload[PIECE * number..PIECE * number + PIECE];
         put_bytes(slot, SECTOR * number + HEADER, piece);
@@ -50,9 +56,23 @@ pub(crate) fn has_head(slot: &[u8; 4096], number: usize) -> bool
     requires { number < 8 }
     ensures { IsTrue result ↔ HasHead number slot.now }
 {
-    let stamp = read_stamp(slot, number);
-    let head = header(stamp, number as u8);
-    stamp >= 1 && is_same(&slot[SECTOR * number..SECTOR * number + HEADER], &head)
+    read_stamp(slot, number) >= 1 && (has_head_of(slot, number, 1) || has_head_of(slot, number, 2))
+}
+
+// Whether this sector has the head of this version.
+fn has_head_of(slot: &[u8; 4096], number: usize, version: u8) -> bool
+    requires { number < 8 }
+    ensures { IsTrue result ↔ HasHeadOf version number slot.now }
+{
+    let head = header(version, read_stamp(slot, number), number as u8);
+    is_same(&slot[SECTOR * number..SECTOR * number + HEADER], &head)
+}
+
+// The version of the format that the first sector's header says, whatever it is.
+pub(crate) fn read_version(slot: &[u8; 4096]) -> u8
+    ensures { result ≡ slice_index slot.now 4 }
+{
+    slot[4]
 }
 
 // Whether this sector has zeroes alone.

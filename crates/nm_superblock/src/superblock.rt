@@ -1,16 +1,19 @@
 ghost use Rattle.std.specs.Prelude.{◌≡◌, ◌↔◌, IsTrue, IfSome};
 ghost use Rattle.nm_superblock.specs.Layout.{slot_bytes};
-ghost use Rattle.nm_superblock.specs.Bounds.{IsInBounds, IsSuperblock};
+ghost use Rattle.nm_superblock.specs.Bounds.{HasVersion, IsInBounds, IsSuperblock};
 
+use crate::leg_identities::LegIdentities;
 use crate::leg_sets::LegSets;
 use crate::payload::read_payload;
-use crate::sectors::{read_pieces, read_stamp, write_sectors};
+use crate::sectors::{read_pieces, read_stamp, read_version, write_sectors};
 use crate::span_map::SpanMap;
 
 /// What is kept beside each leg of a mirror: the mirror's shape, and for each stripe which legs are
 /// current.
 #[derive(Clone, Copy, Debug, PartialEq, Eq)]
 pub struct Superblock {
+    /// The version of its format: 1, which tells of no identities, or 2.
+    pub version: u8,
     /// Its number: each save has a greater one than any before it.
     pub generation: u64,
     /// The mirror's id, random, from its first superblock on.
@@ -42,6 +45,10 @@ pub struct Superblock {
     pub forks: [u64; 4],
     /// The spans in which legs may differ.
     pub marked: SpanMap,
+    /// For each leg the identity of its file or device.
+    pub identities: LegIdentities,
+    /// For each leg the time of its last change, in nanoseconds; 0 where it is unknown.
+    pub changed: [u64; 8],
 }
 
 impl Superblock {
@@ -53,7 +60,17 @@ impl Superblock {
         let spans = self.region_blocks >= 1 && self.span_regions >= 1;
         let stripes = self.stripes >= 1 && self.stripes <= 64;
         let legs = self.legs >= 1 && self.legs <= 8 && self.leg < self.legs;
-        self.generation >= 1 && shape && spans && stripes && legs
+        self.generation >= 1 && self.has_version() && shape && spans && stripes && legs
+    }
+
+    // Whether it is of a version, and tells no more than that has.
+    fn has_version(&self) -> bool
+        ensures { IsTrue result ↔ HasVersion self.now }
+    {
+        match self.version {
+            1 => self.identities.words == [0; 32] && self.changed == [0; 8],
+            version => version == 2,
+        }
     }
 
     /// Writes the superblock's bytes, each sector with the generation as its stamp.
@@ -63,7 +80,7 @@ impl Superblock {
     {
         let mut payload = [0; 3968];
         self.put(&mut payload);
-        write_sectors(self.generation, &payload, slot);
+        write_sectors(self.version, self.generation, &payload, slot);
     }
 
     /// The superblock that a slot holds: none, unless the slot has exactly the bytes of one.
@@ -72,7 +89,8 @@ impl Superblock {
         ensures reads_back { (s : Superblock) → IsSuperblock s → slot.now ≡ slot_bytes s
             → result ≡ Some s }
     {
-        let superblock = read_payload(read_stamp(slot, 0), &read_pieces(slot));
+        let stamp = read_stamp(slot, 0);
+        let superblock = read_payload(read_version(slot), stamp, &read_pieces(slot));
         if !superblock.is_in_bounds() {
             return None;
         }

@@ -24,20 +24,25 @@ enum Node {
     File(u64, u64),
 }
 
+/// The major and the minor number of a device.
+pub fn device_of(device: u64) -> (u64, u64) {
+    let major = (device >> 8) & 0xfff | (device >> 32) & 0xffff_f000;
+    let minor = device & 0xff | (device >> 12) & 0xffff_ff00;
+    (major, minor)
+}
+
 // What the metadata are of.
 fn node_of(metadata: &Metadata) -> Node {
     if metadata.file_type().is_block_device() {
-        let device = metadata.rdev();
-        let major = (device >> 8) & 0xfff | (device >> 32) & 0xffff_f000;
-        let minor = device & 0xff | (device >> 12) & 0xffff_ff00;
+        let (major, minor) = device_of(metadata.rdev());
         Node::Device(major, minor)
     } else {
         Node::File(metadata.dev(), metadata.ino())
     }
 }
 
-// The text of bytes, without the line's end.
-fn line_of(bytes: &[u8]) -> &[u8] {
+/// The text of bytes, without the line's end.
+pub fn line_of(bytes: &[u8]) -> &[u8] {
     match bytes {
         [line @ .., b'\n'] => line,
         line => line,

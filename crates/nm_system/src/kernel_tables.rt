@@ -8,12 +8,14 @@ use std::alloc::{AllocError, Global};
 pub struct MountLine<'a> {
     /// The number of its device, as `8:1`.
     pub device: &'a [u8],
+    /// The kind of its file system, as `ext4`.
+    pub kind: &'a [u8],
     /// What is mounted, with escapes.
     pub source: &'a [u8],
 }
 
-/// The mount of a line of `/proc/self/mountinfo`: the device is the third word, and the source the
-/// second one after a word that is a dash.
+/// The mount of a line of `/proc/self/mountinfo`: the device is the third word, and the kind and
+/// the source the two after a word that is a dash.
 pub fn mount_of(line: &[u8]) -> Option<MountLine<'_>> {
     let mut words = line.split(|byte| *byte == b' ');
     let device = words.nth(2)?;
@@ -22,8 +24,13 @@ pub fn mount_of(line: &[u8]) -> Option<MountLine<'_>> {
             break;
         }
     }
-    let source = words.nth(1)?;
-    Some(MountLine { device, source })
+    let kind = words.next()?;
+    let source = words.next()?;
+    Some(MountLine {
+        device,
+        kind,
+        source,
+    })
 }
 
 /// The file of a line of `/proc/swaps`, with escapes: its first word.

@@ -1,10 +1,12 @@
 //! What the operating system tells of a leg and of this process.
 //!
-//! `is_in_use` says whether a leg is mounted or otherwise in use, `Limits` what the process may use
+//! `is_in_use` says whether a leg is mounted or otherwise in use, `identity_of` what tells it from
+//! all others, `Limits` what the process may use
 //! at most, and `take_standard_streams` keeps standard input, output and error from becoming legs.
 //! `is_journal` says whether standard error goes to the system's journal.
 #![tactic(auto)]
 
+mod identity;
 mod in_use;
 mod journal;
 mod kernel_tables;
@@ -12,6 +14,7 @@ mod limits;
 mod standard_streams;
 mod system_files;
 
+pub use crate::identity::identity_of;
 pub use crate::in_use::is_in_use;
 pub use crate::journal::is_journal;
 pub use crate::limits::{Limits, is_below};

@@ -1,6 +1,6 @@
 use Rattle.std.proofs.Common.{codes, refl}
 use Rattle.clap.specs.Words.{found_of, rows_of}
-use Rattle.nm_commands.proofs.Said.{said_text, said_number, said_number_if_any, said_flag, said_place, said_words}
+use Rattle.nm_commands.proofs.Said.{said_text, said_number, said_number_if_any, said_flag, said_place, said_words, said_all}
 use Rattle.nm_commands.proofs.command_line.settings_of.Goals as goal
 
 pub returns-clause-ok : goal.returns-clause-ok
@@ -14,6 +14,7 @@ returns-clause-ok c =
       control = said_text f rows (codes "control") _ refl c.in_ok-control.ensures.ok;
       name = said_text f rows (codes "name") _ refl c.in_ok-name.ensures.ok;
       stripes = said_number f rows (codes "stripes") _ refl c.in_ok-stripes.ensures.ok;
+      names_stripes = c.is_named.ensures;
       policy = said_text f rows (codes "policy") _ refl c.in_ok-policy.ensures.ok;
       master = said_number_if_any f rows (codes "master") _ refl c.in_ok-master.ensures.some c.in_ok-master.ensures.none;
       start = said_text f rows (codes "start") _ refl c.in_ok-start.ensures.ok;
@@ -22,6 +23,8 @@ returns-clause-ok c =
           c.get_flag.ensures.other;
       force_master = said_number_if_any f rows (codes "force-master") _ refl
           c.in_ok-force_master.ensures.some c.in_ok-force_master.ensures.none;
+      added = said_all f rows (codes "add-leg") _ refl c.in_ok-added.ensures.ok;
+      moved = said_all f rows (codes "moved") _ refl c.in_ok-moved.ensures.ok;
       auto_attach = said_flag f rows (codes "auto-attach") _ refl
           c.get_flag-2.ensures.value c.get_flag-2.ensures.other;
       copy_rate = said_number_if_any f rows (codes "copy-rate") _ refl

@@ -4,9 +4,14 @@ use Rattle.nm_commands.proofs.superblock_options.with_superblock_options.Goals a
 
 pub returns-clause-ok : goal.returns-clause-ok
 returns-clause-ok c =
-    let one = c.in_ok-with_superblock.ensures.shape c.option-superblock.ensures.own
-    ∙ ap₂ with_rule refl c.option-superblock.ensures.rule in
+    let one = c.in_ok-with_superblock.ensures.shape c.superblock_option-superblock.ensures.own
+    ∙ ap₂ with_rule refl c.superblock_option-superblock.ensures.rule in
     let two = c.in_ok-with_degraded.ensures.shape c.flag-degraded.ensures.own
     ∙ ap₂ with_rule one c.flag-degraded.ensures.rule in
-    c.in_ok-command.ensures.shape c.bare_number_option-force_master.ensures.own
-    ∙ ap₂ with_rule two c.bare_number_option-force_master.ensures.rule
+    let three = c.in_ok-with_force_master.ensures.shape
+    c.bare_number_option-force_master.ensures.own
+    ∙ ap₂ with_rule two c.bare_number_option-force_master.ensures.rule in
+    let four = c.in_ok-with_add_leg.ensures.shape c.repeated_option-add_leg.ensures.own
+    ∙ ap₂ with_rule three c.repeated_option-add_leg.ensures.rule in
+    c.in_ok-command.ensures.shape c.repeated_option-moved.ensures.own
+    ∙ ap₂ with_rule four c.repeated_option-moved.ensures.rule

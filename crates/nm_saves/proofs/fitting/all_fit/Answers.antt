@@ -16,6 +16,9 @@ returns c = record {
     lineages = record { size = omega arith; fit = c.table_fits-3.ensures.fit };
     forks = record { size = omega arith; fit = c.table_fits-4.ensures.fit };
     marked = c.marks_fit.ensures;
+    identities = record { size = omega arith; fit = c.table_fits-5.ensures.fit };
+    changed = record { size = omega arith; fit = c.table_fits-6.ensures.fit };
+    version = c.version_fits.ensures;
   };
   bounds = c.requires;
 }

@@ -17,17 +17,20 @@ returns-clause-fits c = record {
   lineages = c.get_table-3.ensures.fits;
   forks = c.get_table-4.ensures.fits;
   marked = omega arith;
+  identities = c.get_table-5.ensures.fits;
+  changed = c.get_table-6.ensures.fits;
+  version = omega arith;
 }
 
 pub returns-clause-reads_back : goal.returns-clause-reads_back
-returns-clause-reads_back c s fits generation is =
+returns-clause-reads_back c s fits version generation is =
     let p = c.args.payload.now in
     let at = stands s p (fits-tables s fits) is in
     let small : List ℕ = (s.stripes ∷ s.legs ∷ s.leg ∷ (if s.clean then 1 else 0) ∷ 0 ∷ 0 ∷ 0 ∷ 0 ∷ []) ++ at.small.0 in
-    same s c.args.generation c.read_u128.result c.get_u64.result c.get_u32.result c.get_u32-2.result
+    same s c.args.version c.args.generation c.read_u128.result c.get_u64.result c.get_u32.result c.get_u32-2.result
     (get_or p 32 0) (get_or p 33 0) (get_or p 34 0) (get_or p 35 0 == 1)
-    c.get_table.new.numbers c.get_table-2.new.numbers c.copy_from_slice.new.self c.get_table-3.new.numbers c.get_table-4.new.numbers c.copy_from_slice-2.new.self
-    (sym generation)
+    c.get_table.new.numbers c.get_table-2.new.numbers c.copy_from_slice.new.self c.get_table-3.new.numbers c.get_table-4.new.numbers c.copy_from_slice-2.new.self c.get_table-5.new.numbers c.get_table-6.new.numbers
+    (sym version) (sym generation)
     (number-at 16 c.read_u128.result s.mirror p at.mirror.0 fits.mirror at.mirror.1 c.read_u128.ensures)
     (number-at 8 c.get_u64.result s.blocks (drop 16 p) at.export_blocks.0 fits.blocks at.export_blocks.1 c.get_u64.ensures)
     (number-at 4 c.get_u32.result s.region_blocks (drop 24 p) at.region_blocks.0 fits.region_blocks at.region_blocks.1 c.get_u32.ensures)
@@ -42,3 +45,5 @@ returns-clause-reads_back c s fits generation is =
     (c.get_table-3.ensures.reads_back s.lineages at.lineages.0 fits.lineages at.lineages.1)
     (c.get_table-4.ensures.reads_back s.forks at.forks.0 fits.forks at.forks.1)
     (c.copy_from_slice-2.ensures.after ∙ bytes-at 2048 (drop 496 p) s.marked.bytes at.marked.0 fits.marked at.marked.1)
+    (c.get_table-5.ensures.reads_back s.identities.words at.identities.0 fits.identities at.identities.1)
+    (c.get_table-6.ensures.reads_back s.changed at.changed.0 fits.changed at.changed.1)

@@ -16,7 +16,7 @@ sectors-preserved c =
     let size : 496 * n + 496 - 496 * n ≡ 496 = omega arith in
     let long = c.sectors.invariant.0 in (
       omega arith,
-      one-more c.args.generation n p c.sectors.slot c.put_bytes.new.bytes c.put_bytes-in-sectors.new.bytes c.header-header.result
+      one-more c.args.version c.args.generation n p c.sectors.slot c.put_bytes.new.bytes c.put_bytes-in-sectors.new.bytes c.header-header.result
           (take (496 * n + 496 - 496 * n) (drop (496 * n) p))
           (omega arith) c.sectors.invariant.1 c.header-header.ensures
           (ap (λ (k : ℕ). take k (drop (496 * n) p)) size)
@@ -28,4 +28,4 @@ returns c =
     let end : c.sectors.number ≡ 8 = omega arith in
     let long = c.sectors.invariant.0 in
     sym (take_all 4096 c.sectors.slot (omega (arith, long)))
-    ∙ subst (λ (k : ℕ). take (512 * k) c.sectors.slot ≡ sectors_bytes c.args.generation k c.args.payload.now) end c.sectors.invariant.1
+    ∙ subst (λ (k : ℕ). take (512 * k) c.sectors.slot ≡ sectors_bytes c.args.version c.args.generation k c.args.payload.now) end c.sectors.invariant.1

@@ -4,4 +4,4 @@ use Rattle.nm_superblock.proofs.sectors.write_sectors.Given as goal
 
 -- the first sectors are written
 abbrev pub invariant-sectors : goal.invariant-sectors
-invariant-sectors l = (length l.slot ≡ 4096) × (take (512 * l.number) l.slot ≡ sectors_bytes l.generation l.number l.payload)
+invariant-sectors l = (length l.slot ≡ 4096) × (take (512 * l.number) l.slot ≡ sectors_bytes l.version l.generation l.number l.payload)

@@ -1,69 +1,52 @@
--- The run is written, and the cursor moves past it where it stood inside.
+-- The run is written and noted, or the write failed and is noted.
 use Rattle.std.proofs.Common.{rules, ℕ, ◌+◌, ◌/◌, ◌≤◌, length, subst, arith}
 use Rattle.nm_leg.specs.Leg.{IsRun}
 use Rattle.nm_geometry.specs.Geometry.{stripe_blocks}
 use Rattle.nm_file_leg.specs.Blocks.{length-blocks_from}
-use Rattle.nm_file_leg.proofs.PlaceLemmas.{blocks-most}
-use Rattle.nm_file_leg.proofs.LegLemmas.{writes-run, writes-failed}
-use Rattle.nm_file_leg.proofs.RuleLemmas.{keeps-run, rules-write, rules-next, owns-kept}
+use Rattle.nm_file_leg.proofs.LegLemmas.{writes-failed, writes-marked, writes-run}
+use Rattle.nm_file_leg.proofs.RuleLemmas.{keeps-run, rules-write, owns-kept}
 use Rattle.nm_file_leg.proofs.file_leg.FileLegLegPart.write.Goals as goal
-use Rattle.nm_file_leg.proofs.file_leg.FileLegLegPart.write.Goals.{else-at-self-via-then-at-self+else-self-end, else-at-self-via-else-at-self}
 
-pub write_run-requires-clause-run : goal.write_run-requires-clause-run
-write_run-requires-clause-run g c =
+pub is_whole_at-keeps_holes-requires-clause-inside : goal.is_whole_at-keeps_holes-requires-clause-inside
+is_whole_at-keeps_holes-requires-clause-inside g c =
+    let leg = c.args.self.now in
+    omega (arith, leg.rules.blocks, c.requires.inside, length-blocks_from leg.stripe leg.shape 0 (stripe_blocks leg.stripe leg.shape) (g.M.Medium.held leg.medium).contents)
+
+pub write_if_long-is_written-requires-clause-run : goal.write_if_long-is_written-requires-clause-run
+write_if_long-is_written-requires-clause-run g c =
     let leg = c.args.self.now in
     subst (λ (n : ℕ). IsRun c.args.at n c.args.bytes.now) (length-blocks_from leg.stripe leg.shape _ _ _) c.requires
 
-pub write_run-requires-clause-kept : goal.write_run-requires-clause-kept
-write_run-requires-clause-kept g c =
+pub write_if_long-is_written-requires-clause-kept : goal.write_if_long-is_written-requires-clause-kept
+write_if_long-is_written-requires-clause-kept g c =
     let leg = c.args.self.now in
     let inside : c.args.at + length c.args.bytes.now / 512 ≤ stripe_blocks leg.stripe leg.shape = omega (arith, c.requires.inside, length-blocks_from leg.stripe leg.shape 0 (stripe_blocks leg.stripe leg.shape) (g.M.Medium.held leg.medium).contents) in
-    keeps-run _ leg.stripe leg.shape leg.rewritten_below c.args.at leg.dirty c.args.bytes.now (g.M.Medium.held leg.medium) c.stripe_blocks.result c.stripe_blocks.ensures.blocks inside leg.rules
+    λ is_honest whole. keeps-run _ (g.M.Medium.held leg.medium) leg.stripe leg.shape leg.writes leg.dirty leg.bounds leg.rules c.args.at c.args.bytes.now inside (c.is_whole_at-keeps_holes.ensures.0 whole) is_honest
 
-pub overflow_add-end : goal.overflow_add-end
-overflow_add-end g c =
+pub note_write-requires-clause-inside : goal.note_write-requires-clause-inside
+note_write-requires-clause-inside g c =
+    let leg = c.args.self.now in
+    omega (arith, leg.rules.blocks, c.requires.inside, length-blocks_from leg.stripe leg.shape 0 (stripe_blocks leg.stripe leg.shape) (g.M.Medium.held leg.medium).contents)
+
+pub invariant_of-self : goal.invariant_of-self
+invariant_of-self g c =
     let leg = c.args.self.now in
     let inside : c.args.at + length c.args.bytes.now / 512 ≤ stripe_blocks leg.stripe leg.shape = omega (arith, c.requires.inside, length-blocks_from leg.stripe leg.shape 0 (stripe_blocks leg.stripe leg.shape) (g.M.Medium.held leg.medium).contents) in
-    omega (arith, inside, blocks-most leg.stripe leg.shape leg.bounds, leg.bounds.most_blocks)
+    record { bounds = leg.bounds; inside = leg.inside; owns = owns-kept _ leg.stripe leg.shape (g.M.Medium.held leg.medium) (g.M.Medium.held c.write_if_long-is_written.new.medium) c.write_if_long-is_written.ensures.writes.own leg.owns; rules = rules-write _ _ leg.stripe leg.shape leg.writes leg.dirty leg.bounds leg.rules _ c.args.at c.args.bytes.now _ _ leg.inside inside c.note_write.ensures c.write_if_long-is_written.ensures.writes }
 
-pub invariant_of-self-then-not-write_run : goal.invariant_of-self-then-not-write_run
-invariant_of-self-then-not-write_run g c =
-    let leg = c.args.self.now in
-    record { bounds = leg.bounds; inside = leg.inside; owns = owns-kept _ leg.stripe leg.shape (g.M.Medium.held leg.medium) (g.M.Medium.held c.write_run.new.medium) c.write_run.ensures.own leg.owns; rules = rules-write _ _ leg.stripe leg.shape _ _ _ _ _ _ leg.rules c.write_run.ensures }
-
-pub invariant_of-self-then-self-end : goal.invariant_of-self-then-self-end
-invariant_of-self-then-self-end g c =
+pub invariant_of-self-else-not-is_written : goal.invariant_of-self-else-not-is_written
+invariant_of-self-else-not-is_written g c =
     let leg = c.args.self.now in
     let inside : c.args.at + length c.args.bytes.now / 512 ≤ stripe_blocks leg.stripe leg.shape = omega (arith, c.requires.inside, length-blocks_from leg.stripe leg.shape 0 (stripe_blocks leg.stripe leg.shape) (g.M.Medium.held leg.medium).contents) in
-    record { bounds = leg.bounds; inside = leg.inside; owns = owns-kept _ leg.stripe leg.shape (g.M.Medium.held leg.medium) (g.M.Medium.held c.write_run.new.medium) c.write_run.ensures.own leg.owns; rules = rules-next _ _ leg.stripe leg.shape _ _ _ _ _ _ (search rules) c.if-at-self.true inside leg.rules c.write_run.ensures }
+    record { bounds = leg.bounds; inside = leg.inside; owns = owns-kept _ leg.stripe leg.shape (g.M.Medium.held leg.medium) (g.M.Medium.held c.write_if_long-is_written.new.medium) c.write_if_long-is_written.ensures.writes.own leg.owns; rules = rules-write _ _ leg.stripe leg.shape leg.writes leg.dirty leg.bounds leg.rules _ c.args.at c.args.bytes.now _ _ leg.inside inside c.note_write.ensures c.write_if_long-is_written.ensures.writes }
 
-pub invariant_of-self-else-self-end : goal.invariant_of-self-else-self-end
-invariant_of-self-else-self-end g c =
+pub returns-then-not-is_written-clause-writes : goal.returns-then-not-is_written-clause-writes
+returns-then-not-is_written-clause-writes g c =
     let leg = c.args.self.now in
-    record { bounds = leg.bounds; inside = leg.inside; owns = owns-kept _ leg.stripe leg.shape (g.M.Medium.held leg.medium) (g.M.Medium.held c.write_run.new.medium) c.write_run.ensures.own leg.owns; rules = rules-write _ _ leg.stripe leg.shape _ _ _ _ _ _ leg.rules c.write_run.ensures }
+    writes-marked (writes-failed _ _ leg.stripe leg.shape _ c.args.bytes.now _ _ leg.bounds leg.inside c.write_if_long-is_written.ensures.writes _ _ c.count_fault.ensures)
 
-pub invariant_of-self-else-at-self : goal.invariant_of-self-else-at-self
-invariant_of-self-else-at-self g c =
-    let leg = c.args.self.now in
-    record { bounds = leg.bounds; inside = leg.inside; owns = owns-kept _ leg.stripe leg.shape (g.M.Medium.held leg.medium) (g.M.Medium.held c.write_run.new.medium) c.write_run.ensures.own leg.owns; rules = rules-write _ _ leg.stripe leg.shape _ _ _ _ _ _ leg.rules c.write_run.ensures }
-
-pub returns-then-not-write_run-clause-writes : goal.returns-then-not-write_run-clause-writes
-returns-then-not-write_run-clause-writes g c =
-    let leg = c.args.self.now in
-    writes-failed _ _ leg.stripe leg.shape _ c.args.bytes.now _ _ leg.bounds leg.inside c.write_run.ensures _ _ c.count_fault-then-not-write_run.ensures
-
-pub returns-then-self-end-clause-writes : goal.returns-then-self-end-clause-writes
-returns-then-self-end-clause-writes g c =
+pub returns-clause-writes : goal.returns-clause-writes
+returns-clause-writes g c =
     let leg = c.args.self.now in
     let inside : c.args.at + length c.args.bytes.now / 512 ≤ stripe_blocks leg.stripe leg.shape = omega (arith, c.requires.inside, length-blocks_from leg.stripe leg.shape 0 (stripe_blocks leg.stripe leg.shape) (g.M.Medium.held leg.medium).contents) in
-    writes-run _ _ leg.stripe leg.shape _ c.args.bytes.now _ _ leg.bounds leg.inside c.write_run.ensures _ (search rules) inside leg.owns
-
-pub returns-else-at-self-clause-writes : goal.returns-else-at-self-clause-writes
-returns-else-at-self-clause-writes g c =
-    let leg = c.args.self.now in
-    let inside : c.args.at + length c.args.bytes.now / 512 ≤ stripe_blocks leg.stripe leg.shape = omega (arith, c.requires.inside, length-blocks_from leg.stripe leg.shape 0 (stripe_blocks leg.stripe leg.shape) (g.M.Medium.held leg.medium).contents) in
-    let wrote = writes-run g.M.Medium.honest _ leg.stripe leg.shape c.args.at c.args.bytes.now (g.M.Medium.held leg.medium) (g.M.Medium.held c.write_run.new.medium) leg.bounds leg.inside c.write_run.ensures leg.faults (search rules) inside leg.owns in
-    elim c.else-at-self.branch [
-      | else-at-self-via-then-at-self+else-self-end w ↦ rw w.self-is wrote
-      | else-at-self-via-else-at-self w ↦ rw w.self-is wrote
-    ]
+    writes-marked (writes-run _ _ leg.stripe leg.shape _ c.args.bytes.now _ _ leg.bounds leg.inside c.write_if_long-is_written.ensures.writes _ (search rules) inside leg.owns)

@@ -12,15 +12,15 @@ use Rattle.nm_saves.proofs.superblock_files.SuperblockFiles.save.Goals as goal
 pub returns-then-has_failed-clause-undone : goal.returns-then-has_failed-clause-undone
 returns-then-has_failed-clause-undone g c =
     let honest = g.F.SlotFile.honest in
-    let r : Request = request_of c.args.sets.now c.args.marked.now c.args.clean c.args.out.now in
+    let r : Request = request_of c.args.sets.now c.args.marked.now c.args.clean c.args.changed.now c.args.out.now in
     let named = c.named_legs-named.result in
     let failed = c.save_to-failed.result in
     let old : FilesState = record { files = c.self.inside.files.items; image = c.self.inside.image; highest = c.self.inside.highest } in
     let new : FilesState = record { files = c.save_to-failed.new.files; image = c.self.inside.image; highest = c.in-Some.generation } in
     let number : c.in-Some.generation ≡ c.self.inside.highest + 1 = omega arith in
-    let next : Superblock = record c.self.inside.image { generation = c.in-Some.generation; sets = c.args.sets.now; marked = c.args.marked.now; clean = c.args.clean } in
+    let next : Superblock = record c.self.inside.image { generation = c.in-Some.generation; sets = c.args.sets.now; marked = c.args.marked.now; clean = c.args.clean; changed = c.args.changed.now } in
     let is : next ≡ next_of old r =
-    ap (λ (n : ℕ). record c.self.inside.image { generation = n; sets = c.args.sets.now; marked = c.args.marked.now; clean = c.args.clean }) number in
+    ap (λ (n : ℕ). record c.self.inside.image { generation = n; sets = c.args.sets.now; marked = c.args.marked.now; clean = c.args.clean; changed = c.args.changed.now }) number in
     let saves : SavesTo 8 honest (round_of next named failed) old.files new.files =
     subst (λ (fs : List (Option FileState)). SavesTo 8 honest (round_of next named failed) fs new.files) c.deref_mut.ensures.value c.save_to-failed.ensures in
     let long : length new.files ≡ c.self.inside.files.len = omega arith in
@@ -32,16 +32,16 @@ returns-then-has_failed-clause-undone g c =
 pub returns-clause-done : goal.returns-clause-done
 returns-clause-done g c =
     let honest = g.F.SlotFile.honest in
-    let r : Request = request_of c.args.sets.now c.args.marked.now c.args.clean c.args.out.now in
+    let r : Request = request_of c.args.sets.now c.args.marked.now c.args.clean c.args.changed.now c.args.out.now in
     let named = c.named_legs-named.result in
     let failed = c.save_to-failed.result in
     let others = c.other_legs-others.result in
     let lacking = c.save_to-lacking.result in
     let old : FilesState = record { files = c.self.inside.files.items; image = c.self.inside.image; highest = c.self.inside.highest } in
     let number : c.in-Some.generation ≡ c.self.inside.highest + 1 = omega arith in
-    let next : Superblock = record c.self.inside.image { generation = c.in-Some.generation; sets = c.args.sets.now; marked = c.args.marked.now; clean = c.args.clean } in
+    let next : Superblock = record c.self.inside.image { generation = c.in-Some.generation; sets = c.args.sets.now; marked = c.args.marked.now; clean = c.args.clean; changed = c.args.changed.now } in
     let is : next ≡ next_of old r =
-    ap (λ (n : ℕ). record c.self.inside.image { generation = n; sets = c.args.sets.now; marked = c.args.marked.now; clean = c.args.clean }) number in
+    ap (λ (n : ℕ). record c.self.inside.image { generation = n; sets = c.args.sets.now; marked = c.args.marked.now; clean = c.args.clean; changed = c.args.changed.now }) number in
     let new : FilesState = record { files = c.save_to-lacking.new.files; image = record next { seen = c.seen_after-next.result }; highest = c.in-Some.generation } in
     let mid : List (Option FileState) = c.save_to-failed.new.files in
     let first : SavesTo 8 honest (round_of next named failed) old.files mid =

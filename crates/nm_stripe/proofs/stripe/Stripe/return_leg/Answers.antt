@@ -1,7 +1,7 @@
 -- A return is the store's, and the lemmas on it do the rest.
 use Rattle.std.proofs.Common.{rules, ◌≡◌, ◌<◌, [], None, length, refl, sym, subst}
 use Rattle.nm_leg.specs.Leg.{leg_type}
-use Rattle.nm_rules.specs.Attach.{attach_cause, regions_in}
+use Rattle.nm_rules.specs.Attach.{attach_cause, may_lack_each}
 use Rattle.nm_rules.specs.Invariant.{Keeps}
 use Rattle.nm_rules.specs.Reopening.{Marks}
 use Rattle.nm_rules.specs.State.{StripeState}
@@ -16,7 +16,7 @@ invariant_of-self g c =
     let none : attach_cause s c.args.leg ≡ None = search rules in
     let inside : c.args.leg < length s.legs = subst (λ (s : StripeState _). c.args.leg < length s.legs) (sym c.self.view_is) c.requires.leg in
     subst (λ (n : StripeState _). Keeps (leg_type g.L.LegPart.model g.L.LegPart.honest) n) (sym c.return_leg.ensures)
-    (return-keeps (leg_type g.L.LegPart.model g.L.LegPart.honest) s c.args.leg (regions_in marks s) inside c.self.invariant (may_attach s c.args.leg none).out)
+    (return-keeps (leg_type g.L.LegPart.model g.L.LegPart.honest) s c.args.leg (may_lack_each g.L.LegPart.model marks s c.args.leg) inside c.self.invariant (may_attach s c.args.leg none).out)
 
 pub returns-clause-acts : goal.returns-clause-acts
 returns-clause-acts g c =
@@ -24,5 +24,5 @@ returns-clause-acts g c =
     let marks : Marks = record { marked = c.args.marked.now; span = c.args.span } in
     let none : attach_cause s c.args.leg ≡ None = search rules in
     let inside : c.args.leg < length s.legs = subst (λ (s : StripeState _). c.args.leg < length s.legs) (sym c.self.view_is) c.requires.leg in
-    let acts = return-acts (leg_type g.L.LegPart.model g.L.LegPart.honest) s c.args.leg (regions_in marks s) inside c.self.invariant (may_attach s c.args.leg none).out in
+    let acts = return-acts (leg_type g.L.LegPart.model g.L.LegPart.honest) s c.args.leg (may_lack_each g.L.LegPart.model marks s c.args.leg) inside c.self.invariant (may_attach s c.args.leg none).out in
     rw (← c.self.view_is, c.return_leg.ensures) (record { events = []; marked = refl; acts = acts })

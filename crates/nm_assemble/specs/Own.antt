@@ -1,0 +1,75 @@
+-- Which legs' files are those that the newest superblock is of, by their identities.
+use Rattle.std.specs.Prelude.{◌≡◌, ◌⊎◌, ◌<◌, ◌≤◌, ◌↔◌, ℕ, Bool, false, List}
+use Rattle.std.specs.Prelude.{slice_index_or, IsTrue}
+use Rattle.std.specs.Int.{bit_at}
+use Rattle.nm_superblock.specs.declared.leg_identities.LegIdentities.{LegIdentities}
+use Rattle.nm_superblock.specs.declared.superblock.Superblock.{Superblock}
+use Rattle.nm_superblock.specs.Identities.{IsKnown, IsSameIdentity}
+use Rattle.nm_superblock.specs.Spans.{in_sync_of}
+use Rattle.nm_assemble.specs.declared.own.LegsHere.{LegsHere}
+
+-- what is said of a leg
+abbrev pub said : (leg : ℕ) → List Bool → Bool
+said leg legs = slice_index_or legs leg false
+
+-- the superblock is of the leg's file: it tells of none, as one of version 1 does and one that has
+-- no such leg, or of this one, or a person said that the leg was moved to it; an unknown identity
+-- is the same as an unknown one alone
+abbrev pub IsOfFile : Superblock → LegsHere → (leg : ℕ) → Type 0
+IsOfFile newest legs leg =
+    ((newest.version ≡ 1) ⊎ (newest.legs ≤ leg)) ⊎ (IsTrue (said leg legs.moved)
+    ⊎ IsSameIdentity leg legs.identities leg newest.identities)
+
+-- a leg's file is its own: it is here, and the superblock is of it
+pub record IsOwn (newest : Superblock) (legs : LegsHere) (leg : ℕ) : Type 0 where
+  pub is_here : IsTrue (said leg legs.here)
+  pub file : IsOfFile newest legs leg
+
+-- so are those of the first legs of which it is said
+abbrev pub AreOwn : ℕ → Superblock → LegsHere → List Bool → Type 0
+AreOwn count newest legs own =
+    (leg : ℕ) → leg < count → IsTrue (said leg own) ↔ IsOwn newest legs leg
+
+-- a leg's file is here, and is not the one that it was, but the one that the other leg was
+pub record IsOtherLegs (leg other : ℕ) (newest : Superblock) (legs : LegsHere) : Type 0 where
+  pub is_here : IsTrue (said leg legs.here)
+  pub known : IsKnown leg legs.identities
+  pub unlike : IsSameIdentity leg legs.identities leg newest.identities → ⊥
+  pub same : IsSameIdentity leg legs.identities other newest.identities
+
+-- none of the first legs has another leg's file
+abbrev pub NoneMixed : ℕ → Superblock → LegsHere → Type 0
+NoneMixed count newest legs =
+    (leg other : ℕ) → leg < count → other < 8 → IsOtherLegs leg other newest legs → ⊥
+
+-- this leg is the first that has
+pub record IsFirstMixed (leg other : ℕ) (newest : Superblock) (legs : LegsHere) : Type 0 where
+  pub bound : leg < 8
+  pub other_bound : other < 8
+  pub mixed : IsOtherLegs leg other newest legs
+  pub others : NoneMixed leg newest legs
+
+-- the leg is in sync in the stripe by the superblock, and the file that is here is not its own
+pub record IsAnother (leg stripe : ℕ) (newest : Superblock) (legs : LegsHere) : Type 0 where
+  pub in_sync : bit_at (in_sync_of stripe newest.sets) leg ≡ 1
+  pub is_here : IsTrue (said leg legs.here)
+  pub other : IsOwn newest legs leg → ⊥
+
+-- none of the first legs is such a one
+abbrev pub NoneAnother : (count stripe : ℕ) → Superblock → LegsHere → Type 0
+NoneAnother count stripe newest legs =
+    (leg : ℕ) → leg < count → IsAnother leg stripe newest legs → ⊥
+
+-- this one is the first
+pub record IsFirstAnother (leg stripe : ℕ) (newest : Superblock) (legs : LegsHere)
+    : Type 0 where
+  pub bound : leg < 8
+  pub another : IsAnother leg stripe newest legs
+  pub others : NoneAnother leg stripe newest legs
+
+-- of the first legs, those that are their own have their files' identities, and others the old ones
+abbrev pub Records : ℕ → (own : List Bool) → (here old new : LegIdentities) → Type 0
+Records count own here old new =
+    (leg : ℕ) → leg < count
+    → (IsTrue (said leg own) → IsSameIdentity leg new leg here)
+    × (said leg own ≡ false → IsSameIdentity leg new leg old)

@@ -1,0 +1,105 @@
+-- What a leg remembers of its regions, as numbers in places.
+use Rattle.std.proofs.Common.{◌≡◌, ⊎_elim, ◌⊎◌, ℕ, ◌+◌, ◌-◌, ◌*◌, ◌/◌, ◌<◌, ◌≤◌, ◌==◌, ◌&&◌, if◌then◌else◌, Bool, true, false, List, length, get_or, map, replicate, refl, ap, sym, ◌∙◌, arith, nat_le, inl, inr}
+use Rattle.std.proofs.Math.Nat.{div-mul-le_self}
+use Rattle.std.proofs.lemmas.Nat.{le-div, mul-le}
+use Rattle.std.proofs.lemmas.Bool.{cases_lt, le-leb, lt-leb, eq-eqb, ne_eqb}
+use Rattle.std.proofs.lemmas.List.{get_or-map, get_or-replicate, length-replicate}
+use Rattle.nm_geometry.specs.Geometry.{regions_for}
+use Rattle.nm_file_leg.specs.Remembered.{remembered, cursor_moved, Changes, Begins, NotesWrite, NotesSync}
+
+-- a region begins inside the stripe
+pub begins-inside : (region blocks r : ℕ) → 1 ≤ region → r < regions_for region blocks → r * region < blocks
+begins-inside region blocks r some low =
+    let regions : ℕ = (blocks + region - 1) / region in
+    let whole : regions * region ≤ blocks + region - 1 = div-mul-le_self (blocks + region - 1) region in
+    let fits : (r + 1) * region ≤ regions * region = mul-le (r + 1) region regions region (omega (arith, low)) (omega arith) in
+    let spread : (r + 1) * region ≡ r * region + region = grind arith in
+    omega (arith, whole, fits, spread, some)
+
+-- where it ends fits too
+pub ends-inside : (region blocks r : ℕ) → 1 ≤ region → r < regions_for region blocks → (r + 1) * region < blocks + region
+ends-inside region blocks r some low =
+    let begins : r * region < blocks = begins-inside region blocks r some low in
+    let spread : (r + 1) * region ≡ r * region + region = grind arith in
+    omega (arith, begins, spread)
+
+-- there are no more regions than blocks
+pub region-few : (region blocks r : ℕ) → 1 ≤ region → r < regions_for region blocks → r < blocks
+region-few region blocks r some low =
+    let begins : r * region < blocks = begins-inside region blocks r some low in
+    let wide : r * 1 ≤ r * region = mul-le r 1 r region (omega arith) some in
+    omega (arith, begins, wide)
+
+-- the region of a block of the stripe is one of its regions
+pub region-inside : (region blocks at : ℕ) → 1 ≤ region → at < blocks → at / region + 1 ≤ regions_for region blocks
+region-inside region blocks at some low =
+    let whole : at / region * region ≤ at = div-mul-le_self at region in
+    let spread : (at / region + 1) * region ≡ at / region * region + region = grind arith in
+    le-div (at / region + 1) (blocks + region - 1) region some (omega (arith, whole, spread, low, some))
+
+-- whether a region was written is told by the period of its last write
+pub written-in : (period r : ℕ) (xs : List ℕ) → r < length xs → get_or (map (λ last. last == period) xs) r false ≡ (get_or xs r 0 == period)
+written-in period r xs low = get_or-map (λ last. last == period) xs r 0 false low
+
+-- a place lies between two others, or not
+pub between : (from last r : ℕ) → (((nat_le from r && nat_le r last) ≡ true) × ((from ≤ r) × (r < last + 1))) ⊎ (((nat_le from r && nat_le r last) ≡ false) × ((r < from) ⊎ (last + 1 ≤ r)))
+between from last r =
+    ⊎_elim
+    (λ (low : r < from). inr (rw (lt-leb from r low) refl, inl low))
+    (λ (high : from ≤ r).
+    ⊎_elim
+    (λ (above : last < r). inr (rw (le-leb from r high, lt-leb r last above) refl, inr (omega (arith, above))))
+    (λ (within : r ≤ last). inl (rw (le-leb from r high, le-leb r last within) refl, (high, omega (arith, within))))
+    (cases_lt last r))
+    (cases_lt r from)
+
+-- a leg as it is made
+pub begins : (region blocks regions : ℕ) → regions ≡ regions_for region blocks → Begins region blocks (remembered region blocks 0 (replicate regions 0) (replicate regions blocks))
+begins region blocks regions is = record {
+  region_is = refl;
+  blocks_is = refl;
+  written = λ r low.
+      let inside : r < regions = omega (arith, is, low) in
+      let zeroes : List ℕ = replicate regions 0 in
+      let long : length zeroes ≡ regions = length-replicate regions 0 in
+      written-in 0 r zeroes (omega (arith, long, inside)) ∙ ap (λ (n : ℕ). n == 0) (get_or-replicate regions r 0 0 inside);
+  whole = λ r low. get_or-replicate regions r blocks 0 (omega (arith, is, low));
+}
+
+-- a sync that succeeded
+pub notes-sync : (region blocks period next : ℕ) (xs ys cursors : List ℕ) → length ys ≡ regions_for region blocks
+    → ((r : ℕ) → r < regions_for region blocks → get_or ys r 0 < next)
+    → NotesSync (remembered region blocks period xs cursors) (remembered region blocks next ys cursors)
+notes-sync region blocks period next xs ys cursors long later = record {
+  sizes = record { region = refl; blocks = refl };
+  written = λ r low. written-in next r ys (omega (arith, long, low)) ∙ ne_eqb (get_or ys r 0) next (λ same. omega (arith, same, later r low));
+  again = λ r _. refl;
+}
+
+-- a write of a run
+pub notes-write : (region blocks period at count end : ℕ) (succeeded : Bool) (xs ys cursors moved : List ℕ)
+    → length xs ≡ regions_for region blocks → end ≡ (if succeeded then at + count else at)
+    → Changes (λ _. period) (at / region) ((at + count - 1) / region + 1) xs ys
+    → Changes (cursor_moved at end) (at / region) ((at + count - 1) / region + 1) cursors moved
+    → NotesWrite succeeded at count (remembered region blocks period xs cursors) (remembered region blocks period ys moved)
+notes-write region blocks period at count end succeeded xs ys cursors moved long is puts moves = record {
+  sizes = record { region = refl; blocks = refl };
+  written = λ r low.
+      let from = at / region in
+      let last = (at + count - 1) / region in
+      let old : get_or (map (λ last. last == period) xs) r false ≡ (get_or xs r 0 == period) = written-in period r xs (omega (arith, long, low)) in
+      let new : get_or (map (λ last. last == period) ys) r false ≡ (get_or ys r 0 == period) = written-in period r ys (omega (arith, long, puts.length_is, low)) in
+      ⊎_elim
+      (λ w. new ∙ rw w.0 (eq-eqb (get_or ys r 0) period (puts.changed r w.1.0 w.1.1)))
+      (λ w.
+      let same : get_or ys r 0 ≡ get_or xs r 0 = ⊎_elim (λ low. puts.before r low) (λ high. puts.behind r high) w.1 in
+      new ∙ ap (λ (n : ℕ). n == period) same ∙ rw w.0 (sym old))
+      (between from last r);
+  again = λ r low.
+      let from = at / region in
+      let last = (at + count - 1) / region in
+      ⊎_elim
+      (λ w. rw w.0 (moves.changed r w.1.0 w.1.1 ∙ ap (λ (e : ℕ). cursor_moved at e (get_or cursors r 0)) is))
+      (λ w. rw w.0 (⊎_elim (λ low. moves.before r low) (λ high. moves.behind r high) w.1))
+      (between from last r);
+}

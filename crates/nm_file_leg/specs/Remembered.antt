@@ -1,0 +1,132 @@
+-- What a leg remembers of its regions, and what becomes of it.
+use Rattle.std.specs.Prelude.{◌≡◌, ℕ, ◌+◌, ◌-◌, ◌*◌, ◌/◌, ◌<◌, ◌≤◌, ◌==◌, ◌&&◌, ◌||◌, min}
+use Rattle.std.specs.Prelude.{if◌then◌else◌, Bool, IsTrue, IsFalse, nat_le, nat_lt, get_or}
+use Rattle.std.specs.Prelude.{◌^◌, List, length, map, false, true}
+use Rattle.nm_geometry.specs.Geometry.{regions_for}
+
+-- The numbers of blocks in a region and in the stripe; whether each region was written since the
+-- last sync that succeeded; and of each region the first block that was not written again since a
+-- sync failed: a block behind its end, where nothing of it is lost.
+pub record Remembered : Type 0 where
+  pub region : ℕ
+  pub blocks : ℕ
+  pub written : List Bool
+  pub rewritten_below : List ℕ
+
+-- whether a region was written since the last sync that succeeded
+abbrev pub is_written : (region : ℕ) → Remembered → Bool
+is_written region memory = get_or memory.written region false
+
+-- the first block of a region that was not written again
+abbrev pub cursor_in : (region : ℕ) → Remembered → ℕ
+cursor_in region memory = get_or memory.rewritten_below region 0
+
+-- how many regions there are
+abbrev pub count_regions : Remembered → ℕ
+count_regions memory = regions_for memory.region memory.blocks
+
+-- what is kept of the regions stands for this: a region was written since then if its last write is
+-- of the period that runs
+abbrev pub remembered : (region blocks period : ℕ) → (written_in rewritten_below : List ℕ)
+    → Remembered
+remembered region blocks period written_in rewritten_below = record {
+  region = region;
+  blocks = blocks;
+  written = map (λ last. last == period) written_in;
+  rewritten_below = rewritten_below;
+}
+
+-- the block behind the last one of a region
+abbrev pub region_end : ℕ → Remembered → ℕ
+region_end region memory = min ((region + 1) * memory.region) memory.blocks
+
+-- nothing of these regions is lost: each was written again whole, or not before the failed sync
+abbrev pub AreWhole : (from until : ℕ) → Remembered → Type 0
+AreWhole from until memory =
+    (region : ℕ) → from ≤ region → region < until
+    → region_end region memory ≤ cursor_in region memory
+
+-- none of these regions was written since the last sync that succeeded
+abbrev pub WritesNone : (from until : ℕ) → Remembered → Type 0
+WritesNone from until memory =
+    (region : ℕ) → from ≤ region → region < until → IsFalse (is_written region memory)
+
+-- one of them was
+pub record WritesOne (from until : ℕ) (memory : Remembered) : Type 0 where
+  pub region : ℕ
+  pub above : from ≤ region
+  pub below : region < until
+  pub written : IsTrue (is_written region memory)
+
+-- a run of so many blocks has some in this region
+abbrev pub touches : (at count region : ℕ) → Remembered → Bool
+touches at count region memory =
+    nat_le (at / memory.region) region && nat_le region ((at + count - 1) / memory.region)
+
+-- the first block that was not written again, once a run is written that ends before this block
+abbrev pub cursor_moved : (at end cursor : ℕ) → ℕ
+cursor_moved at end cursor = if nat_le at cursor && nat_lt cursor end then end else cursor
+
+-- the stripe and its regions are what they were
+pub record HaveOneSize (old new : Remembered) : Type 0 where
+  pub region : new.region ≡ old.region
+  pub blocks : new.blocks ≡ old.blocks
+
+-- As a leg is made: all may have been written before, and nothing is lost.
+pub record Begins (region blocks : ℕ) (memory : Remembered) : Type 0 where
+  pub region_is : memory.region ≡ region
+  pub blocks_is : memory.blocks ≡ blocks
+  pub written : (r : ℕ) → r < count_regions memory → IsTrue (is_written r memory)
+  pub whole : (r : ℕ) → r < count_regions memory → cursor_in r memory ≡ blocks
+
+-- A write of a run: its regions are written, and where it succeeded, written again as far as it
+-- goes on from what was.
+pub record NotesWrite (succeeded : Bool) (at count : ℕ) (old new : Remembered) : Type 0 where
+  pub sizes : HaveOneSize old new
+  pub written : (r : ℕ) → r < count_regions old
+      → is_written r new ≡ (touches at count r old || is_written r old)
+  pub again : (r : ℕ) → r < count_regions old
+      → cursor_in r new ≡ (if touches at count r old
+      then cursor_moved at (if succeeded then at + count else at) (cursor_in r old)
+      else cursor_in r old)
+
+-- A sync that succeeded: no region was written since.
+pub record NotesSync (old new : Remembered) : Type 0 where
+  pub sizes : HaveOneSize old new
+  pub written : (r : ℕ) → r < count_regions old → IsFalse (is_written r new)
+  pub again : (r : ℕ) → r < count_regions old → cursor_in r new ≡ cursor_in r old
+
+-- A sync that succeeded is noted, unless the medium is in doubt: then what is remembered stays.
+abbrev pub EndsPeriod : (doubted : Bool) → (old new : Remembered) → Type 0
+EndsPeriod false old new = NotesSync old new
+EndsPeriod true old new = new ≡ old
+
+-- A sync that failed: each region that was written since the last one that succeeded is lost, from
+-- its first block on.
+pub record NotesFailure (old new : Remembered) : Type 0 where
+  pub sizes : HaveOneSize old new
+  pub written : (r : ℕ) → r < count_regions old → is_written r new ≡ is_written r old
+  pub again : (r : ℕ) → r < count_regions old
+      → cursor_in r new ≡ (if is_written r old
+      then r * old.region
+      else cursor_in r old)
+
+-- The numbers are of so many regions, no write is of a period to come, and while no sync has failed
+-- nothing is lost.
+pub record IsKept (region blocks period : ℕ) (written_in rewritten_below : List ℕ)
+    (has_failed : Bool) : Type 0 where
+  pub some : 1 ≤ region
+  pub most : region ≤ 65536
+  pub few : blocks ≤ 2 ^ 31
+  pub periods : length written_in ≡ regions_for region blocks
+  pub cursors : length rewritten_below ≡ regions_for region blocks
+  pub past : (r : ℕ) → r < regions_for region blocks → get_or written_in r 0 ≤ period
+  pub whole : IsFalse has_failed → AreWhole 0 (regions_for region blocks)
+      (remembered region blocks period written_in rewritten_below)
+
+-- numbers are changed from one place up to another, and no others
+pub record Changes (change : ℕ → ℕ) (from until : ℕ) (old new : List ℕ) : Type 0 where
+  pub length_is : length new ≡ length old
+  pub changed : (r : ℕ) → from ≤ r → r < until → get_or new r 0 ≡ change (get_or old r 0)
+  pub before : (r : ℕ) → r < from → get_or new r 0 ≡ get_or old r 0
+  pub behind : (r : ℕ) → until ≤ r → get_or new r 0 ≡ get_or old r 0

@@ -1,0 +1,99 @@
+//! Legs that a start goes on without.
+ghost use Rattle.std.specs.Prelude.{◌≡◌, ◌<◌, ◌↔◌, false, IfOk, IsTrue};
+ghost use Rattle.nm_leg_files.specs.Files.{name_of};
+ghost use Rattle.nm_leg_files.specs.Here.{is_here};
+ghost use Rattle.nm_leg_files.specs.Unknown.{AreUnknown, IsUnknown};
+
+use crate::late_file::LateFile;
+use crate::leg_file::LegFile;
+use crate::leg_files::LegFiles;
+use crate::limited_file::LimitedFile;
+use nm_file_leg::SharedFile;
+use nm_geometry::MOST_STRIPES;
+use nm_superblock::Superblock;
+use std::alloc::{AllocError, Global};
+use std::sync::Arc;
+use std::{fmt, io};
+
+/// Why a leg's file is not here.
+#[derive(Clone, Copy, Debug)]
+pub(crate) enum Absence {
+    /// The system did not open it.
+    Unopened(io::Error),
+    /// It is another file than the one that the leg's superblock is of.
+    Another,
+    /// No superblock of the mirror came with it: what it holds is not the mirror's.
+    Unknown,
+}
+
+impl fmt::Display for Absence {
+    fn fmt<W: fmt::Write>(&self, f: &mut fmt::Formatter<W>) -> fmt::Result {
+        match self {
+            Absence::Unopened(error) => write!(f, "{error}"),
+            Absence::Another => f.write_str("is another file than its superblock is of"),
+            Absence::Unknown => f.write_str("has no superblock of this mirror"),
+        }
+    }
+}
+
+impl LegFile {
+    /// The leg without its file, which is closed once nobody has a share of it.
+    fn laid_aside(&self, alloc: Global, why: Absence) -> Result<LegFile, AllocError>
+        ensures name { IfOk result (λ leg. name_of leg ≡ name_of self.now) }
+        ensures here { IfOk result (λ leg. is_here leg ≡ false) }
+    {
+        let limited = LimitedFile::of(alloc, LateFile::missing(), self.shared.file().limit())?;
+        let shared = SharedFile::new(alloc, limited, MOST_STRIPES as usize)?;
+        Ok(LegFile {
+            name: String::from_str(alloc, self.name.as_str())?,
+            shared: Arc::new(alloc, shared)?,
+            unopened: Some(why),
+            trouble: Arc::try_clone(&self.trouble)?,
+            counts: Arc::try_clone(&self.counts)?,
+        })
+    }
+}
+
+// Whether the newest superblock knows this leg, of which this one was found, or none.
+fn is_unknown(newest: &Superblock, leg: usize, beside: &Option<Superblock>) -> bool
+    requires { leg < 8 }
+    ensures { IsTrue result ↔ IsUnknown newest.now leg beside.now }
+{
+    leg < newest.legs as usize && beside.is_none()
+}
+
+/// Which legs the newest superblock knows though none was found of them: another file may stand
+/// under such a leg's name.
+pub fn unknown_legs(newest: &Superblock, found: &[Option<Superblock>; 8]) -> [bool; 8]
+    ensures { AreUnknown 8 newest.now found.now result }
+{
+    let mut unknown = [false; 8];
+    'legs: for leg in 0..8 {
+        unknown[leg] = is_unknown(newest, leg, &found[leg]);
+    }
+    unknown
+}
+
+impl LegFiles {
+    /// Lets go of the files of legs whose own they are not: the mirror starts without them.
+    pub fn keep_own(&mut self, alloc: Global, own: &[bool; 8]) -> Result<(), AllocError> {
+        for (leg, file) in self.files.iter_mut().enumerate() {
+            let is_own = own.get(leg).copied().unwrap_or(false);
+            if !is_own && file.unopened.is_none() {
+                *file = file.laid_aside(alloc, Absence::Another)?;
+            }
+        }
+        Ok(())
+    }
+
+    /// Lets go of these legs' files: the mirror starts without them.
+    pub fn lay_aside(&mut self, alloc: Global, legs: &[bool; 8]) -> Result<(), AllocError> {
+        for (leg, file) in self.files.iter_mut().enumerate() {
+            let is_aside = legs.get(leg).copied().unwrap_or(false);
+            if is_aside && file.unopened.is_none() {
+                *file = file.laid_aside(alloc, Absence::Unknown)?;
+            }
+        }
+        Ok(())
+    }
+}

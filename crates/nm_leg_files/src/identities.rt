@@ -1,0 +1,63 @@
+//! What tells the legs' files from all others, as superblocks record it.
+
+use crate::leg_files::LegFiles;
+use byteorder::{BigEndian, ByteOrder};
+use nm_reports::LogLines;
+use nm_superblock::LegIdentities;
+use nm_system::identity_of;
+use sha2::{Digest, Sha256};
+use std::alloc::{AllocError, Global};
+use std::fs::File;
+use std::rt::Files;
+use std::sync::Wait;
+
+/// The identities of legs of which this one alone is known, by this text: the SHA-256 of it.
+pub fn identity_by(leg: usize, text: Option<&str>) -> LegIdentities {
+    let mut all = LegIdentities::unknown();
+    let Some(text) = text else {
+        return all;
+    };
+    let digest = Sha256::digest(text.as_bytes());
+    let mut own = LegIdentities::unknown();
+    BigEndian::read_u64_into(&digest[..32], &mut own.words[..4]);
+    if leg < 8 {
+        all.put(leg, &own, 0);
+    }
+    all
+}
+
+impl LegFiles {
+    /// The identities of the files that are here. Each file is told of that has none.
+    pub fn identities<R: Files<File = File> + Wait>(
+        &self,
+        rt: &R,
+        alloc: Global,
+        lines: &LogLines,
+    ) -> Result<LegIdentities, AllocError> {
+        let mut all = LegIdentities::unknown();
+        for (leg, file) in self.files.iter().enumerate() {
+            let Some(own) = file.shared.file().late().file() else {
+                continue;
+            };
+            let text = identity_of(rt, alloc, own)?;
+            if text.is_none() {
+                let name = file.name.as_str();
+                let text = format!(in alloc;
+                    "leg {leg} ({name}): its name alone tells it from other files: see that no \
+                     other one gets it"
+                );
+                lines.warn(rt, text);
+            }
+            if leg < 8 {
+                all.put(leg, &identity_by(leg, text.as_deref()), leg);
+            }
+        }
+        Ok(all)
+    }
+
+    /// What superblocks record of the files from now on: a file that is opened later is to be the
+    /// one that they are of.
+    pub fn record(&mut self, identities: &LegIdentities) {
+        self.recorded = Some(*identities);
+    }
+}

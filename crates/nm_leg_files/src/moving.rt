@@ -1,0 +1,54 @@
+//! Legs that were moved to other files or disks, each with its superblock.
+
+use crate::adding::number_of;
+use crate::superblock_choice::FoundLegs;
+use nm_assemble::{LegsHere, newest_of, own_legs};
+use nm_commands::{Settings, SuperblockPlace};
+use nm_reports::{LogLines, StartFault};
+use std::alloc::Global;
+use std::sync::Wait;
+
+/// The legs of which the words say that they were moved.
+pub fn moved_legs(settings: &Settings<'_>) -> [bool; 8] {
+    let mut moved = [false; 8];
+    for word in settings.moved.iter() {
+        if let Some(is_moved) = moved.get_mut(number_of(word) as usize) {
+            *is_moved = true;
+        }
+    }
+    moved
+}
+
+/// Refuses a leg that was moved and is none, and where there are no superblocks all that were
+/// moved.
+pub fn check_moved<'a>(settings: &Settings<'_>) -> Result<(), StartFault<'a>> {
+    for word in settings.moved.iter() {
+        let leg = number_of(word);
+        if leg as usize >= settings.legs.len() {
+            return Err(StartFault::NoLegMoved(leg));
+        }
+        if settings.superblock == SuperblockPlace::Nowhere {
+            return Err(StartFault::NothingMoved(leg));
+        }
+    }
+    Ok(())
+}
+
+/// Tells of each leg of which the words say that it was moved, though its file is the one that the
+/// superblocks are of.
+pub fn tell_unmoved<R: Wait>(rt: &R, alloc: Global, seen: &FoundLegs, lines: &LogLines) {
+    let still = LegsHere {
+        moved: [false; 8],
+        ..seen.legs
+    };
+    let own = match newest_of(&seen.found) {
+        Some(newest) => own_legs(&newest, &still),
+        None => seen.legs.here,
+    };
+    for leg in 0..8 {
+        if seen.legs.moved[leg] && own[leg] {
+            let text = format!(in alloc; "--moved {leg}: it was not moved");
+            lines.inform(rt, text);
+        }
+    }
+}

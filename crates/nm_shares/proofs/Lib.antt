@@ -1,0 +1,3 @@
+mod NewLegLemmas
+mod SharedLemmas
+mod TwoLegs

@@ -1,2 +1,0 @@
-mod Legs
-mod TwoLegs
