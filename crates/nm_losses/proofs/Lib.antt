@@ -1,0 +1,5 @@
+pub mod Explained
+pub mod Lists
+pub mod Marked
+pub mod Returned
+pub mod Swapped

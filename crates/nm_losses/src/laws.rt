@@ -1,0 +1,16 @@
+//! What losses of power cost, for every list of moves of a stripe of honest legs.
+ghost use Rattle.std.specs.Prelude.{IsTrue};
+ghost use Rattle.nm_leg.specs.Leg.{leg_type};
+ghost use Rattle.nm_losses.specs.Laws.{FlushedOutlivesLosses, LossesKeepTheArray};
+
+use nm_leg::LegPart;
+
+/// The stripe's operations act on one array, and each leg in sync holds that array.
+pub fn losses_keep_the_array<L: LegPart>()
+    ensures { IsTrue L.honest → LossesKeepTheArray (leg_type L.model L.honest) }
+{}
+
+/// What was flushed stays durable on each leg in sync.
+pub fn flushed_outlives_losses<L: LegPart>()
+    ensures { IsTrue L.honest → FlushedOutlivesLosses (leg_type L.model L.honest) }
+{}
