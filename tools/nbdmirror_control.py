@@ -35,7 +35,8 @@ REFUSED = re.compile(r"(?:fail|attach|replace|retire) \d+: (last|busy|stopped|re
                      r"|is a block device: give --superblock FOLDER|no file|was cut|another file)")
 RETIRED = re.compile(r"retire (\d+): out( unsaved)?")
 REOPENED = re.compile(r"reopen: opened (\d+) left (\d+) stopped (\d+)")
-SERVING = re.compile(r"serving: up \d{1,20} s")
+SERVING = re.compile(r"serving: up (\d{1,20}) s")
+MISSING = re.compile(r"leg (\d{1,3}): no file: (.*): (.*)")
 SUPERBLOCK = re.compile(r"superblock: generation (\d{1,20}) marked (\d{1,20}) unsaved (\d{1,20})( failed)?")
 # What no server sends more of as an answer to `info`.
 MOST_INFO = 16
@@ -210,8 +211,13 @@ def superblock_in(lines):
 
 
 def missing_in(lines):
-    """A line for each leg whose file is missing by what a server says of itself: its file, and why."""
-    return [line for line in lines if re.match(r"leg \d{1,3}: no file: ", line)]
+    """Each leg whose file is not open by what a server says of itself: that file's name, and why at the start."""
+    return {int(found[1]): (found[2], found[3]) for found in map(MISSING.fullmatch, lines) if found}
+
+
+def uptime_in(lines):
+    """For how many seconds a server has served by what it says of itself, or None."""
+    return next((int(found[1]) for found in map(SERVING.fullmatch, lines) if found), None)
 
 
 def superblock_of(line):

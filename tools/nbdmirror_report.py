@@ -2,6 +2,8 @@
 
 It needs nothing but an interpreter's standard library, and nbdmirror_control.py in its own folder.
 """
+from __future__ import annotations
+
 import itertools
 import math
 from typing import NamedTuple
@@ -340,9 +342,19 @@ REFUSALS = {
 }
 
 
-def refusal_sentence(leg, word):
-    """Why a server does not do what was asked of a leg."""
-    return f"leg {leg} {REFUSALS[word].format(leg=leg)}"
+def refusal_sentence(leg, word, missing=None):
+    """Why a server does not do what was asked of a leg. Of one whose file is missing its name and the reason are known."""
+    if not missing:
+        return f"leg {leg} {REFUSALS[word].format(leg=leg)}"
+    name, reason = missing
+    if word == "no file":
+        return f"leg {leg} ({name}) cannot be opened; at the start: {reason}"
+    return f"leg {leg} ({name}) {REFUSALS[word].format(leg=leg)}"
+
+
+def missing_sentences(missing):
+    """A sentence for each leg whose file is not open."""
+    return [f"leg {leg} ({name}) is not open: {reason}" for leg, (name, reason) in sorted(missing.items())]
 
 
 def reopen_sentence(opened, left, stopped):

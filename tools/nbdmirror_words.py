@@ -5,11 +5,14 @@ It needs nothing but an interpreter's standard library, and nbdmirror_control.py
 import argparse
 import math
 import os
+import shutil
 
 from nbdmirror_control import DEFAULT, SERVICE, TIMEOUT_SECONDS, UNIX
 
-# How long `wait` waits for a server.
-WAIT_SECONDS = 60
+# That of the server which these files came with.
+VERSION = "0.1.0"
+# How long `wait` waits for a server, and `monitor` between two looks.
+WAIT_SECONDS, MONITOR_SECONDS = 60, 5.0
 
 
 def number_of(word, digits):
@@ -72,9 +75,17 @@ def address_of(word):
     return host.removeprefix("[").removesuffix("]"), number
 
 
-def add_interval(one):
-    one.add_argument("--interval", type=some_seconds, default=1.0, metavar="SECONDS",
-                     help="between two looks, at most")
+def program_of(word):
+    """A program that can be run."""
+    path = shutil.which(word)
+    if path is None:
+        raise argparse.ArgumentTypeError(f"{word!a} is no program that can be run")
+    return path
+
+
+def add_interval(one, default=1.0):
+    one.add_argument("--interval", type=some_seconds, default=default, metavar="SECONDS",
+                     help=f"between two looks, at most (default {default:g})")
 
 
 def add_status(command):
@@ -124,6 +135,13 @@ def add_verify(command):
     one.add_argument("--json", action="store_true", help="for machines, with --wait")
 
 
+def add_monitor(command):
+    """The words of `monitor`."""
+    one = command("monitor", "tell what changes, until it is interrupted")
+    one.add_argument("--exec", type=program_of, metavar="PROGRAM", help="is run with each change, which is not printed")
+    add_interval(one, MONITOR_SECONDS)
+
+
 def add_commands(command):
     """Each command with its words."""
     add_status(command)
@@ -133,6 +151,7 @@ def add_commands(command):
     command("kick", "close a client's connection").add_argument("client", type=client_number)
     add_verify(command)
     add_interval(command("watch", "show a copy until it is done"))
+    add_monitor(command)
     command("which-master", "the legs that are in sync in every stripe")
     command("metrics", "what the server has counted, as Prometheus reads it")
     add_ends(command)
@@ -142,6 +161,7 @@ def parse(arguments):
     """The words of a command line: its command, and what that takes. Wrong words end the program with status 2."""
     parser = argparse.ArgumentParser(prog="nbdmirrorctl", description="Controls a running nbdmirror.",
                                      allow_abbrev=False)
+    parser.add_argument("--version", action="version", version=f"nbdmirrorctl {VERSION}")
     default = f"{UNIX}{SERVICE}" if os.path.exists(SERVICE) else DEFAULT
     parser.add_argument("--control", type=address_of, default=os.environ.get("NBDMIRROR_CONTROL", default),
                         metavar="ADDR:PORT",
