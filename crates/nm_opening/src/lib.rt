@@ -3,6 +3,7 @@
 #![tactic(auto)]
 
 mod answering_meanwhile;
+mod image_shape;
 mod kept_mirror;
 
 pub use crate::kept_mirror::{OpenedMirror, open_asked_for};
