@@ -17,7 +17,7 @@ pub record SyncsAll (honest done : Bool) (old new : FileTimes) : Type 0 where
 
 -- The time is read, which leaves the file as it was.
 pub record ReadsTime (honest : Bool) (found : ℕ) (old new : FileTimes) : Type 0 where
-  pub found : IsTrue honest → found ≡ old.now
+  pub time : IsTrue honest → found ≡ old.now
   pub same : IsTrue honest → new ≡ old
 
 -- a time that was found is the file's, and durable

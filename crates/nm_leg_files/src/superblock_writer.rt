@@ -2,7 +2,7 @@
 
 ghost use Rattle.std.specs.Prelude.{◌≤◌};
 
-use crate::saved_times::{known_times, saved_times};
+use crate::change_times::{known_times, saved_times};
 use crate::saving::{AfterTry, after_try, is_clean, is_last_somewhere};
 use nm_geometry::{MOST_LEGS, MOST_STRIPES};
 use nm_lanes::Gate;
