@@ -34,8 +34,8 @@ pub struct LegPlace {
     // Of a leg that is missing since the start, where its superblock is missing too. Only who has
     // the lock of its file takes this one.
     pub(crate) superblock: Mutex<Option<LateSuperblock>>,
-    // Its number, and what superblocks recorded of legs' files at the start: a file that was missing
-    // then is to be the one that they are of, as it was.
+    // Its number, and what superblocks recorded of legs' files at the start: a file that was
+    // missing then is to be the one that they are of, as it was.
     pub(crate) recorded: Option<(usize, RecordedFiles)>,
 }
 

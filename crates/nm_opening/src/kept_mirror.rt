@@ -60,8 +60,8 @@ fn mirror_of<'a>(
     }
 }
 
-// The mirror over the legs' files, which its stripes share, that are compared since all of them were
-// changed.
+// The mirror over the legs' files, which its stripes share: they are compared, since all of them
+// were changed.
 fn open_changed<'a, R: Files<File = File>>(
     rt: &R,
     alloc: Global,
@@ -299,6 +299,28 @@ fn check_all_named<'a>(settings: &Settings<'_>, files: &LegFiles) -> Result<(), 
     Ok(())
 }
 
+// What is found of the legs: these superblocks, and their files.
+fn find_legs<'a, R: Files<File = File> + Wait>(
+    rt: &R,
+    alloc: Global,
+    settings: &Settings<'_>,
+    files: &LegFiles,
+    superblocks: &[Option<Superblock>; 8],
+    lines: &LogLines,
+) -> Result<FoundLegs, StartFault<'a>> {
+    let legs = LegsHere {
+        here: files.here(),
+        settled: files.settle(),
+        identities: files.identities(rt, alloc, lines)?,
+        changed: files.changed(),
+        moved: moved_legs(settings),
+    };
+    Ok(FoundLegs {
+        found: *superblocks,
+        legs,
+    })
+}
+
 // Tells why the legs are compared that superblocks tell of.
 fn tell_compared<R: Wait>(rt: &R, alloc: Global, lines: &LogLines) {
     let text = format!(in alloc; "all legs were changed since the mirror ended: they are compared");
@@ -326,20 +348,13 @@ where
         take_added(&mut superblocks, newest.legs);
     }
     lay_unknown_aside(alloc, settings, went_by, &superblocks, files)?;
-    let legs = LegsHere {
-        here: files.here(),
-        settled: files.settle(),
-        identities: files.identities(rt, alloc, lines)?,
-        changed: files.changed(),
-        moved: moved_legs(settings),
-    };
-    let seen = FoundLegs {
-        found: superblocks,
-        legs,
-    };
+    let seen = find_legs(rt, alloc, settings, files, &superblocks, lines)?;
     tell_unmoved(rt, alloc, &seen, lines);
     let unchanged = as_they_were(settings, &seen);
     let is_compared = unchanged.is_some();
+    if is_compared {
+        tell_compared(rt, alloc, lines);
+    }
     let told = unchanged.unwrap_or(seen);
     let lineage = draw_id(rt)?;
     let (image, is_first) = image_for(rt, settings, files, &told, lineage)?;
@@ -352,9 +367,6 @@ where
         went_by,
         is_compared,
     };
-    if is_compared {
-        tell_compared(rt, alloc, lines);
-    }
     if is_first || is_compared {
         open_watched(rt, alloc, settings, files, control, lines, Some(kept))
     } else {
