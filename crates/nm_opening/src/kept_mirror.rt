@@ -3,6 +3,7 @@ ghost use Rattle.std.specs.Prelude.{map};
 ghost use Rattle.nm_mirror.specs.Stripes.{AreStripesOf};
 
 use crate::answering_meanwhile::answer_meanwhile;
+use crate::found_legs::{find_legs, tell_compared};
 use crate::image_shape::shape_by;
 use crossbeam_channel::bounded;
 use nm_assemble::{LegsHere, NewMirror, first_superblock, named_leg, newest_of};
@@ -297,34 +298,6 @@ fn check_all_named<'a>(settings: &Settings<'_>, files: &LegFiles) -> Result<(), 
         }
     }
     Ok(())
-}
-
-// What is found of the legs: these superblocks, and their files.
-fn find_legs<'a, R: Files<File = File> + Wait>(
-    rt: &R,
-    alloc: Global,
-    settings: &Settings<'_>,
-    files: &LegFiles,
-    superblocks: &[Option<Superblock>; 8],
-    lines: &LogLines,
-) -> Result<FoundLegs, StartFault<'a>> {
-    let legs = LegsHere {
-        here: files.here(),
-        settled: files.settle(),
-        identities: files.identities(rt, alloc, lines)?,
-        changed: files.changed(),
-        moved: moved_legs(settings),
-    };
-    Ok(FoundLegs {
-        found: *superblocks,
-        legs,
-    })
-}
-
-// Tells why the legs are compared that superblocks tell of.
-fn tell_compared<R: Wait>(rt: &R, alloc: Global, lines: &LogLines) {
-    let text = format!(in alloc; "all legs were changed since the mirror ended: they are compared");
-    lines.warn(rt, text);
 }
 
 // The mirror that superblocks open, or that gets its first ones.

@@ -3,6 +3,7 @@
 #![tactic(auto)]
 
 mod answering_meanwhile;
+mod found_legs;
 mod image_shape;
 mod kept_mirror;
 
