@@ -1,5 +1,5 @@
--- Which legs' files are those that the newest superblock is of, by their identities, and are as they
--- were, by the times of their last changes.
+-- Which legs' files are those that the newest superblock is of, by their identities, and are as
+-- they were, by the times of their last changes.
 use Rattle.std.specs.Prelude.{◌≡◌, ◌⊎◌, ◌<◌, ◌≤◌, ◌↔◌, ℕ, Bool, false, List}
 use Rattle.std.specs.Prelude.{slice_index, slice_index_or, IsTrue}
 use Rattle.std.specs.Int.{bit_at}
