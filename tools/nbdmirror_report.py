@@ -338,7 +338,8 @@ REFUSALS = {
     "no file": "stays as it is: the file of its name cannot be opened",
     "was cut": "stays as it is: its file was made shorter, and may lack anything. Make it as long as it was, and replace it:"
                " nbdmirrorctl replace {leg}",
-    "another file": "stays as it is: another file has its name. To have that copied whole: nbdmirrorctl replace {leg}",
+    "another file": "stays as it is: another file has its name, or it was changed. To have that copied whole:"
+                    " nbdmirrorctl replace {leg}",
 }
 
 

@@ -3,9 +3,11 @@ use Rattle.std.specs.Prelude.{◌≡◌, ◌⊎◌, ℕ, Bool, false, List, IsTr
 use Rattle.nm_superblock.specs.declared.superblock.Superblock.{Superblock}
 use Rattle.nm_assemble.specs.declared.assembly.Assembly.{Assembly}
 use Rattle.nm_assemble.specs.declared.assembly.AssembleFault.{AssembleFault}
-use Rattle.nm_assemble.specs.declared.assembly.AssembleFault.TheVariants.{Another, Mixed, Unfit}
+use Rattle.nm_assemble.specs.declared.assembly.AssembleFault.TheVariants.{Another, Changed}
+use Rattle.nm_assemble.specs.declared.assembly.AssembleFault.TheVariants.{Mixed, Unfit}
 use Rattle.nm_assemble.specs.declared.assembly.AssembleFault.TheVariants.{MayBeNewer, NoneInSync}
 use Rattle.nm_assemble.specs.declared.assembly.AssembleFault.TheVariants.{NoSuperblock}
+use Rattle.nm_assemble.specs.Changes.{WasChanged}
 use Rattle.nm_assemble.specs.Masters.{AllOpen, IsFirstClosed}
 use Rattle.nm_assemble.specs.Start.{AllFit, AreFresh, IsEmpty, IsFirstMisfit, IsMissing, IsNewest}
 use Rattle.nm_assemble.specs.Start.{IsSureStart}
@@ -34,10 +36,13 @@ pub record IsAssembly (a : Assembly) (found : List (Option Superblock)) (legs : 
   pub fresh : AreFresh 8 a.newest found legs a.fresh
   pub masters : AllOpen 64 a.newest a.fresh
 
--- why a stripe has no leg to open on: the first that is in sync there and here has another file, or
--- there is none such
+-- why a stripe has no leg to open on: the first that is in sync there and here but not its own has
+-- another file, or its file was changed; or there is none such
 abbrev pub IsClosedBy : (stripe : ℕ) → Superblock → LegsHere → AssembleFault → Type 0
-IsClosedBy stripe newest legs (Another leg) = IsFirstAnother leg stripe newest legs
+IsClosedBy stripe newest legs (Another leg) =
+    IsFirstAnother leg stripe newest legs × (WasChanged newest legs leg → ⊥)
+IsClosedBy stripe newest legs (Changed leg) =
+    IsFirstAnother leg stripe newest legs × WasChanged newest legs leg
 IsClosedBy stripe newest legs (NoneInSync closed) =
     (closed ≡ stripe) × NoneAnother 8 stripe newest legs
 IsClosedBy stripe newest legs other = ⊥
@@ -66,5 +71,6 @@ IsRefused (MayBeNewer leg) found legs degraded =
     (newest : Superblock) × IsChosen newest found × NoneMixed 8 newest legs
     × IsUnsure leg newest found degraded
 IsRefused (Another leg) found legs degraded = IsClosedStart (Another leg) found legs degraded
+IsRefused (Changed leg) found legs degraded = IsClosedStart (Changed leg) found legs degraded
 IsRefused (NoneInSync stripe) found legs degraded =
     IsClosedStart (NoneInSync stripe) found legs degraded

@@ -8,6 +8,7 @@ use Rattle.nm_superblock.specs.Spans.{IsUnmarked, candidates_of, in_sync_of, par
 use Rattle.nm_assemble.specs.declared.assembly.Assembly.{Assembly}
 use Rattle.nm_assemble.specs.declared.first.NewMirror.{NewMirror}
 use Rattle.nm_assemble.specs.Masters.{IsMaster, MayOpenOn}
+use Rattle.nm_assemble.specs.Changes.{KeepsTimes}
 use Rattle.nm_assemble.specs.Own.{Records}
 use Rattle.nm_assemble.specs.declared.own.LegsHere.{LegsHere}
 use Rattle.nm_superblock.specs.declared.leg_identities.LegIdentities.{LegIdentities}
@@ -108,7 +109,6 @@ pub record GoesOn (s image : Superblock) : Type 0 where
   pub seen : image.seen ≡ s.seen
   pub unclean : image.clean ≡ false
   pub version : image.version ≡ 2
-  pub changed : image.changed ≡ replicate 8 0
 
 -- the image of a start by the newest superblock, in which this leg was asked for or none
 pub record IsImage (asked : Option ℕ) (a : Assembly) (here : List Bool)
@@ -119,6 +119,7 @@ pub record IsImage (asked : Option ℕ) (a : Assembly) (here : List Bool)
   pub marked : image.marked ≡ a.newest.marked
   pub sets : AreSetsOf 64 asked a here image.sets
   pub identities : Records 8 here files a.newest.identities image.identities
+  pub changed : KeepsTimes 8 here a.newest.changed image.changed
 
 -- the lineage is a new one, which descends from that of the newest superblock as it was found
 pub record IsFork (lineage : ℕ) (newest image : Superblock) : Type 0 where
@@ -137,6 +138,7 @@ pub record IsForced (leg lineage : ℕ) (legs : LegsHere) (newest image : Superb
   pub unmarked : IsUnmarked 16384 image.marked
   pub sets : NamesAlone 64 newest.stripes leg (replicate 8 false) image.sets
   pub identities : Records 8 legs.here legs.identities newest.identities image.identities
+  pub changed : image.changed ≡ replicate 8 0
 
 -- The first image of a mirror: it has the mirror's id, shape and legs, is of a lineage that
 -- descends from none, names this leg alone, says of the others that are equal to it that they lack

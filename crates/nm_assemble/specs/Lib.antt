@@ -1,4 +1,5 @@
 pub mod Assembly
+pub mod Changes
 pub mod Image
 pub mod Legs
 pub mod Lineages

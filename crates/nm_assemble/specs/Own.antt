@@ -1,6 +1,7 @@
--- Which legs' files are those that the newest superblock is of, by their identities.
+-- Which legs' files are those that the newest superblock is of, by their identities, and are as
+-- they were, by the times of their last changes.
 use Rattle.std.specs.Prelude.{◌≡◌, ◌⊎◌, ◌<◌, ◌≤◌, ◌↔◌, ℕ, Bool, false, List}
-use Rattle.std.specs.Prelude.{slice_index_or, IsTrue}
+use Rattle.std.specs.Prelude.{slice_index, slice_index_or, IsTrue}
 use Rattle.std.specs.Int.{bit_at}
 use Rattle.nm_superblock.specs.declared.leg_identities.LegIdentities.{LegIdentities}
 use Rattle.nm_superblock.specs.declared.superblock.Superblock.{Superblock}
@@ -12,13 +13,19 @@ use Rattle.nm_assemble.specs.declared.own.LegsHere.{LegsHere}
 abbrev pub said : (leg : ℕ) → List Bool → Bool
 said leg legs = slice_index_or legs leg false
 
--- the superblock is of the leg's file: it tells of none, as one of version 1 does and one that has
--- no such leg, or of this one, or a person said that the leg was moved to it; an unknown identity
--- is the same as an unknown one alone
+-- the leg's file was changed last at the time that the superblock has, or it has none
+abbrev pub HasItsTime : Superblock → LegsHere → (leg : ℕ) → Type 0
+HasItsTime newest legs leg =
+    (slice_index newest.changed leg ≡ 0)
+    ⊎ (slice_index legs.changed leg ≡ slice_index newest.changed leg)
+
+-- the superblock is of the leg's file as it is: it tells of none, as one of version 1 does and one
+-- that has no such leg, or of this one, which nothing has changed since, or a person said that the
+-- leg was moved to it; an unknown identity is the same as an unknown one alone
 abbrev pub IsOfFile : Superblock → LegsHere → (leg : ℕ) → Type 0
 IsOfFile newest legs leg =
     ((newest.version ≡ 1) ⊎ (newest.legs ≤ leg)) ⊎ (IsTrue (said leg legs.moved)
-    ⊎ IsSameIdentity leg legs.identities leg newest.identities)
+    ⊎ (IsSameIdentity leg legs.identities leg newest.identities × HasItsTime newest legs leg))
 
 -- a leg's file is its own: it is here, and the superblock is of it
 pub record IsOwn (newest : Superblock) (legs : LegsHere) (leg : ℕ) : Type 0 where

@@ -1,6 +1,7 @@
 ghost use Rattle.std.specs.Prelude.{◌<◌, IfOk, IfErr, IfSome, IfNone};
 ghost use Rattle.nm_assemble.specs.Assembly.{IsAssembly, IsClosedBy, IsRefused, IsUnsure, MayGoBy};
 
+use crate::changes::was_changed;
 use crate::fresh::fresh_legs;
 use crate::masters::closed_stripe;
 use crate::misfit::{Misfit, first_misfit};
@@ -32,6 +33,9 @@ pub enum AssembleFault {
     /// No leg that is in sync in some stripe is fresh, and this one, the first that is in sync
     /// there and here, has another file than the one that the superblock is of.
     Another(usize),
+    /// No leg that is in sync in some stripe is fresh, and the file of this one, the first that is
+    /// in sync there and here but not its own, was changed since the mirror ended.
+    Changed(usize),
     /// No leg that is in sync in this stripe is fresh.
     NoneInSync(usize),
 }
@@ -71,6 +75,7 @@ fn closed_by(newest: &Superblock, legs: &LegsHere, stripe: usize) -> AssembleFau
     ensures { IsClosedBy stripe newest.now legs.now result }
 {
     match first_another(newest, legs, stripe) {
+        Some(leg) if was_changed(newest, legs, leg) => AssembleFault::Changed(leg),
         Some(leg) => AssembleFault::Another(leg),
         None => AssembleFault::NoneInSync(stripe),
     }

@@ -5,6 +5,7 @@ ghost use Rattle.nm_assemble.specs.Image.{IsPartial, IsSetOf, OpensAll, OpensOn}
 ghost use Rattle.nm_assemble.specs.Masters.{MayOpenOn};
 
 use crate::assembly::Assembly;
+use crate::changes::kept_times;
 use crate::masters::{is_master, may_open_on};
 use crate::own::recorded;
 use crate::stripe_sets::{put, with_leg};
@@ -13,7 +14,8 @@ use nm_superblock::{LegIdentities, LegSets, Superblock};
 impl Assembly {
     /// The image of the start: what its first save says. Each stripe opens on the leg that is asked
     /// for, or on the first that it may open on. Which legs' files are here and their own is told,
-    /// and what identities these have.
+    /// and what identities these have. The times of others stay: what something else has changed is
+    /// not taken by a later start either.
     pub fn image(
         &self,
         here: &[bool; 8],
@@ -28,7 +30,7 @@ impl Assembly {
         image.clean = false;
         image.version = 2;
         image.identities = recorded(&self.newest.identities, here, identities);
-        image.changed = [0; 8];
+        image.changed = kept_times(&self.newest.changed, here);
         image
     }
 

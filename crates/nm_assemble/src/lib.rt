@@ -3,6 +3,7 @@
 #![tactic(auto)]
 
 pub use assembly::{AssembleFault, Assembly, assemble};
+pub use changes::{are_all_changed, changed_legs};
 pub use first::{NewMirror, begin_lineage, first_superblock, forced_image};
 pub use fresh::fresh_legs;
 pub use image_legs::{LegStart, leg_start, named_leg};
@@ -13,6 +14,7 @@ pub use newest::newest_of;
 pub use own::{LegsHere, own_legs};
 
 mod assembly;
+mod changes;
 mod first;
 mod fresh;
 mod image;

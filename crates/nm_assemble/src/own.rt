@@ -1,6 +1,7 @@
-//! Which legs' files are those that the newest superblock is of.
+//! Which legs' files are those that the newest superblock is of, and as they were.
 ghost use Rattle.std.specs.Prelude.{◌≡◌, ◌≢◌, ◌<◌, ◌↔◌, ℕ, None, Some, IsTrue, IfSome, IfNone};
-ghost use Rattle.nm_assemble.specs.Own.{AreOwn, IsAnother, IsFirstAnother, IsFirstMixed};
+ghost use Rattle.nm_assemble.specs.Own.{AreOwn, HasItsTime, IsAnother, IsFirstAnother};
+ghost use Rattle.nm_assemble.specs.Own.{IsFirstMixed};
 ghost use Rattle.nm_assemble.specs.Own.{IsOtherLegs, IsOwn, NoneAnother, NoneMixed, Records};
 
 use nm_superblock::{LegIdentities, Superblock};
@@ -14,11 +15,14 @@ pub struct LegsHere {
     pub settled: [bool; 8],
     /// The identities of the files.
     pub identities: LegIdentities,
+    /// The times of the files' last changes, in nanoseconds; 0 where one is unknown.
+    pub changed: [u64; 8],
     /// Which legs were moved to another file or device, each with its superblock.
     pub moved: [bool; 8],
 }
 
-/// The legs whose files are here, and are those that the superblock is of.
+/// The legs whose files are here, and are those that the superblock is of, which nothing else has
+/// changed since the mirror ended.
 pub fn own_legs(newest: &Superblock, legs: &LegsHere) -> [bool; 8]
     ensures { AreOwn 8 newest.now legs.now result }
 {
@@ -29,14 +33,24 @@ pub fn own_legs(newest: &Superblock, legs: &LegsHere) -> [bool; 8]
     own
 }
 
-// Whether the leg's file is here, and is the one that the superblock is of.
+// Whether the leg's file is here, and is the one that the superblock is of, as it was.
 pub(crate) fn is_own(newest: &Superblock, legs: &LegsHere, leg: usize) -> bool
     requires { leg < 8 }
     ensures { IsTrue result ↔ IsOwn newest.now legs.now leg }
 {
     let untold = newest.version == 1 || newest.legs as usize <= leg;
     let same = legs.identities.is_same(leg, &newest.identities, leg);
-    legs.here[leg] && (untold || legs.moved[leg] || same)
+    let as_it_was = same && has_its_time(newest, legs, leg);
+    legs.here[leg] && (untold || legs.moved[leg] || as_it_was)
+}
+
+// Whether the leg's file was changed last at the time that the superblock has, or it has none.
+fn has_its_time(newest: &Superblock, legs: &LegsHere, leg: usize) -> bool
+    requires { leg < 8 }
+    ensures { IsTrue result ↔ HasItsTime newest.now legs.now leg }
+{
+    let recorded = newest.changed[leg];
+    recorded == 0 || legs.changed[leg] == recorded
 }
 
 /// The first leg whose file is here, and is the one that was another leg: and that other one.
@@ -80,7 +94,7 @@ fn is_other_legs(newest: &Superblock, legs: &LegsHere, leg: usize, other: usize)
 }
 
 /// The first leg that is in sync in the stripe by the superblock and has another file than the one
-/// that the superblock is of.
+/// that the superblock is of, or has that one changed.
 pub fn first_another(newest: &Superblock, legs: &LegsHere, stripe: usize) -> Option<usize>
     requires { stripe < 64 }
     ensures some { IfSome result (λ leg. IsFirstAnother leg stripe newest.now legs.now) }
@@ -101,7 +115,8 @@ fn is_another(newest: &Superblock, legs: &LegsHere, stripe: usize, leg: usize) -
     ensures { IsTrue result ↔ IsAnother leg stripe newest.now legs.now }
 {
     let in_sync = (newest.sets.in_sync(stripe) >> leg) & 1 == 1;
-    in_sync && legs.here[leg] && !is_own(newest, legs, leg)
+    let other = legs.here[leg] && !is_own(newest, legs, leg);
+    in_sync && other
 }
 
 // The identities that are recorded once these legs' files were looked at: theirs are the files'.

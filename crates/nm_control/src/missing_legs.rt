@@ -116,7 +116,10 @@ impl MissingLegs {
 
     /// What was found in the place of a leg's file, which is not opened.
     pub fn note(&self, leg: u8, why: &Hindrance) {
-        let is_other = matches!(why, Hindrance::Unknown | Hindrance::OtherFile);
+        let is_other = matches!(
+            why,
+            Hindrance::Unknown | Hindrance::OtherFile | Hindrance::Changed
+        );
         set(&self.other, leg, is_other);
     }
 

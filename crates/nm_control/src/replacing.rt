@@ -87,6 +87,15 @@ impl<'x, O> LegRenewer<'x, O> {
             read: Arc::new(alloc, AtomicU64::new(0))?,
         })
     }
+
+    /// Makes each leg's file durable, and says when it was changed last: 0 where that is unknown.
+    pub fn settled_times<R: Wait>(&self, rt: &R) -> [u64; 8] {
+        let mut times = [0; 8];
+        for (time, place) in times.iter_mut().zip(self.places.iter()) {
+            *time = place.settled_time(rt);
+        }
+        times
+    }
 }
 
 impl<'x, O: OpensLegs> RenewsLegs<Leg> for LegRenewer<'x, O> {

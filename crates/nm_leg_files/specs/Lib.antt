@@ -1,7 +1,10 @@
 pub mod Alike
+pub mod ChangedStart
 pub mod Files
 pub mod Here
+pub mod LegTime
 pub mod Replies
+pub mod SavedTimes
 pub mod Saving
 pub mod Starting
 pub mod SuperblockChoice

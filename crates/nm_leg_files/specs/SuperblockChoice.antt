@@ -1,7 +1,7 @@
 -- What a start by superblocks goes by, and why it is refused: by rows, of which the first that
 -- applies decides.
 use Rattle.std.specs.Prelude.{◌≡◌, ◌≢◌, ◌⊎◌, ◌≤◌, ℕ, Bool, List, Option, None, Some, min, max}
-use Rattle.std.specs.Prelude.{IsTrue}
+use Rattle.std.specs.Prelude.{IsTrue, slice_index_or}
 use Rattle.nm_assemble.specs.Assembly.{IsAssembly, IsRefused}
 use Rattle.nm_assemble.specs.Image.{IsClosedTo, IsFork, IsForced, IsImage, OpensAll}
 use Rattle.nm_assemble.specs.Own.{AreOwn}
@@ -77,16 +77,20 @@ leg_said (Some s) = s.leg
 leg_said None = 0
 
 -- what is told where superblocks do not decide
-abbrev pub told : AssembleFault → List (Option Superblock) → (newest : Superblock) → StartFault
-told refused.NoSuperblock found newest = fault.Memory
-told (refused.Unfit leg OtherMirror) found newest = fault.OtherMirror leg
-told (refused.Unfit leg OtherLeg) found newest = fault.OtherLeg leg (leg_said (beside leg found))
-told (refused.Unfit leg Apart) found newest =
+abbrev pub told : AssembleFault → FoundLegs → (newest : Superblock) → StartFault
+told refused.NoSuperblock seen newest = fault.Memory
+told (refused.Unfit leg OtherMirror) seen newest = fault.OtherMirror leg
+told (refused.Unfit leg OtherLeg) seen newest =
+    fault.OtherLeg leg (leg_said (beside leg seen.found))
+told (refused.Unfit leg Apart) seen newest =
     fault.WentApart (min leg newest.leg) (max leg newest.leg)
-told (refused.Mixed leg other) found newest = fault.WasLeg leg other
-told (refused.Another leg) found newest = fault.AnotherFile leg
-told (refused.MayBeNewer leg) found newest = fault.MayBeNewer leg
-told (refused.NoneInSync stripe) found newest = fault.NoneInSync stripe
+told (refused.Mixed leg other) seen newest = fault.WasLeg leg other
+told (refused.Another leg) seen newest = fault.AnotherFile leg
+told (refused.Changed leg) seen newest =
+    fault.WasChanged leg (slice_index_or newest.changed leg 0)
+    (slice_index_or seen.legs.changed leg 0)
+told (refused.MayBeNewer leg) seen newest = fault.MayBeNewer leg
+told (refused.NoneInSync stripe) seen newest = fault.NoneInSync stripe
 
 -- superblocks do not decide
 pub record IsTold (s : Settings) (seen : FoundLegs) (tells : StartFault) : Type 0 where
@@ -95,7 +99,7 @@ pub record IsTold (s : Settings) (seen : FoundLegs) (tells : StartFault) : Type 
   pub greatest : IsNewest 8 newest seen.found
   pub why : AssembleFault
   pub refused : IsRefused why seen.found seen.legs s.degraded
-  pub told : tells ≡ told why seen.found newest
+  pub told : tells ≡ told why seen newest
 
 -- a leg was named that cannot be the master of each stripe
 pub record IsNotInSync (s : Settings) (seen : FoundLegs) (leg : ℕ) : Type 0 where

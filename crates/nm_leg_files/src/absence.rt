@@ -22,6 +22,8 @@ pub(crate) enum Absence {
     Unopened(io::Error),
     /// It is another file than the one that the leg's superblock is of.
     Another,
+    /// It was changed since the mirror ended.
+    Changed,
     /// No superblock of the mirror came with it: what it holds is not the mirror's.
     Unknown,
 }
@@ -31,6 +33,7 @@ impl fmt::Display for Absence {
         match self {
             Absence::Unopened(error) => write!(f, "{error}"),
             Absence::Another => f.write_str("is another file than its superblock is of"),
+            Absence::Changed => f.write_str("was changed since the mirror ended"),
             Absence::Unknown => f.write_str("has no superblock of this mirror"),
         }
     }
@@ -51,6 +54,15 @@ impl LegFile {
             trouble: Arc::try_clone(&self.trouble)?,
             counts: Arc::try_clone(&self.counts)?,
         })
+    }
+}
+
+// Why a leg's file that is here is not taken.
+fn absence_by(was_changed: bool) -> Absence {
+    if was_changed {
+        Absence::Changed
+    } else {
+        Absence::Another
     }
 }
 
@@ -75,12 +87,20 @@ pub fn unknown_legs(newest: &Superblock, found: &[Option<Superblock>; 8]) -> [bo
 }
 
 impl LegFiles {
-    /// Lets go of the files of legs whose own they are not: the mirror starts without them.
-    pub fn keep_own(&mut self, alloc: Global, own: &[bool; 8]) -> Result<(), AllocError> {
+    /// Lets go of the files of legs whose own they are not, or no longer, since these were changed:
+    /// the mirror starts without them.
+    pub fn keep_own(
+        &mut self,
+        alloc: Global,
+        own: &[bool; 8],
+        changed: &[bool; 8],
+    ) -> Result<(), AllocError> {
         for (leg, file) in self.files.iter_mut().enumerate() {
             let is_own = own.get(leg).copied().unwrap_or(false);
+            let was_changed = changed.get(leg).copied().unwrap_or(false);
             if !is_own && file.unopened.is_none() {
-                *file = file.laid_aside(alloc, Absence::Another)?;
+                let why = absence_by(was_changed);
+                *file = file.laid_aside(alloc, why)?;
             }
         }
         Ok(())

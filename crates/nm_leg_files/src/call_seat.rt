@@ -42,6 +42,8 @@ pub(crate) enum Asked {
     Length,
     /// Whether no data stand in so many bytes.
     Hole(usize),
+    /// A sync, and the time of the file's last change.
+    Changed,
 }
 
 // What a thread is asked for, and its answer. The bytes that a call moves stay here, where a call
@@ -95,6 +97,7 @@ fn call(file: &LateFile, asked: Asked, at: u64, room: &mut [u8]) -> io::Result<u
         }
         Asked::Length => file.count_bytes(),
         Asked::Hole(many) => Ok(u64::from(file.has_hole(at, many))),
+        Asked::Changed => Ok(file.settled_time()),
     }
 }
 

@@ -1,15 +1,25 @@
 //! What tells the legs' files from all others, as superblocks record it.
 
 use crate::leg_files::LegFiles;
+use crate::leg_time::time_of_change;
 use byteorder::{BigEndian, ByteOrder};
 use nm_reports::LogLines;
-use nm_superblock::LegIdentities;
+use nm_superblock::{LegIdentities, Superblock};
 use nm_system::identity_of;
 use sha2::{Digest, Sha256};
 use std::alloc::{AllocError, Global};
 use std::fs::File;
 use std::rt::Files;
 use std::sync::Wait;
+
+/// What superblocks record of the legs' files.
+#[derive(Clone, Copy, Debug, PartialEq, Eq)]
+pub struct RecordedFiles {
+    /// Their identities.
+    pub identities: LegIdentities,
+    /// The times of their last changes, 0 where one is unknown.
+    pub changed: [u64; 8],
+}
 
 /// The identities of legs of which this one alone is known, by this text: the SHA-256 of it.
 pub fn identity_by(leg: usize, text: Option<&str>) -> LegIdentities {
@@ -55,9 +65,25 @@ impl LegFiles {
         Ok(all)
     }
 
+    /// The times of last changes of the files that are here, 0 where one is unknown.
+    pub fn changed(&self) -> [u64; 8] {
+        let mut all = [0; 8];
+        for (leg, file) in self.files.iter().enumerate() {
+            if let Some(own) = file.shared.file().late().file() {
+                if leg < 8 {
+                    all[leg] = time_of_change(own);
+                }
+            }
+        }
+        all
+    }
+
     /// What superblocks record of the files from now on: a file that is opened later is to be the
-    /// one that they are of.
-    pub fn record(&mut self, identities: &LegIdentities) {
-        self.recorded = Some(*identities);
+    /// one that they are of, as it was.
+    pub fn record(&mut self, image: &Superblock) {
+        self.recorded = Some(RecordedFiles {
+            identities: image.identities,
+            changed: image.changed,
+        });
     }
 }

@@ -30,6 +30,8 @@ pub struct KeptImage {
     pub here: [bool; 8],
     /// The newest superblock that was found.
     pub went_by: Option<Superblock>,
+    /// Whether the legs are compared, since all of them were changed.
+    pub is_compared: bool,
 }
 
 /// A mirror's superblocks while the server serves.
@@ -138,7 +140,8 @@ fn save_once<'a>(
             *is_out = !here[leg];
         }
     }
-    let Err(failed) = files.save(&image.sets, &image.marked, false, &[0; 8], &out) else {
+    let saved = files.save(&image.sets, &image.marked, false, &image.changed, &out);
+    let Err(failed) = saved else {
         return Ok(());
     };
     for (leg, has_failed) in failed.legs.iter().enumerate() {
@@ -169,6 +172,7 @@ impl KeptImage {
             image,
             here,
             went_by,
+            ..
         } = self;
         let states = durable_states(alloc, &image, &stripes)?;
         if states.len() != stripes.len() {

@@ -1,6 +1,7 @@
 //! A file that may be opened later than the server starts.
 ghost use Rattle.std.specs.Prelude.{◌≡◌, ◌≤◌, length, None, Some, IsErr, IfOk};
 
+use crate::leg_time::{OpenFile, TimedFile, settled_time};
 use nm_file_leg::BackingFile;
 use std::fs::File;
 use std::io;
@@ -51,9 +52,17 @@ impl LateFile {
         let Some(file) = self.file() else {
             return false;
         };
-        let is_settled = file.sync_data().is_ok();
+        let is_settled = OpenFile { file }.sync_data().is_ok();
         let _ = libc::posix_fadvise(file.as_raw_fd(), 0, 0, libc::POSIX_FADV_DONTNEED);
         is_settled
+    }
+
+    /// Makes the file durable, and says when it was changed last: 0 where that is unknown.
+    pub fn settled_time(&self) -> u64 {
+        match self.file() {
+            Some(file) => settled_time(&mut OpenFile { file }),
+            None => 0,
+        }
     }
 
     /// The file was opened. It is dropped where one is open already.

@@ -67,6 +67,6 @@ pub(crate) fn share(
 pub(crate) fn unopened_by(file: &LegFile) -> Unopened {
     match file.unopened {
         Some(Absence::Unopened(error)) => Unopened::System(error),
-        Some(Absence::Unknown | Absence::Another) | None => Unopened::Cut,
+        Some(Absence::Unknown | Absence::Another | Absence::Changed) | None => Unopened::Cut,
     }
 }

@@ -9,6 +9,7 @@ ghost use Rattle.nm_leg_files.specs.Here.{is_here, is_here_at};
 
 use crate::absence::Absence;
 use crate::counting_file::{BytesRead, CountingFile};
+use crate::identities::RecordedFiles;
 use crate::leg_file::{LegFile, share, unopened_by};
 use crate::leg_opening::{BLOCK_BYTES, LegLength, LegRules, find_leg, first_of, is_block_device};
 use crate::leg_place::LegPlace;
@@ -18,7 +19,6 @@ use nm_geometry::Shape;
 use nm_lanes::NoGate;
 use nm_mirror::Mirror;
 use nm_reports::{LogLines, StartFault, Unopened};
-use nm_superblock::LegIdentities;
 use std::alloc::{AllocError, Global};
 use std::fs::File;
 use std::io::ErrorKind;
@@ -47,8 +47,8 @@ pub struct LegFiles {
     // How many blocks each of them has that is here.
     blocks: u64,
     rules: LegRules,
-    // What the superblocks record of their identities, where there are superblocks.
-    pub(crate) recorded: Option<LegIdentities>,
+    // What the superblocks record of them, where there are superblocks.
+    pub(crate) recorded: Option<RecordedFiles>,
 }
 
 // Opens, locks and measures the file of this leg, and says which leg is the first that is here,
@@ -108,7 +108,7 @@ fn missing_line(
         Absence::Unopened(error) => format!(in alloc;
             "leg {leg} ({name}): cannot be opened: {error}; the mirror starts without it"
         ),
-        Absence::Another => format!(in alloc;
+        Absence::Another | Absence::Changed => format!(in alloc;
             "leg {leg} ({name}): {why}; the mirror starts without it"
         ),
         Absence::Unknown => format!(in alloc;

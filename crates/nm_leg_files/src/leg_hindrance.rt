@@ -19,6 +19,8 @@ pub enum Hindrance {
     InUse,
     /// Another file stands under its name.
     OtherFile,
+    /// Its file was missing at the start, and something has changed it since the mirror ended.
+    Changed,
     /// Its file has so many bytes, which it had not at the start.
     OtherLength(u64),
     /// Files may be so many bytes long, and its file is longer.
@@ -65,6 +67,7 @@ impl fmt::Display for Hindrance {
             Hindrance::Locked => f.write_str("it is locked by another process, or is another leg"),
             Hindrance::InUse => f.write_str("the system has it in use"),
             Hindrance::OtherFile => f.write_str("another file has its name now"),
+            Hindrance::Changed => f.write_str("it was changed since the mirror ended"),
             Hindrance::OtherLength(bytes) => write!(f, "it has {bytes} bytes now"),
             Hindrance::OverFileLimit(limit) => {
                 write!(f, "it is longer than {limit} bytes, the file size limit")

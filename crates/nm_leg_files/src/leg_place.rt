@@ -1,6 +1,6 @@
 //! Whether a leg's file is still there under its name, or there at last.
 
-use crate::identities::identity_by;
+use crate::identities::{RecordedFiles, identity_by};
 use crate::late_file::LateFile;
 use crate::late_superblock::LateSuperblock;
 use crate::leg_file::LegFile;
@@ -8,16 +8,16 @@ use crate::leg_files::REGION;
 use crate::leg_hindrance::Hindrance;
 use crate::leg_opener::OpensLegs;
 use crate::leg_opening::{BLOCK_BYTES, LegRules, bytes_of, lock_opened};
+use crate::leg_time::time_of_change;
 use crate::limited_file::LimitedFile;
 use crate::unattached::Unattached;
 use nm_file_leg::BackingFile;
 use nm_reports::{LegCall, Unopened};
-use nm_superblock::LegIdentities;
 use std::alloc::Global;
 use std::fs::{File, Metadata};
 use std::io;
 use std::os::unix::fs::MetadataExt;
-use std::sync::{Arc, Mutex};
+use std::sync::{Arc, Mutex, Wait};
 
 /// How many bytes of a leg's file a region has.
 const REGION_BYTES: u64 = REGION * BLOCK_BYTES;
@@ -34,9 +34,9 @@ pub struct LegPlace {
     // Of a leg that is missing since the start, where its superblock is missing too. Only who has
     // the lock of its file takes this one.
     pub(crate) superblock: Mutex<Option<LateSuperblock>>,
-    // Its number, and what superblocks recorded of legs' identities at the start: a file that was
-    // missing then is to be the one that they are of.
-    pub(crate) recorded: Option<(usize, LegIdentities)>,
+    // Its number, and what superblocks recorded of legs' files at the start: a file that was
+    // missing then is to be the one that they are of, as it was.
+    pub(crate) recorded: Option<(usize, RecordedFiles)>,
 }
 
 // Whether both are of one file.
@@ -126,15 +126,28 @@ impl LegPlace {
         }
     }
 
-    // Whether the file is the one that superblocks are of.
-    fn is_own<O: OpensLegs>(&self, opener: &O, file: &File) -> bool {
-        let Some((leg, recorded)) = &self.recorded else {
-            return true;
+    // Refuses a file that is not the one that superblocks are of, or was changed since.
+    fn check_own<O: OpensLegs>(&self, opener: &O, file: &File) -> Result<(), Hindrance> {
+        let Some((leg, recorded)) = self.recorded else {
+            return Ok(());
         };
         let Ok(text) = opener.identity(self.alloc, file) else {
-            return false;
+            return Err(Hindrance::OtherFile);
         };
-        *leg < 8 && identity_by(*leg, text.as_deref()).is_same(*leg, recorded, *leg)
+        let identities = &recorded.identities;
+        if leg >= 8 || !identity_by(leg, text.as_deref()).is_same(leg, identities, leg) {
+            return Err(Hindrance::OtherFile);
+        }
+        match recorded.changed[leg] {
+            0 => Ok(()),
+            changed if time_of_change(file) == changed => Ok(()),
+            _ => Err(Hindrance::Changed),
+        }
+    }
+
+    /// Makes the file durable, and says when it was changed last: 0 where that is unknown.
+    pub fn settled_time<R: Wait>(&self, rt: &R) -> u64 {
+        self.file.lock(rt).shared.file().settled_time()
     }
 
     // Refuses a file that was opened by the name, and is not to be the leg's.
@@ -149,11 +162,7 @@ impl LegPlace {
         if let Some(limit) = self.rules.over_limit(file, self.bytes) {
             return Err(Hindrance::OverFileLimit(limit));
         }
-        if self.is_own(opener, file) {
-            Ok(())
-        } else {
-            Err(Hindrance::OtherFile)
-        }
+        self.check_own(opener, file)
     }
 
     // Opens and locks the file that was missing at the start, and its superblock.

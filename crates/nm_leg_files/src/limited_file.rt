@@ -54,6 +54,14 @@ impl LimitedFile {
         &self.limit
     }
 
+    /// Makes the file durable, and says when it was changed last: 0 where that is unknown.
+    pub(crate) fn settled_time(&self) -> u64 {
+        match &self.limit {
+            None => self.late.settled_time(),
+            Some(calls) => calls.settled_time(&self.late),
+        }
+    }
+
     /// Whether a call was left that has not returned.
     pub(crate) fn has_left(&self) -> bool {
         match &self.limit {

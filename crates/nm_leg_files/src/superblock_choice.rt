@@ -1,5 +1,6 @@
 //! What a start by superblocks goes by.
 ghost use Rattle.std.specs.Prelude.{◌≡◌, ◌⊎◌, ◌<◌, ◌≤◌, ℕ, None, Some, IfOk, IfErr, IfNone, IfSome};
+ghost use Rattle.std.specs.Prelude.{slice_index_or};
 ghost use Rattle.nm_assemble.specs.Image.{IsClosedTo};
 ghost use Rattle.nm_assemble.specs.Start.{IsNewest};
 ghost use Rattle.nm_leg_files.specs.SuperblockChoice.{Chooses, IsAssembled, IsSureOr, MayBeAsked};
@@ -52,19 +53,22 @@ fn leg_said(superblock: &Option<Superblock>) -> u8
     }
 }
 
+// A leg's time among these.
+fn time_in(times: &[u64; 8], leg: usize) -> u64
+    ensures { result ≡ slice_index_or times.now leg 0 }
+{
+    if leg < 8 { times[leg] } else { 0 }
+}
+
 // What is told where superblocks do not decide.
-fn told<'a>(
-    why: AssembleFault,
-    found: &[Option<Superblock>; 8],
-    newest: &Superblock,
-) -> StartFault<'a>
-    ensures { result ≡ told why found.now newest.now }
+fn told<'a>(why: AssembleFault, seen: &FoundLegs, newest: &Superblock) -> StartFault<'a>
+    ensures { result ≡ told why seen.now newest.now }
 {
     match why {
         AssembleFault::NoSuperblock => StartFault::Memory,
         AssembleFault::Unfit(leg, Misfit::OtherMirror) => StartFault::OtherMirror(leg),
         AssembleFault::Unfit(leg, Misfit::OtherLeg) => {
-            let said = match found.get(leg) {
+            let said = match seen.found.get(leg) {
                 Some(beside) => leg_said(beside),
                 None => 0,
             };
@@ -76,6 +80,10 @@ fn told<'a>(
         }
         AssembleFault::Mixed(leg, other) => StartFault::WasLeg(leg, other),
         AssembleFault::Another(leg) => StartFault::AnotherFile(leg),
+        AssembleFault::Changed(leg) => {
+            let recorded = time_in(&newest.changed, leg);
+            StartFault::WasChanged(leg, recorded, time_in(&seen.legs.changed, leg))
+        }
         AssembleFault::MayBeNewer(leg) => StartFault::MayBeNewer(leg),
         AssembleFault::NoneInSync(stripe) => StartFault::NoneInSync(stripe),
     }
@@ -133,7 +141,7 @@ fn assembled<'a>(
     }
     let assembly = match assemble(&seen.found, &seen.legs, settings.degraded) {
         Ok(assembly) => assembly,
-        Err(why) => return Err(told(why, &seen.found, newest)),
+        Err(why) => return Err(told(why, seen, newest)),
     };
     let asked = match asked_master(settings.master, &assembly) {
         Ok(asked) => asked,

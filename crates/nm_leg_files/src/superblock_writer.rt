@@ -2,6 +2,7 @@
 
 ghost use Rattle.std.specs.Prelude.{◌≤◌};
 
+use crate::change_times::{known_times, saved_times};
 use crate::saving::{AfterTry, after_try, is_clean, is_last_somewhere};
 use nm_geometry::{MOST_LEGS, MOST_STRIPES};
 use nm_lanes::Gate;
@@ -171,13 +172,14 @@ impl<S: SlotFile> SuperblockWriter<S> {
     }
 
     // Tries once to save what the mirror is, and says what follows. The files of legs that have
-    // failed and were attached since are settled and read again first.
+    // failed and were attached since are settled and read again first. At the end the times of
+    // legs' last changes are told.
     fn try_save<R: Wait, L: LegPart, G: Gate + Drop>(
         &mut self,
         rt: &R,
         mirror: &Mirror<L, G>,
         status: &SaveStatus,
-        is_last: bool,
+        ended: Option<[u64; 8]>,
     ) -> AfterTry {
         let order = mirror.begin_save(rt);
         let (sets, marked, out) = (order.sets(), order.marked(), order.out());
@@ -189,8 +191,12 @@ impl<S: SlotFile> SuperblockWriter<S> {
             marks(marked),
             losses(&self.files.image().sets, sets, stripes),
         );
-        let clean = is_last && is_clean(sets, marked, stripes, mirror.legs().min(MOST_LEGS));
-        let after = after_try(&self.files.save(sets, marked, clean, &[0; 8], &out));
+        let legs = mirror.legs().min(MOST_LEGS);
+        let clean = ended.is_some() && is_clean(sets, marked, stripes, legs);
+        let last = self.files.image();
+        let known = known_times(&ended.unwrap_or([0; 8]), &last.identities);
+        let changed = saved_times(&known, &last.changed, &out);
+        let after = after_try(&self.files.save(sets, marked, clean, &changed, &out));
         if after == AfterTry::End {
             mirror.end_save(rt, order);
             status.end(self.files.image().generation);
@@ -205,10 +211,10 @@ impl<S: SlotFile> SuperblockWriter<S> {
         mirror: &Mirror<L, G>,
         status: &SaveStatus,
         lines: &LogLines,
-        is_last: bool,
+        ended: Option<[u64; 8]>,
     ) -> bool {
         for _ in rt.forever() {
-            match self.try_save(rt, mirror, status, is_last) {
+            match self.try_save(rt, mirror, status, ended) {
                 AfterTry::End => return true,
                 AfterTry::TakeOut(leg) if self.take_out(rt, mirror, leg, lines) => (),
                 _ => break,
@@ -231,7 +237,7 @@ impl<S: SlotFile> SuperblockWriter<S> {
         status: &SaveStatus,
         lines: &LogLines,
     ) -> bool {
-        self.save(rt, mirror, status, lines, false)
+        self.save(rt, mirror, status, lines, None)
     }
 
     /// Saves what the mirror is, though that could not be done before: each file that has failed is
@@ -245,7 +251,7 @@ impl<S: SlotFile> SuperblockWriter<S> {
     ) -> bool {
         let had_failed = status.has_failed();
         self.files.read_failed_again();
-        if !self.save(rt, mirror, status, lines, false) {
+        if !self.save(rt, mirror, status, lines, None) {
             return false;
         }
         if had_failed {
@@ -255,20 +261,33 @@ impl<S: SlotFile> SuperblockWriter<S> {
         true
     }
 
-    /// Saves for the last time, once nothing else is at work: that the mirror ends in good order,
-    /// where it does, with no leg in doubt.
-    pub fn end<R: Wait, L: LegPart, G: Gate + Drop, D: Doubts>(
+    /// Saves what the mirror is, and settles the legs, once nothing else is at work: from then on
+    /// nothing is written to them. Whether it was saved.
+    pub fn settle<R: Wait, L: LegPart, G: Gate + Drop, D: Doubts>(
         &mut self,
         rt: &R,
         mirror: &Mirror<L, G>,
         doubts: &D,
         status: &SaveStatus,
         lines: &LogLines,
-    ) {
-        if status.has_failed() || !self.save(rt, mirror, status, lines, false) {
-            return;
+    ) -> bool {
+        if status.has_failed() || !self.save(rt, mirror, status, lines, None) {
+            return false;
         }
         mirror.settle_all(rt, doubts);
-        let _ = self.save(rt, mirror, status, lines, true);
+        true
+    }
+
+    /// Saves for the last time, with the times of legs' last changes: that the mirror ends in good
+    /// order, where it does, with no leg in doubt.
+    pub fn end<R: Wait, L: LegPart, G: Gate + Drop>(
+        &mut self,
+        rt: &R,
+        mirror: &Mirror<L, G>,
+        status: &SaveStatus,
+        lines: &LogLines,
+        changed: &[u64; 8],
+    ) {
+        let _ = self.save(rt, mirror, status, lines, Some(*changed));
     }
 }

@@ -160,6 +160,12 @@ impl TimedCalls {
         self.call(file, Asked::Length, 0, &[], &mut [])
     }
 
+    /// Makes the file durable, and says when it was changed last: 0 where that is unknown.
+    pub(crate) fn settled_time(&self, file: &Arc<LateFile>) -> u64 {
+        self.call(file, Asked::Changed, 0, &[], &mut [])
+            .unwrap_or(0)
+    }
+
     /// Whether no data stand in these bytes. Where there is no answer in time, it is not known.
     pub(crate) fn has_hole(&self, file: &Arc<LateFile>, at: u64, many: usize) -> bool {
         matches!(self.call(file, Asked::Hole(many), at, &[], &mut []), Ok(1))

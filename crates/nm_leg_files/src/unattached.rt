@@ -8,7 +8,7 @@ pub enum Unattached {
     Busy,
     /// Its file was made shorter: what it lost is not known.
     WasCut,
-    /// Another file stands under its name, or a longer one.
+    /// Another file stands under its name, or a longer one, or something has changed it.
     OtherFile,
     /// No file of its name can be opened.
     NoFile,
@@ -21,9 +21,10 @@ impl Unattached {
             Hindrance::Command | Hindrance::CallLeft => Unattached::Busy,
             Hindrance::WasCut => Unattached::WasCut,
             Hindrance::OtherLength(found) if *found < bytes => Unattached::WasCut,
-            Hindrance::OtherFile | Hindrance::OtherLength(_) | Hindrance::Unknown => {
-                Unattached::OtherFile
-            }
+            Hindrance::OtherFile
+            | Hindrance::Changed
+            | Hindrance::OtherLength(_)
+            | Hindrance::Unknown => Unattached::OtherFile,
             _ => Unattached::NoFile,
         }
     }

@@ -3,17 +3,19 @@ ghost use Rattle.std.specs.Prelude.{map};
 ghost use Rattle.nm_mirror.specs.Stripes.{AreStripesOf};
 
 use crate::answering_meanwhile::answer_meanwhile;
+use crate::found_legs::{find_legs, tell_compared};
+use crate::image_shape::shape_by;
 use crossbeam_channel::bounded;
-use nm_assemble::{LegsHere, NewMirror, first_superblock, newest_of};
+use nm_assemble::{LegsHere, NewMirror, first_superblock, named_leg, newest_of};
 use nm_commands::{Settings, Start, SuperblockPlace};
 use nm_gate::GatedStripe;
 use nm_geometry::Shape;
 use nm_lanes::NoGate;
 use nm_leg_files::{
     BytesRead, Choice, FileMirror, FoundFiles, FoundLegs, KeptImage, Leg, LegFiles, REGION,
-    Superblocks, check_added, check_known, check_no_superblocks, choose, draw_id, draw_mirror_id,
-    moved_legs, named_master, open_by_image, open_gates, open_untold, start_for, take_added,
-    taken_legs, tell_unmoved, unknown_legs,
+    Superblocks, as_they_were, changed_here, check_added, check_known, check_no_superblocks,
+    choose, draw_id, draw_mirror_id, moved_legs, named_master, open_by_image, open_compared,
+    open_gates, open_untold, start_for, take_added, taken_legs, tell_unmoved, unknown_legs,
 };
 use nm_mirror::{InitialSync, Mirror};
 use nm_reports::{Comparison, LogLines, StartFault, tell_progress};
@@ -59,8 +61,28 @@ fn mirror_of<'a>(
     }
 }
 
+// The mirror over the legs' files, which its stripes share: they are compared, since all of them
+// were changed.
+fn open_changed<'a, R: Files<File = File>>(
+    rt: &R,
+    alloc: Global,
+    settings: &Settings<'a>,
+    files: &LegFiles,
+    read: &BytesRead,
+    kept: KeptImage,
+) -> Result<OpenedMirror, StartFault<'a>> {
+    let shape = shape_by(settings, files, &kept.image)?;
+    let master = named_leg(&kept.image, 0).unwrap_or(0) as u8;
+    let stripes = open_compared(alloc, settings.policy, files, &shape, read, master)?;
+    let (gated, superblocks) = kept.gate(rt, alloc, &shape, stripes)?;
+    Ok(OpenedMirror {
+        mirror: mirror_of(alloc, shape, gated)?,
+        superblocks: Some(superblocks),
+    })
+}
+
 // The mirror over the legs' files, which its stripes share, as legs stand that no superblock tells
-// of. It gets its first ones, if they are kept.
+// of, or that are compared. It gets its first superblocks, if they are kept.
 fn open_mirror<'a, R: Files<File = File>>(
     rt: &R,
     alloc: Global,
@@ -69,6 +91,12 @@ fn open_mirror<'a, R: Files<File = File>>(
     read: &BytesRead,
     kept: Option<KeptImage>,
 ) -> Result<OpenedMirror, StartFault<'a>> {
+    let kept = match kept {
+        Some(kept) if kept.is_compared => {
+            return open_changed(rt, alloc, settings, files, read, kept);
+        }
+        kept => kept,
+    };
     let Some(shape) = files.shape(settings.stripes) else {
         return Err(StartFault::Memory);
     };
@@ -197,11 +225,7 @@ fn open_image<'a, R: Files<File = File>>(
         return Err(StartFault::Memory);
     };
     let (image, here) = (kept.image, kept.here);
-    let shape = match files.shape(image.stripes) {
-        Some(shape) if fits(&shape, &image) => shape,
-        _ => return Err(StartFault::OtherMirror(image.leg as usize)),
-    };
-    check_stripes(settings, files, &image)?;
+    let shape = shape_by(settings, files, &image)?;
     let policy = settings.policy;
     let stripes = open_by_image(alloc, policy, files, &shape, &read, &image, &here)?;
     let (gated, superblocks) = kept.gate(rt, alloc, &shape, stripes)?;
@@ -209,32 +233,6 @@ fn open_image<'a, R: Files<File = File>>(
         mirror: mirror_of(alloc, shape, gated)?,
         superblocks: Some(superblocks),
     })
-}
-
-// Refuses another number of stripes than the image's, where one was named. More than there are
-// regions are as many as these.
-fn check_stripes<'a>(
-    settings: &Settings<'_>,
-    files: &LegFiles,
-    image: &Superblock,
-) -> Result<(), StartFault<'a>> {
-    if !settings.names_stripes {
-        return Ok(());
-    }
-    match files.shape(settings.stripes) {
-        Some(asked) if asked.stripes != u32::from(image.stripes) => {
-            Err(StartFault::OtherStripes(settings.stripes, image.stripes))
-        }
-        _ => Ok(()),
-    }
-}
-
-// Whether the image is of a mirror of this shape.
-fn fits(shape: &Shape, image: &Superblock) -> bool {
-    image.blocks == shape.blocks
-        && u64::from(image.region_blocks) == shape.region
-        && image.span_regions > 0
-        && u32::from(image.stripes) == shape.stripes
 }
 
 // The image that the legs are opened by, and whether it is the first of a mirror.
@@ -323,28 +321,26 @@ where
         take_added(&mut superblocks, newest.legs);
     }
     lay_unknown_aside(alloc, settings, went_by, &superblocks, files)?;
-    let legs = LegsHere {
-        here: files.here(),
-        settled: files.settle(),
-        identities: files.identities(rt, alloc, lines)?,
-        moved: moved_legs(settings),
-    };
-    let seen = FoundLegs {
-        found: superblocks,
-        legs,
-    };
+    let seen = find_legs(rt, alloc, settings, files, &superblocks, lines)?;
     tell_unmoved(rt, alloc, &seen, lines);
+    let unchanged = as_they_were(settings, &seen);
+    let is_compared = unchanged.is_some();
+    if is_compared {
+        tell_compared(rt, alloc, lines);
+    }
+    let told = unchanged.unwrap_or(seen);
     let lineage = draw_id(rt)?;
-    let (image, is_first) = image_for(rt, settings, files, &seen, lineage)?;
-    files.keep_own(alloc, &taken_legs(settings, &seen))?;
-    files.record(&image.identities);
+    let (image, is_first) = image_for(rt, settings, files, &told, lineage)?;
+    files.keep_own(alloc, &taken_legs(settings, &told), &changed_here(&seen))?;
+    files.record(&image);
     let kept = KeptImage {
         files: found,
         image,
         here: files.here(),
         went_by,
+        is_compared,
     };
-    if is_first {
+    if is_first || is_compared {
         open_watched(rt, alloc, settings, files, control, lines, Some(kept))
     } else {
         open_image(rt, alloc, settings, files, kept)

@@ -3,6 +3,8 @@
 #![tactic(auto)]
 
 mod answering_meanwhile;
+mod found_legs;
+mod image_shape;
 mod kept_mirror;
 
 pub use crate::kept_mirror::{OpenedMirror, open_asked_for};

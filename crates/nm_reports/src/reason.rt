@@ -3,10 +3,11 @@
 use crate::start_fault::StartFault;
 use crate::superblock_names::superblock_name;
 use crate::unbound::Unbound;
+use jiff::Timestamp;
 use nm_commands::{Settings, SuperblockPlace};
 use std::alloc::{AllocError, Global};
-use std::io;
 use std::io::{ErrorKind, Write};
+use std::{fmt, io};
 
 /// Why a leg's file is not opened.
 #[derive(Clone, Copy, Debug)]
@@ -134,6 +135,38 @@ fn put_another<E: Write>(name: &str, superblock: &str, leg: usize, err: &mut E) 
     );
 }
 
+// A time in nanoseconds, 0 where it is unknown.
+#[derive(Clone, Copy, Drop)]
+struct Moment {
+    nanoseconds: u64,
+}
+
+impl fmt::Display for Moment {
+    fn fmt<W: fmt::Write>(&self, f: &mut fmt::Formatter<W>) -> fmt::Result {
+        match Timestamp::from_nanosecond(i128::from(self.nanoseconds)) {
+            Ok(moment) if self.nanoseconds > 0 => write!(f, "{moment}"),
+            _ => f.write_str("an unknown time"),
+        }
+    }
+}
+
+// Tells when a file was changed last that a superblock has another time of, and what can be done.
+fn put_changed<E: Write>(
+    name: &str,
+    superblock: &str,
+    leg: usize,
+    recorded: u64,
+    found: u64,
+    err: &mut E,
+) {
+    let [recorded, found] = [recorded, found].map(|nanoseconds| Moment { nanoseconds });
+    let _ = writeln!(
+        err,
+        "nbdmirror: {name}: was changed at {found}, and {superblock} has {recorded}: bring back \
+         what it held then, or give --moved {leg} where it holds that"
+    );
+}
+
 /// Tells which file or address is meant by a refusal, and why it is refused. A refusal that says
 /// all by itself has no such line.
 pub fn tell_reason<E: Write>(
@@ -157,6 +190,17 @@ pub fn tell_reason<E: Write>(
         StartFault::AnotherFile(leg) => {
             let name = superblock_of(alloc, settings, leg)?;
             put_another(name_of(names, leg), name.as_str(), leg, err);
+        }
+        StartFault::WasChanged(leg, recorded, found) => {
+            let name = superblock_of(alloc, settings, leg)?;
+            put_changed(
+                name_of(names, leg),
+                name.as_str(),
+                leg,
+                recorded,
+                found,
+                err,
+            );
         }
         StartFault::InUse(leg) => {
             let text = "is mounted, swapped to, held by another device, or behind a loop device";

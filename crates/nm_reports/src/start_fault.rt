@@ -109,6 +109,15 @@ pub enum StartFault<'a> {
     /// its file is not the one that they are of.
     #[error("nbdmirror: leg {0}: is another file than its superblock is of")]
     AnotherFile(usize),
+    /// This leg is in sync by the superblocks, in a stripe of which no other such leg is here, and
+    /// its file was changed last at the second of these times, where they have the first one, both
+    /// in nanoseconds.
+    #[error("nbdmirror: leg {0}: was changed since the mirror ended")]
+    WasChanged(usize, u64, u64),
+    /// All legs were changed since the mirror ended, and do not hold the same.
+    #[error("nbdmirror: legs differ, and were changed since the mirror ended: name the newest by \
+         --moved")]
+    ChangedDiffer,
     /// Both legs have superblocks of which neither came after the other.
     #[error("nbdmirror: legs {0} and {1} went on apart: name one by --force-master")]
     WentApart(usize, usize),
@@ -169,6 +178,8 @@ impl StartFault<'_> {
             StartFault::LegsDiffer
             | StartFault::MayBeNewer(_)
             | StartFault::AnotherFile(_)
+            | StartFault::WasChanged(_, _, _)
+            | StartFault::ChangedDiffer
             | StartFault::WentApart(_, _)
             | StartFault::NoneInSync(_)
             | StartFault::NotKnown(_, _) => 7,

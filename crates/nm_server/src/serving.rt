@@ -138,7 +138,11 @@ where
         mirror.close_saves(rt);
         saving.join(rt);
         let doubts = controlled.orders.doubts();
-        writer.lock(rt).end(rt, mirror, doubts, saves, shared.lines);
+        let lines = shared.lines;
+        if writer.lock(rt).settle(rt, mirror, doubts, saves, lines) {
+            let changed = controlled.legs.settled_times(rt);
+            writer.lock(rt).end(rt, mirror, saves, lines, &changed);
+        }
         is_served
     })
 }

@@ -1,0 +1,47 @@
+//! The shape of the mirror that superblocks are of.
+
+use nm_commands::Settings;
+use nm_geometry::Shape;
+use nm_leg_files::LegFiles;
+use nm_reports::StartFault;
+use nm_superblock::Superblock;
+
+/// The shape of the mirror that the image is of, over these files.
+pub fn shape_by<'a>(
+    settings: &Settings<'_>,
+    files: &LegFiles,
+    image: &Superblock,
+) -> Result<Shape, StartFault<'a>> {
+    let shape = match files.shape(image.stripes) {
+        Some(shape) if fits(&shape, image) => shape,
+        _ => return Err(StartFault::OtherMirror(image.leg as usize)),
+    };
+    check_stripes(settings, files, image)?;
+    Ok(shape)
+}
+
+// Refuses another number of stripes than the image's, where one was named. More than there are
+// regions are as many as these.
+fn check_stripes<'a>(
+    settings: &Settings<'_>,
+    files: &LegFiles,
+    image: &Superblock,
+) -> Result<(), StartFault<'a>> {
+    if !settings.names_stripes {
+        return Ok(());
+    }
+    match files.shape(settings.stripes) {
+        Some(asked) if asked.stripes != u32::from(image.stripes) => {
+            Err(StartFault::OtherStripes(settings.stripes, image.stripes))
+        }
+        _ => Ok(()),
+    }
+}
+
+// Whether the image is of a mirror of this shape.
+fn fits(shape: &Shape, image: &Superblock) -> bool {
+    image.blocks == shape.blocks
+        && u64::from(image.region_blocks) == shape.region
+        && image.span_regions > 0
+        && u32::from(image.stripes) == shape.stripes
+}
