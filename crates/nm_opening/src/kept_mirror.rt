@@ -10,10 +10,10 @@ use nm_gate::GatedStripe;
 use nm_geometry::Shape;
 use nm_lanes::NoGate;
 use nm_leg_files::{
-    BytesRead, Choice, FileMirror, FoundFiles, FoundLegs, KeptImage, Leg, LegFiles, REGION,
-    Superblocks, check_added, check_known, check_no_superblocks, choose, draw_id, draw_mirror_id,
-    moved_legs, named_master, open_by_image, open_gates, open_untold, start_for, take_added,
-    taken_legs, tell_unmoved, unknown_legs,
+    BytesRead, Choice, FileMirror, FoundLegs, FoundPlaces, KeptImage, Leg, LegFiles, REGION,
+    Superblocks, check_added, check_known, check_no_superblocks, check_none_beside, choose,
+    draw_id, draw_mirror_id, moved_legs, named_master, open_by_image, open_gates, open_untold,
+    start_for, take_added, taken_legs, tell_unmoved, unknown_legs,
 };
 use nm_mirror::{InitialSync, Mirror};
 use nm_reports::{Comparison, LogLines, StartFault, tell_progress};
@@ -315,9 +315,9 @@ where
     R: Threads + Wait + Sync + Clock + RandomSource + Files<File = File>,
 {
     check_all_named(settings, files)?;
-    let found = FoundFiles::open(rt, alloc, settings, files)?;
-    found.tell_damaged(rt, alloc, lines);
-    let mut superblocks = found.found();
+    let mut places = FoundPlaces::open(rt, alloc, settings, files)?;
+    places.tell(rt, alloc, lines);
+    let mut superblocks = places.superblocks(settings)?;
     let went_by = newest_of(&superblocks);
     if let Some(newest) = &went_by {
         take_added(&mut superblocks, newest.legs);
@@ -338,17 +338,24 @@ where
     let (image, is_first) = image_for(rt, settings, files, &seen, lineage)?;
     files.keep_own(alloc, &taken_legs(settings, &seen))?;
     files.record(&image.identities);
+    let above = places.above_old(image);
+    let FoundPlaces { new, old } = places;
     let kept = KeptImage {
-        files: found,
-        image,
+        files: new,
+        image: above,
         here: files.here(),
         went_by,
     };
-    if is_first {
-        open_watched(rt, alloc, settings, files, control, lines, Some(kept))
+    let opened = if is_first {
+        open_watched(rt, alloc, settings, files, control, lines, Some(kept))?
     } else {
-        open_image(rt, alloc, settings, files, kept)
+        open_image(rt, alloc, settings, files, kept)?
+    };
+    // The new place has them all, and nobody is served yet.
+    if let Some(old) = old {
+        old.leave_moved(rt, alloc, opened.superblocks.as_ref(), lines)?;
     }
+    Ok(opened)
 }
 
 /// Opens the mirror that the settings ask for: by superblocks, where they are kept.
@@ -373,7 +380,7 @@ where
                 return Err(StartFault::NoPlaceBeside(leg));
             }
         }
-        SuperblockPlace::Folder(_) => (),
+        SuperblockPlace::Folder(_) => check_none_beside(rt, alloc, settings)?,
     }
     open_kept(rt, alloc, settings, files, control, lines)
 }
