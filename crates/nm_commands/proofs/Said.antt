@@ -15,7 +15,7 @@ use Rattle.nm_commands.specs.CommandLine.{nbdmirror}
 use Rattle.clap.specs.declared.error.Error.{Error}
 use Rattle.clap.specs.declared.error.kind.ErrorKind.TheVariants.{ArgumentConflict}
 use Rattle.nm_commands.specs.CommandLine.{ArePolicies, AreStarts}
-use Rattle.nm_commands.specs.Settings.{IsNumber, IsPlaceOf, IsRefusal, AreAll, HasFlag, HasNumber, NamesTwo, source_of}
+use Rattle.nm_commands.specs.Settings.{IsNumber, IsPlaceOf, HasPlace, IsRefusal, AreAll, HasFlag, HasNumber, NamesTwo, source_of}
 use Rattle.nm_commands.specs.declared.superblock_place.SuperblockPlace.{SuperblockPlace}
 
 pub simple : (policies starts : Bor (List (Bor Text))) →
@@ -62,6 +62,11 @@ said_text f rows id text e h = sym (first_value-rows f id ∙ ap (first_of id) e
 pub said_place : (f : Found) (rows : List Row) (id : Text) (place : SuperblockPlace) →
     rows_of f ≡ rows → IsPlaceOf (first_value f id) place → IsPlaceOf (first_of id rows) place
 said_place f rows id place e h = rw (← first_value-rows f id ∙ ap (first_of id) e) h
+
+pub said_place_if_any : (f : Found) (rows : List Row) (id : Text)
+    (place : Option SuperblockPlace) → rows_of f ≡ rows → HasPlace (first_value f id) place
+    → HasPlace (first_of id rows) place
+said_place_if_any f rows id place e h = rw (← first_value-rows f id ∙ ap (first_of id) e) h
 
 said_one : (f : Found) (rows : List Row) (id : Text) → rows_of f ≡ rows →
     one_text f id ≡ one_of id rows

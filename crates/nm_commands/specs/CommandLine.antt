@@ -20,6 +20,14 @@ parsed_rule id default parser = record (option_rule id default) { parser = Some 
 abbrev pub number_rule : Text → Text → ℤ → ℤ → Rule
 number_rule id default least most = parsed_rule id default (vp.Signed least most)
 
+-- The option --ID with one value, a text that is not empty, and none where the words have none.
+abbrev pub bare_rule : Text → Rule
+bare_rule id = record (new_rule id) {
+  long = Some id;
+  value_names = 1;
+  parser = Some vp.NonEmptyString;
+}
+
 -- The option --ID with one value, a number from `least` to `most`, and none where the words have
 -- none.
 abbrev pub bare_number_rule : Text → ℤ → ℤ → Rule
@@ -89,8 +97,10 @@ copying_command policies starts = with_rule (with_rule (with_rule (mirror_comman
 
 -- The same, and the options that say where superblocks are and what a start makes of them.
 abbrev pub with_superblock_options : App → App
-with_superblock_options app = with_rule (with_rule (with_rule (with_rule (with_rule app
+with_superblock_options app =
+    with_rule (with_rule (with_rule (with_rule (with_rule (with_rule app
     (parsed_rule (codes "superblock") (codes "beside") vp.NonEmptyString))
+    (bare_rule (codes "superblock-from")))
     (flag_rule (codes "degraded")))
     (bare_number_rule (codes "force-master") (pos 0) (pos 7)))
     (repeated_rule (codes "add-leg") (pos 0) (pos 7)))

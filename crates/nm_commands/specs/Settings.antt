@@ -38,6 +38,11 @@ IsPlaceOf word Beside = word ≡ Some (codes "beside")
 IsPlaceOf word (Folder name) =
     (word ≡ Some name.now) × (name.now ≢ codes "none") × (name.now ≢ codes "beside")
 
+-- The place is the one that the word says, and none where there is no word.
+abbrev pub HasPlace : Option Text → Option SuperblockPlace → Type 0
+HasPlace word (Some place) = IsPlaceOf word place
+HasPlace word None = word ≡ None
+
 -- What was found is this number: decimal digits, with or without a plus before them.
 pub record IsNumber (found : Option Text) (number : ℕ) : Type 0 where
   pub text : Text
@@ -88,6 +93,7 @@ pub record HasSettings (rows : List Row) (s : Settings) : Type 0 where
   pub master : HasNumber rows (codes "master") s.master
   pub start : first_of (codes "start") rows ≡ Some (start_text s.start)
   pub superblock : IsPlaceOf (first_of (codes "superblock") rows) s.superblock
+  pub superblock_from : HasPlace (first_of (codes "superblock-from") rows) s.superblock_from
   pub degraded : HasFlag rows (codes "degraded") s.degraded
   pub force_master : HasNumber rows (codes "force-master") s.force_master
   pub added : AreAll (all_of (codes "add-leg") rows) (map (λ leg. leg.now) s.added.items)

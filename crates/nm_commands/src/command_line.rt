@@ -19,7 +19,7 @@ use crate::options::{
 use crate::server_settings::Settings;
 use crate::start::Start;
 use crate::superblock_options::{
-    added_legs, moved_legs, superblock_place, with_superblock_options,
+    added_legs, moved_legs, place_from, superblock_place, with_superblock_options,
 };
 use crate::values::{bare_number, number, text};
 use clap::error::ErrorKind;
@@ -262,6 +262,7 @@ fn settings_of<'a>(alloc: Global, matches: &ArgMatches<'a>) -> Result<Settings<'
     let master = bare_number(matches, "master")?;
     let start = start_of(matches)?;
     let superblock = superblock_place(matches)?;
+    let superblock_from = place_from(matches);
     let force_master = bare_number(matches, "force-master")?;
     let added = added_legs(alloc, matches)?;
     let moved = moved_legs(alloc, matches)?;
@@ -278,6 +279,7 @@ fn settings_of<'a>(alloc: Global, matches: &ArgMatches<'a>) -> Result<Settings<'
         master,
         start,
         superblock,
+        superblock_from,
         degraded: matches.get_flag("degraded"),
         force_master,
         added,

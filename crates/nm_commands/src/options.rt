@@ -3,7 +3,7 @@ ghost use Rattle.std.specs.Prelude.{◌≡◌, codes, false, pos};
 ghost use Rattle.clap.specs.declared.builder.value_parser.ValueParser.TheVariants.{Names};
 ghost use Rattle.clap.specs.Words.{rule_of};
 ghost use Rattle.nm_commands.specs.CommandLine.{ArePolicies, AreStarts, bare_number_rule};
-ghost use Rattle.nm_commands.specs.CommandLine.{flag_rule, lettered, number_rule};
+ghost use Rattle.nm_commands.specs.CommandLine.{bare_rule, flag_rule, lettered, number_rule};
 ghost use Rattle.nm_commands.specs.CommandLine.{option_rule, parsed_rule, repeated_rule};
 ghost use Rattle.nm_commands.specs.CommandLine.{words_rule};
 
@@ -42,6 +42,18 @@ pub fn number_option<'a>(
     ensures own { result.global ≡ false }
 {
     option(alloc, id, default, "N", help).value_parser(ValueParser::Signed(least, most))
+}
+
+/// An option without a default, whose value is a text that is not empty.
+pub fn bare_option<'a>(alloc: Global, id: &'a str, value: &'a str, help: &'a str) -> Arg<'a>
+    ensures rule { rule_of result ≡ bare_rule id.entry.now }
+    ensures own { result.global ≡ false }
+{
+    Arg::new(alloc, id)
+        .long(id)
+        .value_name(value)
+        .value_parser(ValueParser::NonEmptyString)
+        .help(help)
 }
 
 /// An option without a default, whose value is a number in a range.

@@ -25,6 +25,8 @@ pub struct Settings<'a> {
     pub start: Start,
     /// Where the legs' superblocks are.
     pub superblock: SuperblockPlace<'a>,
+    /// Where they are taken from, where that was named: they were kept there so far.
+    pub superblock_from: Option<SuperblockPlace<'a>>,
     /// Whether the server starts though a leg that is not there may be newer.
     pub degraded: bool,
     /// The leg with the newest contents, whatever superblocks say, where one was named.

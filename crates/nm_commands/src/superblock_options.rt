@@ -1,13 +1,13 @@
 //! The options that say where superblocks are, and what a start makes of them.
-ghost use Rattle.std.specs.Prelude.{◌≡◌, codes, false, map, option_map, IfErr, IfOk};
+ghost use Rattle.std.specs.Prelude.{◌≡◌, codes, false, map, option_map, IfErr, IfOk, Some};
 ghost use Rattle.clap.specs.Words.{app_of, first_value, found_of, kind_of, matched_of, raw_values};
 ghost use Rattle.clap.specs.Words.{rule_of};
 ghost use Rattle.clap.specs.declared.builder.value_parser.ValueParser.TheVariants.{NonEmptyString};
 ghost use Rattle.clap.specs.declared.error.kind.ErrorKind.TheVariants.{OutOfMemory};
-ghost use Rattle.nm_commands.specs.CommandLine.{parsed_rule, with_superblock_options};
-ghost use Rattle.nm_commands.specs.Settings.{AreAll, IsPlaceOf};
+ghost use Rattle.nm_commands.specs.CommandLine.{bare_rule, parsed_rule, with_superblock_options};
+ghost use Rattle.nm_commands.specs.Settings.{AreAll, HasPlace, IsPlaceOf};
 
-use crate::options::{bare_number_option, flag, option, repeated_option};
+use crate::options::{bare_number_option, bare_option, flag, option, repeated_option};
 use crate::superblock_place::SuperblockPlace;
 use crate::values::text;
 use clap::builder::ValueParser;
@@ -30,6 +30,19 @@ fn superblock_option<'a>(alloc: Global) -> Arg<'a>
     .value_parser(ValueParser::NonEmptyString)
 }
 
+// The option that says where they were so far.
+fn superblock_from_option<'a>(alloc: Global) -> Arg<'a>
+    ensures rule { rule_of result ≡ bare_rule (codes "superblock-from") }
+    ensures own { result.global ≡ false }
+{
+    bare_option(
+        alloc,
+        "superblock-from",
+        "PLACE",
+        "where superblocks were kept so far: they are moved from there",
+    )
+}
+
 /// The program, and the options that say where superblocks are and what a start makes of them.
 pub fn with_superblock_options<'a>(
     alloc: Global,
@@ -41,12 +54,14 @@ pub fn with_superblock_options<'a>(
 {
     let superblock = superblock_option(alloc);
     let with_superblock = program.arg(superblock)?;
+    let from = superblock_from_option(alloc);
+    let with_from = with_superblock.arg(from)?;
     let degraded = flag(
         alloc,
         "degraded",
         "start without a superblock that may be newer",
     );
-    let with_degraded = with_superblock.arg(degraded)?;
+    let with_degraded = with_from.arg(degraded)?;
     let force_master = bare_number_option(
         alloc,
         "force-master",
@@ -74,16 +89,33 @@ pub fn with_superblock_options<'a>(
     Ok(command)
 }
 
+// The place that a word says.
+fn place_of<'a>(word: &'a str) -> SuperblockPlace<'a>
+    ensures { IsPlaceOf (Some word.entry.now) result }
+{
+    match word {
+        "none" => SuperblockPlace::Nowhere,
+        "beside" => SuperblockPlace::Beside,
+        folder => SuperblockPlace::Folder(folder),
+    }
+}
+
 /// Where the superblocks are.
 pub fn superblock_place<'a>(matches: &ArgMatches<'a>) -> Result<SuperblockPlace<'a>, Error>
     ensures ok { IfOk result (λ place.
         IsPlaceOf (first_value (found_of matches.now) (codes "superblock")) place) }
     ensures memory { IfErr result (λ error. kind_of error ≡ OutOfMemory) }
 {
-    match text(matches, "superblock")? {
-        "none" => Ok(SuperblockPlace::Nowhere),
-        "beside" => Ok(SuperblockPlace::Beside),
-        folder => Ok(SuperblockPlace::Folder(folder)),
+    Ok(place_of(text(matches, "superblock")?))
+}
+
+/// Where the superblocks are taken from, if that is named.
+pub fn place_from<'a>(matches: &ArgMatches<'a>) -> Option<SuperblockPlace<'a>>
+    ensures { HasPlace (first_value (found_of matches.now) (codes "superblock-from")) result }
+{
+    match matches.get_str("superblock-from") {
+        None => None,
+        Some(word) => Some(place_of(word)),
     }
 }
 

@@ -9,4 +9,5 @@ pub mod Saving
 pub mod Starting
 pub mod SuperblockChoice
 pub mod SuperblockSets
+pub mod TwoPlaces
 pub mod Unknown

@@ -34,7 +34,7 @@ pub struct LateSuperblock {
 }
 
 // The slot that begins at this byte.
-fn slot_at(file: &File, at: u64) -> Option<[u8; 4096]> {
+pub(crate) fn slot_at(file: &File, at: u64) -> Option<[u8; 4096]> {
     let mut slot = [0; SLOT_BYTES];
     match file.read_at(&mut slot, at) {
         Ok(SLOT_BYTES) => Some(slot),

@@ -49,6 +49,18 @@ fn folder_of(name: &str) -> &str {
     }
 }
 
+// Makes the names durable that are in the folder of this one.
+fn sync_folder<R: Files<File = File>>(rt: &R, name: &str) -> io::Result<()> {
+    let folder = OpenOptions::new().read(true).open(rt, folder_of(name))?;
+    folder.sync_all()
+}
+
+/// Removes the file of this name, durably.
+pub fn remove_durably<R: Files<File = File>>(rt: &R, name: &str) -> io::Result<()> {
+    rt.remove_file(name)?;
+    sync_folder(rt, name)
+}
+
 /// Opens the file of this name for reading and writing, and makes it where it is not there: then
 /// its folder keeps it durably.
 pub fn open_or_make<R: Files<File = File>>(rt: &R, name: &str) -> io::Result<File> {
@@ -57,8 +69,7 @@ pub fn open_or_make<R: Files<File = File>>(rt: &R, name: &str) -> io::Result<Fil
         .write(true)
         .create(true)
         .open(rt, name)?;
-    let folder = OpenOptions::new().read(true).open(rt, folder_of(name))?;
-    folder.sync_all()?;
+    sync_folder(rt, name)?;
     Ok(file)
 }
 

@@ -39,11 +39,13 @@ mod saving;
 mod starting;
 mod superblock_choice;
 mod superblock_opening;
+mod superblock_places;
 mod superblock_renewal;
 mod superblock_sets;
 mod superblock_writer;
 mod thread_trial;
 mod timed_calls;
+mod two_places;
 mod unattached;
 
 pub use crate::absence::unknown_legs;
@@ -67,13 +69,17 @@ pub use crate::leg_renewal::Unrenewed;
 pub use crate::limited_file::{CallLimit, share_limit};
 pub use crate::moving::{check_moved, moved_legs, tell_unmoved};
 pub use crate::needs::{check_files, check_stack, reply_bytes_of};
-pub use crate::no_superblocks::check_no_superblocks;
+pub use crate::no_superblocks::{check_no_superblocks, check_none_beside};
 pub use crate::saving::{AfterTry, after_try, is_clean, is_last_somewhere};
 pub use crate::starting::{named_master, start_for};
 pub use crate::superblock_choice::{Choice, FoundLegs, choose, taken_legs};
 pub use crate::superblock_opening::FoundFiles;
+pub use crate::superblock_places::{FoundPlaces, OldPlace, check_from};
 pub use crate::superblock_renewal::other_id;
 pub use crate::superblock_writer::SuperblockWriter;
 pub use crate::thread_trial::try_threads;
 pub use crate::timed_calls::TimedCalls;
+pub use crate::two_places::{
+    PlaceFound, carried_superblocks, counted, earlier_superblocks, is_moved,
+};
 pub use crate::unattached::Unattached;

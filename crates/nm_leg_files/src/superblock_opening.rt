@@ -24,12 +24,14 @@ const FILE_BYTES: u64 = 8192;
 /// The files of the legs' superblocks as they were found, leg 0's first, and their names.
 #[derive(Drop)]
 pub struct FoundFiles {
-    files: Vec<Option<SuperblockFile<LateSlots>>>,
-    names: Vec<String>,
+    pub(crate) files: Vec<Option<SuperblockFile<LateSlots>>>,
+    pub(crate) names: Vec<String>,
     are_beside: bool,
     limits: Vec<CallLimit>,
     // Which of them this start has made.
     made: [bool; 8],
+    // The superblocks of legs that are not here, which are moved into them as they are.
+    pub(crate) carried: [Option<Superblock>; 8],
 }
 
 /// The files of superblocks while the server serves.
@@ -112,14 +114,30 @@ pub(crate) fn blank_file(
     }
 }
 
-// Makes the superblock's file of this name, which holds none yet, and has the folder keep it.
+// Makes the superblock's file of this name, and has the folder keep it: with this superblock in it,
+// or none yet.
 fn make_file<R: Files<File = File>>(
     rt: &R,
     alloc: Global,
     name: &str,
+    first: Option<Superblock>,
     limit: &CallLimit,
 ) -> Result<SuperblockFile<LateSlots>, Unopened> {
-    blank_file(alloc, open_or_make(rt, name), limit)
+    let mut made = blank_file(alloc, open_or_make(rt, name), limit)?;
+    if let Some(superblock) = first {
+        if let Err(error) = made.save(&superblock) {
+            return Err(Unopened::by(error));
+        }
+    }
+    Ok(made)
+}
+
+// The superblock that is moved as it is into the file of this leg, which is not here.
+fn carried_to(all: &[Option<Superblock>; 8], leg: usize, is_here: bool) -> Option<Superblock> {
+    if is_here || leg >= 8 {
+        return None;
+    }
+    all[leg]
 }
 
 // The superblock's file of this name, of a leg that is missing, as is the file: both are opened
@@ -149,18 +167,19 @@ fn late_file<'a>(
 }
 
 impl FoundFiles {
-    /// Opens, locks and reads the files that are there, leg after leg. That of a leg that is not
-    /// here may be unreadable: then none is there.
+    /// Opens, locks and reads the files that are in this place, leg after leg. That of a leg that
+    /// is not here may be unreadable: then none is there.
     pub fn open<'a, R: Files<File = File>>(
         rt: &R,
         alloc: Global,
         settings: &Settings<'_>,
+        place: SuperblockPlace<'_>,
         legs: &LegFiles,
     ) -> Result<FoundFiles, StartFault<'a>> {
         let (here, limits) = (legs.here(), legs.limits(alloc)?);
         let (mut files, mut names) = (Vec::new(alloc), Vec::new(alloc));
         for (leg, own) in settings.legs.iter().enumerate() {
-            let Some(name) = superblock_name(alloc, settings.superblock, leg, own)? else {
+            let Some(name) = superblock_name(alloc, place, leg, own)? else {
                 continue;
             };
             let Some(limit) = limits.get(leg) else {
@@ -175,13 +194,13 @@ impl FoundFiles {
                 return Err(StartFault::Memory);
             }
         }
-        let are_beside = matches!(settings.superblock, SuperblockPlace::Beside);
         Ok(FoundFiles {
             files,
             names,
-            are_beside,
+            are_beside: matches!(place, SuperblockPlace::Beside),
             limits,
             made: [false; 8],
+            carried: [None; 8],
         })
     }
 
@@ -221,19 +240,20 @@ impl FoundFiles {
         let Some(limit) = self.limits.get(leg) else {
             return Ok(None);
         };
+        let carried = carried_to(&self.carried, leg, is_here);
         // What stands under the name of a missing leg's superblock and holds none is opened anew
         // with the leg.
-        if !is_here && matches!(&*place, Some(file) if holds_none(file)) {
+        if carried.is_some() || !is_here && matches!(&*place, Some(file) if holds_none(file)) {
             *place = None;
         }
         if place.is_some() {
             return Ok(None);
         }
-        if is_here {
+        if is_here || carried.is_some() {
             if let Some(is_made) = self.made.get_mut(leg) {
                 *is_made = rt.symlink_metadata(name.as_str()).is_err();
             }
-            match make_file(rt, alloc, name.as_str(), limit) {
+            match make_file(rt, alloc, name.as_str(), carried, limit) {
                 Ok(made) => *place = Some(made),
                 Err(why) => return Err(StartFault::CannotSave(leg, why)),
             }

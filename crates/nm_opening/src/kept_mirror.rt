@@ -12,10 +12,11 @@ use nm_gate::GatedStripe;
 use nm_geometry::Shape;
 use nm_lanes::NoGate;
 use nm_leg_files::{
-    BytesRead, Choice, FileMirror, FoundFiles, FoundLegs, KeptImage, Leg, LegFiles, REGION,
+    BytesRead, Choice, FileMirror, FoundLegs, FoundPlaces, KeptImage, Leg, LegFiles, REGION,
     Superblocks, as_they_were, changed_here, check_added, check_known, check_no_superblocks,
-    choose, draw_id, draw_mirror_id, moved_legs, named_master, open_by_image, open_compared,
-    open_gates, open_untold, start_for, take_added, taken_legs, tell_unmoved, unknown_legs,
+    check_none_beside, choose, draw_id, draw_mirror_id, moved_legs, named_master, open_by_image,
+    open_compared, open_gates, open_untold, start_for, take_added, taken_legs, tell_unmoved,
+    unknown_legs,
 };
 use nm_mirror::{InitialSync, Mirror};
 use nm_reports::{Comparison, LogLines, StartFault, tell_progress};
@@ -300,6 +301,24 @@ fn check_all_named<'a>(settings: &Settings<'_>, files: &LegFiles) -> Result<(), 
     Ok(())
 }
 
+// What a start goes by of what it has found, and whether it compares the legs: where all were
+// changed, as they were before.
+fn gone_by<R: Clock>(
+    rt: &R,
+    alloc: Global,
+    settings: &Settings<'_>,
+    seen: &FoundLegs,
+    lines: &LogLines,
+) -> (FoundLegs, bool) {
+    match as_they_were(settings, seen) {
+        Some(unchanged) => {
+            tell_compared(rt, alloc, lines);
+            (unchanged, true)
+        }
+        None => (*seen, false),
+    }
+}
+
 // The mirror that superblocks open, or that gets its first ones.
 fn open_kept<'a, R>(
     rt: &R,
@@ -313,9 +332,9 @@ where
     R: Threads + Wait + Sync + Clock + RandomSource + Files<File = File>,
 {
     check_all_named(settings, files)?;
-    let found = FoundFiles::open(rt, alloc, settings, files)?;
-    found.tell_damaged(rt, alloc, lines);
-    let mut superblocks = found.found();
+    let mut places = FoundPlaces::open(rt, alloc, settings, files)?;
+    places.tell(rt, alloc, lines);
+    let mut superblocks = places.superblocks(settings)?;
     let went_by = newest_of(&superblocks);
     if let Some(newest) = &went_by {
         take_added(&mut superblocks, newest.legs);
@@ -323,28 +342,30 @@ where
     lay_unknown_aside(alloc, settings, went_by, &superblocks, files)?;
     let seen = find_legs(rt, alloc, settings, files, &superblocks, lines)?;
     tell_unmoved(rt, alloc, &seen, lines);
-    let unchanged = as_they_were(settings, &seen);
-    let is_compared = unchanged.is_some();
-    if is_compared {
-        tell_compared(rt, alloc, lines);
-    }
-    let told = unchanged.unwrap_or(seen);
+    let (told, is_compared) = gone_by(rt, alloc, settings, &seen, lines);
     let lineage = draw_id(rt)?;
     let (image, is_first) = image_for(rt, settings, files, &told, lineage)?;
     files.keep_own(alloc, &taken_legs(settings, &told), &changed_here(&seen))?;
     files.record(&image);
+    let above = places.above_old(image);
+    let FoundPlaces { new, old } = places;
     let kept = KeptImage {
-        files: found,
-        image,
+        files: new,
+        image: above,
         here: files.here(),
         went_by,
         is_compared,
     };
-    if is_first || is_compared {
-        open_watched(rt, alloc, settings, files, control, lines, Some(kept))
+    let opened = if is_first || is_compared {
+        open_watched(rt, alloc, settings, files, control, lines, Some(kept))?
     } else {
-        open_image(rt, alloc, settings, files, kept)
+        open_image(rt, alloc, settings, files, kept)?
+    };
+    // The new place has them all, and nobody is served yet.
+    if let Some(old) = old {
+        old.leave_moved(rt, alloc, opened.superblocks.as_ref(), lines)?;
     }
+    Ok(opened)
 }
 
 /// Opens the mirror that the settings ask for: by superblocks, where they are kept.
@@ -369,7 +390,7 @@ where
                 return Err(StartFault::NoPlaceBeside(leg));
             }
         }
-        SuperblockPlace::Folder(_) => (),
+        SuperblockPlace::Folder(_) => check_none_beside(rt, alloc, settings)?,
     }
     open_kept(rt, alloc, settings, files, control, lines)
 }

@@ -11,6 +11,8 @@ abbrev pub status_of : StartFault → ℕ
 status_of fault.NotUtf8 = 2
 status_of (fault.NoLegMoved leg) = 2
 status_of (fault.NothingMoved leg) = 2
+status_of fault.SamePlace = 2
+status_of fault.NoPlace = 2
 status_of fault.NoStandardStreams = 3
 status_of (fault.FewDescriptors needed) = 3
 status_of (fault.SmallStack needed) = 3
@@ -26,6 +28,8 @@ status_of (fault.BadLength leg bytes) = 3
 status_of (fault.OtherLength leg bytes other other_bytes) = 3
 status_of (fault.OverFileLimit leg bytes limit) = 3
 status_of (fault.HasSuperblock leg) = 3
+status_of (fault.HeldBeside leg name) = 3
+status_of (fault.CannotMove leg why) = 3
 status_of (fault.NoPlaceBeside leg) = 3
 status_of (fault.CannotSave leg why) = 3
 status_of (fault.OtherMirror leg) = 3
@@ -46,6 +50,7 @@ status_of (fault.AnotherFile leg) = 7
 status_of (fault.WasChanged leg recorded found) = 7
 status_of fault.ChangedDiffer = 7
 status_of (fault.WentApart leg other) = 7
+status_of (fault.PlacesApart leg) = 7
 status_of (fault.NoneInSync stripe) = 7
 status_of (fault.NotKnown leg name) = 7
 

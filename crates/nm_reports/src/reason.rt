@@ -118,6 +118,28 @@ fn superblock_of(alloc: Global, settings: &Settings<'_>, leg: usize) -> Result<S
     }
 }
 
+// The name of the file of this leg's superblock in the place from which superblocks are moved.
+fn old_superblock_of(
+    alloc: Global,
+    settings: &Settings<'_>,
+    leg: usize,
+) -> Result<String, AllocError> {
+    let place = settings.superblock_from.unwrap_or(SuperblockPlace::Nowhere);
+    match superblock_name(alloc, place, leg, name_of(&settings.legs, leg))? {
+        Some(name) => Ok(name),
+        None => Ok(String::new(alloc)),
+    }
+}
+
+// Tells of the files of a leg's superblocks of which neither came after the other.
+fn put_apart<E: Write>(name: &str, old: &str, err: &mut E) {
+    let _ = writeln!(
+        err,
+        "nbdmirror: {name}: neither came after {old}, nor before it: remove the one that no longer \
+         holds, or name the newest leg by --force-master"
+    );
+}
+
 // Tells that the name's file is longer than it may be.
 fn put_limit<E: Write>(name: &str, bytes: u64, limit: u64, err: &mut E) {
     let _ = writeln!(
@@ -167,15 +189,13 @@ fn put_changed<E: Write>(
     );
 }
 
-/// Tells which file or address is meant by a refusal, and why it is refused. A refusal that says
-/// all by itself has no such line.
-pub fn tell_reason<E: Write>(
+// Tells of which superblock's file a refusal is, if it is of one, and why.
+fn put_of_superblocks<E: Write>(
     alloc: Global,
     fault: &StartFault<'_>,
     settings: &Settings<'_>,
     err: &mut E,
 ) -> Result<(), AllocError> {
-    let names = settings.legs.as_slice();
     match *fault {
         StartFault::HasSuperblock(leg) => {
             let name = superblock_of(alloc, settings, leg)?;
@@ -186,15 +206,23 @@ pub fn tell_reason<E: Write>(
             let name = superblock_of(alloc, settings, leg)?;
             put_unopened(alloc, name.as_str(), why, err)?;
         }
-        StartFault::CannotOpen(leg, why) => put_unopened(alloc, name_of(names, leg), why, err)?,
+        StartFault::CannotMove(leg, why) => {
+            let name = old_superblock_of(alloc, settings, leg)?;
+            put_unopened(alloc, name.as_str(), why, err)?;
+        }
+        StartFault::PlacesApart(leg) => {
+            let name = superblock_of(alloc, settings, leg)?;
+            let old = old_superblock_of(alloc, settings, leg)?;
+            put_apart(name.as_str(), old.as_str(), err);
+        }
         StartFault::AnotherFile(leg) => {
             let name = superblock_of(alloc, settings, leg)?;
-            put_another(name_of(names, leg), name.as_str(), leg, err);
+            put_another(name_of(&settings.legs, leg), name.as_str(), leg, err);
         }
         StartFault::WasChanged(leg, recorded, found) => {
             let name = superblock_of(alloc, settings, leg)?;
             put_changed(
-                name_of(names, leg),
+                name_of(&settings.legs, leg),
                 name.as_str(),
                 leg,
                 recorded,
@@ -202,6 +230,22 @@ pub fn tell_reason<E: Write>(
                 err,
             );
         }
+        _ => (),
+    }
+    Ok(())
+}
+
+/// Tells which file or address is meant by a refusal, and why it is refused. A refusal that says
+/// all by itself has no such line.
+pub fn tell_reason<E: Write>(
+    alloc: Global,
+    fault: &StartFault<'_>,
+    settings: &Settings<'_>,
+    err: &mut E,
+) -> Result<(), AllocError> {
+    let names = settings.legs.as_slice();
+    match *fault {
+        StartFault::CannotOpen(leg, why) => put_unopened(alloc, name_of(names, leg), why, err)?,
         StartFault::InUse(leg) => {
             let text = "is mounted, swapped to, held by another device, or behind a loop device";
             put_line(name_of(names, leg), text, err);
@@ -224,7 +268,7 @@ pub fn tell_reason<E: Write>(
             let text = format!(in alloc; "{address}")?;
             put_unbound(alloc, text.as_str(), why, err)?;
         }
-        _ => (),
+        _ => put_of_superblocks(alloc, fault, settings, err)?,
     }
     Ok(())
 }

@@ -44,6 +44,12 @@ pub enum StartFault<'a> {
     /// This leg was moved, and there are no superblocks to say so of.
     #[error("nbdmirror: --moved {0}: the legs have no superblocks")]
     NothingMoved(u8),
+    /// Superblocks are to be moved from the place to which they are to be moved.
+    #[error("nbdmirror: --superblock-from names the place of --superblock")]
+    SamePlace,
+    /// Superblocks are to be moved, and one of the two places is none.
+    #[error("nbdmirror: --superblock-from: none is no place for superblocks")]
+    NoPlace,
     /// The export's name is empty or too long.
     #[error("nbdmirror: name must be 1 to 255 bytes")]
     BadName,
@@ -66,6 +72,14 @@ pub enum StartFault<'a> {
     /// This leg has a superblock, and the server was asked to keep none.
     #[error("nbdmirror: leg {0}: has a superblock")]
     HasSuperblock(usize),
+    /// A superblock stands beside this leg of this name, and the server was asked to keep them in a
+    /// folder.
+    #[error("nbdmirror: leg {0}: {1}.nbdmirror holds a superblock: give --superblock-from beside")]
+    HeldBeside(usize, &'a str),
+    /// The file of this leg's superblock cannot be opened, or made invalid, in the place from which
+    /// superblocks are moved.
+    #[error("nbdmirror: leg {0}: cannot move its superblock")]
+    CannotMove(usize, Unopened),
     /// This leg is a block device, beside which no superblock would outlive a restart.
     #[error("nbdmirror: leg {0}: is a block device: give --superblock FOLDER")]
     NoPlaceBeside(usize),
@@ -121,6 +135,9 @@ pub enum StartFault<'a> {
     /// Both legs have superblocks of which neither came after the other.
     #[error("nbdmirror: legs {0} and {1} went on apart: name one by --force-master")]
     WentApart(usize, usize),
+    /// Neither of this leg's superblocks in two places came after the other.
+    #[error("nbdmirror: leg {0}: its superblocks in two places went on apart")]
+    PlacesApart(usize),
     /// No leg that is in sync in this stripe by the superblocks is here.
     #[error("nbdmirror: stripe {0}: no leg in sync is here")]
     NoneInSync(usize),
@@ -145,7 +162,11 @@ impl StartFault<'_> {
         ensures { result ≡ status_of self.now }
     {
         match self {
-            StartFault::NotUtf8 | StartFault::NoLegMoved(_) | StartFault::NothingMoved(_) => 2,
+            StartFault::NotUtf8
+            | StartFault::NoLegMoved(_)
+            | StartFault::NothingMoved(_)
+            | StartFault::SamePlace
+            | StartFault::NoPlace => 2,
             StartFault::NoStandardStreams
             | StartFault::FewDescriptors(_)
             | StartFault::SmallStack(_)
@@ -161,6 +182,8 @@ impl StartFault<'_> {
             | StartFault::OtherLength(_, _, _, _)
             | StartFault::OverFileLimit(_, _, _)
             | StartFault::HasSuperblock(_)
+            | StartFault::HeldBeside(_, _)
+            | StartFault::CannotMove(_, _)
             | StartFault::NoPlaceBeside(_)
             | StartFault::CannotSave(_, _)
             | StartFault::OtherMirror(_)
@@ -181,6 +204,7 @@ impl StartFault<'_> {
             | StartFault::WasChanged(_, _, _)
             | StartFault::ChangedDiffer
             | StartFault::WentApart(_, _)
+            | StartFault::PlacesApart(_)
             | StartFault::NoneInSync(_)
             | StartFault::NotKnown(_, _) => 7,
         }

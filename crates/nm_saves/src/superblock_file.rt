@@ -71,6 +71,14 @@ impl<F: SlotFile> SuperblockFile<F> {
         Ok(SuperblockFile::of_slots(file, &blank, &blank))
     }
 
+    /// The file without its superblock: written whole with zeroes.
+    pub fn blank(self) -> io::Result<Self>
+        ensures opens { IfOk result (λ f. Opens F.honest f) }
+        ensures blank { IfOk result (λ f. HoldsBlank F.honest f) }
+    {
+        SuperblockFile::create(self.file)
+    }
+
     // The file that durably holds these slots.
     fn of_slots(file: F, first: &[u8; 4096], second: &[u8; 4096]) -> Self
         requires { IsTrue F.honest → IsDurably (place_of first.now second.now) (F.held file) }

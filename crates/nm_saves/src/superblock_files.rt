@@ -1,5 +1,5 @@
 ghost use Rattle.std.specs.Prelude.{◌≡◌, ◌≤◌, ◌⊎◌, IfErr, OnOk};
-ghost use Rattle.nm_saves.specs.Files.{AreFailed, AreUpTo, IsLeastUpTo};
+ghost use Rattle.nm_saves.specs.Files.{AreFailed, AreUpTo, IsLeastUpTo, file_of, newest_of};
 ghost use Rattle.nm_saves.specs.SavingAll.{IsDone, IsUndone, TakesNone, request_of};
 
 use crate::knowing::{failed_legs, highest_of, other_legs, seen_after};
@@ -55,6 +55,19 @@ impl<F: SlotFile> SuperblockFiles<F> {
         ensures { result.now ≡ self.now.image }
     {
         &self.image
+    }
+
+    /// The superblock in the file of this leg: none where it has no file, or no superblock in it.
+    pub fn superblock(&self, leg: usize) -> Option<Superblock>
+        ensures { result ≡ newest_of (file_of leg self.now.files) }
+    {
+        if leg >= self.files.len() {
+            return None;
+        }
+        match &self.files[leg] {
+            Some(file) => file.newest(),
+            None => None,
+        }
     }
 
     /// The legs whose file has failed, so that it is not written again.

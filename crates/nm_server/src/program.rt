@@ -12,7 +12,7 @@ use nm_control::LegRenewer;
 use nm_geometry::{MOST_LEGS, Shape};
 use nm_leg_files::{
     FileMirror, Leg, LegFiles, LegMaker, LegPlace, LegRules, OpensLegs, check_added, check_files,
-    check_moved, check_stack, reply_bytes_of, try_threads,
+    check_from, check_moved, check_stack, reply_bytes_of, try_threads,
 };
 use nm_mirror::Pass;
 use nm_places::{ServingState, SessionRules, Shared};
@@ -56,6 +56,7 @@ fn export_asked<'a>(settings: &Settings<'a>) -> Result<ExportName<'a>, StartFaul
     }
     check_added(settings, true)?;
     check_moved(settings)?;
+    check_from(settings)?;
     match ExportName::new(settings.name, settings.read_only) {
         Some(named) => Ok(named),
         None => Err(StartFault::BadName),

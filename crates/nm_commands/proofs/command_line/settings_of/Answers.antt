@@ -1,6 +1,6 @@
 use Rattle.std.proofs.Common.{codes, refl}
 use Rattle.clap.specs.Words.{found_of, rows_of}
-use Rattle.nm_commands.proofs.Said.{said_text, said_number, said_number_if_any, said_flag, said_place, said_words, said_all}
+use Rattle.nm_commands.proofs.Said.{said_text, said_number, said_number_if_any, said_flag, said_place, said_place_if_any, said_words, said_all}
 use Rattle.nm_commands.proofs.command_line.settings_of.Goals as goal
 
 pub returns-clause-ok : goal.returns-clause-ok
@@ -19,6 +19,8 @@ returns-clause-ok c =
       master = said_number_if_any f rows (codes "master") _ refl c.in_ok-master.ensures.some c.in_ok-master.ensures.none;
       start = said_text f rows (codes "start") _ refl c.in_ok-start.ensures.ok;
       superblock = said_place f rows (codes "superblock") _ refl c.in_ok-superblock.ensures.ok;
+      superblock_from = said_place_if_any f rows (codes "superblock-from") _ refl
+          c.place_from-superblock_from.ensures;
       degraded = said_flag f rows (codes "degraded") _ refl c.get_flag.ensures.value
           c.get_flag.ensures.other;
       force_master = said_number_if_any f rows (codes "force-master") _ refl

@@ -6,8 +6,10 @@ pub returns-clause-ok : goal.returns-clause-ok
 returns-clause-ok c =
     let one = c.in_ok-with_superblock.ensures.shape c.superblock_option-superblock.ensures.own
     ∙ ap₂ with_rule refl c.superblock_option-superblock.ensures.rule in
+    let from = c.in_ok-with_from.ensures.shape c.superblock_from_option-from.ensures.own
+    ∙ ap₂ with_rule one c.superblock_from_option-from.ensures.rule in
     let two = c.in_ok-with_degraded.ensures.shape c.flag-degraded.ensures.own
-    ∙ ap₂ with_rule one c.flag-degraded.ensures.rule in
+    ∙ ap₂ with_rule from c.flag-degraded.ensures.rule in
     let three = c.in_ok-with_force_master.ensures.shape
     c.bare_number_option-force_master.ensures.own
     ∙ ap₂ with_rule two c.bare_number_option-force_master.ensures.rule in
