@@ -303,7 +303,7 @@ fn check_all_named<'a>(settings: &Settings<'_>, files: &LegFiles) -> Result<(), 
 
 // What a start goes by of what it has found, and whether it compares the legs: where all were
 // changed, as they were before.
-fn gone_by<R: Clock>(
+fn gone_by<R: Wait>(
     rt: &R,
     alloc: Global,
     settings: &Settings<'_>,
