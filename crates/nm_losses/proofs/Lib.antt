@@ -1,3 +1,5 @@
+pub mod Attached
+pub mod Crashed
 pub mod Explained
 pub mod Lists
 pub mod Marked

@@ -1,9 +1,8 @@
 -- Moves one after the other: what a stripe keeps, its array, and what is durable of it.
-use Rattle.std.proofs.Common.{◌≡◌, ⊎_elim, ℕ, ◌<◌, Bool, true, false, IsTrue, List, [], ◌∷◌, ◌++◌, Option, None, Some, length, refl, sym, ap, ◌∙◌, subst, arith, slice_get, slice_index_or}
+use Rattle.std.proofs.Common.{◌≡◌, ⊎_elim, ℕ, ◌<◌, true, false, IsTrue, List, [], ◌∷◌, Option, None, Some, length, refl, sym, ap, ◌∙◌, subst, arith, slice_get}
 use Rattle.nm_fanout.specs.declared.write_record.Record.{Record}
 use Rattle.nm_fanout.specs.Records.{busy_on}
 use Rattle.nm_leg.specs.Leg.{Leg, LegType}
-use Rattle.nm_replay.specs.Events.{Event}
 use Rattle.nm_rules.specs.Acts.{Acts, IsExplainedStep}
 use Rattle.nm_rules.specs.Array.{stripe_array}
 use Rattle.nm_rules.specs.Flushed.{DurableAt, KeepsDurable}
@@ -25,11 +24,10 @@ use Rattle.nm_stripe.proofs.RunLemmas.{none-acts, step-shape}
 use Rattle.nm_stripe.proofs.StepLemmas.{step-keeps}
 use Rattle.nm_gate.specs.Durable.{Durable}
 use Rattle.nm_gate.proofs.Guarded.{array-stays}
-use Rattle.nm_gate.proofs.LegsLeft.{LegsLeft}
 use Rattle.nm_gate.proofs.StepsLeft.{free_of, other_of, step-left}
-use Rattle.nm_losses.specs.Laws.{FlushedOutlivesLosses, KeepsTheArray, LeaveBlock, LossesKeepTheArray, OutlivesAt, Stands}
+use Rattle.nm_losses.specs.Laws.{FlushedOutlivesLosses, KeepsTheArray, LossesKeepTheArray, Stands}
 use Rattle.nm_losses.specs.Losing.{ReturnsLost}
-use Rattle.nm_losses.specs.Moves.{ComesBack, Does, DoesStep, LossyRuns, Move, MoveOf, answers_of, steps_of}
+use Rattle.nm_losses.specs.Moves.{ComesBack, Does, DoesStep, LossyRuns, Move, answers_of, steps_of}
 use Rattle.nm_losses.proofs.Explained.{step-explained}
 use Rattle.nm_losses.proofs.Returned.{lost-acts, lost-array, lost-durable, lost-keeps, lost-runs, lost-shape}
 

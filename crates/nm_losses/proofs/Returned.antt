@@ -1,13 +1,12 @@
 -- A leg that lost power comes back: where it is clear once it returned it lost nothing, so it may be
 -- swapped for what is left of it.
-use Rattle.std.proofs.Common.{◌≡◌, ◌≢◌, ⊎_elim, inl, inr, ◌⊎◌, ℕ, ◌+◌, ◌/◌, ◌<◌, Bool, true, false, not, ◌&&◌, ◌||◌, get_or, List, [], Option, None, Some, length, length-set, refl, sym, ap, ◌∙◌, subst, arith, slice_get}
+use Rattle.std.proofs.Common.{◌≡◌, ◌≢◌, ⊎_elim, inl, inr, ◌⊎◌, ℕ, ◌+◌, ◌/◌, ◌<◌, Bool, true, false, not, ◌&&◌, ◌||◌, get_or, List, [], Option, None, length, length-set, refl, sym, ap, ◌∙◌, subst, arith, slice_get}
 use Rattle.nm_replay.specs.declared.block.Block.{Block}
 use Rattle.nm_replay.proofs.Arrays.{slice_get-set_same}
 use Rattle.nm_choice.specs.declared.leg_state.LegState.{LegState}
 use Rattle.nm_choice.specs.declared.leg_state.LegState.TheVariants.{InSync, Joining, Out}
 use Rattle.nm_fanout.specs.Records.{busy_on}
 use Rattle.nm_leg.specs.Leg.{LegType}
-use Rattle.nm_regions.specs.declared.copy_place.CopyPlace.{CopyPlace}
 use Rattle.nm_regions.specs.LegFlags.{LegRegions, no_leg, attached, is_behind}
 use Rattle.nm_regions.specs.Table.{leg_at, region_of, place_of, regions_of, has_copied}
 use Rattle.nm_rules.specs.Acts.{Acts}
@@ -23,7 +22,7 @@ use Rattle.nm_rules.proofs.ActsLemmas.{acts-append}
 use Rattle.nm_rules.proofs.AttachLemmas.{set-other, set-same}
 use Rattle.nm_rules.proofs.ChunkLemmas.{copy-is, not_copying, region_within}
 use Rattle.nm_rules.proofs.ReturnLemmas.{either-more, return-acts, return-keeps}
-use Rattle.nm_losses.specs.Losing.{HoldsStill, ReturnsLost, has_unsynced, with_part}
+use Rattle.nm_losses.specs.Losing.{HoldsStill, ReturnsLost, with_part}
 use Rattle.nm_losses.proofs.Marked.{either-other, lacking-at, no-mark}
 use Rattle.nm_losses.proofs.Swapped.{MaySwap, array-same, durable-other, swap-acts, swap-keeps}
 

@@ -1,3 +1,4 @@
+pub mod Crashing
 pub mod Laws
 pub mod Losing
 pub mod Moves

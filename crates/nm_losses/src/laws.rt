@@ -1,6 +1,7 @@
 //! What losses of power cost, for every list of moves of a stripe of honest legs.
 ghost use Rattle.std.specs.Prelude.{IsTrue};
 ghost use Rattle.nm_leg.specs.Leg.{leg_type};
+ghost use Rattle.nm_losses.specs.Crashing.{PowerTakesTheUnsynced};
 ghost use Rattle.nm_losses.specs.Laws.{FlushedOutlivesLosses, LossesKeepTheArray};
 
 use nm_leg::LegPart;
@@ -13,4 +14,9 @@ pub fn losses_keep_the_array<L: LegPart>()
 /// What was flushed stays durable on each leg in sync.
 pub fn flushed_outlives_losses<L: LegPart>()
     ensures { IsTrue L.honest → FlushedOutlivesLosses (leg_type L.model L.honest) }
+{}
+
+/// Of an honest leg a loss of power takes no more than these laws let it.
+pub fn power_takes_the_unsynced<L: LegPart>()
+    ensures { IsTrue L.honest → PowerTakesTheUnsynced L.model }
 {}
