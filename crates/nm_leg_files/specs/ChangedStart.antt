@@ -1,7 +1,7 @@
 -- A start that finds all legs changed: it compares them, and goes on by them as they were.
-use Rattle.std.specs.Prelude.{◌≡◌, None}
+use Rattle.std.specs.Prelude.{◌≡◌, ◌≢◌, ◌⊎◌, None}
 use Rattle.nm_assemble.specs.Changes.{AreAllChanged}
-use Rattle.nm_assemble.specs.Start.{IsNewest}
+use Rattle.nm_assemble.specs.Start.{IsEmpty, IsNewest}
 use Rattle.nm_commands.specs.declared.server_settings.Settings.{Settings}
 use Rattle.nm_leg_files.specs.declared.superblock_choice.FoundLegs.{FoundLegs}
 use Rattle.nm_superblock.specs.declared.superblock.Superblock.{Superblock}
@@ -12,6 +12,13 @@ pub record IsChangedStart (s : Settings) (seen : FoundLegs) : Type 0 where
   pub newest : Superblock
   pub greatest : IsNewest 8 newest seen.found
   pub changed : AreAllChanged newest seen.legs
+
+-- a leg is forced on the start, or no superblock was found, or not all legs were changed
+abbrev pub IsOtherStart : Settings → FoundLegs → Type 0
+IsOtherStart s seen =
+    (s.force_master ≢ None) ⊎ (IsEmpty 8 seen.found
+    ⊎ ((newest : Superblock) × IsNewest 8 newest seen.found
+    × (AreAllChanged newest seen.legs → ⊥)))
 
 -- what is found of the legs, with the times that the superblock has
 abbrev pub with_times : FoundLegs → Superblock → FoundLegs

@@ -2,7 +2,7 @@
 ghost use Rattle.std.specs.Prelude.{IfOk, IfNone, IfSome};
 ghost use Rattle.nm_mirror.specs.Stripes.{AreStripesOf};
 ghost use Rattle.nm_leg_files.specs.Alike.{AreAlike};
-ghost use Rattle.nm_leg_files.specs.ChangedStart.{IsAsItWas, IsChangedStart};
+ghost use Rattle.nm_leg_files.specs.ChangedStart.{IsAsItWas, IsOtherStart};
 
 use crate::alike::are_alike;
 use crate::counting_file::BytesRead;
@@ -21,7 +21,7 @@ use std::alloc::Global;
 /// start: it goes by that, once it has compared them.
 pub fn as_they_were(settings: &Settings<'_>, seen: &FoundLegs) -> Option<FoundLegs>
     ensures some { IfSome result (λ own. IsAsItWas settings.now seen.now own) }
-    ensures none { IfNone result (IsChangedStart settings.now seen.now → ⊥) }
+    ensures none { IfNone result (IsOtherStart settings.now seen.now) }
 {
     if settings.force_master.is_some() {
         return None;
