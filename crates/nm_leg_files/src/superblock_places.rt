@@ -155,7 +155,8 @@ impl OldPlace {
         rt: &R,
         superblocks: &Superblocks,
     ) -> Result<(), StartFault<'a>> {
-        let FoundFiles { files, names, .. } = self.files;
+        let OldPlace { files: own } = self;
+        let FoundFiles { files, names, .. } = own;
         for (leg, (file, name)) in files.into_iter().zip(names.iter()).enumerate() {
             let Some(file) = file else {
                 continue;
