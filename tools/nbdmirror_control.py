@@ -36,7 +36,7 @@ REFUSED = re.compile(r"(?:fail|attach|replace|retire) \d+: (last|busy|stopped|re
 RETIRED = re.compile(r"retire (\d+): out( unsaved)?")
 REOPENED = re.compile(r"reopen: opened (\d+) left (\d+) stopped (\d+)")
 SERVING = re.compile(r"serving: up (\d{1,20}) s")
-MISSING = re.compile(r"leg (\d{1,3}): no file: (.*): (.*)")
+MISSING = re.compile(r"leg (\d{1,3}): no file: (.*): (.*?)(?: \(os error \d+\))?")
 SUPERBLOCK = re.compile(r"superblock: generation (\d{1,20}) marked (\d{1,20}) unsaved (\d{1,20})( failed)?")
 # What no server sends more of as an answer to `info`.
 MOST_INFO = 16

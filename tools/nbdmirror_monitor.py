@@ -129,7 +129,7 @@ class Monitor:
             return []
         if was is None and not told.get("differing"):
             return []
-        return [Change(VERIFIED[verdict(told)], line_in(info))]
+        return [Change(VERIFIED[verdict(told)], line_in(info).removeprefix("verify: "))]
 
 
 def show(change):
