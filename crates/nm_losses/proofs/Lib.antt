@@ -1,6 +1,7 @@
 pub mod Attached
 pub mod Crashed
 pub mod Explained
+pub mod Gated
 pub mod Lists
 pub mod Marked
 pub mod Returned
