@@ -1,14 +1,13 @@
 -- Behind the gate what a leg lost lies in the spans that the gate gives its return: outside of them it
 -- had all of it durable.
-use Rattle.std.proofs.Common.{◌≡◌, ◌≢◌, ⊎_elim, inl, inr, ℕ, ◌+◌, ◌*◌, ◌/◌, ◌^◌, ◌<◌, ◌≤◌, Bool, true, false, IsTrue, List, [], ◌∷◌, Option, None, Some, length, refl, sym, ap, ◌∙◌, subst, arith, cond, slice_get, slice_set, slice_index_or}
+use Rattle.std.proofs.Common.{◌≡◌, ◌≢◌, ⊎_elim, inl, inr, ℕ, ◌/◌, ◌^◌, ◌<◌, ◌≤◌, Bool, true, false, IsTrue, List, [], ◌∷◌, Option, None, Some, length, length-set, refl, sym, ap, ◌∙◌, subst, arith, cond, slice_get, slice_index_or}
 use Rattle.std.proofs.Math.Nat.{div-eq_of_lt, div-le_self}
 use Rattle.std.proofs.lemmas.Bool.{cases_lt}
 use Rattle.nm_replay.specs.declared.block.Block.{Block}
 use Rattle.nm_replay.proofs.Arrays.{slice_get-set_same, slice_get-set_other}
 use Rattle.nm_choice.specs.declared.leg_state.LegState.TheVariants.{InSync, Joining, Out}
-use Rattle.nm_fanout.specs.declared.write_record.Record.{Record}
+use Rattle.nm_fanout.specs.Records.{busy_on}
 use Rattle.nm_leg.specs.Leg.{IsDurableElsewhere, Leg, LegType}
-use Rattle.nm_rules.specs.declared.at.At.{At}
 use Rattle.nm_rules.specs.Array.{contents_at, contents_of, stripe_array}
 use Rattle.nm_rules.specs.Attach.{after_return, may_lack_each}
 use Rattle.nm_rules.specs.Flushed.{durable_at, durable_of}
@@ -17,27 +16,26 @@ use Rattle.nm_rules.specs.Reopening.{Marks, is_in_marked}
 use Rattle.nm_rules.specs.State.{StripeState, leg_state}
 use Rattle.nm_rules.proofs.AttachLemmas.{may_attach, set-other, set-same}
 use Rattle.nm_rules.proofs.RecordLemmas.{one_or_two}
-use Rattle.nm_stripe.specs.declared.answer.Answer.{Answer}
-use Rattle.nm_stripe.specs.declared.step.Step.{Step}
 use Rattle.nm_stripe.specs.Run.{NoneHalted}
-use Rattle.nm_gate.specs.Durable.{Durable, is_lacking, is_marked, is_named}
+use Rattle.nm_gate.specs.Durable.{Durable, is_lacking, is_named}
 use Rattle.nm_gate.specs.Gate.{is_marked_at}
-use Rattle.nm_gate.specs.Held.{HoldsDurably, NoneOn}
+use Rattle.nm_gate.specs.Held.{HoldsDurably}
 use Rattle.nm_gate.specs.Moves as gate
 use Rattle.nm_gate.specs.Moves.{Clears, Does as GateDoes, Gated, IsEqualAt, Saves}
-use Rattle.nm_gate.specs.Returning.{everywhere, suspects}
+use Rattle.nm_gate.specs.Returning.{everywhere}
 use Rattle.nm_gate.specs.Saves.{IsCovered}
 use Rattle.nm_gate.specs.Survive.{EqualOutside, Stands}
 use Rattle.nm_gate.proofs.Acknowledged.{move-stands}
+use Rattle.nm_gate.proofs.Guarded.{Counts, Guards}
+use Rattle.nm_gate.proofs.Runs.{Behind}
 use Rattle.nm_gate.proofs.Spans.{both-ways}
 use Rattle.nm_gate.proofs.Unmarked.{unmarked-equal}
-use Rattle.nm_losses.specs.Crashing.{CrashesTo}
 use Rattle.nm_losses.specs.Gated.{EverywhereCoversLosses, GateCovers, GateCoversLosses, GatedMove, Goes, LossyGatedRuns, Recovers, RecoversOf, moves_of}
 use Rattle.nm_losses.specs.Losing.{CoversLoss, HoldsStill, ReturnsLost, with_part}
 use Rattle.nm_losses.specs.Moves.{LossyRuns, answers_of}
 use Rattle.nm_losses.proofs.Crashed.{past, power-takes}
 use Rattle.nm_losses.proofs.Lists.{none-first}
-use Rattle.nm_losses.proofs.Returned.{lost-array, lost-keeps, lost-runs, lost-shape}
+use Rattle.nm_losses.proofs.Returned.{lost-array, lost-keeps}
 
 -- one span has every region of a stripe
 all-marked : (block size : ℕ) → block < 2 ^ 31 → is_in_marked everywhere (block / size) ≡ true
@@ -190,6 +188,36 @@ module _ {L : Type 0} (type : LegType L) (each : (leg : L) → length (type.mode
 
     pub recovered-equal : EqualOutside type new.stripe new.durable
     recovered-equal = subst (λ (n : Durable). EqualOutside type new.stripe n) (sym r.durable) (subst (λ (x : StripeState L). EqualOutside type x d) (sym r.returns.after) back-equal)
+
+    -- no leg that may be called in sync, or is, came back: so these hold what they held
+    back-guards : (b j : ℕ) → Guards type was d j b → Guards type back d j b
+    back-guards b j guards counts =
+        let ne : j ≢ leg = λ e. not-back (subst (λ (i : ℕ). Counts back d i) e counts) in
+        let before : Counts was d j = ⊎_elim (λ named. inl named) (λ in_sync. inr (sym (state-other j ne) ∙ in_sync)) counts in
+        let was_held = guards before in
+        let contents : slice_get (contents_of type.model back.legs j) b ≡ slice_get (contents_of type.model was.legs j) b = ap (λ (o : Option L). slice_get (contents_at type.model o) b) (other-at j ne) in
+        record {
+          holds = contents ∙ was_held.holds ∙ sym (ap (λ (xs : List Block). slice_get xs b) array-same);
+          durable = ap (λ (o : Option L). slice_get (durable_at type.model o) b) (other-at j ne) ∙ was_held.durable ∙ sym contents;
+        }
+      where
+        not-back : Counts back d leg → ⊥
+        not-back counts = ⊎_elim (λ named. named-not named) (λ in_sync. let clash : InSync ≡ Joining = sym in_sync ∙ state-here in cc) counts
+
+    back-behind : (b : ℕ) → b < was.place.blocks → busy_on b was.records ≡ None → Behind type b was d back d
+    back-behind b inside free = record {
+      stands = back-stands;
+      inside = inside;
+      free = free;
+      count = length-set was.legs leg part;
+      array = ap (λ (xs : List Block). slice_get xs b) array-same;
+      guards = λ j guards. back-guards b j guards;
+    }
+
+    pub recovered-behind : (b : ℕ) → b < was.place.blocks → busy_on b was.records ≡ None → Behind type b was d new.stripe new.durable
+    recovered-behind b inside free =
+        subst (λ (n : Durable). Behind type b was d new.stripe n) (sym r.durable)
+        (subst (λ (x : StripeState L). Behind type b was d x d) (sym r.returns.after) (back-behind b inside free))
 
   module _ (is_honest : IsTrue type.honest) where
     -- over all of the moves

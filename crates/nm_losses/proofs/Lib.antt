@@ -4,5 +4,6 @@ pub mod Explained
 pub mod Gated
 pub mod Lists
 pub mod Marked
+pub mod Outlived
 pub mod Returned
 pub mod Swapped

@@ -3,3 +3,4 @@ pub mod Gated
 pub mod Laws
 pub mod Losing
 pub mod Moves
+pub mod Survive

@@ -4,6 +4,7 @@ ghost use Rattle.nm_leg.specs.Leg.{leg_type};
 ghost use Rattle.nm_losses.specs.Crashing.{PowerTakesTheUnsynced};
 ghost use Rattle.nm_losses.specs.Gated.{EverywhereCoversLosses, GateCoversLosses};
 ghost use Rattle.nm_losses.specs.Laws.{FlushedOutlivesLosses, LossesKeepTheArray};
+ghost use Rattle.nm_losses.specs.Survive.{FlushedSurvivesLosses};
 
 use nm_leg::LegPart;
 
@@ -30,4 +31,9 @@ pub fn gate_covers_losses<L: LegPart>()
 /// Without a superblock they cover whatever it lost.
 pub fn everywhere_covers_losses<L: LegPart>()
     ensures { EverywhereCoversLosses L.model }
+{}
+
+/// What was flushed stays on each leg that the superblock may call in sync, for a start to find.
+pub fn flushed_survives_losses<L: LegPart>()
+    ensures { IsTrue L.honest → FlushedSurvivesLosses (leg_type L.model L.honest) }
 {}
