@@ -14,7 +14,7 @@ unset (b ∷ flags) zero inside is = ap (λ (x : Bool). Some x) is
 unset (b ∷ flags) (suc k) inside is = unset flags k (omega (arith, inside)) is
 
 -- behind its end a list has nothing
-past : (xs : List Block) (k : ℕ) → length xs ≤ k → slice_get xs k ≡ None
+pub past : (xs : List Block) (k : ℕ) → length xs ≤ k → slice_get xs k ≡ None
 past [] k end = refl
 past (x ∷ xs) zero end = absurd (omega (arith, end))
 past (x ∷ xs) (suc k) end = past xs k (omega (arith, end))

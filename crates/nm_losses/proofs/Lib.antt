@@ -1,7 +1,9 @@
 pub mod Attached
 pub mod Crashed
 pub mod Explained
+pub mod Gated
 pub mod Lists
 pub mod Marked
+pub mod Outlived
 pub mod Returned
 pub mod Swapped

@@ -32,7 +32,7 @@ use Rattle.nm_losses.proofs.Explained.{step-explained}
 use Rattle.nm_losses.proofs.Returned.{lost-acts, lost-array, lost-durable, lost-keeps, lost-runs, lost-shape}
 
 -- none halted among more answers: not the first, and none of the others
-none-first : {L : Type 0} (answer : Answer L) (answers : List (Answer L)) → NoneHalted (answer ∷ answers) → NoneHalted (answer ∷ []) × NoneHalted answers
+pub none-first : {L : Type 0} (answer : Answer L) (answers : List (Answer L)) → NoneHalted (answer ∷ answers) → NoneHalted (answer ∷ []) × NoneHalted answers
 none-first Halted answers none = absurd none
 none-first (Begun t) answers none = (tt, none)
 none-first (Pushed n) answers none = (tt, none)

@@ -2,7 +2,9 @@
 ghost use Rattle.std.specs.Prelude.{IsTrue};
 ghost use Rattle.nm_leg.specs.Leg.{leg_type};
 ghost use Rattle.nm_losses.specs.Crashing.{PowerTakesTheUnsynced};
+ghost use Rattle.nm_losses.specs.Gated.{EverywhereCoversLosses, GateCoversLosses};
 ghost use Rattle.nm_losses.specs.Laws.{FlushedOutlivesLosses, LossesKeepTheArray};
+ghost use Rattle.nm_losses.specs.Survive.{FlushedSurvivesLosses};
 
 use nm_leg::LegPart;
 
@@ -19,4 +21,19 @@ pub fn flushed_outlives_losses<L: LegPart>()
 /// Of an honest leg a loss of power takes no more than these laws let it.
 pub fn power_takes_the_unsynced<L: LegPart>()
     ensures { IsTrue L.honest → PowerTakesTheUnsynced L.model }
+{}
+
+/// Behind the gate the marks that a return is given cover what the leg lost, whatever crashes took.
+pub fn gate_covers_losses<L: LegPart>()
+    ensures { IsTrue L.honest → GateCoversLosses (leg_type L.model L.honest) }
+{}
+
+/// Without a superblock they cover whatever it lost.
+pub fn everywhere_covers_losses<L: LegPart>()
+    ensures { EverywhereCoversLosses L.model }
+{}
+
+/// What was flushed stays on each leg that the superblock may call in sync, for a start to find.
+pub fn flushed_survives_losses<L: LegPart>()
+    ensures { IsTrue L.honest → FlushedSurvivesLosses (leg_type L.model L.honest) }
 {}
