@@ -20,7 +20,6 @@ use Rattle.nm_stripe.specs.Run.{NoneHalted}
 use Rattle.nm_gate.specs.Durable.{Durable, is_lacking, is_named}
 use Rattle.nm_gate.specs.Gate.{is_marked_at}
 use Rattle.nm_gate.specs.Held.{HoldsDurably}
-use Rattle.nm_gate.specs.Moves as gate
 use Rattle.nm_gate.specs.Moves.{Clears, Does as GateDoes, Gated, IsEqualAt, Saves}
 use Rattle.nm_gate.specs.Returning.{everywhere}
 use Rattle.nm_gate.specs.Saves.{IsCovered}

@@ -1,11 +1,9 @@
 -- Moves behind the gate with losses among them: what was flushed stays on each leg that may be called in
 -- sync, as none of these comes back.
-use Rattle.std.proofs.Common.{◌≡◌, ⊎_elim, inl, inr, ℕ, ◌<◌, length, IsTrue, List, [], ◌∷◌, None, refl, ◌∙◌, sym, subst, slice_get}
+use Rattle.std.proofs.Common.{◌≡◌, ⊎_elim, inl, ℕ, ◌<◌, length, IsTrue, List, [], ◌∷◌, None, refl, ◌∙◌, sym, subst, slice_get}
 use Rattle.nm_fanout.specs.Records.{busy_on}
 use Rattle.nm_leg.specs.Leg.{IsDurableElsewhere, LegType}
 use Rattle.nm_rules.specs.Array.{contents_of, stripe_array}
-use Rattle.nm_rules.specs.State.{StripeState}
-use Rattle.nm_gate.specs.Durable.{Durable}
 use Rattle.nm_gate.specs.Moves as gate
 use Rattle.nm_gate.specs.Moves.{AllLeave, Clears, Does as GateDoes, Gated, Leaves, NoneStop, Saves, SomeSyncs}
 use Rattle.nm_gate.specs.Survive.{EqualOutside, Stands}
