@@ -1,6 +1,5 @@
 //! Superblocks that are moved from an old place to a new one: which of both count.
 ghost use Rattle.std.specs.Prelude.{◌≡◌, ◌<◌, ◌↔◌, IsTrue};
-ghost use Rattle.nm_assemble.specs.Start.{beside};
 ghost use Rattle.nm_leg_files.specs.TwoPlaces.{AreCarried, AreEarlier, AreLast, AreLater, Counts};
 ghost use Rattle.nm_leg_files.specs.TwoPlaces.{IsMoved, carried_of, earlier_of, last_of, later_of};
 

@@ -1,5 +1,5 @@
 -- One leg more is told, and the others stay.
-use Rattle.std.proofs.Common.{arith, ◌∙◌}
+use Rattle.std.proofs.Common.{arith}
 use Rattle.std.proofs.lemmas.Bool.{cases_eq}
 use Rattle.std.proofs.lemmas.List.{get_or-set_other, get_or-set_same, length-set}
 use Rattle.nm_leg_files.proofs.two_places.carried_superblocks.Goals as goal
