@@ -28,4 +28,4 @@ with_times seen newest =
 -- the legs are as they were when the mirror ended, but for what they hold
 pub record IsAsItWas (s : Settings) (seen own : FoundLegs) : Type 0 where
   pub start : IsChangedStart s seen
-  pub own : own ≡ with_times seen start.newest
+  pub told : own ≡ with_times seen start.newest
