@@ -6,13 +6,6 @@ use Rattle.nm_commands.specs.declared.server_settings.Settings.{Settings}
 use Rattle.nm_leg_files.specs.declared.superblock_choice.FoundLegs.{FoundLegs}
 use Rattle.nm_superblock.specs.declared.superblock.Superblock.{Superblock}
 
--- all legs were changed by the newest superblock, and no leg is forced on the start
-pub record IsChangedStart (s : Settings) (seen : FoundLegs) : Type 0 where
-  pub unforced : s.force_master ≡ None
-  pub newest : Superblock
-  pub greatest : IsNewest 8 newest seen.found
-  pub changed : AreAllChanged newest seen.legs
-
 -- a leg is forced on the start, or no superblock was found, or not all legs were changed
 abbrev pub IsOtherStart : Settings → FoundLegs → Type 0
 IsOtherStart s seen =
@@ -25,7 +18,10 @@ abbrev pub with_times : FoundLegs → Superblock → FoundLegs
 with_times seen newest =
     record seen { legs = record seen.legs { changed = newest.changed } }
 
--- the legs are as they were when the mirror ended, but for what they hold
-pub record IsAsItWas (s : Settings) (seen own : FoundLegs) : Type 0 where
-  pub start : IsChangedStart s seen
-  pub times : own ≡ with_times seen start.newest
+-- all legs were changed by the newest superblock, and no leg is forced on the start: then it goes
+-- by the legs as they were when the mirror ended
+abbrev pub IsAsItWas : Settings → (seen own : FoundLegs) → Type 0
+IsAsItWas s seen own =
+    (s.force_master ≡ None)
+    × ((newest : Superblock) × IsNewest 8 newest seen.found × AreAllChanged newest seen.legs
+    × (own ≡ with_times seen newest))
