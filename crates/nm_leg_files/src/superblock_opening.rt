@@ -31,7 +31,7 @@ pub struct FoundFiles {
     // Which of them this start has made.
     made: [bool; 8],
     // The superblocks of legs that are not here, which are moved into them as they are.
-    pub(crate) carried: [Option<Superblock>; 8],
+    pub(crate) carried: Vec<Option<Superblock>>,
 }
 
 /// The files of superblocks while the server serves.
@@ -133,11 +133,11 @@ fn make_file<R: Files<File = File>>(
 }
 
 // The superblock that is moved as it is into the file of this leg, which is not here.
-fn carried_to(all: &[Option<Superblock>; 8], leg: usize, is_here: bool) -> Option<Superblock> {
-    if is_here || leg >= 8 {
-        return None;
+fn carried_to(all: &[Option<Superblock>], leg: usize, is_here: bool) -> Option<Superblock> {
+    match all.get(leg) {
+        Some(carried) if !is_here => *carried,
+        _ => None,
     }
-    all[leg]
 }
 
 // The superblock's file of this name, of a leg that is missing, as is the file: both are opened
@@ -200,7 +200,7 @@ impl FoundFiles {
             are_beside: matches!(place, SuperblockPlace::Beside),
             limits,
             made: [false; 8],
-            carried: [None; 8],
+            carried: Vec::new(alloc),
         })
     }
 

@@ -235,6 +235,7 @@ impl FoundPlaces {
     /// The superblocks that count. What is moved as it is, where its leg is not here, is noted.
     pub fn superblocks<'a>(
         &mut self,
+        alloc: Global,
         settings: &Settings<'_>,
     ) -> Result<[Option<Superblock>; 8], StartFault<'a>> {
         let Some(own) = &self.old else {
@@ -245,7 +246,10 @@ impl FoundPlaces {
         if settings.force_master.is_none() {
             check_left(&both, &new, &old)?;
         }
-        self.new.carried = carried_superblocks(&both, &new.found);
+        match Vec::from_array(alloc, carried_superblocks(&both, &new.found)) {
+            Ok(carried) => self.new.carried = carried,
+            Err(_) => return Err(StartFault::Memory),
+        }
         Ok(both)
     }
 

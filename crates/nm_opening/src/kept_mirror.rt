@@ -334,7 +334,7 @@ where
     check_all_named(settings, files)?;
     let mut places = FoundPlaces::open(rt, alloc, settings, files)?;
     places.tell(rt, alloc, lines);
-    let mut superblocks = places.superblocks(settings)?;
+    let mut superblocks = places.superblocks(alloc, settings)?;
     let went_by = newest_of(&superblocks);
     if let Some(newest) = &went_by {
         take_added(&mut superblocks, newest.legs);
