@@ -26,7 +26,7 @@ def read(path):
 def rows(memory, times):
     for name, runs in times.items():
         # What plain Rust does in two ways is measured against the one proved way.
-        same = name.removesuffix(", lent").removesuffix(", no threads")
+        same = name.removesuffix(", lent")
         runs[FIRST] = runs[FIRST] or times[same][FIRST]
         work = {did for did, _ in runs[FIRST] + runs[SECOND]}
         assert len(work) == 1, f"{name}: not the same work: {work}"

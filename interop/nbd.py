@@ -21,7 +21,7 @@ import time
 
 TOP = os.path.dirname(os.path.dirname(os.path.abspath(__file__)))
 sys.path.insert(0, f"{TOP}/tools")
-from nbdmirror_control import Control, stripe_of  # pylint: disable=wrong-import-position
+from nbdmirror_control import Control, stripes_in  # pylint: disable=wrong-import-position
 
 PROGRAM = os.path.abspath(os.environ.get("NBDMIRROR", f"{TOP}/crates/nbdmirror/out/nbdmirror"))
 BLOCK = 512
@@ -215,7 +215,7 @@ class Server:
 
     def legs(self):
         """For each stripe how its legs stand. A stripe that stopped has none."""
-        return [stripe_of(line).get("legs", []) for line in self.control("status")[:-1]]
+        return [stripe.get("legs", []) for stripe in stripes_in(self.control("status")[:-1])]
 
     def states(self, leg):
         """How this leg stands in each stripe: in, out, join; None where the stripe stopped."""
@@ -295,13 +295,14 @@ def need_strace():
 
 
 class Traced:
-    """While it stands, the server's calls of these names are written down."""
+    """While it stands, the server's calls of these names are written down, and tampered with as further words say."""
 
-    def __init__(self, server, names):
+    def __init__(self, server, names, *tampering):
         self.pid = server.process.pid
         self.log = f"{server.room}/strace"
+        words = ["-e", f"trace={names}", *(word for it in tampering for word in ("-e", it))]
         self.process = subprocess.Popen(
-            ["strace", "-f", "-qq", "-e", f"trace={names}", "-o", self.log, "-p", str(self.pid)],
+            ["strace", "-f", "-qq", *words, "-o", self.log, "-p", str(self.pid)],
             stdin=subprocess.DEVNULL, stderr=subprocess.DEVNULL)
 
     def __enter__(self):

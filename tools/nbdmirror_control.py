@@ -35,11 +35,21 @@ REFUSED = re.compile(r"(?:fail|attach|replace|retire) \d+: (last|busy|stopped|re
                      r"|is a block device: give --superblock FOLDER|no file|was cut|another file)")
 RETIRED = re.compile(r"retire (\d+): out( unsaved)?")
 REOPENED = re.compile(r"reopen: opened (\d+) left (\d+) stopped (\d+)")
+# What a server says of a mirror as a whole beside its stripes, a word and a colon before it.
+WHOLE = re.compile(r"(?!stripe )[a-z]+: .*")
+EXPORT = re.compile(r"export: size (\d{1,20})(?: name (.+))?")
+VERSION = re.compile(r"server: version (\S{1,64})(?: started (\d{1,20}))?")
 SERVING = re.compile(r"serving: up (\d{1,20}) s")
 MISSING = re.compile(r"leg (\d{1,3}): no file: (.*): (.*?)(?: \(os error \d+\))?")
+LEG_FILE = re.compile(r"leg (\d{1,3}): file (.+)")
+LEG_OUT = re.compile(r"leg (\d{1,3}): out since (\d{1,20})(?:: (.*?)(?: \(os error \d+\))?)?")
+LEG_UNOPENED = re.compile(r"leg (\d{1,3}): cannot be opened: (.*?)(?: \(os error \d+\))?")
+STOPPED = re.compile(r"stopped: last leg (\d{1,3}) stripes((?: \d{1,20})+)")
+FAILED_READS = re.compile(r"leg (\d{1,3}): failed reads (\d{1,20}), the first at byte (\d{1,20})"
+                          r"(?:: (.*?)(?: \(os error \d+\))?)?")
 SUPERBLOCK = re.compile(r"superblock: generation (\d{1,20}) marked (\d{1,20}) unsaved (\d{1,20})( failed)?")
 # What no server sends more of as an answer to `info`.
-MOST_INFO = 16
+MOST_INFO = 64
 
 
 class Trouble(Exception):
@@ -162,8 +172,13 @@ class Control:
 
     def status(self):
         """The stripes, each as a dictionary."""
+        return self.status_of_all()[0]
+
+    def status_of_all(self):
+        """The stripes, each as a dictionary, and what is told beside them of the mirror as a whole."""
         self.send("status")
-        return [stripe_of(line) for line in self.status_lines()]
+        lines = self.status_lines()
+        return stripes_in(lines), whole_in(lines)
 
     def unread(self):
         """The regions that could not be read, so that they were not copied. None where the server does not tell."""
@@ -172,7 +187,7 @@ class Control:
         while found := UNREAD.fullmatch(line := self.next_line()):
             regions.append(dict(zip(("stripe", "region", "offset", "length"), map(int, found.groups()))))
         end = UNREAD_END.fullmatch(line)
-        return {"count": int(end[1]), "regions": regions} if end else None
+        return {"count": int(end[1]), "regions": regions, "left_out": int(end[1]) - len(regions)} if end else None
 
     def metrics(self):
         """What the server has counted, as lines in the text form that Prometheus reads."""
@@ -215,6 +230,35 @@ def missing_in(lines):
     return {int(found[1]): (found[2], found[3]) for found in map(MISSING.fullmatch, lines) if found}
 
 
+def failed_reads_in(lines):
+    """The legs of which reads failed where no other leg is in sync, by what a server says of itself: at how many places,
+    the first byte, and why there."""
+    return [{"leg": int(found[1]), "count": int(found[2]), "first": int(found[3]), "error": found[4]}
+            for found in map(FAILED_READS.fullmatch, lines) if found]
+
+
+def told_of_legs(lines):
+    """What a server says of each leg: the name of its `file`, and of one that is out `out_since` and its `reason`."""
+    legs = {int(found[1]): {"file": found[2], "out_since": None, "reason": None}
+            for found in map(LEG_FILE.fullmatch, lines) if found}
+    for found in filter(None, map(LEG_OUT.fullmatch, lines)):
+        leg = legs.setdefault(int(found[1]), {"file": None})
+        leg.update(out_since=int(found[2]) or None, reason=found[3])
+    return legs
+
+
+def unopened_in(lines):
+    """Why the name of each leg was opened in vain that was, when it was last tried, by what a server says of itself."""
+    return {int(found[1]): found[2] for found in map(LEG_UNOPENED.fullmatch, lines) if found}
+
+
+def with_last_legs(stripes, lines):
+    """These stripes, those that stopped with the leg on which they did, as far as a server says that of itself."""
+    last = {int(stripe): int(found[1]) for found in filter(None, map(STOPPED.fullmatch, lines)) for stripe in found[2].split()}
+    return [{**stripe, "last_leg": last[stripe["stripe"]]} if stripe["stopped"] and stripe["stripe"] in last else stripe
+            for stripe in stripes]
+
+
 def uptime_in(lines):
     """For how many seconds a server has served by what it says of itself, or None."""
     return next((int(found[1]) for found in map(SERVING.fullmatch, lines) if found), None)
@@ -255,6 +299,23 @@ def stripe_of(line):
         "settling": found[2] == "yes",
         "legs": [leg_of(word) for word in found[3].split()],
     }
+
+
+def stripes_in(lines):
+    """The stripes of a status, each as a dictionary."""
+    return [stripe_of(line) for line in lines if not WHOLE.fullmatch(line)]
+
+
+def whole_in(lines):
+    """What a status tells of the mirror as a whole: its `export`, with a `name`, where that can be printed, and a `size` in
+    bytes, and the server's `version`. None of what it does not tell."""
+    export = next(filter(None, map(EXPORT.fullmatch, lines)), None)
+    return {"export": export and {"name": export[2], "size": int(export[1])}, "version": version_in(lines)}
+
+
+def version_in(lines):
+    """The version of a server that says this of itself, or None."""
+    return next((found[1] for found in map(VERSION.fullmatch, lines) if found), None)
 
 
 def legs_in(stripes, state):

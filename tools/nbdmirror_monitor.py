@@ -9,8 +9,9 @@ import subprocess
 import time
 from typing import NamedTuple
 
-from nbdmirror_control import UNIX, count_of_legs, legs_in, superblock_in, uptime_in
-from nbdmirror_report import Copies, mib, named, places, superblock_sentence, unread_sentence
+from nbdmirror_control import UNIX, count_of_legs, failed_reads_in, legs_in, superblock_in, uptime_in, with_last_legs
+from nbdmirror_report import (Copies, failed_reads_sentence, mib, named, places, stopped_groups, stopped_sentence,
+                              superblock_sentence, unread_sentence)
 from nbdmirror_verify import COULD_NOT, OTHER, SAME, line_in, told_in, verdict
 
 # How a comparison ended, by its verdict.
@@ -38,7 +39,7 @@ class Monitor:
 
     def __init__(self):
         self.is_gone, self.uptime, self.is_failed, self.is_unread, self.verify = False, None, False, False, None
-        self.stripes, self.stopped, self.legs, self.copies = {}, set(), {}, Copies()
+        self.stripes, self.stopped, self.legs, self.copies, self.failed_reads = {}, set(), {}, Copies(), {}
 
     def lost(self, why):
         """The server did not answer a look."""
@@ -51,11 +52,11 @@ class Monitor:
         """What is otherwise than at the last look."""
         changes = self.of_server(uptime_in(info))
         # A busy stripe is as it was when it was last seen.
-        self.stripes.update({stripe["stripe"]: stripe for stripe in stripes if not stripe["busy"]})
+        self.stripes.update({stripe["stripe"]: stripe for stripe in with_last_legs(stripes, info) if not stripe["busy"]})
         changes += self.of_superblocks(superblock_in(info))
-        changes += self.of_stopped({number for number, stripe in self.stripes.items() if stripe["stopped"]})
+        changes += self.of_stopped()
         changes += self.of_legs(len(stripes), self.copies.look(stripes, now))
-        changes += self.of_unread(unread)
+        changes += self.of_failed_reads(failed_reads_in(info)) + self.of_unread(unread)
         return changes + self.of_verify(info)
 
     def of_server(self, uptime):
@@ -64,7 +65,7 @@ class Monitor:
         if not self.is_gone and None not in (uptime, self.uptime) and uptime < self.uptime:
             changes = self.lost("it has ended meanwhile")
         if self.is_gone:
-            self.is_gone, self.stripes, self.copies = False, {}, Copies()
+            self.is_gone, self.stripes, self.copies, self.failed_reads = False, {}, Copies(), {}
             changes.append(Change("server-back", "the server serves again"))
         self.uptime = uptime
         return changes
@@ -78,12 +79,14 @@ class Monitor:
             return [Change("superblocks-saved", "superblocks are written again")]
         return []
 
-    def of_stopped(self, stopped):
-        """Stripes that stopped, and those that run again."""
-        changes = [Change(event, f"{named(sorted(numbers))} {text}") for event, text, numbers in (
-            ("stripe-stopped", "stopped", stopped - self.stopped),
-            ("stripe-running", "running again", self.stopped - stopped)) if numbers]
-        self.stopped = stopped
+    def of_stopped(self):
+        """Stripes that stopped, by the leg that failed as their last one in sync, and those that run again."""
+        was, groups = self.stopped, stopped_groups(self.stripes.values())
+        self.stopped = {number for numbers in groups.values() for number in numbers}
+        fresh = [(last, sorted(set(numbers) - was)) for last, numbers in groups.items()]
+        changes = [Change("stripe-stopped", stopped_sentence(numbers, last), last) for last, numbers in fresh if numbers]
+        if running := sorted(was - self.stopped):
+            changes.append(Change("stripe-running", f"{named(running)} running again"))
         return changes
 
     def of_legs(self, count, left):
@@ -115,6 +118,15 @@ class Monitor:
         if tenths > was.tenths:
             return [Change("leg-joining", f"leg {leg} is being copied: {10 * tenths} %, {mib(left)} left", leg)]
         return []
+
+    def of_failed_reads(self, failed):
+        """Legs of which reads failed in more places than before, which stay as the last ones in sync, and those of which
+        none stays failed."""
+        was, self.failed_reads = self.failed_reads, {one["leg"]: one["count"] for one in failed}
+        changes = [Change("reads-failed", failed_reads_sentence(one), one["leg"])
+                   for one in failed if one["count"] > was.get(one["leg"], 0)]
+        return changes + [Change("reads-mended", f"no read of leg {leg} stays failed", leg)
+                          for leg in was if leg not in self.failed_reads]
 
     def of_unread(self, unread):
         """Regions that a copy could not read from the last leg that has them."""

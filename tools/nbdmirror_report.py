@@ -1,17 +1,22 @@
 """What nbdmirrorctl tells a person of a mirror: tables, progress, sentences.
 
-It needs nothing but an interpreter's standard library, and nbdmirror_control.py in its own folder.
+It needs nothing but an interpreter's standard library, and nbdmirror_control.py and nbdmirror_verify.py in its own
+folder.
 """
 from __future__ import annotations
 
 import itertools
 import math
+import time
 from typing import NamedTuple
 
 from nbdmirror_control import count_of_legs, legs_in, legs_of
+from nbdmirror_verify import finding_sentence, is_open
 
 # A copy's rate is that of so many seconds.
 RATE_SECONDS = 15
+# The control port counts in blocks of so many bytes.
+BLOCK = 512
 BLOCKS_PER_MIB = 2048
 STATES = {"in": "in sync", "join": "copying", "out": "out"}
 GREEN, YELLOW, RED = 32, 33, 31
@@ -159,17 +164,38 @@ def width_of(rows):
     return max(map(len, lines_of(rows, None, False)))
 
 
-def rows_of_legs(stripes, copies, is_watched):
-    """A row a leg. How much of a copy is done is known where it was looked at for a while."""
+def moment(second):
+    """A second, counted from 1970 on, as the time of day, with the day where that is another one."""
+    then = time.localtime(second)
+    is_today = then[:3] == time.localtime()[:3]
+    return time.strftime("%H:%M" if is_today else "%Y-%m-%d %H:%M", then)
+
+
+def outage_cell(told):
+    """Why a leg is out, and since when."""
+    since, reason = told.get("out_since"), told.get("reason")
+    return Cell(", ".join(filter(None, (reason, since and moment(since)))))
+
+
+def rows_of_legs(stripes, copies, is_watched, told):
+    """A row a leg. How much of a copy is done is known where it was looked at for a while. What the server told of legs is
+    their files, and since when and why they are out."""
     header = ["leg", "state", "stripes in sync"]
     if copies.of:
         header += ["copied"] * is_watched + ["left", "rate", "time left"]
+    columns = len(header)
+    if told:
+        header += ["file"]
+    if any(leg.get("out_since") or leg.get("reason") for leg in told.values()):
+        header += ["out since"]
     rows = [[Cell(word) for word in header]]
     for leg in legs_of(stripes):
         row = [Cell(str(leg["leg"])), Cell(STATES[leg["state"]], COLOURS[leg["state"]]),
                Cell(f"{leg['in_sync']} of {len(stripes)}")]
         if copy := copies.of.get(leg["leg"]):
             row += [Cell(f"{copy.per_cent()} %")] * is_watched + [Cell(mib(copy.left())), *map(Cell, copy.pace())]
+        own = told.get(leg["leg"], {})
+        row += [Cell("")] * (columns - len(row)) + [Cell(own.get("file") or ""), outage_cell(own)][:len(header) - columns]
         rows.append(row)
     return rows
 
@@ -177,7 +203,7 @@ def rows_of_legs(stripes, copies, is_watched):
 def kind_of(stripe):
     """What two stripes have in common that are told in one row."""
     states = tuple(leg["state"] for leg in stripe.get("legs", []))
-    return stripe["stopped"], stripe["busy"], stripe.get("master"), stripe.get("settling"), states
+    return stripe["stopped"], stripe["busy"], stripe.get("master"), stripe.get("settling"), stripe.get("last_leg"), states
 
 
 def groups_of(stripes):
@@ -214,7 +240,8 @@ def rows_of_stripes(groups, is_short):
                         + [cell_of(leg, is_short) for leg in stripe["legs"]])
         else:
             word = "busy" if stripe["busy"] else "stopped"
-            rows.append([number, Cell(word, COLOURS[word])])
+            last = stripe.get("last_leg")
+            rows.append([number, Cell(word if last is None else f"{word}, its last leg is leg {last}", COLOURS[word])])
     return rows
 
 
@@ -223,12 +250,12 @@ def is_ordinary(stripe):
     return not stripe["stopped"] and not stripe["busy"] and not stripe["settling"]
 
 
-def status_lines(stripes, copies, most, has_colours, *, is_watched=False, is_long=False):
+def status_lines(stripes, copies, most, has_colours, *, is_watched=False, is_long=False, told=None):
     """The status as tables: a row a leg; and one a stripe where all are wanted, or a group of stripes that differ."""
     groups = [([stripe["stripe"]], stripe) for stripe in stripes] if is_long else groups_of(stripes)
     lines = []
     if count_of_legs(stripes):
-        lines += lines_of(rows_of_legs(stripes, copies, is_watched), most, has_colours)
+        lines += lines_of(rows_of_legs(stripes, copies, is_watched, told or {}), most, has_colours)
     if is_long or len(groups) > 1 or not all(is_ordinary(stripe) for _, stripe in groups):
         rows = rows_of_stripes(groups, False)
         if most is not None and width_of(rows) > most:
@@ -252,29 +279,68 @@ def copy_rate_sentence(rate):
     return f"copies go at {rate} MiB/s" if rate else "copies go as fast as clients leave room for"
 
 
-def superblock_sentence(superblock):
-    """How the superblocks stand, or nothing where there are none."""
+def marks_sentence(marked, stripes):
+    """How many spans are marked, and whether that is well: where legs are in sync, marks go soon after the last write."""
+    if not marked:
+        return "no span is marked"
+    is_whole = not legs_in(stripes, "out") and not legs_in(stripes, "join") and not any(one["stopped"] for one in stripes)
+    why = "which is well: something was written of late" if is_whole else "until all legs are in sync"
+    return f"{marked} {'span is' if marked == 1 else 'spans are'} marked, {why}"
+
+
+def superblock_sentence(superblock, stripes=()):
+    """How the superblocks of these stripes stand, or nothing where there are none."""
     if not superblock:
         return ""
     if superblock["failed"]:
         return "superblocks cannot be written: the mirror is read-only"
     marked, unsaved = superblock["marked_spans"], superblock["unsaved_stripes"]
     parts = [f"superblock: generation {superblock['generation']}",
-             f"{marked} {'span is' if marked == 1 else 'spans are'} marked"]
+             marks_sentence(marked, stripes)]
     if unsaved:
         parts.append(f"a loss in {unsaved} {'stripe' if unsaved == 1 else 'stripes'} is being saved")
     return ", ".join(parts)
 
 
-def health(stripes, unread=None, superblock=None):
+def failed_reads_sentence(failed):
+    """That reads failed of a leg which stays, since no other is in sync there."""
+    count, error = failed["count"], failed["error"]
+    return f"{count} {'read' if count == 1 else 'reads'} of leg {failed['leg']} failed, the last leg in sync there, " \
+           f"the first at byte {failed['first']}{': ' if error else ''}{error or ''}"
+
+
+def stopped_groups(stripes):
+    """The stripes that are stopped, by the leg on which they stopped: None where that is not known."""
+    groups = {}
+    for stripe in stripes:
+        if stripe["stopped"]:
+            groups.setdefault(stripe.get("last_leg"), []).append(stripe["stripe"])
+    return groups
+
+
+def stopped_sentence(numbers, last):
+    """That these stripes are stopped, and on which leg, where that is known."""
+    whose = "its" if len(numbers) == 1 else "their"
+    return f"{named(numbers)} stopped" + (f", {whose} last leg is leg {last}" if last is not None else "")
+
+
+def waits_sentence(stripes):
+    """What stripes that stopped wait for."""
+    told = "; ".join(stopped_sentence(numbers, last) for last, numbers in stopped_groups(stripes).items())
+    return f"{told}: mend what failed, then nbdmirrorctl reopen all"
+
+
+def health(stripes, unread=None, superblock=None, failed_reads=(), finding=None):
     """What a monitoring check says: its level, and why in a line."""
     found, count = [], len(stripes)
+    found += [(CRITICAL, failed_reads_sentence(failed)) for failed in failed_reads]
+    if is_open(finding):
+        found.append((CRITICAL, finding_sentence(finding)))
     if superblock and superblock["failed"]:
         found.append((CRITICAL, superblock_sentence(superblock)))
     if text := unread_sentence(unread):
         found.append((CRITICAL, text))
-    if stopped := [stripe["stripe"] for stripe in stripes if stripe["stopped"]]:
-        found.append((CRITICAL, f"{named(stopped)} stopped"))
+    found += [(CRITICAL, stopped_sentence(numbers, last)) for last, numbers in stopped_groups(stripes).items()]
     for leg, left in sorted(legs_in(stripes, "out").items()):
         found.append((CRITICAL, f"leg {leg} is out in {places(len(left), count)}"))
     for leg, left in sorted(legs_in(stripes, "join").items()):
@@ -285,6 +351,15 @@ def health(stripes, unread=None, superblock=None):
         legs = count_of_legs(stripes)
         return OK, f"{legs} {'leg' if legs == 1 else 'legs'} in sync in {places(count, count)}"
     return max(level for level, _ in found), "; ".join(text for _, text in found)
+
+
+def whole_line(level, whole):
+    """The mirror as a whole in a line, where its server tells of that: its word, the export, and the server's version."""
+    export, version = whole["export"], whole["version"]
+    if not export:
+        return ""
+    name = f" {export['name']}" if export["name"] else ""
+    return check_line(level, f"export{name}, {mib(export['size'] / BLOCK)}" + (f", nbdmirror {version}" if version else ""))
 
 
 def check_line(level, text):
@@ -343,8 +418,12 @@ REFUSALS = {
 }
 
 
-def refusal_sentence(leg, word, missing=None):
-    """Why a server does not do what was asked of a leg. Of one whose file is missing its name and the reason are known."""
+def refusal_sentence(leg, word, missing=None, unopened=None):
+    """Why a server does not do what was asked of a leg. Of one whose file is missing its name and the reason at the start are
+    known, of one whose name was just opened in vain its name and the reason."""
+    if unopened and word == "no file":
+        name, reason = unopened
+        return f"leg {leg} ({name}) cannot be opened: {reason}"
     if not missing:
         return f"leg {leg} {REFUSALS[word].format(leg=leg)}"
     name, reason = missing
@@ -358,14 +437,17 @@ def missing_sentences(missing):
     return [f"leg {leg} ({name}) is not open: {reason}" for leg, (name, reason) in sorted(missing.items())]
 
 
-def reopen_sentence(opened, left, stopped):
-    """What became of stripes that were to be opened anew."""
-    told = []
+def reopen_sentence(opened, left, stopped, is_writable=False, out=()):
+    """What became of stripes that were to be opened anew, of a mirror that could not be written to, and of legs that
+    stay out."""
+    told = ["superblocks are written again: the mirror is no longer read-only"] * is_writable
     if opened:
         told.append(f"{opened} {'stripe was' if opened == 1 else 'stripes were'} opened anew, {mib(left)} to copy")
     if stopped:
         told.append(f"{stopped} {'stripe stays' if stopped == 1 else 'stripes stay'} stopped")
-    return "; ".join(told) or "no stripe was stopped"
+    told = told or ["no stripe was stopped"]
+    told += [f"leg {leg} stays out: nbdmirrorctl attach {leg}" for leg in out]
+    return "; ".join(told)
 
 
 def sentence(leg, parts, stopped, count):

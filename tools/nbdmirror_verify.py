@@ -16,6 +16,11 @@ PLACE = re.compile(r"stripe (\d+) region (\d+)")
 UNREAD = re.compile(r"; (\d{1,20}) regions could not be read, the first at((?:,? ?leg \d+ stripe \d+ region \d+)+)")
 UNREAD_PLACE = re.compile(r"leg (\d+) stripe (\d+) region (\d+)")
 MISSED = re.compile(r"; (\d{1,20}) regions could not be compared")
+FINDING = re.compile(r"finding: differing (\d{1,20}) compared (\d{1,20}) age (\d{1,20}) (open|partly|older) at"
+                     r"((?: \d{1,20}\+\d{1,20})*)")
+# What is said of a finding, by whether legs were replaced since.
+STANDS = {"open": "", "partly": ", before a leg was replaced",
+          "older": ", and are older than the copy of the leg that was replaced"}
 # How long it is waited at first, and at most, before the server is asked again.
 FIRST_PAUSE_SECONDS, PAUSE_SECONDS = 0.05, 1
 # The exit status where legs are equal, where some differ, and where they could not all be compared.
@@ -35,13 +40,46 @@ def told_in(lines):
         return None
 
 
-def sentence_of(told):
-    """What a status says of a comparison: how far it is, or what differs. Else nothing."""
-    if told and told["state"] == "running":
-        return f"legs are being compared: {told['percent']} %"
+def sentence_of(told, finding=None):
+    """What a status says of comparisons: how far one is, and what differs. Else nothing."""
+    running = f"legs are being compared: {told['percent']} %" if told and told["state"] == "running" else ""
+    if running or finding:
+        return "\n".join(filter(None, (running, finding and finding_sentence(finding))))
     if told and told.get("differing"):
         return f"{told['differing']} of {told['compared']} regions differ by the last verify: see `nbdmirrorctl info`"
     return ""
+
+
+def finding_in(lines):
+    """What the last comparison found that found a difference, by what a server says of itself, or None."""
+    found = next(filter(None, map(FINDING.fullmatch, lines)), None)
+    if not found:
+        return None
+    regions = [dict(zip(("offset", "length"), map(int, place.split("+")))) for place in found[5].split()]
+    return {"differing": int(found[1]), "compared": int(found[2]), "seconds_ago": int(found[3]), "state": found[4],
+            "regions": regions, "left_out": int(found[1]) - len(regions)}
+
+
+def is_open(finding):
+    """Whether something still differs, as far as is known."""
+    return bool(finding) and finding["state"] != "older"
+
+
+def ago(seconds):
+    """How long ago it was."""
+    if seconds < 120:
+        return f"{seconds} s ago"
+    return f"{seconds // 60} min ago" if seconds < 7200 else f"{seconds // 3600} h ago"
+
+
+def finding_sentence(finding):
+    """What differs, where in the export, and when that was found. The first eight regions are named."""
+    named = [f"{region['length']} bytes at {region['offset']}" for region in finding["regions"][:8]]
+    more = finding["differing"] - len(named)
+    places = ", ".join(named + [f"{more} more"] * (more > 0))
+    verb = "differ" if is_open(finding) else "differed"
+    return f"{finding['differing']} of {finding['compared']} regions {verb} by the last verify, " \
+           f"{ago(finding['seconds_ago'])}{STANDS[finding['state']]}: {places}"
 
 
 def found_in(line):

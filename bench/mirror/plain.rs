@@ -1,9 +1,7 @@
 // The same work in plain Rust, with the standard library alone: stripes behind locks, one hold of a
-// lock for each step, in each stripe the same rules, records, regions and history, and calls in the
-// same rounds, whose halves have a thread each where both have a region's blocks. A call of the
-// mirror beside another starts none; one here does, but for the rows without threads.
+// lock for each step, in each stripe the same rules, records, regions and history, and calls that
+// go one region after the other.
 use std::hint::black_box;
-use std::ops::Range;
 use std::sync::{Arc, Mutex};
 use std::thread;
 use std::time::Instant;
@@ -17,7 +15,6 @@ const BYTES: u64 = 512 * BLOCKS;
 const TURNS: u64 = 16;
 const ROUNDS: u32 = 5;
 const MOST: usize = 1 << 20;
-const MOST_AT_ONCE: usize = 8;
 
 // A stripe of so many blocks, which two legs have.
 fn open_stripe(blocks: u64) -> Stripe {
@@ -43,16 +40,14 @@ impl Part {
 struct Mirror {
     stripes: Vec<Mutex<Stripe>>,
     region: u64,
-    side_by_side: bool,
 }
 
 impl Mirror {
-    fn new(stripes: u64, side_by_side: bool) -> Mirror {
+    fn new(stripes: u64) -> Mirror {
         let open = |_| Mutex::new(open_stripe(BLOCKS / stripes));
         Mirror {
             stripes: (0..stripes).map(open).collect(),
             region: black_box(REGION),
-            side_by_side,
         }
     }
 
@@ -63,40 +58,10 @@ impl Mirror {
         ((region % stripes) as usize, in_stripe)
     }
 
-    // The next round of so many blocks from this one on: its stripes, and how many blocks it has.
-    fn round(&self, block: u64, blocks: usize) -> (Range<usize>, usize) {
-        let (stripe, _) = self.place(block);
-        let last = (block + blocks as u64 - 1) / self.region;
-        let region = block / self.region;
-        let stripes = ((last - region + 1) as usize)
-            .min(self.stripes.len() - stripe)
-            .min(MOST_AT_ONCE);
-        let end = (region + stripes as u64) * self.region;
-        (stripe..stripe + stripes, blocks.min((end - block) as usize))
-    }
-
-    // How many of a round's blocks are those of its first so many stripes.
-    fn lower_half(&self, block: u64, half: usize) -> usize {
-        ((block / self.region + half as u64) * self.region - block) as usize
-    }
-
-    // Both halves of a round, side by side where each has a region's blocks.
-    fn do_both(
-        &self,
-        low: usize,
-        high: usize,
-        lower: impl FnOnce() + Send,
-        upper: impl FnOnce() + Send,
-    ) {
-        if self.side_by_side && low as u64 >= self.region && high as u64 >= self.region {
-            thread::scope(|scope| {
-                scope.spawn(upper);
-                lower();
-            });
-        } else {
-            lower();
-            upper();
-        }
+    // The stripe of a block, and how many of so many blocks from it on lie in its region.
+    fn run(&self, block: u64, blocks: usize) -> (usize, usize) {
+        let left = self.region - block % self.region;
+        (self.place(block).0, blocks.min(left as usize))
     }
 
     // One hold of one lock.
@@ -127,56 +92,31 @@ impl Mirror {
         part.note(receipt.number, blocks);
     }
 
-    fn write_round(&self, parts: &mut [Part], block: u64, received: &Arc<[u8]>, cut: Range<usize>) {
-        if let [part] = parts {
-            self.write_run(part, block, Data::Cut(received.clone(), cut));
-            return;
-        }
-        let half = parts.len() / 2;
-        let low = self.lower_half(block, half);
-        let (front, back) = parts.split_at_mut(half);
-        let middle = cut.start + low * 512;
-        let high = (cut.end - middle) / 512;
-        let lower = || self.write_round(front, block, received, cut.start..middle);
-        let upper = || self.write_round(back, block + low as u64, received, middle..cut.end);
-        self.do_both(low, high, lower, upper);
-    }
-
     fn write(&self, parts: &mut [Part], offset: u64, received: &Arc<[u8]>, len: usize) {
         let (mut block, mut at) = (offset / 512, 0);
         while at < len {
-            let (stripes, blocks) = self.round(block, (len - at) / 512);
+            let (stripe, blocks) = self.run(block, (len - at) / 512);
             let end = at + blocks * 512;
-            self.write_round(&mut parts[stripes], block, received, at..end);
+            let data = Data::Cut(received.clone(), at..end);
+            self.write_run(&mut parts[stripe], block, data);
             (block, at) = (block + blocks as u64, end);
         }
     }
 
-    fn read_round(&self, parts: &mut [Part], block: u64, into: &mut [u8]) {
-        if let [part] = parts {
-            let (stripe, block) = self.place(block);
-            let receipt = self
-                .step(stripe, part, |held| held.read(block, into))
-                .unwrap();
-            part.note(receipt.number, into.len() as u64 / 512);
-            return;
-        }
-        let half = parts.len() / 2;
-        let low = self.lower_half(block, half);
-        let (front, back) = parts.split_at_mut(half);
-        let (own, rest) = into.split_at_mut(low * 512);
-        let high = rest.len() / 512;
-        let lower = || self.read_round(front, block, own);
-        let upper = || self.read_round(back, block + low as u64, rest);
-        self.do_both(low, high, lower, upper);
+    fn read_run(&self, part: &mut Part, block: u64, into: &mut [u8]) {
+        let (stripe, block) = self.place(block);
+        let receipt = self
+            .step(stripe, part, |held| held.read(block, into))
+            .unwrap();
+        part.note(receipt.number, into.len() as u64 / 512);
     }
 
     fn read(&self, parts: &mut [Part], offset: u64, into: &mut [u8]) {
         let (mut block, mut left) = (offset / 512, into);
         while !left.is_empty() {
-            let (stripes, blocks) = self.round(block, left.len() / 512);
+            let (stripe, blocks) = self.run(block, left.len() / 512);
             let (own, rest) = left.split_at_mut(blocks * 512);
-            self.read_round(&mut parts[stripes], block, own);
+            self.read_run(&mut parts[stripe], block, own);
             (block, left) = (block + blocks as u64, rest);
         }
     }
@@ -262,8 +202,8 @@ fn export_sum(mirror: &Mirror, parts: &mut [Part]) -> u64 {
     bytes.iter().fold(0, add)
 }
 
-fn round(row: Row, side_by_side: bool) -> (u64, u64) {
-    let mirror = Mirror::new(row.stripes, side_by_side);
+fn round(row: Row) -> (u64, u64) {
+    let mirror = Mirror::new(row.stripes);
     let mut clients: Vec<_> = (0..row.threads)
         .map(|number| Client::new(row, number))
         .collect();
@@ -299,16 +239,15 @@ fn round(row: Row, side_by_side: bool) -> (u64, u64) {
     (nanos, told ^ there ^ had)
 }
 
-fn print_rounds(row: Row, name: &str, side_by_side: bool) {
+fn print_rounds(row: Row, name: &str) {
     for _ in 0..ROUNDS {
-        let (nanos, sum) = round(row, side_by_side);
+        let (nanos, sum) = round(row);
         let (blocks, bytes) = (TURNS * BLOCKS, TURNS * BYTES);
         println!("{name}: {blocks} {bytes} {sum} {nanos}");
     }
 }
 
-// All rows, or the one that the first word names. A call that goes in rounds is timed a second time
-// without threads for the halves.
+// All rows, or the one that the first word names.
 fn main() {
     let only = std::env::args().nth(1);
     for (size, called) in [(4096, "4K"), (65_536, "64K"), (1 << 20, "1M")] {
@@ -325,10 +264,7 @@ fn main() {
                     if only.as_ref().is_some_and(|only| *only != name) {
                         continue;
                     }
-                    print_rounds(row, &name, true);
-                    if size > 512 * REGION && stripes > 1 {
-                        print_rounds(row, &format!("{name}, no threads"), false);
-                    }
+                    print_rounds(row, &name);
                 }
             }
         }

@@ -97,4 +97,4 @@ class SameCommand(h.Server):
 
     def masters(self):
         """The master of each stripe that runs."""
-        return [it["master"] for it in map(h.stripe_of, self.control("status")[:-1]) if "master" in it]
+        return [it["master"] for it in h.stripes_in(self.control("status")[:-1]) if "master" in it]

@@ -5,8 +5,8 @@
     tests/superblocks/example.py --hex           the same as text, as in example.hex
     tests/superblocks/example.py --rows          its rows of 16 bytes that are not zero, as in the test of nm_storage_tests
     tests/superblocks/example.py --check         fails where a file of bytes or that test has others
-    tests/superblocks/example.py --version-1 ..  the same, of version 1 of the format, as in example-1.hex
-    tests/superblocks/example.py --as-version-1 FILE     makes a file of superblocks one of version 1
+    tests/superblocks/example.py --version-N ..  the same, of version N of the format: 1 and 2 as in example-N.hex
+    tests/superblocks/example.py --as-version-N FILE     makes a file of superblocks one of this version, 1 or 2
 """
 import hashlib
 import os
@@ -60,11 +60,16 @@ def payload(version):
     return with_digest(head, tail)
 
 
+def header(version, number, generation):
+    start = b"NMRS" + bytes([version, number])
+    check = int.from_bytes(start + generation, "big") % 65521 + 1 if version == 3 else 0
+    return start + check.to_bytes(2, "big") + generation
+
+
 def slot_of(version, generation, whole):
     assert len(whole) == 8 * 496
     return b"".join(
-        b"NMRS" + bytes([version, number, 0, 0]) + generation
-        + whole[496 * number:496 * number + 496]
+        header(version, number, generation) + whole[496 * number:496 * number + 496]
         for number in range(8))
 
 
@@ -72,17 +77,18 @@ def slot(version):
     return slot_of(version, GENERATION.to_bytes(8, "big"), payload(version))
 
 
-def as_version_1(path):
-    """Makes each superblock of the file one of version 1: it tells of no identities and no times."""
+def as_version(version, path):
+    """Makes each superblock of the file one of this version: one of version 1 tells of no identities and no times."""
     with open(path, "r+b") as file:
         for at in (0, 4096):
             file.seek(at)
             old = file.read(4096)
             if old[:4] == b"NMRS":
                 whole = b"".join(old[512 * n + 16:512 * n + 512] for n in range(8))
-                made = slot_of(1, old[8:16], with_digest(whole[:424], whole[432:2544] + bytes(1424)))
+                if version == 1:
+                    whole = with_digest(whole[:424], whole[432:2544] + bytes(1424))
                 file.seek(at)
-                file.write(made)
+                file.write(slot_of(version, old[8:16], whole))
 
 
 def as_hex(made):
@@ -103,7 +109,7 @@ def contents(path):
 
 def check():
     wrong = []
-    for version, name in ((2, "example.hex"), (1, "example-1.hex")):
+    for version, name in ((3, "example.hex"), (2, "example-2.hex"), (1, "example-1.hex")):
         made = slot(version)
         if contents(os.path.join(FOLDER, name)) != as_hex(made):
             wrong.append(name)
@@ -114,9 +120,10 @@ def check():
 
 if __name__ == "__main__":
     words = sys.argv[1:]
-    made = slot(1 if "--version-1" in words else 2)
+    asked = [int(word[10:]) for word in words if word.startswith("--version-")]
+    made = slot(*asked or [3])
     assert len(made) == 4096
-    words = [word for word in words if word != "--version-1"]
+    words = [word for word in words if not word.startswith("--version-")]
     if words == ["--hex"]:
         print(as_hex(made), end="")
     elif words == ["--rows"]:
@@ -124,7 +131,7 @@ if __name__ == "__main__":
     elif words == ["--check"]:
         wrong = check()
         sys.exit(f"other bytes: {wrong}" if wrong else 0)
-    elif words[:1] == ["--as-version-1"]:
-        as_version_1(words[1])
+    elif words[:1] in (["--as-version-1"], ["--as-version-2"]):
+        as_version(int(words[0][13:]), words[1])
     else:
         sys.stdout.buffer.write(made)

@@ -3,3 +3,4 @@ pub mod SaveLemmas
 pub mod SureLemmas
 mod SetLemmas
 mod OwnLemmas
+mod NumberingLemmas

@@ -108,7 +108,7 @@ pub record GoesOn (s image : Superblock) : Type 0 where
   pub leg_ids : image.leg_ids ≡ s.leg_ids
   pub seen : image.seen ≡ s.seen
   pub unclean : image.clean ≡ false
-  pub version : image.version ≡ 2
+  pub version : image.version ≡ 3
 
 -- the image of a start by the newest superblock, in which this leg was asked for or none
 pub record IsImage (asked : Option ℕ) (a : Assembly) (here : List Bool)
@@ -159,6 +159,6 @@ pub record IsFirst (new : NewMirror) (master : ℕ) (equal : List Bool) (image :
   pub unclean : image.clean ≡ false
   pub unmarked : IsUnmarked 16384 image.marked
   pub sets : NamesAlone 64 new.stripes master equal image.sets
-  pub version : image.version ≡ 2
+  pub version : image.version ≡ 3
   pub identities : image.identities ≡ new.identities
   pub changed : image.changed ≡ replicate 8 0

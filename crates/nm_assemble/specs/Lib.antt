@@ -3,6 +3,7 @@ pub mod Changes
 pub mod Image
 pub mod Legs
 pub mod Lineages
+pub mod Numbering
 pub mod Masters
 pub mod Own
 pub mod Saves

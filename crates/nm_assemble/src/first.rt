@@ -37,7 +37,7 @@ pub fn first_superblock(new: &NewMirror, master: usize, equal: &[bool; 8]) -> Su
     ensures { IsFirst new.now master equal.now result }
 {
     Superblock {
-        version: 2,
+        version: 3,
         generation: 0,
         mirror: new.mirror,
         blocks: new.blocks,
@@ -65,7 +65,7 @@ pub fn forced_image(newest: &Superblock, leg: usize, lineage: u64, legs: &LegsHe
 {
     let fork = begin_lineage(newest, lineage);
     Superblock {
-        version: 2,
+        version: 3,
         leg: 0,
         clean: false,
         sets: sets_alone(newest.stripes, leg, &[false; 8]),

@@ -28,7 +28,7 @@ impl Assembly {
         image.sets = self.sets(here, asked);
         image.leg = 0;
         image.clean = false;
-        image.version = 2;
+        image.version = 3;
         image.identities = recorded(&self.newest.identities, here, identities);
         image.changed = kept_times(&self.newest.changed, here);
         image

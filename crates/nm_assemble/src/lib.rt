@@ -11,6 +11,7 @@ pub use masters::master_of;
 pub use misfit::{Misfit, first_misfit};
 pub use missing::missing_leg;
 pub use newest::newest_of;
+pub use numbering::{Misnumbered, leg_numbers};
 pub use own::{LegsHere, own_legs};
 
 mod assembly;
@@ -25,5 +26,6 @@ mod masters;
 mod misfit;
 mod missing;
 mod newest;
+mod numbering;
 mod own;
 mod stripe_sets;

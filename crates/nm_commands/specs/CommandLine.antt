@@ -98,13 +98,14 @@ copying_command policies starts = with_rule (with_rule (with_rule (mirror_comman
 -- The same, and the options that say where superblocks are and what a start makes of them.
 abbrev pub with_superblock_options : App → App
 with_superblock_options app =
-    with_rule (with_rule (with_rule (with_rule (with_rule (with_rule app
+    with_rule (with_rule (with_rule (with_rule (with_rule (with_rule (with_rule app
     (parsed_rule (codes "superblock") (codes "beside") vp.NonEmptyString))
     (bare_rule (codes "superblock-from")))
     (flag_rule (codes "degraded")))
     (bare_number_rule (codes "force-master") (pos 0) (pos 7)))
     (repeated_rule (codes "add-leg") (pos 0) (pos 7)))
-    (repeated_rule (codes "moved") (pos 0) (pos 7))
+    (repeated_rule (codes "moved") (pos 0) (pos 7)))
+    (flag_rule (codes "shrink"))
 
 -- The same, and the options that say what the server does with its clients. `v` is 118.
 abbrev pub with_client_options : App → App

@@ -16,7 +16,7 @@ use Rattle.nm_commands.specs.declared.start.Start.{Start}
 use Rattle.nm_commands.specs.declared.start.Start.TheVariants.{Compare, Equal, Full}
 use Rattle.nm_commands.specs.declared.superblock_place.SuperblockPlace.{SuperblockPlace}
 use Rattle.nm_commands.specs.declared.superblock_place.SuperblockPlace.TheVariants.{Beside, Folder}
-use Rattle.nm_commands.specs.declared.superblock_place.SuperblockPlace.TheVariants.{Nowhere}
+use Rattle.nm_commands.specs.declared.superblock_place.SuperblockPlace.TheVariants.{Inside, Nowhere}
 use Rattle.nm_commands.specs.declared.server_settings.Settings.{Settings}
 use Rattle.nm_commands.specs.CommandLine.{ArePolicies, AreStarts, nbdmirror}
 
@@ -31,12 +31,14 @@ start_text Compare = codes "compare"
 start_text Full = codes "full"
 start_text Equal = codes "equal"
 
--- The word says that superblocks are there: any other word than these two is a folder's name.
+-- The word says that superblocks are there: any other word than these three is a folder's name.
 abbrev pub IsPlaceOf : Option Text → SuperblockPlace → Type 0
 IsPlaceOf word Nowhere = word ≡ Some (codes "none")
 IsPlaceOf word Beside = word ≡ Some (codes "beside")
+IsPlaceOf word Inside = word ≡ Some (codes "inside")
 IsPlaceOf word (Folder name) =
     (word ≡ Some name.now) × (name.now ≢ codes "none") × (name.now ≢ codes "beside")
+    × (name.now ≢ codes "inside")
 
 -- The place is the one that the word says, and none where there is no word.
 abbrev pub HasPlace : Option Text → Option SuperblockPlace → Type 0
@@ -93,11 +95,13 @@ pub record HasSettings (rows : List Row) (s : Settings) : Type 0 where
   pub master : HasNumber rows (codes "master") s.master
   pub start : first_of (codes "start") rows ≡ Some (start_text s.start)
   pub superblock : IsPlaceOf (first_of (codes "superblock") rows) s.superblock
+  pub names_superblock : TellsNamed rows (codes "superblock") s.names_superblock
   pub superblock_from : HasPlace (first_of (codes "superblock-from") rows) s.superblock_from
   pub degraded : HasFlag rows (codes "degraded") s.degraded
   pub force_master : HasNumber rows (codes "force-master") s.force_master
   pub added : AreAll (all_of (codes "add-leg") rows) (map (λ leg. leg.now) s.added.items)
   pub moved : AreAll (all_of (codes "moved") rows) (map (λ leg. leg.now) s.moved.items)
+  pub shrink : HasFlag rows (codes "shrink") s.shrink
   pub auto_attach : HasFlag rows (codes "auto-attach") s.auto_attach
   pub copy_rate : HasNumber rows (codes "copy-rate") s.copy_rate
   pub leg_timeout : HasNumber rows (codes "leg-timeout") s.leg_timeout

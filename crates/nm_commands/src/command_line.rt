@@ -22,6 +22,7 @@ use crate::superblock_options::{
     added_legs, moved_legs, place_from, superblock_place, with_superblock_options,
 };
 use crate::values::{bare_number, number, text};
+use crate::version::VERSION;
 use clap::error::ErrorKind;
 use clap::parser::ValueSource;
 use clap::{ArgMatches, Command, Error};
@@ -39,7 +40,7 @@ fn base_command<'a>(alloc: Global) -> Result<Command<'a>, Error>
     ensures memory { IfErr result (λ error. kind_of error ≡ OutOfMemory) }
 {
     let program = Command::new(alloc, "nbdmirror")
-        .version("0.1.0")
+        .version(VERSION)
         .bin_name("nbdmirror")?;
     let listen = option(
         alloc,
@@ -279,11 +280,13 @@ fn settings_of<'a>(alloc: Global, matches: &ArgMatches<'a>) -> Result<Settings<'
         master,
         start,
         superblock,
+        names_superblock: is_named(matches, "superblock"),
         superblock_from,
         degraded: matches.get_flag("degraded"),
         force_master,
         added,
         moved,
+        shrink: matches.get_flag("shrink"),
         auto_attach: matches.get_flag("auto-attach"),
         copy_rate: copy_rate(matches)?,
         leg_timeout: leg_timeout(matches)?,

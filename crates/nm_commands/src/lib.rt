@@ -14,6 +14,7 @@ mod start;
 mod superblock_options;
 mod superblock_place;
 mod values;
+mod version;
 
 pub use crate::command_line::settings;
 pub use crate::control_command::{ControlCommand, control_line};
@@ -21,3 +22,4 @@ pub use crate::line_room::{Fed, LineRoom};
 pub use crate::server_settings::Settings;
 pub use crate::start::Start;
 pub use crate::superblock_place::SuperblockPlace;
+pub use crate::version::VERSION;

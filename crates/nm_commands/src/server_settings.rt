@@ -25,6 +25,8 @@ pub struct Settings<'a> {
     pub start: Start,
     /// Where the legs' superblocks are.
     pub superblock: SuperblockPlace<'a>,
+    /// Whether the words say so.
+    pub names_superblock: bool,
     /// Where they are taken from, where that was named: they were kept there so far.
     pub superblock_from: Option<SuperblockPlace<'a>>,
     /// Whether the server starts though a leg that is not there may be newer.
@@ -35,6 +37,8 @@ pub struct Settings<'a> {
     pub added: Vec<&'a str>,
     /// The legs that were moved with their superblocks: each is a number.
     pub moved: Vec<&'a str>,
+    /// Whether what legs have in their last 64 KiB may go for superblocks inside them.
+    pub shrink: bool,
     /// Whether a leg that went out by a failed call is attached again by itself.
     pub auto_attach: bool,
     /// At how many MiB a second legs are copied, where that was named.

@@ -25,7 +25,7 @@ fn superblock_option<'a>(alloc: Global) -> Arg<'a>
         "superblock",
         "beside",
         "PLACE",
-        "where superblocks are: beside the legs, none, or a folder",
+        "where superblocks are: beside or inside the legs, none, or a folder",
     )
     .value_parser(ValueParser::NonEmptyString)
 }
@@ -85,7 +85,13 @@ pub fn with_superblock_options<'a>(
         7,
         "this leg was moved to another file or disk with its superblock",
     );
-    let command = with_add_leg.arg(moved)?;
+    let with_moved = with_add_leg.arg(moved)?;
+    let shrink = flag(
+        alloc,
+        "shrink",
+        "what new legs have in their last 64 KiB may go for superblocks inside",
+    );
+    let command = with_moved.arg(shrink)?;
     Ok(command)
 }
 
@@ -96,6 +102,7 @@ fn place_of<'a>(word: &'a str) -> SuperblockPlace<'a>
     match word {
         "none" => SuperblockPlace::Nowhere,
         "beside" => SuperblockPlace::Beside,
+        "inside" => SuperblockPlace::Inside,
         folder => SuperblockPlace::Folder(folder),
     }
 }

@@ -5,6 +5,8 @@ pub enum SuperblockPlace<'a> {
     Nowhere,
     /// Each is beside its leg.
     Beside,
+    /// Each is in the last 64 KiB of its leg.
+    Inside,
     /// They are in this folder.
     Folder(&'a str),
 }

@@ -5,14 +5,16 @@ use crate::copy_orders::CopyOrders;
 use crate::reopening::reopen;
 use crate::replacing::{RenewsLegs, Replaced};
 use crate::retiring::{is_retired, put_retire};
+use crate::stopped::put_stopped;
 use crate::verify_answers::{put_known, put_verify, put_verify_stop};
+use crate::whole::put_status;
 use nm_commands::{ControlCommand, Fed, LineRoom, control_line};
 use nm_lanes::Gate;
 use nm_leg::LegPart;
-use nm_leg_files::{MakesLegs, Unattached};
+use nm_leg_files::{AttachAnswer, MakesLegs, Unfit};
 use nm_mirror::Mirror;
 use nm_places::{Quit, SessionPlaces};
-use nm_reports::put_metrics;
+use nm_reports::{Known, put_metrics};
 use std::alloc::{AllocError, Global};
 use std::io;
 use std::io::{Read, Write};
@@ -31,22 +33,6 @@ enum After {
     GoOn,
     Close,
     Quit(Quit),
-}
-
-// The answer to `status`.
-fn put_status<R: Wait + Clock, L: LegPart, G: Gate + Drop>(
-    rt: &R,
-    alloc: Global,
-    mirror: &Mirror<L, G>,
-    text: &mut String,
-) -> Result<(), AllocError> {
-    let Ok(stripes) = mirror.glance(rt, alloc) else {
-        return Err(AllocError);
-    };
-    for (stripe, glance) in stripes.iter().enumerate() {
-        writeln!(text, "stripe {stripe}: {glance}")?;
-    }
-    text.push_str("end\n")
 }
 
 // Ends an answer on what was done to a leg, once a superblock says so, or has not for so long.
@@ -86,9 +72,9 @@ fn find_leg<R: Wait + Clock, L: LegPart, G: Gate + Drop, N: RenewsLegs<L>, M: Ma
     rt: &R,
     server: &Controlled<'_, L, G, N, M>,
     leg: u8,
-) -> Result<(), Unattached> {
+) -> Result<(), Unfit> {
     if server.orders.is_replaced(rt, leg) {
-        return Err(Unattached::Busy);
+        return Err(Unfit::Command);
     }
     let missing = server.orders.missing();
     if !missing.find(rt, leg) {
@@ -111,7 +97,7 @@ fn put_attach<R: Wait + Clock, L: LegPart, G: Gate + Drop, N: RenewsLegs<L>, M: 
         return writeln!(text, "attach {leg}: retired");
     }
     if let Err(why) = find_leg(rt, server, leg) {
-        return writeln!(text, "attach {leg}: {why}");
+        return writeln!(text, "attach {leg}: {}", AttachAnswer(why));
     }
     let Some(counts) = server.orders.attach(rt, server.mirror, leg) else {
         return writeln!(text, "attach {leg}: busy");
@@ -213,12 +199,33 @@ fn set_copy_rate(
 // The answer to `info`.
 fn put_info<R: Wait + Clock, L: LegPart, G: Gate + Drop, N: RenewsLegs<L>, M: MakesLegs<L>>(
     rt: &R,
+    alloc: Global,
     server: &Controlled<'_, L, G, N, M>,
     text: &mut String,
 ) -> Result<(), AllocError> {
     server.info.put(rt, text)?;
     put_known(rt, server, text)?;
-    server.orders.missing().put(text)
+    let shape = server.mirror.shape();
+    server.orders.verify().put_finding(rt, shape, text)?;
+    server.orders.missing().put(text)?;
+    server.orders.doubts().put_legs(rt, text)?;
+    server.orders.doubts().put(text)?;
+    put_stopped(rt, alloc, server.mirror, text)
+}
+
+// The answer to `metrics`.
+fn put_numbers<R: Wait + Clock, L: LegPart, G: Gate + Drop, N: RenewsLegs<L>, M: MakesLegs<L>>(
+    rt: &R,
+    alloc: Global,
+    server: &Controlled<'_, L, G, N, M>,
+    text: &mut String,
+) -> Result<(), AllocError> {
+    let known = Known {
+        unread: server.unread.count(rt),
+        verified: server.orders.verify().verified(rt),
+        info: server.info,
+    };
+    put_metrics(rt, alloc, server.mirror, &known, server.metrics, text)
 }
 
 // Puts the answer to a `quit`. Where there is no memory for it, the server ends all the same.
@@ -236,13 +243,10 @@ fn do_line<R: Wait + Clock, L: LegPart, G: Gate + Drop, N: RenewsLegs<L>, M: Mak
     text: &mut String,
 ) -> After {
     let put = match control_line(line) {
-        ControlCommand::Status => put_status(rt, alloc, server.mirror, text),
+        ControlCommand::Status => put_status(rt, alloc, server, text),
         ControlCommand::Unread => server.unread.put(rt, server.mirror.shape(), text),
-        ControlCommand::Info => put_info(rt, server, text),
-        ControlCommand::Metrics => {
-            let unread = server.unread.count(rt);
-            put_metrics(rt, alloc, server.mirror, unread, server.metrics, text)
-        }
+        ControlCommand::Info => put_info(rt, alloc, server, text),
+        ControlCommand::Metrics => put_numbers(rt, alloc, server, text),
         ControlCommand::Fail(leg) => put_fail(rt, server, leg.min(255) as u8, text),
         ControlCommand::Attach(leg) => put_attach(rt, server, leg.min(255) as u8, text),
         ControlCommand::Replace(leg) => put_replace(rt, alloc, server, leg.min(255) as u8, text),

@@ -9,11 +9,12 @@ use nm_mirror::Mirror;
 use nm_places::SessionPlaces;
 use nm_reports::{Metrics, ServerInfo, UnreadList};
 
-/// What the control port's commands tell of and change: the mirror, and what the server knows
-/// beside it.
+/// What the control port's commands tell of and change: the mirror, the name of its export, and
+/// what the server knows beside it.
 #[derive(Drop)]
 pub struct Controlled<'x, L: LegPart, G: Gate + Drop, N: RenewsLegs<L>, M: MakesLegs<L>> {
     pub mirror: &'x Mirror<L, G>,
+    pub name: &'x str,
     pub unread: &'x UnreadList,
     pub sessions: &'x SessionPlaces,
     pub info: &'x ServerInfo,

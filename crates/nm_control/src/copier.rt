@@ -103,14 +103,14 @@ impl Copier {
         now: u64,
     ) {
         unread.set(rt, &self.round);
-        let known = self.round.unread();
         self.story
-            .tell_unread(rt, self.alloc, lines, mirror.shape(), known);
+            .tell_unread(rt, self.alloc, lines, &self.round, now);
         self.story.tell_changes(rt, self.alloc, lines, mirror, now);
+        self.story.tell_failed_reads(rt, self.alloc, lines, now);
     }
 
     /// Takes the legs out as a whole of which a call failed.
-    pub fn watch<R: Wait, L: LegPart, G: Gate + Drop>(
+    pub fn watch<R: Wait + Clock, L: LegPart, G: Gate + Drop>(
         &self,
         rt: &R,
         mirror: &Mirror<L, G>,

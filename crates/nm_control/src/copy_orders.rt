@@ -90,6 +90,16 @@ impl CopyOrders {
         own
     }
 
+    /// From now on the legs' calls have their limits, where they have some: the start is over.
+    pub fn begin_limits(&self) {
+        let Some(limits) = &self.limits else {
+            return;
+        };
+        for calls in limits.iter().flatten() {
+            calls.begin();
+        }
+    }
+
     // Whether a call of the leg was left and has not returned: it may still write.
     fn has_left_call(&self, leg: u8) -> bool {
         let Some(limits) = &self.limits else {
@@ -249,11 +259,14 @@ impl CopyOrders {
         let is_out = match replaced {
             Replaced::Done(counts) => counts.joining == 0 && was_out,
             Replaced::Last | Replaced::Busy => was_out,
-            Replaced::NotSaved | Replaced::Unrenewed(_) => true,
+            Replaced::NotSaved | Replaced::Unfit(_) => true,
         };
         if let Replaced::Done(counts) = replaced {
             if counts.joining > 0 || counts.out > 0 {
                 self.missing.remove(leg);
+            }
+            if counts.joining > 0 {
+                self.verify.note_replaced(rt, leg, mirror.legs());
             }
         }
         let mut by_hand = self.by_hand.lock(rt);
@@ -290,7 +303,7 @@ impl CopyOrders {
             Retired::Out | Retired::NotSaved | Retired::Kept(_) => true,
             _ => was_out,
         };
-        if retired == Retired::Out {
+        if matches!(retired, Retired::Out) {
             self.retired.fetch_add(1, Ordering::SeqCst);
         }
         let mut by_hand = self.by_hand.lock(rt);

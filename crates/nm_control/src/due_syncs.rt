@@ -16,10 +16,6 @@ const AGE_MILLISECONDS: u64 = 1_000;
 #[derive(Drop)]
 pub struct DueSyncs {
     ages: Interval,
-    // The stripe to go on with, once the legs' files were synced.
-    next: Option<u32>,
-    // No turn was taken yet.
-    is_new: bool,
 }
 
 impl DueSyncs {
@@ -27,14 +23,12 @@ impl DueSyncs {
     pub fn new() -> DueSyncs {
         DueSyncs {
             ages: Interval::new(AGE_MILLISECONDS),
-            next: None,
-            is_new: true,
         }
     }
 
     /// Takes a turn at this time, in milliseconds. Where something is due it syncs the legs' files
-    /// first, outside every lock, and then one stripe a turn, so that what is written under a lock
-    /// is what came since. In the first turn, before clients write, all stripes follow at once.
+    /// first, outside every lock, and then one stripe right after the other, so that what is written
+    /// under a stripe's lock is what came during the sync before.
     pub fn turn<R: Wait, L: LegPart, G: Gate + Drop>(
         &mut self,
         rt: &R,
@@ -45,24 +39,17 @@ impl DueSyncs {
         if self.ages.take(now) {
             mirror.age();
         }
-        if let Some(from) = self.next {
-            self.next = mirror.sync_due(rt, from);
-            return;
-        }
         let legs = mirror.due_legs();
         if legs == 0 {
             return;
         }
-        watch.sync_ahead(legs);
-        self.next = Some(0);
-        if self.is_new {
-            self.is_new = false;
-            for _ in 0..=MOST_STRIPES {
-                let Some(from) = self.next else {
-                    return;
-                };
-                self.next = mirror.sync_due(rt, from);
-            }
+        watch.sync_ahead(rt, legs);
+        let mut next = Some(0);
+        for _ in 0..=MOST_STRIPES {
+            let Some(from) = next else {
+                return;
+            };
+            next = mirror.sync_due(rt, from);
         }
     }
 }

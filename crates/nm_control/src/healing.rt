@@ -3,10 +3,10 @@
 use crate::copy_orders::CopyOrders;
 use nm_lanes::Gate;
 use nm_leg::LegPart;
-use nm_leg_files::{Hindrance, LegPlace, OpensLegs};
+use nm_leg_files::{LegPlace, OpensLegs, Unfit};
 use nm_mirror::Mirror;
 use nm_reports::{LegStory, LogLines};
-use nm_service::{AttachTime, AutoAttach, LegEvent, event_of};
+use nm_service::{AttachTime, AutoAttach, LegEvent, ReadReturns, event_of};
 use std::alloc::{AllocError, Global};
 use std::sync::{Arc, Wait};
 
@@ -17,6 +17,9 @@ struct HealingLeg {
     place: Arc<LegPlace>,
     tries: AutoAttach,
     told: Option<u64>,
+    returns: ReadReturns,
+    // Whether it stays out, since it came back too often after reads that failed.
+    is_given_up: bool,
 }
 
 // How many seconds it is from now until then.
@@ -25,6 +28,47 @@ fn seconds_until(due: u64, now: u64) -> u64 {
 }
 
 impl HealingLeg {
+    // Whether a read failed since the leg came back.
+    fn has_unread(&self, orders: &CopyOrders) -> bool {
+        match orders.doubts().leg(self.number) {
+            Some(doubts) => doubts.has_unread(),
+            None => false,
+        }
+    }
+
+    // Whether the leg stays out, since it came back three times in a day after reads that failed,
+    // which is told once. Where it no longer is out by a fault, as by hand, that counts anew.
+    fn stays_out<R: Wait>(
+        &mut self,
+        rt: &R,
+        alloc: Global,
+        event: LegEvent,
+        orders: &CopyOrders,
+        lines: &LogLines,
+        now: u64,
+    ) -> bool {
+        if event != LegEvent::OutByFault {
+            if self.is_given_up {
+                self.is_given_up = false;
+                self.returns = ReadReturns::new();
+            }
+            return false;
+        }
+        if self.is_given_up || !self.has_unread(orders) || !self.returns.are_spent(now) {
+            return self.is_given_up;
+        }
+        self.is_given_up = true;
+        let (leg, name) = (self.number, self.place.name());
+        lines.warn(
+            rt,
+            format!(in alloc;
+                "leg {leg} ({name}): not attached again by itself: it came back three times in a \
+                 day after reads that failed; replace it, or attach it by hand"
+            ),
+        );
+        true
+    }
+
     // Takes how the leg stands, and tells when the next try comes where that is new.
     fn note<R: Wait>(
         &mut self,
@@ -80,14 +124,14 @@ impl HealingLeg {
         opener: &O,
         mirror: &Mirror<L, G>,
         orders: &CopyOrders,
-    ) -> Result<(), Hindrance> {
+    ) -> Result<(), Unfit> {
         self.place.check(opener)?;
         orders.missing().remove(self.number);
         let Some(counts) = orders.attach_by_itself(rt, mirror, self.number) else {
-            return Err(Hindrance::Command);
+            return Err(Unfit::Command);
         };
         if counts.joining == 0 && counts.stopped > 0 {
-            return Err(Hindrance::Stopped);
+            return Err(Unfit::Stopped);
         }
         Ok(())
     }
@@ -98,7 +142,7 @@ impl HealingLeg {
         rt: &R,
         alloc: Global,
         number: u64,
-        why: Hindrance,
+        why: Unfit,
         lines: &LogLines,
         now: u64,
     ) {
@@ -130,9 +174,13 @@ impl HealingLeg {
         let AttachTime::Now(number) = self.tries.take(LegEvent::Time, now) else {
             return;
         };
+        let has_unread = self.has_unread(orders);
         if let Err(why) = self.attach(rt, opener, mirror, orders) {
             self.tell_hindrance(rt, alloc, number, why, lines, now);
             return;
+        }
+        if has_unread {
+            self.returns.note(now);
         }
         self.told = None;
         let (leg, name) = (self.number, self.place.name());
@@ -164,6 +212,8 @@ impl Healing {
                 place,
                 tries: AutoAttach::new(),
                 told: None,
+                returns: ReadReturns::new(),
+                is_given_up: false,
             })?;
         }
         Ok(Healing { legs, by_itself })
@@ -193,6 +243,9 @@ impl Healing {
             let number = leg.number as usize;
             let is_out = by_hand.get(number).copied().unwrap_or(false);
             let event = event_of(&story.sight(number), is_out);
+            if leg.stays_out(rt, alloc, event, orders, lines, now) {
+                continue;
+            }
             leg.note(rt, alloc, event, lines, now);
             leg.try_now(rt, alloc, opener, mirror, orders, lines, now);
         }

@@ -4,10 +4,15 @@ use crate::copy_orders::CopyOrders;
 use nm_lanes::Gate;
 use nm_leg::LegPart;
 use nm_leg_files::LegPlace;
-use nm_mirror::Mirror;
+use nm_mirror::{Mirror, StripeStatus};
 use nm_reports::{Failure, LogLines};
+use nm_stripe::LegState;
 use std::alloc::Global;
 use std::sync::{Arc, Wait};
+use std::time::Clock;
+
+/// How many bytes a block has.
+const BLOCK_BYTES: u64 = nm_replay::BLOCK_BYTES as u64;
 
 /// The legs on these files, from leg 0 on, of which it is looked whether a call failed.
 #[derive(Drop)]
@@ -24,6 +29,33 @@ fn fails_as_a_whole(place: &LegPlace, failure: Failure) -> Option<bool> {
     }
 }
 
+// Whether the leg is still in sync in the stripe of this byte: then a read that failed there left it
+// where it was.
+fn is_in_sync_at<R: Wait + Clock, L: LegPart, G: Gate + Drop>(
+    rt: &R,
+    alloc: Global,
+    mirror: &Mirror<L, G>,
+    leg: usize,
+    at: u64,
+) -> bool {
+    let shape = mirror.shape();
+    let block = at / BLOCK_BYTES;
+    if block >= shape.blocks {
+        return false;
+    }
+    let stripe = shape.stripe_of(block) as usize;
+    let Ok(glances) = mirror.glance(rt, alloc) else {
+        return false;
+    };
+    match glances.get(stripe).and_then(|glance| glance.told()) {
+        Some(StripeStatus::Running { legs, .. }) => {
+            legs.get(leg)
+                .is_some_and(|status| status.state == LegState::InSync)
+        }
+        _ => false,
+    }
+}
+
 impl LegWatch {
     /// Looks at the legs on these files, from leg 0 on.
     pub fn new(places: Vec<Arc<LegPlace>>) -> LegWatch {
@@ -31,10 +63,10 @@ impl LegWatch {
     }
 
     /// Syncs the files of these legs, a bit each, outside every lock.
-    pub fn sync_ahead(&self, legs: u8) {
+    pub fn sync_ahead<R: Wait>(&self, rt: &R, legs: u8) {
         for (leg, place) in self.places.iter().enumerate() {
             if leg < 8 && (legs >> leg) & 1 == 1 {
-                place.sync_ahead();
+                place.sync_ahead(rt);
             }
         }
     }
@@ -42,7 +74,7 @@ impl LegWatch {
     /// Takes each leg of which a call failed out of every stripe in which it is not the last in
     /// sync, unless reads alone failed that are a matter of their place. Where nothing failed since
     /// the last look, it makes no call. A leg that a command is at is looked at again.
-    pub fn look<R: Wait, L: LegPart, G: Gate + Drop>(
+    pub fn look<R: Wait + Clock, L: LegPart, G: Gate + Drop>(
         &self,
         rt: &R,
         alloc: Global,
@@ -62,7 +94,10 @@ impl LegWatch {
                 continue;
             };
             let is_first = orders.take_out_failed(rt, mirror, number, is_whole, seen);
-            if is_first && !is_whole {
+            let Failure::Read(at) = failure else {
+                continue;
+            };
+            if is_first && !is_whole && !is_in_sync_at(rt, alloc, mirror, leg, at) {
                 let name = place.name();
                 let text = format!(in alloc;
                     "leg {leg} ({name}): a read failed, and others do not: it stays in the other \

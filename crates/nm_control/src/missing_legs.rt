@@ -1,7 +1,7 @@
 //! The legs whose files were missing at the start, and those that somebody wants to attach.
 
 use nm_geometry::MOST_LEGS;
-use nm_leg_files::{Hindrance, Unattached};
+use nm_leg_files::Unfit;
 use std::alloc::AllocError;
 use std::sync::Wait;
 use std::sync::atomic::{AtomicBool, Ordering};
@@ -115,20 +115,17 @@ impl MissingLegs {
     }
 
     /// What was found in the place of a leg's file, which is not opened.
-    pub fn note(&self, leg: u8, why: &Hindrance) {
-        let is_other = matches!(
-            why,
-            Hindrance::Unknown | Hindrance::OtherFile | Hindrance::Changed
-        );
+    pub fn note(&self, leg: u8, why: &Unfit) {
+        let is_other = matches!(why, Unfit::Unknown | Unfit::OtherFile | Unfit::Changed);
         set(&self.other, leg, is_other);
     }
 
     /// Why the leg's file was not opened, as it is told to who waits for it.
-    pub fn why_not(&self, leg: u8) -> Unattached {
+    pub fn why_not(&self, leg: u8) -> Unfit {
         if is_set(&self.other, leg) {
-            Unattached::OtherFile
+            Unfit::OtherFile
         } else {
-            Unattached::NoFile
+            Unfit::no_file()
         }
     }
 

@@ -5,7 +5,7 @@ use nm_geometry::Shape;
 use nm_lanes::Gate;
 use nm_leg::LegPart;
 use nm_leg_files::{
-    BytesRead, LateSlots, Leg, LegPlace, OpensLegs, SuperblockWriter, Unattached, Unrenewed,
+    BytesRead, LateSlots, Leg, LegPlace, OpensLegs, ReplaceAnswer, SuperblockWriter, Unfit,
 };
 use nm_mirror::{Mirror, ReplaceCounts, Withdrawal};
 use std::alloc::{AllocError, Global};
@@ -14,7 +14,7 @@ use std::sync::atomic::AtomicU64;
 use std::sync::{Arc, Mutex, Wait};
 
 /// What came of a replacement.
-#[derive(Clone, Copy, Debug, PartialEq, Eq)]
+#[derive(Clone, Copy, Debug)]
 pub enum Replaced {
     /// It was done where it could be.
     Done(ReplaceCounts),
@@ -26,7 +26,7 @@ pub enum Replaced {
     /// The leg is out, and no superblock can be saved that says so.
     NotSaved,
     /// The leg is out, and its file was not opened anew.
-    Unrenewed(Unrenewed),
+    Unfit(Unfit),
 }
 
 impl fmt::Display for Replaced {
@@ -40,7 +40,7 @@ impl fmt::Display for Replaced {
             Replaced::Last => f.write_str("last"),
             Replaced::Busy => f.write_str("busy"),
             Replaced::NotSaved => f.write_str("not saved"),
-            Replaced::Unrenewed(why) => why.fmt(f),
+            Replaced::Unfit(why) => ReplaceAnswer(*why).fmt(f),
         }
     }
 }
@@ -50,14 +50,14 @@ pub trait RenewsLegs<L> {
     /// Opens the file that the leg's name leads to now, and gives the leg a superblock's file and
     /// an id of its own, if it has one. The answer is the legs of all stripes on that file, stripe
     /// 0's first. No stripe has the leg meanwhile.
-    fn renew<R: Wait>(&self, rt: &R, alloc: Global, leg: u8) -> Result<Vec<L>, Unrenewed>;
+    fn renew<R: Wait>(&self, rt: &R, alloc: Global, leg: u8) -> Result<Vec<L>, Unfit>;
 
     /// Leaves no superblock of the leg, which is out of every stripe for good.
-    fn retire<R: Wait>(&self, rt: &R, leg: u8) -> Result<(), Unrenewed>;
+    fn retire<R: Wait>(&self, rt: &R, leg: u8) -> Result<(), Unfit>;
 
     /// Whether the leg's name still leads to its file, as long as it was, so that the leg may be
     /// attached: why not.
-    fn check(&self, leg: u8) -> Result<(), Unattached>;
+    fn check(&self, leg: u8) -> Result<(), Unfit>;
 }
 
 /// What opens the files of a mirror of this shape anew.
@@ -99,10 +99,10 @@ impl<'x, O> LegRenewer<'x, O> {
 }
 
 impl<'x, O: OpensLegs> RenewsLegs<Leg> for LegRenewer<'x, O> {
-    fn renew<R: Wait>(&self, rt: &R, alloc: Global, leg: u8) -> Result<Vec<Leg>, Unrenewed> {
+    fn renew<R: Wait>(&self, rt: &R, alloc: Global, leg: u8) -> Result<Vec<Leg>, Unfit> {
         let number = leg as usize;
         let Some(place) = self.places.get(number) else {
-            return Err(Unrenewed::CannotOpen);
+            return Err(Unfit::no_file());
         };
         let legs = place.renew(rt, alloc, self.opener, number, &self.shape, &self.read)?;
         if let Some(superblocks) = self.superblocks {
@@ -111,7 +111,7 @@ impl<'x, O: OpensLegs> RenewsLegs<Leg> for LegRenewer<'x, O> {
         Ok(legs)
     }
 
-    fn retire<R: Wait>(&self, rt: &R, leg: u8) -> Result<(), Unrenewed> {
+    fn retire<R: Wait>(&self, rt: &R, leg: u8) -> Result<(), Unfit> {
         let (Some(place), Some(superblocks)) = (self.places.get(leg as usize), self.superblocks)
         else {
             return Ok(());
@@ -119,10 +119,10 @@ impl<'x, O: OpensLegs> RenewsLegs<Leg> for LegRenewer<'x, O> {
         place.retire_superblock(rt, self.opener, leg, &mut superblocks.lock(rt))
     }
 
-    fn check(&self, leg: u8) -> Result<(), Unattached> {
+    fn check(&self, leg: u8) -> Result<(), Unfit> {
         match self.places.get(leg as usize) {
-            Some(place) => place.check_by_hand(self.opener),
-            None => Err(Unattached::NoFile),
+            Some(place) => place.check(self.opener),
+            None => Err(Unfit::no_file()),
         }
     }
 }
@@ -148,10 +148,10 @@ pub fn replace_now<R: Wait, L: LegPart, G: Gate + Drop, N: RenewsLegs<L>>(
     }
     let parts = match legs.renew(rt, alloc, leg) {
         Ok(parts) => parts,
-        Err(why) => return Replaced::Unrenewed(why),
+        Err(why) => return Replaced::Unfit(why),
     };
     match mirror.replace_leg(rt, leg, parts) {
         Ok(counts) => Replaced::Done(counts),
-        Err(_) => Replaced::Unrenewed(Unrenewed::OtherLength),
+        Err(_) => Replaced::Unfit(Unfit::WasCut),
     }
 }

@@ -5,14 +5,14 @@ use crate::controlled::Controlled;
 use crate::replacing::RenewsLegs;
 use nm_lanes::Gate;
 use nm_leg::LegPart;
-use nm_leg_files::{MakesLegs, Unrenewed};
+use nm_leg_files::{MakesLegs, ReplaceAnswer, Unfit};
 use nm_mirror::{Mirror, Withdrawal};
 use std::alloc::AllocError;
 use std::fmt;
 use std::sync::Wait;
 
 /// What came of a leg that was to go out for good.
-#[derive(Clone, Copy, Debug, PartialEq, Eq)]
+#[derive(Clone, Copy, Debug)]
 pub enum Retired {
     /// It is out, no superblock says otherwise, and it has none.
     Out,
@@ -28,7 +28,7 @@ pub enum Retired {
     /// The leg is out, and no superblock can be saved that says so.
     NotSaved,
     /// The leg is out, and still has a superblock.
-    Kept(Unrenewed),
+    Kept(Unfit),
 }
 
 impl fmt::Display for Retired {
@@ -40,7 +40,7 @@ impl fmt::Display for Retired {
             Retired::Stopped => f.write_str("stopped"),
             Retired::Busy => f.write_str("busy"),
             Retired::NotSaved => f.write_str("not saved"),
-            Retired::Kept(why) => why.fmt(f),
+            Retired::Kept(why) => ReplaceAnswer(*why).fmt(f),
         }
     }
 }

@@ -1,9 +1,10 @@
 //! Who compares the legs in sync, and tells what differs.
 
+use crate::finding::put_differing;
 use crate::verify_desk::{VerifyDesk, VerifyStage, Verifying};
 use nm_lanes::Gate;
 use nm_leg::LegPart;
-use nm_mirror::{MOST_BYTES, Mirror, Seen, Verification};
+use nm_mirror::{Findings, MOST_BYTES, Mirror, Seen, Verification};
 use nm_reports::LogLines;
 use nm_service::Interval;
 use std::alloc::{AllocError, Global};
@@ -74,7 +75,7 @@ impl Verifier {
         match known.stage {
             VerifyStage::Asked => self.begin(rt, mirror, desk, lines, &known, now),
             VerifyStage::Stopping => {
-                desk.note(rt, VerifyStage::Stopped, &known.round);
+                let _ = desk.note(rt, VerifyStage::Stopped, &known.round);
                 self.tell(rt, mirror, lines, &desk.known(rt));
                 return 0;
             }
@@ -99,7 +100,7 @@ impl Verifier {
         known: &Verifying,
         now: u64,
     ) {
-        desk.note(rt, VerifyStage::Running, &known.round);
+        let _ = desk.note(rt, VerifyStage::Running, &known.round);
         let _ = self.tells.take(now);
         lines.inform(
             rt,
@@ -123,7 +124,10 @@ impl Verifier {
         } else {
             VerifyStage::Running
         };
-        desk.note(rt, stage, round);
+        let is_noted = desk.note(rt, stage, round);
+        if is_noted && is_over {
+            desk.end(rt, &round.found);
+        }
         if is_over || self.tells.take(now) {
             self.tell(rt, mirror, lines, &desk.known(rt));
         }
@@ -146,8 +150,28 @@ impl Verifier {
         let found = &known.round.found;
         if known.stage == VerifyStage::Done && (found.differing > 0 || found.unread > 0) {
             lines.warn(rt, line);
+            self.tell_bytes(rt, mirror, lines, found);
         } else {
             lines.inform(rt, line);
         }
+    }
+
+    /// Tells which bytes of the export differ, if some do.
+    fn tell_bytes<R: Wait, L: LegPart, G: Gate + Drop>(
+        &self,
+        rt: &R,
+        mirror: &Mirror<L, G>,
+        lines: &LogLines,
+        found: &Findings,
+    ) {
+        if found.differing == 0 {
+            return;
+        }
+        let mut text = String::new(self.alloc);
+        let line = match put_differing(found, mirror.shape(), &mut text) {
+            Ok(()) => Ok(text),
+            Err(error) => Err(error),
+        };
+        lines.warn(rt, line);
     }
 }

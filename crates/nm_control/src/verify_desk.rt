@@ -1,10 +1,13 @@
 //! Where a verification of the legs is ordered, and told of.
 
+use crate::finding::Finding;
 use crate::verify_text::{percent, put_end};
 use nm_geometry::Shape;
-use nm_mirror::Verification;
+use nm_mirror::{Findings, Verification};
+use nm_reports::{Verified, milliseconds_since};
 use std::alloc::AllocError;
 use std::sync::{Mutex, Wait};
+use std::time::{Clock, Instant};
 
 /// What is done with a verification.
 #[derive(Clone, Copy, PartialEq, Eq)]
@@ -64,6 +67,16 @@ fn is_first(round: &Verification) -> bool {
 #[derive(Drop)]
 pub struct VerifyDesk {
     known: Mutex<Verifying>,
+    past: Mutex<Past>,
+}
+
+// What is known of verifications that have compared all: when the last one ended, and what the last
+// one found that found a difference, and when. None where there was none, or the clock could not be
+// read.
+#[derive(Clone, Copy)]
+struct Past {
+    ended: Option<Instant>,
+    finding: Option<(Finding, Option<Instant>)>,
 }
 
 impl VerifyDesk {
@@ -74,6 +87,61 @@ impl VerifyDesk {
                 stage: VerifyStage::Never,
                 round: Verification::new(),
             }),
+            past: Mutex::new(Past {
+                ended: None,
+                finding: None,
+            }),
+        }
+    }
+
+    /// A verification has compared all, and found this. Where nothing differs, and nothing was left
+    /// out, what an earlier one found is forgotten.
+    pub fn end<R: Wait + Clock>(&self, rt: &R, found: &Findings) {
+        let now = Instant::now(rt).ok();
+        let mut past = self.past.lock(rt);
+        past.ended = now;
+        if found.differing > 0 {
+            past.finding = Some((Finding::new(*found), now));
+        } else if found.unread == 0 && found.missed == 0 {
+            past.finding = None;
+        }
+    }
+
+    /// This leg, of so many, was replaced.
+    pub fn note_replaced<R: Wait>(&self, rt: &R, leg: u8, legs: u8) {
+        let mut past = self.past.lock(rt);
+        if let Some((finding, _)) = &mut past.finding {
+            finding.note_replaced(leg, legs);
+        }
+    }
+
+    /// What is known of the verifications so far.
+    pub fn verified<R: Wait + Clock>(&self, rt: &R) -> Verified {
+        let past = *self.past.lock(rt);
+        let differing = match &past.finding {
+            Some((finding, _)) => finding.differing(),
+            None => 0,
+        };
+        let age = past
+            .ended
+            .map(|_| milliseconds_since(rt, &past.ended) / 1_000);
+        Verified { differing, age }
+    }
+
+    /// Puts a line on what the last one found that found a difference, if there is one.
+    pub fn put_finding<R: Wait + Clock>(
+        &self,
+        rt: &R,
+        shape: &Shape,
+        text: &mut String,
+    ) -> Result<(), AllocError> {
+        let past = *self.past.lock(rt);
+        match &past.finding {
+            Some((finding, at)) => {
+                let age = milliseconds_since(rt, at) / 1_000;
+                finding.put(age, shape, text)
+            }
+            None => Ok(()),
         }
     }
 
@@ -105,8 +173,9 @@ impl VerifyDesk {
         goes_on
     }
 
-    /// Notes how far it is, unless it was told to end, or another was asked for.
-    pub fn note<R: Wait>(&self, rt: &R, stage: VerifyStage, round: &Verification) {
+    /// Notes how far it is, unless it was told to end, or another was asked for. Whether it was
+    /// noted.
+    pub fn note<R: Wait>(&self, rt: &R, stage: VerifyStage, round: &Verification) -> bool {
         let mut known = self.known.lock(rt);
         let is_its_own = match known.stage {
             VerifyStage::Running => true,
@@ -118,5 +187,6 @@ impl VerifyDesk {
             known.stage = stage;
             known.round = *round;
         }
+        is_its_own
     }
 }

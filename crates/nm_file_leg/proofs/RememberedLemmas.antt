@@ -1,11 +1,11 @@
 -- What a leg remembers of its regions, as numbers in places.
-use Rattle.std.proofs.Common.{◌≡◌, ⊎_elim, ◌⊎◌, ℕ, ◌+◌, ◌-◌, ◌*◌, ◌/◌, ◌<◌, ◌≤◌, ◌==◌, ◌&&◌, if◌then◌else◌, Bool, true, false, List, length, get_or, map, replicate, refl, ap, sym, ◌∙◌, arith, nat_le, inl, inr}
+use Rattle.std.proofs.Common.{◌≡◌, ⊎_elim, ◌⊎◌, ℕ, zero, suc, ◌+◌, ◌-◌, ◌*◌, ◌/◌, ◌<◌, ◌≤◌, ◌==◌, ◌&&◌, ◌||◌, if◌then◌else◌, Bool, true, false, List, length, get_or, map, replicate, refl, ap, sym, ◌∙◌, subst, arith, nat_le, inl, inr}
 use Rattle.std.proofs.Math.Nat.{div-mul-le_self}
 use Rattle.std.proofs.lemmas.Nat.{le-div, mul-le}
 use Rattle.std.proofs.lemmas.Bool.{cases_lt, le-leb, lt-leb, eq-eqb, ne_eqb}
 use Rattle.std.proofs.lemmas.List.{get_or-map, get_or-replicate, length-replicate}
 use Rattle.nm_geometry.specs.Geometry.{regions_for}
-use Rattle.nm_file_leg.specs.Remembered.{remembered, cursor_moved, Changes, Begins, NotesWrite, NotesSync}
+use Rattle.nm_file_leg.specs.Remembered.{Remembered, remembered, count_regions, is_written, cursor_in, cursor_lost, cursors_lost, cursor_moved, learnt, touches, Changes, Begins, NotesWrite, NotesSync, LearnsLoss}
 
 -- a region begins inside the stripe
 pub begins-inside : (region blocks r : ℕ) → 1 ≤ region → r < regions_for region blocks → r * region < blocks
@@ -103,3 +103,32 @@ notes-write region blocks period at count end succeeded xs ys cursors moved long
       (λ w. rw w.0 (⊎_elim (λ low. moves.before r low) (λ high. moves.behind r high) w.1))
       (between from last r);
 }
+
+-- where the cursor of one of so many regions stands once a sync has failed
+lost-at : (memory : Remembered) (n region k : ℕ) → k < n → get_or (cursors_lost memory n region) k 0 ≡ cursor_lost (region + k) memory
+lost-at memory zero region k low = absurd (let e : ⊥ = omega (arith, low) in e)
+lost-at memory (suc n) region zero low = ap (λ (r : ℕ). cursor_lost r memory) (let e : region ≡ region + 0 = omega arith in e)
+lost-at memory (suc n) region (suc k) low =
+    lost-at memory n (region + 1) k (omega (arith, low)) ∙ ap (λ (r : ℕ). cursor_lost r memory) (let e : region + 1 + k ≡ region + suc k = omega arith in e)
+
+-- a write is noted on what was learnt before it
+pub notes-learnt : (lost succeeded : Bool) (at count : ℕ) (old known new : Remembered) → LearnsLoss lost old known → NotesWrite succeeded at count known new
+    → NotesWrite succeeded at count (learnt lost old) new
+notes-learnt false succeeded at count old known new same notes = subst (λ (m : Remembered). NotesWrite succeeded at count m new) same notes
+notes-learnt true succeeded at count old known new lost notes =
+    let few : (r : ℕ) → r < count_regions old → r < count_regions known = λ r low.
+    let same : count_regions known ≡ count_regions old = ap (λ (n : ℕ). regions_for n known.blocks) lost.sizes.region ∙ ap (λ (n : ℕ). regions_for old.region n) lost.sizes.blocks in
+    omega (arith, same, low) in
+    let is : (r : ℕ) → r < count_regions old → cursor_in r (learnt true old) ≡ cursor_lost r old = λ r low.
+    lost-at old (count_regions old) 0 r low ∙ ap (λ (k : ℕ). cursor_lost k old) (let e : 0 + r ≡ r = omega arith in e) in
+    let touched : (r : ℕ) → touches at count r known ≡ touches at count r old = λ r.
+    ap (λ (n : ℕ). nat_le (at / n) r && nat_le r ((at + count - 1) / n)) lost.sizes.region in
+    record {
+      sizes = record { region = notes.sizes.region ∙ lost.sizes.region; blocks = notes.sizes.blocks ∙ lost.sizes.blocks };
+      written = λ r low. notes.written r (few r low) ∙ ap (λ (b : Bool). b || is_written r known) (touched r) ∙ ap (λ (b : Bool). touches at count r old || b) (lost.written r low);
+      again = λ r low.
+          let end : ℕ = if succeeded then at + count else at in
+          notes.again r (few r low)
+          ∙ ap (λ (b : Bool). if b then cursor_moved at end (cursor_in r known) else cursor_in r known) (touched r)
+          ∙ ap (λ (c : ℕ). if touches at count r old then cursor_moved at end c else c) (lost.again r low ∙ sym (is r low));
+    }

@@ -9,7 +9,7 @@ use Rattle.nm_file_leg.specs.Medium.{Held, window, Kept, SyncsMedium}
 use Rattle.nm_file_leg.specs.Blocks.{first_byte, bytes_at}
 use Rattle.nm_file_leg.specs.Runs.{run_places, KeepsRun, WritesRun}
 use Rattle.nm_file_leg.specs.FileLeg.{OwnsBlocks, KeepsBlocks, IsDurableAt, FileRules}
-use Rattle.nm_file_leg.specs.Remembered.{Remembered, AreWhole, count_regions, region_end, cursor_in, is_written, cursor_moved, touches, Begins, NotesWrite, NotesFailure, EndsPeriod, HaveOneSize}
+use Rattle.nm_file_leg.specs.Remembered.{Remembered, AreWhole, count_regions, region_end, cursor_in, is_written, cursor_moved, touches, Begins, NotesWrite, NotesFailure, EndsPeriod, LearnsLoss, HaveOneSize}
 use Rattle.nm_file_leg.proofs.LegLemmas.{run-apart}
 use Rattle.nm_file_leg.proofs.RememberedLemmas.{region-inside, between}
 
@@ -184,6 +184,27 @@ module _ (honest : Bool) (held : Held) (s : ℕ) (p : Geometry) (memory : Rememb
         let was : IsDurableAt held s p k = rules.durable is_honest k below (sym (notes.written (k / p.region) (in-region k below)) ∙ unwritten) in
         syncs.durable_kept is_honest _ _ was ∙ was ∙ ap (λ (b : List ℕ). bytes_at s p k b) (sym (syncs.contents is_honest));
     synced = λ _ q. absurd (let e : ⊥ = cc in e);
+  }
+
+  -- a loss that is told takes nothing of the regions that were not written since the last good sync
+  pub rules-told : (lost : Bool) (after : Remembered) → LearnsLoss lost memory after → FileRules honest held s p after dirty
+  rules-told false after same = subst (λ (m : Remembered). FileRules honest held s p m dirty) (sym same) rules
+  rules-told true after notes = record {
+    region = notes.sizes.region ∙ rules.region;
+    blocks = notes.sizes.blocks ∙ rules.blocks;
+    kept = λ is_honest k below low.
+        let r = k / p.region in
+        written-or-not (is_written r memory) (cursor_in r memory) (r * memory.region) k
+        (Kept held (first_byte s p k) 512)
+        (λ unwritten was. rules.kept is_honest k below was)
+        (λ was.
+        let begins : r * p.region ≤ k = div-mul-le_self k p.region in
+        let same : r * memory.region ≡ r * p.region = ap (λ (n : ℕ). r * n) rules.region in
+        absurd (let e : ⊥ = omega (arith, was, begins, same) in e))
+        (subst (λ (n : ℕ). k < n) (notes.again r (in-region k below)) low);
+    durable = λ is_honest k below unwritten.
+        rules.durable is_honest k below (sym (notes.written (k / p.region) (in-region k below)) ∙ unwritten);
+    synced = rules.synced;
   }
 
 -- the sizes stay as a period ends, or does not

@@ -1,7 +1,7 @@
 -- What a leg remembers of its regions, and what becomes of it.
-use Rattle.std.specs.Prelude.{◌≡◌, ℕ, ◌+◌, ◌-◌, ◌*◌, ◌/◌, ◌<◌, ◌≤◌, ◌==◌, ◌&&◌, ◌||◌, min}
+use Rattle.std.specs.Prelude.{◌≡◌, ℕ, zero, suc, ◌+◌, ◌-◌, ◌*◌, ◌/◌, ◌<◌, ◌≤◌, ◌==◌, ◌&&◌, ◌||◌, min}
 use Rattle.std.specs.Prelude.{if◌then◌else◌, Bool, IsTrue, IsFalse, nat_le, nat_lt, get_or}
-use Rattle.std.specs.Prelude.{◌^◌, List, length, map, false, true}
+use Rattle.std.specs.Prelude.{◌^◌, List, [], ◌∷◌, length, map, false, true}
 use Rattle.nm_geometry.specs.Geometry.{regions_for}
 
 -- The numbers of blocks in a region and in the stripe; whether each region was written since the
@@ -101,15 +101,35 @@ abbrev pub EndsPeriod : (doubted : Bool) → (old new : Remembered) → Type 0
 EndsPeriod false old new = NotesSync old new
 EndsPeriod true old new = new ≡ old
 
--- A sync that failed: each region that was written since the last one that succeeded is lost, from
--- its first block on.
+-- where the cursor of a region stands once a sync has failed: a region that was written since the
+-- last one that succeeded is lost, from its first block on
+abbrev pub cursor_lost : (region : ℕ) → Remembered → ℕ
+cursor_lost region memory =
+    if is_written region memory then region * memory.region else cursor_in region memory
+
+-- where the cursors of so many regions stand then, from this one on
+abbrev pub cursors_lost : Remembered → (many region : ℕ) → List ℕ
+cursors_lost memory zero region = []
+cursors_lost memory (suc many) region =
+    cursor_lost region memory ∷ cursors_lost memory many (region + 1)
+
+-- A sync that failed.
 pub record NotesFailure (old new : Remembered) : Type 0 where
   pub sizes : HaveOneSize old new
   pub written : (r : ℕ) → r < count_regions old → is_written r new ≡ is_written r old
-  pub again : (r : ℕ) → r < count_regions old
-      → cursor_in r new ≡ (if is_written r old
-      then r * old.region
-      else cursor_in r old)
+  pub again : (r : ℕ) → r < count_regions old → cursor_in r new ≡ cursor_lost r old
+
+-- A loss that is told before a write is noted as a sync that failed; else what is remembered stays.
+abbrev pub LearnsLoss : (lost : Bool) → (old new : Remembered) → Type 0
+LearnsLoss false old new = new ≡ old
+LearnsLoss true old new = NotesFailure old new
+
+-- what is remembered once a loss is told, or is not
+abbrev pub learnt : (lost : Bool) → Remembered → Remembered
+learnt false memory = memory
+learnt true memory = record memory {
+  rewritten_below = cursors_lost memory (count_regions memory) 0;
+}
 
 -- The numbers are of so many regions, no write is of a period to come, and while no sync has failed
 -- nothing is lost.

@@ -1,4 +1,4 @@
-ghost use Rattle.std.specs.Prelude.{◌≡◌, ◌+◌, ◌%◌, ◌^◌, ◌<◌, ◌≤◌, Bool, length, is_ok, IsTrue};
+ghost use Rattle.std.specs.Prelude.{◌≡◌, ◌+◌, ◌%◌, ◌^◌, ◌<◌, ◌≤◌, length, is_ok, IsTrue};
 ghost use Rattle.std.specs.Prelude.{IsFalse, IsErr, OnOk, OnErr, IfOk};
 ghost use Rattle.nm_leg.specs.Leg.{IsRun, WritesLeg, SyncsLeg, blocks_in};
 ghost use Rattle.nm_geometry.specs.Geometry.{IsGeometry, stripe_blocks};
@@ -7,10 +7,10 @@ ghost use Rattle.nm_file_leg.specs.Runs.{WritesRun, KeepsRun, run_places};
 ghost use Rattle.nm_file_leg.specs.FileLeg.{OwnsBlocks, KeepsBlocks, FileRules, Reaches, file_leg};
 ghost use Rattle.nm_file_leg.specs.Marks.{durable_elsewhere, marked_each};
 ghost use Rattle.nm_file_leg.specs.Remembered.{count_regions, AreWhole, Begins, NotesWrite};
-ghost use Rattle.nm_file_leg.specs.Remembered.{EndsPeriod, NotesFailure};
+ghost use Rattle.nm_file_leg.specs.Remembered.{EndsPeriod, NotesFailure, learnt};
 
 use crate::Medium;
-use crate::region_writes::{RegionWrites, end_period};
+use crate::region_writes::{RegionWrites, end_period, learn_loss};
 use crate::runs::{read_run, write_run};
 use nm_geometry::Shape;
 use nm_leg::{LegFault, LegPart};
@@ -34,6 +34,10 @@ pub struct FileLeg<M: Medium> {
     writes: RegionWrites,
     /// No sync has succeeded since the leg was made or last written.
     dirty: bool,
+    /// Whether the medium told a loss before the last write.
+    told_loss: bool,
+    /// Whether the medium was in doubt behind the last sync that succeeded.
+    was_doubted: bool,
     ghost bounds: { IsGeometry shape },
     ghost inside: { stripe < shape.stripes },
     ghost owns: { IsTrue M.honest → OwnsBlocks (M.held medium) stripe shape },
@@ -77,6 +81,8 @@ impl<M: Medium> FileLeg<M> {
             faults: 0,
             writes,
             dirty: true,
+            told_loss: false,
+            was_doubted: false,
         })
     }
 
@@ -162,10 +168,13 @@ impl<M: Medium> LegPart for FileLeg<M> {
             → length (M.held self.old.medium).contents < self.old.size
             → IsErr result × (self.new.medium ≡ self.old.medium) }
         ensures dirty { IsTrue self.new.dirty }
-        ensures noted { NotesWrite (is_ok result) at (blocks_in bytes.now) self.old.writes
-            self.new.writes }
+        ensures told { IsTrue M.honest → self.new.told_loss ≡ M.tells self.old.medium }
+        ensures noted { NotesWrite (is_ok result) at (blocks_in bytes.now)
+            (learnt self.new.told_loss self.old.writes) self.new.writes }
     {
         let count = (bytes.len() / BLOCK_BYTES) as u64;
+        self.told_loss = self.medium.tells_loss();
+        learn_loss(&mut self.writes, self.told_loss);
         let keeps_holes = self.writes.is_whole_at(at, count);
         let is_written = write_if_long(
             &mut self.medium,
@@ -198,7 +207,9 @@ impl<M: Medium> LegPart for FileLeg<M> {
             × (self.new.writes ≡ self.old.writes) × IsTrue self.new.dirty }
         ensures synced { IsTrue self.old.dirty
             → OnOk result (IsFalse self.new.dirty
-            × ((doubted : Bool) × EndsPeriod doubted self.old.writes self.new.writes)) }
+            × EndsPeriod self.new.was_doubted self.old.writes self.new.writes) }
+        ensures doubted { IsTrue M.honest → IsTrue self.old.dirty
+            → OnOk result (self.new.was_doubted ≡ M.doubted self.new.medium) }
         ensures failed { IsTrue self.old.dirty
             → AreWhole 0 (count_regions self.old.writes) self.old.writes
             → OnErr result (IsTrue self.new.dirty
@@ -213,7 +224,8 @@ impl<M: Medium> LegPart for FileLeg<M> {
         match self.medium.sync() {
             Ok(()) => {
                 self.dirty = false;
-                end_period(&mut self.writes, self.medium.is_doubted());
+                self.was_doubted = self.medium.is_doubted();
+                end_period(&mut self.writes, self.was_doubted);
                 Ok(())
             }
             Err(_) => {

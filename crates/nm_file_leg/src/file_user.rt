@@ -35,6 +35,10 @@ impl<F: BackingFile> Medium for FileUser<F> {
 
     ghost held = { λ _. unknown };
 
+    ghost tells = { λ _. false };
+
+    ghost doubted = { λ _. false };
+
     fn read_at(&mut self, at: u64, into: &mut [u8]) -> io::Result<usize> {
         self.file.file().read_bytes(at, into)
     }
@@ -53,5 +57,13 @@ impl<F: BackingFile> Medium for FileUser<F> {
 
     fn is_hole(&self, at: u64, many: usize) -> bool {
         self.file.file().has_hole(at, many)
+    }
+
+    fn tells_loss(&self) -> bool {
+        self.file.tells_loss(self.number)
+    }
+
+    fn is_doubted(&self) -> bool {
+        false
     }
 }

@@ -67,6 +67,10 @@ impl<M: Medium> Medium for FuseMedium<M> {
 
     ghost held = { λ fused. M.held fused.medium };
 
+    ghost tells = { λ fused. M.tells fused.medium };
+
+    ghost doubted = { λ fused. M.doubted fused.medium };
+
     fn read_at(&mut self, at: u64, into: &mut [u8]) -> io::Result<usize> {
         self.burn()?;
         self.medium.read_at(at, into)
@@ -88,5 +92,13 @@ impl<M: Medium> Medium for FuseMedium<M> {
 
     fn is_hole(&self, at: u64, many: usize) -> bool {
         self.medium.is_hole(at, many)
+    }
+
+    fn tells_loss(&self) -> bool {
+        self.medium.tells_loss()
+    }
+
+    fn is_doubted(&self) -> bool {
+        self.medium.is_doubted()
     }
 }

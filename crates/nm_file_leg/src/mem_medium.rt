@@ -1,5 +1,5 @@
-ghost use Rattle.std.specs.Prelude.{◌≡◌, ◌+◌, ◌-◌, ◌≤◌, true, length, replicate, min, Ok};
-ghost use Rattle.std.specs.Prelude.{IsOk, IsTrue};
+ghost use Rattle.std.specs.Prelude.{◌≡◌, ◌+◌, ◌-◌, ◌≤◌, true, false, length, replicate, min, Ok};
+ghost use Rattle.std.specs.Prelude.{IsOk, IsTrue, IsFalse};
 ghost use Rattle.nm_file_leg.specs.Media.{of_mem};
 ghost use Rattle.nm_file_leg.specs.Medium.{ReadsMedium, WritesMedium, SyncsMedium, TellsLength};
 ghost use Rattle.nm_file_leg.specs.Medium.{FindsHole, window};
@@ -42,6 +42,10 @@ impl Medium for MemMedium {
     ghost honest = { true };
 
     ghost held = { of_mem };
+
+    ghost tells = { λ _. false };
+
+    ghost doubted = { λ _. false };
 
     fn read_at(&mut self, at: u64, into: &mut [u8]) -> io::Result<usize>
         ensures reads { ReadsMedium true result at (of_mem self.old) (of_mem self.new) into.new }
@@ -95,5 +99,17 @@ impl Medium for MemMedium {
         }
         let from = at as usize;
         many <= self.bytes.len() - from && are_zeroes(&self.bytes[from..from + many])
+    }
+
+    fn tells_loss(&self) -> bool
+        ensures { IsFalse result }
+    {
+        false
+    }
+
+    fn is_doubted(&self) -> bool
+        ensures { IsFalse result }
+    {
+        false
     }
 }

@@ -4,7 +4,8 @@ ghost use Rattle.nm_leg.specs.Leg.{is_marked_in};
 ghost use Rattle.nm_file_leg.specs.FileLeg.{written_from};
 ghost use Rattle.nm_file_leg.specs.Remembered.{count_regions, region_end, AreWhole, Begins};
 ghost use Rattle.nm_file_leg.specs.Remembered.{NotesWrite, NotesSync, NotesFailure};
-ghost use Rattle.nm_file_leg.specs.Remembered.{Changes, EndsPeriod, WritesNone, WritesOne, cursor_moved};
+ghost use Rattle.nm_file_leg.specs.Remembered.{Changes, EndsPeriod, LearnsLoss, WritesNone, WritesOne};
+ghost use Rattle.nm_file_leg.specs.Remembered.{cursor_moved};
 
 use std::alloc::{AllocError, Global};
 use std::marker::Model;
@@ -184,6 +185,15 @@ pub(crate) fn end_period(writes: &mut RegionWrites, is_doubted: bool)
 {
     if !is_doubted {
         writes.note_sync();
+    }
+}
+
+/// Notes a loss that is told before a write.
+pub(crate) fn learn_loss(writes: &mut RegionWrites, is_lost: bool)
+    ensures { LearnsLoss is_lost writes.old writes.new }
+{
+    if is_lost {
+        writes.note_failure();
     }
 }
 

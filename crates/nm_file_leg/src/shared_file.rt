@@ -23,8 +23,8 @@ struct User {
 /// A file that is opened once and used by several legs, which write to different bytes of it.
 ///
 /// A user's sync makes no call where a sync of another user covers its last write; and where a sync
-/// fails, each user that has written since the last good one fails its next sync, since the system
-/// tells the failure once for each opening.
+/// fails, each user that has written since the last good one fails its next sync, or is told before
+/// its next write, since the system tells the failure once for each opening.
 ///
 /// Why a sync that succeeds is right to: say that it is user U's, and W is U's last write. One sync
 /// runs at a time (`is_syncing`). U succeeds only where the call of a good sync S covers W: S read
@@ -34,8 +34,9 @@ struct User {
 /// users, before it lets S run. Then F finds U writing, or, as U takes its number before it is no
 /// longer writing, finds W's number, which no sync before S covers. So F marks U. U looks at the
 /// mark after it has read how much is covered, so where it reads what S stored it also finds the
-/// mark, and fails. A mark goes only where U's sync fails, and then U's leg believes no sync until
-/// the regions that it wrote since its last good one were written again, by writes later than F.
+/// mark, and fails. A mark goes only where U's sync fails, or U is told before a write, and then
+/// U's leg believes no sync until the regions that it wrote since its last good one were written
+/// again, by writes later than F.
 ///
 /// Each order is that of one sequence of all these steps (`SeqCst`). A user's own calls come one
 /// after the other. A write that failed counts as one, since it may have left bytes. Zeroes that
@@ -99,6 +100,17 @@ impl<F: BackingFile> SharedFile<F> {
         many
     }
 
+    /// Whether a sync that failed may have lost bytes of this user, which it was not told yet. It
+    /// is told by this.
+    pub fn tells_loss(&self, user: usize) -> bool {
+        match self.users.get(user) {
+            Some(own) => {
+                own.has_lost.load(Ordering::SeqCst) && own.has_lost.swap(false, Ordering::SeqCst)
+            }
+            None => false,
+        }
+    }
+
     /// Makes durable what this user has written.
     pub fn sync(&self, user: usize) -> io::Result<()> {
         let own = self.users.get(user).ok_or(no_user())?;
@@ -116,19 +128,42 @@ impl<F: BackingFile> SharedFile<F> {
         Err(io::Error::from(ErrorKind::TimedOut))
     }
 
-    /// Syncs the file ahead of its users' syncs, which then have the less to write: where somebody
-    /// wrote since the last good sync, and no other one runs. Where it fails, each user that has
-    /// written since then fails its next sync. Whether it made a call that went well.
-    pub fn sync_ahead(&self) -> bool {
-        let ended = self.ended.load(Ordering::SeqCst);
-        if is_covered(ended, self.covered.load(Ordering::SeqCst))
-            || self.is_syncing.swap(true, Ordering::SeqCst)
-        {
-            return false;
+    /// How many writes have ended: a sync that begins from now on covers them.
+    pub fn ended(&self) -> u64 {
+        self.ended.load(Ordering::SeqCst)
+    }
+
+    /// Syncs the file ahead of its users' syncs, which then have the less to write, unless a sync
+    /// covers so many writes that have ended. One that runs is waited for. Where it fails, each
+    /// user that has written since the last good one fails its next sync. Whether it made a call.
+    pub fn sync_ahead(&self, ended: u64) -> io::Result<bool> {
+        for _ in 0..LOOKS {
+            if self.covers(ended) {
+                return Ok(false);
+            }
+            if !self.is_syncing.swap(true, Ordering::SeqCst) {
+                let done = self.sync_up_to(ended);
+                self.is_syncing.store(false, Ordering::SeqCst);
+                return done;
+            }
+            yield_now();
         }
-        let done = self.sync_file();
-        self.is_syncing.store(false, Ordering::SeqCst);
-        done.is_ok()
+        Err(io::Error::from(ErrorKind::TimedOut))
+    }
+
+    /// Whether a sync covers so many writes that have ended.
+    fn covers(&self, ended: u64) -> bool {
+        is_covered(ended, self.covered.load(Ordering::SeqCst))
+    }
+
+    /// Syncs the file while no other sync runs, unless one covers so many writes that have ended.
+    /// Whether it made a call.
+    fn sync_up_to(&self, ended: u64) -> io::Result<bool> {
+        if self.covers(ended) {
+            return Ok(false);
+        }
+        self.sync_file()?;
+        Ok(true)
     }
 
     /// What a user's sync answers without a call, if it needs none. How much is covered is read

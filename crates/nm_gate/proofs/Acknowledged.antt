@@ -14,7 +14,7 @@ use Rattle.nm_rules.proofs.RecordLemmas.{busy_found, one_or_two}
 use Rattle.nm_stripe.specs.declared.answer.Answer.{Answer}
 use Rattle.nm_stripe.specs.declared.answer.Answer.TheVariants.{Joining, InSync, Written, Refused}
 use Rattle.nm_stripe.specs.declared.step.Step.{Step}
-use Rattle.nm_stripe.specs.declared.step.Step.TheVariants.{Begin, Push, Claim, Read, Fail, Attach, Return, Replace, Copy, Promote, Sync}
+use Rattle.nm_stripe.specs.declared.step.Step.TheVariants.{Begin, Push, Claim, Read, Fail, Attach, Return, Replace, Copy, Promote, Sync, Flush}
 use Rattle.nm_stripe.specs.Run.{MayBeAsked, NoneHalted, StepOf}
 use Rattle.nm_stripe.proofs.RunLemmas.{step-shape}
 use Rattle.nm_stripe.proofs.StepLemmas.{step-keeps}
@@ -137,6 +137,7 @@ module _ {L : Type 0} (type : LegType L) (is_honest : IsTrue type.honest) where
     step-held_after (Copy leg most from) answer goes allowed asked is = other-step (Copy leg most from) answer (λ t e. cc) goes allowed asked is
     step-held_after (Promote leg) answer goes allowed asked is = other-step (Promote leg) answer (λ t e. cc) goes allowed asked is
     step-held_after (Sync leg) answer goes allowed asked is = other-step (Sync leg) answer (λ t e. cc) goes allowed asked is
+    step-held_after (Flush leg) answer goes allowed asked is = other-step (Flush leg) answer (λ t e. cc) goes allowed asked is
 
     saved-held : (saved : Durable) → Resaves old d saved → NamedHold type old saved
     saved-held saved is leg b named inside none =

@@ -26,7 +26,7 @@ use Rattle.nm_stripe.specs.declared.answer.Answer.{Answer}
 use Rattle.nm_stripe.specs.declared.answer.Answer.TheVariants.{Begun, Pushed, Complete, Halted, Written, Value, Failed, MasterChanged, Joining, Copied, InSync, Synced, LegLost, Refused}
 use Rattle.nm_stripe.specs.declared.answer.Answer.TheVariants.{Nothing as NothingLeft}
 use Rattle.nm_stripe.specs.declared.step.Step.{Step}
-use Rattle.nm_stripe.specs.declared.step.Step.TheVariants.{Begin, Push, Claim, Read, Fail, Attach, Return, Replace, Copy, Promote, Sync}
+use Rattle.nm_stripe.specs.declared.step.Step.TheVariants.{Begin, Push, Claim, Read, Fail, Attach, Return, Replace, Copy, Promote, Sync, Flush}
 use Rattle.nm_stripe.specs.Begin.{BeginsWith, RefusesBegin, ForCause as BeginCause, ForFault as BeginFault}
 use Rattle.nm_stripe.specs.Copy.{RefusesCopy, ForCause as CopyCause, ForFault as CopyFault}
 use Rattle.nm_stripe.specs.Flush.{LeavesBlock}
@@ -214,4 +214,7 @@ module _ {L : Type 0} (type : LegType L) (old new : StripeState L) (b : ℕ) (no
   step-still (Sync leg) Synced leaves goes is = as-was (ap (λ (s : StripeState L). s.records) is.after)
   step-still (Sync leg) (LegLost gone handed) leaves goes is = lost_all-now leg is.0.1.after
   step-still (Sync leg) (Refused cause handed) leaves goes is = sync-refused leg cause is.0
+  step-still (Flush leg) Synced leaves goes is = as-was (ap (λ (s : StripeState L). s.records) is.after)
+  step-still (Flush leg) (LegLost gone handed) leaves goes is = lost-now leg new.legs is.0.1.after
+  step-still (Flush leg) (Refused cause handed) leaves goes is = sync-refused leg cause is.0
   step-still step answer leaves goes is = absurd is

@@ -1,16 +1,16 @@
--- Why the gate refuses a claim and a sync.
+-- Why the gate refuses a claim, a sync and a flush.
 use Rattle.std.proofs.Common.{◌≡◌, ℕ, Bool, true, false, Option, None, Some, IfSome, cond, refl, sym, ap, ◌∙◌, subst}
 use Rattle.nm_rules.specs.State.{StripeState}
-use Rattle.nm_stripe.specs.declared.step.Step.TheVariants.{Claim, Sync}
+use Rattle.nm_stripe.specs.declared.step.Step.TheVariants.{Claim, Flush, Sync}
 use Rattle.nm_gate.specs.declared.gate_refusal.GateRefusal.{GateRefusal}
 use Rattle.nm_gate.specs.declared.gate_refusal.GateRefusal.TheVariants.{SaveFailed, Unsaved}
 use Rattle.nm_gate.specs.Durable.{Durable}
 use Rattle.nm_gate.specs.Gate.{IsForbidden, IsSaved}
 
--- both are refused so
+-- all are refused so
 abbrev pub AreRefused : {L : Type 0} → Option Durable → StripeState L → GateRefusal → Type 0
 AreRefused durable stripe refusal =
-    (ticket leg : ℕ) → IsForbidden durable stripe (Claim ticket) refusal × IsForbidden durable stripe (Sync leg) refusal
+    (ticket leg : ℕ) → IsForbidden durable stripe (Claim ticket) refusal × IsForbidden durable stripe (Sync leg) refusal × IsForbidden durable stripe (Flush leg) refusal
 
 module _ {L : Type 0} (d : Durable) (stripe : StripeState L) where
   broken-refused : d.broken ≡ true → AreRefused (Some d) stripe SaveFailed
@@ -19,11 +19,13 @@ module _ {L : Type 0} (d : Durable) (stripe : StripeState L) where
       let why : SaveFailed ≡ cond d.broken SaveFailed Unsaved = sym (ap (λ (b : Bool). cond b SaveFailed Unsaved) on) in (
         record { not_allowed = λ a. off a.0; refused = why },
         record { not_allowed = λ a. off a.0; refused = why },
+        record { not_allowed = λ a. off a.0; refused = why },
       )
 
   unsaved-refused : d.broken ≡ false → (IsSaved d stripe → ⊥) → AreRefused (Some d) stripe Unsaved
   unsaved-refused off not_saved ticket leg =
       let why : Unsaved ≡ cond d.broken SaveFailed Unsaved = sym (ap (λ (b : Bool). cond b SaveFailed Unsaved) off) in (
+        record { not_allowed = λ a. not_saved a.1; refused = why },
         record { not_allowed = λ a. not_saved a.1; refused = why },
         record { not_allowed = λ a. not_saved a.1; refused = why },
       )

@@ -30,7 +30,7 @@ use Rattle.nm_rules.specs.RunPush.{CallsToPushRun, LosesInPushRun, PushesRun, wr
 use Rattle.nm_rules.specs.RunRead.{FindsRun}
 use Rattle.nm_rules.specs.Runs.{EntryNames, of_run}
 use Rattle.nm_rules.specs.State.{Chunk, StripeState, copy_start, is_out, leg_state}
-use Rattle.nm_rules.specs.Sync.{FailsInSync, LosesInSync, Synchronizes}
+use Rattle.nm_rules.specs.Sync.{FailsInSync, LosesInFlush, LosesInSync, Synchronizes}
 use Rattle.nm_rules.proofs.AttachLemmas.{may_attach, set-other}
 use Rattle.nm_rules.proofs.CopyLemmas.{ready-on}
 use Rattle.nm_rules.proofs.DurableLegLemmas.{calls-durable_after, calls-durable_before, calls-durable_other, reads-durable, syncs-contents, syncs-durable, syncs-durable_kept, syncs-durable_other}
@@ -322,6 +322,9 @@ module _ {L : Type 0} (type : LegType L) (old new : StripeState L) (b : ℕ) (fr
 
     pub loses_in_sync-left : (leg : ℕ) → LosesInSync type old new leg → LegsLeft type b any free old new
     loses_in_sync-left leg l = gone leg (lost_all-of leg l.after) (sync-contents false leg l.called.syncs) (sync-kept false leg l.called.syncs)
+
+    pub loses_in_flush-left : (leg : ℕ) → LosesInFlush type old new leg → LegsLeft type b any free old new
+    loses_in_flush-left leg l = gone leg (lost-of leg new.legs l.after) (sync-contents false leg l.called.syncs) (sync-kept false leg l.called.syncs)
 
     pub loses_in_promote-left : (leg : ℕ) → LosesInPromote type old new leg → LegsLeft type b any free old new
     loses_in_promote-left leg l = gone leg (lost_all-of leg l.after) (sync-contents false leg l.called.syncs) (sync-kept false leg l.called.syncs)

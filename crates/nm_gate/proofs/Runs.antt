@@ -13,7 +13,7 @@ use Rattle.nm_rules.specs.State.{StripeState, is_out, leg_state}
 use Rattle.nm_stripe.specs.declared.answer.Answer.{Answer}
 use Rattle.nm_stripe.specs.declared.answer.Answer.TheVariants.{Synced, Refused}
 use Rattle.nm_stripe.specs.declared.step.Step.{Step}
-use Rattle.nm_stripe.specs.declared.step.Step.TheVariants.{Sync}
+use Rattle.nm_stripe.specs.declared.step.Step.TheVariants.{Flush, Sync}
 use Rattle.nm_stripe.specs.Run.{MayBeAsked, StepOf}
 use Rattle.nm_stripe.specs.Sync.{RefusesSync, ForCause as SyncCause, ForFault as SyncFault}
 use Rattle.nm_stripe.proofs.FlushLemmas.{step-durable}
@@ -118,12 +118,12 @@ module _ {L : Type 0} (type : LegType L) (b : ℕ) (is_honest : IsTrue type.hone
       (subst (λ (x : StripeState L). Behind type b old.stripe old.durable x cleared) (sym is.1) (cleared-behind old.stripe new.stripe old.durable s inside free cleared is.0))
 
   -- a sync in the move makes what the leg holds durable, where it counts
-  refused-guards : (leg : ℕ) (old new : StripeState L) (d : Durable) (s : Stands type old d) (inside : b < old.place.blocks) (free : busy_on b old.records ≡ None)
-      (on : Behind type b old d new d) → LegsLeft type b any (free_of (Sync leg) old b) old new → IsSaved d old → RefusesSync type old new leg AlreadyOut → Guards type new d leg b
-  refused-guards leg old new d s inside free on left saved (SyncCause cause is) =
+  refused-guards : (free_after : ℕ → Type 0) (leg : ℕ) (old new : StripeState L) (d : Durable) (s : Stands type old d) (inside : b < old.place.blocks) (free : busy_on b old.records ≡ None)
+      (on : Behind type b old d new d) → LegsLeft type b any free_after old new → IsSaved d old → RefusesSync type old new leg AlreadyOut → Guards type new d leg b
+  refused-guards free_after leg old new d s inside free on left saved (SyncCause cause is) =
       let out : leg_state leg old ≡ Out = out-state (leg_state leg old) (out-bits old.stopped (is_out (leg_state leg old)) cause) in
-      out-guards type old new d b is_honest s on.stands.keeps inside on.inside free on.free (free_of (Sync leg) old b) leg saved left out
-  refused-guards leg old new d s inside free on left saved (SyncFault is fails) = absurd (let clash : AlreadyOut ≡ Fault = is in cc)
+      out-guards type old new d b is_honest s on.stands.keeps inside on.inside free on.free free_after leg saved left out
+  refused-guards free_after leg old new d s inside free on left saved (SyncFault is fails) = absurd (let clash : AlreadyOut ≡ Fault = is in cc)
 
   step-makes : (step : Step L) (answer : Answer L) (j : ℕ) (old new : StripeState L) (d : Durable) → Stands type old d → b < old.place.blocks → busy_on b old.records ≡ None → Leaves b (Does step answer)
       → SyncsOne j (Does step answer) → Allows d old step → MayBeAsked type.model old step → StepOf type step answer old new → Guards type new d j b
@@ -134,7 +134,15 @@ module _ {L : Type 0} (type : LegType L) (b : ℕ) (is_honest : IsTrue type.hone
   step-makes (Sync leg) (Refused AlreadyOut handed) j old new d s inside free leaves synced allowed asked is =
       let on = step-behind old new d s inside free (Sync leg) (Refused AlreadyOut handed) allowed asked is leaves in
       let left = step-left type old new b is_honest free s.keeps (Sync leg) (Refused AlreadyOut handed) leaves.1 is in
-      subst (λ (i : ℕ). Guards type new d i b) synced (refused-guards leg old new d s inside free on left allowed.1 is.0)
+      subst (λ (i : ℕ). Guards type new d i b) synced (refused-guards (free_of (Sync leg) old b) leg old new d s inside free on left allowed.1 is.0)
+  step-makes (Flush leg) Synced j old new d s inside free leaves synced allowed asked is =
+      let on = step-behind old new d s inside free (Flush leg) Synced allowed asked is leaves in
+      let left = step-left type old new b is_honest free s.keeps (Flush leg) Synced leaves.1 is in
+      subst (λ (i : ℕ). Guards type new d i b) synced (synced-guards type old new d b is_honest s on.stands.keeps inside on.inside free on.free (free_of (Flush leg) old b) leg allowed.1 left is)
+  step-makes (Flush leg) (Refused AlreadyOut handed) j old new d s inside free leaves synced allowed asked is =
+      let on = step-behind old new d s inside free (Flush leg) (Refused AlreadyOut handed) allowed asked is leaves in
+      let left = step-left type old new b is_honest free s.keeps (Flush leg) (Refused AlreadyOut handed) leaves.1 is in
+      subst (λ (i : ℕ). Guards type new d i b) synced (refused-guards (free_of (Flush leg) old b) leg old new d s inside free on left allowed.1 is.0)
   step-makes step answer j old new d s inside free leaves synced allowed asked is = absurd synced
 
   move-makes : (move : Move L) (j : ℕ) (old new : Gated L) → Stands type old.stripe old.durable → b < old.stripe.place.blocks → busy_on b old.stripe.records ≡ None → Leaves b move → SyncsOne j move → MoveOf type move old new

@@ -1,4 +1,4 @@
--- The syncs by which a stripe settles are a flush, so each block is equal where they end.
+-- The flushes by which a stripe settles are of each leg, so each block is equal where they end.
 use Rattle.std.proofs.Common.{◌≡◌, ◌⊎◌, ⊎_elim, inl, inr, ℕ, zero, suc, ◌+◌, ◌/◌, ◌<◌, arith, Bool, true, false, ◌||◌, IsTrue, List, [], ◌∷◌, ◌++◌, Option, Some, IfSome, length, refl, sym, ap, ◌∙◌, subst, slice_index_or}
 use Rattle.std.specs.List.{list_any}
 use Rattle.std.proofs.lemmas.Bool.{cases_lt}
@@ -12,10 +12,10 @@ use Rattle.nm_rules.specs.State.{StripeState, leg_state}
 use Rattle.nm_rules.specs.Sync.{Synchronizes}
 use Rattle.nm_stripe.specs.declared.answer.Answer.TheVariants.{LegLost, Refused, Synced}
 use Rattle.nm_stripe.specs.declared.answer.Handed.TheVariants.{Nothing}
-use Rattle.nm_stripe.specs.declared.step.Step.TheVariants.{Sync}
+use Rattle.nm_stripe.specs.declared.step.Step.TheVariants.{Flush}
 use Rattle.nm_stripe.specs.declared.sync.Syncing.{Syncing}
 use Rattle.nm_stripe.specs.declared.sync.Syncing.TheVariants.{LegLost as SyncLost, Synced as SyncSynced}
-use Rattle.nm_stripe.specs.Sync.{RefusesSync, Syncs, ForCause as SyncCause, ForFault as SyncFault}
+use Rattle.nm_stripe.specs.Sync.{FlushesLeg, RefusesSync, ForCause as SyncCause, ForFault as SyncFault}
 use Rattle.nm_stripe.proofs.RunLemmas.{step-shape}
 use Rattle.nm_gate.specs.Changes.{AreMoves, Leads, cleared}
 use Rattle.nm_gate.specs.Durable.{Durable, is_lacking, is_named}
@@ -28,16 +28,16 @@ use Rattle.nm_gate.specs.Survive.{EqualOutside, Stands}
 use Rattle.nm_gate.proofs.Unmarked.{cooled-clear}
 
 -- a sync that went well
-pub tried-synced : {L : Type 0} (type : LegType L) (old new : StripeState L) (leg : ℕ) (syncing : Syncing) → syncing ≡ SyncSynced → Syncs type old new leg syncing → TriesSync type leg true old new
+pub tried-synced : {L : Type 0} (type : LegType L) (old new : StripeState L) (leg : ℕ) (syncing : Syncing) → syncing ≡ SyncSynced → FlushesLeg type old new leg syncing → TriesSync type leg true old new
 tried-synced type old new leg syncing e is =
-    let synced : Synchronizes type old new leg = subst (λ (x : Syncing). Syncs type old new leg x) e is in
+    let synced : Synchronizes type old new leg = subst (λ (x : Syncing). FlushesLeg type old new leg x) e is in
     record { answer = Synced; is = synced; goes = tt; synced = λ on. refl; stays = λ on. synced.after; failed = λ off. absurd (cc) }
 
 -- one that lost its leg
-pub tried-lost : {L : Type 0} (type : LegType L) (old new : StripeState L) (leg gone : ℕ) (syncing : Syncing) → syncing ≡ SyncLost gone → Syncs type old new leg syncing → TriesSync type leg false old new
+pub tried-lost : {L : Type 0} (type : LegType L) (old new : StripeState L) (leg gone : ℕ) (syncing : Syncing) → syncing ≡ SyncLost gone → FlushesLeg type old new leg syncing → TriesSync type leg false old new
 tried-lost type old new leg gone syncing e is = record {
   answer = LegLost gone Nothing;
-  is = (subst (λ (x : Syncing). Syncs type old new leg x) e is, refl);
+  is = (subst (λ (x : Syncing). FlushesLeg type old new leg x) e is, refl);
   goes = tt;
   synced = λ on. absurd (cc);
   stays = λ on. absurd (cc);
@@ -50,7 +50,7 @@ tried-refused {L} type old new leg refusal went out is = record {
   answer = Refused refusal Nothing;
   is = (is, refl);
   goes = tt;
-  synced = λ on. let one : Refusal → Move L = λ r. Does (Sync leg) (Refused r Nothing) in subst (λ (r : Refusal). SyncsOne leg (one r)) (sym (out on)) refl;
+  synced = λ on. let one : Refusal → Move L = λ r. Does (Flush leg) (Refused r Nothing) in subst (λ (r : Refusal). SyncsOne leg (one r)) (sym (out on)) refl;
   stays = λ on. refused-stays (out on) is;
   failed = λ off e. cc;
 }
@@ -102,7 +102,7 @@ module _ {L : Type 0} (type : LegType L) (d : Durable) (whole : d.broken ≡ fal
 
     module _ (leg : ℕ) (there : leg < length mid.legs) (went : Bool) (new : StripeState L) (tries : TriesSync type leg went mid new) where
       abbrev pub move : Move L
-      move = Does (Sync leg) tries.answer
+      move = Does (Flush leg) tries.answer
 
       does : MoveOf type move (at mid) (at new)
       does = record { allowed = (whole, mid-saved); asked = there; does = tries.is; durable = refl }
@@ -130,7 +130,7 @@ module _ {L : Type 0} (type : LegType L) (d : Durable) (whole : d.broken ≡ fal
             syncs-last other so_far.moves move (subst (λ (i : ℕ). SyncsOne i move) same (tries.synced on)))
             (cases_lt other count);
         stays = tries.stays on ∙ ap (λ (x : StripeState L). let s : StripeState L = record x { legs = new.legs } in s) so_far.stays;
-        legs = (step-shape type (Sync leg) tries.answer mid new tries.is).legs ∙ so_far.legs;
+        legs = (step-shape type (Flush leg) tries.answer mid new tries.is).legs ∙ so_far.legs;
       }
 
 -- with no record there is none on any block

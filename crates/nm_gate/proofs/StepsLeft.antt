@@ -12,13 +12,13 @@ use Rattle.nm_stripe.specs.declared.answer.Answer.{Answer}
 use Rattle.nm_stripe.specs.declared.answer.Answer.TheVariants.{Begun, Pushed, Complete, Halted, Written, Value, Failed, MasterChanged, Joining, Copied, InSync, Synced, LegLost, Refused}
 use Rattle.nm_stripe.specs.declared.answer.Answer.TheVariants.{Nothing as NothingLeft}
 use Rattle.nm_stripe.specs.declared.step.Step.{Step}
-use Rattle.nm_stripe.specs.declared.step.Step.TheVariants.{Begin, Push, Claim, Read, Fail, Attach, Return, Replace, Copy, Promote, Sync}
+use Rattle.nm_stripe.specs.declared.step.Step.TheVariants.{Begin, Push, Claim, Read, Fail, Attach, Return, Replace, Copy, Promote, Sync, Flush}
 use Rattle.nm_stripe.specs.Begin.{RefusesBegin, ForCause as BeginCause, ForFault as BeginFault}
 use Rattle.nm_stripe.specs.Copy.{RefusesCopy, ForCause as CopyCause, ForFault as CopyFault}
 use Rattle.nm_stripe.specs.Read.{RefusesRead, ForCause as ReadCause, ForFault as ReadFault}
 use Rattle.nm_stripe.specs.Run.{NoneHalted, StepOf}
 use Rattle.nm_stripe.specs.Sync.{RefusesSync, ForCause as SyncCause, ForFault as SyncFault}
-use Rattle.nm_gate.proofs.LegsLeft.{LegsLeft, NotNext, any, but, stays, begins-left, fails_in_begin-left, loses_in_begin-left, pushes-left, loses_in_push-left, claims-left, finds-left, fails_in_read-left, loses_in_read-left, goes_out-left, attaches-left, replaces-left, returns-left, copies_read-left, copies_write-left, fails_in_copy-left, loses_in_copy-left, promotes-left, loses_in_promote-left, synchronizes-left, fails_in_sync-left, loses_in_sync-left}
+use Rattle.nm_gate.proofs.LegsLeft.{LegsLeft, NotNext, any, but, stays, begins-left, fails_in_begin-left, loses_in_begin-left, pushes-left, loses_in_push-left, claims-left, finds-left, fails_in_read-left, loses_in_read-left, goes_out-left, attaches-left, replaces-left, returns-left, copies_read-left, copies_write-left, fails_in_copy-left, loses_in_copy-left, promotes-left, loses_in_promote-left, synchronizes-left, fails_in_sync-left, loses_in_flush-left, loses_in_sync-left}
 
 -- the legs that a step does not call in sync, nor lets join
 abbrev pub other_of : {L : Type 0} → Step L → Answer L → ℕ → Type 0
@@ -86,4 +86,7 @@ module _ {L : Type 0} (type : LegType L) (old new : StripeState L) (b : ℕ) (is
   step-left (Sync leg) Synced goes is = synchronizes-left type old new b (free_of (Sync leg) old b) is_honest leg is
   step-left (Sync leg) (LegLost gone handed) goes is = loses_in_sync-left type old new b (free_of (Sync leg) old b) is_honest leg is.0.1
   step-left (Sync leg) (Refused cause handed) goes is = sync-refused (free_of (Sync leg) old b) leg cause is.0
+  step-left (Flush leg) Synced goes is = synchronizes-left type old new b (free_of (Flush leg) old b) is_honest leg is
+  step-left (Flush leg) (LegLost gone handed) goes is = loses_in_flush-left type old new b (free_of (Flush leg) old b) is_honest leg is.0.1
+  step-left (Flush leg) (Refused cause handed) goes is = sync-refused (free_of (Flush leg) old b) leg cause is.0
   step-left step answer goes is = absurd is

@@ -18,7 +18,7 @@ use Rattle.nm_stripe.specs.declared.answer.Answer.{Answer}
 use Rattle.nm_stripe.specs.declared.answer.Answer.TheVariants.{Begun, Pushed, Complete, Halted, Value, Failed, MasterChanged, Joining, Copied, InSync, Synced, LegLost, Refused}
 use Rattle.nm_stripe.specs.declared.answer.Answer.TheVariants.{Nothing as NothingLeft}
 use Rattle.nm_stripe.specs.declared.step.Step.{Step}
-use Rattle.nm_stripe.specs.declared.step.Step.TheVariants.{Begin, Push, Claim, Read, Fail, Attach, Return, Replace, Copy, Promote, Sync}
+use Rattle.nm_stripe.specs.declared.step.Step.TheVariants.{Begin, Push, Claim, Read, Fail, Attach, Return, Replace, Copy, Promote, Sync, Flush}
 use Rattle.nm_stripe.specs.Begin.{BeginsWith, RefusesBegin, ForCause as BeginCause, ForFault as BeginFault}
 use Rattle.nm_stripe.specs.Copy.{RefusesCopy, ForCause as CopyCause, ForFault as CopyFault}
 use Rattle.nm_stripe.specs.Read.{RefusesRead, ForCause as ReadCause, ForFault as ReadFault}
@@ -178,4 +178,7 @@ module _ {L : Type 0} (type : LegType L) (old new : StripeState L) (b : ℕ) (no
   step-none (Sync leg) Synced other goes is = as-was (ap (λ (s : StripeState L). s.records) is.after)
   step-none (Sync leg) (LegLost gone handed) other goes is = lost_all-was leg is.0.1.after
   step-none (Sync leg) (Refused cause handed) other goes is = sync-refused leg cause is.0
+  step-none (Flush leg) Synced other goes is = as-was (ap (λ (s : StripeState L). s.records) is.after)
+  step-none (Flush leg) (LegLost gone handed) other goes is = lost-was leg new.legs is.0.1.after
+  step-none (Flush leg) (Refused cause handed) other goes is = sync-refused leg cause is.0
   step-none step answer other goes is = absurd is

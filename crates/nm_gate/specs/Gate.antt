@@ -4,7 +4,7 @@ use Rattle.std.specs.Prelude.{Option, None, Some, length}
 use Rattle.nm_choice.specs.declared.leg_state.LegState.TheVariants.{InSync}
 use Rattle.nm_rules.specs.State.{StripeState, leg_state}
 use Rattle.nm_stripe.specs.declared.step.Step.{Step}
-use Rattle.nm_stripe.specs.declared.step.Step.TheVariants.{Attach, Begin, Claim, Copy, Promote}
+use Rattle.nm_stripe.specs.declared.step.Step.TheVariants.{Attach, Begin, Claim, Copy, Flush, Promote}
 use Rattle.nm_stripe.specs.declared.step.Step.TheVariants.{Replace, Return, Sync}
 use Rattle.nm_stripe.specs.Copy.{region_to_copy}
 use Rattle.nm_gate.specs.declared.gate_refusal.GateRefusal.{GateRefusal}
@@ -38,6 +38,7 @@ abbrev pub Allows : {L : Type 0} → Durable → StripeState L → Step L → Ty
 Allows d stripe (Begin block bytes) = (d.broken ≡ false) × (is_marked_at block stripe d ≡ true)
 Allows d stripe (Claim ticket) = (d.broken ≡ false) × IsSaved d stripe
 Allows d stripe (Sync leg) = (d.broken ≡ false) × IsSaved d stripe
+Allows d stripe (Flush leg) = (d.broken ≡ false) × IsSaved d stripe
 Allows d stripe (Attach leg) = (d.broken ≡ false) × (is_named leg d ≡ false)
 Allows d stripe (Return leg marks) = (d.broken ≡ false) × (is_named leg d ≡ false)
 Allows d stripe (Replace leg part) =

@@ -6,7 +6,7 @@ use Rattle.nm_rules.specs.declared.refusal.Refusal.TheVariants.{AlreadyOut}
 use Rattle.nm_stripe.specs.declared.answer.Answer.{Answer}
 use Rattle.nm_stripe.specs.declared.answer.Answer.TheVariants.{Synced, Refused}
 use Rattle.nm_stripe.specs.declared.step.Step.{Step}
-use Rattle.nm_stripe.specs.declared.step.Step.TheVariants.{Sync}
+use Rattle.nm_stripe.specs.declared.step.Step.TheVariants.{Flush, Sync}
 use Rattle.nm_stripe.specs.Flush.{LeavesBlock}
 use Rattle.nm_stripe.specs.Run.{MayBeAsked, NoneHalted, StepOf}
 use Rattle.nm_gate.specs.Durable.{Durable}
@@ -73,10 +73,12 @@ abbrev pub AllLeave : {L : Type 0} → ℕ → List (Move L) → Type 0
 AllLeave block [] = Unit {0}
 AllLeave block (move ∷ moves) = Leaves block move × AllLeave block moves
 
--- the move synced this leg, or found it out
+-- the move synced or flushed this leg, or found it out
 abbrev pub SyncsOne : {L : Type 0} → ℕ → Move L → Type 0
 SyncsOne leg (Does (Sync other) Synced) = other ≡ leg
 SyncsOne leg (Does (Sync other) (Refused AlreadyOut handed)) = other ≡ leg
+SyncsOne leg (Does (Flush other) Synced) = other ≡ leg
+SyncsOne leg (Does (Flush other) (Refused AlreadyOut handed)) = other ≡ leg
 SyncsOne leg move = ⊥
 
 -- one of the moves did

@@ -1,10 +1,10 @@
--- Which stripe may settle, and what the syncs do by which it settles.
+-- Which stripe may settle, and what the flushes do by which it settles.
 use Rattle.std.specs.Prelude.{◌≡◌, ℕ, ◌||◌, Bool, true, false, List, [], ◌∷◌, length}
 use Rattle.nm_leg.specs.Leg.{LegType}
 use Rattle.nm_rules.specs.State.{StripeState}
 use Rattle.nm_stripe.specs.declared.answer.Answer.{Answer}
 use Rattle.nm_stripe.specs.declared.answer.Answer.TheVariants.{Synced}
-use Rattle.nm_stripe.specs.declared.step.Step.TheVariants.{Sync}
+use Rattle.nm_stripe.specs.declared.step.Step.TheVariants.{Flush}
 use Rattle.nm_stripe.specs.Run.{NoneHalted, StepOf}
 use Rattle.nm_gate.specs.Durable.{Durable, is_lacking, is_named}
 use Rattle.nm_gate.specs.Gate.{IsInSync}
@@ -17,18 +17,18 @@ pub record MaySettle {L : Type 0} (stripe : StripeState L) (d : Durable) : Type 
   pub none : length stripe.records ≡ 0
   pub covered : (leg : ℕ) → (is_named leg d || is_lacking leg d) ≡ true → IsInSync leg stripe
 
--- a sync of a leg, with its answer: where the leg was synced, or is out, no more than legs changed;
--- where it failed the leg was not synced
+-- a flush of a leg, with its answer: where the leg was synced, or is out, no more than legs
+-- changed; where it failed the leg was not synced
 pub record TriesSync {L : Type 0} (type : LegType L) (leg : ℕ) (went : Bool)
     (old new : StripeState L) : Type 0 where
   pub answer : Answer L
-  pub is : StepOf type (Sync leg) answer old new
+  pub is : StepOf type (Flush leg) answer old new
   pub goes : NoneHalted (answer ∷ [])
-  pub synced : went ≡ true → SyncsOne leg (Does (Sync leg) answer)
+  pub synced : went ≡ true → SyncsOne leg (Does (Flush leg) answer)
   pub stays : went ≡ true → new ≡ record old { legs = new.legs }
   pub failed : went ≡ false → answer ≡ Synced → ⊥
 
--- the last step was a sync that failed
+-- the last step was a flush that failed
 abbrev pub EndsInFailure : {L : Type 0} → LegType L → StripeState L → Type 0
 EndsInFailure {L} type new = (leg : ℕ) × (mid : StripeState L) × TriesSync type leg false mid new
 

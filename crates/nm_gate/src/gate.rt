@@ -33,14 +33,16 @@ impl<L: LegPart> GatedStripe<L> {
         }
     }
 
-    /// A claim of a write, and a sync of a leg.
+    /// A claim of a write, and a sync or a flush of a leg.
     pub fn may_answer(&self) -> Option<GateRefusal>
         ensures allowed { IfNone result ((ticket leg : ℕ) →
             IsAllowed self.now.durable self.now.stripe (step.Claim ticket)
-            × IsAllowed self.now.durable self.now.stripe (step.Sync leg)) }
+            × IsAllowed self.now.durable self.now.stripe (step.Sync leg)
+            × IsAllowed self.now.durable self.now.stripe (step.Flush leg)) }
         ensures refused { IfSome result (λ refusal. (ticket leg : ℕ) →
             IsForbidden self.now.durable self.now.stripe (step.Claim ticket) refusal
-            × IsForbidden self.now.durable self.now.stripe (step.Sync leg) refusal) }
+            × IsForbidden self.now.durable self.now.stripe (step.Sync leg) refusal
+            × IsForbidden self.now.durable self.now.stripe (step.Flush leg) refusal) }
     {
         match &self.durable {
             Some(durable) => {

@@ -14,9 +14,10 @@ use nm_rules::Refusal;
 const MOST_REGIONS: u64 = 1 << 31;
 
 impl<L: LegPart> GatedStripe<L> {
-    /// The leg joins as one that may have lost what it has not synced: it is behind there too. Where
-    /// the superblock may say that the leg lacks no more than the marked spans, what is not synced
-    /// lies in these; else it may lie anywhere. Answers how many blocks are left to copy to it.
+    /// The leg joins as one that may have lost what it has not synced: it is behind there too.
+    /// Where the superblock may say that the leg lacks no more than the marked spans, what is not
+    /// synced lies in these; else it may lie anywhere. Answers how many blocks are left to copy to
+    /// it.
     ///
     /// Refused as `Stripe::attach` is.
     pub fn return_leg(&mut self, leg: u8) -> Result<u64, Refusal>

@@ -138,7 +138,7 @@ fn sync_one<L: LegPart>(stripe: &mut Stripe<L>, leg: u8) -> bool
     requires { leg < length stripe.old.legs }
     ensures { TriesSync (leg_type L.model L.honest) leg result stripe.old stripe.new }
 {
-    match stripe.sync(leg) {
+    match stripe.flush(leg) {
         Ok(Syncing::Synced) => true,
         Ok(Syncing::LegLost(_)) => false,
         Err(Refusal::AlreadyOut) => true,

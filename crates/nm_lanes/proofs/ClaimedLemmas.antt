@@ -5,7 +5,7 @@ use Rattle.nm_geometry.specs.Geometry.{Geometry}
 use Rattle.nm_stripe.specs.declared.answer.Answer.{Answer}
 use Rattle.nm_stripe.specs.declared.answer.Answer.TheVariants.{Begun}
 use Rattle.nm_stripe.specs.declared.step.Step.{Step}
-use Rattle.nm_stripe.specs.declared.step.Step.TheVariants.{Begin, Push, Claim, Read, Fail, Attach, Return, Replace, Copy, Promote, Sync}
+use Rattle.nm_stripe.specs.declared.step.Step.TheVariants.{Begin, Push, Claim, Read, Fail, Attach, Return, Replace, Copy, Promote, Sync, Flush}
 use Rattle.nm_lanes.specs.declared.run_write.RunWrite.{RunWrite}
 use Rattle.nm_lanes.specs.Done.{Done}
 use Rattle.nm_lanes.specs.Ends.{EndsClaimed}
@@ -55,6 +55,7 @@ module _ {L : Type 0} where
   no-sync leg (Copy other most from) ticket a = a
   no-sync leg (Promote other) ticket a = a
   no-sync leg (Sync other) ticket a = a
+  no-sync leg (Flush other) ticket a = a
 
   -- syncs alone
   pub syncs-claimed : (legs : ℕ) (own : List (Done L)) → AllSync legs own → EndsClaimed own

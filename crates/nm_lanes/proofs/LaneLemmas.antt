@@ -4,7 +4,7 @@ use Rattle.nm_rules.specs.declared.refusal.Refusal.{Refusal}
 use Rattle.nm_rules.specs.declared.refusal.Refusal.TheVariants as refusal
 use Rattle.nm_stripe.specs.declared.answer.Answer.{Answer}
 use Rattle.nm_stripe.specs.declared.step.Step.{Step}
-use Rattle.nm_stripe.specs.declared.step.Step.TheVariants.{Begin, Push, Claim, Read, Fail, Attach, Return, Replace, Copy, Promote, Sync}
+use Rattle.nm_stripe.specs.declared.step.Step.TheVariants.{Begin, Push, Claim, Read, Fail, Attach, Return, Replace, Copy, Promote, Sync, Flush}
 use Rattle.nm_lanes.specs.declared.call_error_kind.CallErrorKind.{CallErrorKind}
 use Rattle.nm_lanes.specs.declared.call_error_kind.CallErrorKind.TheVariants as cause
 use Rattle.nm_lanes.specs.Done.{Done, done_as}
@@ -49,6 +49,7 @@ claims-more ours theirs more (Replace leg part) h = absurd h
 claims-more ours theirs more (Copy leg most from) h = absurd h
 claims-more ours theirs more (Promote leg) h = absurd h
 claims-more ours theirs more (Sync leg) h = absurd h
+claims-more ours theirs more (Flush leg) h = absurd h
 
 -- tickets that are ours are also theirs
 pub ends-more : {L : Type 0} (ours theirs : ℕ → Type 0) (kind : CallErrorKind) (d : Done L) → ((ticket : ℕ) → ours ticket → theirs ticket) → EndsSo ours kind d → EndsSo theirs kind d

@@ -4,7 +4,7 @@ pub mod FlushLemmas
 pub mod LaneLemmas
 pub mod LiftLemmas
 pub mod PieceLemmas
-pub mod RoundLemmas
+pub mod OnLanesLemmas
 pub mod SpanLemmas
 pub mod SyncLemmas
 pub mod TouchLemmas
@@ -21,7 +21,7 @@ pub mod RegionLemmas
 pub mod GetListLemmas
 pub mod RunListLemmas
 pub mod RunLaneLemmas
-pub mod RunRoundLemmas
+pub mod RegionRunLemmas
 pub mod RunAllLemmas
 pub mod Moving
 pub mod Weaving

@@ -51,13 +51,6 @@ abbrev pub AllLie : (ℕ → Type 0) → Geometry → List RunWrite → Type 0
 AllLie In shape [] = Unit {0}
 AllLie In shape (write ∷ writes) = In (stripe_of write.run.block shape) × AllLie In shape writes
 
-pub none-in : (shape : Geometry) (stripe : ℕ) (writes : List RunWrite) → AllLie (λ n. n ≡ stripe → ⊥) shape writes → writes_in shape stripe writes ≡ []
-none-in shape stripe [] a = refl
-none-in shape stripe (x ∷ xs) a = elim (eqb_tells (stripe_of x.run.block shape) stripe) [
-  | inl hit ↦ absurd (a.0 hit.1)
-  | inr miss ↦ rw miss.0 (none-in shape stripe xs a.1)
-]
-
 pub all-in : (shape : Geometry) (stripe : ℕ) (writes : List RunWrite) → AllLie (λ n. n ≡ stripe) shape writes → writes_in shape stripe writes ≡ writes
 all-in shape stripe [] a = refl
 all-in shape stripe (x ∷ xs) a = elim (eqb_tells (stripe_of x.run.block shape) stripe) [

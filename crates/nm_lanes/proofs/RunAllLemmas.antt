@@ -15,8 +15,8 @@ use Rattle.nm_lanes.specs.Fillings.{cuts_after, filling, target_of, IsPieceRange
 use Rattle.nm_lanes.specs.Lists.{MirrorStep, steps_in, stripe_list}
 use Rattle.nm_lanes.specs.PieceRanges.{first_of, rest_of}
 use Rattle.nm_lanes.specs.Reads.{HasRead, HasReadSome, ReadsSomeIn}
-use Rattle.nm_lanes.specs.Rounds.{EndedLanes}
-use Rattle.nm_lanes.specs.RunRounds.{DoesNext, DoesSomeIn, HasDone, HasDoneSome}
+use Rattle.nm_lanes.specs.OnLanes.{EndedLanes}
+use Rattle.nm_lanes.specs.RegionRuns.{DoesNext, DoesSomeIn, HasDone, HasDoneSome}
 use Rattle.nm_lanes.specs.Writes.{HasWritten, HasWrittenSome, writes_in, LiesIn}
 use Rattle.nm_lanes.proofs.EachLemmas.{each-append, each-map, each-same}
 use Rattle.nm_lanes.proofs.LiftLemmas.{in-append, does-none}
@@ -24,7 +24,7 @@ use Rattle.nm_lanes.proofs.PieceRangeLemmas.{filling-none, written-append}
 use Rattle.nm_lanes.proofs.PutListLemmas.{writes_in-append, lies-left, lies-right}
 use Rattle.nm_lanes.proofs.ShareLemmas.{own-list, tries-share, each-behind, tries-behind}
 use Rattle.nm_lanes.proofs.RunListLemmas.{DoesAll, in-runs, done-in, each-claimed, none-done, none-some, some-right, some-append}
-use Rattle.nm_lanes.proofs.RunRoundLemmas.{done-append}
+use Rattle.nm_lanes.proofs.RegionRunLemmas.{done-append}
 
 module _ {L D : Type 0} (follows : D → List (Done L) → D → Type 0) (stays : (lane : D) → follows lane [] lane) (shape : Geometry) (reads : Bool) where
   -- a lane that was left alone

@@ -25,7 +25,7 @@ use Rattle.nm_lanes.specs.PieceRanges.{rest_of, runs_in_pieces}
 use Rattle.nm_lanes.specs.Reads.{IsValue, run_bytes}
 use Rattle.nm_lanes.specs.Runs.{is_whole}
 use Rattle.nm_lanes.specs.Steps.{IsWritten, Nobodys, Only}
-use Rattle.nm_lanes.specs.RunRounds.{DoesEach, DoesOne, DoesSome, DoesSomeIn, EndsRuns, HasDone, OneStops}
+use Rattle.nm_lanes.specs.RegionRuns.{DoesEach, DoesOne, DoesSome, DoesSomeIn, EndsRuns, HasDone, OneStops}
 use Rattle.nm_lanes.specs.Writes.{writes_in}
 use Rattle.nm_lanes.proofs.ClaimedLemmas.{claimed-append, not-begun}
 use Rattle.nm_lanes.proofs.LaneLemmas.{does-does, does-stops, stops-more}

@@ -8,7 +8,7 @@ use Rattle.nm_lanes.specs.Done.{Done}
 use Rattle.nm_lanes.specs.Ends.{EndsClaimed}
 use Rattle.nm_lanes.specs.Lists.{MirrorStep, stripe_list, steps_in}
 use Rattle.nm_lanes.specs.Reads.{bytes_found, runs_in}
-use Rattle.nm_lanes.specs.RunRounds.{DoesEach, DoesSome}
+use Rattle.nm_lanes.specs.RegionRuns.{DoesEach, DoesSome}
 use Rattle.nm_lanes.specs.Writes.{writes_in}
 use Rattle.nm_lanes.proofs.ClaimedLemmas.{reads-claimed, writes-claimed}
 use Rattle.nm_lanes.proofs.GetListLemmas as get

@@ -1,5 +1,5 @@
 -- A call's share of each lane: in other words, and after what was done before.
-use Rattle.std.proofs.Common.{Result, Ok, Err, ◌≡◌, inl, inr, ℕ, suc, ◌+◌, ◌≤◌, ◌==◌, Bool, true, false, if◌then◌else◌, Some, List, [], ◌∷◌, ◌++◌, length, slice_get, refl, sym, ap, ◌∙◌, subst, append_assoc, arith}
+use Rattle.std.proofs.Common.{◌≡◌, inl, inr, ℕ, suc, ◌+◌, ◌==◌, Bool, true, false, if◌then◌else◌, Some, List, [], ◌∷◌, ◌++◌, length, slice_get, refl, sym, ap, ◌∙◌, subst, append_assoc, arith}
 use Rattle.nm_stripe.specs.declared.answer.Answer.TheVariants.{Begun}
 use Rattle.nm_stripe.specs.declared.step.Step.TheVariants.{Begin}
 use Rattle.nm_lanes.specs.declared.call_error.CallError.{CallError}
@@ -8,9 +8,7 @@ use Rattle.nm_lanes.specs.Done.{Done, done_as}
 use Rattle.nm_lanes.specs.Ends.{BeganOwn, ByLeaving, ByStep, EachLane, LaneDid, LaneEnds, LaneTries, LeavesZeroes}
 use Rattle.nm_lanes.specs.Lists.{MirrorStep, stripe_list, own_steps}
 use Rattle.nm_lanes.specs.Own.{helps, own_done, EndsSo}
-use Rattle.nm_lanes.specs.Rounds.{RunsLanes}
 use Rattle.nm_lanes.proofs.ClaimedLemmas.{claimed-append}
-use Rattle.nm_lanes.proofs.EachLemmas.{each-map}
 use Rattle.nm_lanes.proofs.LaneLemmas.{does-does, does-stops, stops-more}
 
 -- the own steps of a stripe's list are the stripe's own steps
@@ -45,18 +43,6 @@ module _ {L D : Type 0} (follows : D → List (Done L) → D → Type 0) where
       | inr ends ↦ inr (ends.0, ends.1, ends-share Share Other old new a.own ends.1 more ends.2)
     ];
     ends = λ same. ends-share Share Other old new a.own cause.kind more (a.ends same);
-  }
-
-  -- the same shares in other words
-  pub runs-share : {A : Type 0} (Share Other : ℕ → List (Done L) → Type 0) (first : ℕ) (xs us : List D) (result : Result A CallError) → ((stripe : ℕ) → first ≤ stripe → (own : List (Done L)) → Share stripe own → Other stripe own)
-      → RunsLanes follows Share Share first (xs, us) result → RunsLanes follows Other Other first (xs, us) result
-  runs-share Share Other first xs us (Ok done) more a =
-      each-map (λ stripe old new. LaneDid follows (Share stripe) old new) (λ stripe old new. LaneDid follows (Other stripe) old new) first xs us (λ stripe old new from upto did. did-share (Share stripe) (Other stripe) old new (more stripe from) did) a
-  runs-share Share Other first xs us (Err cause) more a = record {
-    from = a.from;
-    upto = a.upto;
-    each = each-map (λ stripe old new. LaneTries follows (Share stripe) cause stripe old new) (λ stripe old new. LaneTries follows (Other stripe) cause stripe old new) first xs us
-        (λ stripe old new from upto tries. tries-share (Share stripe) (Other stripe) cause stripe old new (more stripe from) tries) a.each;
   }
 
   -- what was done on each lane, and then something else

@@ -9,7 +9,7 @@ use Rattle.nm_lanes.specs.declared.call_error.CallError.{CallError}
 use Rattle.nm_lanes.specs.Done.{Done}
 use Rattle.nm_lanes.specs.Ends.{EachLane, LaneDid, LaneTries}
 use Rattle.nm_lanes.specs.Flushes.{IsStripeOf, SyncsIn, HasFlushed, HasFlushedSome}
-use Rattle.nm_lanes.specs.Rounds.{DidLanes, EndedLanes}
+use Rattle.nm_lanes.specs.OnLanes.{DidLanes, EndedLanes}
 use Rattle.nm_lanes.specs.Syncs.{AllSync, IsLegSyncs, LaneSyncs, InSpans, IsAround}
 use Rattle.nm_lanes.proofs.EachLemmas.{each-append, each-map, each-same, each-long}
 use Rattle.nm_lanes.proofs.FlushLemmas.{flush-none, flush-lane, flush-more}

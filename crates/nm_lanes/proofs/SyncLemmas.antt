@@ -6,7 +6,7 @@ use Rattle.nm_stripe.specs.Flush.{SyncsLeg, HasSynced, IsFlush}
 use Rattle.nm_stripe.specs.declared.answer.Answer.{Answer}
 use Rattle.nm_stripe.specs.declared.answer.Answer.TheVariants.{Synced, Refused}
 use Rattle.nm_stripe.specs.declared.step.Step.{Step}
-use Rattle.nm_stripe.specs.declared.step.Step.TheVariants.{Sync}
+use Rattle.nm_stripe.specs.declared.step.Step.TheVariants.{Flush}
 use Rattle.nm_lanes.specs.declared.call_error_kind.CallErrorKind.{CallErrorKind}
 use Rattle.nm_lanes.specs.Done.{Done, done_as}
 use Rattle.nm_lanes.specs.Ends.{BeganOwn, ByStep, LaneDid, LaneEnds, LaneTries}
@@ -43,8 +43,8 @@ own-flush legs list all leg lt = own-synced leg list (all leg lt)
 
 -- a step of a call's flush is one of a stripe's
 syncs-leg : {L : Type 0} (leg : ℕ) (step : Step L) (answer : Answer L) → SyncsOrFindsOut leg step answer → SyncsLeg leg step answer
-syncs-leg leg (Sync other) Synced h = h
-syncs-leg leg (Sync other) (Refused AlreadyOut handed) h = h
+syncs-leg leg (Flush other) Synced h = h
+syncs-leg leg (Flush other) (Refused AlreadyOut handed) h = h
 syncs-leg leg step answer h = absurd h
 
 some-synced : {L : Type 0} (leg : ℕ) (list : List (Done L)) → SomeSyncs leg list → HasSynced leg (map (λ d. d.step) list) (map (λ d. d.answer) list)
@@ -62,9 +62,9 @@ all-more legs (x ∷ xs) d all one = (all.0, all-more legs xs d all.1 one)
 module _ {L D : Type 0} (follows : D → List (Done L) → D → Type 0)
     (joins : (first mid last : D) (before after : List (Done L)) → follows first before mid → follows mid after last → follows first (before ++ after) last) where
   -- one leg more
-  pub syncs-more : (old mid new : D) (legs leg : ℕ) → leg < legs → LaneSyncs follows (old, mid) legs leg → Completes follows mid new (Sync leg) (SyncsOrFindsOut leg (Sync leg)) → LaneSyncs follows (old, new) legs (leg + 1)
+  pub syncs-more : (old mid new : D) (legs leg : ℕ) → leg < legs → LaneSyncs follows (old, mid) legs leg → Completes follows mid new (Flush leg) (SyncsOrFindsOut leg (Flush leg)) → LaneSyncs follows (old, new) legs (leg + 1)
   syncs-more old mid new legs leg lt a b =
-      let d = done_as (Sync leg) b.answer in
+      let d = done_as (Flush leg) b.answer in
       record {
         own = a.own ++ d ∷ [];
         does = does-does follows joins old mid new a.own (d ∷ []) a.does b.does;
@@ -73,7 +73,7 @@ module _ {L D : Type 0} (follows : D → List (Done L) → D → Type 0)
           | inl before ↦ synced-left other a.own (d ∷ []) (a.each other before)
           | inr above ↦
               let last : leg ≡ other = omega (arith, above, upto) in
-              synced-right other a.own (d ∷ []) (inl (subst (λ (n : ℕ). SyncsOrFindsOut n (Sync leg) b.answer) last b.is_answer))
+              synced-right other a.own (d ∷ []) (inl (subst (λ (n : ℕ). SyncsOrFindsOut n (Flush leg) b.answer) last b.is_answer))
         ];
       }
 

@@ -57,7 +57,7 @@ answer_of_read (Ok (reading.Value receipt)) bytes =
 answer_of_read (Ok (reading.LegLost leg)) bytes = answer.LegLost leg (handed.Room bytes)
 answer_of_read (Err refusal) bytes = answer.Refused refusal (handed.Room bytes)
 
--- a sync
+-- a sync or a flush
 abbrev pub answer_of_sync : {L : Type 0} → Result Syncing Refusal → Answer L
 answer_of_sync (Ok syncing.Synced) = answer.Synced
 answer_of_sync (Ok (syncing.LegLost leg)) = lost_with_nothing leg

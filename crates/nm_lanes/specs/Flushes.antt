@@ -7,17 +7,17 @@ use Rattle.nm_rules.specs.declared.refusal.Refusal.TheVariants.{AlreadyOut}
 use Rattle.nm_stripe.specs.declared.answer.Answer.{Answer}
 use Rattle.nm_stripe.specs.declared.answer.Answer.TheVariants.{Synced, Refused}
 use Rattle.nm_stripe.specs.declared.step.Step.{Step}
-use Rattle.nm_stripe.specs.declared.step.Step.TheVariants.{Sync}
+use Rattle.nm_stripe.specs.declared.step.Step.TheVariants.{Flush}
 use Rattle.nm_lanes.specs.declared.call_error.CallError.{CallError}
 use Rattle.nm_lanes.specs.Done.{Done}
 use Rattle.nm_lanes.specs.Ends.{HasTried}
 use Rattle.nm_lanes.specs.Lists.{MirrorStep, stripe_list, Does}
 
--- The step synced this leg, or found it out. A sync that lost its leg is not enough: what is
+-- The step flushed this leg, or found it out. A flush that lost its leg is not enough: what is
 -- durable of the legs may still call it in sync.
 abbrev pub SyncsOrFindsOut : {L : Type 0} → ℕ → Step L → Answer L → Type 0
-SyncsOrFindsOut leg (Sync other) Synced = other ≡ leg
-SyncsOrFindsOut leg (Sync other) (Refused AlreadyOut handed) = other ≡ leg
+SyncsOrFindsOut leg (Flush other) Synced = other ≡ leg
+SyncsOrFindsOut leg (Flush other) (Refused AlreadyOut handed) = other ≡ leg
 SyncsOrFindsOut leg step answer = ⊥
 
 -- one of the steps did

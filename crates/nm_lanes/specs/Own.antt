@@ -7,7 +7,7 @@ use Rattle.nm_stripe.specs.declared.answer.Answer.{Answer}
 use Rattle.nm_stripe.specs.declared.answer.Answer.TheVariants.{Pushed, Complete, Halted, Copied}
 use Rattle.nm_stripe.specs.declared.answer.Answer.TheVariants.{Nothing, LegLost, Refused}
 use Rattle.nm_stripe.specs.declared.step.Step.{Step}
-use Rattle.nm_stripe.specs.declared.step.Step.TheVariants.{Claim, Sync}
+use Rattle.nm_stripe.specs.declared.step.Step.TheVariants.{Claim, Flush}
 use Rattle.nm_lanes.specs.declared.call_error_kind.CallErrorKind.{CallErrorKind}
 use Rattle.nm_lanes.specs.declared.call_error_kind.CallErrorKind.TheVariants as cause
 use Rattle.nm_lanes.specs.Done.{Done}
@@ -39,10 +39,10 @@ finds_out refusal.AlreadyOut = true
 finds_out other = false
 
 -- the step only helps: it was refused by no end of the call, lost a leg, or pushed or copied. A
--- sync that found its leg out is no help but done; one that lost its leg is tried again.
+-- flush that found its leg out is no help but done; one that lost its leg is tried again.
 abbrev pub helps : {L : Type 0} → Step L → Answer L → Bool
 helps (Claim ticket) (Refused refused handed) = is_none (claim_end_of refused)
-helps (Sync leg) (Refused refused handed) = is_none (end_of refused) && not (finds_out refused)
+helps (Flush leg) (Refused refused handed) = is_none (end_of refused) && not (finds_out refused)
 helps step (Refused refused handed) = is_none (end_of refused)
 helps step (LegLost gone handed) = true
 helps step (Pushed count) = true

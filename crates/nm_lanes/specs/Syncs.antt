@@ -7,7 +7,7 @@ use Rattle.nm_lanes.specs.Done.{Done}
 use Rattle.nm_lanes.specs.Flushes.{SyncsOne, IsStripeFlush}
 use Rattle.nm_lanes.specs.Lane.{LaneDoes, LaneStops}
 use Rattle.nm_lanes.specs.Own.{EndsSo}
-use Rattle.nm_lanes.specs.Rounds.{RunsLanes}
+use Rattle.nm_lanes.specs.OnLanes.{RunsLanes}
 use Rattle.nm_lanes.specs.Steps.{Nobodys}
 
 -- all steps are syncs of so many legs

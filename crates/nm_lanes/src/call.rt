@@ -5,14 +5,9 @@ ghost use Rattle.nm_geometry.specs.Pieces.{LiesInside, end_of};
 
 use crate::call_kind::CallKind;
 use crate::gate::Gate;
-use crate::halves::Order;
-use crate::lane::Lane;
 use crate::piece_range::PieceRange;
-use crate::region_range::{RegionRange, are_worth_it};
 use crate::stripe_call::StripeCall;
 use nm_geometry::{ByteRange, Shape};
-use nm_leg::LegPart;
-use nm_replay::BLOCK_BYTES;
 use std::sync::Wait;
 use std::sync::atomic::{AtomicBool, Ordering};
 
@@ -34,48 +29,6 @@ pub(crate) fn range_inside(shape: &Shape, offset: u64, length: u64) -> ByteRange
     ByteRange { offset, length }
 }
 
-/// Whether a call of so many bytes is long: it has a region's blocks for two threads.
-fn is_long(shape: &Shape, bytes: u64) -> bool {
-    bytes / (2 * BLOCK_BYTES as u64) >= shape.region
-}
-
-/// Whether somebody has one of these locks right now.
-fn any_taken<L: LegPart, K, D: Lane<L, K>>(locks: &[K], lanes: &[D]) -> bool {
-    lanes
-        .iter()
-        .zip(locks)
-        .any(|(lane, lock)| lane.is_taken(lock))
-}
-
-/// Begins a call of so many bytes: whether it may start threads. It may if it is long, and nobody
-/// else is at work in the mirror. Long calls are counted until they end.
-pub(crate) fn enter_call<L: LegPart, K, D: Lane<L, K>>(
-    shape: &Shape,
-    locks: &[K],
-    lanes: &[D],
-    bytes: u64,
-) -> bool {
-    let (Some(lane), Some(lock)) = (lanes.first(), locks.first()) else {
-        return false;
-    };
-    is_long(shape, bytes) && lane.enter(lock) && !any_taken(locks, lanes)
-}
-
-/// Ends a call of so many bytes.
-pub(crate) fn leave_call<L: LegPart, K, D: Lane<L, K>>(
-    shape: &Shape,
-    locks: &[K],
-    lanes: &[D],
-    bytes: u64,
-) {
-    if !is_long(shape, bytes) {
-        return;
-    }
-    if let (Some(lane), Some(lock)) = (lanes.first(), locks.first()) {
-        lane.leave(lock);
-    }
-}
-
 /// A call of a mirror of this shape, over its locks.
 #[derive(Drop)]
 pub(crate) struct Call<'a, R, G, K> {
@@ -85,8 +38,6 @@ pub(crate) struct Call<'a, R, G, K> {
     pub(crate) locks: &'a [K],
     pub(crate) pass: Option<u32>,
     pub(crate) kind: CallKind,
-    /// Whether halves of a round may go side by side.
-    pub(crate) starts_threads: bool,
     /// Where the caller can go: whether it is gone.
     pub(crate) is_gone: Option<&'a AtomicBool>,
 }
@@ -118,25 +69,5 @@ impl<R: Wait, G: Gate, K> Call<'_, R, G, K> {
             stripe,
             block,
         }
-    }
-
-    /// When the halves of a round are done: side by side where they are worth a thread; else the
-    /// lower one first, or the upper one where another call is in the first stripe of the lower.
-    pub(crate) fn order_of<L: LegPart, D: Lane<L, K>>(
-        &self,
-        low: RegionRange,
-        high: RegionRange,
-        front: &[D],
-    ) -> Order
-        requires some { 0 < length front.now }
-        requires stripe { low.stripe < length self.now.locks.now }
-    {
-        if self.starts_threads && are_worth_it(self.shape, low, high) {
-            return Order::SideBySide;
-        }
-        if front[0].is_taken(&self.locks[low.stripe as usize]) {
-            return Order::UpperFirst;
-        }
-        Order::LowerFirst
     }
 }

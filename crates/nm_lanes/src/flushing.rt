@@ -3,7 +3,7 @@ ghost use Rattle.std.specs.Prelude.{◌≡◌, ℕ, ◌<◌, ◌≤◌, ◌+◌,
 ghost use Rattle.nm_geometry.specs.Geometry.{IsGeometry};
 ghost use Rattle.nm_geometry.specs.Pieces.{LiesInside, end_of, touched};
 ghost use Rattle.nm_lanes.specs.Flushes.{HasFlushed, HasFlushedSome, IsStripeOf, Touches};
-ghost use Rattle.nm_lanes.specs.Syncs.{InSpans, IsAround, LaneSyncs, LaneSyncStops};
+ghost use Rattle.nm_lanes.specs.Syncs.{InSpans, IsAround, LaneSyncs, LaneSyncStops, SyncsLanes};
 
 use crate::call::{Call, range_inside, within_bounds};
 use crate::call_error::CallError;
@@ -11,13 +11,10 @@ use crate::call_error_kind::CallErrorKind;
 use crate::call_kind::CallKind;
 use crate::gate::Gate;
 use crate::lane::Lane;
-use crate::rounds::flush_lanes;
 use crate::stripe_call::StripeCall;
 use nm_geometry::{ByteRange, Shape};
 use nm_leg::LegPart;
-use std::marker::{Send, Sync};
 use std::sync::Wait;
-use std::thread::Threads;
 
 impl<R: Wait, G: Gate, K> StripeCall<'_, R, G, K> {
     /// Syncs each of so many legs that is not out.
@@ -36,6 +33,50 @@ impl<R: Wait, G: Gate, K> StripeCall<'_, R, G, K> {
     }
 }
 
+/// Syncs every leg of this stripe, whose lane stands alone.
+fn flush_one<L: LegPart, K, D: Lane<L, K>, R: Wait, G: Gate>(
+    call: &Call<'_, R, G, K>,
+    stripe: u32,
+    lanes: &mut [D],
+) -> Result<(), CallError>
+    requires one { length lanes.old ≡ 1 }
+    requires inside { stripe < length call.now.locks.now }
+    ensures syncs { SyncsLanes D.follows call.now.shape.now.legs stripe
+        (lanes.old, lanes.new) result }
+{
+    let shape = call.shape;
+    let stripe_call = call.on_stripe(stripe, None);
+    match stripe_call.sync_all(&mut lanes[0], shape.legs) {
+        Ok(()) => Ok(()),
+        Err(kind) => Err(CallError { stripe, kind }),
+    }
+}
+
+/// Syncs every leg of the stripes of these lanes, of which the first is this stripe's, one after
+/// the other. Each is asked, though an earlier one could not go on, so that all are told of a sync
+/// of their leg's file that failed.
+fn flush_lanes<L: LegPart, K, D: Lane<L, K>, R: Wait, G: Gate>(
+    call: &Call<'_, R, G, K>,
+    first: u32,
+    lanes: &mut [D],
+) -> Result<(), CallError>
+    requires locks { length call.now.locks.now ≤ 64 }
+    requires inside { first + length lanes.old ≤ length call.now.locks.now }
+    ensures syncs { SyncsLanes D.follows call.now.shape.now.legs first
+        (lanes.old, lanes.new) result }
+{
+    if lanes.len() == 0 {
+        return Ok(());
+    }
+    let (lane, rest) = lanes.split_at_mut(1);
+    let done = flush_one(call, first, lane);
+    let others = flush_lanes(call, first + 1, rest);
+    match done {
+        Ok(()) => others,
+        Err(cause) => Err(cause),
+    }
+}
+
 /// The stripes below one number, and those from a second on below a third.
 struct Spans {
     low: u32,
@@ -44,13 +85,11 @@ struct Spans {
 }
 
 /// Syncs every leg of the stripes below one number, and of those from a second on below a third.
-fn flush_spans<
-    L: LegPart + Send,
-    K: Sync,
-    D: Lane<L, K> + Send,
-    R: Threads + Wait + Sync,
-    G: Gate + Sync,
->(call: &Call<'_, R, G, K>, spans: Spans, lanes: &mut [D]) -> Result<(), CallError>
+fn flush_spans<L: LegPart, K, D: Lane<L, K>, R: Wait, G: Gate>(
+    call: &Call<'_, R, G, K>,
+    spans: Spans,
+    lanes: &mut [D],
+) -> Result<(), CallError>
     requires locks { length call.now.locks.now ≡ call.now.shape.now.stripes }
     requires lanes { length lanes.old ≡ call.now.shape.now.stripes }
     requires order { (spans.low ≤ spans.first) × (spans.first ≤ spans.end) }
@@ -76,14 +115,7 @@ fn flush_spans<
 
 /// Syncs every leg of every stripe. A leg that is out is passed over; one that goes out by it is
 /// asked again, and found out.
-pub fn flush_by<
-    'a,
-    L: LegPart + Send,
-    K: Sync,
-    D: Lane<L, K> + Send,
-    R: Threads + Wait + Sync,
-    G: Gate + Sync,
->(
+pub fn flush_by<'a, L: LegPart, K, D: Lane<L, K>, R: Wait, G: Gate>(
     rt: &'a R,
     shape: &'a Shape,
     gate: &'a G,
@@ -105,7 +137,6 @@ pub fn flush_by<
         locks,
         pass,
         kind: CallKind::Flush,
-        starts_threads: true,
         is_gone: None,
     };
     let spans = Spans {
@@ -160,14 +191,7 @@ fn spans_around(shape: &Shape, region: u64, count: u64) -> Spans
 }
 
 /// Syncs every leg of the stripes in which some of the bytes from `offset` on lie.
-pub fn sync_by<
-    'a,
-    L: LegPart + Send,
-    K: Sync,
-    D: Lane<L, K> + Send,
-    R: Threads + Wait + Sync,
-    G: Gate + Sync,
->(
+pub fn sync_by<'a, L: LegPart, K, D: Lane<L, K>, R: Wait, G: Gate>(
     rt: &'a R,
     shape: &'a Shape,
     gate: &'a G,
@@ -194,7 +218,6 @@ pub fn sync_by<
         locks,
         pass,
         kind: CallKind::SyncTouched,
-        starts_threads: true,
         is_gone: None,
     };
     within_bounds(shape);

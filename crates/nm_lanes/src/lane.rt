@@ -57,10 +57,10 @@ pub trait Lane<L: LegPart, K> {
             (done_as (step.Read block into.old) (answer_of_read result into.new) ∷ []) self.new }
         ensures target { LeavesTarget result into.old into.new };
 
-    /// Syncs a leg.
-    fn sync<R: Wait>(&mut self, rt: &R, lock: &K, leg: u8) -> Result<Syncing, Refusal>
+    /// Flushes a leg.
+    fn flush<R: Wait>(&mut self, rt: &R, lock: &K, leg: u8) -> Result<Syncing, Refusal>
         ensures follows { follows self.old
-            (done_as (step.Sync leg) (answer_of_sync result) ∷ []) self.new };
+            (done_as (step.Flush leg) (answer_of_sync result) ∷ []) self.new };
 
     /// Does a step of the copy to a leg, which moves up to `most` blocks, and opens no region below
     /// `from`.
@@ -78,21 +78,6 @@ pub trait Lane<L: LegPart, K> {
     /// The lowest leg that a write still has to reach, with the write's ticket: of this ticket, or
     /// of the lowest ticket under way where none is given. One hold of the lock.
     fn owed<R: Wait>(&self, rt: &R, lock: &K, ticket: Option<u64>) -> Option<(u64, u8)>;
-
-    /// Whether something was written in the stripe since its last sync began, as far as is known
-    /// without the lock. Nothing is promised of it: it tells where a sync is worth a thread.
-    fn is_unsynced(&self, lock: &K) -> bool;
-
-    /// Whether somebody has the lock right now. Nothing is promised of it: it tells where a call
-    /// would wait, or take a processor from another.
-    fn is_taken(&self, lock: &K) -> bool;
-
-    /// Counts, at the lock of a mirror's first stripe, a call of several stripes that begins:
-    /// whether no other is at work. Nothing is promised of it: it tells where threads are worth it.
-    fn enter(&self, lock: &K) -> bool;
-
-    /// Counts that such a call has ended.
-    fn leave(&self, lock: &K);
 
     /// No step leads from a state to itself.
     ghost stays: { (lane : Self) → follows lane [] lane };

@@ -4,32 +4,23 @@ ghost use Rattle.nm_geometry.specs.Pieces.{LiesInside};
 ghost use Rattle.nm_lanes.specs.Reads.{HasRead, HasReadSome};
 ghost use Rattle.nm_lanes.specs.Runs.{runs_of_range};
 
-use crate::call::{Call, enter_call, leave_call, range_inside};
+use crate::call::{Call, range_inside};
 use crate::call_error::CallError;
 use crate::call_kind::CallKind;
 use crate::gate::Gate;
 use crate::lane::Lane;
 use crate::piece_range::PieceRange;
-use crate::run_rounds::do_all;
+use crate::region_runs::do_all;
 use nm_geometry::Shape;
 use nm_leg::LegPart;
-use std::marker::{Send, Sync};
 use std::sync::Wait;
-use std::thread::Threads;
 
 /// Reads the bytes of the export from `offset` on into all of `into`: each run of blocks that they
-/// touch once, in order, up to 8 stripes side by side. Whole blocks are read right into it.
+/// touch once, in order. Whole blocks are read right into it.
 ///
 /// On an error, in each stripe the first of its runs were read, and what stands in `into` is not
 /// told.
-pub fn read_by<
-    'a,
-    L: LegPart + Send,
-    K: Sync,
-    D: Lane<L, K> + Send,
-    R: Threads + Wait + Sync,
-    G: Gate + Sync,
->(
+pub fn read_by<'a, L: LegPart, K, D: Lane<L, K>, R: Wait, G: Gate>(
     rt: &'a R,
     shape: &'a Shape,
     gate: &'a G,
@@ -58,7 +49,6 @@ pub fn read_by<
         locks,
         pass,
         kind: CallKind::Read,
-        starts_threads: enter_call(shape, locks, lanes, into.len() as u64),
         is_gone: None,
     };
     let range = range_inside(shape, offset, into.len() as u64);
@@ -70,7 +60,6 @@ pub fn read_by<
         is_read: true,
     };
     let read = do_all(&call, pieces, lanes, &mut [], into);
-    leave_call(shape, locks, lanes, into.len() as u64);
     match read {
         Ok(()) => Ok(()),
         Err(cause) => Err(cause),

@@ -19,6 +19,6 @@ pub enum StepKind {
     Copy,
     /// A joining leg is called in sync.
     Promote,
-    /// A leg is synced.
-    Sync,
+    /// A leg is flushed.
+    Flush,
 }

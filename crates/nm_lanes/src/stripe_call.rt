@@ -128,18 +128,18 @@ impl<R: Wait, G: Gate, K> StripeCall<'_, R, G, K> {
         read
     }
 
-    /// Syncs a leg.
-    pub(crate) fn sync<L: LegPart, D: Lane<L, K>>(
+    /// Flushes a leg.
+    pub(crate) fn flush<L: LegPart, D: Lane<L, K>>(
         &self,
         lane: &mut D,
         leg: u8,
     ) -> Result<Syncing, Refusal>
         ensures follows { D.follows lane.old
-            (done_as (step.Sync leg) (answer_of_sync result) ∷ []) lane.new }
+            (done_as (step.Flush leg) (answer_of_sync result) ∷ []) lane.new }
     {
-        let synced = lane.sync(self.rt, self.lock, leg);
-        self.pass_gate(StepKind::Sync, None);
-        synced
+        let flushed = lane.flush(self.rt, self.lock, leg);
+        self.pass_gate(StepKind::Flush, None);
+        flushed
     }
 
     /// Does a step of the copy to a leg, which moves up to `most` blocks, and opens no region below

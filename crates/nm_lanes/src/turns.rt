@@ -121,19 +121,19 @@ impl<R: Wait, G: Gate, K> StripeCall<'_, R, G, K> {
         unreachable!()
     }
 
-    /// One try of a sync: true where the leg was synced, or found out. One that lost its leg is
+    /// One try of a flush: true where the leg was synced, or found out. One that lost its leg is
     /// tried again, and finds it out.
     fn try_sync_once<L: LegPart, D: Lane<L, K>>(
         &self,
         lane: &mut D,
         leg: u8,
     ) -> Result<bool, CallErrorKind>
-        ensures ok { IfOk result (Turns D.follows (lane.old, lane.new) (step.Sync leg)
-            (SyncsOrFindsOut leg (step.Sync leg))) }
+        ensures ok { IfOk result (Turns D.follows (lane.old, lane.new) (step.Flush leg)
+            (SyncsOrFindsOut leg (step.Flush leg))) }
         ensures err { IfErr result (λ kind.
             LaneStops D.follows lane.old lane.new [] (EndsSo Nobodys kind)) }
     {
-        match self.sync(lane, leg) {
+        match self.flush(lane, leg) {
             Ok(Syncing::Synced) => Ok(true),
             Ok(Syncing::LegLost(_)) => Ok(false),
             Err(refusal) => {
@@ -146,14 +146,14 @@ impl<R: Wait, G: Gate, K> StripeCall<'_, R, G, K> {
         }
     }
 
-    /// Syncs a leg that is not out.
+    /// Flushes a leg that is not out.
     pub(crate) fn sync_one<L: LegPart, D: Lane<L, K>>(
         &self,
         lane: &mut D,
         leg: u8,
     ) -> Result<(), CallErrorKind>
-        ensures ok { OnOk result (Completes D.follows lane.old lane.new (step.Sync leg)
-            (SyncsOrFindsOut leg (step.Sync leg))) }
+        ensures ok { OnOk result (Completes D.follows lane.old lane.new (step.Flush leg)
+            (SyncsOrFindsOut leg (step.Flush leg))) }
         ensures err { IfErr result (λ kind.
             LaneStops D.follows lane.old lane.new [] (EndsSo Nobodys kind)) }
     {

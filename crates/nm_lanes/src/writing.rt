@@ -5,24 +5,22 @@ ghost use Rattle.nm_lanes.specs.Cuts.{cuts_for};
 ghost use Rattle.nm_lanes.specs.Runs.{runs_of_range};
 ghost use Rattle.nm_lanes.specs.Writes.{FailsWriting, HasWritten};
 
-use crate::call::{Call, enter_call, leave_call, range_inside};
+use crate::call::{Call, range_inside};
 use crate::call_kind::CallKind;
 use crate::cutting::split_payload;
 use crate::gate::Gate;
 use crate::lane::Lane;
 use crate::piece_range::PieceRange;
-use crate::run_rounds::do_all;
+use crate::region_runs::do_all;
 use crate::write_fault::WriteFault;
 use bytes::Bytes;
 use nm_geometry::Shape;
 use nm_leg::LegPart;
 use std::alloc::Global;
-use std::marker::{Send, Sync};
 use std::sync::Wait;
-use std::thread::Threads;
 
 /// Writes all of the payload to the bytes of the export from `offset` on: each run of blocks that
-/// they touch once, in order, up to 8 stripes side by side.
+/// they touch once, in order.
 ///
 /// The payload is cut where runs end before the first step is done. Blocks that they fill are
 /// written whole, in runs of up to 128 blocks of one region; of another block the rest stays. A
@@ -31,17 +29,9 @@ use std::thread::Threads;
 /// # Errors
 ///
 /// `WriteFault::Memory` where the cuts are refused their memory, and no step was done.
-/// `WriteFault::Io` where a stripe could not go on: the others of its round run to their end, and
-/// no further round begins. In each stripe the first of its runs were written, and the next one's
-/// write may have begun.
-pub fn write_by<
-    'a,
-    L: LegPart + Send,
-    K: Sync,
-    D: Lane<L, K> + Send,
-    R: Threads + Wait + Sync,
-    G: Gate + Sync,
->(
+/// `WriteFault::Io` where a stripe could not go on, which ends the call. In each stripe the first of
+/// its runs were written, and the next one's write may have begun.
+pub fn write_by<'a, L: LegPart, K, D: Lane<L, K>, R: Wait, G: Gate>(
     rt: &'a R,
     alloc: Global,
     shape: &'a Shape,
@@ -87,11 +77,9 @@ pub fn write_by<
         locks,
         pass,
         kind: CallKind::Write,
-        starts_threads: enter_call(shape, locks, lanes, len),
         is_gone: None,
     };
     let written = do_all(&call, pieces, lanes, writes.as_mut_slice(), &mut []);
-    leave_call(shape, locks, lanes, len);
     match written {
         Ok(()) => Ok(()),
         Err(cause) => Err(WriteFault::Io(cause)),

@@ -6,7 +6,7 @@ ghost use Rattle.nm_lanes.specs.Own.{EndsSo};
 ghost use Rattle.nm_lanes.specs.Steps.{BeginTurns, Completes, IsWritten, LaneBegins, LaneWrites};
 ghost use Rattle.nm_lanes.specs.Runs.{IsRun};
 ghost use Rattle.nm_lanes.specs.Steps.{LaneWriteStops, Nobodys, Only, Turns};
-ghost use Rattle.nm_lanes.specs.RunRounds.{DoesOne, OneStops};
+ghost use Rattle.nm_lanes.specs.RegionRuns.{DoesOne, OneStops};
 
 use crate::blocker::claim_end_of;
 use crate::call_error_kind::CallErrorKind;

@@ -5,34 +5,26 @@ ghost use Rattle.nm_lanes.specs.Cuts.{zeroes_for};
 ghost use Rattle.nm_lanes.specs.Runs.{runs_of_range};
 ghost use Rattle.nm_lanes.specs.Writes.{HasWritten, HasWrittenSome};
 
-use crate::call::{Call, enter_call, leave_call, range_inside};
+use crate::call::{Call, range_inside};
 use crate::call_error::CallError;
 use crate::call_kind::CallKind;
 use crate::gate::Gate;
 use crate::lane::Lane;
 use crate::piece_range::PieceRange;
-use crate::run_rounds::do_all;
+use crate::region_runs::do_all;
 use nm_geometry::Shape;
 use nm_leg::LegPart;
-use std::marker::{Send, Sync};
 use std::sync::Wait;
 use std::sync::atomic::AtomicBool;
-use std::thread::Threads;
 
 /// Writes zeroes to so many bytes of the export from `offset` on: to each run of blocks that they
-/// touch once, in order, up to 8 stripes side by side.
+/// touch once, in order.
 ///
 /// It takes no memory. Before each run it asks `is_gone`, where there is one: once that is true no
 /// further run is begun, and each that began is done; if some are left the call ends as
 /// `CallErrorKind::Gone`. On another error the first runs of each stripe were written, and the next
 /// one's write may have begun.
-pub fn zero_by<
-    L: LegPart + Send,
-    K: Sync,
-    D: Lane<L, K> + Send,
-    R: Threads + Wait + Sync,
-    G: Gate + Sync,
->(
+pub fn zero_by<L: LegPart, K, D: Lane<L, K>, R: Wait, G: Gate>(
     rt: &R,
     shape: &Shape,
     gate: &G,
@@ -62,7 +54,6 @@ pub fn zero_by<
         locks,
         pass,
         kind: CallKind::Zero,
-        starts_threads: enter_call(shape, locks, lanes, len),
         is_gone,
     };
     let range = range_inside(shape, offset, len);
@@ -74,7 +65,6 @@ pub fn zero_by<
         is_read: false,
     };
     let zeroed = do_all(&call, pieces, lanes, &mut [], &mut []);
-    leave_call(shape, locks, lanes, len);
     match zeroed {
         Ok(()) => Ok(()),
         Err(cause) => Err(cause),

@@ -1,6 +1,7 @@
 pub mod Alike
 pub mod ChangedStart
 pub mod Files
+pub mod Fitting
 pub mod Here
 pub mod LegTime
 pub mod Replies

@@ -45,7 +45,8 @@ impl LegFile {
         ensures name { IfOk result (λ leg. name_of leg ≡ name_of self.now) }
         ensures here { IfOk result (λ leg. is_here leg ≡ false) }
     {
-        let limited = LimitedFile::of(alloc, LateFile::missing(), self.shared.file().limit())?;
+        let own = self.shared.file();
+        let limited = LimitedFile::of(alloc, LateFile::missing(own.late().window()), own.limit())?;
         let shared = SharedFile::new(alloc, limited, MOST_STRIPES as usize)?;
         Ok(LegFile {
             name: String::from_str(alloc, self.name.as_str())?,

@@ -1,6 +1,6 @@
 //! A leg's file of which the calls are counted, so that a long comparison can report its progress,
 //! and of which those that fail are noted.
-ghost use Rattle.std.specs.Prelude.{◌≡◌, false, IfOk};
+ghost use Rattle.std.specs.Prelude.{◌≡◌, ◌≤◌, false, length, IfOk};
 ghost use Rattle.nm_file_leg.specs.Media.{unknown};
 
 use crate::limited_file::LimitedFile;
@@ -61,16 +61,41 @@ impl CountingFile {
         self.counts.note_fault(error);
     }
 
-    // Notes a read that came short: at the end of a file that was cut, or before bytes that cannot
-    // be read.
-    fn note_short_read(&self, at: u64, found: usize) {
+    // Reads the bytes once again that a read left out which came short, so that it is known why: how
+    // many it found. The file may have been cut there.
+    fn read_rest(&mut self, at: u64, rest: &mut [u8]) -> usize {
+        match self.file.read_at(at, rest) {
+            Ok(found) => {
+                self.counts.note(LegCall::Read, Some(found));
+                if found < rest.len() {
+                    self.note_fault(FileCall::Read, at.saturating_add(found as u64), None);
+                    let _ = Medium::len(self);
+                }
+                found
+            }
+            Err(error) => {
+                self.note_fault(FileCall::Read, at, Some(&error));
+                self.counts.note(LegCall::Read, None);
+                0
+            }
+        }
+    }
+
+    // Reads on where a read found so many bytes, which may be fewer than there is room for: before
+    // bytes that cannot be read the system gives those before them. How many were found in all.
+    fn read_on(&mut self, at: u64, found: usize, into: &mut [u8]) -> usize
+        ensures { result ≤ length into.new }
+    {
+        if found >= into.len() {
+            return into.len();
+        }
         if found == 0 {
             self.note_fault(FileCall::Length, at, None);
-            return;
+            return 0;
         }
         let end = at.saturating_add(found as u64);
-        self.note_fault(FileCall::Read, end, None);
-        let _ = Medium::len(self);
+        let more = self.read_rest(end, &mut into[found..]);
+        found.saturating_add(more).min(into.len())
     }
 
     // Notes a write that came short, as on a full file system: why is what a write of the rest is
@@ -95,14 +120,17 @@ impl Medium for CountingFile {
 
     ghost held = { λ _. unknown };
 
+    ghost tells = { λ _. false };
+
+    ghost doubted = { λ _. false };
+
     fn read_at(&mut self, at: u64, into: &mut [u8]) -> io::Result<usize> {
         match self.file.read_at(at, into) {
-            Ok(found) => {
-                if found < into.len() {
-                    self.note_short_read(at, found);
-                }
+            Ok(first) => {
+                self.counts.note(LegCall::Read, Some(first));
+                let found = self.read_on(at, first, into);
+                self.trouble.failed_reads().clear(at, found as u64);
                 self.read.fetch_add(found as u64, Ordering::SeqCst);
-                self.counts.note(LegCall::Read, Some(found));
                 Ok(found)
             }
             Err(error) => {
@@ -117,6 +145,7 @@ impl Medium for CountingFile {
         let written = self.file.write_at(at, bytes);
         match &written {
             Ok(moved) => {
+                self.trouble.failed_reads().clear(at, *moved as u64);
                 self.counts.note(LegCall::Write, Some(*moved));
                 self.note_short(at, bytes, *moved);
             }
@@ -155,6 +184,10 @@ impl Medium for CountingFile {
 
     fn is_hole(&self, at: u64, many: usize) -> bool {
         self.file.is_hole(at, many)
+    }
+
+    fn tells_loss(&self) -> bool {
+        self.file.tells_loss()
     }
 
     fn is_doubted(&self) -> bool {

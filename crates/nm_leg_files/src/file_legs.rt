@@ -29,8 +29,9 @@ impl LegFile {
     /// The leg's file in the place of this one, under the same limit. What fails of it and how
     /// often it is called is noted where it was.
     pub(crate) fn anew(&self, alloc: Global, file: File) -> Result<LegFile, AllocError> {
-        let late = LateFile::opened(file);
-        let limited = LimitedFile::of(alloc, late, self.shared.file().limit())?;
+        let own = self.shared.file();
+        let late = LateFile::opened(file, own.late().window());
+        let limited = LimitedFile::of(alloc, late, own.limit())?;
         let shared = SharedFile::new(alloc, limited, MOST_STRIPES as usize)?;
         Ok(LegFile {
             name: String::from_str(alloc, self.name.as_str())?,

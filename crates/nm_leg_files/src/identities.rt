@@ -50,7 +50,8 @@ impl LegFiles {
                 continue;
             };
             let text = identity_of(rt, alloc, own)?;
-            if text.is_none() {
+            // A superblock inside tells it too.
+            if text.is_none() && self.rules.window == 0 {
                 let name = file.name.as_str();
                 let text = format!(in alloc;
                     "leg {leg} ({name}): its name alone tells it from other files: see that no \
@@ -65,9 +66,13 @@ impl LegFiles {
         Ok(all)
     }
 
-    /// The times of last changes of the files that are here, 0 where one is unknown.
+    /// The times of last changes of the files that are here, 0 where one is unknown, and where the
+    /// saves of superblocks inside the files change them.
     pub fn changed(&self) -> [u64; 8] {
         let mut all = [0; 8];
+        if self.rules.window > 0 {
+            return all;
+        }
         for (leg, file) in self.files.iter().enumerate() {
             if let Some(own) = file.shared.file().late().file() {
                 if leg < 8 {

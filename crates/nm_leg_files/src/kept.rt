@@ -105,10 +105,10 @@ fn durable_states<'a>(
     Ok(states)
 }
 
-// Whether one of the superblocks that were found is of version 1.
-fn has_first_version(found: &[Option<Superblock>; 8]) -> bool {
+// Whether one of the superblocks that were found is of a version before that which is saved.
+fn has_older_version(found: &[Option<Superblock>; 8]) -> bool {
     found.iter().any(|beside| match beside {
-        Some(superblock) => superblock.version == 1,
+        Some(superblock) => superblock.version < 3,
         None => false,
     })
 }
@@ -178,7 +178,7 @@ impl KeptImage {
         if states.len() != stripes.len() {
             return Err(StartFault::Memory);
         }
-        let is_twice = has_first_version(&files.found());
+        let is_twice = has_older_version(&files.found());
         let mut all = files.complete(rt, alloc, &here, image, went_by)?;
         if let Err(fault) = save_image(&mut all.files, &image, &here, is_twice) {
             all.remove_made(rt);
@@ -188,9 +188,10 @@ impl KeptImage {
             files,
             names,
             late,
+            at,
             ..
         } = all;
-        let writer = SuperblockWriter::new(alloc, files, names, went_by);
+        let writer = SuperblockWriter::new(alloc, files, names, at, went_by);
         match gated(alloc, stripes, states) {
             Ok(all) => Ok((all, Superblocks { writer, late })),
             Err(_) => Err(StartFault::Memory),

@@ -2,6 +2,7 @@
 ghost use Rattle.std.specs.Prelude.{◌≡◌, ◌≤◌, length, None, Some, IsErr, IfOk};
 
 use crate::leg_time::{OpenFile, TimedFile, settled_time};
+use crate::window::export_bytes;
 use nm_file_leg::BackingFile;
 use std::fs::File;
 use std::io;
@@ -15,27 +16,40 @@ use std::sync::OnceLock;
 pub struct LateFile {
     first: Option<File>,
     later: OnceLock<File>,
+    // How many bytes at its end are not the leg's: they are for a superblock.
+    window: u64,
 }
 
 impl LateFile {
-    /// A file that is open from the start on.
-    pub fn opened(file: File) -> LateFile
-        ensures { result.first ≡ Some file }
+    /// A file that is open from the start on, of which so many bytes at its end are not the leg's.
+    pub fn opened(file: File, window: u64) -> LateFile
+        ensures file { result.first ≡ Some file }
+        ensures window { result.window ≡ window }
     {
         LateFile {
             first: Some(file),
             later: OnceLock::new(),
+            window,
         }
     }
 
     /// One that is not open yet.
-    pub fn missing() -> LateFile
-        ensures { result.first ≡ None }
+    pub fn missing(window: u64) -> LateFile
+        ensures file { result.first ≡ None }
+        ensures window { result.window ≡ window }
     {
         LateFile {
             first: None,
             later: OnceLock::new(),
+            window,
         }
+    }
+
+    /// How many bytes at its end are not the leg's.
+    pub fn window(&self) -> u64
+        ensures { result ≡ self.now.window }
+    {
+        self.window
     }
 
     /// The file, if it is open.
@@ -109,12 +123,12 @@ fn sync_open(file: Option<&File>) -> io::Result<()>
     }
 }
 
-// How many bytes a file has, if it is open.
-fn count_open(file: Option<&File>) -> io::Result<u64>
+// How many bytes a file has before so many at its end, if it is open.
+fn count_open(file: Option<&File>, window: u64) -> io::Result<u64>
     ensures closed { file.entry ≡ None → IsErr result }
 {
     match file {
-        Some(file) => file.count_bytes(),
+        Some(file) => Ok(export_bytes(file.count_bytes()?, window)),
         None => Err(not_open()),
     }
 }
@@ -133,7 +147,7 @@ impl BackingFile for LateFile {
     }
 
     fn count_bytes(&self) -> io::Result<u64> {
-        count_open(self.file())
+        count_open(self.file(), self.window)
     }
 
     fn has_hole(&self, at: u64, many: usize) -> bool {

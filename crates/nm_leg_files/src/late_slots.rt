@@ -4,6 +4,7 @@ ghost use Rattle.nm_saves.specs.SlotFile.{unknown};
 
 use crate::late_file::LateFile;
 use crate::limited_file::{CallLimit, LimitedFile, share_limit};
+use crate::window::WINDOW_BYTES;
 use nm_file_leg::BackingFile;
 use nm_saves::SlotFile;
 use std::alloc::{AllocError, Global};
@@ -16,16 +17,26 @@ use std::sync::Arc;
 /// How many bytes a slot has.
 const SLOT_BYTES: usize = 4096;
 
+/// How many pieces of as many bytes a leg has for its superblock.
+const WINDOW_PIECES: u64 = WINDOW_BYTES / SLOT_BYTES as u64;
+
 /// A superblock's file: one that was found or made at the start, or that of a leg that was not
 /// here. Until the latter is opened it has no superblock, and takes none.
 #[derive(Drop)]
 pub struct LateSlots {
     file: LimitedFile,
+    // Where the first slot begins.
+    first: u64,
 }
 
-// Where a slot begins.
-fn place_of(second: bool) -> u64 {
-    if second { SLOT_BYTES as u64 } else { 0 }
+// Whether all bytes are zeroes.
+fn are_zeroes(bytes: &[u8; SLOT_BYTES]) -> bool {
+    for byte in bytes {
+        if *byte != 0 {
+            return false;
+        }
+    }
+    true
 }
 
 // Fails where a call did not reach the whole slot.
@@ -37,22 +48,74 @@ fn check_whole(many: usize) -> io::Result<()> {
 }
 
 impl LateSlots {
-    /// Those of a file that is open, under the limit of its leg's calls.
+    /// Those of a file that is open, from this byte on, under the limit of its leg's calls.
     pub(crate) fn here(
         alloc: Global,
         file: File,
+        first: u64,
         limit: &CallLimit,
     ) -> Result<LateSlots, AllocError> {
         Ok(LateSlots {
-            file: LimitedFile::of(alloc, LateFile::opened(file), limit)?,
+            file: LimitedFile::of(alloc, LateFile::opened(file, 0), limit)?,
+            first,
         })
     }
 
     /// Those of a file that is opened later.
-    pub(crate) fn late(file: Arc<LateFile>, limit: &CallLimit) -> Result<LateSlots, AllocError> {
+    pub(crate) fn late(
+        file: Arc<LateFile>,
+        first: u64,
+        limit: &CallLimit,
+    ) -> Result<LateSlots, AllocError> {
         Ok(LateSlots {
             file: LimitedFile::new(file, share_limit(limit)?),
+            first,
         })
+    }
+
+    /// The same slots of the same file.
+    pub(crate) fn share(&self) -> Result<LateSlots, AllocError> {
+        Ok(LateSlots {
+            file: self.file.share()?,
+            first: self.first,
+        })
+    }
+
+    // Where a slot begins.
+    fn place_of(&self, second: bool) -> u64 {
+        let within = if second { SLOT_BYTES as u64 } else { 0 };
+        self.first.saturating_add(within)
+    }
+
+    // Where this piece of the bytes begins that a leg has for its superblock: as many as a slot has.
+    fn piece_at(&self, piece: u64) -> u64 {
+        self.first
+            .saturating_add(piece.saturating_mul(SLOT_BYTES as u64))
+    }
+
+    /// Whether all the bytes are zeroes that a leg has for its superblock, of which these slots are
+    /// the first.
+    pub(crate) fn is_clear(&self) -> io::Result<bool> {
+        let mut bytes = [0; SLOT_BYTES];
+        for piece in 0..WINDOW_PIECES {
+            let found = self.file.read_bytes(self.piece_at(piece), &mut bytes)?;
+            check_whole(found)?;
+            if !are_zeroes(&bytes) {
+                return Ok(false);
+            }
+        }
+        Ok(true)
+    }
+
+    /// Makes them zeroes, durably.
+    pub(crate) fn clear(&self) -> io::Result<()> {
+        for piece in 0..WINDOW_PIECES {
+            let written = self
+                .file
+                .write_bytes(self.piece_at(piece), &[0; SLOT_BYTES])?;
+            check_whole(written)?;
+        }
+        self.file.sync_bytes()
     }
 }
 
@@ -66,7 +129,8 @@ impl SlotFile for LateSlots {
     fn settle(&mut self) -> io::Result<()> {
         if let Some(file) = self.file.late().file() {
             self.file.sync_bytes()?;
-            let _ = libc::posix_fadvise(file.as_raw_fd(), 0, 0, libc::POSIX_FADV_DONTNEED);
+            let from = self.first.min(i64::MAX as u64) as i64;
+            let _ = libc::posix_fadvise(file.as_raw_fd(), from, 0, libc::POSIX_FADV_DONTNEED);
         }
         Ok(())
     }
@@ -76,11 +140,11 @@ impl SlotFile for LateSlots {
             into.fill(0);
             return Ok(());
         }
-        check_whole(self.file.read_bytes(place_of(second), into)?)
+        check_whole(self.file.read_bytes(self.place_of(second), into)?)
     }
 
     fn write_slot(&mut self, second: bool, bytes: &[u8; 4096]) -> io::Result<()> {
-        check_whole(self.file.write_bytes(place_of(second), bytes)?)
+        check_whole(self.file.write_bytes(self.place_of(second), bytes)?)
     }
 
     fn sync(&mut self) -> io::Result<()> {

@@ -2,12 +2,14 @@
 
 use crate::adding::with_added;
 use crate::late_file::LateFile;
-use crate::leg_hindrance::Hindrance;
 use crate::leg_opener::OpensLegs;
-use crate::leg_opening::{is_block_device, lock_opened};
+use crate::leg_opening::lock_opened;
+use crate::leg_place::are_one;
+use crate::unfit::Unfit;
+use crate::window::SlotsAt;
 use nm_assemble::first_misfit;
 use nm_reports::Unopened;
-use nm_superblock::{Superblock, newer};
+use nm_superblock::{Superblock, is_place_damaged, newer};
 use std::fs::File;
 use std::io;
 use std::io::ErrorKind;
@@ -27,8 +29,8 @@ pub struct LateSuperblock {
     pub name: String,
     /// The file, once it is open.
     pub file: Arc<LateFile>,
-    /// Whether it stands beside the leg.
-    pub is_beside: bool,
+    // Where in which file it stands.
+    pub(crate) at: SlotsAt,
     /// The superblock that the start went by.
     pub went_by: Superblock,
 }
@@ -42,11 +44,36 @@ pub(crate) fn slot_at(file: &File, at: u64) -> Option<[u8; 4096]> {
     }
 }
 
-// The superblock that the file has.
-fn found_in(file: &File) -> Option<Superblock> {
-    let first = slot_at(file, 0)?;
-    let second = slot_at(file, SLOT_BYTES as u64)?;
+// The slots from this byte on.
+fn slots_from(file: &File, from: u64) -> Option<([u8; SLOT_BYTES], [u8; SLOT_BYTES])> {
+    let second = from.saturating_add(SLOT_BYTES as u64);
+    Some((slot_at(file, from)?, slot_at(file, second)?))
+}
+
+/// The superblock that one of the slots from this byte on holds, also where the other is damaged.
+pub(crate) fn held_from(file: &File, from: u64) -> Option<Superblock> {
+    let (first, second) = slots_from(file, from)?;
     newer(Superblock::decode(&first), Superblock::decode(&second))
+}
+
+// The superblock of the slots from this byte on: none where one of them is damaged, which may have
+// held the newest.
+fn found_from(file: &File, from: u64) -> Option<Superblock> {
+    let (first, second) = slots_from(file, from)?;
+    if is_place_damaged(&first, &second) {
+        return None;
+    }
+    newer(Superblock::decode(&first), Superblock::decode(&second))
+}
+
+/// The file of a leg that was opened, if it was, once more for the superblock inside it: this one is
+/// locked, and the other is to be the same.
+pub(crate) fn again(opened: io::Result<File>, leg: &File) -> Result<File, Unopened> {
+    match opened {
+        Ok(file) if are_one(&file, leg) => Ok(file),
+        Ok(_) => Err(Unopened::by(io::Error::from(ErrorKind::NotFound))),
+        Err(error) => Err(Unopened::by(error)),
+    }
 }
 
 // Writes a slot of zeroes at this byte.
@@ -58,10 +85,10 @@ fn write_blank(file: &File, at: u64) -> io::Result<()> {
     }
 }
 
-// Leaves no superblock in the file, durably: its leg is to be copied whole.
-fn blank(file: &File) -> io::Result<()> {
-    write_blank(file, 0)?;
-    write_blank(file, SLOT_BYTES as u64)?;
+/// Leaves no superblock in the slots from this byte on, durably.
+pub(crate) fn blank_from(file: &File, from: u64) -> io::Result<()> {
+    write_blank(file, from)?;
+    write_blank(file, from.saturating_add(SLOT_BYTES as u64))?;
     file.sync_all()
 }
 
@@ -69,43 +96,51 @@ impl LateSuperblock {
     // Refuses a leg that comes without a superblock: it may be another file. Refuses a superblock
     // too that the one which the start went by does not come after: what its leg has may be newer,
     // or another mirror's.
-    fn check(&self, file: &File) -> Result<(), Hindrance> {
-        let Some(own) = found_in(file) else {
-            return Err(Hindrance::Unknown);
+    fn check(&self, file: &File) -> Result<(), Unfit> {
+        let Some(own) = found_from(file, self.at.first_byte()) else {
+            return Err(Unfit::Unknown);
         };
         let mut found = [None; 8];
         if let Some(place) = found.get_mut(self.leg) {
             *place = Some(with_added(&own, self.went_by.legs));
         }
         match first_misfit(&found, &self.went_by) {
-            Some((_, why)) => Err(Hindrance::OtherSuperblock(why)),
+            Some((_, why)) => Err(Unfit::OtherSuperblock(why)),
             None => Ok(()),
+        }
+    }
+
+    // Opens its file and locks it; the leg's own is locked already.
+    fn open<O: OpensLegs>(&self, opener: &O, leg: &File) -> Result<File, Unopened> {
+        let opened = opener.open(self.name.as_str());
+        if self.at.is_inside() {
+            again(opened, leg)
+        } else {
+            lock_opened(opened)
         }
     }
 
     /// Opens the file anew and locks it, for the leg on this file, which is copied whole. From then
     /// on saves go into it.
-    pub fn take<O: OpensLegs>(&self, opener: &O, leg: &File) -> Result<(), Hindrance> {
-        if self.is_beside && is_block_device(leg) {
-            return Err(Hindrance::NoPlaceBeside);
-        }
+    pub fn take<O: OpensLegs>(&self, opener: &O, leg: &File) -> Result<(), Unfit> {
         if self.file.file().is_some() {
             return Ok(());
         }
-        let file = match lock_opened(opener.open(self.name.as_str())) {
+        let file = match self.open(opener, leg) {
             Ok(file) => file,
             Err(Unopened::System(error)) if error.kind() == ErrorKind::NotFound => {
-                return Err(Hindrance::Unknown);
+                return Err(Unfit::Unknown);
             }
-            Err(why) => return Err(Hindrance::NoSuperblock(why)),
+            Err(why) => return Err(Unfit::NoSuperblock(why)),
         };
         self.check(&file)?;
-        match blank(&file) {
+        // Its leg is to be copied whole.
+        match blank_from(&file, self.at.first_byte()) {
             Ok(()) => {
                 self.file.open_later(file);
                 Ok(())
             }
-            Err(error) => Err(Hindrance::NoSuperblock(Unopened::by(error))),
+            Err(error) => Err(Unfit::NoSuperblock(Unopened::by(error))),
         }
     }
 }

@@ -47,10 +47,11 @@ pub(crate) fn share(
     ensures name { IfOk result (λ leg. name_of leg ≡ name.now) }
     ensures here { IfOk result (λ leg. is_here leg ≡ not (is_some found.unopened)) }
 {
+    let trouble = LegTrouble::new(alloc, name)?;
     let name = String::from_str(alloc, name)?;
     let file = match found.file {
-        Some(file) => LateFile::opened(file),
-        None => LateFile::missing(),
+        Some(file) => LateFile::opened(file, rules.window),
+        None => LateFile::missing(rules.window),
     };
     let limited = LimitedFile::of(alloc, file, &rules.limit(alloc)?)?;
     let shared = SharedFile::new(alloc, limited, MOST_STRIPES as usize)?;
@@ -58,7 +59,7 @@ pub(crate) fn share(
         name,
         shared: Arc::new(alloc, shared)?,
         unopened: absence_of(found.unopened),
-        trouble: Arc::new(alloc, LegTrouble::new())?,
+        trouble: Arc::new(alloc, trouble)?,
         counts: Arc::new(alloc, LegCounts::new())?,
     })
 }

@@ -11,7 +11,7 @@ use crate::absence::Absence;
 use crate::counting_file::{BytesRead, CountingFile};
 use crate::identities::RecordedFiles;
 use crate::leg_file::{LegFile, share, unopened_by};
-use crate::leg_opening::{BLOCK_BYTES, LegLength, LegRules, find_leg, first_of, is_block_device};
+use crate::leg_opening::{BLOCK_BYTES, LegLength, LegRules, find_leg, first_of};
 use crate::leg_place::LegPlace;
 use crate::timed_calls::TimedCalls;
 use nm_file_leg::{FileLeg, FileUser};
@@ -45,8 +45,8 @@ pub type FileMirror = Mirror<Leg, NoGate>;
 pub struct LegFiles {
     pub(crate) files: Vec<LegFile>,
     // How many blocks each of them has that is here.
-    blocks: u64,
-    rules: LegRules,
+    pub(crate) blocks: u64,
+    pub(crate) rules: LegRules,
     // What the superblocks record of them, where there are superblocks.
     pub(crate) recorded: Option<RecordedFiles>,
 }
@@ -120,9 +120,8 @@ fn missing_line(
 
 impl LegFiles {
     /// Opens, locks and measures the legs' files, one after the other, leg 0's by the first name.
-    /// One that the system has in use is refused unless the rules allow it, and one that is longer
-    /// than files may be written, or than the first that is here. One that the system does not open
-    /// may be missing where the rules say so; some leg is here.
+    /// One that does not fit is refused, or the first that is here. One that the system does not
+    /// open may be missing where the rules say so; some leg is here.
     pub fn open<'a, R: Files<File = File>>(
         rt: &R,
         alloc: Global,
@@ -274,23 +273,7 @@ impl LegFiles {
         settled
     }
 
-    /// The first leg that is a block device.
-    pub fn block_device(&self) -> Option<usize> {
-        for (leg, file) in self.files.iter().enumerate() {
-            if file
-                .shared
-                .file()
-                .late()
-                .file()
-                .is_some_and(is_block_device)
-            {
-                return Some(leg);
-            }
-        }
-        None
-    }
-
-    /// How many bytes all the files have.
+    /// How many bytes all the files have for the export.
     pub fn bytes(&self) -> u64
         ensures { result ≡ bytes_in self.now }
     {

@@ -1,8 +1,12 @@
 //! Opens, locks and measures one leg's file.
-ghost use Rattle.std.specs.Prelude.{◌≡◌, ◌≤◌, ◌^◌, ◌||◌, false, not, None, IfSome, IfOk, is_some};
+ghost use Rattle.std.specs.Prelude.{◌≡◌, ◌≤◌, ◌*◌, ◌-◌, ◌^◌, ◌||◌, false, not, None, IfSome};
+ghost use Rattle.std.specs.Prelude.{IfOk, is_some};
 
 use crate::limited_file::CallLimit;
+use crate::seen_file::SeenFile;
 use crate::timed_calls::TimedCalls;
+use crate::unfit::Unfit;
+use crate::window::{export_bytes, window_of};
 use nm_commands::{Settings, SuperblockPlace};
 use nm_geometry::MOST_BLOCKS;
 use nm_reports::{StartFault, Unopened};
@@ -11,7 +15,6 @@ use std::alloc::{AllocError, Global};
 use std::fs::{File, OpenOptions, TryLockError};
 use std::io;
 use std::io::{ErrorKind, Seek, SeekFrom};
-use std::os::unix::fs::FileTypeExt;
 use std::rt::Files;
 use std::sync::Arc;
 
@@ -36,6 +39,8 @@ pub struct LegRules {
     pub threads: u8,
     /// Superblocks stand beside them, so that none may be a block device.
     pub has_beside: bool,
+    /// How many bytes at the end of each are its superblock's, and not the export's.
+    pub window: u64,
 }
 
 impl LegRules {
@@ -49,15 +54,13 @@ impl LegRules {
             leg_timeout: settings.leg_timeout,
             threads: settings.stripes.min(MOST_CALLS) + 1,
             has_beside: matches!(settings.superblock, SuperblockPlace::Beside),
+            window: window_of(settings.superblock),
         }
     }
 
-    /// The limit, where a file of so many bytes is over it.
-    pub fn over_limit(&self, file: &File, bytes: u64) -> Option<u64> {
-        match self.file_bytes {
-            Some(limit) if limit < bytes && is_regular(file) => Some(limit),
-            _ => None,
-        }
+    /// How many bytes a leg's file has that has so many for the export.
+    pub(crate) fn bytes_for(&self, export: u64) -> u64 {
+        export.saturating_add(self.window)
     }
 
     /// A limit for the calls of one leg, where they have one.
@@ -110,12 +113,14 @@ pub fn bytes_of(file: &File) -> Option<u64> {
     file.seek(SeekFrom::End(0)).ok()
 }
 
-// How many blocks so many bytes are, where they are whole blocks and no more than an export may
-// have.
-fn blocks_of(bytes: Option<u64>) -> Option<u64>
-    ensures { IfSome result (λ blocks. blocks ≤ 2 ^ 31) }
+// How many blocks so many bytes are without so many at their end, where they are whole blocks and
+// no more than an export may have.
+fn blocks_of(bytes: Option<u64>, window: u64) -> Option<u64>
+    ensures bound { IfSome result (λ blocks. blocks ≤ 2 ^ 31) }
+    ensures own { IfSome result (λ blocks.
+        IfSome bytes (λ all. 512 * blocks ≡ all - window)) }
 {
-    let bytes = bytes?;
+    let bytes = export_bytes(bytes?, window);
     let blocks = bytes / BLOCK_BYTES;
     let is_whole = bytes % BLOCK_BYTES == 0;
     if is_whole && 0 < blocks && blocks <= MOST_BLOCKS {
@@ -125,40 +130,23 @@ fn blocks_of(bytes: Option<u64>) -> Option<u64>
     }
 }
 
-// Whether it is a file that grows as it is written, and no device.
-fn is_regular(file: &File) -> bool {
-    matches!(file.metadata(), Ok(metadata) if metadata.is_file())
-}
-
-// Refuses a leg of so many blocks where the first that is here has another length, or files may not
-// be so long.
-fn check_length<'a>(
-    file: &File,
+// Why a start refuses this leg, whose file does not fit so many bytes, as that leg has, if any.
+fn fault_of<'a>(
     number: usize,
-    own: u64,
-    first: Option<LegLength>,
-    rules: &LegRules,
-) -> Result<(), StartFault<'a>>
-    requires own { own ≤ 2 ^ 31 }
-    requires first { IfSome first (λ other. other.blocks ≤ 2 ^ 31) }
-    ensures { IfOk result (λ _. IfSome first (λ other. own ≡ other.blocks)) }
-{
-    let bytes = own * BLOCK_BYTES;
-    if let Some(other) = first {
-        if own != other.blocks {
-            let first_bytes = other.blocks * BLOCK_BYTES;
-            return Err(StartFault::OtherLength(number, bytes, other.leg, first_bytes));
+    file: &SeenFile,
+    why: Unfit,
+    bytes: u64,
+    other: Option<LegLength>,
+) -> StartFault<'a> {
+    match (why, other) {
+        (Unfit::InUse, _) => StartFault::InUse(number),
+        (Unfit::OtherLength(own, _), Some(other)) => {
+            StartFault::OtherLength(number, own, other.leg, bytes)
         }
+        (Unfit::OverFileLimit(limit), _) => StartFault::OverFileLimit(number, bytes, limit),
+        (Unfit::NoPlaceBeside, _) => StartFault::NoPlaceBeside(number),
+        _ => StartFault::BadLength(number, file.bytes),
     }
-    match rules.over_limit(file, bytes) {
-        Some(limit) => Err(StartFault::OverFileLimit(number, bytes, limit)),
-        None => Ok(()),
-    }
-}
-
-/// Whether it is a block device.
-pub fn is_block_device(file: &File) -> bool {
-    matches!(file.metadata(), Ok(metadata) if metadata.file_type().is_block_device())
 }
 
 // Locks and measures the file of this leg, where the first that is here has so many blocks.
@@ -174,19 +162,25 @@ fn measure<'a, R: Files<File = File>>(
     ensures blocks { IfOk result (λ found. found.blocks ≤ 2 ^ 31) }
     ensures here { IfOk result (λ found. found.unopened ≡ None) }
 {
-    if !rules.force_in_use && is_in_use(rt, alloc, &file)? {
-        return Err(StartFault::InUse(number));
-    }
-    let bytes = bytes_of(&file);
-    let Some(blocks) = blocks_of(bytes) else {
-        return Err(StartFault::BadLength(number, bytes));
+    let is_in_use = !rules.force_in_use && is_in_use(rt, alloc, &file)?;
+    let seen = SeenFile::of(&file, is_in_use);
+    let own = blocks_of(seen.bytes, rules.window);
+    let export = match (first, own) {
+        (Some(other), _) => other.blocks * BLOCK_BYTES,
+        (None, Some(blocks)) => blocks * BLOCK_BYTES,
+        (None, None) => u64::MAX,
     };
-    check_length(&file, number, blocks, first, rules)?;
-    Ok(FoundLeg {
-        file: Some(file),
-        blocks,
-        unopened: None,
-    })
+    let bytes = rules.bytes_for(export);
+    match (seen.fits(rules, bytes), own) {
+        (Ok(()), Some(blocks)) => Ok(FoundLeg {
+            file: Some(file),
+            blocks,
+            unopened: None,
+        }),
+        (Ok(()), None) => Err(StartFault::BadLength(number, seen.bytes)),
+        (Err(why), Some(_)) => Err(fault_of(number, &seen, why, bytes, first)),
+        (Err(why), None) => Err(fault_of(number, &seen, why, bytes, None)),
+    }
 }
 
 /// Opens, locks and measures the file of this leg, where the first that is here has so many blocks.

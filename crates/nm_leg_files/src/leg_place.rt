@@ -5,17 +5,16 @@ use crate::late_file::LateFile;
 use crate::late_superblock::LateSuperblock;
 use crate::leg_file::LegFile;
 use crate::leg_files::REGION;
-use crate::leg_hindrance::Hindrance;
 use crate::leg_opener::OpensLegs;
-use crate::leg_opening::{BLOCK_BYTES, LegRules, bytes_of, lock_opened};
+use crate::leg_opening::{BLOCK_BYTES, LegRules, lock_opened};
 use crate::leg_time::time_of_change;
 use crate::limited_file::LimitedFile;
-use crate::unattached::Unattached;
-use nm_file_leg::BackingFile;
-use nm_reports::{LegCall, Unopened};
+use crate::seen_file::SeenFile;
+use crate::unfit::Unfit;
+use nm_file_leg::{BackingFile, SharedFile};
+use nm_reports::{FileCall, LegCall, LegCounts, LegTrouble, Unopened};
 use std::alloc::Global;
 use std::fs::{File, Metadata};
-use std::io;
 use std::os::unix::fs::MetadataExt;
 use std::sync::{Arc, Mutex, Wait};
 
@@ -34,14 +33,32 @@ pub struct LegPlace {
     // Of a leg that is missing since the start, where its superblock is missing too. Only who has
     // the lock of its file takes this one.
     pub(crate) superblock: Mutex<Option<LateSuperblock>>,
+    // Who has it syncs the file ahead.
+    sync_turn: Mutex<()>,
     // Its number, and what superblocks recorded of legs' files at the start: a file that was
     // missing then is to be the one that they are of, as it was.
     pub(crate) recorded: Option<(usize, RecordedFiles)>,
 }
 
+// A leg's file as it is open, with what is told of its calls.
+#[derive(Drop)]
+struct FileAtWork {
+    shared: Arc<SharedFile<LimitedFile>>,
+    trouble: Arc<LegTrouble>,
+    counts: Arc<LegCounts>,
+}
+
 // Whether both are of one file.
 pub(crate) fn is_same(one: &Metadata, other: &Metadata) -> bool {
     one.dev() == other.dev() && one.ino() == other.ino()
+}
+
+/// Whether both files are one.
+pub(crate) fn are_one(one: &File, other: &File) -> bool {
+    match (one.metadata(), other.metadata()) {
+        (Ok(one), Ok(other)) => is_same(&one, &other),
+        _ => false,
+    }
 }
 
 // Whether a block of the file can be read at this byte.
@@ -64,8 +81,8 @@ fn region_beside(at: u64, bytes: u64) -> u64 {
 }
 
 impl LegPlace {
-    /// The file of so many bytes that is opened by this name, and what it has to keep to where it
-    /// is opened later.
+    /// The file of so many bytes for the export that is opened by this name, and what it has to
+    /// keep to where it is opened later.
     pub fn new(
         alloc: Global,
         name: String,
@@ -80,6 +97,7 @@ impl LegPlace {
             bytes,
             rules,
             superblock: Mutex::new(None),
+            sync_turn: Mutex::new(()),
             recorded: None,
         }
     }
@@ -89,93 +107,102 @@ impl LegPlace {
         self.superblock = Mutex::new(Some(superblock));
     }
 
+    /// How many bytes its file has: those for the export, and those for its superblock inside.
+    pub(crate) fn file_bytes(&self) -> u64 {
+        self.rules.bytes_for(self.bytes)
+    }
+
     /// The name.
     pub fn name(&self) -> &str {
         self.name.as_str()
     }
 
-    /// Syncs the file ahead of the stripes' syncs, which then have the less to write. A file that a
-    /// command is at is left.
-    pub fn sync_ahead(&self) {
-        let Some(file) = self.file.try_lock() else {
+    // The file as it is open, with what is told of its calls. None where a command is at it.
+    fn at_work(&self) -> Option<FileAtWork> {
+        let file = self.file.try_lock()?;
+        Some(FileAtWork {
+            shared: Arc::try_clone(&file.shared).ok()?,
+            trouble: Arc::try_clone(&file.trouble).ok()?,
+            counts: Arc::try_clone(&file.counts).ok()?,
+        })
+    }
+
+    /// Syncs the file ahead of the stripes' syncs, which then have the less to write. Those that
+    /// ask while one runs share the next. A file that a command is at is left.
+    pub fn sync_ahead<R: Wait>(&self, rt: &R) {
+        let Some(file) = self.at_work() else {
             return;
         };
-        let Ok(shared) = Arc::try_clone(&file.shared) else {
-            return;
-        };
-        let Ok(counts) = Arc::try_clone(&file.counts) else {
-            return;
-        };
-        drop(file);
-        if shared.sync_ahead() {
-            counts.note(LegCall::Sync, Some(0));
+        let ended = file.shared.ended();
+        let _turn = self.sync_turn.lock(rt);
+        match file.shared.sync_ahead(ended) {
+            Ok(true) => file.counts.note(LegCall::Sync, Some(0)),
+            Ok(false) => (),
+            Err(error) => {
+                file.trouble.note(FileCall::Sync, 0, Some(&error));
+                file.counts.note_fault(Some(&error));
+                file.counts.note(LegCall::Sync, None);
+            }
         }
+    }
+
+    // What is seen of a file that was opened by the name.
+    pub(crate) fn see<O: OpensLegs>(&self, opener: &O, file: &File) -> SeenFile {
+        let is_free = self.rules.force_in_use
+            || matches!(opener.is_in_use(self.alloc, file), Ok(false));
+        SeenFile::of(file, !is_free)
     }
 
     // Opens the name anew, and finds the file that is open and locked, as long as it was.
-    fn find<O: OpensLegs>(&self, opener: &O, held: &File) -> io::Result<Option<Hindrance>> {
+    fn find_held<O: OpensLegs>(&self, opener: &O, held: &File) -> Result<(), Unfit> {
         let opened = opener.open(self.name.as_str())?;
-        let found = opened.metadata()?;
-        let held = held.metadata()?;
-        if !is_same(&found, &held) {
-            return Ok(Some(Hindrance::OtherFile));
+        if !is_same(&opened.metadata()?, &held.metadata()?) {
+            return Err(Unfit::OtherFile);
         }
-        match bytes_of(&opened) {
-            Some(bytes) if bytes == self.bytes => Ok(None),
-            bytes => Ok(Some(Hindrance::OtherLength(bytes.unwrap_or(0)))),
-        }
+        SeenFile::of(&opened, false).has_length(self.file_bytes())
     }
 
     // Refuses a file that is not the one that superblocks are of, or was changed since.
-    fn check_own<O: OpensLegs>(&self, opener: &O, file: &File) -> Result<(), Hindrance> {
+    fn check_own<O: OpensLegs>(&self, opener: &O, file: &File) -> Result<(), Unfit> {
         let Some((leg, recorded)) = self.recorded else {
             return Ok(());
         };
         let Ok(text) = opener.identity(self.alloc, file) else {
-            return Err(Hindrance::OtherFile);
+            return Err(Unfit::OtherFile);
         };
         let identities = &recorded.identities;
         if leg >= 8 || !identity_by(leg, text.as_deref()).is_same(leg, identities, leg) {
-            return Err(Hindrance::OtherFile);
+            return Err(Unfit::OtherFile);
         }
         match recorded.changed[leg] {
             0 => Ok(()),
             changed if time_of_change(file) == changed => Ok(()),
-            _ => Err(Hindrance::Changed),
+            _ => Err(Unfit::Changed),
         }
     }
 
-    /// Makes the file durable, and says when it was changed last: 0 where that is unknown.
+    /// Makes the file durable, and says when it was changed last: 0 where that is unknown, and
+    /// where the save of a superblock inside it changes that.
     pub fn settled_time<R: Wait>(&self, rt: &R) -> u64 {
+        if self.rules.window > 0 {
+            return 0;
+        }
         self.file.lock(rt).shared.file().settled_time()
     }
 
-    // Refuses a file that was opened by the name, and is not to be the leg's.
-    fn check_late<O: OpensLegs>(&self, opener: &O, file: &File) -> Result<(), Hindrance> {
-        if !self.rules.force_in_use && !matches!(opener.is_in_use(self.alloc, file), Ok(false)) {
-            return Err(Hindrance::InUse);
-        }
-        match bytes_of(file) {
-            Some(bytes) if bytes == self.bytes => (),
-            bytes => return Err(Hindrance::OtherLength(bytes.unwrap_or(0))),
-        }
-        if let Some(limit) = self.rules.over_limit(file, self.bytes) {
-            return Err(Hindrance::OverFileLimit(limit));
-        }
-        self.check_own(opener, file)
-    }
-
     // Opens and locks the file that was missing at the start, and its superblock.
-    fn open_late<O: OpensLegs>(&self, opener: &O, late: &LateFile) -> Result<(), Hindrance> {
+    fn open_late<O: OpensLegs>(&self, opener: &O, late: &LateFile) -> Result<(), Unfit> {
         let file = match lock_opened(opener.open(self.name.as_str())) {
             Ok(file) => file,
-            Err(Unopened::System(error)) => return Err(Hindrance::Unopened(error)),
-            Err(Unopened::Locked) => return Err(Hindrance::Locked),
-            Err(_) => return Err(Hindrance::OtherFile),
+            Err(Unopened::System(error)) => return Err(Unfit::Unopened(error)),
+            Err(Unopened::Locked) => return Err(Unfit::Locked),
+            Err(_) => return Err(Unfit::OtherFile),
         };
-        self.check_late(opener, &file)?;
+        self.see(opener, &file)
+            .fits(&self.rules, self.file_bytes())?;
+        self.check_own(opener, &file)?;
         let Some(mut superblock) = self.superblock.try_lock() else {
-            return Err(Hindrance::Command);
+            return Err(Unfit::Command);
         };
         if let Some(own) = &*superblock {
             own.take(opener, &file)?;
@@ -192,33 +219,26 @@ impl LegPlace {
     ///
     /// The file of a leg that was missing so far is opened and locked by this, where it has the
     /// right length, is not in use, and comes with no superblock that may be newer.
-    pub fn check<O: OpensLegs>(&self, opener: &O) -> Result<(), Hindrance> {
+    pub fn check<O: OpensLegs>(&self, opener: &O) -> Result<(), Unfit> {
         let Some(file) = self.file.try_lock() else {
-            return Err(Hindrance::Command);
+            return Err(Unfit::Command);
         };
         if file.trouble.was_cut() {
-            return Err(Hindrance::WasCut);
+            return Err(Unfit::WasCut);
         }
         if file.shared.file().has_left() {
-            return Err(Hindrance::CallLeft);
+            return Err(Unfit::CallLeft);
         }
         let late = file.shared.file().late();
-        let Some(held) = late.file() else {
-            return self.open_late(opener, late);
+        let found = match late.file() {
+            Some(held) => self.find_held(opener, held),
+            None => self.open_late(opener, late),
         };
-        match self.find(opener, held) {
-            Ok(None) => Ok(()),
-            Ok(Some(hindrance)) => Err(hindrance),
-            Err(error) => Err(Hindrance::Unopened(error)),
+        match &found {
+            Err(Unfit::Unopened(error)) => file.trouble.note_opened(Some(error)),
+            _ => file.trouble.note_opened(None),
         }
-    }
-
-    /// The same, as it is told to somebody who wants the leg attached.
-    pub fn check_by_hand<O: OpensLegs>(&self, opener: &O) -> Result<(), Unattached> {
-        match self.check(opener) {
-            Ok(()) => Ok(()),
-            Err(why) => Err(Unattached::of(&why, self.bytes)),
-        }
+        found
     }
 
     /// Whether the file can be read where no read failed, once one failed at this byte: its first

@@ -44,6 +44,14 @@ impl LimitedFile {
         })
     }
 
+    /// A share of it.
+    pub(crate) fn share(&self) -> Result<LimitedFile, AllocError> {
+        Ok(LimitedFile {
+            late: Arc::try_clone(&self.late)?,
+            limit: share_limit(&self.limit)?,
+        })
+    }
+
     /// The file.
     pub(crate) fn late(&self) -> &LateFile {
         &self.late

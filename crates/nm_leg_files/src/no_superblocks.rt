@@ -81,8 +81,8 @@ fn may_go_by<R: Files<File = File>>(rt: &R, name: &str) -> bool {
     }
 }
 
-/// Refuses the first leg that has a superblock beside it, where they are kept in a folder: unless
-/// they are moved there. It would be believed again later.
+/// Refuses the first leg that has a superblock beside it, where they are kept in a folder, unless
+/// they are moved there, or inside the legs. It would be believed again later.
 pub fn check_none_beside<'a, R: Files<File = File>>(
     rt: &R,
     alloc: Global,
@@ -96,7 +96,10 @@ pub fn check_none_beside<'a, R: Files<File = File>>(
             continue;
         };
         if may_go_by(rt, own.as_str()) {
-            return Err(StartFault::HeldBeside(leg, *name));
+            return Err(match settings.superblock {
+                SuperblockPlace::Inside => StartFault::KeptBeside(leg, *name),
+                _ => StartFault::HeldBeside(leg, *name),
+            });
         }
     }
     Ok(())

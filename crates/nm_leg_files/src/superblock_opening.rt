@@ -1,5 +1,6 @@
 //! The files of legs' superblocks, as a start opens, locks, reads and makes them.
 
+use crate::inside_slots::{FoundSlots, holds_none, make_inside, no_memory, read_inside};
 use crate::late_file::LateFile;
 use crate::late_slots::LateSlots;
 use crate::late_superblock::LateSuperblock;
@@ -7,6 +8,7 @@ use crate::leg_files::LegFiles;
 use crate::leg_opener::open_or_make;
 use crate::leg_opening::{bytes_of, lock_opened, open_locked};
 use crate::limited_file::CallLimit;
+use crate::window::SlotsAt;
 use nm_commands::{Settings, SuperblockPlace};
 use nm_reports::{LogLines, StartFault, Unopened, superblock_name};
 use nm_saves::{SuperblockFile, SuperblockFiles, found_beside};
@@ -26,10 +28,12 @@ const FILE_BYTES: u64 = 8192;
 pub struct FoundFiles {
     pub(crate) files: Vec<Option<SuperblockFile<LateSlots>>>,
     pub(crate) names: Vec<String>,
-    are_beside: bool,
+    pub(crate) at: SlotsAt,
+    // The slots inside legs that hold no superblock.
+    pub(crate) free: Vec<Option<LateSlots>>,
     limits: Vec<CallLimit>,
     // Which of them this start has made.
-    made: [bool; 8],
+    made: Made,
     // The superblocks of legs that are not here, which are moved into them as they are.
     pub(crate) carried: Vec<Option<Superblock>>,
 }
@@ -43,21 +47,28 @@ pub struct AllFiles {
     pub names: Vec<String>,
     /// Those of missing legs that are opened later.
     pub late: Vec<LateSuperblock>,
+    // Where in the files they stand.
+    pub(crate) at: SlotsAt,
     // Which of them this start has made.
-    made: [bool; 8],
+    made: Made,
 }
 
-// Whether a file holds no superblock that a start goes by.
-fn holds_none(file: &SuperblockFile<LateSlots>) -> bool {
-    file.is_damaged() || file.newest().is_none()
+// What a start has made: these files, and what is inside legs in these slots.
+#[derive(Drop)]
+struct Made {
+    files: [bool; 8],
+    slots: Vec<LateSlots>,
 }
 
-// Removes these of the files of these names.
-fn remove<R: Files<File = File>>(rt: &R, names: &[String], made: &[bool; 8]) {
-    for (name, is_made) in names.iter().zip(made.iter()) {
+// Removes these of the files of these names, and what is in these slots.
+fn remove<R: Files<File = File>>(rt: &R, names: &[String], made: &Made) {
+    for (name, is_made) in names.iter().zip(made.files.iter()) {
         if *is_made {
             let _ = rt.remove_file(name.as_str());
         }
+    }
+    for slots in &made.slots {
+        let _ = slots.clear();
     }
 }
 
@@ -66,11 +77,6 @@ impl AllFiles {
     pub fn remove_made<R: Files<File = File>>(&self, rt: &R) {
         remove(rt, &self.names, &self.made);
     }
-}
-
-// Why a file is not opened where there is no memory.
-fn no_memory() -> Unopened {
-    Unopened::by(io::Error::from(ErrorKind::OutOfMemory))
 }
 
 // Opens, locks and reads the superblock's file of this name, if there is one. One that is shorter
@@ -90,7 +96,7 @@ fn read_file<R: Files<File = File>>(
         Some(bytes) if bytes >= FILE_BYTES => (),
         _ => return Ok(None),
     }
-    let Ok(slots) = LateSlots::here(alloc, file, limit) else {
+    let Ok(slots) = LateSlots::here(alloc, file, 0, limit) else {
         return Err(no_memory());
     };
     match SuperblockFile::open(slots) {
@@ -105,7 +111,7 @@ pub(crate) fn blank_file(
     opened: io::Result<File>,
     limit: &CallLimit,
 ) -> Result<SuperblockFile<LateSlots>, Unopened> {
-    let Ok(slots) = LateSlots::here(alloc, lock_opened(opened)?, limit) else {
+    let Ok(slots) = LateSlots::here(alloc, lock_opened(opened)?, 0, limit) else {
         return Err(no_memory());
     };
     match SuperblockFile::create(slots) {
@@ -146,23 +152,39 @@ fn late_file<'a>(
     alloc: Global,
     leg: usize,
     name: &str,
-    is_beside: bool,
+    at: SlotsAt,
     went_by: Superblock,
     limit: &CallLimit,
 ) -> Result<(SuperblockFile<LateSlots>, LateSuperblock), StartFault<'a>> {
-    let Ok(file) = Arc::new(alloc, LateFile::missing()) else {
+    let Ok(file) = Arc::new(alloc, LateFile::missing(0)) else {
         return Err(StartFault::Memory);
     };
     let late = LateSuperblock {
         leg,
         name: String::from_str(alloc, name)?,
         file: Arc::try_clone(&file)?,
-        is_beside,
+        at,
         went_by,
     };
-    match SuperblockFile::open(LateSlots::late(file, limit)?) {
+    match SuperblockFile::open(LateSlots::late(file, at.first_byte(), limit)?) {
         Ok(slots) => Ok((slots, late)),
         Err(error) => Err(StartFault::CannotSave(leg, Unopened::by(error))),
+    }
+}
+
+// The superblock's file of this name, or the slots inside the leg on this file, if that is here.
+fn find_slots<R: Files<File = File>>(
+    rt: &R,
+    alloc: Global,
+    name: &str,
+    at: SlotsAt,
+    leg: Option<&File>,
+    limit: &CallLimit,
+) -> Result<FoundSlots, Unopened> {
+    match (at, leg) {
+        (SlotsAt::Inside(from), Some(leg)) => read_inside(rt, alloc, name, leg, from, limit),
+        (SlotsAt::Inside(_), None) => Ok((None, None)),
+        _ => Ok((read_file(rt, alloc, name, limit)?, None)),
     }
 }
 
@@ -176,8 +198,8 @@ impl FoundFiles {
         place: SuperblockPlace<'_>,
         legs: &LegFiles,
     ) -> Result<FoundFiles, StartFault<'a>> {
-        let (here, limits) = (legs.here(), legs.limits(alloc)?);
-        let (mut files, mut names) = (Vec::new(alloc), Vec::new(alloc));
+        let (at, limits) = (SlotsAt::of(place, legs.export_bytes()), legs.limits(alloc)?);
+        let (mut files, mut names, mut free) = (Vec::new(alloc), Vec::new(alloc), Vec::new(alloc));
         for (leg, own) in settings.legs.iter().enumerate() {
             let Some(name) = superblock_name(alloc, place, leg, own)? else {
                 continue;
@@ -185,21 +207,27 @@ impl FoundFiles {
             let Some(limit) = limits.get(leg) else {
                 continue;
             };
-            let file = match read_file(rt, alloc, name.as_str(), limit) {
-                Ok(file) => file,
-                Err(Unopened::System(_)) if !here.get(leg).copied().unwrap_or(true) => None,
+            let own = legs.file(leg);
+            let (file, slots) = match find_slots(rt, alloc, name.as_str(), at, own, limit) {
+                Ok(found) => found,
+                Err(Unopened::System(_)) if own.is_none() => (None, None),
                 Err(why) => return Err(StartFault::CannotSave(leg, why)),
             };
-            if files.push(file).is_err() || names.push(name).is_err() {
+            let is_kept = files.push(file).is_ok() && names.push(name).is_ok();
+            if !is_kept || free.push(slots).is_err() {
                 return Err(StartFault::Memory);
             }
         }
         Ok(FoundFiles {
             files,
             names,
-            are_beside: matches!(place, SuperblockPlace::Beside),
+            at,
+            free,
             limits,
-            made: [false; 8],
+            made: Made {
+                files: [false; 8],
+                slots: Vec::new(alloc),
+            },
             carried: Vec::new(alloc),
         })
     }
@@ -240,6 +268,12 @@ impl FoundFiles {
         let Some(limit) = self.limits.get(leg) else {
             return Ok(None);
         };
+        if is_here && self.at.is_inside() {
+            return match make_inside(place, self.free.get_mut(leg), &mut self.made.slots) {
+                Ok(()) => Ok(None),
+                Err(why) => Err(StartFault::CannotSave(leg, why)),
+            };
+        }
         let carried = carried_to(&self.carried, leg, is_here);
         // What stands under the name of a missing leg's superblock and holds none is opened anew
         // with the leg.
@@ -250,7 +284,7 @@ impl FoundFiles {
             return Ok(None);
         }
         if is_here || carried.is_some() {
-            if let Some(is_made) = self.made.get_mut(leg) {
+            if let Some(is_made) = self.made.files.get_mut(leg) {
                 *is_made = rt.symlink_metadata(name.as_str()).is_err();
             }
             match make_file(rt, alloc, name.as_str(), carried, limit) {
@@ -262,7 +296,7 @@ impl FoundFiles {
         let Some(went_by) = went_by else {
             return Ok(None);
         };
-        let (slots, late) = late_file(alloc, leg, name.as_str(), self.are_beside, went_by, limit)?;
+        let (slots, late) = late_file(alloc, leg, name.as_str(), self.at, went_by, limit)?;
         *place = Some(slots);
         Ok(Some(late))
     }
@@ -310,6 +344,7 @@ impl FoundFiles {
         let FoundFiles {
             files,
             names,
+            at,
             made,
             ..
         } = own;
@@ -317,6 +352,7 @@ impl FoundFiles {
             files: SuperblockFiles::new(files, image),
             names,
             late,
+            at,
             made,
         })
     }

@@ -46,6 +46,9 @@ pub fn check_from<'a>(settings: &Settings<'_>) -> Result<(), StartFault<'a>> {
     if from == SuperblockPlace::Nowhere || to == SuperblockPlace::Nowhere {
         return Err(StartFault::NoPlace);
     }
+    if from == SuperblockPlace::Inside || to == SuperblockPlace::Inside {
+        return Err(StartFault::StaysInside);
+    }
     if from == to {
         return Err(StartFault::SamePlace);
     }

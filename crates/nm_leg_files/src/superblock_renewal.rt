@@ -1,13 +1,19 @@
 //! A leg that is replaced gets a superblock's file of its own, and a new id.
 ghost use Rattle.std.specs.Prelude.{◌≢◌};
 
+use crate::inside_slots::{blank_window, no_memory};
 use crate::late_slots::LateSlots;
+use crate::late_superblock::{again, blank_from, held_from};
 use crate::leg_opener::OpensLegs;
+use crate::leg_opening::lock_opened;
 use crate::limited_file::CallLimit;
 use crate::superblock_opening::blank_file;
 use crate::superblock_writer::SuperblockWriter;
+use crate::window::SlotsAt;
 use nm_reports::Unopened;
+use nm_saves::SuperblockFile;
 use nm_superblock::LegIdentities;
+use std::fs::File;
 use std::io::ErrorKind;
 
 /// A leg's new id, from a number that was drawn at random: it is neither 0 nor its old one.
@@ -26,11 +32,12 @@ pub fn other_id(drawn: u64, old: u64) -> u64
 
 impl SuperblockWriter<LateSlots> {
     /// Lets the superblock of a leg go that is out, and leaves none in its file, durably. Nothing
-    /// is saved beside the leg from then on.
+    /// is saved beside the leg from then on. The leg's own file may be open.
     pub fn retire_leg<O: OpensLegs>(
         &mut self,
         opener: &O,
         leg: u8,
+        held: Option<&File>,
         limit: &CallLimit,
     ) -> Result<(), Unopened> {
         let at = leg as usize;
@@ -41,6 +48,7 @@ impl SuperblockWriter<LateSlots> {
         match opener.open(self.names[at].as_str()) {
             // Of a leg that is missing it may be missing too.
             Err(error) if error.kind() == ErrorKind::NotFound => Ok(()),
+            Ok(file) if self.slots_at.is_inside() => self.retire_inside(file, leg, held),
             opened => {
                 blank_file(self.alloc, opened, limit)?;
                 Ok(())
@@ -48,14 +56,57 @@ impl SuperblockWriter<LateSlots> {
         }
     }
 
+    // Leaves no superblock inside the leg of this number, whose name leads to this file. Of a leg
+    // that is missing another file may have the name: that is left as it is.
+    fn retire_inside(&self, file: File, leg: u8, held: Option<&File>) -> Result<(), Unopened> {
+        let from = self.slots_at.first_byte();
+        let own = match held {
+            Some(held) => again(Ok(file), held)?,
+            None => {
+                let file = lock_opened(Ok(file))?;
+                match held_from(&file, from) {
+                    Some(found) if found.mirror == self.files.image().mirror && found.leg == leg =>
+                        { file }
+                    _ => return Ok(()),
+                }
+            }
+        };
+        match blank_from(&own, from) {
+            Ok(()) => Ok(()),
+            Err(error) => Err(Unopened::by(error)),
+        }
+    }
+
+    // The leg's superblock's file made anew, with none in it: inside the leg's file, which this one
+    // is.
+    fn make_anew<O: OpensLegs>(
+        &self,
+        opener: &O,
+        name: &str,
+        leg: &File,
+        limit: &CallLimit,
+    ) -> Result<SuperblockFile<LateSlots>, Unopened> {
+        match self.slots_at {
+            SlotsAt::Inside(from) => {
+                let file = again(opener.open(name), leg)?;
+                let Ok(slots) = LateSlots::here(self.alloc, file, from, limit) else {
+                    return Err(no_memory());
+                };
+                blank_window(slots)
+            }
+            _ => blank_file(self.alloc, opener.make(name), limit),
+        }
+    }
+
     /// Lets the leg's superblock go, makes its file anew with none in it, and gives the leg a new
     /// id, and the identity that it has in these: what is saved from now on has them. Nothing is
-    /// saved beside the leg where this fails.
+    /// saved beside the leg where this fails. The leg's own file is open.
     pub fn renew_leg<O: OpensLegs>(
         &mut self,
         opener: &O,
         leg: u8,
         identities: &LegIdentities,
+        own: &File,
         limit: &CallLimit,
     ) -> Result<(), Unopened> {
         let at = leg as usize;
@@ -67,7 +118,7 @@ impl SuperblockWriter<LateSlots> {
             Err(error) => return Err(Unopened::by(error)),
         };
         self.files.let_go(at);
-        let made = blank_file(self.alloc, opener.make(self.names[at].as_str()), limit)?;
+        let made = self.make_anew(opener, self.names[at].as_str(), own, limit)?;
         let id = other_id(drawn, self.files.image().leg_ids[at]);
         self.files.renew(at, made, id, identities);
         Ok(())

@@ -4,11 +4,12 @@ ghost use Rattle.std.specs.Prelude.{◌≤◌};
 
 use crate::change_times::{known_times, saved_times};
 use crate::saving::{AfterTry, after_try, is_clean, is_last_somewhere};
+use crate::window::SlotsAt;
 use nm_geometry::{MOST_LEGS, MOST_STRIPES};
 use nm_lanes::Gate;
 use nm_leg::LegPart;
 use nm_mirror::{Doubts, MOST_SPANS, Mirror, SaveOrder};
-use nm_reports::{LogLines, SaveStatus};
+use nm_reports::{LogLines, NOT_MADE, SaveStatus};
 use nm_saves::{SlotFile, SuperblockFiles};
 use nm_superblock::{LegSets, SpanMap, Superblock};
 use std::alloc::{AllocError, Global};
@@ -39,17 +40,22 @@ fn marks(map: &SpanMap) -> u32 {
     count
 }
 
-// The end of a line on a file that failed.
+// The end of a line on the file of a leg's superblock that failed.
 #[derive(Clone, Copy, Drop)]
 struct Reason<'x> {
+    leg: u8,
     error: Option<&'x io::Error>,
 }
 
 impl fmt::Display for Reason<'_> {
     fn fmt<W: fmt::Write>(&self, f: &mut fmt::Formatter<W>) -> fmt::Result {
         match self.error {
-            Some(error) => write!(f, ": {error}"),
-            None => Ok(()),
+            Some(error) if error.raw_os_error() == Some(NOT_MADE) => {
+                let leg = self.leg;
+                write!(f, ": it is not written while a call of leg {leg} hangs")
+            }
+            Some(error) => write!(f, " cannot be written: {error}"),
+            None => f.write_str(" cannot be written"),
         }
     }
 }
@@ -72,22 +78,25 @@ pub struct SuperblockWriter<S: SlotFile> {
     pub(crate) files: SuperblockFiles<S>,
     // From leg 0 on.
     pub(crate) names: Vec<String>,
+    pub(crate) slots_at: SlotsAt,
     went_by: Option<Superblock>,
 }
 
 impl<S: SlotFile> SuperblockWriter<S> {
-    /// A writer of these files, with their names from leg 0's on, and the newest superblock that
-    /// was found in them: none where they were made.
-    pub fn new(
+    /// A writer of these files, with their names from leg 0's on, where in them the superblocks
+    /// stand, and the newest one that was found in them: none where they were made.
+    pub(crate) fn new(
         alloc: Global,
         files: SuperblockFiles<S>,
         names: Vec<String>,
+        slots_at: SlotsAt,
         went_by: Option<Superblock>,
     ) -> SuperblockWriter<S> {
         SuperblockWriter {
             alloc,
             files,
             names,
+            slots_at,
             went_by,
         }
     }
@@ -129,6 +138,7 @@ impl<S: SlotFile> SuperblockWriter<S> {
     // Why a leg's file failed.
     fn reason(&self, leg: u8) -> Reason<'_> {
         Reason {
+            leg,
             error: self.files.error(leg as usize),
         }
     }
@@ -148,15 +158,12 @@ impl<S: SlotFile> SuperblockWriter<S> {
         let (name, why) = (self.name(leg), self.reason(leg));
         if is_last_somewhere(&counts) {
             let text = format!(in self.alloc;
-                "leg {leg} is the last in sync somewhere, and its superblock ({name}) cannot be \
-                 written{why}"
+                "leg {leg} is the last in sync somewhere, and its superblock ({name}){why}"
             );
             lines.alert(rt, text);
             return false;
         }
-        let text = format!(in self.alloc;
-            "leg {leg} is taken out: its superblock ({name}) cannot be written{why}"
-        );
+        let text = format!(in self.alloc; "leg {leg} is taken out: its superblock ({name}){why}");
         lines.warn(rt, text);
         true
     }

@@ -4,9 +4,10 @@ ghost use Rattle.std.specs.Prelude.{◌≡◌, ◌≤◌, length, IfOk};
 use crate::answer_bell::sleep_a_millisecond;
 use crate::call_seat::{Asked, CallSeat};
 use crate::late_file::LateFile;
+use nm_reports::NOT_MADE;
 use std::alloc::{AllocError, Global};
 use std::io::ErrorKind;
-use std::sync::atomic::{AtomicU64, Ordering};
+use std::sync::atomic::{AtomicBool, AtomicU64, Ordering};
 use std::sync::{Arc, Wait};
 use std::thread::Threads;
 use std::{io, thread};
@@ -29,13 +30,20 @@ pub struct TimedCalls {
     seats: Vec<CallSeat>,
     // In milliseconds.
     limit: i32,
+    // Whether calls have that limit: those of the start have none.
+    is_limited: AtomicBool,
     // How many calls were left and have not returned.
     left: AtomicU64,
 }
 
-// The error of a call that has no answer in time, and of those that are not made since.
+// The error of a call that has no answer in time.
 fn no_answer() -> io::Error {
     io::Error::from_raw_os_error(ETIME)
+}
+
+// The error of a call that is not made while another one hangs.
+fn not_made() -> io::Error {
+    io::Error::from_raw_os_error(NOT_MADE)
 }
 
 // Makes the calls of one seat.
@@ -55,6 +63,7 @@ impl TimedCalls {
         Ok(TimedCalls {
             seats,
             limit: seconds.min(MOST_SECONDS) as i32 * 1_000,
+            is_limited: AtomicBool::new(false),
             left: AtomicU64::new(0),
         })
     }
@@ -77,6 +86,20 @@ impl TimedCalls {
         true
     }
 
+    /// From now on calls have their limit: the start is over.
+    pub fn begin(&self) {
+        self.is_limited.store(true, Ordering::SeqCst);
+    }
+
+    // How many milliseconds a call may take.
+    fn limit(&self) -> i32 {
+        if self.is_limited.load(Ordering::SeqCst) {
+            self.limit
+        } else {
+            MOST_SECONDS as i32 * 1_000
+        }
+    }
+
     /// Whether a call was left that has not returned.
     pub fn has_left(&self) -> bool {
         self.left.load(Ordering::SeqCst) != 0
@@ -88,17 +111,18 @@ impl TimedCalls {
     }
 
     // Takes a seat, once one is free, and says how many milliseconds are left for its call.
-    fn take_seat(&self) -> Option<(&CallSeat, i32)> {
-        for waited in 0..self.limit {
+    fn take_seat(&self) -> io::Result<(&CallSeat, i32)> {
+        let limit = self.limit();
+        for waited in 0..limit {
             if self.has_left() {
-                return None;
+                return Err(not_made());
             }
             if let Some(seat) = self.free_seat() {
-                return Some((seat, self.limit.saturating_sub(waited)));
+                return Ok((seat, limit.saturating_sub(waited)));
             }
             sleep_a_millisecond();
         }
-        None
+        Err(no_answer())
     }
 
     // Leaves the call of this seat, unless it has returned meanwhile. Whether it was left.
@@ -123,9 +147,7 @@ impl TimedCalls {
         ensures { length into.new ≡ length into.old }
     {
         let theirs = Arc::try_clone(file)?;
-        let Some((seat, time)) = self.take_seat() else {
-            return Err(no_answer());
-        };
+        let (seat, time) = self.take_seat()?;
         if !seat.ask(theirs, asked, at, bytes) {
             return Err(io::Error::from(ErrorKind::Other));
         }

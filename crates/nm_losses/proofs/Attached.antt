@@ -17,7 +17,7 @@ use Rattle.nm_rules.specs.State.{StripeState, is_current, is_out}
 use Rattle.nm_rules.specs.Array.{contents_of}
 use Rattle.nm_rules.proofs.ReopeningLemmas.{reopened-keeps}
 use Rattle.nm_losses.specs.Laws.{Stands}
-use Rattle.nm_losses.specs.Losing.{HoldsStill, LosesPower, has_unsynced, with_part}
+use Rattle.nm_rules.specs.Losing.{HoldsStill, LosesPower, has_unsynced, with_part}
 
 -- two blocks
 abbrev newer : Block

@@ -12,7 +12,7 @@ use Rattle.nm_rules.proofs.ActsLemmas.{explained-stays}
 use Rattle.nm_rules.proofs.AttachLemmas.{attach-acts, may_attach}
 use Rattle.nm_rules.proofs.BeginLemmas.{fails_in_begin-explained}
 use Rattle.nm_rules.proofs.HaltLemmas.{copy_fault-acts, sync_fault-acts}
-use Rattle.nm_rules.proofs.LostStepLemmas.{begin_lost-acts, fail-acts, promote_lost-acts, sync_lost-acts}
+use Rattle.nm_rules.proofs.LostStepLemmas.{begin_lost-acts, fail-acts, promote_lost-acts, flush_lost-acts, sync_lost-acts}
 use Rattle.nm_rules.proofs.ReplaceLemmas.{replace-acts}
 use Rattle.nm_rules.proofs.ReturnLemmas.{return-acts}
 use Rattle.nm_rules.proofs.RunClaimLemmas.{claims_run-explained}
@@ -23,7 +23,7 @@ use Rattle.nm_stripe.specs.declared.answer.Answer.{Answer}
 use Rattle.nm_stripe.specs.declared.answer.Answer.TheVariants.{Begun, Pushed, Complete, Halted, Written, Value, Failed, MasterChanged, Joining, Copied, InSync, Synced, LegLost, Refused}
 use Rattle.nm_stripe.specs.declared.answer.Answer.TheVariants.{Nothing as NothingLeft}
 use Rattle.nm_stripe.specs.declared.step.Step.{Step}
-use Rattle.nm_stripe.specs.declared.step.Step.TheVariants.{Begin, Push, Claim, Read, Fail, Attach, Return, Replace, Copy, Promote, Sync}
+use Rattle.nm_stripe.specs.declared.step.Step.TheVariants.{Begin, Push, Claim, Read, Fail, Attach, Return, Replace, Copy, Promote, Sync, Flush}
 use Rattle.nm_stripe.specs.Begin.{RefusesBegin, ForCause as BeginCause, ForFault as BeginFault}
 use Rattle.nm_stripe.specs.Copy.{RefusesCopy, ForCause as CopyCause, ForFault as CopyFault}
 use Rattle.nm_stripe.specs.Read.{RefusesRead, ForCause as ReadCause, ForFault as ReadFault}
@@ -101,4 +101,7 @@ module _ {L : Type 0} (type : LegType L) (old new : StripeState L) (k : Keeps ty
   step-explained (Sync leg) Synced asked goes is = synced-explained type old new leg new.legs k is.called is.after is_honest
   step-explained (Sync leg) (LegLost gone handed) asked goes is = sync_lost-acts type old new k leg is.0.1 is_honest
   step-explained (Sync leg) (Refused cause handed) asked goes is = sync-refused leg cause is.0
+  step-explained (Flush leg) Synced asked goes is = synced-explained type old new leg new.legs k is.called is.after is_honest
+  step-explained (Flush leg) (LegLost gone handed) asked goes is = flush_lost-acts type old new k leg is.0.1 is_honest
+  step-explained (Flush leg) (Refused cause handed) asked goes is = sync-refused leg cause is.0
   step-explained step answer asked goes is = absurd is

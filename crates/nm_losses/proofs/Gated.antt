@@ -30,11 +30,11 @@ use Rattle.nm_gate.proofs.Runs.{Behind}
 use Rattle.nm_gate.proofs.Spans.{both-ways}
 use Rattle.nm_gate.proofs.Unmarked.{unmarked-equal}
 use Rattle.nm_losses.specs.Gated.{EverywhereCoversLosses, GateCovers, GateCoversLosses, GatedMove, Goes, LossyGatedRuns, Recovers, RecoversOf, moves_of}
-use Rattle.nm_losses.specs.Losing.{CoversLoss, HoldsStill, ReturnsLost, with_part}
+use Rattle.nm_rules.specs.Losing.{CoversLoss, HoldsStill, ReturnsLost, with_part}
 use Rattle.nm_losses.specs.Moves.{LossyRuns, answers_of}
 use Rattle.nm_losses.proofs.Crashed.{past, power-takes}
 use Rattle.nm_losses.proofs.Lists.{none-first}
-use Rattle.nm_losses.proofs.Returned.{lost-array, lost-keeps}
+use Rattle.nm_rules.proofs.LossLemmas.{lost-array, lost-keeps}
 
 -- one span has every region of a stripe
 all-marked : (block size : ℕ) → block < 2 ^ 31 → is_in_marked everywhere (block / size) ≡ true

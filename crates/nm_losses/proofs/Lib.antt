@@ -3,7 +3,4 @@ pub mod Crashed
 pub mod Explained
 pub mod Gated
 pub mod Lists
-pub mod Marked
 pub mod Outlived
-pub mod Returned
-pub mod Swapped

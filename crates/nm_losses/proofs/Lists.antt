@@ -26,10 +26,10 @@ use Rattle.nm_gate.specs.Durable.{Durable}
 use Rattle.nm_gate.proofs.Guarded.{array-stays}
 use Rattle.nm_gate.proofs.StepsLeft.{free_of, other_of, step-left}
 use Rattle.nm_losses.specs.Laws.{FlushedOutlivesLosses, KeepsTheArray, LossesKeepTheArray, Stands}
-use Rattle.nm_losses.specs.Losing.{ReturnsLost}
+use Rattle.nm_rules.specs.Losing.{ReturnsLost}
 use Rattle.nm_losses.specs.Moves.{ComesBack, Does, DoesStep, LossyRuns, Move, answers_of, steps_of}
 use Rattle.nm_losses.proofs.Explained.{step-explained}
-use Rattle.nm_losses.proofs.Returned.{lost-acts, lost-array, lost-durable, lost-keeps, lost-runs, lost-shape}
+use Rattle.nm_rules.proofs.LossLemmas.{lost-acts, lost-array, lost-durable, lost-keeps, lost-runs, lost-shape}
 
 -- none halted among more answers: not the first, and none of the others
 pub none-first : {L : Type 0} (answer : Answer L) (answers : List (Answer L)) → NoneHalted (answer ∷ answers) → NoneHalted (answer ∷ []) × NoneHalted answers

@@ -2,7 +2,7 @@
 use Rattle.std.specs.Prelude.{◌≡◌, ◌⊎◌, ℕ, true, length, Some, slice_get}
 use Rattle.nm_leg.specs.Leg.{Leg}
 use Rattle.nm_rules.specs.State.{StripeState, is_out, leg_state}
-use Rattle.nm_losses.specs.Losing.{LosesPower}
+use Rattle.nm_rules.specs.Losing.{LosesPower}
 
 -- What a loss of power leaves of a leg: at each block what was durable there, or what reads found,
 -- and all that is left is durable; it is as long, with the same marks.

@@ -14,7 +14,7 @@ use Rattle.nm_gate.specs.Moves.{Clears, Does as GateDoes, Gated, Saves}
 use Rattle.nm_gate.specs.Returning.{suspects}
 use Rattle.nm_gate.specs.Survive.{EqualOutside, Stands}
 use Rattle.nm_losses.specs.Crashing.{CrashesTo}
-use Rattle.nm_losses.specs.Losing.{CoversLoss, with_part}
+use Rattle.nm_rules.specs.Losing.{CoversLoss, with_part}
 use Rattle.nm_losses.specs.Moves.{ComesBack, Does, IsNoAttach, LossyRuns, Move, answers_of}
 
 -- a move behind the gate, or a leg that was the first of these, and comes back as the second

@@ -1,6 +1,5 @@
 pub mod Crashing
 pub mod Gated
 pub mod Laws
-pub mod Losing
 pub mod Moves
 pub mod Survive

@@ -8,7 +8,7 @@ use Rattle.nm_stripe.specs.declared.answer.Answer.{Answer}
 use Rattle.nm_stripe.specs.declared.step.Step.{Step}
 use Rattle.nm_stripe.specs.declared.step.Step.TheVariants.{Attach}
 use Rattle.nm_stripe.specs.Run.{MayBeAsked, StepOf}
-use Rattle.nm_losses.specs.Losing.{ReturnsLost}
+use Rattle.nm_rules.specs.Losing.{ReturnsLost}
 
 -- a step with its answer, or a leg that comes back as this part, with these marks
 pub data Move (L : Type 0) : Type 0 where

@@ -19,6 +19,7 @@ LetsPass durable stripe (Begin block) =
 LetsPass durable stripe Answer =
     (ticket leg : ℕ) → IsAllowed durable stripe (step.Claim ticket)
     × IsAllowed durable stripe (step.Sync leg)
+    × IsAllowed durable stripe (step.Flush leg)
 LetsPass durable stripe (Attach leg) = IsAllowed durable stripe (step.Attach leg)
 LetsPass {L} durable stripe (Replace leg) =
     leg < length stripe.legs → leg_state leg stripe ≡ Out → (part : L)
@@ -39,6 +40,7 @@ Refuses durable stripe (Begin block) refusal =
 Refuses durable stripe Answer refusal =
     (ticket leg : ℕ) → IsForbidden durable stripe (step.Claim ticket) refusal
     × IsForbidden durable stripe (step.Sync leg) refusal
+    × IsForbidden durable stripe (step.Flush leg) refusal
 Refuses durable stripe (Attach leg) refusal =
     IsForbidden durable stripe (step.Attach leg) refusal
 Refuses {L} durable stripe (Replace leg) refusal =

@@ -11,7 +11,7 @@ use nm_stripe::LegState;
 pub enum Ask {
     /// A write begins at this block.
     Begin(u64),
-    /// A finished write is claimed, or a leg is synced.
+    /// A finished write is claimed, or a leg is synced or flushed.
     Answer,
     /// This leg joins.
     Attach(u8),

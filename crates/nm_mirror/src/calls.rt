@@ -12,17 +12,15 @@ use crate::pass::Pass;
 use nm_lanes::{CallError, Gate, flush_by, read_by, sync_by};
 use nm_leg::LegPart;
 use nm_replay::BLOCK_BYTES;
-use std::marker::{Send, Sync};
 use std::sync::Wait;
-use std::thread::Threads;
 
-impl<L: LegPart + Send, G: Gate + Drop + Sync> Mirror<L, G> {
+impl<L: LegPart, G: Gate + Drop> Mirror<L, G> {
     /// Reads the bytes of the export from `offset` on into all of `into`: each block that they
-    /// touch once, in order, up to 8 stripes side by side.
+    /// touch once, in order.
     ///
-    /// Where a stripe cannot go on, its round is finished, and no further round begins. In each
-    /// stripe the first of its blocks were read, and what stands in `into` is not told.
-    pub fn read_at<R: Threads + Wait + Sync>(
+    /// It ends where a stripe cannot go on. In each stripe the first of its blocks were read, and
+    /// what stands in `into` is not told.
+    pub fn read_at<R: Wait>(
         &self,
         rt: &R,
         pass: &mut Pass<L>,
@@ -54,7 +52,7 @@ impl<L: LegPart + Send, G: Gate + Drop + Sync> Mirror<L, G> {
     }
 
     /// Reads whole blocks of the export from this one on into all of `into`, as `read_at`.
-    pub fn read<R: Threads + Wait + Sync>(
+    pub fn read<R: Wait>(
         &self,
         rt: &R,
         pass: &mut Pass<L>,
@@ -78,15 +76,10 @@ impl<L: LegPart + Send, G: Gate + Drop + Sync> Mirror<L, G> {
         self.read_at(rt, pass, BLOCK_BYTES as u64 * from, into)
     }
 
-    /// Syncs every leg of every stripe, up to 8 stripes side by side. A leg that is out, or goes
-    /// out by it, is passed over.
+    /// Syncs every leg of every stripe. A leg that is out, or goes out by it, is passed over.
     ///
-    /// Where a stripe cannot go on, its round is finished, and no further round begins.
-    pub fn flush<R: Threads + Wait + Sync>(
-        &self,
-        rt: &R,
-        pass: &mut Pass<L>,
-    ) -> Result<(), CallError>
+    /// Where a stripe cannot go on, the others are synced all the same.
+    pub fn flush<R: Wait>(&self, rt: &R, pass: &mut Pass<L>) -> Result<(), CallError>
         requires pass { length pass.old.parts.items ≡ self.now.shape.stripes }
         ensures ok { OnOk result (HasFlushed {L = L} Follows self.now.shape.legs
             (IsStripeOf self.now.shape) (pass.old.parts.items, pass.new.parts.items)) }
@@ -104,7 +97,7 @@ impl<L: LegPart + Send, G: Gate + Drop + Sync> Mirror<L, G> {
     }
 
     /// Syncs every leg of the stripes in which some of the bytes from `offset` on lie, as `flush`.
-    pub fn sync_touched<R: Threads + Wait + Sync>(
+    pub fn sync_touched<R: Wait>(
         &self,
         rt: &R,
         pass: &mut Pass<L>,

@@ -43,14 +43,14 @@ impl<L: LegPart> Held<L> {
         part.claim(&mut self.gated.stripe, ticket)
     }
 
-    /// Syncs a leg.
+    /// Flushes a leg.
     #[inline(always)]
-    pub(crate) fn sync(&mut self, part: &mut Part<L>, leg: u8) -> Result<Syncing, Refusal>
+    pub(crate) fn flush(&mut self, part: &mut Part<L>, leg: u8) -> Result<Syncing, Refusal>
         requires { LetsPass self.old.gated.durable self.old.gated.stripe ask.Answer }
         ensures { Follows {L = L} part.old
-            (done_as (step.Sync leg) (answer_of_sync result) ∷ []) part.new }
+            (done_as (step.Flush leg) (answer_of_sync result) ∷ []) part.new }
     {
-        part.sync(&mut self.gated.stripe, leg)
+        part.flush(&mut self.gated.stripe, leg)
     }
 
     /// Does a step of the copy to a leg.

@@ -32,6 +32,8 @@ const MOST_LOOKS: u64 = ALL_MILLISECONDS / PAUSE_MILLISECONDS;
 #[derive(Drop)]
 pub struct Glance {
     told: Option<StripeStatus>,
+    // Its master, or the leg on which it stopped.
+    master: u8,
     // Of each leg, how many blocks have the regions of which something is not synced, where that is
     // asked for.
     unsynced: Option<[u64; 8]>,
@@ -57,6 +59,16 @@ impl Glance {
         self.told.as_ref()
     }
 
+    /// The stripe's master; where it has stopped, its last leg in sync, on which it did. None where
+    /// the stripe is busy.
+    pub fn master(&self) -> Option<u8> {
+        if self.told.is_some() {
+            Some(self.master)
+        } else {
+            None
+        }
+    }
+
     /// How many blocks have the regions of which this leg has something that is not synced. None
     /// where the stripe is busy, or this is not asked for.
     pub fn unsynced(&self, leg: u8) -> Option<u64> {
@@ -77,6 +89,7 @@ impl Glance {
         match lock.try_hold() {
             Some(held) => {
                 self.told = Some(status_of(&held.gated.stripe, alloc)?);
+                self.master = held.gated.stripe.master();
                 if let Some(legs) = &mut self.unsynced {
                     *legs = unsynced_of(&held.gated.stripe);
                 }
@@ -173,6 +186,7 @@ impl<L: LegPart, G: Gate + Drop> Mirror<L, G> {
         for lock in &self.locks {
             all.push_reserved(Glance {
                 told: None,
+                master: 0,
                 unsynced,
                 got: lock.got(),
                 is_open: true,

@@ -3,6 +3,7 @@ ghost use Rattle.std.specs.Sync.Mutex.{mutex_guard_value};
 ghost use Rattle.nm_mirror.specs.Asks.{LetsPass};
 
 use crate::ask::{Ask, refusal_of, span_for, whole_for};
+use crate::door::Door;
 use crate::held::Held;
 use crate::save_desk::SaveDesk;
 use crate::stripe_end::StripeEnd;
@@ -29,10 +30,9 @@ type Line = [u64; 8];
 ///
 /// It lends the stripe to nobody outside: each step takes it once. Beside it stand the stripe's
 /// number, whether something was written since the last sync began, and for how many turns, and
-/// whether something was since the last look at it; how many long calls are at work in the mirror
-/// where the stripe is its first; how many threads have slept for it; and where saves are asked
-/// for, in a mirror with superblocks. No cache line has parts of two locks, since threads at work
-/// on two stripes would else take it from one another.
+/// whether something was since the last look at it; the door of writes; how many threads have slept
+/// for it; and where saves are asked for, in a mirror with superblocks. No cache line has parts of
+/// two locks, since threads at work on two stripes would else take it from one another.
 #[derive(Drop)]
 #[repr(C)]
 pub struct Lock<L: LegPart> {
@@ -43,7 +43,7 @@ pub struct Lock<L: LegPart> {
     // None where nothing was written since the last sync began, else one more than the turns since.
     age: AtomicU8,
     written: AtomicBool,
-    calls: AtomicU64,
+    door: Door,
     got: AtomicU64,
     desk: Option<Arc<SaveDesk>>,
     after: Line,
@@ -62,7 +62,7 @@ impl<L: LegPart> Lock<L> {
             unsynced: AtomicBool::new(false),
             age: AtomicU8::new(DUE_TURNS + 1),
             written: AtomicBool::new(false),
-            calls: AtomicU64::new(0),
+            door: Door::new(),
             got: AtomicU64::new(0),
             desk,
             after: [0; 8],
@@ -82,6 +82,32 @@ impl<L: LegPart> Lock<L> {
             Some(guard) => guard,
             None => self.hold_taken(rt),
         }
+    }
+
+    /// Waits for the stripe, as `hold`, for a write to a leg: where the door is shut, until it has
+    /// been opened.
+    #[inline(always)]
+    pub(crate) fn hold_to_write<R: Wait>(&self, rt: &R) -> MutexGuard<'_, Held<L>>
+        ensures { (mutex_guard_value result).gated.stripe.place.stripe ≡ self.now.number }
+    {
+        let held = self.hold(rt);
+        if !self.door.is_shut() {
+            return held;
+        }
+        drop(held);
+        self.door.wait(rt);
+        self.hold(rt)
+    }
+
+    /// Shuts writes out of the stripe, and waits until the one under way is done.
+    pub(crate) fn shut_door<R: Wait>(&self, rt: &R) {
+        self.door.shut();
+        drop(self.hold(rt));
+    }
+
+    /// Lets writes in again.
+    pub(crate) fn open_door<R: Wait>(&self, rt: &R) {
+        self.door.open(rt);
     }
 
     // Waits for the stripe, which another thread has. A try takes the lock's cache line from the
@@ -210,25 +236,16 @@ impl<L: LegPart> Lock<L> {
         self.got.load(Ordering::SeqCst)
     }
 
-    /// Whether somebody has the stripe right now.
-    pub(crate) fn is_taken(&self) -> bool {
-        self.held.try_lock().is_none()
-    }
-
-    /// Counts a long call that begins: whether no other is at work.
-    pub(crate) fn enter(&self) -> bool {
-        self.calls.fetch_add(1, Ordering::SeqCst) == 0
-    }
-
-    /// Counts that a long call has ended.
-    pub(crate) fn leave(&self) {
-        self.calls.fetch_sub(1, Ordering::SeqCst);
-    }
-
     /// Whether something was written in the stripe since its last sync began.
     #[inline(always)]
     pub(crate) fn is_unsynced(&self) -> bool {
         self.unsynced.load(Ordering::SeqCst)
+    }
+
+    /// Whether something was written in the stripe since its last sync began. From now on nothing
+    /// counts as written: a sync of the legs' files is to follow.
+    pub(crate) fn take_unsynced(&self) -> bool {
+        self.is_unsynced() && self.unsynced.swap(false, Ordering::SeqCst)
     }
 
     /// Notes that a leg is written to.

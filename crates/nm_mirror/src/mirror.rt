@@ -16,14 +16,16 @@ use std::alloc::{AllocError, Global};
 use std::sync::{Arc, Mutex, MutexGuard, Wait};
 
 /// A mirror: its stripes, by rising number, each behind a lock of its own that has its number; the
-/// gate that its calls pass between their steps; how many passes it made; and where saves are asked
-/// for, if it has superblocks. The lock of that count is taken by `pass` alone.
+/// gate that its calls pass between their steps; how many passes it made; whose turn it is to shut
+/// out writes; and where saves are asked for, if it has superblocks. The lock of that count is
+/// taken by `pass` alone.
 #[derive(Drop)]
 pub struct Mirror<L: LegPart, G: Gate + Drop> {
     pub(crate) shape: Shape,
     pub(crate) locks: Vec<Lock<L>>,
     pub(crate) gate: G,
     pub(crate) made: Mutex<u32>,
+    pub(crate) shutting: Mutex<()>,
     pub(crate) desk: Option<Arc<SaveDesk>>,
     ghost one_each: { vec_len locks ≡ shape.stripes },
     ghost in_order: { AreInOrder (map (λ lock. lock.number) locks.items) },
@@ -118,6 +120,7 @@ impl<L: LegPart, G: Gate + Drop> Mirror<L, G> {
             locks,
             gate,
             made: Mutex::new(0),
+            shutting: Mutex::new(()),
             desk,
         })
     }
@@ -136,14 +139,6 @@ impl<L: LegPart, G: Gate + Drop> Mirror<L, G> {
         ensures { (mutex_guard_value result).gated.stripe.place.stripe ≡ stripe }
     {
         self.locks[stripe as usize].hold(rt)
-    }
-
-    /// From now on no call of this mirror starts threads: for legs whose calls cost less than a
-    /// thread, as those of files do. It is as if a long call were always at work beside it.
-    pub fn keep_to_one_thread(&self) {
-        if let Some(first) = self.locks.first() {
-            let _ = first.enter();
-        }
     }
 
     /// How the mirror's blocks lie in its stripes.

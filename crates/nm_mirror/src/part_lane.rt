@@ -99,7 +99,7 @@ impl<L: LegPart> Lane<L, Lock<L>> for PartLane<L> {
         ensures follows { Follows {L = L} self.old
             (done_as (step.Push ticket leg) (answer_of_push result) ∷ []) self.new }
     {
-        let mut held = lock.hold(rt);
+        let mut held = lock.hold_to_write(rt);
         lock.note_write();
         self.part.push(&mut held.gated.stripe, ticket, leg)
     }
@@ -134,15 +134,15 @@ impl<L: LegPart> Lane<L, Lock<L>> for PartLane<L> {
         self.part.read(&mut lock.hold(rt).gated.stripe, block, into)
     }
 
-    fn sync<R: Wait>(&mut self, rt: &R, lock: &Lock<L>, leg: u8) -> Result<Syncing, Refusal>
+    fn flush<R: Wait>(&mut self, rt: &R, lock: &Lock<L>, leg: u8) -> Result<Syncing, Refusal>
         ensures follows { Follows {L = L} self.old
-            (done_as (step.Sync leg) (answer_of_sync result) ∷ []) self.new }
+            (done_as (step.Flush leg) (answer_of_sync result) ∷ []) self.new }
     {
         let Some(mut held) = lock.hold_for(rt, Ask::Answer) else {
             return Err(Refusal::SaveFailed);
         };
         lock.note_sync();
-        held.sync(&mut self.part, leg)
+        held.flush(&mut self.part, leg)
     }
 
     fn copy<R: Wait>(
@@ -169,22 +169,6 @@ impl<L: LegPart> Lane<L, Lock<L>> for PartLane<L> {
             Some(ticket) => Some((ticket, held.gated.stripe.next_owed(ticket)?)),
             None => held.gated.stripe.first_owed(),
         }
-    }
-
-    fn is_unsynced(&self, lock: &Lock<L>) -> bool {
-        lock.is_unsynced()
-    }
-
-    fn is_taken(&self, lock: &Lock<L>) -> bool {
-        lock.is_taken()
-    }
-
-    fn enter(&self, lock: &Lock<L>) -> bool {
-        lock.enter()
-    }
-
-    fn leave(&self, lock: &Lock<L>) {
-        lock.leave();
     }
 
     ghost stays = { λ part. (refl, tt) };

@@ -250,7 +250,7 @@ impl<L: LegPart, G: Gate + Drop> Mirror<L, G> {
         requires in_round { (stripe < round.old.stripes) × (leg < round.old.legs) }
         ensures round { (visit : Visit) × (round.new ≡ visited stripe leg visit round.old) }
     {
-        let mut held = self.hold(rt, stripe);
+        let mut held = self.locks[stripe as usize].hold_to_write(rt);
         if (leg as usize) >= held.gated.stripe.legs() {
             round.visit(stripe, leg, Visit::Rests);
             return None;

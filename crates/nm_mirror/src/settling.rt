@@ -11,18 +11,18 @@ use nm_leg::LegPart;
 use nm_stripe::{LegState, Stripe, Syncing};
 use std::sync::Wait;
 
-/// Syncs the leg, if the stripe has it and it is not out. Whether it does not fail.
-fn sync_one<L: LegPart>(stripe: &mut Stripe<L>, leg: u8) -> bool {
+/// Flushes the leg, if the stripe has it and it is not out. Whether it does not fail.
+fn flush_one<L: LegPart>(stripe: &mut Stripe<L>, leg: u8) -> bool {
     if (leg as usize) >= stripe.legs() || stripe.state(leg) == LegState::Out {
         return true;
     }
-    matches!(stripe.sync(leg), Ok(Syncing::Synced))
+    matches!(stripe.flush(leg), Ok(Syncing::Synced))
 }
 
-/// Syncs each leg of the stripe that is not out, until one fails. Whether none does.
-fn sync_legs<L: LegPart>(stripe: &mut Stripe<L>) -> bool {
+/// Flushes each leg of the stripe that is not out, until one fails. Whether none does.
+fn flush_legs<L: LegPart>(stripe: &mut Stripe<L>) -> bool {
     for leg in 0..MOST_LEGS {
-        if !sync_one(stripe, leg) {
+        if !flush_one(stripe, leg) {
             return false;
         }
     }
@@ -50,19 +50,17 @@ fn has_doubted<L: LegPart, D: Doubts>(stripe: &Stripe<L>, doubts: &D) -> bool {
 fn settle<L: LegPart, R: Wait, D: Doubts>(rt: &R, lock: &Lock<L>, doubts: &D) -> bool {
     let mut held = lock.hold(rt);
     held.gated.may_settle()
-        && sync_legs(&mut held.gated.stripe)
+        && flush_legs(&mut held.gated.stripe)
         && !has_doubted(&held.gated.stripe, doubts)
         && held.gated.settle()
 }
 
-/// The legs that are not out in the stripe, a bit each; none where somebody has it.
-fn legs_at_work<L: LegPart>(lock: &Lock<L>) -> u8 {
+/// The legs that are not out in the stripe, a bit each.
+fn legs_at_work<L: LegPart>(stripe: &Stripe<L>) -> u8 {
     let mut legs = 0;
-    if let Some(held) = lock.try_hold() {
-        for leg in 0..held.gated.stripe.legs().min(MOST_LEGS as usize) as u8 {
-            if held.gated.stripe.state(leg) != LegState::Out {
-                legs |= 1 << leg;
-            }
+    for leg in 0..stripe.legs().min(MOST_LEGS as usize) as u8 {
+        if stripe.state(leg) != LegState::Out {
+            legs |= 1 << leg;
         }
     }
     legs
@@ -82,8 +80,25 @@ impl<L: LegPart, G: Gate + Drop> Mirror<L, G> {
     pub fn due_legs(&self) -> u8 {
         let mut legs = 0;
         for lock in &self.locks {
+            // One that somebody has is due in the next turn, too.
             if lock.is_due() {
-                legs |= legs_at_work(lock);
+                if let Some(held) = lock.try_hold() {
+                    legs |= legs_at_work(&held.gated.stripe);
+                }
+            }
+        }
+        legs
+    }
+
+    /// The legs whose files are to be synced ahead of a flush, a bit each: those that are not out in
+    /// a stripe in which something was written since its last sync began. From now on nothing counts
+    /// as written there.
+    pub fn take_unsynced<R: Wait>(&self, rt: &R) -> u8 {
+        let mut legs: u8 = 0;
+        for lock in &self.locks {
+            let has_more = legs.count_ones() < self.shape.legs as u32;
+            if lock.take_unsynced() && has_more {
+                legs |= legs_at_work(&lock.hold(rt).gated.stripe);
             }
         }
         legs
@@ -100,7 +115,7 @@ impl<L: LegPart, G: Gate + Drop> Mirror<L, G> {
             let mut held = lock.hold(rt);
             if refusal_of(&held.gated, Ask::Answer).is_none() {
                 lock.note_sync();
-                let _ = sync_legs(&mut held.gated.stripe);
+                let _ = flush_legs(&mut held.gated.stripe);
             }
             return Some(lock.number.saturating_add(1));
         }

@@ -14,23 +14,19 @@ use nm_lanes::{CallError, Gate, WriteFault, write_by, zero_by};
 use nm_leg::LegPart;
 use nm_replay::BLOCK_BYTES;
 use std::alloc::Global;
-use std::marker::{Send, Sync};
 use std::sync::Wait;
 use std::sync::atomic::AtomicBool;
-use std::thread::Threads;
 
-impl<L: LegPart + Send, G: Gate + Drop + Sync> Mirror<L, G> {
+impl<L: LegPart, G: Gate + Drop> Mirror<L, G> {
     /// Writes the payload to the export from `offset` on: to each block that it touches once, in
-    /// order, up to 8 stripes side by side. A block that it fills is written whole; of another the
-    /// rest stays.
+    /// order. A block that it fills is written whole; of another the rest stays.
     ///
     /// # Errors
     ///
     /// `WriteFault::Memory` where the cuts of the payload are refused their memory, and nothing was
-    /// done. `WriteFault::Io` where a stripe could not go on: its round is finished, and no further
-    /// round begins. In each stripe the first of its blocks were written, and the next one's write
-    /// may have begun.
-    pub fn write_at<R: Threads + Wait + Sync>(
+    /// done. `WriteFault::Io` where a stripe could not go on, which ends the call. In each stripe
+    /// the first of its blocks were written, and the next one's write may have begun.
+    pub fn write_at<R: Wait>(
         &self,
         rt: &R,
         alloc: Global,
@@ -65,7 +61,7 @@ impl<L: LegPart + Send, G: Gate + Drop + Sync> Mirror<L, G> {
     }
 
     /// Writes whole blocks of the export from this one on, as `write_at`.
-    pub fn write<R: Threads + Wait + Sync>(
+    pub fn write<R: Wait>(
         &self,
         rt: &R,
         alloc: Global,
@@ -92,13 +88,13 @@ impl<L: LegPart + Send, G: Gate + Drop + Sync> Mirror<L, G> {
     }
 
     /// Writes zeroes to so many bytes of the export from `offset` on: to each block that they touch
-    /// once, in order, up to 8 stripes side by side. It takes no memory.
+    /// once, in order. It takes no memory.
     ///
     /// Before each region of a stripe it asks `is_gone`, where there is one: once that is true no
     /// further region is begun, and the call ends as `CallErrorKind::Gone`; each write that began
     /// is done. On another error the first blocks of each stripe were written, and the next one's
     /// write may have begun, as for `write_at`.
-    pub fn zero_at<R: Threads + Wait + Sync>(
+    pub fn zero_at<R: Wait>(
         &self,
         rt: &R,
         pass: &mut Pass<L>,
@@ -131,7 +127,7 @@ impl<L: LegPart + Send, G: Gate + Drop + Sync> Mirror<L, G> {
     }
 
     /// Writes zeroes to so many whole blocks of the export from this one on, as `zero_at`.
-    pub fn zero<R: Threads + Wait + Sync>(
+    pub fn zero<R: Wait>(
         &self,
         rt: &R,
         pass: &mut Pass<L>,

@@ -5,6 +5,7 @@ ghost use Rattle.nm_mirror.specs.Stripes.{AreStripesOf};
 use crate::answering_meanwhile::answer_meanwhile;
 use crate::found_legs::{find_legs, tell_compared};
 use crate::image_shape::shape_by;
+use crate::place_checks::{check_first, check_place};
 use crossbeam_channel::bounded;
 use nm_assemble::{LegsHere, NewMirror, first_superblock, named_leg, newest_of};
 use nm_commands::{Settings, Start, SuperblockPlace};
@@ -13,10 +14,9 @@ use nm_geometry::Shape;
 use nm_lanes::NoGate;
 use nm_leg_files::{
     BytesRead, Choice, FileMirror, FoundLegs, FoundPlaces, KeptImage, Leg, LegFiles, REGION,
-    Superblocks, as_they_were, changed_here, check_added, check_known, check_no_superblocks,
-    check_none_beside, choose, draw_id, draw_mirror_id, moved_legs, named_master, open_by_image,
-    open_compared, open_gates, open_untold, start_for, take_added, taken_legs, tell_unmoved,
-    unknown_legs,
+    Superblocks, as_they_were, changed_here, check_added, check_known, check_unshrunk, choose,
+    draw_id, draw_mirror_id, moved_legs, named_master, open_by_image, open_compared, open_gates,
+    open_untold, start_for, take_added, taken_legs, tell_unmoved, unknown_legs,
 };
 use nm_mirror::{InitialSync, Mirror};
 use nm_reports::{Comparison, LogLines, StartFault, tell_progress};
@@ -53,11 +53,7 @@ fn mirror_of<'a>(
     requires { AreStripesOf shape (map (λ own. own.stripe) stripes.items) }
 {
     match Mirror::new(alloc, shape, stripes, NoGate) {
-        Ok(mirror) => {
-            // A thread for half of a request pays at no size over files (docs/PERFORMANCE.md).
-            mirror.keep_to_one_thread();
-            Ok(mirror)
-        }
+        Ok(mirror) => Ok(mirror),
         Err(_) => Err(StartFault::Memory),
     }
 }
@@ -259,6 +255,7 @@ fn image_for<'a, R: RandomSource>(
         }
         Choice::Image(image) => {
             let mut image = image;
+            check_unshrunk(settings)?;
             if settings.force_master.is_none() {
                 check_known(settings, image.legs)?;
                 for leg in image.legs..settings.legs.len().min(8) as u8 {
@@ -345,6 +342,9 @@ where
     let (told, is_compared) = gone_by(rt, alloc, settings, &seen, lines);
     let lineage = draw_id(rt)?;
     let (image, is_first) = image_for(rt, settings, files, &told, lineage)?;
+    if is_first {
+        check_first(settings, files, &places.new)?;
+    }
     files.keep_own(alloc, &taken_legs(settings, &told), &changed_here(&seen))?;
     files.record(&image);
     let above = places.above_old(image);
@@ -380,17 +380,9 @@ pub fn open_asked_for<'a, R>(
 where
     R: Threads + Wait + Sync + Clock + RandomSource + Files<File = File>,
 {
-    match settings.superblock {
-        SuperblockPlace::Nowhere => {
-            check_no_superblocks(rt, alloc, settings)?;
-            return open_watched(rt, alloc, settings, files, control, lines, None);
-        }
-        SuperblockPlace::Beside => {
-            if let Some(leg) = files.block_device() {
-                return Err(StartFault::NoPlaceBeside(leg));
-            }
-        }
-        SuperblockPlace::Folder(_) => check_none_beside(rt, alloc, settings)?,
+    check_place(rt, alloc, settings, files)?;
+    if settings.superblock == SuperblockPlace::Nowhere {
+        return open_watched(rt, alloc, settings, files, control, lines, None);
     }
     open_kept(rt, alloc, settings, files, control, lines)
 }

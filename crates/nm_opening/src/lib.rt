@@ -6,5 +6,6 @@ mod answering_meanwhile;
 mod found_legs;
 mod image_shape;
 mod kept_mirror;
+mod place_checks;
 
 pub use crate::kept_mirror::{OpenedMirror, open_asked_for};

@@ -18,7 +18,7 @@ use Rattle.nm_stripe.specs.declared.push.Reach.{Reach}
 use Rattle.nm_stripe.specs.declared.push.Reach.TheVariants as reach
 use Rattle.nm_stripe.specs.declared.read.Reading.{Reading}
 use Rattle.nm_stripe.specs.declared.read.Reading.TheVariants as reading
-use Rattle.nm_stripe.specs.declared.step.Step.TheVariants.{Begin, Push, Claim, Read, Copy, Sync}
+use Rattle.nm_stripe.specs.declared.step.Step.TheVariants.{Begin, Push, Claim, Read, Copy, Flush}
 use Rattle.nm_stripe.specs.declared.sync.Syncing.{Syncing}
 use Rattle.nm_stripe.specs.declared.sync.Syncing.TheVariants as syncing
 use Rattle.nm_stripe.specs.Begin.{BeginsOrLoses, IsExplainedBegin, RefusesBegin}
@@ -26,7 +26,7 @@ use Rattle.nm_stripe.specs.Copy.{Copies, RefusesCopy}
 use Rattle.nm_stripe.specs.Push.{Reaches, IsExplainedReach}
 use Rattle.nm_stripe.specs.Read.{Reads, RefusesRead}
 use Rattle.nm_stripe.specs.Run.{NoneHalted, StepOf, marks}
-use Rattle.nm_stripe.specs.Sync.{RefusesSync, Syncs}
+use Rattle.nm_stripe.specs.Sync.{FlushesLeg, RefusesSync}
 use Rattle.nm_lanes.specs.Answers.{answer_of_begin, answer_of_push, answer_of_claim, answer_of_read, answer_of_sync, answer_of_copy, HandsBack}
 use Rattle.nm_part.specs.PartState.{PartState}
 use Rattle.nm_part.specs.Parts.{part_after}
@@ -52,10 +52,10 @@ module _ {L : Type 0} (type : LegType L) (old new : StripeState L) where
   read-step block room bytes (Ok (reading.LegLost leg)) long ok refused = (bytes, ok, (refl, long))
   read-step block room bytes (Err refusal) long ok refused = (bytes, refused, (refl, long))
 
-  pub sync-step : (leg : ℕ) (result : Result Syncing Refusal) → IfOk result (Syncs type old new leg) → IfErr result (RefusesSync type old new leg) → StepOf type (Sync leg) (answer_of_sync result) old new
-  sync-step leg (Ok syncing.Synced) ok refused = ok
-  sync-step leg (Ok (syncing.LegLost gone)) ok refused = (ok, refl)
-  sync-step leg (Err refusal) ok refused = (refused, refl)
+  pub flush-step : (leg : ℕ) (result : Result Syncing Refusal) → IfOk result (FlushesLeg type old new leg) → IfErr result (RefusesSync type old new leg) → StepOf type (Flush leg) (answer_of_sync result) old new
+  flush-step leg (Ok syncing.Synced) ok refused = ok
+  flush-step leg (Ok (syncing.LegLost gone)) ok refused = (ok, refl)
+  flush-step leg (Err refusal) ok refused = (refused, refl)
 
   pub copy-step : (leg most from : ℕ) (result : Result Copying Refusal) → IfOk result (Copies type old new leg most from) → IfErr result (RefusesCopy type old new leg most from) → StepOf type (Copy leg most from) (answer_of_copy result) old new
   copy-step leg most from (Ok (copying.Copied moved blocks)) ok refused = ok
@@ -87,11 +87,11 @@ module _ {L : Type 0} (model : L → Leg) (old new : StripeState L) where
   claim-acts ticket (Ok written) ok kept stays = ok
   claim-acts ticket (Err refusal) ok kept stays = unchanged kept stays
 
--- a sync and a copy mark nothing, and what the others leave is counted
-pub sync-marks : (L : Type 0) (leg : ℕ) (result : Result Syncing Refusal) → marks {L = L} (Sync leg) (answer_of_sync result) ≡ []
-sync-marks L leg (Ok syncing.Synced) = refl
-sync-marks L leg (Ok (syncing.LegLost gone)) = refl
-sync-marks L leg (Err refusal) = refl
+-- a flush and a copy mark nothing, and what the others leave is counted
+pub flush-marks : (L : Type 0) (leg : ℕ) (result : Result Syncing Refusal) → marks {L = L} (Flush leg) (answer_of_sync result) ≡ []
+flush-marks L leg (Ok syncing.Synced) = refl
+flush-marks L leg (Ok (syncing.LegLost gone)) = refl
+flush-marks L leg (Err refusal) = refl
 
 pub copy-marks : (L : Type 0) (leg most from : ℕ) (result : Result Copying Refusal) → marks {L = L} (Copy leg most from) (answer_of_copy result) ≡ []
 copy-marks L leg most from (Ok (copying.Copied moved blocks)) = refl
@@ -112,10 +112,10 @@ push-counts L part (Ok (reach.LegLost gone)) = refl
 push-counts L part (Ok reach.Halted) = refl
 push-counts L part (Err refusal) = refl
 
-pub sync-counts : (L : Type 0) (part : PartState) (result : Result Syncing Refusal) → part ≡ part_after {L = L} (answer_of_sync result) part
-sync-counts L part (Ok syncing.Synced) = refl
-sync-counts L part (Ok (syncing.LegLost gone)) = refl
-sync-counts L part (Err refusal) = refl
+pub flush-counts : (L : Type 0) (part : PartState) (result : Result Syncing Refusal) → part ≡ part_after {L = L} (answer_of_sync result) part
+flush-counts L part (Ok syncing.Synced) = refl
+flush-counts L part (Ok (syncing.LegLost gone)) = refl
+flush-counts L part (Err refusal) = refl
 
 pub copy-counts : (L : Type 0) (part : PartState) (result : Result Copying Refusal) → part ≡ part_after {L = L} (answer_of_copy result) part
 copy-counts L part (Ok (copying.Copied moved blocks)) = refl

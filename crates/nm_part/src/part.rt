@@ -227,19 +227,19 @@ impl<L: LegPart> Part<L> {
         read
     }
 
-    /// Syncs a leg.
-    pub fn sync(&mut self, stripe: &mut Stripe<L>, leg: u8) -> Result<Syncing, Refusal>
-        ensures step { AsksStripe (leg_type L.model L.honest) (step.Sync leg)
+    /// Flushes a leg.
+    pub fn flush(&mut self, stripe: &mut Stripe<L>, leg: u8) -> Result<Syncing, Refusal>
+        ensures step { AsksStripe (leg_type L.model L.honest) (step.Flush leg)
             (answer_of_sync result) self.old (stripe.old, stripe.new) }
         ensures acts { IsTrue L.honest → IsExplainedStep L.model
-            (marks {L = L} (step.Sync leg) (answer_of_sync result)) stripe.old stripe.new }
+            (marks {L = L} (step.Flush leg) (answer_of_sync result)) stripe.old stripe.new }
         ensures counted { self.new ≡ part_after {L = L} (answer_of_sync result) self.old }
     {
         stripe.sound();
         if !self.has_leg(stripe, leg) {
             return Err(Refusal::Astray);
         }
-        stripe.sync(leg)
+        stripe.flush(leg)
     }
 
     /// Does a step of the copy to a leg, which moves up to `most` blocks, and opens no region below

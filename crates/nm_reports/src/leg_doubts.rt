@@ -89,6 +89,13 @@ impl LegDoubts {
         self.failures() != self.forgotten.load(Ordering::SeqCst)
     }
 
+    /// Whether a read failed since the leg came back.
+    pub fn has_unread(&self) -> bool {
+        let past = self.forgotten.load(Ordering::SeqCst);
+        let since = self.failures().wrapping_sub(past);
+        since & 0xffff_ffff > since >> 32
+    }
+
     /// What failed that nobody looked at yet, if something did, and up to where that is: for
     /// `handle`.
     pub fn new_failure(&self) -> Option<(Failure, u64)> {

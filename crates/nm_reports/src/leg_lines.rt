@@ -1,17 +1,23 @@
 //! The lines that tell what happens to one leg.
 
+use crate::failed_reads::{FailedRead, FailedReads};
 use crate::leg_trouble::{LegTrouble, Trouble};
 use crate::log_lines::LogLines;
-use nm_service::{Interval, LegChange, LegSight};
-use std::alloc::Global;
+use nm_geometry::ByteRange;
+use nm_service::{Interval, LegChange, LegSight, Mebibytes};
+use std::alloc::{AllocError, Global};
 use std::fmt;
 use std::sync::{Arc, Wait};
+use std::time::Clock;
 
 /// How many milliseconds pass at least from one line on a leg's changes to the next.
 const CHANGE_MILLISECONDS: u64 = 1_000;
 
 /// How many milliseconds pass at least from one line on a leg's copy to the next.
 const PROGRESS_MILLISECONDS: u64 = 10_000;
+
+/// How many milliseconds pass at least from one line on failed reads of a leg to the next.
+const READS_MILLISECONDS: u64 = 1_000;
 
 /// A leg of which nothing is known.
 pub const UNSEEN: LegSight = LegSight {
@@ -37,6 +43,53 @@ impl fmt::Display for Because {
     }
 }
 
+// The end of a line on a leg that was attached: in how many stripes it is out still, if in some.
+#[derive(Clone, Copy, Drop)]
+struct Still {
+    out: u64,
+    all: usize,
+}
+
+impl fmt::Display for Still {
+    fn fmt<W: fmt::Write>(&self, f: &mut fmt::Formatter<W>) -> fmt::Result {
+        match self.out {
+            0 => Ok(()),
+            out => write!(f, ", and is out in {out} of {} stripes still", self.all),
+        }
+    }
+}
+
+/// How a leg stands as the server begins or ends.
+#[derive(Drop)]
+pub struct LegStand {
+    /// How many stripes there are.
+    pub all: usize,
+    /// How it stands in them.
+    pub sight: LegSight,
+    /// In how many that run it is in sync.
+    pub in_sync: u64,
+    /// The stripes that have stopped on it, by rising number.
+    pub stopped: Vec<usize>,
+}
+
+impl LegStand {
+    // Puts which stripes have stopped on this leg, if some have.
+    fn put_stopped(&self, leg: usize, text: &mut String) -> Result<(), AllocError> {
+        let (word, verb, whose) = match self.stopped.len() {
+            0 => return Ok(()),
+            1 => ("stripe", "is", "its"),
+            _ => ("stripes", "are", "their"),
+        };
+        write!(text, "; {word}")?;
+        let mut before = " ";
+        for stripe in &self.stopped {
+            write!(text, "{before}{stripe}")?;
+            before = ", ";
+        }
+        write!(text, " {verb} stopped, {whose} last leg is leg {leg}")
+    }
+}
+
 /// A leg, by its number and its file, and what was told of it so far.
 #[derive(Drop)]
 pub struct LegLines {
@@ -46,6 +99,23 @@ pub struct LegLines {
     told: LegSight,
     changes: Interval,
     progress: Interval,
+    reads: Interval,
+}
+
+// The end of a line on reads that failed: how many more there are.
+#[derive(Clone, Copy, Drop)]
+struct More {
+    count: u64,
+}
+
+impl fmt::Display for More {
+    fn fmt<W: fmt::Write>(&self, f: &mut fmt::Formatter<W>) -> fmt::Result {
+        match self.count {
+            0 => Ok(()),
+            1 => f.write_str(" (and 1 more read)"),
+            count => write!(f, " (and {count} more reads)"),
+        }
+    }
 }
 
 impl LegLines {
@@ -58,6 +128,7 @@ impl LegLines {
             told: UNSEEN,
             changes: Interval::new(CHANGE_MILLISECONDS),
             progress: Interval::new(PROGRESS_MILLISECONDS),
+            reads: Interval::new(READS_MILLISECONDS),
         }
     }
 
@@ -68,33 +139,54 @@ impl LegLines {
         }
     }
 
-    /// Tells how the leg stands in so many stripes, as the server begins or ends.
-    pub fn tell_stand<R: Wait>(
+    // Puts how the leg stands.
+    fn put_stand(&self, when: &str, stand: &LegStand, text: &mut String) -> Result<(), AllocError> {
+        let (leg, file) = (self.leg, self.file.as_str());
+        let (all, in_sync) = (stand.all, stand.in_sync);
+        let (out, left) = (stand.sight.out, Mebibytes::of_blocks(stand.sight.left));
+        write!(text, "{when}: leg {leg} ({file}) ")?;
+        if out > 0 {
+            write!(text, "is out in {out} of {all} stripes")?;
+        } else if stand.sight.left > 0 {
+            write!(text, "lacks {left}")?;
+        } else if stand.sight.joining > 0 {
+            text.push_str("is current, its first sync is under way")?;
+        } else if in_sync < all as u64 {
+            write!(text, "is in sync in {in_sync} of {all} stripes")?;
+        } else {
+            text.push_str("is in sync")?;
+        }
+        stand.put_stopped(leg, text)
+    }
+
+    /// Tells how the leg stands, as the server begins or ends: a warning where stripes have stopped
+    /// on it.
+    pub fn tell_stand<R: Wait + Clock>(
         &mut self,
         rt: &R,
         alloc: Global,
         lines: &LogLines,
         when: &str,
-        all: usize,
-        sight: LegSight,
+        stand: &LegStand,
     ) {
-        self.told = sight;
-        let (leg, file) = (self.leg, self.file.as_str());
-        let (out, left) = (sight.out, sight.left);
-        let text = if out > 0 {
-            format!(in alloc; "{when}: leg {leg} ({file}) is out in {out} of {all} stripes")
-        } else if left > 0 {
-            format!(in alloc; "{when}: leg {leg} ({file}) lacks {left} blocks")
-        } else if sight.joining > 0 {
-            format!(in alloc; "{when}: leg {leg} ({file}) lacks nothing, and is not synced yet")
-        } else {
-            format!(in alloc; "{when}: leg {leg} ({file}) is in sync")
+        self.told = stand.sight;
+        if stand.sight.out > 0 {
+            self.trouble.outage().begin(rt, None);
+        }
+        let mut text = String::new(alloc);
+        let line = match self.put_stand(when, stand, &mut text) {
+            Ok(()) => Ok(text),
+            Err(error) => Err(error),
         };
-        lines.inform(rt, text);
+        if stand.stopped.is_empty() {
+            lines.inform(rt, line);
+        } else {
+            lines.warn(rt, line);
+        }
     }
 
     // Tells what was lost with the leg.
-    fn tell_losses<R: Wait>(
+    fn tell_losses<R: Wait + Clock>(
         &self,
         rt: &R,
         alloc: Global,
@@ -106,6 +198,7 @@ impl LegLines {
         let (out, stopped) = (self.told.out, self.told.stopped);
         if change.goes_out {
             let because = self.because();
+            self.trouble.outage().begin(rt, because.trouble);
             lines.warn(
                 rt,
                 format!(in alloc; "leg {leg} ({file}) is out in {out} of {all} stripes{because}"),
@@ -133,7 +226,13 @@ impl LegLines {
         change: &LegChange,
     ) {
         let (leg, file) = (self.leg, self.file.as_str());
-        let (out, left, masters) = (self.told.out, self.told.left, self.told.masters);
+        let (masters, still) = (
+            self.told.masters,
+            Still {
+                out: self.told.out,
+                all,
+            },
+        );
         if change.takes_over {
             let text = format!(in alloc;
                 "leg {leg} ({file}) is now the master in {masters} of {all} stripes"
@@ -141,15 +240,12 @@ impl LegLines {
             lines.inform(rt, text);
         }
         if change.comes_back {
-            let text = format!(in alloc;
-                "leg {leg} ({file}) was attached: it is out in {out} of {all} stripes"
-            );
+            let text = format!(in alloc; "leg {leg} ({file}) is attached{still}");
             lines.inform(rt, text);
         }
         if change.begins_copy {
-            let text = format!(in alloc;
-                "leg {leg} ({file}): its copy begins, {left} blocks are left"
-            );
+            let left = Mebibytes::of_blocks(self.told.left);
+            let text = format!(in alloc; "leg {leg} ({file}): its copy begins, {left} are left");
             lines.inform(rt, text);
         }
         if change.is_whole {
@@ -159,7 +255,7 @@ impl LegLines {
     }
 
     /// Tells what has changed by this time, in milliseconds, where it is time for a line.
-    pub fn tell_changes<R: Wait>(
+    pub fn tell_changes<R: Wait + Clock>(
         &mut self,
         rt: &R,
         alloc: Global,
@@ -175,33 +271,88 @@ impl LegLines {
                 let _ = self.progress.take(now);
                 self.tell_losses(rt, alloc, lines, all, &change);
                 self.tell_gains(rt, alloc, lines, all, &change);
+                if sight.out == 0 {
+                    self.trouble.outage().end(rt);
+                }
             }
         } else if sight.left > 0 && self.progress.take(now) {
             self.told = sight;
-            let (leg, file, left) = (self.leg, self.file.as_str(), sight.left);
+            let (leg, file) = (self.leg, self.file.as_str());
+            let left = Mebibytes::of_blocks(sight.left);
             lines.inform(
                 rt,
-                format!(in alloc; "leg {leg} ({file}): {left} blocks are left to copy"),
+                format!(in alloc; "leg {leg} ({file}): {left} are left to copy"),
             );
         }
     }
 
-    /// Tells that these bytes of the export cannot be read from the leg, which alone has them.
+    /// Where reads of the leg failed.
+    pub fn failed_reads(&self) -> &FailedReads {
+        self.trouble.failed_reads()
+    }
+
+    /// Whether it is time, in milliseconds, for a line on failed reads.
+    pub fn tells_reads(&mut self, now: u64) -> bool {
+        self.reads.take(now)
+    }
+
+    /// Tells that this read failed where no other leg is in sync, and so many more.
+    pub fn tell_failed_read<R: Wait>(
+        &self,
+        rt: &R,
+        alloc: Global,
+        lines: &LogLines,
+        failed: &FailedRead,
+        more: u64,
+    ) {
+        let (leg, file) = (self.leg, self.file.as_str());
+        self.trouble.forget_read(failed.at);
+        let (trouble, more) = (Trouble::of_read(failed), More { count: more });
+        lines.alert(
+            rt,
+            format!(in alloc;
+                "leg {leg} ({file}): {trouble}; it stays, as the last leg in sync{more}"
+            ),
+        );
+    }
+
+    // What failed as these bytes were read.
+    fn because_of(&self, bytes: &ByteRange) -> Because {
+        let failed = self.failed_reads().first_in(bytes.offset, bytes.length);
+        match &failed {
+            Some(failed) => {
+                self.trouble.forget_read(failed.at);
+                Because {
+                    trouble: Some(Trouble::of_read(failed)),
+                }
+            }
+            None => self.because(),
+        }
+    }
+
+    /// Tells that these bytes of the export cannot be read from the leg, which alone has them: the
+    /// first of so many regions.
     pub fn tell_unread<R: Wait>(
         &self,
         rt: &R,
         alloc: Global,
         lines: &LogLines,
-        offset: u64,
-        length: u64,
+        bytes: &ByteRange,
+        count: u64,
     ) {
-        let (leg, file, because) = (self.leg, self.file.as_str(), self.because());
-        lines.alert(
-            rt,
+        let (leg, file, because) = (self.leg, self.file.as_str(), self.because_of(bytes));
+        let (offset, length) = (bytes.offset, bytes.length);
+        let text = if count <= 1 {
             format!(in alloc;
                 "leg {leg} ({file}): {length} bytes of the export at {offset} cannot be read, and \
                  are not copied to other legs{because}"
-            ),
-        );
+            )
+        } else {
+            format!(in alloc;
+                "leg {leg} ({file}): {count} regions of the export cannot be read, and are not \
+                 copied to other legs, the first with {length} bytes at {offset}{because}"
+            )
+        };
+        lines.alert(rt, text);
     }
 }

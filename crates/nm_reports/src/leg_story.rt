@@ -1,20 +1,24 @@
 //! What happens to the legs, as it is told.
 
-use crate::leg_lines::{LegLines, UNSEEN};
+use crate::failed_reads::{FailedRead, FailedReads};
+use crate::leg_lines::{LegLines, LegStand, UNSEEN};
 use crate::log_lines::LogLines;
 use crate::unread::region_bytes;
 use nm_geometry::{MOST_LEGS, Shape};
 use nm_lanes::Gate;
 use nm_leg::LegPart;
-use nm_mirror::{LegStatus, Mirror, StripeStatus, UnreadRegion};
-use nm_service::LegSight;
+use nm_mirror::{CopyRound, LegStatus, Mirror, StripeStatus, UnreadRegion};
+use nm_service::{Interval, LegSight};
 use nm_stripe::LegState;
 use std::alloc::{AllocError, Global};
 use std::sync::Wait;
 use std::time::Clock;
 
-/// How many regions that could not be read are told at most. All are counted.
-const MOST_UNREAD: usize = 64;
+/// How many bytes a block has.
+const BLOCK_BYTES: u64 = nm_replay::BLOCK_BYTES as u64;
+
+/// How many milliseconds pass at least from one line on regions that cannot be read to the next.
+const UNREAD_MILLISECONDS: u64 = 60_000;
 
 // A stripe as it was when it was last seen running, and whether it has stopped since.
 #[derive(Drop)]
@@ -25,13 +29,14 @@ struct StripeView {
 }
 
 impl StripeView {
-    // Takes what the stripe is doing. What one that has stopped was doing stays.
-    fn see(&mut self, told: &StripeStatus) -> Result<(), AllocError> {
+    // Takes what the stripe is doing, and which leg is its master, or its last one. What one that
+    // has stopped was doing stays.
+    fn see(&mut self, told: &StripeStatus, master: u8) -> Result<(), AllocError> {
+        self.master = master;
         match told {
             StripeStatus::Stopped => self.is_stopped = true,
-            StripeStatus::Running { master, legs, .. } => {
+            StripeStatus::Running { legs, .. } => {
                 self.is_stopped = false;
-                self.master = *master;
                 self.legs.clear();
                 for leg in legs {
                     self.legs.push(*leg)?;
@@ -39,6 +44,25 @@ impl StripeView {
             }
         }
         Ok(())
+    }
+
+    // Whether the leg was in sync here when the stripe was last seen running.
+    fn is_in_sync(&self, leg: usize) -> bool {
+        match self.legs.get(leg) {
+            Some(status) => status.state == LegState::InSync,
+            None => false,
+        }
+    }
+
+    // How this leg stands here beside the others, of which a read failed.
+    fn stand(&self, leg: usize) -> ReadStand {
+        let in_sync = |status: &&LegStatus| status.state == LegState::InSync;
+        let all = self.legs.iter().filter(in_sync).count();
+        match (self.is_stopped, self.is_in_sync(leg), all) {
+            (false, true, 1) => ReadStand::Last,
+            (false, false, _) => ReadStand::Left,
+            _ => ReadStand::Open,
+        }
     }
 
     // Adds how this leg stands here.
@@ -61,12 +85,50 @@ impl StripeView {
     }
 }
 
+// How a leg stands in a stripe in which a read of it failed.
+#[derive(Clone, Copy, PartialEq, Eq)]
+enum ReadStand {
+    // It stays, as the last leg in sync.
+    Last,
+    // It is out, or is being copied.
+    Left,
+    // It may go out yet, or be the last one later.
+    Open,
+}
+
 /// What is told of a mirror's legs so far.
 #[derive(Drop)]
 pub struct LegStory {
+    shape: Shape,
     stripes: Vec<StripeView>,
     legs: Vec<LegLines>,
-    unread: Vec<UnreadRegion>,
+    unread: UnreadTold,
+}
+
+// How many regions that could not be read were told last, and when.
+#[derive(Drop)]
+struct UnreadTold {
+    count: u64,
+    pace: Interval,
+}
+
+impl UnreadTold {
+    // None was told.
+    fn new() -> UnreadTold {
+        UnreadTold {
+            count: 0,
+            pace: Interval::new(UNREAD_MILLISECONDS),
+        }
+    }
+
+    // Whether so many are to be told at this time. Then they count as told.
+    fn takes(&mut self, count: u64, now: u64) -> bool {
+        if count == self.count || !self.pace.take(now) {
+            return false;
+        }
+        self.count = count;
+        true
+    }
 }
 
 impl LegStory {
@@ -82,12 +144,11 @@ impl LegStory {
                 legs: own,
             })?;
         }
-        let mut unread = Vec::new(alloc);
-        unread.reserve(MOST_UNREAD)?;
         Ok(LegStory {
+            shape: *shape,
             stripes,
             legs,
-            unread,
+            unread: UnreadTold::new(),
         })
     }
 
@@ -102,8 +163,8 @@ impl LegStory {
             return;
         };
         for (view, glance) in self.stripes.iter_mut().zip(glances.iter()) {
-            if let Some(told) = glance.told() {
-                let _ = view.see(told);
+            if let (Some(told), Some(master)) = (glance.told(), glance.master()) {
+                let _ = view.see(told, master);
             }
         }
     }
@@ -117,6 +178,26 @@ impl LegStory {
         sight
     }
 
+    // How a leg stands as the server begins or ends.
+    fn leg_stand(&self, alloc: Global, leg: usize) -> Result<LegStand, AllocError> {
+        let (mut in_sync, mut stopped) = (0u64, Vec::new(alloc));
+        for (stripe, view) in self.stripes.iter().enumerate() {
+            if view.is_stopped {
+                if view.master as usize == leg {
+                    stopped.push(stripe)?;
+                }
+            } else if view.is_in_sync(leg) {
+                in_sync = in_sync.saturating_add(1);
+            }
+        }
+        Ok(LegStand {
+            all: self.stripes.len(),
+            sight: self.sight(leg),
+            in_sync,
+            stopped,
+        })
+    }
+
     /// Tells in a line a leg how each of them stands, as the server begins or ends.
     pub fn tell_all<R: Wait + Clock, L: LegPart, G: Gate + Drop>(
         &mut self,
@@ -127,11 +208,13 @@ impl LegStory {
         when: &str,
     ) {
         self.see(rt, alloc, mirror);
-        let all = self.stripes.len();
         for leg in 0..self.legs.len() {
-            let sight = self.sight(leg);
+            let stand = self.leg_stand(alloc, leg);
             if let Some(own) = self.legs.get_mut(leg) {
-                own.tell_stand(rt, alloc, lines, when, all, sight);
+                match stand {
+                    Ok(stand) => own.tell_stand(rt, alloc, lines, when, &stand),
+                    Err(error) => lines.inform(rt, Err(error)),
+                }
             }
         }
     }
@@ -155,58 +238,123 @@ impl LegStory {
         }
     }
 
-    // Tells of one region that could not be read from its stripe's master.
+    // How this leg stands in the stripe of this byte of the export, where a read of it failed.
+    fn stand_at(&self, leg: usize, at: u64) -> ReadStand {
+        let block = at / BLOCK_BYTES;
+        if block >= self.shape.blocks {
+            return ReadStand::Open;
+        }
+        let stripe = self.shape.stripe_of(block) as usize;
+        match self.stripes.get(stripe) {
+            Some(view) => view.stand(leg),
+            None => ReadStand::Open,
+        }
+    }
+
+    // Of the reads of this leg that failed and are not told: the first where no other leg is in
+    // sync, and how many more there are. Those of stripes in which the leg is out are forgotten.
+    fn failed_read(
+        &self,
+        leg: usize,
+        reads: &FailedReads,
+        is_told: bool,
+    ) -> Option<(FailedRead, u64)> {
+        let (mut first, mut more) = (None, 0u64);
+        for number in 0..reads.numbers() {
+            let Some(place) = reads.place(number) else {
+                continue;
+            };
+            if place.is_told {
+                continue;
+            }
+            match self.stand_at(leg, place.at) {
+                ReadStand::Open => (),
+                ReadStand::Left => reads.drop_place(place.at),
+                ReadStand::Last => {
+                    if is_told {
+                        reads.note_told(place.at);
+                    }
+                    match first {
+                        None => first = Some(place),
+                        Some(_) => more = more.saturating_add(1),
+                    }
+                }
+            }
+        }
+        Some((first?, more))
+    }
+
+    /// Tells of reads that failed by this time, in milliseconds, of a leg that stays, since it is the
+    /// last in sync there: at most a line a second a leg.
+    pub fn tell_failed_reads<R: Wait>(
+        &mut self,
+        rt: &R,
+        alloc: Global,
+        lines: &LogLines,
+        now: u64,
+    ) {
+        for leg in 0..self.legs.len() {
+            let Some(own) = self.legs.get(leg) else {
+                return;
+            };
+            if self.failed_read(leg, own.failed_reads(), false).is_none() {
+                continue;
+            }
+            let Some(own) = self.legs.get_mut(leg) else {
+                return;
+            };
+            if !own.tells_reads(now) {
+                continue;
+            }
+            let Some(own) = self.legs.get(leg) else {
+                return;
+            };
+            if let Some((failed, more)) = self.failed_read(leg, own.failed_reads(), true) {
+                own.tell_failed_read(rt, alloc, lines, &failed, more);
+            }
+        }
+    }
+
+    // Tells of one region that could not be read from its stripe's master, the first of so many.
     fn tell_region<R: Wait>(
         &self,
         rt: &R,
         alloc: Global,
         lines: &LogLines,
-        shape: &Shape,
         one: &UnreadRegion,
+        count: u64,
     ) {
-        if one.stripe >= shape.stripes {
+        if one.stripe >= self.shape.stripes {
             return;
         }
         let (Some(view), Some(bytes)) = (
             self.stripes.get(one.stripe as usize),
-            region_bytes(shape, one.stripe, one.region),
+            region_bytes(&self.shape, one.stripe, one.region),
         ) else {
             return;
         };
         if let Some(own) = self.legs.get(view.master as usize) {
-            own.tell_unread(rt, alloc, lines, bytes.offset, bytes.length);
+            own.tell_unread(rt, alloc, lines, &bytes, count);
         }
     }
 
-    // Whether it was told that this region could not be read.
-    fn has_told(&self, one: &UnreadRegion) -> bool {
-        for told in &self.unread {
-            if told.stripe == one.stripe && told.region == one.region {
-                return true;
-            }
-        }
-        false
-    }
-
-    /// Tells of each region that could not be read, once while it is not.
+    /// Tells by this time, in milliseconds, how many regions could not be read, and which is the
+    /// first: at once, and then once a minute while their number changes.
     pub fn tell_unread<R: Wait>(
         &mut self,
         rt: &R,
         alloc: Global,
         lines: &LogLines,
-        shape: &Shape,
-        unread: &[UnreadRegion],
+        round: &CopyRound,
+        now: u64,
     ) {
-        for one in unread {
-            if !self.has_told(one) {
-                self.tell_region(rt, alloc, lines, shape, one);
-            }
-        }
-        self.unread.clear();
-        for one in unread.iter().take(MOST_UNREAD) {
-            if self.unread.push(*one).is_err() {
-                return;
-            }
+        let count = round.unread_count();
+        let Some(first) = round.unread().first() else {
+            self.unread = UnreadTold::new();
+            return;
+        };
+        if self.unread.takes(count, now) {
+            self.tell_region(rt, alloc, lines, first, count);
         }
     }
 }

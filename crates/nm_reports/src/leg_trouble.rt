@@ -1,10 +1,19 @@
 //! What of a leg's file failed last.
 
+use crate::failed_reads::{FailedRead, FailedReads};
 use crate::leg_doubts::LegDoubts;
+use crate::outage::LastOutage;
 use nm_mirror::Returning;
+use std::alloc::{AllocError, Global};
 use std::io::ErrorKind;
 use std::sync::atomic::{AtomicBool, AtomicU32, AtomicU64, Ordering};
 use std::{fmt, io};
+
+/// The system's number of the error of a call that is not made while another one of the leg hangs.
+pub const NOT_MADE: i32 = 125;
+
+/// The system's number of the error of a call that has no answer in time.
+const NO_ANSWER: i32 = 62;
 
 /// A call of a leg's file.
 #[derive(Clone, Copy, Debug, PartialEq, Eq)]
@@ -47,6 +56,17 @@ pub struct Trouble {
     error: Option<io::Error>,
 }
 
+impl Trouble {
+    /// This read failed.
+    pub(crate) fn of_read(failed: &FailedRead) -> Trouble {
+        Trouble {
+            call: FileCall::Read,
+            at: failed.at,
+            error: failed.error,
+        }
+    }
+}
+
 impl fmt::Display for Trouble {
     fn fmt<W: fmt::Write>(&self, f: &mut fmt::Formatter<W>) -> fmt::Result {
         let at = self.at;
@@ -54,6 +74,7 @@ impl fmt::Display for Trouble {
             FileCall::Read => write!(f, "a read at byte {at} failed")?,
             FileCall::Write => write!(f, "a write at byte {at} failed")?,
             FileCall::Sync => f.write_str("a sync failed")?,
+            FileCall::Length if self.error.is_some() => f.write_str("its length cannot be read")?,
             FileCall::Length => f.write_str("it has not the length that it had")?,
         }
         match &self.error {
@@ -81,6 +102,12 @@ pub struct LegTrouble {
     // The system's number of the error, or 0.
     error: AtomicU32,
     doubts: LegDoubts,
+    failed_reads: FailedReads,
+    // The name of its file.
+    name: String,
+    outage: LastOutage,
+    // The system's number of the error with which its name was last opened in vain, or 0.
+    unopened: AtomicU32,
 }
 
 // Whether the error is that there is no space left.
@@ -100,9 +127,9 @@ fn is_of_an_earlier_call(error: Option<&io::Error>) -> bool {
 }
 
 impl LegTrouble {
-    /// Nothing has failed yet.
-    pub fn new() -> LegTrouble {
-        LegTrouble {
+    /// Nothing has failed yet of the file of this name.
+    pub fn new(alloc: Global, name: &str) -> Result<LegTrouble, AllocError> {
+        Ok(LegTrouble {
             is_taken: AtomicBool::new(false),
             is_new: AtomicBool::new(false),
             was_cut: AtomicBool::new(false),
@@ -110,7 +137,44 @@ impl LegTrouble {
             at: AtomicU64::new(0),
             error: AtomicU32::new(0),
             doubts: LegDoubts::new(),
+            failed_reads: FailedReads::new(alloc)?,
+            name: String::from_str(alloc, name)?,
+            outage: LastOutage::none(),
+            unopened: AtomicU32::new(0),
+        })
+    }
+
+    /// The name of its file.
+    pub fn name(&self) -> &str {
+        self.name.as_str()
+    }
+
+    /// Since when the leg is out, and why.
+    pub fn outage(&self) -> &LastOutage {
+        &self.outage
+    }
+
+    /// Notes that the leg's name was opened again: with this error of the system, if in vain.
+    pub fn note_opened(&self, error: Option<&io::Error>) {
+        let number = match error {
+            Some(error) => error.raw_os_error().unwrap_or(0),
+            None => 0,
+        };
+        self.unopened
+            .store(number.cast_unsigned(), Ordering::SeqCst);
+    }
+
+    /// Why the leg's name was last opened in vain, if it was.
+    pub fn unopened(&self) -> Option<io::Error> {
+        match self.unopened.load(Ordering::SeqCst).cast_signed() {
+            0 => None,
+            number => Some(io::Error::from_raw_os_error(number)),
         }
+    }
+
+    /// Where reads failed.
+    pub fn failed_reads(&self) -> &FailedReads {
+        &self.failed_reads
     }
 
     /// What the leg may have lost.
@@ -122,11 +186,22 @@ impl LegTrouble {
     // did was noted then.
     fn note_doubt(&self, call: FileCall, at: u64, error: Option<&io::Error>) {
         match call {
-            FileCall::Read => self.doubts.note_unread(at),
+            FileCall::Read => {
+                self.failed_reads.note(at, error);
+                self.doubts.note_unread(at);
+            }
             FileCall::Write if is_no_space(error) => self.doubts.note_full(),
             FileCall::Sync if is_of_an_earlier_call(error) => (),
             FileCall::Write | FileCall::Sync | FileCall::Length => self.doubts.note_failure(),
         }
+    }
+
+    // Whether a call that failed so is not told, but the one that hung first: it was not made since
+    // that one hangs, or hangs beside it.
+    fn hides(&self, number: i32) -> bool {
+        let hangs = self.error.load(Ordering::SeqCst).cast_signed() == NO_ANSWER;
+        let is_untold = self.is_new.load(Ordering::SeqCst);
+        hangs && (number == NOT_MADE || number == NO_ANSWER && is_untold)
     }
 
     /// Notes a call that failed, at this byte. Of several at a time one is noted.
@@ -142,6 +217,11 @@ impl LegTrouble {
             Some(error) => error.raw_os_error().unwrap_or(0),
             None => 0,
         };
+        if self.hides(number) {
+            self.is_new.store(true, Ordering::SeqCst);
+            self.is_taken.store(false, Ordering::SeqCst);
+            return;
+        }
         self.call.store(call.number(), Ordering::SeqCst);
         self.at.store(at, Ordering::SeqCst);
         self.error.store(number.cast_unsigned(), Ordering::SeqCst);
@@ -158,7 +238,21 @@ impl LegTrouble {
     pub fn forget(&self) {
         self.was_cut.store(false, Ordering::SeqCst);
         self.is_new.store(false, Ordering::SeqCst);
+        self.failed_reads.forget();
+        self.note_opened(None);
         self.doubts.forget(Returning::Everywhere);
+    }
+
+    /// Forgets that the read at this byte was what failed last, which is told.
+    pub fn forget_read(&self, at: u64) {
+        if self.is_taken.swap(true, Ordering::SeqCst) {
+            return;
+        }
+        let is_read = self.call.load(Ordering::SeqCst) == FileCall::Read.number();
+        if is_read && self.at.load(Ordering::SeqCst) == at {
+            self.is_new.store(false, Ordering::SeqCst);
+        }
+        self.is_taken.store(false, Ordering::SeqCst);
     }
 
     /// Takes what failed last, if something has since this was last asked.

@@ -44,6 +44,11 @@ impl Metrics {
         self.places.get(place)
     }
 
+    /// How many clients may be connected at once.
+    pub fn places(&self) -> usize {
+        self.places.len()
+    }
+
     /// The calls of this kind through all places.
     pub fn totals(&self, alloc: Global, kind: MirrorCallKind) -> Result<CallTotals, AllocError> {
         let mut totals = CallTotals::new(alloc)?;

@@ -4,6 +4,7 @@ use crate::call_counts::{CallTotals, MirrorCallKind};
 use crate::leg_counts::{LegCall, LegNumber};
 use crate::metrics::Metrics;
 use crate::metrics_page::MetricsPage;
+use crate::server_metrics::{Known, put_server, put_superblocks, put_verified};
 use nm_lanes::Gate;
 use nm_leg::LegPart;
 use nm_mirror::{Glance, LegStatus, Mirror, StripeStatus};
@@ -75,6 +76,9 @@ fn put_clients(page: &mut MetricsPage<'_>, metrics: &Metrics) -> Result<(), Allo
     let name = "nbdmirror_sessions";
     page.begin_gauge(name, "Clients that are connected.")?;
     page.put(name, "", metrics.sessions_now())?;
+    let name = "nbdmirror_sessions_limit";
+    page.begin_gauge(name, "Clients that may be connected at once.")?;
+    page.put(name, "", metrics.places() as u64)?;
     let name = "nbdmirror_sessions_total";
     page.begin_counter(name, "Clients that were given a place.")?;
     page.put(name, "", metrics.sessions())?;
@@ -249,8 +253,9 @@ fn put_all(
     metrics: &Metrics,
     glances: &[Glance],
     legs: u8,
-    unread: u64,
+    known: &Known<'_>,
 ) -> Result<(), AllocError> {
+    put_server(page, known.info)?;
     put_requests(page, metrics)?;
     put_clients(page, metrics)?;
     put_leg_calls(page, metrics)?;
@@ -258,16 +263,18 @@ fn put_all(
     put_stripes(page, glances)?;
     let name = "nbdmirror_unread_regions";
     page.begin_gauge(name, "Regions that no leg in sync gives back.")?;
-    page.put(name, "", unread)
+    page.put(name, "", known.unread)?;
+    put_verified(page, &known.verified)?;
+    put_superblocks(page, known.info.saves())
 }
 
-/// Puts all that a server counts, how its legs stand, and how much is left to copy; at last a line
-/// `end`.
+/// Puts all that a server counts and knows, how its legs stand, and how much is left to copy; at
+/// last a line `end`.
 pub fn put_metrics<R: Wait + Clock, L: LegPart, G: Gate + Drop>(
     rt: &R,
     alloc: Global,
     mirror: &Mirror<L, G>,
-    unread: u64,
+    known: &Known<'_>,
     metrics: &Metrics,
     text: &mut String,
 ) -> Result<(), AllocError> {
@@ -279,7 +286,7 @@ pub fn put_metrics<R: Wait + Clock, L: LegPart, G: Gate + Drop>(
         metrics,
         &glances,
         mirror.legs(),
-        unread,
+        known,
     )?;
     text.push_str("end\n")
 }

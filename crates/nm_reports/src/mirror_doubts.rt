@@ -3,13 +3,21 @@
 use crate::leg_doubts::LegDoubts;
 use crate::leg_trouble::LegTrouble;
 use nm_mirror::{Doubts, Returning};
-use std::sync::Arc;
+use std::alloc::AllocError;
+use std::sync::{Arc, Wait};
 
 /// Which legs of a mirror are in doubt, by what failed of their files.
 #[derive(Drop)]
 pub struct MirrorDoubts {
     // From leg 0 on.
     legs: Option<Vec<Arc<LegTrouble>>>,
+}
+
+/// Whether a line of the control port may have this name.
+pub fn is_printable(name: &str) -> bool {
+    name.as_bytes()
+        .iter()
+        .all(|byte| 0x20 <= *byte && *byte < 0x7f)
 }
 
 impl MirrorDoubts {
@@ -28,6 +36,69 @@ impl MirrorDoubts {
         let legs = self.legs.as_ref()?;
         let own = legs.get(leg as usize)?;
         Some(own.doubts())
+    }
+
+    /// Puts a line a leg with the name of its file, if that is printable, and one for each that is
+    /// out: since which second, and why.
+    pub fn put_legs<R: Wait>(&self, rt: &R, text: &mut String) -> Result<(), AllocError> {
+        let Some(legs) = &self.legs else {
+            return Ok(());
+        };
+        for (leg, own) in legs.iter().enumerate() {
+            let name = own.name();
+            if is_printable(name) {
+                writeln!(text, "leg {leg}: file {name}")?;
+            }
+            if let Some(error) = &own.unopened() {
+                writeln!(text, "leg {leg}: cannot be opened: {error}")?;
+            }
+            let Some(outage) = own.outage().known(rt) else {
+                continue;
+            };
+            write!(text, "leg {leg}: out since {}", outage.since)?;
+            if let Some(why) = &outage.why {
+                write!(text, ": {why}")?;
+            }
+            text.push_str("\n")?;
+        }
+        Ok(())
+    }
+
+    /// Puts a line a leg of which reads failed where no other leg is in sync: how many, and the
+    /// first of them.
+    pub fn put(&self, text: &mut String) -> Result<(), AllocError> {
+        let Some(legs) = &self.legs else {
+            return Ok(());
+        };
+        for (leg, own) in legs.iter().enumerate() {
+            let Some((count, first)) = own.failed_reads().told() else {
+                continue;
+            };
+            let at = first.at;
+            write!(
+                text,
+                "leg {leg}: failed reads {count}, the first at byte {at}"
+            )?;
+            if let Some(error) = &first.error {
+                write!(text, ": {error}")?;
+            }
+            text.push_str("\n")?;
+        }
+        Ok(())
+    }
+
+    /// At how many places reads failed of legs beside which no other is in sync.
+    pub fn failed_reads(&self) -> u64 {
+        let Some(legs) = &self.legs else {
+            return 0;
+        };
+        let mut all = 0u64;
+        for own in legs {
+            if let Some((count, _)) = own.failed_reads().told() {
+                all = all.saturating_add(count);
+            }
+        }
+        all
     }
 
     /// Notes that somebody takes the leg out.

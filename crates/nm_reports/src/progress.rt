@@ -3,6 +3,7 @@ ghost use Rattle.std.specs.Prelude.{◌≤◌};
 
 use crate::log_lines::LogLines;
 use crossbeam_channel::{Receiver, RecvTimeoutError};
+use nm_service::Mebibytes;
 use std::alloc::Global;
 use std::sync::Wait;
 use std::sync::atomic::{AtomicU64, Ordering};
@@ -54,12 +55,13 @@ fn tell<R: Wait>(
     let rate = read / seconds.max(1);
     let left = comparison.bytes.saturating_sub(read) / rate.max(1);
     let legs = comparison.legs;
-    let (done, all) = (read / BLOCK_BYTES, comparison.bytes / BLOCK_BYTES);
+    let done = Mebibytes::of_blocks(read / BLOCK_BYTES);
+    let all = Mebibytes::of_blocks(comparison.bytes / BLOCK_BYTES);
     let mebibytes = rate >> 20;
     lines.inform(
         rt,
         format!(in alloc;
-            "comparing {legs} legs: {done} of {all} blocks read, {mebibytes} MiB/s, {left} s left"
+            "comparing {legs} legs: {done} of {all} read, {mebibytes} MiB/s, {left} s left"
         ),
     );
 }

@@ -95,13 +95,18 @@ fn put_line<E: Write>(name: &str, text: &str, err: &mut E) {
     let _ = writeln!(err, "nbdmirror: {name}: {text}");
 }
 
-// Why a leg of this length is none.
-fn put_length<E: Write>(name: &str, bytes: Option<u64>, err: &mut E) {
+// Why a leg of this length is none: one with its superblock inside has 64 KiB more.
+fn put_length<E: Write>(name: &str, bytes: Option<u64>, is_inside: bool, err: &mut E) {
+    let range = if is_inside {
+        "66048 to 2^40 + 65536"
+    } else {
+        "512 to 2^40"
+    };
     let _ = match bytes {
         None => writeln!(err, "nbdmirror: {name}: has no length"),
         Some(bytes) => writeln!(
             err,
-            "nbdmirror: {name}: has {bytes} bytes: a leg has a multiple of 512, from 512 to 2^40"
+            "nbdmirror: {name}: has {bytes} bytes: a leg has a multiple of 512, from {range}"
         ),
     };
 }
@@ -216,8 +221,12 @@ fn put_of_superblocks<E: Write>(
             put_apart(name.as_str(), old.as_str(), err);
         }
         StartFault::AnotherFile(leg) => {
-            let name = superblock_of(alloc, settings, leg)?;
-            put_another(name_of(&settings.legs, leg), name.as_str(), leg, err);
+            let own = superblock_of(alloc, settings, leg)?;
+            let name = match settings.superblock {
+                SuperblockPlace::Inside => "the superblock inside",
+                _ => own.as_str(),
+            };
+            put_another(name_of(&settings.legs, leg), name, leg, err);
         }
         StartFault::WasChanged(leg, recorded, found) => {
             let name = superblock_of(alloc, settings, leg)?;
@@ -250,7 +259,10 @@ pub fn tell_reason<E: Write>(
             let text = "is mounted, swapped to, held by another device, or behind a loop device";
             put_line(name_of(names, leg), text, err);
         }
-        StartFault::BadLength(leg, bytes) => put_length(name_of(names, leg), bytes, err),
+        StartFault::BadLength(leg, bytes) => {
+            let is_inside = settings.superblock == SuperblockPlace::Inside;
+            put_length(name_of(names, leg), bytes, is_inside, err);
+        }
         StartFault::OtherLength(leg, bytes, other, other_bytes) => {
             let (name, other_name) = (name_of(names, leg), name_of(names, other));
             let _ = writeln!(

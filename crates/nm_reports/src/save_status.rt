@@ -3,6 +3,19 @@
 use std::alloc::AllocError;
 use std::sync::atomic::{AtomicBool, AtomicU32, AtomicU64, Ordering};
 
+/// How the superblocks stand, at one look.
+#[derive(Clone, Copy, Debug)]
+pub struct Saved {
+    /// The last generation that was saved, at least 1.
+    pub generation: u64,
+    /// How many spans it marks.
+    pub marked: u32,
+    /// In how many stripes a save under way takes a leg out of those in sync.
+    pub unsaved: u32,
+    /// Whether a save could not be done, and none was since.
+    pub has_failed: bool,
+}
+
 /// How the superblocks stand. Whoever saves sets it, the control port tells it, and neither waits.
 #[derive(Drop)]
 pub struct SaveStatus {
@@ -48,15 +61,27 @@ impl SaveStatus {
         self.has_failed.load(Ordering::SeqCst)
     }
 
-    /// Puts a line that says how they stand.
-    pub fn put(&self, text: &mut String) -> Result<(), AllocError> {
+    /// How they stand, where there are some.
+    pub fn saved(&self) -> Option<Saved> {
         let generation = self.generation.load(Ordering::SeqCst);
         if generation == 0 {
-            return text.push_str("superblock: none\n");
+            return None;
         }
-        let marked = self.marked.load(Ordering::SeqCst);
-        let unsaved = self.unsaved.load(Ordering::SeqCst);
-        let failed = if self.has_failed() { " failed" } else { "" };
+        Some(Saved {
+            generation,
+            marked: self.marked.load(Ordering::SeqCst),
+            unsaved: self.unsaved.load(Ordering::SeqCst),
+            has_failed: self.has_failed(),
+        })
+    }
+
+    /// Puts a line that says how they stand.
+    pub fn put(&self, text: &mut String) -> Result<(), AllocError> {
+        let Some(saved) = self.saved() else {
+            return text.push_str("superblock: none\n");
+        };
+        let (generation, marked, unsaved) = (saved.generation, saved.marked, saved.unsaved);
+        let failed = if saved.has_failed { " failed" } else { "" };
         writeln!(
             text,
             "superblock: generation {generation} marked {marked} unsaved {unsaved}{failed}"

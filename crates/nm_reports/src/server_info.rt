@@ -1,6 +1,8 @@
 //! What the server tells of itself.
 
+use crate::elapsed::present_second;
 use crate::save_status::SaveStatus;
+use nm_commands::VERSION;
 use std::alloc::AllocError;
 use std::time::{Clock, Duration, Instant};
 
@@ -9,6 +11,7 @@ use std::time::{Clock, Duration, Instant};
 pub struct ServerInfo {
     // None where the clock could not be read.
     since: Option<Instant>,
+    started: u64,
     saves: SaveStatus,
 }
 
@@ -17,6 +20,7 @@ impl ServerInfo {
     pub fn from_now<R: Clock>(rt: &R) -> ServerInfo {
         ServerInfo {
             since: Instant::now(rt).ok(),
+            started: present_second(rt),
             saves: SaveStatus::none(),
         }
     }
@@ -26,14 +30,21 @@ impl ServerInfo {
         &self.saves
     }
 
-    /// Puts a line that says how long it serves, and one on its superblocks.
+    /// The second in which it began, counted from 1970 on; 0 where the clock could not be read.
+    pub fn started(&self) -> u64 {
+        self.started
+    }
+
+    /// Puts a line that says how long it serves, one on its version and when it began, and one on
+    /// its superblocks.
     pub fn put<R: Clock>(&self, rt: &R, text: &mut String) -> Result<(), AllocError> {
         let up = match self.since {
             Some(since) => since.elapsed(rt).unwrap_or(Duration::ZERO),
             None => Duration::ZERO,
         };
-        let seconds = up.as_secs();
+        let (seconds, started) = (up.as_secs(), self.started);
         writeln!(text, "serving: up {seconds} s")?;
+        writeln!(text, "server: version {VERSION} started {started}")?;
         self.saves.put(text)
     }
 }

@@ -50,6 +50,22 @@ pub enum StartFault<'a> {
     /// Superblocks are to be moved, and one of the two places is none.
     #[error("nbdmirror: --superblock-from: none is no place for superblocks")]
     NoPlace,
+    /// Superblocks are to be moved into legs or out of them.
+    #[error("nbdmirror: --superblock-from: superblocks inside legs are not moved: the export would \
+         get another length")]
+    StaysInside,
+    /// What legs have may go for superblocks inside them, and these are to be kept elsewhere.
+    #[error("nbdmirror: --shrink goes with --superblock inside")]
+    NothingToShrink,
+    /// The same, and the superblocks are there already.
+    #[error("nbdmirror: --shrink: the legs have superblocks")]
+    AlreadyShrunk,
+    /// The superblocks in the files of both names say that they are of this leg.
+    #[error("nbdmirror: {0} and {1}: each is leg {2} by its superblock")]
+    TwoOfLeg(&'a str, &'a str, u8),
+    /// The superblock in the file of this name says this leg, and only so many legs are named.
+    #[error("nbdmirror: {0}: is leg {1} by its superblock, and {2} legs are named")]
+    LegBeyond(&'a str, u8, usize),
     /// The export's name is empty or too long.
     #[error("nbdmirror: name must be 1 to 255 bytes")]
     BadName,
@@ -76,6 +92,16 @@ pub enum StartFault<'a> {
     /// folder.
     #[error("nbdmirror: leg {0}: {1}.nbdmirror holds a superblock: give --superblock-from beside")]
     HeldBeside(usize, &'a str),
+    /// A superblock stands beside this leg of this name, and the server was asked to keep them
+    /// inside the legs.
+    #[error("nbdmirror: leg {0}: {1}.nbdmirror holds a superblock: give --superblock beside")]
+    KeptBeside(usize, &'a str),
+    /// This leg has a superblock inside it, and the server was asked to keep them elsewhere.
+    #[error("nbdmirror: leg {0}: has a superblock inside: give --superblock inside")]
+    HeldInside(usize),
+    /// This leg of a new mirror holds something where its superblock is to be.
+    #[error("nbdmirror: leg {0}: holds data in its last 64 KiB: give --shrink if they may go")]
+    HoldsData(usize),
     /// The file of this leg's superblock cannot be opened, or made invalid, in the place from which
     /// superblocks are moved.
     #[error("nbdmirror: leg {0}: cannot move its superblock")]
@@ -117,7 +143,8 @@ pub enum StartFault<'a> {
     #[error("nbdmirror: legs differ: name the newest by --master")]
     LegsDiffer,
     /// This leg may have a newer superblock, and none was found.
-    #[error("nbdmirror: leg {0} may be newer, and its superblock is not here")]
+    #[error("nbdmirror: leg {0} may be newer: bring its disk back, or start without it by \
+         --degraded, which loses what was written to it alone")]
     MayBeNewer(usize),
     /// This leg is in sync by the superblocks, in a stripe of which no other such leg is here, and
     /// its file is not the one that they are of.
@@ -133,13 +160,15 @@ pub enum StartFault<'a> {
          --moved")]
     ChangedDiffer,
     /// Both legs have superblocks of which neither came after the other.
-    #[error("nbdmirror: legs {0} and {1} went on apart: name one by --force-master")]
+    #[error("nbdmirror: legs {0} and {1} went on apart: name one by --force-master, which loses \
+         what was written to the other alone")]
     WentApart(usize, usize),
     /// Neither of this leg's superblocks in two places came after the other.
     #[error("nbdmirror: leg {0}: its superblocks in two places went on apart")]
     PlacesApart(usize),
     /// No leg that is in sync in this stripe by the superblocks is here.
-    #[error("nbdmirror: stripe {0}: no leg in sync is here")]
+    #[error("nbdmirror: stripe {0}: no leg in sync is here: bring its disk back, or name the newest \
+         leg that is here by --force-master")]
     NoneInSync(usize),
     /// The superblocks do not know this leg of this name.
     #[error("nbdmirror: leg {0} ({1}): has no superblock of this mirror: --add-leg {0} copies the \
@@ -154,6 +183,9 @@ pub enum StartFault<'a> {
     /// What the stripes have had is not what the sessions counted.
     #[error("nbdmirror: cannot close")]
     CannotClose,
+    /// So many of all stripes had stopped at the end.
+    #[error("nbdmirror: {0} of {1} stripes have stopped")]
+    StripesStopped(u32, u32),
 }
 
 impl StartFault<'_> {
@@ -166,7 +198,9 @@ impl StartFault<'_> {
             | StartFault::NoLegMoved(_)
             | StartFault::NothingMoved(_)
             | StartFault::SamePlace
-            | StartFault::NoPlace => 2,
+            | StartFault::NoPlace
+            | StartFault::StaysInside
+            | StartFault::NothingToShrink => 2,
             StartFault::NoStandardStreams
             | StartFault::FewDescriptors(_)
             | StartFault::SmallStack(_)
@@ -175,6 +209,9 @@ impl StartFault<'_> {
             | StartFault::TwoMasters(_, _)
             | StartFault::NoLegToAdd(_)
             | StartFault::NothingToAddTo(_)
+            | StartFault::AlreadyShrunk
+            | StartFault::TwoOfLeg(_, _, _)
+            | StartFault::LegBeyond(_, _, _)
             | StartFault::BadName
             | StartFault::CannotOpen(_, _)
             | StartFault::InUse(_)
@@ -183,6 +220,9 @@ impl StartFault<'_> {
             | StartFault::OverFileLimit(_, _, _)
             | StartFault::HasSuperblock(_)
             | StartFault::HeldBeside(_, _)
+            | StartFault::KeptBeside(_, _)
+            | StartFault::HeldInside(_)
+            | StartFault::HoldsData(_)
             | StartFault::CannotMove(_, _)
             | StartFault::NoPlaceBeside(_)
             | StartFault::CannotSave(_, _)
@@ -198,6 +238,7 @@ impl StartFault<'_> {
             StartFault::CannotListen(_, _) => 4,
             StartFault::Memory => 5,
             StartFault::CannotClose => 6,
+            StartFault::StripesStopped(_, _) => 8,
             StartFault::LegsDiffer
             | StartFault::MayBeNewer(_)
             | StartFault::AnotherFile(_)

@@ -5,8 +5,8 @@ ghost use Rattle.nm_reports.specs.SuperblockNames.{superblock_name};
 use nm_commands::SuperblockPlace;
 use std::alloc::{AllocError, Global};
 
-/// The name of the file for the superblock of this leg, whose own file has that name; none where
-/// superblocks are nowhere.
+/// The name of the file for the superblock of this leg, whose own file has that name: that one where
+/// superblocks are inside the legs, and none where they are nowhere.
 pub fn superblock_name(
     alloc: Global,
     place: SuperblockPlace<'_>,
@@ -19,6 +19,7 @@ pub fn superblock_name(
     match place {
         SuperblockPlace::Nowhere => Ok(None),
         SuperblockPlace::Beside => Ok(Some(format!(in alloc; "{name}.nbdmirror")?)),
+        SuperblockPlace::Inside => Ok(Some(String::from_str(alloc, name)?)),
         SuperblockPlace::Folder(folder) => Ok(Some(format!(in alloc; "{folder}/leg{leg}")?)),
     }
 }

@@ -35,9 +35,11 @@ pub mod JoiningStepLemmas
 pub mod KeptLemmas
 pub mod LandLemmas
 pub mod LandingLemmas
+pub mod LackingLemmas
 pub mod LeftLemmas
 pub mod LegLemmas
 pub mod LosesLemmas
+pub mod LossLemmas
 pub mod LostLemmas
 pub mod LostStepLemmas
 pub mod LowLemmas
@@ -83,4 +85,5 @@ pub mod ShapeLemmas
 pub mod SoundLemmas
 pub mod SpanLemmas
 pub mod StateLemmas
+pub mod SwapLemmas
 pub mod WorkLemmas

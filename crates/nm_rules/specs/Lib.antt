@@ -13,6 +13,7 @@ pub mod Invariant
 pub mod Joining
 pub mod Kept
 pub mod Laws
+pub mod Losing
 pub mod Lost
 pub mod OpenFault
 pub mod Opening

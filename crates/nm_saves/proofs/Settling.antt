@@ -6,6 +6,7 @@ use Rattle.nm_superblock.specs.Damage.{IsDamagedPlace}
 use Rattle.nm_superblock.specs.Layout.{slot_bytes}
 use Rattle.nm_superblock.specs.Sectors.{stamp_of}
 use Rattle.nm_superblock.specs.Slots.{IsHighestStamp, Place, ReadsAs, ReadsPlace}
+use Rattle.nm_superblock.proofs.Torn.{read-magic}
 use Rattle.nm_superblock.proofs.Unique.{slot-stamp}
 use Rattle.nm_saves.specs.FileState.{HasStampsUpTo, IsSound, IsUpTo, state_of}
 use Rattle.nm_saves.specs.SlotFile.{Held, IsDurably, place_of}
@@ -23,17 +24,17 @@ reads-decoded slot (Some s) some back = some
 pub read-up_to : (slot : List ℕ) (r : Option Superblock) (highest : ℕ) → ReadsAs slot r → HasStampsUpTo highest slot → IsUpTo highest r
 read-up_to slot None highest reads stamps = tt
 read-up_to slot (Some s) highest reads stamps =
-    subst (λ (k : ℕ). k ≤ highest) (ap (stamp_of 0) reads.1 ∙ slot-stamp s 0 reads.0 (omega arith)) (stamps 0 (omega arith))
+    subst (λ (k : ℕ). k ≤ highest) (ap (stamp_of 0) reads.1 ∙ slot-stamp s 0 reads.0 (omega arith)) (stamps 0 (omega arith) (read-magic slot s 0 reads (omega arith)))
 
 -- no stamp is above the higher one of two
 pub stamps-first : (slot : List ℕ) (a b c : ℕ) → IsHighestStamp 8 slot a → c ≡ max a b → HasStampsUpTo c slot
-stamps-first slot a b c is at number below =
-    let bound = is.bound number below in
+stamps-first slot a b c is at number below magic =
+    let bound = is.bound number below magic in
     omega (arith, bound, at)
 
 pub stamps-second : (slot : List ℕ) (a b c : ℕ) → IsHighestStamp 8 slot b → c ≡ max a b → HasStampsUpTo c slot
-stamps-second slot a b c is at number below =
-    let bound = is.bound number below in
+stamps-second slot a b c is at number below magic =
+    let bound = is.bound number below magic in
     omega (arith, bound, at)
 
 -- a file that durably holds slots which are read so is sound

@@ -30,17 +30,17 @@ up-to-higher a b None less is = tt
 up-to-higher a b (Some s) less is = omega (arith, less, is)
 
 stamps-higher : (a b : ℕ) (slot : List ℕ) → a ≤ b → HasStampsUpTo a slot → HasStampsUpTo b slot
-stamps-higher a b slot less is number below =
-    let here = is number below in
+stamps-higher a b slot less is number below magic =
+    let here = is number below magic in
     omega (arith, less, here)
 
 stamps-below : (a b : ℕ) (slot : List ℕ) → a < b → HasStampsUpTo a slot → HasStampsBelow b slot
-stamps-below a b slot less is number below =
-    let here = is number below in
+stamps-below a b slot less is number below magic =
+    let here = is number below magic in
     omega (arith, less, here)
 
 own-stamps : (s : Superblock) → IsSuperblock s → HasStampsUpTo s.generation (slot_bytes s)
-own-stamps s is number below =
+own-stamps s is number below magic =
     let here = slot-stamp s number is below in
     omega (arith, here)
 

@@ -5,7 +5,7 @@ use Rattle.nm_superblock.specs.declared.superblock.Superblock.{Superblock}
 use Rattle.nm_superblock.specs.Bounds.{IsInBounds}
 use Rattle.nm_superblock.specs.Damage.{IsDamagedPlace}
 use Rattle.nm_superblock.specs.Layout.{slot_bytes}
-use Rattle.nm_superblock.specs.Sectors.{stamp_of}
+use Rattle.nm_superblock.specs.Sectors.{HasMagic, stamp_of}
 use Rattle.nm_superblock.specs.Slots.{IsTornSave, Place, ReadsPlace, newer_of, writes_second}
 use Rattle.nm_saves.specs.SlotFile.{Held, IsDurably, place_of, with_slot}
 
@@ -46,9 +46,10 @@ TellsDamage f = IsTrue f.damaged ↔ IsDamagedPlace f.held.durable
 abbrev pub saves_second : FileState → Bool
 saves_second f = writes_second f.first f.second
 
--- no stamp in the slot is higher
+-- no stamp in the slot is higher, in sectors that begin as a superblock's
 abbrev pub HasStampsUpTo : ℕ → List ℕ → Type 0
-HasStampsUpTo highest slot = (number : ℕ) → number < 8 → stamp_of number slot ≤ highest
+HasStampsUpTo highest slot =
+    (number : ℕ) → number < 8 → HasMagic number slot → stamp_of number slot ≤ highest
 
 -- the superblock, if there is one, has no higher generation
 abbrev pub IsUpTo : ℕ → Option Superblock → Type 0

@@ -103,7 +103,7 @@ impl<F: SlotFile> SuperblockFile<F> {
         newer(self.first, self.second)
     }
 
-    /// No stamp in the file is higher, whatever its sectors hold.
+    /// No stamp in the file is higher, in sectors that begin as a superblock's.
     pub fn highest_stamp(&self) -> u64
         ensures { result ≡ self.now.highest }
     {
@@ -144,7 +144,7 @@ impl<F: SlotFile> SuperblockFile<F> {
     }
 
     /// Saves the superblock: into the slot that the file's superblock is not in, and durably. A
-    /// file takes a superblock whose generation is above each stamp in it, unless it has failed.
+    /// file takes a superblock whose generation is above its highest stamp, unless it has failed.
     ///
     /// Where that fails, and where a crash cuts it off, the file is read as before, or as this
     /// superblock.

@@ -6,8 +6,9 @@ use Rattle.std.proofs.lemmas.List.{length-replicate, take-replicate}
 use Rattle.nm_rules.specs.Runs.{FitsRun}
 use Rattle.nm_fanout.specs.declared.block_data.Data.{Data}
 use Rattle.nm_fanout.specs.declared.block_data.Data.TheVariants.{Part}
-use Rattle.nm_leg.specs.TestLegs.{of_fuse}
-use Rattle.nm_leg.specs.declared.fuse_leg.FuseLeg.{FuseLeg}
+use Rattle.nm_leg.specs.Leg.{Leg}
+use Rattle.nm_script_lib.specs.PowerLeg.{of_power, power_legs}
+use Rattle.nm_script_lib.specs.declared.power_leg.PowerLeg.{PowerLeg}
 use Rattle.nm_stripe.specs.declared.answer.Answer.{Answer}
 use Rattle.nm_stripe.specs.declared.step.Step.{Step as MachineStep}
 use Rattle.nm_stripe.specs.declared.step.Step.TheVariants.{Replace as ReplaceStep}
@@ -18,12 +19,12 @@ use Rattle.nm_script_lib.specs.declared.mirror_line.MirrorLine.{MirrorLine}
 use Rattle.nm_script_lib.specs.declared.step.Step.{Step}
 use Rattle.nm_script_lib.specs.declared.step.Step.TheVariants.{Ask}
 use Rattle.nm_script_lib.specs.declared.step.StripeStep.{StripeStep}
-use Rattle.nm_script_lib.specs.declared.step.StripeStep.TheVariants.{Begin, Zero, Patch, Push, Claim, Read, Run, Get, Fail, Attach, Replace, Copy, Promote, Sync}
+use Rattle.nm_script_lib.specs.declared.step.StripeStep.TheVariants.{Begin, Zero, Patch, Push, Claim, Read, Run, Get, Fail, Attach, Return, Replace, Copy, Promote, Sync, Flush}
 use Rattle.nm_script_lib.specs.Forms.{IsLine}
 use Rattle.nm_script_lib.specs.Grammar.{IsStepLine, IsOpening, IsScript, load_form, start_form, mirror_form, step_form, patch_args, run_args, get_args, run_form, leg_form, look_form, most_run}
-use Rattle.nm_script_lib.specs.MemStripe.{MemStripe, InRange, FitsLoad, FitOpening, IsNew, IsOpened, HasShape, IsInside, IsAsked, IsFilled, filled, filled_block, fuse_legs, place_of}
+use Rattle.nm_script_lib.specs.MemStripe.{MemStripe, InRange, FitsLoad, FitOpening, IsNew, IsOpened, HasShape, IsInside, IsAsked, IsReplacement, filled, filled_block, place_of}
 use Rattle.nm_script_lib.proofs.FormLaws.{Always, line_always}
-use Rattle.nm_script_lib.proofs.Legs.{new_lengths, filled_length}
+use Rattle.nm_script_lib.proofs.Legs.{new_lengths}
 use Rattle.nm_script_lib.proofs.Loaded.{compared_shape}
 use Rattle.nm_script_lib.proofs.StepLengths.{step_lengths}
 
@@ -38,6 +39,7 @@ pub new_shape : (m : MirrorLine) (stripe : MemStripe) → InRange m → IsNew m 
     HasShape m stripe
 new_shape m stripe range is = record {
   region = omega (arith, range.region.0);
+  sizes = (range.legs.1, range.blocks.1);
   place = ap (λ (s : MemStripe). s.place) is.state;
   legs = is.legs.count;
   each = new_lengths m stripe.legs is.legs;
@@ -93,10 +95,16 @@ room_fits : (m : MirrorLine) (block count : ℕ) → FitsRun (place_of m) block 
 room_fits m block count fits =
     subst (λ (n : ℕ). FitsRun (place_of m) block n) (sym (filled_count count 0)) fits
 
+-- a leg to put in another's place is as long as the mirror
+replacement_length : (m : MirrorLine) (fill : ℕ) (part : PowerLeg) → IsReplacement m fill part →
+    length (of_power part).contents ≡ m.blocks
+replacement_length m fill part is =
+    ap (λ (l : Leg). length l.contents) is ∙ length-replicate m.blocks _
+
 -- what a step inside the mirror asks of the stripe may be asked
-pub may_ask : (m : MirrorLine) (step : StripeStep) (asked : MachineStep FuseLeg) (stripe : MemStripe) →
+pub may_ask : (m : MirrorLine) (step : StripeStep) (asked : MachineStep PowerLeg) (stripe : MemStripe) →
     HasShape m stripe → IsInside m (Ask step) → IsAsked m step asked →
-    MayBeAsked of_fuse stripe asked
+    MayBeAsked of_power stripe asked
 may_ask m (Begin block fill) asked stripe has inside is =
     let one : length (filled_block fill) / 512 ≡ 1 = ap (λ n. n / 512) (fills_block fill) in
     rw (is, has.place) (
@@ -133,26 +141,29 @@ may_ask m (Get block count) asked stripe has inside is =
     rw (is, has.place) (room_fits m block count inside, filled_whole count 0)
 may_ask m (Fail leg) asked stripe has inside is = rw (is, has.legs) inside
 may_ask m (Attach leg) asked stripe has inside is = rw (is, has.legs) inside
+may_ask m (Return leg) asked stripe has inside is = rw (is, has.legs) (inside, omega arith)
 may_ask m (Copy leg most) asked stripe has inside is = rw (is, has.legs) inside
 may_ask m (Promote leg) asked stripe has inside is = rw (is, has.legs) inside
 may_ask m (Sync leg) asked stripe has inside is = rw (is, has.legs) inside
+may_ask m (Flush leg) asked stripe has inside is = rw (is, has.legs) inside
 may_ask m (Replace leg fill) asked stripe has inside is =
-    rw (is.2, has.legs, has.place) (inside, filled_length m.blocks fill is.0 is.1)
+    rw (is.2, has.legs, has.place) (inside, replacement_length m fill is.0 is.1)
 
-pub replacement_asked : (m : MirrorLine) (step : StripeStep) (leg fill : ℕ) (part : FuseLeg) →
-    step ≡ Replace leg fill → IsFilled m.blocks fill part →
+pub replacement_asked : (m : MirrorLine) (step : StripeStep) (leg fill : ℕ) (part : PowerLeg) →
+    step ≡ Replace leg fill → IsReplacement m fill part →
     IsAsked m step (ReplaceStep leg part)
 replacement_asked m step leg fill part is filled =
     subst (λ s. IsAsked m s (ReplaceStep leg part)) (sym is) (part, filled, refl)
 
 -- a step keeps the mirror's shape
-pub keeps_shape : (m : MirrorLine) (asked : MachineStep FuseLeg) (answer : Answer FuseLeg)
-    (old new : MemStripe) → HasShape m old → MayBeAsked of_fuse old asked →
-    StepOf fuse_legs asked answer old new → HasShape m new
+pub keeps_shape : (m : MirrorLine) (asked : MachineStep PowerLeg) (answer : Answer PowerLeg)
+    (old new : MemStripe) → HasShape m old → MayBeAsked of_power old asked →
+    StepOf power_legs asked answer old new → HasShape m new
 keeps_shape m asked answer old new has may is =
-    let shape = step-shape fuse_legs asked answer old new is in
+    let shape = step-shape power_legs asked answer old new is in
     record {
       region = has.region;
+      sizes = has.sizes;
       place = shape.place ∙ has.place;
       legs = shape.legs ∙ has.legs;
       each = step_lengths m.blocks asked answer old new (ap (λ at. at.blocks) has.place) may is has.each;
@@ -163,7 +174,7 @@ looks_fit : (m : MirrorLine) → Always (IsInside m) (look_form m)
 unfolding look_form
 looks_fit m = (
   (λ leg small call most. (small, omega (arith, most.0))),
-  ((λ leg small block low. (small, low)), (tt, tt)),
+  ((λ leg small block low. (small, low)), ((λ leg small. small), (tt, tt))),
 )
 
 leg_steps_fit : (m : MirrorLine) → Always (IsInside m) (leg_form m)
@@ -173,12 +184,15 @@ leg_steps_fit m = (
   (
     (λ leg small. small),
     (
-      (λ leg small fill byte. small),
+      (λ leg small. small),
       (
-        (λ leg small. (small, omega arith)),
+        (λ leg small fill byte. small),
         (
-          (λ leg small most within. (small, omega (arith, within.0))),
-          ((λ leg small. small), ((λ leg small. small), looks_fit m)),
+          (λ leg small. (small, omega arith)),
+          (
+            (λ leg small most within. (small, omega (arith, within.0))),
+            ((λ leg small. small), ((λ leg small. small), ((λ leg small. small), looks_fit m))),
+          ),
         ),
       ),
     ),

@@ -5,8 +5,8 @@ use Rattle.std.proofs.lemmas.List.{length-append, length-replicate}
 use Rattle.std.proofs.lemmas.Option.{same_Some}
 use Rattle.nm_leg.specs.Leg.{Leg, filled_array}
 use Rattle.nm_leg.specs.LegCalls.{EachHas}
-use Rattle.nm_leg.specs.TestLegs.{of_fuse}
-use Rattle.nm_leg.specs.declared.fuse_leg.FuseLeg.{FuseLeg}
+use Rattle.nm_script_lib.specs.PowerLeg.{of_power}
+use Rattle.nm_script_lib.specs.declared.power_leg.PowerLeg.{PowerLeg}
 use Rattle.nm_regions.specs.Sound.{AreSizes}
 use Rattle.nm_resync.specs.Chunk.{IsChunkSize}
 use Rattle.nm_rules.specs.declared.at.At.{At}
@@ -28,14 +28,14 @@ all_more P [] x all here = (here, tt)
 all_more P (y ∷ xs) x all here = (all.0, all_more P xs x all.1 here)
 
 -- the legs so far
-pub record LegsSoFar (n blocks : ℕ) (legs : List FuseLeg) : Type 0 where
+pub record LegsSoFar (n blocks : ℕ) (legs : List PowerLeg) : Type 0 where
   pub count : length legs ≡ n
   pub zero : AllByRecursion (IsFilled blocks 0) legs
 
-pub no_legs : (blocks : ℕ) (legs : List FuseLeg) → legs ≡ [] → LegsSoFar 0 blocks legs
+pub no_legs : (blocks : ℕ) (legs : List PowerLeg) → legs ≡ [] → LegsSoFar 0 blocks legs
 no_legs blocks legs is = rw is (record { count = refl; zero = tt })
 
-pub leg_more : (n blocks : ℕ) (old new : List FuseLeg) (leg : FuseLeg) →
+pub leg_more : (n blocks : ℕ) (old new : List PowerLeg) (leg : PowerLeg) →
     LegsSoFar n blocks old → IsFilled blocks 0 leg → new ≡ old ++ leg ∷ [] →
     LegsSoFar (n + 1) blocks new
 leg_more n blocks old new leg so_far is e = rw e (record {
@@ -43,25 +43,25 @@ leg_more n blocks old new leg so_far is e = rw e (record {
   zero = all_more (IsFilled blocks 0) old leg so_far.zero is;
 })
 
-pub filled_length : (blocks fill : ℕ) (leg : FuseLeg) → IsFilled blocks fill leg →
-    length (of_fuse leg).contents ≡ blocks
+pub filled_length : (blocks fill : ℕ) (leg : PowerLeg) → IsFilled blocks fill leg →
+    length (of_power leg).contents ≡ blocks
 filled_length blocks fill leg is = ap (λ (l : Leg). length l.contents) is ∙ length-replicate blocks _
 
-pub new_lengths : (m : MirrorLine) (legs : List FuseLeg) → AreNewLegs m legs →
-    EachHas of_fuse legs m.blocks
+pub new_lengths : (m : MirrorLine) (legs : List PowerLeg) → AreNewLegs m legs →
+    EachHas of_power legs m.blocks
 new_lengths m legs are = λ place leg found.
     filled_length m.blocks 0 leg (at_place (IsFilled m.blocks 0) legs place leg found are.zero)
 
-all_contents : (blocks k : ℕ) (legs : List FuseLeg) → k < length legs →
+all_contents : (blocks k : ℕ) (legs : List PowerLeg) → k < length legs →
     AllByRecursion (IsFilled blocks 0) legs →
-    contents_of of_fuse legs k ≡ filled_array blocks 0
+    contents_of of_power legs k ≡ filled_array blocks 0
 all_contents blocks k [] h all = absurd (omega arith)
 all_contents blocks zero (leg ∷ legs) h all = ap (λ (l : Leg). l.contents) all.0
 all_contents blocks (suc k) (leg ∷ legs) h all = all_contents blocks k legs (omega arith) all.1
 
-pub equal_legs : (m : MirrorLine) (legs : List FuseLeg) (leg other : ℕ) → AreNewLegs m legs →
+pub equal_legs : (m : MirrorLine) (legs : List PowerLeg) (leg other : ℕ) → AreNewLegs m legs →
     leg < length legs → other < length legs →
-    contents_of of_fuse legs leg ≡ contents_of of_fuse legs other
+    contents_of of_power legs leg ≡ contents_of of_power legs other
 equal_legs m legs leg other are h k =
     all_contents m.blocks leg legs h are.zero ∙ sym (all_contents m.blocks other legs k are.zero)
 
@@ -116,7 +116,7 @@ chunk_fits m place range is =
     rw is (record { some = range.chunk.0; limit = omega (arith, range.chunk.1, range.region.1) })
 
 -- legs as long as the mirror are as long as this place
-pub place_lengths : (m : MirrorLine) (place : At) (legs : List FuseLeg) → place ≡ place_of m →
-    EachHas of_fuse legs m.blocks → EachHas of_fuse legs place.blocks
+pub place_lengths : (m : MirrorLine) (place : At) (legs : List PowerLeg) → place ≡ place_of m →
+    EachHas of_power legs m.blocks → EachHas of_power legs place.blocks
 place_lengths m place legs is each =
-    subst (λ (p : At). EachHas of_fuse legs p.blocks) (sym is) each
+    subst (λ (p : At). EachHas of_power legs p.blocks) (sym is) each

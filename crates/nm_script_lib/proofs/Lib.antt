@@ -9,11 +9,13 @@ pub mod OpeningRead
 pub mod RestLaws
 pub mod ScriptLaws
 pub mod Sent
+pub mod Copies
 pub mod Legs
 pub mod Loaded
 pub mod RunLaws
 pub mod HistoryLaws
 pub mod EndLaws
 pub mod StepLengths
+pub mod Comebacks
 pub mod Lines
 pub mod Inside

@@ -8,7 +8,8 @@ use Rattle.std.proofs.KnownBytes.{Appends-trans, Appends-nil}
 use Rattle.nm_script_lib.specs.declared.load.Load.{Load}
 use Rattle.nm_script_lib.specs.declared.mirror_line.MirrorLine.{MirrorLine}
 use Rattle.nm_script_lib.specs.declared.step.Step.{Step}
-use Rattle.nm_script_lib.specs.MemStripe.{MemStripe, IsOpened}
+use Rattle.nm_script_lib.specs.declared.script_stripe.ScriptStripe.{ScriptStripe}
+use Rattle.nm_script_lib.specs.ScriptStripe.{Begins}
 use Rattle.nm_script_lib.specs.Printing.{ended_line}
 use Rattle.nm_script_lib.specs.Streams.{AppendsPrefix, FlushesPrefix}
 use Rattle.nm_script_lib.specs.Runs.{Prints, PrintsAll, lines_of, history, run_text, AddsLine, RunsSteps, RunsPrefix, WholeRun, PartOfRun, NoSteps, FirstSteps, AllSteps, Writes, loaded_line, opening_text}
@@ -19,7 +20,7 @@ on_err (Err e) P p = p
 
 -- one more step of a run
 
-prints_more : (m : MirrorLine) (ss : List Step) (xs : List (List ℕ)) (a b c : MemStripe) (s : Step)
+prints_more : (m : MirrorLine) (ss : List Step) (xs : List (List ℕ)) (a b c : ScriptStripe) (s : Step)
     (x : List ℕ) → PrintsAll m ss xs a b → Prints m s x b c →
     PrintsAll m (ss ++ s ∷ []) (xs ++ x ∷ []) a c
 prints_more m [] [] a b c s x e h = (c, rw (← e) h, refl)
@@ -59,7 +60,7 @@ pub prefix_flushed : (old new : Option (List ℕ)) (all kept : List ℕ) → Flu
     AppendsPrefix old new all
 prefix_flushed old new all kept h = (h.0, kept, h.1, h.2)
 
-pub steps_more : (m : MirrorLine) (prefix : List Step) (before mid after : MemStripe) (s : Step)
+pub steps_more : (m : MirrorLine) (prefix : List Step) (before mid after : ScriptStripe) (s : Step)
     (old cur new : Option (List ℕ)) (buffer some added kept : List ℕ) →
     RunsSteps m prefix before mid (λ text. FlushesPrefix old cur (buffer ++ text) some) →
     AddsLine m s mid after some added →
@@ -75,7 +76,7 @@ steps_more m prefix before mid after s old cur new buffer some added kept h line
 }
 
 -- a run ends early, before or after the line of its last step
-pub stopped_before : (m : MirrorLine) (prefix rest steps : List Step) (before mid : MemStripe)
+pub stopped_before : (m : MirrorLine) (prefix rest steps : List Step) (before mid : ScriptStripe)
     (old cur : Option (List ℕ)) (buffer some : List ℕ) → steps ≡ prefix ++ rest →
     RunsSteps m prefix before mid (λ text. FlushesPrefix old cur (buffer ++ text) some) →
     RunsPrefix m steps before (λ text. AppendsPrefix old cur (buffer ++ text))
@@ -89,7 +90,7 @@ stopped_before m prefix rest steps before mid old cur buffer some e h = record {
   written = prefix_flushed old cur (buffer ++ lines_of h.texts) some h.written;
 }
 
-pub stopped_after : (m : MirrorLine) (prefix rest steps : List Step) (before mid after : MemStripe)
+pub stopped_after : (m : MirrorLine) (prefix rest steps : List Step) (before mid after : ScriptStripe)
     (s : Step) (old cur new : Option (List ℕ)) (buffer some added : List ℕ) →
     steps ≡ (prefix ++ s ∷ []) ++ rest →
     RunsSteps m prefix before mid (λ text. FlushesPrefix old cur (buffer ++ text) some) →
@@ -204,7 +205,7 @@ whole_more old cur new all some more h k =
 
 -- what is written after the lines of an opening
 
-pub runs_after : (m : MirrorLine) (steps : List Step) (start end : MemStripe)
+pub runs_after : (m : MirrorLine) (steps : List Step) (start end : ScriptStripe)
     (old mid cur : Option (List ℕ)) (before some rest : List ℕ) → FlushesPrefix old mid before some →
     RunsSteps m steps start end (λ text. FlushesPrefix mid cur (some ++ text) rest) →
     RunsSteps m steps start end (λ text. FlushesPrefix old cur (before ++ text) rest)
@@ -214,7 +215,7 @@ runs_after m steps start end old mid cur before some rest h r = record {
   written = flushes_more old mid cur before some (lines_of r.texts) rest h r.written;
 }
 
-pub stops_after : (m : MirrorLine) (steps : List Step) (start : MemStripe)
+pub stops_after : (m : MirrorLine) (steps : List Step) (start : ScriptStripe)
     (old mid cur : Option (List ℕ)) (before some : List ℕ) → FlushesPrefix old mid before some →
     RunsPrefix m steps start (λ text. AppendsPrefix mid cur (some ++ text)) →
     RunsPrefix m steps start (λ text. AppendsPrefix old cur (before ++ text))
@@ -240,7 +241,7 @@ pub run_not_opened : (m : MirrorLine) (loads : List Load) (master : Option ℕ) 
 run_not_opened m loads master steps a = ([], NoSteps, prefix_none a [])
 
 pub opening_cut : (m : MirrorLine) (loads : List Load) (master : Option ℕ) (steps : List Step)
-    (start : MemStripe) (old new : Option (List ℕ)) (before : List ℕ) → IsOpened m loads master start →
+    (start : ScriptStripe) (old new : Option (List ℕ)) (before : List ℕ) → Begins m loads master start →
     before ≡ opening_text loads master → AppendsPrefix old new before →
     Writes (PartOfRun m loads master steps) (AppendsPrefix old new)
 opening_cut m loads master steps start old new before is e h = (
@@ -250,7 +251,7 @@ opening_cut m loads master steps start old new before is e h = (
 )
 
 pub run_stopped : (m : MirrorLine) (loads : List Load) (master : Option ℕ) (steps : List Step)
-    (start : MemStripe) (old new : Option (List ℕ)) (before : List ℕ) → IsOpened m loads master start →
+    (start : ScriptStripe) (old new : Option (List ℕ)) (before : List ℕ) → Begins m loads master start →
     before ≡ opening_text loads master →
     RunsPrefix m steps start (λ text. AppendsPrefix old new (before ++ text)) →
     Writes (PartOfRun m loads master steps) (AppendsPrefix old new)
@@ -261,12 +262,12 @@ run_stopped m loads master steps start old new before is e h = (
 )
 
 abbrev done : (m : MirrorLine) (loads : List Load) (master : Option ℕ) (steps : List Step)
-    (start end : MemStripe) (old new : Option (List ℕ)) (before rest : List ℕ) →
-    IsOpened m loads master start →
+    (start end : ScriptStripe) (old new : Option (List ℕ)) (before rest : List ℕ) →
+    Begins m loads master start →
     (h : RunsSteps m steps start end (λ text. FlushesPrefix old new (before ++ text) rest)) →
     WholeRun m loads master steps (opening_text loads master ++ run_text h.texts end)
 done m loads master steps start end old new before rest is h = record
-    { start = start; opened = is; texts = h.texts; end = end; printed = h.printed; whole = refl }
+    { start = start; begins = is; texts = h.texts; end = end; printed = h.printed; whole = refl }
 
 -- the opening's lines, then those of the steps, then the history
 regrouped : (before opening lines last : List ℕ) → before ≡ opening →
@@ -275,31 +276,31 @@ regrouped before opening lines last e =
     ap (λ x. (x ++ lines) ++ last) e ∙ append_assoc opening lines last
 
 pub run_done : (m : MirrorLine) (loads : List Load) (master : Option ℕ) (steps : List Step)
-    (start end : MemStripe) (old cur new : Option (List ℕ)) (before rest : List ℕ) →
-    IsOpened m loads master start → before ≡ opening_text loads master →
+    (start end : ScriptStripe) (old cur new : Option (List ℕ)) (before rest : List ℕ) →
+    Begins m loads master start → before ≡ opening_text loads master →
     RunsSteps m steps start end (λ text. FlushesPrefix old cur (before ++ text) rest) →
-    Appends cur new (rest ++ history end) → Writes (WholeRun m loads master steps) (Appends old new)
+    Appends cur new (rest ++ history end.stripe) → Writes (WholeRun m loads master steps) (Appends old new)
 run_done m loads master steps start end old cur new before rest is e h w = (
   opening_text loads master ++ run_text h.texts end,
   done m loads master steps start end old cur before rest is h,
   subst (λ (x : List ℕ). Appends old new x)
-      (regrouped before (opening_text loads master) (lines_of h.texts) (history end) e)
-      (whole_more old cur new (before ++ lines_of h.texts) rest (history end) h.written w),
+      (regrouped before (opening_text loads master) (lines_of h.texts) (history end.stripe) e)
+      (whole_more old cur new (before ++ lines_of h.texts) rest (history end.stripe) h.written w),
 )
 
 pub run_cut : (m : MirrorLine) (loads : List Load) (master : Option ℕ) (steps : List Step)
-    (start end : MemStripe) (old cur new : Option (List ℕ)) (before rest : List ℕ) →
-    IsOpened m loads master start → before ≡ opening_text loads master →
+    (start end : ScriptStripe) (old cur new : Option (List ℕ)) (before rest : List ℕ) →
+    Begins m loads master start → before ≡ opening_text loads master →
     RunsSteps m steps start end (λ text. FlushesPrefix old cur (before ++ text) rest) →
-    AppendsPrefix cur new (rest ++ history end) →
+    AppendsPrefix cur new (rest ++ history end.stripe) →
     Writes (PartOfRun m loads master steps) (AppendsPrefix old new)
 run_cut m loads master steps start end old cur new before rest is e h w = (
   opening_text loads master ++ run_text h.texts end,
   AllSteps (opening_text loads master ++ run_text h.texts end)
       (done m loads master steps start end old cur before rest is h),
   subst (λ (x : List ℕ). AppendsPrefix old new x)
-      (regrouped before (opening_text loads master) (lines_of h.texts) (history end) e)
-      (prefix_more old cur new (before ++ lines_of h.texts) rest (history end) h.written w),
+      (regrouped before (opening_text loads master) (lines_of h.texts) (history end.stripe) e)
+      (prefix_more old cur new (before ++ lines_of h.texts) rest (history end.stripe) h.written w),
 )
 
 -- the lines of the loads, and then the line of the start

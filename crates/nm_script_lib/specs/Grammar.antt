@@ -6,11 +6,11 @@ use Rattle.std.specs.List.{AllZip, AllByRecursion}
 use Rattle.nm_script_lib.specs.declared.load.Load.{Load}
 use Rattle.nm_script_lib.specs.declared.mirror_line.MirrorLine.{MirrorLine}
 use Rattle.nm_script_lib.specs.declared.step.Step.{Step}
-use Rattle.nm_script_lib.specs.declared.step.Step.TheVariants.{Ask, Fuse, Peek, State}
+use Rattle.nm_script_lib.specs.declared.step.Step.TheVariants.{Ask, Fuse, Peek, Lose, State}
 use Rattle.nm_script_lib.specs.declared.step.StripeStep.TheVariants.{Begin, Zero, Patch, Push}
 use Rattle.nm_script_lib.specs.declared.step.StripeStep.TheVariants.{Claim, Read, Fail, Attach}
 use Rattle.nm_script_lib.specs.declared.step.StripeStep.TheVariants.{Replace, Copy, Promote, Sync}
-use Rattle.nm_script_lib.specs.declared.step.StripeStep.TheVariants.{Run, Get}
+use Rattle.nm_script_lib.specs.declared.step.StripeStep.TheVariants.{Run, Get, Return, Flush}
 use Rattle.nm_script_lib.specs.Forms.{Number, Below, Within, Byte, Form, Makes, Then, ThenPolicy}
 use Rattle.nm_script_lib.specs.Forms.{NoForm, one, two, keywords, IsLine, AreSeparated}
 
@@ -28,6 +28,7 @@ unfoldable pub look_form : MirrorLine → Form Step
 look_form m = keywords (
     (codes "fuse", two (Below m.legs) (Within 1 (2 ^ 64 - 1)) Fuse) ∷
     (codes "peek", two (Below m.legs) (Below m.blocks) Peek) ∷
+    (codes "lose", one (Below m.legs) Lose) ∷
     (codes "state", Makes State) ∷ []) NoForm
 
 -- The steps of the stripe that change a leg, and those above.
@@ -35,11 +36,13 @@ unfoldable pub leg_form : MirrorLine → Form Step
 leg_form m = keywords (
     (codes "fail", one (Below m.legs) (λ leg. Ask (Fail leg))) ∷
     (codes "attach", one (Below m.legs) (λ leg. Ask (Attach leg))) ∷
+    (codes "return", one (Below m.legs) (λ leg. Ask (Return leg))) ∷
     (codes "replace", two (Below m.legs) Byte (λ leg fill. Ask (Replace leg fill))) ∷
     (codes "copy", one (Below m.legs) (λ leg. Ask (Copy leg 1))) ∷
     (codes "copies", two (Below m.legs) (Within 1 (2 ^ 64 - 1)) (λ leg most. Ask (Copy leg most))) ∷
     (codes "promote", one (Below m.legs) (λ leg. Ask (Promote leg))) ∷
-    (codes "sync", one (Below m.legs) (λ leg. Ask (Sync leg))) ∷ [])
+    (codes "sync", one (Below m.legs) (λ leg. Ask (Sync leg))) ∷
+    (codes "flush", one (Below m.legs) (λ leg. Ask (Flush leg))) ∷ [])
     (look_form m)
 
 -- How many blocks a run may have that begins with this block: up to the end of its region and of

@@ -5,7 +5,10 @@ pub mod ScriptReading
 pub mod BadLine
 pub mod Printing
 pub mod Streams
+pub mod Power
+pub mod PowerLeg
 pub mod MemStripe
+pub mod ScriptStripe
 pub mod StateLine
 pub mod RunErrors
 pub mod Runs

@@ -1,9 +1,9 @@
 -- The lines that are printed.
 use Rattle.std.specs.Prelude.{ℕ, List, [], ◌∷◌, ◌++◌, ◌==◌, Bool, true, false, if◌then◌else◌}
-use Rattle.std.specs.Prelude.{length, slice_index_or, codes, decimal}
+use Rattle.std.specs.Prelude.{length, slice_index_or, codes, decimal, Result, Ok, Err}
 use Rattle.std.specs.List.{flat_map, list_all}
 use Rattle.nm_replay.specs.declared.block.Block.{Block}
-use Rattle.nm_leg.specs.declared.fuse_leg.FuseLeg.{FuseLeg}
+use Rattle.nm_script_lib.specs.declared.power_leg.PowerLeg.{PowerLeg}
 use Rattle.nm_replay.specs.declared.entry.Kind.{Kind}
 use Rattle.nm_replay.specs.declared.entry.Kind.TheVariants.{Read, Write, Patch}
 use Rattle.nm_replay.specs.declared.entry.Entry.{Entry}
@@ -13,6 +13,7 @@ use Rattle.nm_stripe.specs.declared.answer.Answer.TheVariants.{Written, Value}
 use Rattle.nm_stripe.specs.declared.answer.Answer.TheVariants.{Failed, MasterChanged, Joining}
 use Rattle.nm_stripe.specs.declared.answer.Answer.TheVariants.{Copied, Nothing, InSync, Synced}
 use Rattle.nm_stripe.specs.declared.answer.Answer.TheVariants.{LegLost, Refused}
+use Rattle.nm_rules.specs.declared.refusal.Refusal.{Refusal}
 use Rattle.nm_rules.specs.Refusal.{text_of}
 use Rattle.nm_script_lib.specs.declared.fill.Fill.{Fill}
 use Rattle.nm_script_lib.specs.declared.fill.Fill.TheVariants.{Same, Mixed}
@@ -34,7 +35,7 @@ fill_text (Same byte) = hex_byte byte
 fill_text Mixed = codes "mixed"
 
 -- A step's answer, without the end of its line.
-abbrev pub answer_text : Answer FuseLeg → List ℕ
+abbrev pub answer_text : Answer PowerLeg → List ℕ
 answer_text (Begun ticket) = codes "begun " ++ decimal ticket
 answer_text (Pushed owed) = codes "pushed " ++ decimal owed
 answer_text (Complete number) = codes "complete " ++ decimal number
@@ -55,6 +56,11 @@ answer_text (Refused refusal handed) = codes "refused " ++ text_of refusal
 -- What a leg has in a block.
 abbrev pub holds_text : Block → List ℕ
 holds_text block = codes "holds " ++ fill_text (fill_of block.0)
+
+-- What a loss of power changed, or why there is none.
+abbrev pub loss_text : Result ℕ Refusal → List ℕ
+loss_text (Ok count) = codes "forgot " ++ decimal count
+loss_text (Err refusal) = codes "refused " ++ text_of refusal
 
 -- What an entry did, and of which write it is.
 abbrev pub kind_text : Kind → List ℕ

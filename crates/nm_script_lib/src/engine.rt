@@ -15,13 +15,14 @@ use crate::do_step::do_step;
 use crate::load::Load;
 use crate::mem_stripe::open_script;
 use crate::mirror_line::MirrorLine;
+use crate::power_leg::PowerLeg;
 use crate::printing::{put_counts, put_entry, put_legal, put_loaded, put_started};
 use crate::run_error::RunError;
 use crate::script::Script;
+use crate::script_stripe::ScriptStripe;
 use crate::step::Step;
 use crate::streams::send;
 use crate::write_error::WriteError;
-use nm_leg::FuseLeg;
 use nm_replay::{Entry, check_indexed};
 use nm_stripe::Stripe;
 use std::alloc::Global;
@@ -52,22 +53,22 @@ fn flush_if_full<W: Write>(out: &mut W, buffer: &mut Vec<u8>) -> Result<(), Writ
 fn run_steps<W: Write>(
     alloc: Global,
     mirror: &MirrorLine,
-    stripe: &mut Stripe<FuseLeg>,
+    running: &mut ScriptStripe,
     steps: &[Step],
     out: &mut W,
     buffer: &mut Vec<u8>,
 ) -> Result<(), RunError>
-    requires shape { HasShape mirror.now stripe.old }
+    requires shape { HasShape mirror.now running.old.stripe }
     requires inside { AllByRecursion (IsInside mirror.now) steps.now }
-    ensures ok { OnOk result (RunsSteps mirror.now steps.now stripe.old stripe.new (λ text.
+    ensures ok { OnOk result (RunsSteps mirror.now steps.now running.old running.new (λ text.
         FlushesPrefix (W.contents out.old) (W.contents out.new)
         (buffer.old.items ++ text) buffer.new.items)) }
-    ensures err { OnErr result (RunsPrefix mirror.now steps.now stripe.old (λ text.
+    ensures err { OnErr result (RunsPrefix mirror.now steps.now running.old (λ text.
         AppendsPrefix (W.contents out.old) (W.contents out.new) (buffer.old.items ++ text))) }
     ensures cause { IfErr result EndsRun }
 {
     for asked in steps {
-        do_step(alloc, mirror, stripe, *asked, buffer)?;
+        do_step(alloc, mirror, running, *asked, buffer)?;
         flush_if_full(out, buffer)?;
     }
     Ok(())
@@ -118,7 +119,7 @@ fn put_history<W: Write>(
 /// Writes the buffer, and then the history that the stripe keeps.
 fn finish<W: Write>(
     alloc: Global,
-    stripe: &Stripe<FuseLeg>,
+    stripe: &Stripe<PowerLeg>,
     blocks: usize,
     out: &mut W,
     buffer: &mut Vec<u8>,
@@ -193,16 +194,16 @@ pub fn run<W: Write>(alloc: Global, script: &Script, out: &mut W) -> Result<(), 
     ensures cause { IfErr result EndsRun }
 {
     let mut buffer = Vec::with_capacity(alloc, BUFFER_SIZE + LINE_SIZE)?;
-    let mut stripe = open_script(alloc, script)?;
+    let mut running = open_script(alloc, script)?;
     put_opening(&script.loads, script.master, out, &mut buffer)?;
     run_steps(
         alloc,
         &script.mirror,
-        &mut stripe,
+        &mut running,
         &script.steps,
         out,
         &mut buffer,
     )?;
     let blocks = script.mirror.blocks as usize;
-    finish(alloc, &stripe, blocks, out, &mut buffer)
+    finish(alloc, &running.stripe, blocks, out, &mut buffer)
 }

@@ -5,11 +5,12 @@ ghost use Rattle.std.specs.Fmt.{digit_glyph};
 ghost use Rattle.nm_script_lib.specs.Forms.{hex_byte};
 ghost use Rattle.nm_rules.specs.Refusal.{text_of};
 ghost use Rattle.nm_script_lib.specs.Printing.{fill_text, ended_line, answer_text, holds_text};
+ghost use Rattle.nm_script_lib.specs.Printing.{loss_text};
 ghost use Rattle.nm_script_lib.specs.Printing.{kind_text, span_text, place_text, entry_line};
 ghost use Rattle.nm_script_lib.specs.Printing.{counts_line, legal_line};
 
 use crate::fill::{Fill, fill_of};
-use nm_leg::FuseLeg;
+use crate::power_leg::PowerLeg;
 use nm_replay::{Block, Entry, Kind};
 use nm_stripe::{Answer, Refusal};
 use std::alloc::AllocError;
@@ -66,6 +67,15 @@ fn put_refusal(text: &mut Vec<u8>, refusal: Refusal) -> Result<(), AllocError>
     put(text, printed.as_bytes())
 }
 
+/// Adds a refused step to a text.
+fn put_refused(text: &mut Vec<u8>, refusal: Refusal) -> Result<(), AllocError>
+    ensures { OnOk result (text.new.items
+        ≡ text.old.items ++ codes "refused " ++ text_of refusal) }
+{
+    put(text, b"refused ")?;
+    put_refusal(text, refusal)
+}
+
 /// Adds a word and a number to a text.
 fn put_counted(text: &mut Vec<u8>, word: &[u8], number: u64) -> Result<(), AllocError>
     ensures { OnOk result (text.new.items ≡ text.old.items ++ word.now ++ decimal number) }
@@ -75,7 +85,7 @@ fn put_counted(text: &mut Vec<u8>, word: &[u8], number: u64) -> Result<(), Alloc
 }
 
 /// Adds an answer to a text.
-fn put_answer_text(text: &mut Vec<u8>, answer: &Answer<FuseLeg>) -> Result<(), AllocError>
+fn put_answer_text(text: &mut Vec<u8>, answer: &Answer<PowerLeg>) -> Result<(), AllocError>
     ensures { OnOk result (text.new.items ≡ text.old.items ++ answer_text answer.now) }
 {
     match answer {
@@ -97,15 +107,12 @@ fn put_answer_text(text: &mut Vec<u8>, answer: &Answer<FuseLeg>) -> Result<(), A
         Answer::InSync => put(text, b"insync"),
         Answer::Synced => put(text, b"synced"),
         Answer::LegLost(leg, _) => put_counted(text, b"lost ", u64::from(*leg)),
-        Answer::Refused(refusal, _) => {
-            put(text, b"refused ")?;
-            put_refusal(text, *refusal)
-        }
+        Answer::Refused(refusal, _) => put_refused(text, *refusal),
     }
 }
 
 /// Adds the line of an answer to a text.
-pub fn put_answer(text: &mut Vec<u8>, answer: &Answer<FuseLeg>) -> Result<(), AllocError>
+pub fn put_answer(text: &mut Vec<u8>, answer: &Answer<PowerLeg>) -> Result<(), AllocError>
     ensures { OnOk result (text.new.items
         ≡ text.old.items ++ ended_line (answer_text answer.now)) }
 {
@@ -132,6 +139,17 @@ pub fn put_started(text: &mut Vec<u8>) -> Result<(), AllocError>
     ensures { OnOk result (text.new.items ≡ text.old.items ++ ended_line (codes "started")) }
 {
     put(text, b"started\n")
+}
+
+/// Adds the line of a loss of power to a text.
+pub fn put_loss(text: &mut Vec<u8>, loss: Result<u64, Refusal>) -> Result<(), AllocError>
+    ensures { OnOk result (text.new.items ≡ text.old.items ++ ended_line (loss_text loss)) }
+{
+    match loss {
+        Ok(count) => put_counted(text, b"forgot ", count)?,
+        Err(refusal) => put_refused(text, refusal)?,
+    }
+    put(text, b"\n")
 }
 
 /// Adds the line of what a leg has in a block to a text.

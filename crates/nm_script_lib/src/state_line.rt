@@ -4,13 +4,13 @@ ghost use Rattle.nm_script_lib.specs.Printing.{ended_line};
 ghost use Rattle.nm_rules.specs.State.{leg_state, left};
 ghost use Rattle.nm_script_lib.specs.StateLine.{leg_text, legs_text, running_text, state_text};
 
+use crate::power_leg::PowerLeg;
 use crate::printing::{put, put_number};
-use nm_leg::FuseLeg;
 use nm_stripe::{LegState, Stripe};
 use std::alloc::AllocError;
 
 /// Adds the state of a leg to a text.
-fn put_leg(text: &mut Vec<u8>, stripe: &Stripe<FuseLeg>, leg: u8) -> Result<(), AllocError>
+fn put_leg(text: &mut Vec<u8>, stripe: &Stripe<PowerLeg>, leg: u8) -> Result<(), AllocError>
     requires { leg < length stripe.now.legs }
     ensures { OnOk result (text.new.items ≡ text.old.items
         ++ leg_text (leg_state leg stripe.now) (left leg stripe.now)) }
@@ -27,7 +27,7 @@ fn put_leg(text: &mut Vec<u8>, stripe: &Stripe<FuseLeg>, leg: u8) -> Result<(), 
 }
 
 /// Adds the states of all legs, which are this many, to a text.
-fn put_legs(text: &mut Vec<u8>, stripe: &Stripe<FuseLeg>, legs: u8) -> Result<(), AllocError>
+fn put_legs(text: &mut Vec<u8>, stripe: &Stripe<PowerLeg>, legs: u8) -> Result<(), AllocError>
     requires { length stripe.now.legs ≡ legs }
     ensures { OnOk result (text.new.items ≡ text.old.items ++ legs_text stripe.now legs 0) }
 {
@@ -38,7 +38,7 @@ fn put_legs(text: &mut Vec<u8>, stripe: &Stripe<FuseLeg>, legs: u8) -> Result<()
 }
 
 /// Adds the state of a running stripe of so many legs to a text.
-fn put_running(text: &mut Vec<u8>, stripe: &Stripe<FuseLeg>, legs: u8) -> Result<(), AllocError>
+fn put_running(text: &mut Vec<u8>, stripe: &Stripe<PowerLeg>, legs: u8) -> Result<(), AllocError>
     requires { length stripe.now.legs ≡ legs }
     ensures { OnOk result (text.new.items ≡ text.old.items ++ running_text stripe.now) }
 {
@@ -51,7 +51,7 @@ fn put_running(text: &mut Vec<u8>, stripe: &Stripe<FuseLeg>, legs: u8) -> Result
 }
 
 /// Adds the line of the state of a stripe of so many legs to a text.
-pub fn put_state(text: &mut Vec<u8>, stripe: &Stripe<FuseLeg>, legs: u8) -> Result<(), AllocError>
+pub fn put_state(text: &mut Vec<u8>, stripe: &Stripe<PowerLeg>, legs: u8) -> Result<(), AllocError>
     requires { length stripe.now.legs ≡ legs }
     ensures { OnOk result (text.new.items ≡ text.old.items ++ ended_line (state_text stripe.now)) }
 {

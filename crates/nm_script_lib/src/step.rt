@@ -15,6 +15,8 @@ pub enum Step {
     Fuse { leg: u8, call: u64 },
     /// `peek L B`: what leg L has in block B, without a call of the leg.
     Peek { leg: u8, block: u64 },
+    /// `lose L`: leg L, which is out, loses power.
+    Lose { leg: u8 },
     /// `state`: the stripe's master and its legs' states.
     State,
 }
@@ -70,6 +72,11 @@ pub enum StripeStep {
     Attach {
         leg: u8,
     },
+    /// `return L`: leg L, which is out, joins again as one that may have lost what it has not
+    /// synced.
+    Return {
+        leg: u8,
+    },
     /// `replace L HH`: a leg of bytes HH takes the place of leg L, which is out, and joins.
     Replace {
         leg: u8,
@@ -89,6 +96,10 @@ pub enum StripeStep {
     Sync {
         leg: u8,
     },
+    /// `flush L`: the same; where it fails, no more of the leg is behind than after a failed write.
+    Flush {
+        leg: u8,
+    },
 }
 
 /// The step that this word begins, of those that the stripe has no part in, with its arguments.
@@ -105,6 +116,9 @@ fn look_of(mirror: &MirrorLine, word: &[u8], words: &mut Words<'_>) -> Option<St
         let leg = words.below_u8(mirror.legs)?;
         let block = words.below(mirror.blocks)?;
         Step::Peek { leg, block }
+    } else if is_word(word, b"lose") {
+        let leg = words.below_u8(mirror.legs)?;
+        Step::Lose { leg }
     } else if is_word(word, b"state") {
         Step::State
     } else {
@@ -124,6 +138,9 @@ fn leg_step_of(mirror: &MirrorLine, word: &[u8], words: &mut Words<'_>) -> Optio
     } else if is_word(word, b"attach") {
         let leg = words.below_u8(mirror.legs)?;
         StripeStep::Attach { leg }
+    } else if is_word(word, b"return") {
+        let leg = words.below_u8(mirror.legs)?;
+        StripeStep::Return { leg }
     } else if is_word(word, b"replace") {
         let leg = words.below_u8(mirror.legs)?;
         let fill = words.byte()?;
@@ -141,6 +158,9 @@ fn leg_step_of(mirror: &MirrorLine, word: &[u8], words: &mut Words<'_>) -> Optio
     } else if is_word(word, b"sync") {
         let leg = words.below_u8(mirror.legs)?;
         StripeStep::Sync { leg }
+    } else if is_word(word, b"flush") {
+        let leg = words.below_u8(mirror.legs)?;
+        StripeStep::Flush { leg }
     } else {
         return look_of(mirror, word, words);
     }))

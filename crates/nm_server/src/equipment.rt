@@ -3,7 +3,8 @@
 use nm_commands::Settings;
 use nm_control::{Copier, CopyOrders, Healing, LegWatch, MissingLegs};
 use nm_leg_files::{
-    FileMirror, LateSlots, LateSuperblock, Leg, LegFiles, LegPlace, SuperblockWriter, Superblocks,
+    FileMirror, LateSlots, LateSuperblock, Leg, LegFiles, LegPlace, LegSyncs, SuperblockWriter,
+    Superblocks,
 };
 use nm_mirror::Pass;
 use nm_opening::open_asked_for;
@@ -144,6 +145,8 @@ fn locked(
 pub struct Equipment {
     /// Each leg's place.
     pub places: Vec<Arc<LegPlace>>,
+    /// Who syncs the legs' files ahead of a flush.
+    pub syncs: LegSyncs,
     /// What saves its superblocks, if it has some.
     pub superblocks: Option<Mutex<SuperblockWriter<LateSlots>>>,
     /// What an administrator wants of copies.
@@ -158,8 +161,10 @@ fn equip<'a>(
     superblocks: Option<Superblocks>,
 ) -> Result<Equipment, StartFault<'a>> {
     let (superblocks, late) = locked(alloc, superblocks);
+    let places = places_of(alloc, files, late)?;
     Ok(Equipment {
-        places: places_of(alloc, files, late)?,
+        syncs: LegSyncs::new(alloc, shares_of(alloc, &places)?)?,
+        places,
         superblocks,
         orders: orders_of(alloc, settings, files)?,
     })

@@ -4,6 +4,7 @@
 //! safe is proved.
 #![tactic(auto)]
 
+mod absent;
 mod equipment;
 mod program;
 mod serving;

@@ -3,6 +3,7 @@ ghost use Rattle.std.specs.Prelude.{◌≡◌};
 ghost use Rattle.clap.specs.Values.{kind_of};
 ghost use Rattle.nm_reports.specs.StartFault.{status_of, status_of_words};
 
+use crate::absent::tell_absent;
 use crate::equipment::{Opened, metrics_of, open};
 use crate::serving::serve_and_copy;
 use clap::Error;
@@ -12,12 +13,13 @@ use nm_control::LegRenewer;
 use nm_geometry::{MOST_LEGS, Shape};
 use nm_leg_files::{
     FileMirror, Leg, LegFiles, LegMaker, LegPlace, LegRules, OpensLegs, check_added, check_files,
-    check_from, check_moved, check_stack, reply_bytes_of, try_threads,
+    check_from, check_moved, check_shrink, check_stack, reply_bytes_of, settle_place, sort_legs,
+    try_threads,
 };
 use nm_mirror::Pass;
 use nm_places::{ServingState, SessionRules, Shared};
 use nm_reports::{Address, LogForm, LogLines, Metrics, StartFault, tell_reason};
-use nm_serving::{AT_ONCE, ExportName};
+use nm_serving::{AT_ONCE, ExportName, ServedExport};
 use nm_sockets::{Listener, listen};
 use nm_system::{Limits, take_standard_streams};
 use std::alloc::Global;
@@ -33,8 +35,8 @@ use std::sync::{Arc, Wait};
 use std::thread::Threads;
 use std::time::Clock;
 
-/// How many threads there are beside those of sessions: the control port's, the one that copies,
-/// the one that saves superblocks, and one that reads for a session.
+/// How many threads there are beside those of sessions and legs: the control port's, the one that
+/// copies, the one that saves superblocks, and one that reads for a session.
 const OTHER_THREADS: usize = 9;
 
 // The export that the settings ask for, unless they are wrong by themselves.
@@ -57,6 +59,7 @@ fn export_asked<'a>(settings: &Settings<'a>) -> Result<ExportName<'a>, StartFaul
     check_added(settings, true)?;
     check_moved(settings)?;
     check_from(settings)?;
+    check_shrink(settings)?;
     match ExportName::new(settings.name, settings.read_only) {
         Some(named) => Ok(named),
         None => Err(StartFault::BadName),
@@ -76,16 +79,32 @@ fn maker_of<'a, 'x>(
     }
 }
 
-// Ends the mirror, and tells how many entries the history of each stripe has had.
+// How many of its stripes have stopped.
+fn count_stopped<R: Wait>(rt: &R, mirror: &FileMirror) -> u32 {
+    let mut stopped = 0u32;
+    for stripe in 0..mirror.shape().stripes {
+        if mirror.has_stopped(rt, stripe) {
+            stopped = stopped.saturating_add(1);
+        }
+    }
+    stopped
+}
+
+// Ends the mirror, and tells how many entries the history of each stripe has had where that is asked
+// for.
 fn close<'a, O: Write>(
     alloc: Global,
     mirror: FileMirror,
     passes: Vec<Pass<Leg>>,
+    is_verbose: bool,
     out: &mut O,
 ) -> Result<(), StartFault<'a>> {
     let Ok(totals) = mirror.close(alloc, passes) else {
         return Err(StartFault::CannotClose);
     };
+    if !is_verbose {
+        return Ok(());
+    }
     for end in totals.ends() {
         let _ = writeln!(out, "stripe {}: entries {}", end.stripe(), end.total());
     }
@@ -134,7 +153,8 @@ fn state_of<'a, R: Threads + Wait + Sync + Clock>(
     let Ok(state) = ServingState::new(rt, alloc, sessions, rules, metrics) else {
         return Err(StartFault::Memory);
     };
-    try_threads(rt, alloc, sessions + AT_ONCE + OTHER_THREADS)?;
+    let legs = settings.legs.len();
+    try_threads(rt, alloc, sessions + legs + AT_ONCE + OTHER_THREADS)?;
     Ok(state)
 }
 
@@ -156,12 +176,17 @@ where
     let (places, writer) = (own.places.as_slice(), own.superblocks.as_ref());
     let legs = LegRenewer::new(alloc, opener, places, writer, mirror.shape())?;
     let maker = maker_of(alloc, settings, places, mirror.shape())?;
+    let export = ServedExport {
+        named,
+        mirror: &mirror,
+        syncs: &own.syncs,
+    };
+    own.orders.begin_limits();
     serve_and_copy(
         rt,
         opener,
         shared,
-        named,
-        &mirror,
+        &export,
         passes.as_mut_slice(),
         copier,
         &own.orders,
@@ -169,7 +194,12 @@ where
         &maker,
         writer,
     )?;
-    close(alloc, mirror, passes, out)
+    let (stopped, all) = (count_stopped(rt, &mirror), mirror.shape().stripes);
+    close(alloc, mirror, passes, settings.verbose, out)?;
+    if stopped > 0 {
+        return Err(StartFault::StripesStopped(stopped, all));
+    }
+    Ok(())
 }
 
 // Opens what the settings ask for, and serves it until a `quit`.
@@ -177,7 +207,7 @@ fn run<'a, R, P: OpensLegs + Sync, O: Write>(
     rt: &R,
     alloc: Global,
     opener: &P,
-    settings: &Settings<'a>,
+    settings: &mut Settings<'a>,
     out: &mut O,
     lines: &LogLines,
 ) -> Result<(), StartFault<'a>>
@@ -196,6 +226,9 @@ where
     let Some(_streams) = take_standard_streams(rt, alloc) else {
         return Err(StartFault::NoStandardStreams);
     };
+    settle_place(rt, settings);
+    sort_legs(rt, alloc, settings, lines)?;
+    let settings = &*settings;
     let named = export_asked(settings)?;
     let limits = Limits::read(rt, alloc)?;
     check_stack(&limits)?;
@@ -259,7 +292,7 @@ pub fn refuse_words<E: Write>(error: &io::Error, err: &mut E) -> u8 {
 /// Otherwise `err` says why: status 2 for words that are no command line, 3 for
 /// settings or legs that do not fit, 4 where it cannot listen, 5 out of memory, 6 where what the
 /// stripes have had is not what the sessions counted, 7 where no master is named and the legs
-/// differ.
+/// differ, 8 after a `quit` where a stripe had stopped.
 pub fn start<R, P: OpensLegs + Sync, S: AsStr, O: Write, E: Write>(
     rt: &R,
     alloc: Global,
@@ -282,19 +315,20 @@ where
         + Net<Listener = TcpListener, Stream = TcpStream>
         + 'static,
 {
-    let settings = match settings(alloc, words) {
+    let mut settings = match settings(alloc, words) {
         Ok(settings) => settings,
         Err(error) => return tell_words(&error, out, err),
     };
     let Ok(lines) = LogLines::start(rt, alloc, LogForm::of(rt, alloc)) else {
         return tell_fault(&StartFault::Memory, err);
     };
-    let ended = run(rt, alloc, opener, &settings, out, &lines);
+    let ended = run(rt, alloc, opener, &mut settings, out, &lines);
     lines.close(rt);
     match ended {
         Ok(()) => 0,
         Err(fault) => {
             let _ = tell_reason(alloc, &fault, &settings, err);
+            let _ = tell_absent(alloc, opener, &fault, &settings, err);
             tell_fault(&fault, err)
         }
     }

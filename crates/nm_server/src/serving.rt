@@ -6,7 +6,7 @@ use nm_leg_files::{FileMirror, LateSlots, Leg, LegMaker, OpensLegs, SuperblockWr
 use nm_mirror::Pass;
 use nm_places::Shared;
 use nm_reports::StartFault;
-use nm_serving::{AT_ONCE, ExportName, see_off, serve_place, take_clients};
+use nm_serving::{AT_ONCE, ServedExport, see_off, serve_place, take_clients};
 use std::net::{Net, TcpListener, TcpStream};
 use std::sync::atomic::Ordering;
 use std::sync::{Mutex, Wait};
@@ -19,8 +19,7 @@ use std::time::Clock;
 fn serve_sessions<R>(
     rt: &R,
     shared: &Shared<'_>,
-    named: &ExportName<'_>,
-    mirror: &FileMirror,
+    export: &ServedExport<'_, '_>,
     passes: &mut [Pass<Leg>],
 ) -> bool
 where
@@ -29,7 +28,7 @@ where
     let state = shared.state;
     thread::scope(thread::scope_env(), rt, |scope| {
         for (number, own) in passes.chunks_mut(AT_ONCE).enumerate() {
-            let start = scope.spawn(move || serve_place(rt, shared, number, named, mirror, own));
+            let start = scope.spawn(move || serve_place(rt, shared, number, export, own));
             if start.is_err() {
                 state.places.close(rt);
                 return false;
@@ -42,12 +41,36 @@ where
     })
 }
 
+// Serves clients as above, while a thread of each leg but the first syncs its file when that is
+// asked for. Where a thread cannot be started, who asks does so.
+fn serve_syncing<R>(
+    rt: &R,
+    shared: &Shared<'_>,
+    export: &ServedExport<'_, '_>,
+    passes: &mut [Pass<Leg>],
+) -> bool
+where
+    R: Threads + Wait + Sync + Copy + Clock,
+{
+    let syncs = export.syncs;
+    thread::scope(thread::scope_env(), rt, |scope| {
+        for leg in 1..syncs.count() {
+            if scope.spawn(move || syncs.serve(rt, leg)).is_err() {
+                break;
+            }
+        }
+        let is_served = serve_sessions(rt, shared, export, passes);
+        syncs.close(rt);
+        is_served
+    })
+}
+
 // Serves the control port and sessions, until the last of these has ended. False where a thread
 // could not be started.
 fn serve_both<R, O: OpensLegs + Sync>(
     rt: &R,
     shared: &Shared<'_>,
-    named: &ExportName<'_>,
+    export: &ServedExport<'_, '_>,
     passes: &mut [Pass<Leg>],
     controlled: &Controlled<'_, Leg, NoGate, LegRenewer<'_, O>, LegMaker<'_>>,
 ) -> bool
@@ -59,7 +82,7 @@ where
         let Ok(control_port) = scope.spawn(move || serve_control(rt, shared, controlled)) else {
             return false;
         };
-        let is_served = serve_sessions(rt, shared, named, controlled.mirror, passes);
+        let is_served = serve_syncing(rt, shared, export, passes);
         has_ended.store(true, Ordering::SeqCst);
         shared.control.wake(rt);
         control_port.join(rt) && is_served
@@ -74,7 +97,7 @@ fn serve_copying<R, O: OpensLegs + Sync>(
     rt: &R,
     opener: &O,
     shared: &Shared<'_>,
-    named: &ExportName<'_>,
+    export: &ServedExport<'_, '_>,
     passes: &mut [Pass<Leg>],
     copier: Copier,
     controlled: &Controlled<'_, Leg, NoGate, LegRenewer<'_, O>, LegMaker<'_>>,
@@ -87,7 +110,7 @@ where
         let copying = scope.spawn(move || {
             resynchronise(rt, opener, copier, mirror, orders, shared)
         });
-        copying.is_ok() && serve_both(rt, shared, named, passes, controlled)
+        copying.is_ok() && serve_both(rt, shared, export, passes, controlled)
     })
 }
 
@@ -118,7 +141,7 @@ fn serve_saving<R, O: OpensLegs + Sync>(
     rt: &R,
     opener: &O,
     shared: &Shared<'_>,
-    named: &ExportName<'_>,
+    export: &ServedExport<'_, '_>,
     passes: &mut [Pass<Leg>],
     copier: Copier,
     controlled: &Controlled<'_, Leg, NoGate, LegRenewer<'_, O>, LegMaker<'_>>,
@@ -134,7 +157,7 @@ where
         let Ok(saving) = saving else {
             return false;
         };
-        let is_served = serve_copying(rt, opener, shared, named, passes, copier, controlled);
+        let is_served = serve_copying(rt, opener, shared, export, passes, copier, controlled);
         mirror.close_saves(rt);
         saving.join(rt);
         let doubts = controlled.orders.doubts();
@@ -154,8 +177,7 @@ pub fn serve_and_copy<'a, R, O: OpensLegs + Sync>(
     rt: &R,
     opener: &O,
     shared: &Shared<'_>,
-    named: &ExportName<'_>,
-    mirror: &FileMirror,
+    export: &ServedExport<'_, '_>,
     passes: &mut [Pass<Leg>],
     copier: Copier,
     orders: &CopyOrders,
@@ -167,7 +189,8 @@ where
     R: Threads + Wait + Sync + Copy + Clock + Net<Listener = TcpListener, Stream = TcpStream>,
 {
     let controlled = &Controlled {
-        mirror,
+        mirror: export.mirror,
+        name: export.named.name(),
         unread: &shared.state.unread,
         sessions: &shared.state.places,
         info: &shared.state.info,
@@ -178,9 +201,9 @@ where
     };
     let is_served = match writer {
         Some(writer) => serve_saving(
-            rt, opener, shared, named, passes, copier, controlled, writer,
+            rt, opener, shared, export, passes, copier, controlled, writer,
         ),
-        None => serve_copying(rt, opener, shared, named, passes, copier, controlled),
+        None => serve_copying(rt, opener, shared, export, passes, copier, controlled),
     };
     if is_served {
         Ok(())

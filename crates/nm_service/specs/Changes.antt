@@ -1,5 +1,5 @@
 -- What has happened to a leg from one look at the mirror to the next.
-use Rattle.std.specs.Prelude.{◌≡◌, ◌<◌, ◌↔◌, ℕ, IsTrue}
+use Rattle.std.specs.Prelude.{◌≡◌, ◌<◌, ◌↔◌, IsTrue}
 use Rattle.nm_service.specs.declared.leg_change.LegSight.{LegSight}
 use Rattle.nm_service.specs.declared.leg_change.LegChange.{LegChange}
 

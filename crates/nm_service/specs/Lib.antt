@@ -1,11 +1,13 @@
 pub mod AutoAttaching
 pub mod Changes
 pub mod CopyPacing
+pub mod Health
 pub mod Idle
 pub mod Latency
 pub mod Lines
 pub mod MetricText
 pub mod Pacing
 pub mod Repeating
+pub mod Returning
 pub mod Seating
 pub mod Severities

@@ -18,8 +18,6 @@ pub struct CountedCalls<'a, C> {
 }
 
 impl<'a, L, C: MirrorCalls<L>> MirrorCalls<L> for CountedCalls<'a, C> {
-    ghost ready = { λ counted. C.ready counted.calls };
-
     ghost shape = { λ counted. C.shape counted.calls };
 
     fn layout(&self) -> &Shape {

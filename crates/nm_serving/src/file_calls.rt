@@ -6,25 +6,24 @@ use crate::mirror_calls::MirrorCalls;
 use nm_geometry::Shape;
 use nm_lanes::{Gate, WriteFault};
 use nm_leg::LegPart;
-use nm_leg_files::{FileMirror, Leg};
+use nm_leg_files::{FileMirror, Leg, LegSyncs};
 use nm_mirror::{Mirror, Pass};
 use nm_places::SessionPlaces;
 use nm_reports::{Metrics, MirrorCall, MirrorCallKind, bytes_of, microseconds_since};
 use nm_session::TargetFault;
 use std::alloc::Global;
-use std::marker::{Send, Sync};
-use std::sync::Wait;
 use std::sync::atomic::AtomicBool;
-use std::thread::Threads;
+use std::sync::{MutexGuard, Wait};
 use std::time::{Clock, Instant};
 
-/// The mirror of the program, with the runtime whose threads are at work in its stripes, and where
-/// its calls are counted: those of a place, and those of all places.
+/// The mirror of the program, with the runtime whose threads call it, and where its calls are
+/// counted: those of a place, and those of all places.
 #[derive(Drop)]
 pub struct FileCalls<'a, R> {
     pub(crate) rt: &'a R,
     pub(crate) alloc: Global,
     pub(crate) mirror: &'a FileMirror,
+    pub(crate) syncs: &'a LegSyncs,
     pub(crate) metrics: &'a Metrics,
     pub(crate) place: usize,
     pub(crate) places: &'a SessionPlaces,
@@ -40,11 +39,31 @@ fn told(answer: Result<(), TargetFault>, is_full: bool) -> Result<(), TargetFaul
     }
 }
 
-impl<'a, R: Threads + Wait + Sync + Copy + Clock> MirrorCalls<Leg> for FileCalls<'a, R> {
-    ghost use Rattle.std.specs.Thread.{IsSync};
+impl<R: Wait + Copy + Clock> FileCalls<'_, R> {
+    // Has the legs' files synced ahead of a call that syncs, outside every lock. Where something
+    // was written meanwhile a FLUSH shuts out writes, and has them synced once more: so its stripes
+    // make no call, and it makes two of each file, however many clients write. Its turn, then.
+    fn sync_ahead(&self, call: &MirrorCall) -> Option<MutexGuard<'_, ()>> {
+        if !matches!(call, MirrorCall::Flush | MirrorCall::Sync(_, _)) {
+            return None;
+        }
+        self.sync_written();
+        if !matches!(call, MirrorCall::Flush) || !self.mirror.has_unsynced() {
+            return None;
+        }
+        let turn = self.mirror.shut_out_writes(self.rt);
+        self.sync_written();
+        Some(turn)
+    }
 
-    ghost ready = { λ calls. IsSync R.row };
+    // Has the files synced of the legs that were written to since their last sync began.
+    fn sync_written(&self) {
+        let legs = self.mirror.take_unsynced(self.rt);
+        self.syncs.sync_ahead(self.rt, legs);
+    }
+}
 
+impl<'a, R: Wait + Copy + Clock> MirrorCalls<Leg> for FileCalls<'a, R> {
     ghost shape = { λ calls. calls.mirror.now.shape };
 
     fn layout(&self) -> &Shape {
@@ -62,7 +81,11 @@ impl<'a, R: Threads + Wait + Sync + Copy + Clock> MirrorCalls<Leg> for FileCalls
         let (kind, bytes) = (MirrorCallKind::of(&call), bytes_of(&call, into.len()));
         let changes = call.changes();
         let begun = Instant::now(self.rt).ok();
+        let turn = self.sync_ahead(&call);
         let answer = call_mirror(self.rt, self.alloc, self.mirror, pass, call, into, is_gone);
+        if let Some(turn) = turn {
+            self.mirror.let_in_writes(self.rt, turn);
+        }
         if let Some(counts) = self.metrics.calls_of(self.place) {
             counts.note(
                 kind,
@@ -78,7 +101,7 @@ impl<'a, R: Threads + Wait + Sync + Copy + Clock> MirrorCalls<Leg> for FileCalls
 /// Makes this call of the mirror through the pass, a read's into the buffer. Refused memory is told
 /// as such, and a fault of the mirror as an I/O fault; so are zeroes that ended before their next
 /// region, since their client `is_gone`.
-pub fn call_mirror<R: Threads + Wait + Sync, L: LegPart + Send, G: Gate + Drop + Sync>(
+pub fn call_mirror<R: Wait, L: LegPart, G: Gate + Drop>(
     rt: &R,
     alloc: Global,
     mirror: &Mirror<L, G>,

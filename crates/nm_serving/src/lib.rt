@@ -10,6 +10,6 @@ mod mirror_target;
 mod sessions;
 
 pub use crate::file_calls::{FileCalls, call_mirror};
-pub use crate::mirror_calls::{MirrorCalls, ReadyMirror};
+pub use crate::mirror_calls::MirrorCalls;
 pub use crate::mirror_target::MirrorTarget;
-pub use crate::sessions::{AT_ONCE, ExportName, see_off, serve_place, take_clients};
+pub use crate::sessions::{AT_ONCE, ExportName, ServedExport, see_off, serve_place, take_clients};

@@ -3,7 +3,7 @@ ghost use Rattle.std.specs.Prelude.{◌≡◌, ◌*◌, ◌↔◌, [], ◌∷◌
 ghost use Rattle.nm_serving.specs.Calls.{IsEven, IsInside, Leads, answered, leads-nowhere};
 ghost use Rattle.nm_serving.specs.Calls.{leads-on, state_of};
 
-use crate::mirror_calls::{MirrorCalls, ReadyMirror};
+use crate::mirror_calls::MirrorCalls;
 use bytes::Bytes;
 use nm_geometry::Shape;
 use nm_mirror::Pass;
@@ -14,25 +14,25 @@ use std::sync::atomic::AtomicBool;
 /// A mirror as a session's target, through a pass that has a part for each of its stripes.
 #[derive(Drop)]
 pub struct MirrorTarget<'a, L, C: MirrorCalls<L> + Drop, H> {
-    mirror: &'a ReadyMirror<L, C>,
+    mirror: &'a C,
     pass: &'a mut Pass<L>,
     // Set once the client has gone, for which zeroes need not be written to their end.
     is_gone: Option<&'a AtomicBool>,
     // Dropped with the target, once its session asks for nothing more.
     hang_up: H,
-    ghost even: { IsEven mirror.now pass.now.parts.items },
+    ghost even: { IsEven (C.shape mirror.now) pass.now.parts.items },
 }
 
 impl<'a, L, C: MirrorCalls<L> + Drop, H: Drop> MirrorTarget<'a, L, C, H> {
     /// The mirror through this pass; none where the pass is of another shape. Zeroes end before
     /// their next region once `is_gone`. `hang_up` is dropped with the target.
     pub fn new(
-        mirror: &'a ReadyMirror<L, C>,
+        mirror: &'a C,
         pass: &'a mut Pass<L>,
         is_gone: Option<&'a AtomicBool>,
         hang_up: H,
     ) -> Option<MirrorTarget<'a, L, C, H>>
-        ensures some { IsSome result ↔ IsEven mirror.now pass.old.parts.items }
+        ensures some { IsSome result ↔ IsEven (C.shape mirror.now) pass.old.parts.items }
         ensures mirror { IfSome result (λ target. target.mirror.now ≡ mirror.now) }
         ensures pass { IfSome result (λ target. target.pass.now ≡ pass.old) }
     {
@@ -51,33 +51,37 @@ impl<'a, L, C: MirrorCalls<L> + Drop, H: Drop> MirrorTarget<'a, L, C, H> {
 impl<'a, L, C: MirrorCalls<L> + Drop, H> MirrorTarget<'a, L, C, H> {
     /// How the mirror's blocks lie in its stripes.
     pub fn layout(&self) -> &Shape
-        ensures { result.now ≡ self.now.mirror.now }
+        ensures { result.now ≡ C.shape self.now.mirror.now }
     {
         self.mirror.layout()
     }
 
     // Makes this call of the mirror, a read's into the buffer.
     fn call(&mut self, call: MirrorCall, into: &mut [u8]) -> Result<(), TargetFault>
-        requires inside { IsInside self.old.mirror.now call (length into.old) }
-        ensures { Leads L (state_of self.old.mirror.now self.old.pass.now)
+        requires inside { IsInside (C.shape self.old.mirror.now) call (length into.old) }
+        ensures { Leads L (state_of (C.shape self.old.mirror.now) self.old.pass.now)
             (answered call into.new result ∷ [])
-            (state_of self.new.mirror.now self.new.pass.now) }
+            (state_of (C.shape self.new.mirror.now) self.new.pass.now) }
     {
-        let calls = self.mirror.calls();
-        calls.call_through(self.pass, call, into, self.is_gone)
+        self.mirror
+            .call_through(self.pass, call, into, self.is_gone)
     }
 }
 
 impl<'a, L, C: MirrorCalls<L> + Drop, H> Target for MirrorTarget<'a, L, C, H> {
-    ghost size = { λ target. 512 * target.mirror.now.blocks };
+    ghost size = { λ target. 512 * (C.shape target.mirror.now).blocks };
 
-    ghost follows = { λ old calls new. Leads L (state_of old.mirror.now old.pass.now) calls
-        (state_of new.mirror.now new.pass.now) };
+    ghost follows = { λ old calls new. Leads L
+        (state_of (C.shape old.mirror.now) old.pass.now) calls
+        (state_of (C.shape new.mirror.now) new.pass.now) };
 
-    ghost stays = { λ target. leads-nowhere L (state_of target.mirror.now target.pass.now) };
+    ghost stays = { λ target.
+        leads-nowhere L (state_of (C.shape target.mirror.now) target.pass.now) };
 
-    ghost joins = { λ from between to. leads-on L (state_of from.mirror.now from.pass.now)
-        (state_of between.mirror.now between.pass.now) (state_of to.mirror.now to.pass.now) };
+    ghost joins = { λ from between to. leads-on L
+        (state_of (C.shape from.mirror.now) from.pass.now)
+        (state_of (C.shape between.mirror.now) between.pass.now)
+        (state_of (C.shape to.mirror.now) to.pass.now) };
 
     fn read(&mut self, offset: u64, into: &mut [u8]) -> Result<(), TargetFault> {
         self.call(MirrorCall::Read(offset), into)

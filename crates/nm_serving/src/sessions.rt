@@ -7,10 +7,10 @@ ghost use Rattle.nm_wire.specs.Export.{size_of};
 
 use crate::counted_calls::CountedCalls;
 use crate::file_calls::FileCalls;
-use crate::mirror_calls::{MirrorCalls, ReadyMirror};
+use crate::mirror_calls::MirrorCalls;
 use crate::mirror_target::MirrorTarget;
 use nm_leg::LegPart;
-use nm_leg_files::{FileMirror, Leg};
+use nm_leg_files::{FileMirror, Leg, LegSyncs};
 use nm_mirror::Pass;
 use nm_places::{Ending, SessionPlaces, Shared};
 use nm_replies::ReplyWriter;
@@ -66,6 +66,24 @@ impl<'a> ExportName<'a> {
         }
         Some(ExportName { name, read_only })
     }
+
+    /// The name by which clients ask for it.
+    pub fn name(&self) -> &'a str
+        ensures { result.now ≡ self.now.name.now }
+    {
+        self.name
+    }
+}
+
+/// What sessions serve.
+#[derive(Drop)]
+pub struct ServedExport<'x, 'n> {
+    /// The export as each session is told of it.
+    pub named: &'x ExportName<'n>,
+    /// The mirror behind it.
+    pub mirror: &'x FileMirror,
+    /// Who syncs its legs' files ahead of a flush.
+    pub syncs: &'x LegSyncs,
 }
 
 // The export for one session.
@@ -124,7 +142,7 @@ fn negotiate_in_time<R: Wait + Clock>(
 // A pass of another shape, which the mirror itself never makes, is told as memory that is refused.
 fn targets_of<'a, L, C: MirrorCalls<L> + Drop>(
     alloc: Global,
-    mirror: &'a ReadyMirror<L, C>,
+    mirror: &'a C,
     passes: &'a mut [Pass<L>],
     client: &'a ClientStream,
 ) -> Result<Vec<MirrorTarget<'a, L, C, HangUp<'a>>>, ServeFault>
@@ -155,7 +173,7 @@ fn answer_requests<R, L: LegPart + Send, C: MirrorCalls<L> + Sync + Drop>(
     rt: &R,
     alloc: Global,
     client: &ClientStream,
-    mirror: &ReadyMirror<L, C>,
+    mirror: &C,
     passes: &mut [Pass<L>],
     core: SessionCore,
     is_over: &AtomicBool,
@@ -163,7 +181,7 @@ fn answer_requests<R, L: LegPart + Send, C: MirrorCalls<L> + Sync + Drop>(
 ) -> Result<Served, ServeFault>
 where
     R: Threads + Wait + Sync,
-    requires size { size_of core.haggling.export ≤ 512 * mirror.now.blocks }
+    requires size { size_of core.haggling.export ≤ 512 * (C.shape mirror.now).blocks }
 {
     let targets = targets_of(alloc, mirror, passes, client)?;
     let reader = ClientReader::new(client, is_over);
@@ -192,35 +210,35 @@ fn core_of(alloc: Global, named: &ExportName<'_>, blocks: u64, bytes: usize) -> 
 fn serve_client<R: Threads + Wait + Sync + Copy + Clock>(
     rt: &R,
     client: &ClientStream,
-    named: &ExportName<'_>,
-    mirror: &FileMirror,
+    export: &ServedExport<'_, '_>,
     passes: &mut [Pass<Leg>],
     shared: &Shared<'_>,
     place: usize,
 ) -> Result<SessionEnd, ServeFault> {
     let (alloc, places, metrics) = (shared.alloc, &shared.state.places, &shared.state.metrics);
     let _ = client.stream.set_nodelay();
-    let blocks = mirror.shape().blocks;
-    let Some(mut core) = core_of(alloc, named, blocks, places.reply_bytes()) else {
+    let blocks = export.mirror.shape().blocks;
+    let Some(mut core) = core_of(alloc, export.named, blocks, places.reply_bytes()) else {
         return Err(ServeFault::Memory);
     };
     if !negotiate_in_time(rt, alloc, &client.stream, &mut core)? {
         return Ok(SessionEnd::InHandshake);
     }
     client.activity.note_negotiated();
-    let ready = ReadyMirror::new(CountedCalls {
+    let calls = CountedCalls {
         calls: FileCalls {
             rt,
             alloc,
-            mirror,
+            mirror: export.mirror,
+            syncs: export.syncs,
             metrics,
             place,
             places,
         },
         activity: &client.activity,
-    });
+    };
     let (is_over, lookout) = (places.is_over(), places.lookout());
-    let served = answer_requests(rt, alloc, client, &ready, passes, core, is_over, lookout)?;
+    let served = answer_requests(rt, alloc, client, &calls, passes, core, is_over, lookout)?;
     Ok(SessionEnd::By(served.end))
 }
 
@@ -232,8 +250,7 @@ pub fn serve_place<R>(
     rt: &R,
     shared: &Shared<'_>,
     number: usize,
-    named: &ExportName<'_>,
-    mirror: &FileMirror,
+    export: &ServedExport<'_, '_>,
     passes: &mut [Pass<Leg>],
 )
 where
@@ -249,7 +266,7 @@ where
             tell_begin(rt, alloc, &client, lines);
         }
         metrics.begin_session();
-        let ended = serve_client(rt, &client, named, mirror, passes, shared, number);
+        let ended = serve_client(rt, &client, export, passes, shared, number);
         metrics.end_session(ended.is_ok());
         let closing = places.free(rt, number);
         let is_verbose = places.is_verbose();

@@ -1,5 +1,5 @@
 //! An array in memory that several users share: an honest medium whose syncs fail.
-ghost use Rattle.std.specs.Prelude.{◌≡◌, ◌<◌, true, IfOk};
+ghost use Rattle.std.specs.Prelude.{◌≡◌, ◌<◌, true, false, IfOk};
 ghost use Rattle.nm_file_leg.specs.Media.{of_mem, steady};
 ghost use Rattle.nm_shares.specs.SharedMedium.{IsArray, bytes_of, settled, new_leg, share_of};
 
@@ -78,6 +78,10 @@ impl Medium for SharedMedium {
     ghost held = { λ medium. share_of medium.stripe medium.shape
         (bytes_of medium.contents medium.pending medium.durable) };
 
+    ghost tells = { λ _. false };
+
+    ghost doubted = { λ _. false };
+
     fn read_at(&mut self, at: u64, into: &mut [u8]) -> io::Result<usize> {
         self.contents.read_at(at, into)
     }
@@ -102,6 +106,14 @@ impl Medium for SharedMedium {
 
     fn is_hole(&self, at: u64, many: usize) -> bool {
         self.contents.is_hole(at, many)
+    }
+
+    fn tells_loss(&self) -> bool {
+        false
+    }
+
+    fn is_doubted(&self) -> bool {
+        false
     }
 }
 

@@ -7,6 +7,7 @@ ghost use Rattle.nm_regions.specs.Table.{is_out};
 ghost use Rattle.nm_rules.specs.State.{table};
 ghost use Rattle.nm_rules.specs.Attach.{after_attach, after_replace, after_return, fallen};
 ghost use Rattle.nm_rules.specs.Attach.{lacking_from, may_lack, may_lack_each};
+ghost use Rattle.nm_rules.specs.Losing.{with_part};
 ghost use Rattle.nm_rules.specs.Reopening.{Marks};
 
 use crate::reopening::is_marked;
@@ -97,6 +98,15 @@ impl<L: LegPart> Store<L> {
             span,
         );
         self.states[leg as usize] = LegState::Joining;
+    }
+
+    /// Another leg stands in its place, with the state and the regions of the one that was there,
+    /// which is dropped.
+    pub fn stand_in(&mut self, leg: u8, part: L)
+        requires { leg < length self.old.legs }
+        ensures { self.new ≡ with_part self.old leg part }
+    {
+        self.legs[leg as usize] = part;
     }
 
     /// Another leg joins in its place, with all regions behind. The leg that was there is dropped.

@@ -22,7 +22,7 @@ use Rattle.nm_rules.proofs.ElectLemmas.{gone-other}
 use Rattle.nm_rules.proofs.JoiningEndLemmas.{nothing-behind, nothing-promotes, nothing-refused, nothing-left}
 use Rattle.nm_rules.proofs.JoiningLemmas.{fields-work, lost-parts}
 use Rattle.nm_rules.proofs.JoiningStepLemmas.{loses_in_begin-work, fails_in_begin-work, loses_in_read-work, fails_in_read-work, goes_out-work, attaches-work, replaces-work, returns-work}
-use Rattle.nm_rules.proofs.JoiningStepLemmas.{fails_in_copy-work, promotes-work, loses_in_promote-work, synchronizes-work, loses_in_sync-work, fails_in_sync-work}
+use Rattle.nm_rules.proofs.JoiningStepLemmas.{fails_in_copy-work, promotes-work, loses_in_promote-work, synchronizes-work, loses_in_flush-work, loses_in_sync-work, fails_in_sync-work}
 use Rattle.nm_rules.proofs.RunCopyLemmas.{fails_in_copy_run-one}
 use Rattle.nm_rules.proofs.RunJoiningLemmas.{claims_run-work, copies_read_run-work, copies_write_run-work, loses_in_copy_run-work, finds_run-work, halts_run-work, loses_in_push_run-work, pushes_run-work}
 use Rattle.nm_rules.proofs.RunReadLemmas.{fails_in_read_run-last, loses_in_read_run-last}
@@ -31,7 +31,7 @@ use Rattle.nm_stripe.specs.declared.answer.Answer.{Answer}
 use Rattle.nm_stripe.specs.declared.answer.Answer.TheVariants.{Begun, Pushed, Complete, Halted, Written, Value, Failed, MasterChanged, Joining, Copied, InSync, Synced, LegLost, Refused}
 use Rattle.nm_stripe.specs.declared.answer.Answer.TheVariants.{Nothing as NothingLeft}
 use Rattle.nm_stripe.specs.declared.step.Step.{Step}
-use Rattle.nm_stripe.specs.declared.step.Step.TheVariants.{Begin, Push, Claim, Read, Fail, Attach, Return, Replace, Copy, Promote, Sync}
+use Rattle.nm_stripe.specs.declared.step.Step.TheVariants.{Begin, Push, Claim, Read, Fail, Attach, Return, Replace, Copy, Promote, Sync, Flush}
 use Rattle.nm_stripe.specs.Bound.{copies, copied_count, StaysBehind, StaysJoining, IsBounded, IsCopied}
 use Rattle.nm_stripe.specs.Begin.{RefusesBegin, ForCause as BeginCause, ForFault as BeginFault}
 use Rattle.nm_stripe.specs.Copy.{RefusesCopy, ForCause as CopyCause, ForFault as CopyFault}
@@ -188,6 +188,10 @@ module _ {L : Type 0} (type : LegType L) (old new : StripeState L) (j : ℕ) (jo
   steps-bound (Sync leg) (LegLost gone handed) k asked stays is =
       lost-quiet (still-lost_all leg (λ e. stays (is.0.0 ∙ e)) is.0.1.after) (λ joins. loses_in_sync-work j old new type leg joins is.0.1)
   steps-bound (Sync leg) (Refused cause handed) k asked stays is = quiet (sync-refused leg cause is.0)
+  steps-bound (Flush leg) Synced k asked stays is = quiet (ap (λ (s : StripeState L). leg_state j s) is.after ∙ joined, synchronizes-work j old new type leg is)
+  steps-bound (Flush leg) (LegLost gone handed) k asked stays is =
+      lost-quiet (still-lost new.legs leg (λ e. stays (is.0.0 ∙ e)) is.0.1.after) (λ joins. loses_in_flush-work j old new type leg joins is.0.1)
+  steps-bound (Flush leg) (Refused cause handed) k asked stays is = quiet (sync-refused leg cause is.0)
   steps-bound step answer k asked stays is = absurd is
 
 -- over all of the steps

@@ -13,7 +13,7 @@ use Rattle.nm_rules.specs.Flushed.{DurableAt, KeepsDurable}
 use Rattle.nm_rules.specs.Invariant.{Keeps}
 use Rattle.nm_rules.specs.State.{StripeState, is_out, leg_state}
 use Rattle.nm_rules.proofs.FlushedLemmas.{fails_in_begin-durable, fails_in_read-durable, fails_in_copy-durable}
-use Rattle.nm_rules.proofs.FlushedLostLemmas.{loses_in_begin-durable, loses_in_read-durable, loses_in_promote-durable, loses_in_sync-durable, goes_out-durable, loses_in_sync-makes, attaches-durable, replaces-durable, returns-durable}
+use Rattle.nm_rules.proofs.FlushedLostLemmas.{loses_in_begin-durable, loses_in_read-durable, loses_in_promote-durable, loses_in_flush-durable, loses_in_flush-makes, loses_in_sync-durable, goes_out-durable, loses_in_sync-makes, attaches-durable, replaces-durable, returns-durable}
 use Rattle.nm_rules.proofs.FlushedSyncLemmas.{synchronizes-durable, synchronizes-makes, fails_in_sync-durable, promotes-durable, out-durable}
 use Rattle.nm_rules.proofs.RunCopyLemmas.{fails_in_copy_run-one}
 use Rattle.nm_rules.proofs.RunFlushedLemmas.{claims_run-durable, copies_read_run-durable, copies_write_run-durable, loses_in_copy_run-durable, finds_run-durable, halts_run-durable, loses_in_push_run-durable, pushes_run-durable}
@@ -24,7 +24,7 @@ use Rattle.nm_stripe.specs.declared.answer.Answer.{Answer}
 use Rattle.nm_stripe.specs.declared.answer.Answer.TheVariants.{Begun, Pushed, Complete, Halted, Written, Value, Failed, MasterChanged, Joining, Copied, InSync, Synced, LegLost, Refused}
 use Rattle.nm_stripe.specs.declared.answer.Answer.TheVariants.{Nothing as NothingLeft}
 use Rattle.nm_stripe.specs.declared.step.Step.{Step}
-use Rattle.nm_stripe.specs.declared.step.Step.TheVariants.{Begin, Push, Claim, Read, Fail, Attach, Return, Replace, Copy, Promote, Sync}
+use Rattle.nm_stripe.specs.declared.step.Step.TheVariants.{Begin, Push, Claim, Read, Fail, Attach, Return, Replace, Copy, Promote, Sync, Flush}
 use Rattle.nm_stripe.specs.Begin.{RefusesBegin, ForCause as BeginCause, ForFault as BeginFault}
 use Rattle.nm_stripe.specs.Copy.{RefusesCopy, ForCause as CopyCause, ForFault as CopyFault}
 use Rattle.nm_stripe.specs.Flush.{Flushes, LeavesBlock, NoneBegins, SyncsLeg, HasSynced}
@@ -105,6 +105,9 @@ module _ {L : Type 0} (type : LegType L) (old new : StripeState L) (b : ℕ) (wa
     step-durable (Sync leg) Synced leaves is = synchronizes-durable type old new b was_free k is_honest inside leg is
     step-durable (Sync leg) (LegLost gone handed) leaves is = loses_in_sync-durable type old new b was_free k kn is_honest inside leg is.0.1
     step-durable (Sync leg) (Refused cause handed) leaves is = sync-refused leg cause is.0
+    step-durable (Flush leg) Synced leaves is = synchronizes-durable type old new b was_free k is_honest inside leg is
+    step-durable (Flush leg) (LegLost gone handed) leaves is = loses_in_flush-durable type old new b was_free k kn is_honest inside leg is.0.1
+    step-durable (Flush leg) (Refused cause handed) leaves is = sync-refused leg cause is.0
     step-durable step answer leaves is = absurd is
 
     -- a sync that is refused as AlreadyOut changes nothing, and its leg is out
@@ -119,6 +122,9 @@ module _ {L : Type 0} (type : LegType L) (old new : StripeState L) (b : ℕ) (wa
     step-makes (Sync leg) Synced j synced is = subst (λ (i : ℕ). DurableAt type.model new i b) synced (synchronizes-makes type old new b was_free k is_honest inside leg is)
     step-makes (Sync leg) (LegLost gone handed) j synced is = subst (λ (i : ℕ). DurableAt type.model new i b) synced (loses_in_sync-makes type old new b was_free k kn is_honest inside leg is.0.1)
     step-makes (Sync leg) (Refused AlreadyOut handed) j synced is = subst (λ (i : ℕ). DurableAt type.model new i b) synced (refused-out leg is.0)
+    step-makes (Flush leg) Synced j synced is = subst (λ (i : ℕ). DurableAt type.model new i b) synced (synchronizes-makes type old new b was_free k is_honest inside leg is)
+    step-makes (Flush leg) (LegLost gone handed) j synced is = subst (λ (i : ℕ). DurableAt type.model new i b) synced (loses_in_flush-makes type old new b was_free k kn is_honest inside leg is.0.1)
+    step-makes (Flush leg) (Refused AlreadyOut handed) j synced is = subst (λ (i : ℕ). DurableAt type.model new i b) synced (refused-out leg is.0)
     step-makes step answer j synced is = absurd synced
 
 module _ {L : Type 0} (type : LegType L) (b j : ℕ) (is_honest : IsTrue type.honest) where

@@ -14,12 +14,12 @@ use Rattle.nm_rules.proofs.LegLemmas.{calls-length}
 use Rattle.nm_rules.proofs.RunJoiningLemmas.{claims_run-shape, copies_read_run-shape, copies_write_run-shape, finds_run-shape, halts_run-shape, loses_in_copy_run-shape, loses_in_push_run-shape, pushes_run-shape}
 use Rattle.nm_rules.proofs.RunReadLemmas.{fails_in_read_run-last, loses_in_read_run-last}
 use Rattle.nm_rules.proofs.ShapeLemmas.{loses_in_begin-shape, fails_in_begin-shape, loses_in_read-shape, fails_in_read-shape, goes_out-shape, attaches-shape, replaces-shape, returns-shape}
-use Rattle.nm_rules.proofs.ShapeLemmas.{promotes-shape, loses_in_promote-shape, synchronizes-shape, loses_in_sync-shape, fails_in_sync-shape}
+use Rattle.nm_rules.proofs.ShapeLemmas.{promotes-shape, loses_in_promote-shape, synchronizes-shape, loses_in_flush-shape, loses_in_sync-shape, fails_in_sync-shape}
 use Rattle.nm_stripe.specs.declared.answer.Answer.{Answer}
 use Rattle.nm_stripe.specs.declared.answer.Answer.TheVariants.{Begun, Pushed, Complete, Halted, Written, Value, Failed, MasterChanged, Joining, Copied, InSync, Synced, LegLost, Refused}
 use Rattle.nm_stripe.specs.declared.answer.Answer.TheVariants.{Nothing as NothingLeft}
 use Rattle.nm_stripe.specs.declared.step.Step.{Step}
-use Rattle.nm_stripe.specs.declared.step.Step.TheVariants.{Begin, Push, Claim, Read, Fail, Attach, Return, Replace, Copy, Promote, Sync}
+use Rattle.nm_stripe.specs.declared.step.Step.TheVariants.{Begin, Push, Claim, Read, Fail, Attach, Return, Replace, Copy, Promote, Sync, Flush}
 use Rattle.nm_stripe.specs.Begin.{RefusesBegin, ForCause as BeginCause, ForFault as BeginFault}
 use Rattle.nm_stripe.specs.Copy.{RefusesCopy, ForCause as CopyCause, ForFault as CopyFault}
 use Rattle.nm_stripe.specs.Read.{RefusesRead, ForCause as ReadCause, ForFault as ReadFault}
@@ -161,6 +161,9 @@ step-shape type (Promote leg) (Refused cause handed) old new is = same old new i
 step-shape type (Sync leg) Synced old new is = synchronizes-shape type old new leg is
 step-shape type (Sync leg) (LegLost gone handed) old new is = loses_in_sync-shape type old new leg is.0.1
 step-shape type (Sync leg) (Refused cause handed) old new is = sync-refused type old new leg cause is.0
+step-shape type (Flush leg) Synced old new is = synchronizes-shape type old new leg is
+step-shape type (Flush leg) (LegLost gone handed) old new is = loses_in_flush-shape type old new leg is.0.1
+step-shape type (Flush leg) (Refused cause handed) old new is = sync-refused type old new leg cause is.0
 step-shape type step answer old new is = absurd is
 
 -- what may be asked for may still be
@@ -176,6 +179,7 @@ asked-later model (Replace leg part) old new shape asked = (rw shape.legs asked.
 asked-later model (Copy leg most from) old new shape asked = (rw shape.legs asked.0, asked.1)
 asked-later model (Promote leg) old new shape asked = rw shape.legs asked
 asked-later model (Sync leg) old new shape asked = rw shape.legs asked
+asked-later model (Flush leg) old new shape asked = rw shape.legs asked
 
 pub all_asked-later : {L : Type 0} (model : L → Leg) (steps : List (Step L)) (old new : StripeState L) → SameShape old new → AllAsked model old steps → AllAsked model new steps
 all_asked-later model [] old new shape asked = tt

@@ -9,7 +9,7 @@ use Rattle.nm_rules.specs.Reopening.{Marks}
 use Rattle.nm_rules.specs.State.{StripeState}
 use Rattle.nm_rules.proofs.AttachLemmas.{may_attach, attach-keeps}
 use Rattle.nm_rules.proofs.HaltLemmas.{begin_fault-keeps, sync_fault-keeps, copy_fault-keeps}
-use Rattle.nm_rules.proofs.LostStepLemmas.{begin_lost-keeps, sync_lost-keeps, promote_lost-keeps, fail-keeps}
+use Rattle.nm_rules.proofs.LostStepLemmas.{begin_lost-keeps, sync_lost-keeps, flush_lost-keeps, promote_lost-keeps, fail-keeps}
 use Rattle.nm_rules.proofs.ReplaceLemmas.{replace-keeps}
 use Rattle.nm_rules.proofs.ReturnLemmas.{return-keeps}
 use Rattle.nm_rules.proofs.RunClaimLemmas.{claims_run-keeps}
@@ -20,7 +20,7 @@ use Rattle.nm_stripe.specs.declared.answer.Answer.{Answer}
 use Rattle.nm_stripe.specs.declared.answer.Answer.TheVariants.{Begun, Pushed, Complete, Halted, Written, Value, Failed, MasterChanged, Joining, Copied, InSync, Synced, LegLost, Refused}
 use Rattle.nm_stripe.specs.declared.answer.Answer.TheVariants.{Nothing as NothingLeft}
 use Rattle.nm_stripe.specs.declared.step.Step.{Step}
-use Rattle.nm_stripe.specs.declared.step.Step.TheVariants.{Begin, Push, Claim, Read, Fail, Attach, Return, Replace, Copy, Promote, Sync}
+use Rattle.nm_stripe.specs.declared.step.Step.TheVariants.{Begin, Push, Claim, Read, Fail, Attach, Return, Replace, Copy, Promote, Sync, Flush}
 use Rattle.nm_stripe.specs.Begin.{RefusesBegin, ForCause as BeginCause, ForFault as BeginFault}
 use Rattle.nm_stripe.specs.Copy.{RefusesCopy, ForCause as CopyCause, ForFault as CopyFault}
 use Rattle.nm_stripe.specs.Read.{RefusesRead, ForCause as ReadCause, ForFault as ReadFault}
@@ -94,4 +94,7 @@ step-keeps type (Promote leg) (Refused cause handed) old new k asked is = same t
 step-keeps type (Sync leg) Synced old new k asked is = synced-keeps type old new leg new.legs k is.called is.after
 step-keeps type (Sync leg) (LegLost gone handed) old new k asked is = sync_lost-keeps type old new k leg is.0.1
 step-keeps type (Sync leg) (Refused cause handed) old new k asked is = sync-refused type old new k leg cause is.0
+step-keeps type (Flush leg) Synced old new k asked is = synced-keeps type old new leg new.legs k is.called is.after
+step-keeps type (Flush leg) (LegLost gone handed) old new k asked is = flush_lost-keeps type old new k leg is.0.1
+step-keeps type (Flush leg) (Refused cause handed) old new k asked is = sync-refused type old new k leg cause is.0
 step-keeps type step answer old new k asked is = absurd is

@@ -1,20 +1,20 @@
--- A sync and a promotion, from what their calls say to what they keep and do.
+-- A sync, a flush and a promotion, from what their calls say to what they keep and do.
 use Rattle.std.proofs.Common.{◌≡◌, ℕ, ◌<◌, true, false, List, [], length, slice_set, IsTrue, refl, sym, ap, ◌∙◌, subst, arith}
 use Rattle.nm_choice.specs.declared.leg_state.LegState.TheVariants.{InSync}
 use Rattle.nm_leg.specs.Leg.{LegType}
 use Rattle.nm_rules.specs.Acts.{IsExplainedStep}
 use Rattle.nm_rules.specs.Invariant.{Keeps}
-use Rattle.nm_rules.specs.Lost.{lost_all}
+use Rattle.nm_rules.specs.Lost.{lost, lost_all}
 use Rattle.nm_rules.specs.Promote.{CallsToPromote, Promotes, LosesInPromote}
 use Rattle.nm_rules.specs.State.{StripeState, is_last}
-use Rattle.nm_rules.specs.Sync.{CallsToSync, Synchronizes, LosesInSync, FailsInSync}
+use Rattle.nm_rules.specs.Sync.{CallsToSync, Synchronizes, LosesInFlush, LosesInSync, FailsInSync}
 use Rattle.nm_rules.proofs.ActsLemmas.{acts-append}
 use Rattle.nm_rules.proofs.CalledLemmas.{called-keeps, called-acts, sync-same}
 use Rattle.nm_rules.proofs.HaltLemmas.{sync_fault-keeps, sync_fault-acts}
 use Rattle.nm_rules.proofs.LegLemmas.{calls-length}
-use Rattle.nm_rules.proofs.LostStepLemmas.{sync_lost-keeps, sync_lost-acts, promote_lost-keeps, promote_lost-acts}
+use Rattle.nm_rules.proofs.LostStepLemmas.{flush_lost-keeps, flush_lost-acts, sync_lost-keeps, sync_lost-acts, promote_lost-keeps, promote_lost-acts}
 use Rattle.nm_rules.proofs.PromoteLemmas.{may_promote, promote-keeps, promote-acts}
-use Rattle.nm_stripe.proofs.LostLemmas.{lost_all-after, lost_all-legs_after}
+use Rattle.nm_stripe.proofs.LostLemmas.{lost-after, lost-legs_after, lost_all-after, lost_all-legs_after}
 
 module _ {L : Type 0} (type : LegType L) (old new : StripeState L) (leg : ℕ) (legs : List L) (k : Keeps type old) where
   -- a sync that went well
@@ -51,6 +51,21 @@ module _ {L : Type 0} (type : LegType L) (old new : StripeState L) (leg : ℕ) (
 
       pub sync-lost_explained : IsTrue type.honest → IsExplainedStep type.model [] old new
       sync-lost_explained is_honest = sync_lost-acts type old new k leg sync-loses is_honest
+
+    -- in a flush
+    module _ (not_last : is_last leg old ≡ false) (after : new ≡ lost leg (record old { legs = legs })) where
+      pub flush-loses : LosesInFlush type old new leg
+      flush-loses = record {
+        called = subst (λ (ls : List L). CallsToSync type false old ls leg) (sym (lost-legs_after leg old new legs after)) called;
+        not_last = not_last;
+        after = lost-after leg old new legs after;
+      }
+
+      pub flush-lost_keeps : Keeps type new
+      flush-lost_keeps = flush_lost-keeps type old new k leg flush-loses
+
+      pub flush-lost_explained : IsTrue type.honest → IsExplainedStep type.model [] old new
+      flush-lost_explained is_honest = flush_lost-acts type old new k leg flush-loses is_honest
 
     module _ (last : is_last leg old ≡ true) (after : new ≡ record old { legs = legs }) where
       pub sync-fails : FailsInSync type old new leg

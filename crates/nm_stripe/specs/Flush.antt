@@ -9,13 +9,16 @@ use Rattle.nm_rules.specs.State.{StripeState}
 use Rattle.nm_stripe.specs.declared.answer.Answer.{Answer}
 use Rattle.nm_stripe.specs.declared.answer.Answer.TheVariants.{Begun, Synced, LegLost, Refused}
 use Rattle.nm_stripe.specs.declared.step.Step.{Step}
-use Rattle.nm_stripe.specs.declared.step.Step.TheVariants.{Begin, Sync}
+use Rattle.nm_stripe.specs.declared.step.Step.TheVariants.{Begin, Flush, Sync}
 
--- the step synced this leg, or found or made it out
+-- the step synced or flushed this leg, or found or made it out
 abbrev pub SyncsLeg : {L : Type 0} → ℕ → Step L → Answer L → Type 0
 SyncsLeg leg (Sync other) Synced = other ≡ leg
 SyncsLeg leg (Sync other) (LegLost gone handed) = other ≡ leg
 SyncsLeg leg (Sync other) (Refused AlreadyOut handed) = other ≡ leg
+SyncsLeg leg (Flush other) Synced = other ≡ leg
+SyncsLeg leg (Flush other) (LegLost gone handed) = other ≡ leg
+SyncsLeg leg (Flush other) (Refused AlreadyOut handed) = other ≡ leg
 SyncsLeg leg step answer = ⊥
 
 -- one of the steps did

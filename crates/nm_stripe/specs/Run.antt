@@ -28,7 +28,7 @@ use Rattle.nm_stripe.specs.declared.push.Reach.TheVariants as reach
 use Rattle.nm_stripe.specs.declared.read.Reading.TheVariants as reading
 use Rattle.nm_stripe.specs.declared.step.Step.{Step}
 use Rattle.nm_stripe.specs.declared.step.Step.TheVariants.{Begin, Push, Claim, Read, Fail, Attach}
-use Rattle.nm_stripe.specs.declared.step.Step.TheVariants.{Return, Replace, Copy, Promote, Sync}
+use Rattle.nm_stripe.specs.declared.step.Step.TheVariants.{Return, Replace, Copy, Promote, Sync, Flush}
 use Rattle.nm_stripe.specs.declared.sync.Promotion.TheVariants as promotion
 use Rattle.nm_stripe.specs.declared.sync.Syncing.TheVariants as syncing
 use Rattle.nm_stripe.specs.Begin.{BeginsWith, RefusesBegin, puts_in}
@@ -36,7 +36,7 @@ use Rattle.nm_stripe.specs.Copy.{Copies, RefusesCopy}
 use Rattle.nm_stripe.specs.Fail.{Fails}
 use Rattle.nm_stripe.specs.Push.{Reaches}
 use Rattle.nm_stripe.specs.Read.{Reads, RefusesRead}
-use Rattle.nm_stripe.specs.Sync.{EndsJoining, Syncs, RefusesSync}
+use Rattle.nm_stripe.specs.Sync.{EndsJoining, FlushesLeg, Syncs, RefusesSync}
 
 -- a step that may be asked for: its blocks are a run of the stripe, its leg is there, its data and
 -- its room fit the blocks, its spans have regions, a new leg is as long as the stripe, and a copy
@@ -56,6 +56,7 @@ MayBeAsked model stripe (Replace leg part) =
 MayBeAsked model stripe (Copy leg most from) = (leg < length stripe.legs) × (0 < most)
 MayBeAsked model stripe (Promote leg) = leg < length stripe.legs
 MayBeAsked model stripe (Sync leg) = leg < length stripe.legs
+MayBeAsked model stripe (Flush leg) = leg < length stripe.legs
 
 -- each of the steps may be asked for
 abbrev pub AllAsked : {L : Type 0} → (L → Leg) → StripeState L → List (Step L) → Type 0
@@ -129,6 +130,11 @@ StepOf type (Sync leg) Synced old new = Syncs type old new leg syncing.Synced
 StepOf type (Sync leg) (LegLost gone handed) old new =
     Syncs type old new leg (syncing.LegLost gone) × (handed ≡ Nothing)
 StepOf type (Sync leg) (Refused refusal handed) old new =
+    RefusesSync type old new leg refusal × (handed ≡ Nothing)
+StepOf type (Flush leg) Synced old new = FlushesLeg type old new leg syncing.Synced
+StepOf type (Flush leg) (LegLost gone handed) old new =
+    FlushesLeg type old new leg (syncing.LegLost gone) × (handed ≡ Nothing)
+StepOf type (Flush leg) (Refused refusal handed) old new =
     RefusesSync type old new leg refusal × (handed ≡ Nothing)
 StepOf type step answer old new = ⊥
 

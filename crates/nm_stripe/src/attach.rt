@@ -29,8 +29,8 @@ impl<L: LegPart> Stripe<L> {
         Ok(self.store.left(leg))
     }
 
-    /// The leg joins as one that may have lost what it has not synced in these marked spans, each of
-    /// so many regions: it is behind also in regions of theirs where it has something unsynced.
+    /// The leg joins as one that may have lost what it has not synced in these marked spans, each
+    /// of so many regions: it is behind also in regions of theirs where it has something unsynced.
     /// Answers how many blocks are left to copy to it.
     ///
     /// Refused as `attach` is.

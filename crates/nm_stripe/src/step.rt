@@ -47,6 +47,8 @@ pub enum Step<L> {
     Promote(u8),
     /// Syncs this leg.
     Sync(u8),
+    /// Syncs this leg. Where that fails, no more of it is behind than after a failed write.
+    Flush(u8),
 }
 
 /// A refusal with nothing to hand back.
@@ -199,6 +201,21 @@ impl<L: LegPart> Stripe<L> {
         }
     }
 
+    /// A flush.
+    fn step_flush(&mut self, leg: u8) -> Answer<L>
+        requires { leg < length self.old.legs }
+        ensures step { StepOf (leg_type L.model L.honest) (Step.Flush leg) result
+            self.old self.new }
+        ensures acts { IsTrue L.honest
+            → IsExplainedStep L.model (marks (Step.Flush leg) result) self.old self.new }
+    {
+        match self.flush(leg) {
+            Ok(Syncing::Synced) => Answer::Synced,
+            Ok(Syncing::LegLost(gone)) => loss_answer(gone),
+            Err(refusal) => refusal_answer(refusal),
+        }
+    }
+
     /// Does one step, with at most one call of a leg. Each answer is one that the step may have,
     /// and the stripe is then as that answer says.
     // Inlined, with all that stands between a lane and the steps: where a call's kind of step is
@@ -232,6 +249,7 @@ impl<L: LegPart> Stripe<L> {
             Step::Copy(leg, most, from) => self.step_copy(leg, most, from),
             Step::Promote(leg) => self.step_promote(leg),
             Step::Sync(leg) => self.step_sync(leg),
+            Step::Flush(leg) => self.step_flush(leg),
         }
     }
 }

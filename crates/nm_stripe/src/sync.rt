@@ -18,12 +18,12 @@ pub enum Promotion {
     LegLost(u8),
 }
 
-/// What a sync answers.
+/// What a sync or a flush answers.
 #[derive(Clone, Copy, Debug, PartialEq, Eq)]
 pub enum Syncing {
     /// What the leg held is durable.
     Synced,
-    /// The leg's sync failed: it has gone out, and all of its regions are behind.
+    /// The leg's sync failed: it has gone out, after a sync with all of its regions behind.
     LegLost(u8),
 }
 

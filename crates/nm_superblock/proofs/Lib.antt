@@ -5,5 +5,7 @@ pub mod Reading
 pub mod Unique
 pub mod Torn
 pub mod Undamaged
+pub mod Checks
+pub mod Pieces
 pub mod Highest
 pub mod Marks

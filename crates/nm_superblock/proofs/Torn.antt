@@ -7,10 +7,10 @@ use Rattle.byteorder.specs.Endian.{big_number}
 use Rattle.byteorder.specs.Numbers.{big_from-take}
 use Rattle.nm_superblock.specs.declared.superblock.Superblock.{Superblock}
 use Rattle.nm_superblock.specs.Bounds.{IsSuperblock}
-use Rattle.nm_superblock.specs.Layout.{payload_bytes, slot_bytes}
-use Rattle.nm_superblock.specs.Sectors.{sector_of, stamp_of}
+use Rattle.nm_superblock.specs.Layout.{header_bytes, payload_bytes, slot_bytes}
+use Rattle.nm_superblock.specs.Sectors.{HasMagic, sector_of, stamp_of}
 use Rattle.nm_superblock.specs.Slots.{HasStampsBelow, IsTorn, IsTornSave, Place, ReadsAs, ReadsPlace, TornIsOldOrNew, newer_of, writes_second}
-use Rattle.nm_superblock.proofs.Standing.{length-sectors}
+use Rattle.nm_superblock.proofs.Standing.{length-sectors, sector-is}
 use Rattle.nm_superblock.proofs.Unique.{length-payload, slot-stamp, slots-are_read}
 
 -- a slot has 4,096 bytes
@@ -27,6 +27,16 @@ in-sector number slot =
 
 pub same-stamp : (number : ℕ) (a b : List ℕ) → sector_of number a ≡ sector_of number b → stamp_of number a ≡ stamp_of number b
 same-stamp number a b is = in-sector number a ∙ ap (λ (xs : List ℕ). big_number 8 (drop 8 xs)) is ∙ sym (in-sector number b)
+
+-- its first bytes too
+pub same-magic : (number : ℕ) (a b : List ℕ) → sector_of number a ≡ sector_of number b → HasMagic number a → HasMagic number b
+same-magic number a b is magic = ap (take 4) (sym is) ∙ magic
+
+-- which are those of each sector of a superblock's slot
+slot-magic : (s : Superblock) (number : ℕ) → IsSuperblock s → number < 8 → HasMagic number (slot_bytes s)
+unfolding slot_bytes header_bytes
+slot-magic s number is below =
+    ap (take 4) (sector-is s.version s.generation 8 number (payload_bytes s) below (omega (arith, length-payload s is)))
 
 -- slots whose sectors are the same are the same
 same-up : (n : ℕ) (a b : List ℕ) → n ≤ 8 → ((number : ℕ) → number < 8 → sector_of number a ≡ sector_of number b) → take (512 * n) a ≡ take (512 * n) b
@@ -57,6 +67,9 @@ one-read slot (Some s) (Some t) ra rb = ap (λ (x : Superblock). Some x) (slots-
 read-stamp : (slot : List ℕ) (s : Superblock) (number : ℕ) → ReadsAs slot (Some s) → number < 8 → stamp_of number slot ≡ s.generation
 read-stamp slot s number reads below = ap (stamp_of number) reads.1 ∙ slot-stamp s number reads.0 below
 
+pub read-magic : (slot : List ℕ) (s : Superblock) (number : ℕ) → ReadsAs slot (Some s) → number < 8 → HasMagic number slot
+read-magic slot s number reads below = subst (λ (xs : List ℕ). HasMagic number xs) (sym reads.1) (slot-magic s number reads.0 below)
+
 -- what a torn slot is read as
 torn-slot : (old left : List ℕ) (new : Superblock) (r w : Option Superblock) → IsSuperblock new → length old ≡ 4096 → HasStampsBelow new.generation old
     → IsTorn old (slot_bytes new) left → ReadsAs old r → ReadsAs left w → (w ≡ None) ⊎ ((w ≡ r) ⊎ (w ≡ Some new))
@@ -78,7 +91,7 @@ torn-slot old left new r (Some s) is size below torn reads reads_left =
         ⊎_elim
         (λ was.
         let stamp = sym (same-stamp number left old was) ∙ read-stamp left s number reads_left room ∙ same in
-        let low = below number room in
+        let low = below number room (same-magic number left old was (read-magic left s number reads_left room)) in
         absurd (omega (arith, stamp, low)))
         (λ now. now)
         (torn.sectors number room))
@@ -153,7 +166,7 @@ lower-than : (slot : List ℕ) (new : Superblock) (r : Option Superblock) → Ha
     → (x : Superblock) → r ≡ Some x → x.generation < new.generation
 lower-than slot new r below reads x is =
     let here = subst (λ (o : Option Superblock). ReadsAs slot o) is reads in
-    subst (λ (k : ℕ). k < new.generation) (read-stamp slot x 0 here (omega arith)) (below 0 (omega arith))
+    subst (λ (k : ℕ). k < new.generation) (read-stamp slot x 0 here (omega arith)) (below 0 (omega arith) (read-magic slot x 0 here (omega arith)))
 
 -- by which slot was written
 by-slot : (v : Bool) (old left : Place) (new : Superblock) (a b c d : Option Superblock)

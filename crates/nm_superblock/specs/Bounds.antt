@@ -7,9 +7,9 @@ pub record IsUntold (s : Superblock) : Type 0 where
   pub identities : s.identities.words ≡ replicate 32 0
   pub changed : s.changed ≡ replicate 8 0
 
--- it is of version 2, or of version 1 and tells no more than that has
+-- it is of version 2 or 3, or of version 1 and tells no more than that has
 abbrev pub HasVersion : Superblock → Type 0
-HasVersion s = ((s.version ≡ 1) × IsUntold s) ⊎ (s.version ≡ 2)
+HasVersion s = ((s.version ≡ 1) × IsUntold s) ⊎ ((s.version ≡ 2) ⊎ (s.version ≡ 3))
 
 -- each number is within its bounds
 pub record IsInBounds (s : Superblock) : Type 0 where

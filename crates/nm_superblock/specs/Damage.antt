@@ -1,5 +1,6 @@
 -- Which slots are damaged, and not new or torn: bytes stand there that no save has left.
-use Rattle.std.specs.Prelude.{◌≡◌, ◌⊎◌, ◌<◌, ◌≤◌, ℕ, List, length, take, None}
+use Rattle.std.specs.Prelude.{◌≡◌, ◌≢◌, ◌⊎◌, ◌<◌, ◌≤◌, ◌+◌, ◌*◌, ℕ, List, length, take}
+use Rattle.std.specs.Prelude.{slice_index, slice_set, None}
 use Rattle.nm_superblock.specs.declared.superblock.Superblock.{Superblock}
 use Rattle.nm_superblock.specs.Bounds.{IsSuperblock}
 use Rattle.nm_superblock.specs.Layout.{header_bytes, slot_bytes, zeroes}
@@ -14,7 +15,7 @@ HasHeadOf version number slot =
 -- a sector's head is valid: it is that of its number under its stamp, which is not 0
 pub record HasHead (number : ℕ) (slot : List ℕ) : Type 0 where
   pub stamp : 1 ≤ stamp_of number slot
-  pub head : HasHeadOf 1 number slot ⊎ HasHeadOf 2 number slot
+  pub head : HasHeadOf 1 number slot ⊎ (HasHeadOf 2 number slot ⊎ HasHeadOf 3 number slot)
 
 -- each head is valid, and all have one stamp, as only a save that was whole leaves them
 abbrev pub HasOneStamp : List ℕ → Type 0
@@ -49,3 +50,17 @@ TornIsUndamaged =
     (old left : List ℕ) (new : Superblock) → IsSuperblock new → length old ≡ 4096
     → HasStampsBelow new.generation old → IsTorn old (slot_bytes new) left
     → (IsDamaged old → ⊥) → IsDamaged left → ⊥
+
+-- A superblock of version 3 of which one byte of a header changed is damaged, and not torn.
+abbrev pub ChangedHeadIsDamaged : Type 0
+ChangedHeadIsDamaged =
+    (s : Superblock) (number at byte : ℕ) → IsSuperblock s → s.version ≡ 3 → number < 8
+    → at < 16 → byte < 256 → byte ≢ slice_index (slot_bytes s) (512 * number + at)
+    → IsDamaged (slice_set (slot_bytes s) (512 * number + at) byte)
+
+-- And one of which a byte behind a header changed is damaged, unless it then is a superblock's.
+abbrev pub ChangedPieceIsDamaged : Type 0
+ChangedPieceIsDamaged =
+    (s : Superblock) (number at byte : ℕ) → IsSuperblock s → number < 8 → 16 ≤ at → at < 512
+    → ReadsAs (slice_set (slot_bytes s) (512 * number + at) byte) None
+    → IsDamaged (slice_set (slot_bytes s) (512 * number + at) byte)

@@ -1,6 +1,6 @@
 -- The bytes of a superblock: eight sectors of 512 bytes, each a header and a piece of the payload.
-use Rattle.std.specs.Prelude.{ℕ, zero, suc, ◌*◌, if◌then◌else◌, List, [], ◌∷◌, ◌++◌}
-use Rattle.std.specs.Prelude.{take, drop, replicate}
+use Rattle.std.specs.Prelude.{ℕ, zero, suc, ◌+◌, ◌*◌, ◌^◌, ◌%◌, nat_lt, if◌then◌else◌}
+use Rattle.std.specs.Prelude.{List, [], ◌∷◌, ◌++◌, take, drop, replicate}
 use Rattle.std.specs.List.{flat_map}
 use Rattle.std.specs.Int.{bytes_high_first}
 use Rattle.sha2.specs.Sha256.{sha256}
@@ -39,10 +39,21 @@ digest_bytes s = take 8 (sha256 (head_bytes s ++ zeroes 8 ++ tail_bytes s))
 unfoldable pub payload_bytes : Superblock → List ℕ
 payload_bytes s = head_bytes s ++ digest_bytes s ++ tail_bytes s
 
--- a sector's header, 16 bytes: "NMRS", the version, the sector's number, two zeroes, and the stamp
+-- what a header's other 14 bytes are as one number
+abbrev pub head_number : (version generation number : ℕ) → ℕ
+head_number version generation number =
+    ((0x4e4d5253 * 256 + version) * 256 + number) * 2 ^ 64 + generation
+
+-- by what a header of version 3 checks itself, which is never 0, as it is in those before
+unfoldable pub check_of : (version generation number : ℕ) → ℕ
+check_of version generation number =
+    if nat_lt version 3 then 0 else 1 + head_number version generation number % 65521
+
+-- a sector's header, 16 bytes: "NMRS", the version, the sector's number, the check, and the stamp
 unfoldable pub header_bytes : (version generation number : ℕ) → List ℕ
 header_bytes version generation number =
-    (0x4e ∷ 0x4d ∷ 0x52 ∷ 0x53 ∷ version ∷ number ∷ 0 ∷ 0 ∷ []) ++ be 8 generation
+    (0x4e ∷ 0x4d ∷ 0x52 ∷ 0x53 ∷ version ∷ number ∷ [])
+    ++ be 2 (check_of version generation number) ++ be 8 generation
 
 -- the piece of the payload that a sector has, 496 bytes
 abbrev pub piece_bytes : (number : ℕ) → List ℕ → List ℕ

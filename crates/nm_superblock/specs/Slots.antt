@@ -4,7 +4,7 @@ use Rattle.std.specs.Prelude.{List, length, Option, None, Some}
 use Rattle.nm_superblock.specs.declared.superblock.Superblock.{Superblock}
 use Rattle.nm_superblock.specs.Bounds.{IsSuperblock}
 use Rattle.nm_superblock.specs.Layout.{slot_bytes}
-use Rattle.nm_superblock.specs.Sectors.{sector_of, stamp_of}
+use Rattle.nm_superblock.specs.Sectors.{HasMagic, sector_of, stamp_of}
 
 -- what a slot is read as: the superblock whose bytes it has, or nothing where it has none's
 abbrev pub ReadsAs : List ℕ → Option Superblock → Type 0
@@ -35,14 +35,17 @@ writes_second None second = false
 writes_second (Some a) None = true
 writes_second (Some a) (Some b) = if nat_lt a.generation b.generation then false else true
 
--- each stamp that stands in a slot is lower than this, in sectors of no superblock too
+-- each stamp that stands in a slot is lower than this, in sectors of no superblock too, if they
+-- begin as one's
 abbrev pub HasStampsBelow : ℕ → List ℕ → Type 0
-HasStampsBelow generation slot = (number : ℕ) → number < 8 → stamp_of number slot < generation
+HasStampsBelow generation slot =
+    (number : ℕ) → number < 8 → HasMagic number slot → stamp_of number slot < generation
 
--- the highest stamp in the first sectors of a slot: none is higher, and it is one of them
+-- the highest stamp in the first sectors of a slot: none is higher, and it is one of them, or 0
 pub record IsHighestStamp (count : ℕ) (slot : List ℕ) (stamp : ℕ) : Type 0 where
-  pub bound : (number : ℕ) → number < count → stamp_of number slot ≤ stamp
-  pub stands : (number : ℕ) × (number < count) × (stamp_of number slot ≡ stamp)
+  pub bound : (number : ℕ) → number < count → HasMagic number slot → stamp_of number slot ≤ stamp
+  pub stands : (stamp ≡ 0) ⊎ ((number : ℕ) × (number < count) × HasMagic number slot
+      × (stamp_of number slot ≡ stamp))
 
 -- the generation is above this one, and above each stamp of a place
 pub record IsAbove (generation after : ℕ) (first second : List ℕ) : Type 0 where

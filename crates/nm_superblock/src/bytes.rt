@@ -7,6 +7,14 @@ ghost use Rattle.nm_superblock.specs.Layout.{be, table_bytes, zeroes};
 
 use byteorder::{BigEndian, ByteOrder};
 
+// Writes the number as 2 bytes at offset `at`.
+pub(crate) fn put_u16(bytes: &mut [u8], at: usize, number: u16)
+    requires { at + 2 ≤ length bytes.old }
+    ensures { take (at + 2) bytes.new ≡ take at bytes.old ++ be 2 number }
+{
+    BigEndian::write_u16(&mut bytes[at..at + 2], number);
+}
+
 // Writes the number as 4 bytes at offset `at`.
 pub(crate) fn put_u32(bytes: &mut [u8], at: usize, number: u32)
     requires { at + 4 ≤ length bytes.old }

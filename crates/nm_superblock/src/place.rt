@@ -3,7 +3,7 @@ ghost use Rattle.std.specs.Prelude.{◌≡◌, ◌⊎◌, ◌≤◌, ◌^◌, If
 ghost use Rattle.nm_superblock.specs.Slots.{IsHighestStamp, IsNextGeneration, IsPastAll, newer_of};
 ghost use Rattle.nm_superblock.specs.Slots.{writes_second};
 
-use crate::sectors::read_stamp;
+use crate::sectors::read_tried;
 use crate::superblock::Superblock;
 
 /// Of the superblocks in a place's two slots the newer one, which is the place's.
@@ -28,8 +28,9 @@ pub fn is_second_written(first: &Option<Superblock>, second: &Option<Superblock>
     }
 }
 
-/// The first generation above this one and above each stamp in a place's slots, whatever they hold:
-/// a save of it is told from all that was tried there. None where there is no number left.
+/// The first generation above this one and above each stamp in a place's slots, in sectors that
+/// begin as a superblock's: a save of it is told from all that was tried there. None where there is
+/// no number left.
 pub fn next_generation(after: u64, first: &[u8; 4096], second: &[u8; 4096]) -> Option<u64>
     ensures some { IfSome result (λ n. IsNextGeneration n after first.now second.now) }
     ensures none { IfNone result (IsPastAll (2 ^ 64) after first.now second.now) }
@@ -38,13 +39,14 @@ pub fn next_generation(after: u64, first: &[u8; 4096], second: &[u8; 4096]) -> O
     higher(after, stamps).checked_add(1)
 }
 
-/// The highest stamp in a slot's sectors, whatever the slot holds.
+/// The highest stamp in a slot's sectors that begin as a superblock's, of whatever version; 0 where
+/// none does.
 pub fn highest_stamp(slot: &[u8; 4096]) -> u64
     ensures { IsHighestStamp 8 slot.now result }
 {
-    let mut highest = read_stamp(slot, 0);
-    'sectors: for number in 1..8 {
-        highest = higher(highest, read_stamp(slot, number));
+    let mut highest = 0;
+    'sectors: for number in 0..8 {
+        highest = higher(highest, read_tried(slot, number));
     }
     highest
 }

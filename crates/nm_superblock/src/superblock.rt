@@ -12,7 +12,8 @@ use crate::span_map::SpanMap;
 /// current.
 #[derive(Clone, Copy, Debug, PartialEq, Eq)]
 pub struct Superblock {
-    /// The version of its format: 1, which tells of no identities, or 2.
+    /// The version of its format: 1, which tells of no identities, 2, or 3, whose headers check
+    /// themselves.
     pub version: u8,
     /// Its number: each save has a greater one than any before it.
     pub generation: u64,
@@ -69,7 +70,7 @@ impl Superblock {
     {
         match self.version {
             1 => self.identities.words == [0; 32] && self.changed == [0; 8],
-            version => version == 2,
+            version => version == 2 || version == 3,
         }
     }
 

@@ -19,6 +19,7 @@ returns-clause-ok c =
       master = said_number_if_any f rows (codes "master") _ refl c.in_ok-master.ensures.some c.in_ok-master.ensures.none;
       start = said_text f rows (codes "start") _ refl c.in_ok-start.ensures.ok;
       superblock = said_place f rows (codes "superblock") _ refl c.in_ok-superblock.ensures.ok;
+      names_superblock = c.is_named-2.ensures;
       superblock_from = said_place_if_any f rows (codes "superblock-from") _ refl
           c.place_from-superblock_from.ensures;
       degraded = said_flag f rows (codes "degraded") _ refl c.get_flag.ensures.value
@@ -27,8 +28,10 @@ returns-clause-ok c =
           c.in_ok-force_master.ensures.some c.in_ok-force_master.ensures.none;
       added = said_all f rows (codes "add-leg") _ refl c.in_ok-added.ensures.ok;
       moved = said_all f rows (codes "moved") _ refl c.in_ok-moved.ensures.ok;
+      shrink = said_flag f rows (codes "shrink") _ refl c.get_flag-2.ensures.value
+          c.get_flag-2.ensures.other;
       auto_attach = said_flag f rows (codes "auto-attach") _ refl
-          c.get_flag-2.ensures.value c.get_flag-2.ensures.other;
+          c.get_flag-3.ensures.value c.get_flag-3.ensures.other;
       copy_rate = said_number_if_any f rows (codes "copy-rate") _ refl
           c.in_ok-copy_rate.ensures.some c.in_ok-copy_rate.ensures.none;
       leg_timeout = said_number_if_any f rows (codes "leg-timeout") _ refl
@@ -36,11 +39,11 @@ returns-clause-ok c =
       sessions = said_number f rows (codes "sessions") _ refl c.in_ok-sessions.ensures.ok;
       idle_limit = said_number_if_any f rows (codes "idle-limit") _ refl
           c.in_ok-idle_limit.ensures.some c.in_ok-idle_limit.ensures.none;
-      verbose = said_flag f rows (codes "verbose") _ refl c.get_flag-3.ensures.value
-          c.get_flag-3.ensures.other;
-      read_only = said_flag f rows (codes "read-only") _ refl c.get_flag-4.ensures.value
+      verbose = said_flag f rows (codes "verbose") _ refl c.get_flag-4.ensures.value
           c.get_flag-4.ensures.other;
+      read_only = said_flag f rows (codes "read-only") _ refl c.get_flag-5.ensures.value
+          c.get_flag-5.ensures.other;
       force_in_use = said_flag f rows (codes "force-in-use") _ refl
-          c.get_flag-5.ensures.value c.get_flag-5.ensures.other;
+          c.get_flag-6.ensures.value c.get_flag-6.ensures.other;
       legs = said_words f rows (codes "leg") _ refl c.in_ok-legs.ensures.ok;
     }

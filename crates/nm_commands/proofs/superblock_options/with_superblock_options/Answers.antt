@@ -15,5 +15,7 @@ returns-clause-ok c =
     ∙ ap₂ with_rule two c.bare_number_option-force_master.ensures.rule in
     let four = c.in_ok-with_add_leg.ensures.shape c.repeated_option-add_leg.ensures.own
     ∙ ap₂ with_rule three c.repeated_option-add_leg.ensures.rule in
-    c.in_ok-command.ensures.shape c.repeated_option-moved.ensures.own
-    ∙ ap₂ with_rule four c.repeated_option-moved.ensures.rule
+    let five = c.in_ok-with_moved.ensures.shape c.repeated_option-moved.ensures.own
+    ∙ ap₂ with_rule four c.repeated_option-moved.ensures.rule in
+    c.in_ok-command.ensures.shape c.flag-shrink.ensures.own
+    ∙ ap₂ with_rule five c.flag-shrink.ensures.rule

@@ -9,7 +9,7 @@ use Rattle.nm_lanes.proofs.flushing.sync_by.Goals as goal
 pub returns-then-pieces-eq0-clause-ok : goal.returns-then-pieces-eq0-clause-ok
 returns-then-pieces-eq0-clause-ok g c =
     let none : touched (record { offset = c.args.offset; length = c.args.len }) ≡ 0 = search rules in
-    let laws = g.met.D.Lane g.world.𝓛 g.world.𝓜 g.world.𝓡 ((λ s x. x), (λ x. x), (λ x. x), λ x. x) in
+    let laws = g.met.D.Lane in
     flush-none g.D.Lane.follows laws.stays c.args.lanes.now c.args.shape.now.legs (Touches c.args.shape.now (record { offset = c.args.offset; length = c.args.len })) (λ stripe a. omega (arith, none, a.inside))
 
 pub returns-in-Ok-clause-ok : goal.returns-in-Ok-clause-ok

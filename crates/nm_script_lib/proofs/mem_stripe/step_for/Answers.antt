@@ -4,4 +4,4 @@ use Rattle.nm_script_lib.proofs.mem_stripe.step_for.Goals as goal
 pub returns-in_ok-part-in-Replace-clause-asked : goal.returns-in_ok-part-in-Replace-clause-asked
 returns-in_ok-part-in-Replace-clause-asked c =
     replacement_asked c.args.mirror.now c.args.step c.in-Replace.leg c.in-Replace.fill
-    c.in_ok-part-in-Replace.part c.in-Replace.is c.in_ok-part-in-Replace.ensures.ok
+    c.in_ok-part-in-Replace.part c.in-Replace.is c.in_ok-part-in-Replace.ensures.part

@@ -1,5 +1,5 @@
 -- The number has one bit more than its highest power of two.
-use Rattle.std.proofs.Common.{arith, ◌≡◌, ◌+◌, ◌-◌, ◌*◌, ◌<◌, ◌≤◌, ◌^◌}
+use Rattle.std.proofs.Common.{arith, ◌≡◌, ◌+◌, ◌-◌, ◌*◌, ◌<◌, ◌^◌}
 use Rattle.std.proofs.lemmas.Grind.{pow_more}
 use Rattle.nm_service.proofs.Powers.{power_below}
 use Rattle.nm_service.proofs.latency.latency_bucket.Goals as goal

@@ -1,5 +1,5 @@
 -- Among the seats so far the one that was found has been idle longest.
-use Rattle.std.proofs.Common.{◌≡◌, ℕ, ◌<◌, ◌≤◌, List, length, Option, Some, None}
+use Rattle.std.proofs.Common.{ℕ, ◌<◌, ◌≤◌, List, Option, Some, None}
 use Rattle.nm_service.specs.declared.seats.Seat.{Seat}
 use Rattle.nm_service.specs.Seating.{IsIdleSince}
 use Rattle.nm_service.proofs.seats.idle_longest.Given as goal

@@ -11,7 +11,7 @@ pub invariant_of-self-in-Ok : goal.invariant_of-self-in-Ok
 invariant_of-self-in-Ok g c =
     let leg = c.args.self.now in
     let is_whole : IsTrue c.is_whole.result = search rules in
-    record { bounds = leg.bounds; inside = leg.inside; owns = owns-kept _ leg.stripe leg.shape (g.M.Medium.held leg.medium) (g.M.Medium.held c.sync.new.self) c.sync.ensures.own leg.owns; rules = rules-synced _ _ leg.stripe leg.shape leg.writes leg.dirty leg.bounds leg.rules _ _ _ (c.is_whole.ensures.0 is_whole) (search rules) (ends-sizes c.is_doubted.result leg.writes _ c.end_period.ensures) c.sync.ensures }
+    record { bounds = leg.bounds; inside = leg.inside; owns = owns-kept _ leg.stripe leg.shape (g.M.Medium.held leg.medium) (g.M.Medium.held c.sync.new.self) c.sync.ensures.own leg.owns; rules = rules-synced _ _ leg.stripe leg.shape leg.writes leg.dirty leg.bounds leg.rules _ _ _ (c.is_whole.ensures.0 is_whole) (search rules) (ends-sizes c.is_doubted-self.result leg.writes _ c.end_period.ensures) c.sync.ensures }
 
 pub invariant_of-self-in-Err : goal.invariant_of-self-in-Err
 invariant_of-self-in-Err g c =

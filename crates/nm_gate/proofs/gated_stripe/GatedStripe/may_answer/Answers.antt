@@ -1,4 +1,4 @@
--- A claim and a sync are refused by the same conditions.
+-- A claim, a sync and a flush are refused by the same conditions.
 use Rattle.nm_gate.proofs.Asked.{saved-refused}
 use Rattle.nm_gate.proofs.gated_stripe.GatedStripe.may_answer.Goals as goal
 

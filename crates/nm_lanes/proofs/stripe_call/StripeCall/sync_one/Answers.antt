@@ -16,7 +16,7 @@ returns-in_err-try_sync_once-clause-err g c =
 
 pub returns-then-branch-clause-ok : goal.returns-then-branch-clause-ok
 returns-then-branch-clause-ok g c =
-    does-completes g.D.Lane.follows g.met.D.Lane.joins c.args.lane.now c.loop.lane c.try_sync_once.new.lane (step.Sync c.args.leg) (SyncsOrFindsOut c.args.leg (step.Sync c.args.leg))
+    does-completes g.D.Lane.follows g.met.D.Lane.joins c.args.lane.now c.loop.lane c.try_sync_once.new.lane (step.Flush c.args.leg) (SyncsOrFindsOut c.args.leg (step.Flush c.args.leg))
     c.loop.invariant.does (rw c.if-branch.true at c.in_ok-try_sync_once.ensures.ok)
 
 pub loop-preserved : goal.loop-preserved

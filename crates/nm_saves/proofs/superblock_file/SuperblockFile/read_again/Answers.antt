@@ -12,11 +12,11 @@ invariant_of-self-2 g c =
     let first = c.read_slots.new.first in
     let second = c.read_slots.new.second in
     let highest = c.max-self-inside.result in
-    let first_up_to : HasStampsUpTo highest first = λ number below.
-    let bound = stamps-first first a b c.max-found.result c.highest_stamp.ensures c.max-found.ensures number below in
+    let first_up_to : HasStampsUpTo highest first = λ number below magic.
+    let bound = stamps-first first a b c.max-found.result c.highest_stamp.ensures c.max-found.ensures number below magic in
     omega (arith, bound, c.max-self-inside.ensures) in
-    let second_up_to : HasStampsUpTo highest second = λ number below.
-    let bound = stamps-second second a b c.max-found.result c.highest_stamp-2.ensures c.max-found.ensures number below in
+    let second_up_to : HasStampsUpTo highest second = λ number below magic.
+    let bound = stamps-second second a b c.max-found.result c.highest_stamp-2.ensures c.max-found.ensures number below magic in
     omega (arith, bound, c.max-self-inside.ensures) in
     sound-read g.F.SlotFile.honest (g.F.SlotFile.held c.read_slots.new.file) first second c.decode-self-inside.result c.decode-self-inside-2.result highest c.is_place_damaged-self-inside.result
     (λ honest. c.in_ok-read_slots.ensures.durably honest refl) c.read_slots.array_long c.read_slots.array_long2

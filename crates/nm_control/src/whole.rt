@@ -1,0 +1,92 @@
+//! The answer to `status`: each stripe, and the mirror as a whole.
+
+use crate::controlled::Controlled;
+use crate::replacing::RenewsLegs;
+use nm_commands::VERSION;
+use nm_lanes::Gate;
+use nm_leg::LegPart;
+use nm_leg_files::MakesLegs;
+use nm_mirror::{Glance, StripeStatus};
+use nm_reports::is_printable;
+use nm_service::Ailments;
+use nm_stripe::LegState;
+use std::alloc::{AllocError, Global};
+use std::sync::Wait;
+use std::time::Clock;
+
+/// How many bytes a block has.
+const BLOCK_BYTES: u64 = nm_replay::BLOCK_BYTES as u64;
+
+// Counts what is not well in a stripe that was just seen.
+fn count_stripe(glance: &Glance, found: &mut Ailments) {
+    match glance.told() {
+        None => found.busy = found.busy.saturating_add(1),
+        Some(StripeStatus::Stopped) => found.stopped = found.stopped.saturating_add(1),
+        Some(StripeStatus::Running { legs, .. }) => {
+            for leg in legs {
+                match leg.state {
+                    LegState::InSync => (),
+                    LegState::Joining => found.copied = found.copied.saturating_add(1),
+                    LegState::Out => found.out = found.out.saturating_add(1),
+                }
+            }
+        }
+    }
+}
+
+// What is not well in the mirror, whose stripes were just seen.
+fn ailments<R: Wait + Clock, L: LegPart, G: Gate + Drop, N: RenewsLegs<L>, M: MakesLegs<L>>(
+    rt: &R,
+    server: &Controlled<'_, L, G, N, M>,
+    glances: &[Glance],
+) -> Ailments {
+    let (orders, saves) = (server.orders, server.info.saves());
+    let mut found = Ailments {
+        stopped: 0,
+        out: 0,
+        unread: server.unread.count(rt),
+        failed_reads: orders.doubts().failed_reads(),
+        differing: orders.verify().verified(rt).differing,
+        unsaved: u64::from(saves.has_failed()),
+        copied: 0,
+        busy: 0,
+    };
+    for glance in glances {
+        count_stripe(glance, &mut found);
+    }
+    found
+}
+
+// Puts how well the mirror is, in one word, its export, whose name stands there if it is printable,
+// and the server's version.
+fn put_whole<R: Wait + Clock, L: LegPart, G: Gate + Drop, N: RenewsLegs<L>, M: MakesLegs<L>>(
+    rt: &R,
+    server: &Controlled<'_, L, G, N, M>,
+    glances: &[Glance],
+    text: &mut String,
+) -> Result<(), AllocError> {
+    let word = ailments(rt, server, glances).health().word();
+    let bytes = server.mirror.shape().blocks.saturating_mul(BLOCK_BYTES);
+    write!(text, "mirror: {word}\nexport: size {bytes}")?;
+    if is_printable(server.name) {
+        write!(text, " name {}", server.name)?;
+    }
+    writeln!(text, "\nserver: version {VERSION}")
+}
+
+/// The answer to `status`.
+pub fn put_status<R: Wait + Clock, L: LegPart, G: Gate + Drop, N: RenewsLegs<L>, M: MakesLegs<L>>(
+    rt: &R,
+    alloc: Global,
+    server: &Controlled<'_, L, G, N, M>,
+    text: &mut String,
+) -> Result<(), AllocError> {
+    let Ok(stripes) = server.mirror.glance(rt, alloc) else {
+        return Err(AllocError);
+    };
+    for (stripe, glance) in stripes.iter().enumerate() {
+        writeln!(text, "stripe {stripe}: {glance}")?;
+    }
+    put_whole(rt, server, &stripes, text)?;
+    text.push_str("end\n")
+}
