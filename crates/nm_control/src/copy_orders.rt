@@ -172,11 +172,11 @@ impl CopyOrders {
         Some(counts)
     }
 
-    /// Takes the leg out where it has to be since a call of it failed: of every stripe in which it is
-    /// not the last in sync where it fails as a whole, else of those whose copies it would spoil.
-    /// It is not noted as taken out by hand. Then what was seen failing is handled: whether it is the
-    /// first since the leg came back. Nothing is done while a command on legs is under way, which
-    /// may have the leg come back, or it is being replaced.
+    /// Takes the leg out where it has to be since a call of it failed: of every stripe in which it
+    /// is not the last in sync where it fails as a whole, else of those whose copies it would
+    /// spoil. It is not noted as taken out by hand. Then what was seen failing is handled: whether
+    /// it is the first since the leg came back. Nothing is done while a command on legs is under
+    /// way, which may have the leg come back, or it is being replaced.
     pub fn take_out_failed<R: Wait, L: LegPart, G: Gate + Drop>(
         &self,
         rt: &R,
@@ -281,8 +281,8 @@ impl CopyOrders {
         legs.saturating_sub(retired)
     }
 
-    /// Takes the last leg out of every stripe for good. Where that is not done once it is out, it is
-    /// out by hand.
+    /// Takes the last leg out of every stripe for good. Where that is not done once it is out, it
+    /// is out by hand.
     pub fn retire<R: Wait, L: LegPart, G: Gate + Drop, N: RenewsLegs<L>>(
         &self,
         rt: &R,

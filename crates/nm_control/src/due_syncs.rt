@@ -27,8 +27,8 @@ impl DueSyncs {
     }
 
     /// Takes a turn at this time, in milliseconds. Where something is due it syncs the legs' files
-    /// first, outside every lock, and then one stripe right after the other, so that what is written
-    /// under a stripe's lock is what came during the sync before.
+    /// first, outside every lock, and then one stripe right after the other, so that what is
+    /// written under a stripe's lock is what came during the sync before.
     pub fn turn<R: Wait, L: LegPart, G: Gate + Drop>(
         &mut self,
         rt: &R,

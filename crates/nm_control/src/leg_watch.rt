@@ -29,8 +29,8 @@ fn fails_as_a_whole(place: &LegPlace, failure: Failure) -> Option<bool> {
     }
 }
 
-// Whether the leg is still in sync in the stripe of this byte: then a read that failed there left it
-// where it was.
+// Whether the leg is still in sync in the stripe of this byte: then a read that failed there left
+// it where it was.
 fn is_in_sync_at<R: Wait + Clock, L: LegPart, G: Gate + Drop>(
     rt: &R,
     alloc: Global,

@@ -1,4 +1,4 @@
--- Runs of region: the stripes that their blocks lie in, and their halves.
+-- Runs of region: the stripes that their blocks lie in.
 use Rattle.std.proofs.Common.{◌≡◌, inl, inr, ℕ, ◌+◌, ◌-◌, ◌*◌, ◌/◌, ◌%◌, ◌<◌, ◌≤◌, List, min, refl, sym, ap, ◌∙◌, arith, mul-le-mul_right, div-add-mod'}
 use Rattle.std.proofs.Math.Nat.{mul-mod_left, div-le_self}
 use Rattle.std.proofs.lemmas.Bool.Decides.{eqb_tells}

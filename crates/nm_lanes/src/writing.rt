@@ -29,8 +29,8 @@ use std::sync::Wait;
 /// # Errors
 ///
 /// `WriteFault::Memory` where the cuts are refused their memory, and no step was done.
-/// `WriteFault::Io` where a stripe could not go on, which ends the call. In each stripe the first of
-/// its runs were written, and the next one's write may have begun.
+/// `WriteFault::Io` where a stripe could not go on, which ends the call. In each stripe the first
+/// of its runs were written, and the next one's write may have begun.
 pub fn write_by<'a, L: LegPart, K, D: Lane<L, K>, R: Wait, G: Gate>(
     rt: &'a R,
     alloc: Global,

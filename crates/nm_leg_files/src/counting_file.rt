@@ -61,8 +61,8 @@ impl CountingFile {
         self.counts.note_fault(error);
     }
 
-    // Reads the bytes once again that a read left out which came short, so that it is known why: how
-    // many it found. The file may have been cut there.
+    // Reads the bytes once again that a read left out which came short, so that it is known why:
+    // how many it found. The file may have been cut there.
     fn read_rest(&mut self, at: u64, rest: &mut [u8]) -> usize {
         match self.file.read_at(at, rest) {
             Ok(found) => {

@@ -12,8 +12,8 @@ use std::fs::File;
 use std::os::unix::fs::FileTypeExt;
 use std::rt::Files;
 
-/// Takes superblocks to be inside the legs where the words do not say where they are, and a leg is a
-/// block device: beside that they would not outlive a restart.
+/// Takes superblocks to be inside the legs where the words do not say where they are, and a leg is
+/// a block device: beside that they would not outlive a restart.
 pub fn settle_place<R: Files<File = File>>(rt: &R, settings: &mut Settings<'_>) {
     if settings.names_superblock {
         return;
@@ -67,8 +67,8 @@ pub fn check_none_inside<'a>(files: &LegFiles) -> Result<(), StartFault<'a>> {
     Ok(())
 }
 
-/// Refuses the first leg that has a superblock inside it, where none are kept. Where a leg was named
-/// as the newest by force, these superblocks are made invalid.
+/// Refuses the first leg that has a superblock inside it, where none are kept. Where a leg was
+/// named as the newest by force, these superblocks are made invalid.
 pub fn leave_none_inside<'a>(
     settings: &Settings<'_>,
     files: &LegFiles,

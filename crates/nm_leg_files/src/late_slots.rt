@@ -87,7 +87,8 @@ impl LateSlots {
         self.first.saturating_add(within)
     }
 
-    // Where this piece of the bytes begins that a leg has for its superblock: as many as a slot has.
+    // Where this piece of the bytes begins that a leg has for its superblock: as many as a slot
+    // has.
     fn piece_at(&self, piece: u64) -> u64 {
         self.first
             .saturating_add(piece.saturating_mul(SLOT_BYTES as u64))

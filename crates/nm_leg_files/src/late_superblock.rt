@@ -66,8 +66,8 @@ fn found_from(file: &File, from: u64) -> Option<Superblock> {
     newer(Superblock::decode(&first), Superblock::decode(&second))
 }
 
-/// The file of a leg that was opened, if it was, once more for the superblock inside it: this one is
-/// locked, and the other is to be the same.
+/// The file of a leg that was opened, if it was, once more for the superblock inside it: this one
+/// is locked, and the other is to be the same.
 pub(crate) fn again(opened: io::Result<File>, leg: &File) -> Result<File, Unopened> {
     match opened {
         Ok(file) if are_one(&file, leg) => Ok(file),

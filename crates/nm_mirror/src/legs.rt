@@ -38,7 +38,8 @@ pub(crate) fn fail_in<L: LegPart>(stripe: &mut Stripe<L>, leg: u8, counts: &mut 
     }
 }
 
-/// Lets the leg join this stripe again, as one that may have lost something. Refused as an attach is.
+/// Lets the leg join this stripe again, as one that may have lost something. Refused as an attach
+/// is.
 fn return_to<L: LegPart>(gated: &mut GatedStripe<L>, leg: u8) -> Result<u64, Refusal>
     requires joins { LetsJoin gated.old.durable gated.old.stripe leg }
     requires leg { leg < length gated.old.stripe.legs }
@@ -229,8 +230,8 @@ impl<L: LegPart, G: Gate + Drop> Mirror<L, G> {
         counts
     }
 
-    /// Lets the leg join every stripe again, and counts what came of it; nothing is done where it is
-    /// out in none of them. It may have lost what it was not synced for, and is copied that too.
+    /// Lets the leg join every stripe again, and counts what came of it; nothing is done where it
+    /// is out in none of them. It may have lost what it was not synced for, and is copied that too.
     ///
     /// Where it may have lost something in any stripe, it is first taken out of each in which it is
     /// not the last in sync. Only then the doubts about it are forgotten, and it joins the first of

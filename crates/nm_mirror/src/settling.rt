@@ -90,9 +90,9 @@ impl<L: LegPart, G: Gate + Drop> Mirror<L, G> {
         legs
     }
 
-    /// The legs whose files are to be synced ahead of a flush, a bit each: those that are not out in
-    /// a stripe in which something was written since its last sync began. From now on nothing counts
-    /// as written there.
+    /// The legs whose files are to be synced ahead of a flush, a bit each: those that are not out
+    /// in a stripe in which something was written since its last sync began. From now on nothing
+    /// counts as written there.
     pub fn take_unsynced<R: Wait>(&self, rt: &R) -> u8 {
         let mut legs: u8 = 0;
         for lock in &self.locks {

@@ -284,8 +284,8 @@ impl LegStory {
         Some((first?, more))
     }
 
-    /// Tells of reads that failed by this time, in milliseconds, of a leg that stays, since it is the
-    /// last in sync there: at most a line a second a leg.
+    /// Tells of reads that failed by this time, in milliseconds, of a leg that stays, since it is
+    /// the last in sync there: at most a line a second a leg.
     pub fn tell_failed_reads<R: Wait>(
         &mut self,
         rt: &R,

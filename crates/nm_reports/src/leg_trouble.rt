@@ -182,8 +182,8 @@ impl LegTrouble {
         &self.doubts
     }
 
-    // Notes what the leg may have lost by a call that failed. A sync that fails since an earlier one
-    // did was noted then.
+    // Notes what the leg may have lost by a call that failed. A sync that fails since an earlier
+    // one did was noted then.
     fn note_doubt(&self, call: FileCall, at: u64, error: Option<&io::Error>) {
         match call {
             FileCall::Read => {

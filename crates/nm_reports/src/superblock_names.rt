@@ -5,8 +5,8 @@ ghost use Rattle.nm_reports.specs.SuperblockNames.{superblock_name};
 use nm_commands::SuperblockPlace;
 use std::alloc::{AllocError, Global};
 
-/// The name of the file for the superblock of this leg, whose own file has that name: that one where
-/// superblocks are inside the legs, and none where they are nowhere.
+/// The name of the file for the superblock of this leg, whose own file has that name: that one
+/// where superblocks are inside the legs, and none where they are nowhere.
 pub fn superblock_name(
     alloc: Global,
     place: SuperblockPlace<'_>,

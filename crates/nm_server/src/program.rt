@@ -90,8 +90,8 @@ fn count_stopped<R: Wait>(rt: &R, mirror: &FileMirror) -> u32 {
     stopped
 }
 
-// Ends the mirror, and tells how many entries the history of each stripe has had where that is asked
-// for.
+// Ends the mirror, and tells how many entries the history of each stripe has had where that is
+// asked for.
 fn close<'a, O: Write>(
     alloc: Global,
     mirror: FileMirror,
