@@ -14,6 +14,7 @@ use Rattle.nm_commands.specs.declared.control_command.ControlCommand.TheVariants
 use Rattle.nm_commands.specs.declared.control_command.ControlCommand.TheVariants.{SetCopyRate}
 use Rattle.nm_commands.specs.declared.control_command.ControlCommand.TheVariants.{DefaultCopyRate}
 use Rattle.nm_commands.specs.declared.control_command.ControlCommand.TheVariants.{Verify}
+use Rattle.nm_commands.specs.declared.control_command.ControlCommand.TheVariants.{VerifyRepair}
 use Rattle.nm_commands.specs.declared.control_command.ControlCommand.TheVariants.{VerifyStop}
 
 -- The word is this number: 1 to 20 decimal digits of it, and it fits 64 bits.
@@ -55,6 +56,7 @@ Asks line CopyRate = line ≡ codes "copy-rate"
 Asks line (SetCopyRate mib) = IsCopyRate line mib
 Asks line DefaultCopyRate = line ≡ codes "copy-rate default"
 Asks line Verify = line ≡ codes "verify"
+Asks line (VerifyRepair leg) = IsWithNumber (codes "verify repair ") line leg
 Asks line VerifyStop = line ≡ codes "verify stop"
 Asks line Quit = line ≡ codes "quit"
 Asks line (QuitWithin seconds) = IsQuitWithin line seconds
@@ -69,6 +71,7 @@ IsNumbered (Attach leg) = ⊤
 IsNumbered (Replace leg) = ⊤
 IsNumbered (Retire leg) = ⊤
 IsNumbered (Reopen stripe) = ⊤
+IsNumbered (VerifyRepair leg) = ⊤
 IsNumbered (SetCopyRate mib) = ⊤
 IsNumbered (QuitWithin seconds) = ⊤
 IsNumbered (Kick client) = ⊤

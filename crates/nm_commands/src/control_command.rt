@@ -42,6 +42,8 @@ pub enum ControlCommand {
     DefaultCopyRate,
     /// The legs in sync are compared, or how far that is.
     Verify,
+    /// The legs in sync are compared, and what differs on this one is written anew.
+    VerifyRepair(u64),
     /// The comparison ends where it is.
     VerifyStop,
     /// The server ends once its clients have left.
@@ -177,6 +179,9 @@ fn numbered_command(line: &[u8]) -> Option<ControlCommand>
     }
     if let Some(stripe) = number_after(line, b"reopen ") {
         return Some(ControlCommand::Reopen(stripe));
+    }
+    if let Some(leg) = number_after(line, b"verify repair ") {
+        return Some(ControlCommand::VerifyRepair(leg));
     }
     if let Some(client) = number_after(line, b"kick ") {
         return Some(ControlCommand::Kick(client));

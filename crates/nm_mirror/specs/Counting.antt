@@ -43,8 +43,8 @@ IsGated (Push ticket leg) = ⊥
 IsGated (Read block room) = ⊥
 IsGated step = Unit {0}
 
--- no stripe was asked for the step, since no superblock can be saved any more: a push and a read
--- need none
+-- no stripe was asked for the step, since no superblock can be saved any more, or a write that was to
+-- begin right behind a look came late: a push and a read need neither
 abbrev pub IsNotSaved : {L : Type 0} → Done L → Type 0
 IsNotSaved done = IsGated done.step × (done.answer ≡ Refused SaveFailed (handed_in done.step))
 
@@ -54,8 +54,8 @@ abbrev pub IsGone : {L : Type 0} → Done L → Type 0
 IsGone {L} done =
     (ticket : ℕ) × (done.step ≡ Claim ticket) × (done.answer ≡ Refused NoTicket Nothing)
 
--- a stripe was asked for the step through the part, or none was, for want of a superblock or since
--- the write's opening is over
+-- a stripe was asked for the step through the part, or none was, for want of a superblock, or since
+-- the write came late, or its opening is over
 abbrev pub WasAsked : {L : Type 0} → PartState → Done L → Type 0
 WasAsked part done = WasAskedOne part done ⊎ (IsNotSaved done ⊎ IsGone done)
 
@@ -110,7 +110,7 @@ one-asked type part later done before after passes asks counted = (
   ),
 )
 
--- and one for which no superblock can be saved leaves the part as it is
+-- and one that no stripe was asked for leaves the part as it is
 pub one-not-saved : {L : Type 0} (part : PartState) (done : Done L) → IsNotSaved done
     → Follows part (done ∷ []) part
 one-not-saved part done is =

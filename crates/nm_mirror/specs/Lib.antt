@@ -12,6 +12,7 @@ pub mod Passes
 pub mod Refused
 pub mod Reopening
 pub mod Replacing
+pub mod Repair
 pub mod Resync
 pub mod RoundChanges
 pub mod RoundInside

@@ -11,6 +11,7 @@ ghost use Rattle.nm_mirror.specs.Counting.{Follows};
 use crate::ask::Ask;
 use crate::held::Held;
 use crate::lock::Lock;
+use crate::sight::Sight;
 use nm_fanout::Data;
 use nm_lanes::Lane;
 use nm_leg::LegPart;
@@ -22,14 +23,17 @@ use std::sync::Wait;
 /// The part of a pass in one stripe, as a lane over the stripe's lock.
 ///
 /// A begin, a claim, a sync and a copy wait until the stripe's gate lets them pass. Where no
-/// superblock can be saved, what the gate refuses is refused as `SaveFailed`. A write ends with the
-/// opening of the stripe in which it began: then its claim is refused as `NoTicket`, since
-/// another may have its ticket.
+/// superblock can be saved, what the gate refuses is refused as `SaveFailed`, and so is a write that
+/// is to begin only if none began since a look, and comes late. A write ends with the opening of the
+/// stripe in which it began: then its claim is refused as `NoTicket`, since another may have its
+/// ticket.
 #[derive(Drop)]
 pub struct PartLane<L> {
     part: Part<L>,
     // The opening of the stripe in which the last write began.
     opening: u64,
+    // The look since which no other write may have begun where one begins, if there is such a look.
+    since: Option<Sight>,
 }
 
 impl<L> Model for PartLane<L> {
@@ -57,7 +61,23 @@ impl<L: LegPart> PartLane<L> {
         PartLane {
             part: Part::of(&held.gated.stripe),
             opening: held.openings,
+            since: None,
         }
+    }
+
+    // Whether a write may not begin any more, since another one began after the look.
+    fn is_late(&self, held: &Held<L>) -> bool {
+        match self.since {
+            Some(sight) => sight.is_past(held),
+            None => false,
+        }
+    }
+
+    /// From now on a write begins only where none began since this look, or always.
+    pub(crate) fn begin_since(&mut self, since: Option<Sight>)
+        ensures { self.new ≡ self.old }
+    {
+        self.since = since;
     }
 }
 
@@ -80,6 +100,7 @@ impl<L: LegPart> Lane<L, Lock<L>> for PartLane<L> {
         ensures handed_back { HandsBack «data» result }
     {
         match lock.hold_for(rt, Ask::Begin(block)) {
+            Some(held) if self.is_late(&held) => Err((Refusal::SaveFailed, data)),
             Some(mut held) => {
                 self.opening = held.openings;
                 held.begin(&mut self.part, block, data)
