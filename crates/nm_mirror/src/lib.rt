@@ -30,6 +30,7 @@ pub use reopening::Reopened;
 pub use replacing::Withdrawal;
 pub use save_desk::MOST_SPANS;
 pub use save_order::SaveOrder;
+pub use sight::Sight;
 pub use status::{LegStatus, StripeStatus};
 pub use stripe_end::{Past, StripeEnd};
 pub use totals::Totals;

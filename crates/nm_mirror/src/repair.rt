@@ -48,8 +48,10 @@ fn offset_of(shape: &Shape, at: Cursor, len: u64) -> Option<u64>
 
 impl<L: LegPart, G: Gate + Drop> Mirror<L, G> {
     /// Looks at what all legs in sync but this one hold of the run there, in one hold of the
-    /// stripe: when that was, and how many blocks the run has.
-    fn look_without<R: Wait>(
+    /// stripe, and leaves it in `held`: when that was, and how many blocks the run has. None where
+    /// this leg is not in sync there or no other is, where two others differ or one cannot be read,
+    /// or where a write is under way in the region.
+    pub fn agreed<R: Wait>(
         &self,
         rt: &R,
         at: Cursor,
@@ -72,9 +74,10 @@ impl<L: LegPart, G: Gate + Drop> Mirror<L, G> {
         Some((Sight { opening, tickets }, agreed.count))
     }
 
-    /// Writes the payload to the export from `offset` on, as `write_at`, where no write began in
-    /// this stripe since the look. One that did fails it, as `SaveFailed`.
-    fn write_since<R: Wait>(
+    /// Writes the payload to the export from `offset` on, as `write_at`, where no write began since
+    /// this stripe was looked at. One that did fails it: as `WriteFault::Io` of the kind
+    /// `SaveFailed`.
+    pub fn write_since<R: Wait>(
         &self,
         rt: &R,
         alloc: Global,
@@ -133,7 +136,7 @@ impl<L: LegPart, G: Gate + Drop> Mirror<L, G> {
     {
         within_bounds(&self.shape);
         let (held, found) = room.split_at_mut(MOST_BYTES);
-        let Some((sight, count)) = self.look_without(rt, at, leg, held, found) else {
+        let Some((sight, count)) = self.agreed(rt, at, leg, held, found) else {
             return Ok(false);
         };
         let len = BLOCK_BYTES * count as usize;

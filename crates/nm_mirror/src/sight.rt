@@ -6,7 +6,7 @@ use nm_leg::LegPart;
 /// The opening in which a stripe was looked at, and the ticket that its next write had then: where
 /// both are the same later, no write began since.
 #[derive(Clone, Copy)]
-pub(crate) struct Sight {
+pub struct Sight {
     pub(crate) opening: u64,
     pub(crate) tickets: u64,
 }
