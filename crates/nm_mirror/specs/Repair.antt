@@ -36,7 +36,7 @@ pub record Repairs {L : Type 0} (type : LegType L) (shape : Geometry) (at : Curs
     (parts : List PartState × List PartState) : Type 0 where
   pub bytes : List ℕ
   pub is : IsAgreed type at leg bytes
-  pub written : HasWritten {L = L} Follows shape (over at shape bytes) parts
+  pub written : HasWritten (Follows type) shape (over at shape bytes) parts
 
 -- a repair ends so: it wrote, or did nothing
 abbrev pub EndsRepair : {L : Type 0} → LegType L → Geometry → Cursor → (leg : ℕ)
@@ -49,4 +49,4 @@ pub record FailsToRepair {L : Type 0} (type : LegType L) (shape : Geometry) (at 
     (leg : ℕ) (parts : List PartState × List PartState) (fault : WriteFault) : Type 0 where
   pub bytes : List ℕ
   pub is : IsAgreed type at leg bytes
-  pub failed : FailsWriting {L = L} Follows shape (over at shape bytes) parts fault
+  pub failed : FailsWriting (Follows type) shape (over at shape bytes) parts fault

@@ -3,6 +3,7 @@ ghost use Rattle.std.specs.Prelude.{[], ◌∷◌};
 ghost use Rattle.nm_lanes.specs.Answers.{answer_of_begin, answer_of_claim, answer_of_copy};
 ghost use Rattle.nm_lanes.specs.Answers.{answer_of_sync, HandsBack};
 ghost use Rattle.nm_lanes.specs.Done.{done_as};
+ghost use Rattle.nm_leg.specs.Leg.{leg_type};
 ghost use Rattle.nm_mirror.specs.Asks.{LetsPass};
 ghost use Rattle.nm_mirror.specs.Counting.{Follows};
 ghost use Rattle.nm_mirror.specs.declared.ask.Ask.TheVariants as ask;
@@ -26,7 +27,7 @@ impl<L: LegPart> Held<L> {
         data: Data,
     ) -> Result<Beginning, (Refusal, Data)>
         requires { LetsPass self.old.gated.durable self.old.gated.stripe (ask.Begin block) }
-        ensures follows { Follows {L = L} part.old
+        ensures follows { Follows (leg_type L.model L.honest) part.old
             (done_as (step.Begin block «data») (answer_of_begin result) ∷ []) part.new }
         ensures handed_back { HandsBack «data» result }
     {
@@ -37,7 +38,7 @@ impl<L: LegPart> Held<L> {
     #[inline(always)]
     pub(crate) fn claim(&mut self, part: &mut Part<L>, ticket: u64) -> Result<Written<L>, Refusal>
         requires { LetsPass self.old.gated.durable self.old.gated.stripe ask.Answer }
-        ensures { Follows {L = L} part.old
+        ensures { Follows (leg_type L.model L.honest) part.old
             (done_as (step.Claim ticket) (answer_of_claim result) ∷ []) part.new }
     {
         part.claim(&mut self.gated.stripe, ticket)
@@ -47,7 +48,7 @@ impl<L: LegPart> Held<L> {
     #[inline(always)]
     pub(crate) fn flush(&mut self, part: &mut Part<L>, leg: u8) -> Result<Syncing, Refusal>
         requires { LetsPass self.old.gated.durable self.old.gated.stripe ask.Answer }
-        ensures { Follows {L = L} part.old
+        ensures { Follows (leg_type L.model L.honest) part.old
             (done_as (step.Flush leg) (answer_of_sync result) ∷ []) part.new }
     {
         part.flush(&mut self.gated.stripe, leg)
@@ -63,7 +64,7 @@ impl<L: LegPart> Held<L> {
         from: u64,
     ) -> Result<Copying, Refusal>
         requires { LetsPass self.old.gated.durable self.old.gated.stripe (ask.Copy leg from) }
-        ensures { Follows {L = L} part.old
+        ensures { Follows (leg_type L.model L.honest) part.old
             (done_as (step.Copy leg most from) (answer_of_copy result) ∷ []) part.new }
     {
         part.copy(&mut self.gated.stripe, leg, most, from)

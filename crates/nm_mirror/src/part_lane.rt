@@ -5,6 +5,7 @@ ghost use Rattle.nm_stripe.specs.Read.{LeavesTarget};
 ghost use Rattle.nm_lanes.specs.Answers.{answer_of_begin, answer_of_claim, answer_of_copy};
 ghost use Rattle.nm_lanes.specs.Answers.{answer_of_push, answer_of_read, answer_of_sync, HandsBack};
 ghost use Rattle.nm_lanes.specs.Done.{done_as};
+ghost use Rattle.nm_leg.specs.Leg.{leg_type};
 ghost use Rattle.nm_part.specs.Parts.{part_of};
 ghost use Rattle.nm_mirror.specs.Counting.{Follows};
 
@@ -83,9 +84,10 @@ impl<L: LegPart> PartLane<L> {
 
 impl<L: LegPart> Lane<L, Lock<L>> for PartLane<L> {
     ghost use Rattle.std.specs.Prelude.{◌≡◌, refl};
+    ghost use Rattle.nm_leg.specs.Leg.{leg_type};
     ghost use Rattle.nm_mirror.specs.Counting.{Follows, part-joined};
 
-    ghost follows = { Follows };
+    ghost follows = { Follows (leg_type L.model L.honest) };
 
     #[inline(always)]
     fn begin<R: Wait>(
@@ -95,7 +97,7 @@ impl<L: LegPart> Lane<L, Lock<L>> for PartLane<L> {
         block: u64,
         data: Data,
     ) -> Result<Beginning, (Refusal, Data)>
-        ensures follows { Follows {L = L} self.old
+        ensures follows { Follows (leg_type L.model L.honest) self.old
             (done_as (step.Begin block «data») (answer_of_begin result) ∷ []) self.new }
         ensures handed_back { HandsBack «data» result }
     {
@@ -117,7 +119,7 @@ impl<L: LegPart> Lane<L, Lock<L>> for PartLane<L> {
         ticket: u64,
         leg: u8,
     ) -> Result<Reach, Refusal>
-        ensures follows { Follows {L = L} self.old
+        ensures follows { Follows (leg_type L.model L.honest) self.old
             (done_as (step.Push ticket leg) (answer_of_push result) ∷ []) self.new }
     {
         let mut held = lock.hold_to_write(rt);
@@ -127,7 +129,7 @@ impl<L: LegPart> Lane<L, Lock<L>> for PartLane<L> {
 
     #[inline(always)]
     fn claim<R: Wait>(&mut self, rt: &R, lock: &Lock<L>, ticket: u64) -> Result<Written<L>, Refusal>
-        ensures follows { Follows {L = L} self.old
+        ensures follows { Follows (leg_type L.model L.honest) self.old
             (done_as (step.Claim ticket) (answer_of_claim result) ∷ []) self.new }
     {
         match lock.hold_for(rt, Ask::Answer) {
@@ -148,7 +150,7 @@ impl<L: LegPart> Lane<L, Lock<L>> for PartLane<L> {
         block: u64,
         into: &mut [u8],
     ) -> Result<Reading<L>, Refusal>
-        ensures follows { Follows self.old
+        ensures follows { Follows (leg_type L.model L.honest) self.old
             (done_as (step.Read block into.old) (answer_of_read result into.new) ∷ []) self.new }
         ensures target { LeavesTarget result into.old into.new }
     {
@@ -156,7 +158,7 @@ impl<L: LegPart> Lane<L, Lock<L>> for PartLane<L> {
     }
 
     fn flush<R: Wait>(&mut self, rt: &R, lock: &Lock<L>, leg: u8) -> Result<Syncing, Refusal>
-        ensures follows { Follows {L = L} self.old
+        ensures follows { Follows (leg_type L.model L.honest) self.old
             (done_as (step.Flush leg) (answer_of_sync result) ∷ []) self.new }
     {
         let Some(mut held) = lock.hold_for(rt, Ask::Answer) else {
@@ -174,7 +176,7 @@ impl<L: LegPart> Lane<L, Lock<L>> for PartLane<L> {
         most: u64,
         from: u64,
     ) -> Result<Copying, Refusal>
-        ensures follows { Follows {L = L} self.old
+        ensures follows { Follows (leg_type L.model L.honest) self.old
             (done_as (step.Copy leg most from) (answer_of_copy result) ∷ []) self.new }
     {
         let Some(mut held) = lock.hold_for(rt, Ask::Copy(leg, from)) else {
@@ -195,5 +197,5 @@ impl<L: LegPart> Lane<L, Lock<L>> for PartLane<L> {
     ghost stays = { λ part. (refl, tt) };
 
     ghost joins = { λ first mid last before after p q.
-        part-joined first mid last before after p q };
+        part-joined (leg_type L.model L.honest) first mid last before after p q };
 }

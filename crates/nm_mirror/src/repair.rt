@@ -89,11 +89,12 @@ impl<L: LegPart, G: Gate + Drop> Mirror<L, G> {
         requires pass { length pass.old.parts.items ≡ self.now.shape.stripes }
         requires inside { LiesInside (record { offset = offset; length = length payload })
             self.now.shape }
-        ensures ok { OnOk result (HasWritten {L = L} Follows self.now.shape
+        ensures ok { OnOk result (HasWritten (Follows (leg_type L.model L.honest)) self.now.shape
             (cuts_for (runs_of_range self.now.shape
             (record { offset = offset; length = length payload })) payload)
             (pass.old.parts.items, pass.new.parts.items)) }
-        ensures err { IfErr result (FailsWriting {L = L} Follows self.now.shape
+        ensures err { IfErr result (FailsWriting (Follows (leg_type L.model L.honest))
+            self.now.shape
             (cuts_for (runs_of_range self.now.shape
             (record { offset = offset; length = length payload })) payload)
             (pass.old.parts.items, pass.new.parts.items)) }

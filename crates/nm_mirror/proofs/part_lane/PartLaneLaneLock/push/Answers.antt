@@ -12,7 +12,7 @@ pub returns : goal.returns
 returns g c =
     let done : Done g.row.L.Denot = done_as (step.Push c.args.ticket c.args.leg) (answer_of_push c.push.result) in
     record {
-      follows = subst (λ (part : PartState). Follows part (done ∷ []) c.push.new.self) c.self.view_is
+      follows = subst (λ (part : PartState). Follows (leg_type g.L.LegPart.model g.L.LegPart.honest) part (done ∷ []) c.push.new.self) c.self.view_is
           (one-asked (leg_type g.L.LegPart.model g.L.LegPart.honest) c.self.inside.part c.push.new.self done
           c.deref_mut.result.now.gated.stripe c.push.new.stripe (λ _. tt) c.push.ensures.step c.push.ensures.counted);
     }

@@ -11,6 +11,6 @@ use Rattle.nm_mirror.proofs.part_lane.PartLaneLaneLock.read.Goals as goal
 pub returns-clause-follows : goal.returns-clause-follows
 returns-clause-follows g c =
     let done : Done g.row.L.Denot = done_as (step.Read c.args.block c.args.into.now) (answer_of_read c.read.result c.read.new.into) in
-    subst (λ (part : PartState). Follows part (done ∷ []) c.read.new.self) c.self.view_is
+    subst (λ (part : PartState). Follows (leg_type g.L.LegPart.model g.L.LegPart.honest) part (done ∷ []) c.read.new.self) c.self.view_is
     (one-asked (leg_type g.L.LegPart.model g.L.LegPart.honest) c.self.inside.part c.read.new.self done
     c.deref_mut.result.now.gated.stripe c.read.new.stripe (λ _. tt) c.read.ensures.step c.read.ensures.counted)
