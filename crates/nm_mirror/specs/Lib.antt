@@ -4,6 +4,7 @@ pub mod Closing
 pub mod CopyRound
 pub mod Counting
 pub mod Counts
+pub mod Holding
 pub mod Marked
 pub mod Numbers
 pub mod MirrorFault

@@ -124,7 +124,7 @@ impl<L: LegPart> Lane<L, Lock<L>> for PartLane<L> {
     {
         let mut held = lock.hold_to_write(rt);
         lock.note_write();
-        self.part.push(&mut held.gated.stripe, ticket, leg)
+        held.push(&mut self.part, ticket, leg)
     }
 
     #[inline(always)]
@@ -154,7 +154,7 @@ impl<L: LegPart> Lane<L, Lock<L>> for PartLane<L> {
             (done_as (step.Read block into.old) (answer_of_read result into.new) ∷ []) self.new }
         ensures target { LeavesTarget result into.old into.new }
     {
-        self.part.read(&mut lock.hold(rt).gated.stripe, block, into)
+        lock.hold(rt).read(&mut self.part, block, into)
     }
 
     fn flush<R: Wait>(&mut self, rt: &R, lock: &Lock<L>, leg: u8) -> Result<Syncing, Refusal>
