@@ -112,6 +112,9 @@ pub fn put_places(
     shape: &Shape,
     text: &mut String,
 ) -> Result<(), AllocError> {
-    write!(text, "verify: these bytes of the export {what}, from and how many:")?;
+    write!(
+        text,
+        "verify: these bytes of the export {what}, from and how many:"
+    )?;
     Finding::new(*found).put_bytes(shape, text)
 }

@@ -28,7 +28,7 @@ pub record IsAgreed {L : Type 0} (type : LegType L) (at : Cursor) (leg : ℕ) (b
 abbrev pub over : Cursor → Geometry → List ℕ → List RunWrite
 over at shape bytes =
     cuts_for (runs_of_range shape
-        (record { offset = 512 * export_block at.stripe at.block shape; length = length bytes }))
+    (record { offset = 512 * export_block at.stripe at.block shape; length = length bytes }))
     bytes
 
 -- they were written there through the pass, once all legs in sync but this one gave them

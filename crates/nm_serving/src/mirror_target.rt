@@ -80,7 +80,7 @@ impl<'a, L: LegPart, C: MirrorCalls<L> + Drop, H> Target for MirrorTarget<'a, L,
 
     ghost stays = { λ target.
         leads-nowhere (leg_type L.model L.honest)
-            (state_of (C.shape target.mirror.now) target.pass.now) };
+        (state_of (C.shape target.mirror.now) target.pass.now) };
 
     ghost joins = { λ from between to. leads-on (leg_type L.model L.honest)
         (state_of (C.shape from.mirror.now) from.pass.now)
