@@ -15,7 +15,7 @@ returns-then-others_give-clause-agrees g c =
       quiet = search rules;
       first = c.in_ok-first.first;
       another = search rules;
-      first_gives = record { legs = (_, _); reads = search (rules, taken) };
+      first_gives = record { legs = (c.args.stripe.now.legs, c.look.new.self.legs); reads = search (rules, taken) };
       others = search (rules, taken);
       array = search (rules, taken);
     }
