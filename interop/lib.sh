@@ -87,13 +87,15 @@ attach_leg() {
         fail "leg 1 has missed nothing: $(cat "$room/told")"
 }
 
-# Ends the server, which must end with status 0.
+# Ends the server, which must end with status 0. No line of its log counts in blocks.
 stop() {
     "$ctl" quit > /dev/null || fail "quit is not answered"
     wait "$server"
     local status=$?
     server=
     [ "$status" = 0 ] || fail "the server ends with status $status: $(cat "$room/err")"
+    grep -w blocks "$room/err" && fail 'a line of the log counts in blocks'
+    return 0
 }
 
 # All legs must hold the same bytes.
