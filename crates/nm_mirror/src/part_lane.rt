@@ -52,6 +52,13 @@ impl<L> PartLane<L> {
     {
         self.part.count()
     }
+
+    /// From now on a write begins only where none began since this look, or always.
+    pub(crate) fn begin_since(&mut self, since: Option<Sight>)
+        ensures { self.new ≡ self.old }
+    {
+        self.since = since;
+    }
 }
 
 impl<L: LegPart> PartLane<L> {
@@ -72,13 +79,6 @@ impl<L: LegPart> PartLane<L> {
             Some(sight) => sight.is_past(held),
             None => false,
         }
-    }
-
-    /// From now on a write begins only where none began since this look, or always.
-    pub(crate) fn begin_since(&mut self, since: Option<Sight>)
-        ensures { self.new ≡ self.old }
-    {
-        self.since = since;
     }
 }
 
