@@ -124,8 +124,10 @@ def verdict(found):
 
 
 def ask(control, line):
-    """The server's answer to a line on comparisons."""
+    """The server's answer to a line on comparisons. None where it names a leg that is not there."""
     answer = control.ask(line)
+    if answer == "bad command" and line.startswith("verify repair "):
+        return None
     if not answer.startswith("verify: "):
         raise Trouble(f"the server answered '{answer}' to '{line}'")
     return answer
