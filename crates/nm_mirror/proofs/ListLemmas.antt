@@ -2,7 +2,7 @@
 use Rattle.std.proofs.Common.{◌≡◌, ℕ, zero, suc, List, [], ◌∷◌, Option, None, Some, refl, sym, ap, slice_get, slice_set}
 
 -- what an option has, or else this
-or : {X : Type 0} → X → Option X → X
+abbrev or : {X : Type 0} → X → Option X → X
 or x None = x
 or x (Some y) = y
 

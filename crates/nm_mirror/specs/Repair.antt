@@ -1,10 +1,10 @@
 -- A run is written anew as all legs in sync but one hold it.
 use Rattle.std.specs.Prelude.{◌≡◌, ℕ, ◌*◌, Bool, true, false, List, length, take}
+use Rattle.nm_geometry.specs.declared.byte_range.ByteRange.{ByteRange}
 use Rattle.nm_geometry.specs.Geometry.{Geometry, export_block}
 use Rattle.nm_lanes.specs.Cuts.{cuts_for}
 use Rattle.nm_lanes.specs.Runs.{runs_of_range}
 use Rattle.nm_lanes.specs.Writes.{HasWritten, FailsWriting}
-use Rattle.nm_lanes.specs.declared.run_write.RunWrite.{RunWrite}
 use Rattle.nm_lanes.specs.declared.write_fault.WriteFault.{WriteFault}
 use Rattle.nm_leg.specs.Leg.{LegType}
 use Rattle.nm_mirror.specs.Counting.{Follows}
@@ -24,19 +24,18 @@ pub record IsAgreed {L : Type 0} (type : LegType L) (at : Cursor) (leg : ℕ) (b
   pub agrees : Agrees type (at, leg) stripe held agreed
   pub whole : bytes ≡ take (512 * agreed.count) held
 
--- the writes of these bytes over the run there
-abbrev pub over : Cursor → Geometry → List ℕ → List RunWrite
-over at shape bytes =
-    cuts_for (runs_of_range shape
-    (record { offset = 512 * export_block at.stripe at.block shape; length = length bytes }))
-    bytes
+-- so many bytes from the run there on, in the export
+abbrev pub bytes_at : Cursor → Geometry → (length : ℕ) → ByteRange
+bytes_at at shape length =
+    record { offset = 512 * export_block at.stripe at.block shape; length = length }
 
 -- they were written there through the pass, once all legs in sync but this one gave them
 pub record Repairs {L : Type 0} (type : LegType L) (shape : Geometry) (at : Cursor) (leg : ℕ)
     (parts : List PartState × List PartState) : Type 0 where
   pub bytes : List ℕ
   pub is : IsAgreed type at leg bytes
-  pub written : HasWritten (Follows type) shape (over at shape bytes) parts
+  pub written : HasWritten (Follows type) shape
+      (cuts_for (runs_of_range shape (bytes_at at shape (length bytes))) bytes) parts
 
 -- a repair ends so: it wrote, or did nothing
 abbrev pub EndsRepair : {L : Type 0} → LegType L → Geometry → Cursor → (leg : ℕ)
@@ -49,4 +48,5 @@ pub record FailsToRepair {L : Type 0} (type : LegType L) (shape : Geometry) (at 
     (leg : ℕ) (parts : List PartState × List PartState) (fault : WriteFault) : Type 0 where
   pub bytes : List ℕ
   pub is : IsAgreed type at leg bytes
-  pub failed : FailsWriting (Follows type) shape (over at shape bytes) parts fault
+  pub failed : FailsWriting (Follows type) shape
+      (cuts_for (runs_of_range shape (bytes_at at shape (length bytes))) bytes) parts fault
