@@ -132,6 +132,8 @@ def add_verify(command):
     form = one.add_mutually_exclusive_group()
     form.add_argument("--wait", action="store_true", help="until it is over, and tell what differs")
     form.add_argument("--stop", action="store_true", help="end it where it is")
+    one.add_argument("--repair", type=leg_number, metavar="N",
+                     help="write what differs on leg N anew, as all other legs hold it")
     one.add_argument("--json", action="store_true", help="for machines, with --wait")
 
 
@@ -175,4 +177,6 @@ def parse(arguments):
         parser.error("status: --watch goes with a table")
     if words.command == "verify" and words.json and not words.wait:
         parser.error("verify: --json goes with --wait")
+    if words.command == "verify" and words.stop and words.repair is not None:
+        parser.error("verify: --stop goes without --repair")
     return words

@@ -262,7 +262,10 @@ fn do_line<R: Wait + Clock, L: LegPart, G: Gate + Drop, N: RenewsLegs<L>, M: Mak
             set_copy_rate(server.orders, Some(mib.min(65_535) as u16), text)
         }
         ControlCommand::DefaultCopyRate => set_copy_rate(server.orders, None, text),
-        ControlCommand::Verify => put_verify(rt, alloc, server, text),
+        ControlCommand::Verify => put_verify(rt, alloc, server, None, text),
+        ControlCommand::VerifyRepair(leg) => {
+            put_verify(rt, alloc, server, Some(leg.min(255) as u8), text)
+        }
         ControlCommand::VerifyStop => put_verify_stop(rt, server.orders.verify(), text),
         ControlCommand::Kick(client) => put_kick(rt, server.sessions, client, text),
         ControlCommand::Quit => return say_bye(Quit::WhenTheyLeave, text),

@@ -10,7 +10,7 @@ use nm_geometry::Shape;
 use nm_lanes::Gate;
 use nm_leg::LegPart;
 use nm_leg_files::OpensLegs;
-use nm_mirror::{CopyRound, Mirror};
+use nm_mirror::{CopyRound, Mirror, Pass};
 use nm_reports::{LegLines, LegStory, LogLines, UnreadList};
 use std::alloc::{AllocError, Global};
 use std::sync::Wait;
@@ -70,16 +70,19 @@ impl Copier {
         mirror.resync_turn(rt, &mut self.round, orders.doubts())
     }
 
-    /// Takes a turn at comparing legs, where that is asked for. How many runs were looked at.
+    /// Takes a turn at comparing legs, where that is asked for; what it repairs is written through
+    /// the pass. How many runs were looked at.
     pub fn verify<R: Wait + Clock, L: LegPart, G: Gate + Drop>(
         &mut self,
         rt: &R,
         mirror: &Mirror<L, G>,
+        pass: &mut Pass<L>,
         orders: &CopyOrders,
         lines: &LogLines,
         now: u64,
     ) -> u32 {
-        self.verifier.turn(rt, mirror, orders.verify(), lines, now)
+        self.verifier
+            .turn(rt, mirror, pass, orders.verify(), lines, now)
     }
 
     /// Tells how each leg stands, as the server begins or ends.

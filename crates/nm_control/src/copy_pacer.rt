@@ -4,9 +4,8 @@ use crate::copier::Copier;
 use crate::copy_orders::CopyOrders;
 use nm_lanes::Gate;
 use nm_leg::LegPart;
-use nm_mirror::Mirror;
-use nm_places::SessionPlaces;
-use nm_reports::LogLines;
+use nm_mirror::{Mirror, Pass};
+use nm_places::{SessionPlaces, Shared};
 use nm_service::{CopyTurn, rest_after};
 use std::sync::Wait;
 use std::thread;
@@ -69,16 +68,17 @@ impl CopyPacer {
         rt: &R,
         copier: &mut Copier,
         mirror: &Mirror<L, G>,
-        places: &SessionPlaces,
+        pass: &mut Pass<L>,
         orders: &CopyOrders,
-        lines: &LogLines,
+        shared: &Shared<'_>,
         now: u64,
     ) -> bool {
         let begun = Instant::now(rt).ok();
-        let runs = copier.verify(rt, mirror, orders, lines, now);
+        let runs = copier.verify(rt, mirror, pass, orders, shared.lines, now);
         if runs == 0 {
             return false;
         }
+        let places = &shared.state.places;
         self.rest_after(rt, runs.saturating_mul(2), &begun, places, orders);
         true
     }

@@ -15,6 +15,7 @@ mod healing;
 mod leg_watch;
 mod missing_legs;
 mod reopening;
+mod repairs;
 mod replacing;
 mod resync;
 mod retiring;

@@ -6,7 +6,7 @@ use crate::copy_pacer::CopyPacer;
 use nm_lanes::Gate;
 use nm_leg::LegPart;
 use nm_leg_files::OpensLegs;
-use nm_mirror::Mirror;
+use nm_mirror::{Mirror, Pass};
 use nm_places::Shared;
 use nm_reports::milliseconds_since;
 use nm_service::Interval;
@@ -47,20 +47,21 @@ fn look<R: Wait + Clock, O: OpensLegs, L: LegPart, G: Gate + Drop>(
     lines.flush_incidents(rt);
 }
 
-// Takes a turn at copying, or at comparing legs; a pause where neither did something.
+// Takes a turn at copying, or at comparing legs through the pass; a pause where neither did
+// something.
 fn take_turn<R: Wait + Clock, L: LegPart, G: Gate + Drop>(
     rt: &R,
-    copier: &mut Copier,
-    pacer: &mut CopyPacer,
+    (copier, pacer): (&mut Copier, &mut CopyPacer),
     mirror: &Mirror<L, G>,
+    pass: &mut Pass<L>,
     orders: &CopyOrders,
     shared: &Shared<'_>,
     now: u64,
 ) {
-    let (places, lines) = (&shared.state.places, shared.lines);
+    let places = &shared.state.places;
     if !pacer.rest(rt)
         && !pacer.turn(rt, copier, mirror, places, orders)
-        && !pacer.verify(rt, copier, mirror, places, orders, lines, now)
+        && !pacer.verify(rt, copier, mirror, pass, orders, shared, now)
     {
         thread::sleep(rt, Duration::from_millis(PAUSE_MILLISECONDS));
     }
@@ -72,12 +73,14 @@ fn take_turn<R: Wait + Clock, L: LegPart, G: Gate + Drop>(
 /// Between them it looks for clients that have gone or are idle, has what could not be read tried
 /// again once a minute, takes legs out as a whole that fail, attaches those that are to heal, and
 /// tells what happens. What was not flushed for five seconds is synced, and marks of stripes in
-/// which nothing was written for five seconds are cleared.
+/// which nothing was written for five seconds are cleared. What is repaired is written through the
+/// pass.
 pub fn resynchronise<R: Wait + Clock, O: OpensLegs, L: LegPart, G: Gate + Drop>(
     rt: &R,
     opener: &O,
     copier: Copier,
     mirror: &Mirror<L, G>,
+    pass: &mut Pass<L>,
     orders: &CopyOrders,
     shared: &Shared<'_>,
 ) {
@@ -102,7 +105,8 @@ pub fn resynchronise<R: Wait + Clock, O: OpensLegs, L: LegPart, G: Gate + Drop>(
         if settles.take(now) {
             mirror.settle_turn(rt, orders.doubts());
         }
-        take_turn(rt, &mut copier, &mut pacer, mirror, orders, shared, now);
+        let both = (&mut copier, &mut pacer);
+        take_turn(rt, both, mirror, pass, orders, shared, now);
     }
     copier.tell_all(rt, mirror, shared.lines, "at the end");
 }

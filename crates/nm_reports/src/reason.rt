@@ -229,15 +229,9 @@ fn put_of_superblocks<E: Write>(
             put_another(name_of(&settings.legs, leg), name, leg, err);
         }
         StartFault::WasChanged(leg, recorded, found) => {
+            let file = name_of(&settings.legs, leg);
             let name = superblock_of(alloc, settings, leg)?;
-            put_changed(
-                name_of(&settings.legs, leg),
-                name.as_str(),
-                leg,
-                recorded,
-                found,
-                err,
-            );
+            put_changed(file, name.as_str(), leg, recorded, found, err);
         }
         _ => (),
     }

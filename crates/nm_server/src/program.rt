@@ -8,7 +8,7 @@ use crate::equipment::{Opened, metrics_of, open};
 use crate::serving::serve_and_copy;
 use clap::Error;
 use clap::error::ErrorKind;
-use nm_commands::{Settings, settings};
+use nm_commands::{Settings, settings, write_words};
 use nm_control::LegRenewer;
 use nm_geometry::{MOST_LEGS, Shape};
 use nm_leg_files::{
@@ -277,6 +277,11 @@ fn tell_words<O: Write, E: Write>(error: &Error, out: &mut O, err: &mut E) -> u8
     }
 }
 
+// Whether the words ask for the table of the control port's words, which no help tells of.
+fn ask_for_table<S: AsStr>(words: &[S]) -> bool {
+    words.len() == 2 && words[1].as_str() == "--words"
+}
+
 /// Tells why the words of the command line could not be had, and returns the exit status.
 pub fn refuse_words<E: Write>(error: &io::Error, err: &mut E) -> u8 {
     if error.kind() == IoErrorKind::OutOfMemory {
@@ -288,7 +293,8 @@ pub fn refuse_words<E: Write>(error: &io::Error, err: &mut E) -> u8 {
 /// Runs the server that these words ask for, the first of them the program's name, and returns the
 /// exit status. The thread that attaches legs again opens their files by `opener`.
 ///
-/// 0 after a `quit`, or where the words ask for the help or the version, which `out` has then.
+/// 0 after a `quit`, or where the words ask for the help, the version, or by `--words` for those of
+/// the control port, which `out` has then.
 /// Otherwise `err` says why: status 2 for words that are no command line, 3 for
 /// settings or legs that do not fit, 4 where it cannot listen, 5 out of memory, 6 where what the
 /// stripes have had is not what the sessions counted, 7 where no master is named and the legs
@@ -315,6 +321,10 @@ where
         + Net<Listener = TcpListener, Stream = TcpStream>
         + 'static,
 {
+    if ask_for_table(words) {
+        let _ = write_words(out);
+        return 0;
+    }
     let mut settings = match settings(alloc, words) {
         Ok(settings) => settings,
         Err(error) => return tell_words(&error, out, err),

@@ -91,8 +91,8 @@ where
     is_served
 }
 
-// Serves until the last session has ended, while one thread copies legs. False where a thread could
-// not be started.
+// Serves until the last session has ended, while one thread copies legs, which has the first pass.
+// False where a thread could not be started.
 fn serve_copying<R, O: OpensLegs + Sync>(
     rt: &R,
     opener: &O,
@@ -106,11 +106,14 @@ where
     R: Threads + Wait + Sync + Copy + Clock + Net<Listener = TcpListener, Stream = TcpStream>,
 {
     let (mirror, orders) = (controlled.mirror, controlled.orders);
+    let Some((own, clients)) = passes.split_first_mut() else {
+        return false;
+    };
     thread::scope(thread::scope_env(), rt, |scope| {
         let copying = scope.spawn(move || {
-            resynchronise(rt, opener, copier, mirror, orders, shared)
+            resynchronise(rt, opener, copier, mirror, own, orders, shared)
         });
-        copying.is_ok() && serve_both(rt, shared, export, passes, controlled)
+        copying.is_ok() && serve_both(rt, shared, export, clients, controlled)
     })
 }
 

@@ -140,7 +140,7 @@ fn negotiate_in_time<R: Wait + Clock>(
 // asks for nothing more, ends the read under way.
 //
 // A pass of another shape, which the mirror itself never makes, is told as memory that is refused.
-fn targets_of<'a, L, C: MirrorCalls<L> + Drop>(
+fn targets_of<'a, L: LegPart, C: MirrorCalls<L> + Drop>(
     alloc: Global,
     mirror: &'a C,
     passes: &'a mut [Pass<L>],
