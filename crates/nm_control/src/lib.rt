@@ -4,6 +4,7 @@
 #![tactic(auto)]
 
 mod answering;
+mod answering_meanwhile;
 mod control_port;
 mod controlled;
 mod copier;
@@ -27,6 +28,7 @@ mod verify_text;
 mod whole;
 
 pub use crate::answering::{AnswersControl, control};
+pub use crate::answering_meanwhile::answer_meanwhile;
 pub use crate::control_port::serve_control;
 pub use crate::controlled::Controlled;
 pub use crate::copier::Copier;

@@ -1,16 +1,16 @@
 //! The mirror of the program, with all that it is served by.
 
+use crate::control_meanwhile::ControlMeanwhile;
 use nm_commands::Settings;
 use nm_control::{Copier, CopyOrders, Healing, LegWatch, MissingLegs};
 use nm_leg_files::{
     FileMirror, LateSlots, LateSuperblock, Leg, LegFiles, LegPlace, LegSyncs, SuperblockWriter,
-    Superblocks,
 };
 use nm_mirror::{MOST_PASSES, Pass};
-use nm_opening::open_asked_for;
 use nm_reports::{LogLines, Metrics, MirrorDoubts, StartFault};
 use nm_serving::AT_ONCE;
 use nm_sockets::Listener;
+use nm_starts::{Superblocks, open_asked_for};
 use std::alloc::{AllocError, Global};
 use std::fs::File;
 use std::random::RandomSource;
@@ -198,7 +198,8 @@ pub fn open<'a, R>(
 where
     R: Threads + Wait + Sync + Clock + RandomSource + Files<File = File>,
 {
-    let opened = open_asked_for(rt, alloc, settings, &mut files, control, lines)?;
+    let meanwhile = ControlMeanwhile { control };
+    let opened = open_asked_for(rt, alloc, settings, &mut files, &meanwhile, lines)?;
     files.tell_missing(rt, alloc, lines);
     let mirror = opened.mirror;
     let own = equip(alloc, settings, &files, opened.superblocks)?;

@@ -11,16 +11,16 @@ use clap::error::ErrorKind;
 use nm_commands::{Settings, settings, write_words};
 use nm_control::LegRenewer;
 use nm_geometry::{MOST_LEGS, Shape};
-use nm_leg_files::{
-    FileMirror, Leg, LegFiles, LegMaker, LegPlace, LegRules, OpensLegs, check_added, check_files,
-    check_from, check_moved, check_shrink, check_stack, reply_bytes_of, settle_place, sort_legs,
-    try_threads,
-};
+use nm_leg_files::{FileMirror, Leg, LegFiles, LegMaker, LegPlace, LegRules, OpensLegs};
 use nm_mirror::Pass;
 use nm_places::{ServingState, SessionRules, Shared};
 use nm_reports::{Address, LogForm, LogLines, Metrics, StartFault, tell_reason};
 use nm_serving::{AT_ONCE, ExportName, ServedExport};
 use nm_sockets::{Listener, listen};
+use nm_starts::{
+    check_added, check_files, check_from, check_moved, check_shrink, check_stack, reply_bytes_of,
+    settle_place, sort_legs, try_threads,
+};
 use nm_system::{Limits, take_standard_streams};
 use std::alloc::Global;
 use std::convert::AsStr;
