@@ -103,6 +103,8 @@ def add_legs(command):
     """The words of what is done with a leg."""
     command("fail", "take a leg out").add_argument("leg", type=leg_number)
     command("retire", "take the last leg out for good").add_argument("leg", type=leg_number)
+    command("pause", "copy no more to a leg until it is resumed").add_argument("leg", type=leg_number)
+    command("resume", "copy to a leg again that was paused").add_argument("leg", type=leg_number)
     for name, text in (("attach", "copy a leg again"), ("replace", "open a leg's file anew and copy it whole")):
         one = command(name, text)
         one.add_argument("leg", type=leg_number)

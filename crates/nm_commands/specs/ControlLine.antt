@@ -28,9 +28,10 @@ abbrev pub rows : List CommandWord
 rows =
     row.Status ∷ row.Unread ∷ row.Info ∷ row.Metrics
     ∷ row.Fail ∷ row.Attach ∷ row.Replace ∷ row.Retire
-    ∷ row.Reopen ∷ row.ReopenAll ∷ row.CopyRate ∷ row.SetCopyRate
-    ∷ row.DefaultCopyRate ∷ row.Verify ∷ row.VerifyRepair ∷ row.VerifyStop
-    ∷ row.Quit ∷ row.QuitWithin ∷ row.Clients ∷ row.Kick
+    ∷ row.Pause ∷ row.Resume ∷ row.Reopen ∷ row.ReopenAll
+    ∷ row.CopyRate ∷ row.SetCopyRate ∷ row.DefaultCopyRate ∷ row.Verify
+    ∷ row.VerifyRepair ∷ row.VerifyStop ∷ row.Quit ∷ row.QuitWithin
+    ∷ row.Clients ∷ row.Kick
     ∷ []
 
 -- The table has this row.
@@ -47,6 +48,8 @@ word_of row.Fail = codes "fail"
 word_of row.Attach = codes "attach"
 word_of row.Replace = codes "replace"
 word_of row.Retire = codes "retire"
+word_of row.Pause = codes "pause"
+word_of row.Resume = codes "resume"
 word_of row.Reopen = codes "reopen"
 word_of row.ReopenAll = codes "reopen all"
 word_of row.CopyRate = codes "copy-rate"
@@ -66,6 +69,8 @@ argument_of row.Fail = Leg
 argument_of row.Attach = Leg
 argument_of row.Replace = Leg
 argument_of row.Retire = Leg
+argument_of row.Pause = Leg
+argument_of row.Resume = Leg
 argument_of row.Reopen = Stripe
 argument_of row.SetCopyRate = Mib
 argument_of row.VerifyRepair = Leg
@@ -94,6 +99,8 @@ help_of row.Fail = codes "take a leg out"
 help_of row.Attach = codes "copy a leg again"
 help_of row.Replace = codes "open a leg's file anew and copy it whole"
 help_of row.Retire = codes "take the last leg out for good"
+help_of row.Pause = codes "copy no more to a leg until it is resumed"
+help_of row.Resume = codes "copy to a leg again that was paused"
 help_of row.Reopen = codes "open a stripe that stopped anew"
 help_of row.ReopenAll = codes "open each stripe that stopped anew"
 help_of row.CopyRate = codes "at what rate legs are copied"
@@ -138,6 +145,8 @@ command_of row.Fail number = ask.Fail number
 command_of row.Attach number = ask.Attach number
 command_of row.Replace number = ask.Replace number
 command_of row.Retire number = ask.Retire number
+command_of row.Pause number = ask.Pause number
+command_of row.Resume number = ask.Resume number
 command_of row.Reopen number = ask.Reopen number
 command_of row.ReopenAll number = ask.ReopenAll
 command_of row.CopyRate number = ask.CopyRate
@@ -161,6 +170,8 @@ row_of (ask.Fail leg) = Some (row.Fail, leg)
 row_of (ask.Attach leg) = Some (row.Attach, leg)
 row_of (ask.Replace leg) = Some (row.Replace, leg)
 row_of (ask.Retire leg) = Some (row.Retire, leg)
+row_of (ask.Pause leg) = Some (row.Pause, leg)
+row_of (ask.Resume leg) = Some (row.Resume, leg)
 row_of (ask.Reopen stripe) = Some (row.Reopen, stripe)
 row_of ask.ReopenAll = Some (row.ReopenAll, 0)
 row_of ask.CopyRate = Some (row.CopyRate, 0)

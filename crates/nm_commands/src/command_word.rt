@@ -4,7 +4,7 @@ ghost use Rattle.nm_commands.specs.ControlLine.{IsRow, argument_of, help_of, lea
 ghost use Rattle.nm_commands.specs.ControlLine.{rows, word_of};
 
 /// How many rows the table has.
-pub const ROWS: usize = 20;
+pub const ROWS: usize = 22;
 
 /// How many seconds a `quit` gives the clients at most: a day.
 const MOST_SECONDS: u64 = 86_400;
@@ -83,6 +83,10 @@ pub enum CommandWord {
     Replace,
     /// The last leg goes out for good.
     Retire,
+    /// Copies to a leg wait.
+    Pause,
+    /// Copies to a leg go on.
+    Resume,
     /// A stripe is opened anew.
     Reopen,
     /// Each stripe that has stopped is opened anew.
@@ -124,6 +128,8 @@ impl CommandWord {
             CommandWord::Attach,
             CommandWord::Replace,
             CommandWord::Retire,
+            CommandWord::Pause,
+            CommandWord::Resume,
             CommandWord::Reopen,
             CommandWord::ReopenAll,
             CommandWord::CopyRate,
@@ -157,6 +163,8 @@ impl CommandWord {
             CommandWord::Attach => "attach",
             CommandWord::Replace => "replace",
             CommandWord::Retire => "retire",
+            CommandWord::Pause => "pause",
+            CommandWord::Resume => "resume",
             CommandWord::Reopen => "reopen",
             CommandWord::ReopenAll => "reopen all",
             CommandWord::CopyRate => "copy-rate",
@@ -181,6 +189,8 @@ impl CommandWord {
             CommandWord::Attach => Argument::Leg,
             CommandWord::Replace => Argument::Leg,
             CommandWord::Retire => Argument::Leg,
+            CommandWord::Pause => Argument::Leg,
+            CommandWord::Resume => Argument::Leg,
             CommandWord::Reopen => Argument::Stripe,
             CommandWord::SetCopyRate => Argument::Mib,
             CommandWord::VerifyRepair => Argument::Leg,
@@ -203,6 +213,8 @@ impl CommandWord {
             CommandWord::Attach => "copy a leg again",
             CommandWord::Replace => "open a leg's file anew and copy it whole",
             CommandWord::Retire => "take the last leg out for good",
+            CommandWord::Pause => "copy no more to a leg until it is resumed",
+            CommandWord::Resume => "copy to a leg again that was paused",
             CommandWord::Reopen => "open a stripe that stopped anew",
             CommandWord::ReopenAll => "open each stripe that stopped anew",
             CommandWord::CopyRate => "at what rate legs are copied",

@@ -26,6 +26,10 @@ pub enum ControlCommand {
     Replace(u64),
     /// The leg goes out in every stripe for good.
     Retire(u64),
+    /// Copies to the leg wait.
+    Pause(u64),
+    /// Copies to the leg go on.
+    Resume(u64),
     /// The stripe is opened anew, if it has stopped.
     Reopen(u64),
     /// Each stripe that has stopped is opened anew.
@@ -151,6 +155,8 @@ impl CommandWord {
             CommandWord::Attach => ControlCommand::Attach(number),
             CommandWord::Replace => ControlCommand::Replace(number),
             CommandWord::Retire => ControlCommand::Retire(number),
+            CommandWord::Pause => ControlCommand::Pause(number),
+            CommandWord::Resume => ControlCommand::Resume(number),
             CommandWord::Reopen => ControlCommand::Reopen(number),
             CommandWord::ReopenAll => ControlCommand::ReopenAll,
             CommandWord::CopyRate => ControlCommand::CopyRate,

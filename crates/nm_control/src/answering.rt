@@ -7,7 +7,7 @@ use crate::replacing::{RenewsLegs, Replaced};
 use crate::retiring::{is_retired, put_retire};
 use crate::stopped::put_stopped;
 use crate::verify_answers::{put_known, put_verify, put_verify_stop};
-use crate::whole::put_status;
+use crate::whole::{put_pause, put_resume, put_status};
 use nm_commands::{ControlCommand, Fed, LineRoom, control_line};
 use nm_lanes::Gate;
 use nm_leg::LegPart;
@@ -251,6 +251,8 @@ fn do_line<R: Wait + Clock, L: LegPart, G: Gate + Drop, N: RenewsLegs<L>, M: Mak
         ControlCommand::Attach(leg) => put_attach(rt, server, leg.min(255) as u8, text),
         ControlCommand::Replace(leg) => put_replace(rt, alloc, server, leg.min(255) as u8, text),
         ControlCommand::Retire(leg) => put_retire(rt, server, leg.min(255) as u8, text),
+        ControlCommand::Pause(leg) => put_pause(server.mirror, leg.min(255) as u8, text),
+        ControlCommand::Resume(leg) => put_resume(server.mirror, leg.min(255) as u8, text),
         ControlCommand::Reopen(stripe) => {
             let stripe = stripe.min(u64::from(u32::MAX)) as u32;
             put_reopen(rt, alloc, server, Some(stripe), text)

@@ -6,7 +6,7 @@ use crate::due_syncs::DueSyncs;
 use crate::healing::Healing;
 use crate::leg_watch::LegWatch;
 use crate::verifier::Verifier;
-use nm_geometry::Shape;
+use nm_geometry::{MOST_LEGS, Shape};
 use nm_lanes::Gate;
 use nm_leg::LegPart;
 use nm_leg_files::OpensLegs;
@@ -15,6 +15,9 @@ use nm_reports::{LegLines, LegStory, LogLines, UnreadList};
 use std::alloc::{AllocError, Global};
 use std::sync::Wait;
 use std::time::Clock;
+
+/// How many legs there are at most.
+const LEGS: usize = MOST_LEGS as usize;
 
 /// Copies the legs of a mirror of this shape, and tells what happens to them and what could not be
 /// read.
@@ -28,6 +31,8 @@ pub struct Copier {
     syncs: DueSyncs,
     healing: Option<Healing>,
     verifier: Verifier,
+    // Whether each leg was last told to be paused.
+    paused: [bool; LEGS],
     ghost fits: { IsRoundOf shape round },
 }
 
@@ -53,6 +58,7 @@ impl Copier {
             syncs: DueSyncs::new(),
             healing,
             verifier: Verifier::new(alloc)?,
+            paused: [false; LEGS],
         })
     }
 
@@ -109,7 +115,27 @@ impl Copier {
         self.story
             .tell_unread(rt, self.alloc, lines, &self.round, now);
         self.story.tell_changes(rt, self.alloc, lines, mirror, now);
+        self.tell_paused(rt, mirror, lines);
         self.story.tell_failed_reads(rt, self.alloc, lines, now);
+    }
+
+    // Tells which legs were paused or resumed since that was last told.
+    fn tell_paused<R: Wait, L: LegPart, G: Gate + Drop>(
+        &mut self,
+        rt: &R,
+        mirror: &Mirror<L, G>,
+        lines: &LogLines,
+    ) {
+        let alloc = self.alloc;
+        for (leg, told) in self.paused.iter_mut().enumerate() {
+            let is_paused = mirror.is_paused(leg.min(255) as u8);
+            if *told == is_paused {
+                continue;
+            }
+            *told = is_paused;
+            let word = if is_paused { "paused" } else { "resumed" };
+            lines.inform(rt, format!(in alloc; "leg {leg}: its copies are {word}"));
+        }
     }
 
     /// Takes the legs out as a whole of which a call failed.
