@@ -1,5 +1,6 @@
 //! What a refusal does not say: which file or address, and why. It stands in the line before it.
 
+use crate::address::Address;
 use crate::start_fault::StartFault;
 use crate::superblock_names::superblock_name;
 use crate::unbound::Unbound;
@@ -74,19 +75,57 @@ fn put_unopened<E: Write>(
     Ok(())
 }
 
+// What the option of an address is, and the port that it has where none is given.
+fn option_of(address: Address<'_>, settings: &Settings<'_>) -> (&'static str, u16) {
+    if address == Address::of_clients(settings) {
+        ("--listen", 10809)
+    } else {
+        ("--control", 10810)
+    }
+}
+
+// Tells that this address has no port.
+fn put_no_port<E: Write>(name: &str, port: u16, err: &mut E) {
+    let _ = if name.contains(':') {
+        writeln!(err, "nbdmirror: {name}: has no port: give [{name}]:{port}")
+    } else {
+        writeln!(err, "nbdmirror: {name}: has no port: give {name}:{port}")
+    };
+}
+
 // Why no socket listens at this address.
 fn put_unbound<E: Write>(
     alloc: Global,
-    name: &str,
+    address: Address<'_>,
     why: Unbound,
+    settings: &Settings<'_>,
     err: &mut E,
 ) -> Result<(), AllocError> {
-    match why {
+    let text = format!(in alloc; "{address}")?;
+    let name = text.as_str();
+    let (option, port) = option_of(address, settings);
+    let _ = match why {
         Unbound::System(error) => return put_system(alloc, name, error, err),
-        Unbound::NoPath => put_line(name, "has no path", err),
-        Unbound::NoSocket => put_line(name, "is no socket", err),
-        Unbound::Taken => put_line(name, "somebody listens there", err),
-    }
+        Unbound::NoAddress => {
+            writeln!(err, "nbdmirror: {name}: has no address: give 127.0.0.1:{name}")
+        }
+        Unbound::NoPort => {
+            put_no_port(name, port, err);
+            Ok(())
+        }
+        Unbound::NoPath => writeln!(err, "nbdmirror: {name}: has no path"),
+        Unbound::NoSocket => writeln!(err, "nbdmirror: {name}: is no socket"),
+        Unbound::OfClients => writeln!(
+            err,
+            "nbdmirror: {name}: is the address of clients too: give another by --control"
+        ),
+        Unbound::Taken(Some(holder)) => {
+            writeln!(err, "nbdmirror: {name}: {holder} has it: give another by {option}")
+        }
+        Unbound::Taken(None) => {
+            writeln!(err, "nbdmirror: {name}: is in use: give another by {option}")
+        }
+    };
     Ok(())
 }
 
@@ -271,8 +310,7 @@ pub fn tell_reason<E: Write>(
             put_line(name_of(names, leg as usize), "a read failed", err);
         }
         StartFault::CannotListen(address, why) => {
-            let text = format!(in alloc; "{address}")?;
-            put_unbound(alloc, text.as_str(), why, err)?;
+            put_unbound(alloc, address, why, settings, err)?;
         }
         _ => put_of_superblocks(alloc, fault, settings, err)?,
     }

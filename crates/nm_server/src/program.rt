@@ -16,7 +16,7 @@ use nm_mirror::Pass;
 use nm_places::{ServingState, SessionRules, Shared};
 use nm_reports::{Address, LogForm, LogLines, Metrics, StartFault, tell_reason};
 use nm_serving::{AT_ONCE, ExportName, ServedExport};
-use nm_sockets::{Listener, listen};
+use nm_sockets::{Listener, listen, listen_beside};
 use nm_starts::{
     check_added, check_files, check_from, check_moved, check_shrink, check_stack, reply_bytes_of,
     settle_place, sort_legs, try_threads,
@@ -234,7 +234,7 @@ where
     check_stack(&limits)?;
     let files = open_files(rt, alloc, settings, &limits)?;
     let clients = listen(rt, alloc, Address::of_clients(settings))?;
-    let control = listen(rt, alloc, Address::Named(settings.control))?;
+    let control = listen_beside(rt, alloc, Address::Named(settings.control), &clients)?;
     files.start_threads(rt)?;
     let metrics = metrics_of(alloc, &files, settings.sessions)?;
     // Whatever may be refused is, before a superblock is made.
