@@ -1,6 +1,7 @@
 //! Who copies legs, and tells what happens to them.
 ghost use Rattle.nm_control.specs.Rounds.{IsRoundOf};
 
+use crate::copied_mirror::CopiedMirror;
 use crate::copy_orders::CopyOrders;
 use crate::due_syncs::DueSyncs;
 use crate::healing::Healing;
@@ -11,7 +12,7 @@ use nm_lanes::Gate;
 use nm_leg::LegPart;
 use nm_leg_files::OpensLegs;
 use nm_mirror::{CopyRound, Mirror, Pass};
-use nm_reports::{LegLines, LegStory, LogLines, UnreadList};
+use nm_reports::{LegLines, LegStory, LogLines};
 use std::alloc::{AllocError, Global};
 use std::sync::Wait;
 use std::time::Clock;
@@ -81,24 +82,23 @@ impl Copier {
     pub fn verify<R: Wait + Clock, L: LegPart, G: Gate + Drop>(
         &mut self,
         rt: &R,
-        mirror: &Mirror<L, G>,
+        copied: &CopiedMirror<'_, L, G>,
         pass: &mut Pass<L>,
-        orders: &CopyOrders,
-        lines: &LogLines,
         now: u64,
     ) -> u32 {
+        let (desk, lines) = (copied.orders.verify(), copied.shared.lines);
         self.verifier
-            .turn(rt, mirror, pass, orders.verify(), lines, now)
+            .turn(rt, copied.mirror, pass, desk, lines, now)
     }
 
     /// Tells how each leg stands, as the server begins or ends.
     pub fn tell_all<R: Wait + Clock, L: LegPart, G: Gate + Drop>(
         &mut self,
         rt: &R,
-        mirror: &Mirror<L, G>,
-        lines: &LogLines,
+        copied: &CopiedMirror<'_, L, G>,
         when: &str,
     ) {
+        let (mirror, lines) = (copied.mirror, copied.shared.lines);
         self.story.tell_all(rt, self.alloc, lines, mirror, when);
     }
 
@@ -106,12 +106,12 @@ impl Copier {
     pub fn tell<R: Wait + Clock, L: LegPart, G: Gate + Drop>(
         &mut self,
         rt: &R,
-        mirror: &Mirror<L, G>,
-        unread: &UnreadList,
-        lines: &LogLines,
+        copied: &CopiedMirror<'_, L, G>,
         now: u64,
     ) {
-        unread.set(rt, &self.round);
+        let (mirror, shared) = (copied.mirror, copied.shared);
+        let lines = shared.lines;
+        shared.state.unread.set(rt, &self.round);
         self.story
             .tell_unread(rt, self.alloc, lines, &self.round, now);
         self.story.tell_changes(rt, self.alloc, lines, mirror, now);
@@ -142,11 +142,9 @@ impl Copier {
     pub fn watch<R: Wait + Clock, L: LegPart, G: Gate + Drop>(
         &self,
         rt: &R,
-        mirror: &Mirror<L, G>,
-        orders: &CopyOrders,
-        lines: &LogLines,
+        copied: &CopiedMirror<'_, L, G>,
     ) {
-        self.watch.look(rt, self.alloc, mirror, orders, lines);
+        self.watch.look(rt, self.alloc, copied);
     }
 
     /// Syncs what was written and not flushed for five seconds, at this time, in milliseconds.
@@ -164,22 +162,11 @@ impl Copier {
         &mut self,
         rt: &R,
         opener: &O,
-        mirror: &Mirror<L, G>,
-        orders: &CopyOrders,
-        lines: &LogLines,
+        copied: &CopiedMirror<'_, L, G>,
         now: u64,
     ) {
         if let Some(healing) = &mut self.healing {
-            healing.look(
-                rt,
-                self.alloc,
-                opener,
-                &self.story,
-                mirror,
-                orders,
-                lines,
-                now,
-            );
+            healing.look(rt, opener, &self.story, copied, now);
         }
     }
 

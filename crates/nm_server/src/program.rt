@@ -5,7 +5,7 @@ ghost use Rattle.nm_reports.specs.StartFault.{status_of, status_of_words};
 
 use crate::absent::tell_absent;
 use crate::equipment::{Opened, metrics_of, open};
-use crate::serving::serve_and_copy;
+use crate::serving::Serving;
 use clap::Error;
 use clap::error::ErrorKind;
 use nm_commands::{Settings, settings, write_words};
@@ -182,18 +182,15 @@ where
         syncs: &own.syncs,
     };
     own.orders.begin_limits();
-    serve_and_copy(
-        rt,
-        opener,
+    let serving = Serving {
         shared,
-        &export,
-        passes.as_mut_slice(),
-        copier,
-        &own.orders,
-        &legs,
-        &maker,
+        export: &export,
+        orders: &own.orders,
+        legs: &legs,
+        maker: &maker,
         writer,
-    )?;
+    };
+    serving.serve(rt, passes.as_mut_slice(), copier)?;
     let (stopped, all) = (count_stopped(rt, &mirror), mirror.shape().stripes);
     close(alloc, mirror, passes, settings.verbose, out)?;
     if stopped > 0 {
@@ -223,9 +220,7 @@ where
         + Net<Listener = TcpListener, Stream = TcpStream>
         + 'static,
 {
-    let Some(_streams) = take_standard_streams(rt, alloc) else {
-        return Err(StartFault::NoStandardStreams);
-    };
+    let _streams = take_standard_streams(rt, alloc).ok_or(StartFault::NoStandardStreams)?;
     settle_place(rt, settings);
     sort_legs(rt, alloc, settings, lines)?;
     let settings = &*settings;
@@ -254,6 +249,21 @@ fn tell_fault<E: Write>(fault: &StartFault<'_>, err: &mut E) -> u8
     let _ = writeln!(err, "{fault}");
     let _ = err.flush();
     fault.status()
+}
+
+// Tells the same, and before it which file or address is meant, and why it is refused.
+fn tell_ended<P: OpensLegs, E: Write>(
+    alloc: Global,
+    opener: &P,
+    settings: &Settings<'_>,
+    fault: &StartFault<'_>,
+    err: &mut E,
+) -> u8
+    ensures { result ≡ status_of fault.now }
+{
+    let _ = tell_reason(alloc, fault, settings, err);
+    let _ = tell_absent(alloc, opener, fault, settings, err);
+    tell_fault(fault, err)
 }
 
 // Writes what clap says, and returns the exit status. What cannot be written is lost.
@@ -336,10 +346,6 @@ where
     lines.close(rt);
     match ended {
         Ok(()) => 0,
-        Err(fault) => {
-            let _ = tell_reason(alloc, &fault, &settings, err);
-            let _ = tell_absent(alloc, opener, &fault, &settings, err);
-            tell_fault(&fault, err)
-        }
+        Err(fault) => tell_ended(alloc, opener, &settings, &fault, err),
     }
 }

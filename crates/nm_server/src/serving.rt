@@ -1,7 +1,8 @@
 //! Everything that is at work while the server serves.
 
-use nm_control::{Controlled, Copier, CopyOrders, LegRenewer, resynchronise, serve_control};
-use nm_lanes::NoGate;
+use nm_control::{
+    Controlled, CopiedMirror, Copier, CopyOrders, LegRenewer, resynchronise, serve_control,
+};
 use nm_leg_files::{FileMirror, LateSlots, Leg, LegMaker, OpensLegs, SuperblockWriter};
 use nm_mirror::Pass;
 use nm_places::Shared;
@@ -65,58 +66,6 @@ where
     })
 }
 
-// Serves the control port and sessions, until the last of these has ended. False where a thread
-// could not be started.
-fn serve_both<R, O: OpensLegs + Sync>(
-    rt: &R,
-    shared: &Shared<'_>,
-    export: &ServedExport<'_, '_>,
-    passes: &mut [Pass<Leg>],
-    controlled: &Controlled<'_, Leg, NoGate, LegRenewer<'_, O>, LegMaker<'_>>,
-) -> bool
-where
-    R: Threads + Wait + Sync + Copy + Clock + Net<Listener = TcpListener, Stream = TcpStream>,
-{
-    let has_ended = &shared.state.has_ended;
-    let is_served = thread::scope(thread::scope_env(), rt, |scope| {
-        let Ok(control_port) = scope.spawn(move || serve_control(rt, shared, controlled)) else {
-            return false;
-        };
-        let is_served = serve_syncing(rt, shared, export, passes);
-        has_ended.store(true, Ordering::SeqCst);
-        shared.control.wake(rt);
-        control_port.join(rt) && is_served
-    });
-    has_ended.store(true, Ordering::SeqCst);
-    is_served
-}
-
-// Serves until the last session has ended, while one thread copies legs, which has the first pass.
-// False where a thread could not be started.
-fn serve_copying<R, O: OpensLegs + Sync>(
-    rt: &R,
-    opener: &O,
-    shared: &Shared<'_>,
-    export: &ServedExport<'_, '_>,
-    passes: &mut [Pass<Leg>],
-    copier: Copier,
-    controlled: &Controlled<'_, Leg, NoGate, LegRenewer<'_, O>, LegMaker<'_>>,
-) -> bool
-where
-    R: Threads + Wait + Sync + Copy + Clock + Net<Listener = TcpListener, Stream = TcpStream>,
-{
-    let (mirror, orders) = (controlled.mirror, controlled.orders);
-    let Some((own, clients)) = passes.split_first_mut() else {
-        return false;
-    };
-    thread::scope(thread::scope_env(), rt, |scope| {
-        let copying = scope.spawn(move || {
-            resynchronise(rt, opener, copier, mirror, own, orders, shared)
-        });
-        copying.is_ok() && serve_both(rt, shared, export, clients, controlled)
-    })
-}
-
 // Saves superblocks whenever that is wanted, until saves are closed. One that could not be done is
 // wanted again by `reopen` alone.
 fn write_superblocks<R: Wait>(
@@ -139,78 +88,129 @@ fn write_superblocks<R: Wait>(
     }
 }
 
-// Serves as above, while one thread saves superblocks. The last of them is saved in the end.
-fn serve_saving<R, O: OpensLegs + Sync>(
-    rt: &R,
-    opener: &O,
-    shared: &Shared<'_>,
-    export: &ServedExport<'_, '_>,
-    passes: &mut [Pass<Leg>],
-    copier: Copier,
-    controlled: &Controlled<'_, Leg, NoGate, LegRenewer<'_, O>, LegMaker<'_>>,
-    writer: &Mutex<SuperblockWriter<LateSlots>>,
-) -> bool
-where
-    R: Threads + Wait + Sync + Copy + Clock + Net<Listener = TcpListener, Stream = TcpStream>,
-{
-    let (mirror, saves) = (controlled.mirror, shared.state.info.saves());
-    writer.lock(rt).tell_start(rt, saves, shared.lines);
-    thread::scope(thread::scope_env(), rt, |scope| {
-        let saving = scope.spawn(move || write_superblocks(rt, shared, writer, mirror));
-        let Ok(saving) = saving else {
-            return false;
-        };
-        let is_served = serve_copying(rt, opener, shared, export, passes, copier, controlled);
-        mirror.close_saves(rt);
-        saving.join(rt);
-        let doubts = controlled.orders.doubts();
-        let lines = shared.lines;
-        if writer.lock(rt).settle(rt, mirror, doubts, saves, lines) {
-            let changed = controlled.legs.settled_times(rt);
-            writer.lock(rt).end(rt, mirror, saves, lines, &changed);
-        }
-        is_served
-    })
+/// What is served, and by what.
+#[derive(Drop)]
+pub struct Serving<'x, 'n, O: OpensLegs> {
+    /// What the server's threads share.
+    pub shared: &'x Shared<'x>,
+    /// What sessions serve.
+    pub export: &'x ServedExport<'x, 'n>,
+    /// What an administrator wants of copies.
+    pub orders: &'x CopyOrders,
+    /// What opens the legs' files anew.
+    pub legs: &'x LegRenewer<'x, O>,
+    /// What makes the legs of stripes that are opened anew.
+    pub maker: &'x LegMaker<'x>,
+    /// What saves superblocks, where there are some.
+    pub writer: Option<&'x Mutex<SuperblockWriter<LateSlots>>>,
 }
 
-/// Serves until the last session has ended, while one thread copies legs and tells what happens
-/// to them, one saves superblocks where there are some, and others serve the control port. Copies
-/// begin as these orders say.
-pub fn serve_and_copy<'a, R, O: OpensLegs + Sync>(
-    rt: &R,
-    opener: &O,
-    shared: &Shared<'_>,
-    export: &ServedExport<'_, '_>,
-    passes: &mut [Pass<Leg>],
-    copier: Copier,
-    orders: &CopyOrders,
-    legs: &LegRenewer<'_, O>,
-    maker: &LegMaker<'_>,
-    writer: Option<&Mutex<SuperblockWriter<LateSlots>>>,
-) -> Result<(), StartFault<'a>>
-where
-    R: Threads + Wait + Sync + Copy + Clock + Net<Listener = TcpListener, Stream = TcpStream>,
-{
-    let controlled = &Controlled {
-        mirror: export.mirror,
-        name: export.named.name(),
-        unread: &shared.state.unread,
-        sessions: &shared.state.places,
-        info: &shared.state.info,
-        metrics: &shared.state.metrics,
-        orders,
-        legs,
-        maker,
-    };
-    let is_served = match writer {
-        Some(writer) => serve_saving(
-            rt, opener, shared, export, passes, copier, controlled, writer,
-        ),
-        None => serve_copying(rt, opener, shared, export, passes, copier, controlled),
-    };
-    if is_served {
-        Ok(())
-    } else {
-        Err(StartFault::Memory)
+impl<'x, 'n, O: OpensLegs + Sync> Serving<'x, 'n, O> {
+    // Serves the control port and sessions, until the last of these has ended. False where a thread
+    // could not be started.
+    fn serve_both<R>(&self, rt: &R, passes: &mut [Pass<Leg>]) -> bool
+    where
+        R: Threads + Wait + Sync + Copy + Clock + Net<Listener = TcpListener, Stream = TcpStream>,
+    {
+        let (shared, export) = (self.shared, self.export);
+        let state = shared.state;
+        let controlled = &Controlled {
+            mirror: export.mirror,
+            name: export.named.name(),
+            unread: &state.unread,
+            sessions: &state.places,
+            info: &state.info,
+            metrics: &state.metrics,
+            orders: self.orders,
+            legs: self.legs,
+            maker: self.maker,
+        };
+        let has_ended = &state.has_ended;
+        let is_served = thread::scope(thread::scope_env(), rt, |scope| {
+            let Ok(control_port) = scope.spawn(move || serve_control(rt, shared, controlled)) else {
+                return false;
+            };
+            let is_served = serve_syncing(rt, shared, export, passes);
+            has_ended.store(true, Ordering::SeqCst);
+            shared.control.wake(rt);
+            control_port.join(rt) && is_served
+        });
+        has_ended.store(true, Ordering::SeqCst);
+        is_served
+    }
+
+    // Serves until the last session has ended, while one thread copies legs, which has the first
+    // pass. False where a thread could not be started.
+    fn serve_copying<R>(&self, rt: &R, passes: &mut [Pass<Leg>], copier: Copier) -> bool
+    where
+        R: Threads + Wait + Sync + Copy + Clock + Net<Listener = TcpListener, Stream = TcpStream>,
+    {
+        let opener = self.legs.opener();
+        let copied = &CopiedMirror {
+            mirror: self.export.mirror,
+            orders: self.orders,
+            shared: self.shared,
+        };
+        let Some((own, clients)) = passes.split_first_mut() else {
+            return false;
+        };
+        thread::scope(thread::scope_env(), rt, |scope| {
+            let copying = scope.spawn(move || resynchronise(rt, opener, copier, copied, own));
+            copying.is_ok() && self.serve_both(rt, clients)
+        })
+    }
+
+    // Serves as above, while one thread saves superblocks. The last of them is saved in the end.
+    fn serve_saving<R>(
+        &self,
+        rt: &R,
+        passes: &mut [Pass<Leg>],
+        copier: Copier,
+        writer: &Mutex<SuperblockWriter<LateSlots>>,
+    ) -> bool
+    where
+        R: Threads + Wait + Sync + Copy + Clock + Net<Listener = TcpListener, Stream = TcpStream>,
+    {
+        let (mirror, shared) = (self.export.mirror, self.shared);
+        let (saves, lines) = (shared.state.info.saves(), shared.lines);
+        writer.lock(rt).tell_start(rt, saves, lines);
+        thread::scope(thread::scope_env(), rt, |scope| {
+            let saving = scope.spawn(move || write_superblocks(rt, shared, writer, mirror));
+            let Ok(saving) = saving else {
+                return false;
+            };
+            let is_served = self.serve_copying(rt, passes, copier);
+            mirror.close_saves(rt);
+            saving.join(rt);
+            let doubts = self.orders.doubts();
+            if writer.lock(rt).settle(rt, mirror, doubts, saves, lines) {
+                let changed = self.legs.settled_times(rt);
+                writer.lock(rt).end(rt, mirror, saves, lines, &changed);
+            }
+            is_served
+        })
+    }
+
+    /// Serves until the last session has ended, while one thread copies legs and tells what happens
+    /// to them, one saves superblocks where there are some, and others serve the control port.
+    /// Copies begin as they are ordered.
+    pub fn serve<'a, R>(
+        &self,
+        rt: &R,
+        passes: &mut [Pass<Leg>],
+        copier: Copier,
+    ) -> Result<(), StartFault<'a>>
+    where
+        R: Threads + Wait + Sync + Copy + Clock + Net<Listener = TcpListener, Stream = TcpStream>,
+    {
+        let is_served = match self.writer {
+            Some(writer) => self.serve_saving(rt, passes, copier, writer),
+            None => self.serve_copying(rt, passes, copier),
+        };
+        if is_served {
+            Ok(())
+        } else {
+            Err(StartFault::Memory)
+        }
     }
 }

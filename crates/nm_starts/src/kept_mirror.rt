@@ -226,6 +226,28 @@ fn gone_by<R: Wait>(
     }
 }
 
+// What is found of the legs by the superblocks in these places, and the newest of these. Files under
+// names of legs that it knows and of which none was found are let go of.
+fn see_legs<'a, R: Files<File = File> + Wait>(
+    rt: &R,
+    alloc: Global,
+    settings: &Settings<'a>,
+    files: &mut LegFiles,
+    places: &mut FoundPlaces,
+    lines: &LogLines,
+) -> Result<(FoundLegs, Option<Superblock>), StartFault<'a>> {
+    places.tell(rt, alloc, lines);
+    let mut superblocks = places.superblocks(alloc, settings)?;
+    let newest = newest_of(&superblocks);
+    if let Some(newest) = &newest {
+        take_added(&mut superblocks, newest.legs);
+    }
+    lay_unknown_aside(alloc, settings, newest, &superblocks, files)?;
+    let seen = find_legs(rt, alloc, settings, files, &superblocks, lines)?;
+    tell_unmoved(rt, alloc, &seen, lines);
+    Ok((seen, newest))
+}
+
 // The mirror that superblocks open, or that gets its first ones.
 fn open_kept<'a, R, M: Meanwhile + Sync>(
     rt: &R,
@@ -240,18 +262,9 @@ where
 {
     check_all_named(settings, files)?;
     let mut places = FoundPlaces::open(rt, alloc, settings, files)?;
-    places.tell(rt, alloc, lines);
-    let mut superblocks = places.superblocks(alloc, settings)?;
-    let went_by = newest_of(&superblocks);
-    if let Some(newest) = &went_by {
-        take_added(&mut superblocks, newest.legs);
-    }
-    lay_unknown_aside(alloc, settings, went_by, &superblocks, files)?;
-    let seen = find_legs(rt, alloc, settings, files, &superblocks, lines)?;
-    tell_unmoved(rt, alloc, &seen, lines);
+    let (seen, went_by) = see_legs(rt, alloc, settings, files, &mut places, lines)?;
     let (told, is_compared) = gone_by(rt, alloc, settings, &seen, lines);
-    let lineage = draw_id(rt)?;
-    let (image, is_first) = image_for(rt, settings, files, &told, lineage)?;
+    let (image, is_first) = image_for(rt, settings, files, &told, draw_id(rt)?)?;
     if is_first {
         check_first(settings, files, &places.new)?;
     }

@@ -67,6 +67,28 @@ fn remove<R: Files<File = File>>(rt: &R, names: &[String], made: &Made) {
     }
 }
 
+impl Made {
+    // Makes the superblock's file of this leg, with this superblock in it, or none yet. It is noted
+    // as made by this start where nothing had its name.
+    fn make<'a, R: Files<File = File>>(
+        &mut self,
+        rt: &R,
+        alloc: Global,
+        leg: usize,
+        name: &str,
+        first: Option<Superblock>,
+        limit: &CallLimit,
+    ) -> Result<SuperblockFile<LateSlots>, StartFault<'a>> {
+        if let Some(is_made) = self.files.get_mut(leg) {
+            *is_made = rt.symlink_metadata(name).is_err();
+        }
+        match make_file(rt, alloc, name, first, limit) {
+            Ok(made) => Ok(made),
+            Err(why) => Err(StartFault::CannotSave(leg, why)),
+        }
+    }
+}
+
 impl AllFiles {
     /// Removes the files that this start has made: it is refused.
     pub fn remove_made<R: Files<File = File>>(&self, rt: &R) {
@@ -264,13 +286,8 @@ impl FoundFiles {
             return Ok(None);
         }
         if is_here || carried.is_some() {
-            if let Some(is_made) = self.made.files.get_mut(leg) {
-                *is_made = rt.symlink_metadata(name.as_str()).is_err();
-            }
-            match make_file(rt, alloc, name.as_str(), carried, limit) {
-                Ok(made) => *place = Some(made),
-                Err(why) => return Err(StartFault::CannotSave(leg, why)),
-            }
+            let name = name.as_str();
+            *place = Some(self.made.make(rt, alloc, leg, name, carried, limit)?);
             return Ok(None);
         }
         let Some(went_by) = went_by else {
