@@ -5,7 +5,7 @@ ghost use Rattle.nm_reports.specs.StartFault.{status_of, status_of_words};
 
 use crate::absent::tell_absent;
 use crate::equipment::{Opened, metrics_of, open};
-use crate::serving::Serving;
+use crate::serving::serve_and_copy;
 use clap::Error;
 use clap::error::ErrorKind;
 use nm_commands::{Settings, settings, write_words};
@@ -159,13 +159,13 @@ fn state_of<'a, R: Threads + Wait + Sync + Clock>(
 }
 
 // Serves the mirror that was opened until a `quit`, and ends it.
-fn serve<'a, R, P: OpensLegs + Sync, O: Write>(
+fn serve<'a, 's, R, P: OpensLegs + Sync, O: Write>(
     rt: &R,
     opener: &P,
     settings: &Settings<'a>,
     named: &ExportName<'a>,
     opened: Opened,
-    shared: &Shared<'_>,
+    shared: &'s Shared<'s>,
     out: &mut O,
 ) -> Result<(), StartFault<'a>>
 where
@@ -182,15 +182,19 @@ where
         syncs: &own.syncs,
     };
     own.orders.begin_limits();
-    let serving = Serving {
+    let own_pass = passes.pop().ok_or(StartFault::Memory)?;
+    let own_pass = serve_and_copy(
+        rt,
         shared,
-        export: &export,
-        orders: &own.orders,
-        legs: &legs,
-        maker: &maker,
-        writer,
-    };
-    serving.serve(rt, passes.as_mut_slice(), copier)?;
+        &export,
+        passes.as_mut_slice(),
+        (copier, own_pass),
+        &own,
+        (&legs, &maker),
+    )?;
+    if passes.push(own_pass).is_err() {
+        return Err(StartFault::Memory);
+    }
     let (stopped, all) = (count_stopped(rt, &mirror), mirror.shape().stripes);
     close(alloc, mirror, passes, settings.verbose, out)?;
     if stopped > 0 {

@@ -1,8 +1,8 @@
 //! Everything that is at work while the server serves.
 
-use nm_control::{
-    Controlled, CopiedMirror, Copier, CopyOrders, LegRenewer, resynchronise, serve_control,
-};
+use crate::equipment::Equipment;
+use nm_control::{Controlled, CopiedMirror, Copier, LegRenewer, resynchronise, serve_control};
+use nm_lanes::NoGate;
 use nm_leg_files::{FileMirror, LateSlots, Leg, LegMaker, OpensLegs, SuperblockWriter};
 use nm_mirror::Pass;
 use nm_places::Shared;
@@ -66,6 +66,74 @@ where
     })
 }
 
+// Serves the control port and sessions, until the last of these has ended. False where a thread
+// could not be started.
+fn serve_both<R, O: OpensLegs + Sync>(
+    rt: &R,
+    shared: &Shared<'_>,
+    export: &ServedExport<'_, '_>,
+    passes: &mut [Pass<Leg>],
+    controlled: &Controlled<'_, Leg, NoGate, LegRenewer<'_, O>, LegMaker<'_>>,
+) -> bool
+where
+    R: Threads + Wait + Sync + Copy + Clock + Net<Listener = TcpListener, Stream = TcpStream>,
+{
+    let has_ended = &shared.state.has_ended;
+    let is_served = thread::scope(thread::scope_env(), rt, |scope| {
+        let Ok(control_port) = scope.spawn(move || serve_control(rt, shared, controlled)) else {
+            return false;
+        };
+        let is_served = serve_syncing(rt, shared, export, passes);
+        has_ended.store(true, Ordering::SeqCst);
+        shared.control.wake(rt);
+        control_port.join(rt) && is_served
+    });
+    has_ended.store(true, Ordering::SeqCst);
+    is_served
+}
+
+/// Who copies legs, and its pass.
+pub type Copying = (Copier, Pass<Leg>);
+
+// Copies legs until all sessions have ended, and gives the pass back.
+fn copy_legs<R: Wait + Clock, O: OpensLegs>(
+    rt: &R,
+    opener: &O,
+    copier: Copier,
+    own: Pass<Leg>,
+    copied: &CopiedMirror<'_, Leg, NoGate>,
+) -> Pass<Leg> {
+    let mut own = own;
+    resynchronise(rt, opener, copier, copied, &mut own);
+    own
+}
+
+// Serves until the last session has ended, while one thread copies legs, whose pass is given back.
+// None where a thread could not be started.
+fn serve_copying<R, O: OpensLegs + Sync>(
+    rt: &R,
+    export: &ServedExport<'_, '_>,
+    passes: &mut [Pass<Leg>],
+    copying: Copying,
+    controlled: &Controlled<'_, Leg, NoGate, LegRenewer<'_, O>, LegMaker<'_>>,
+    copied: &CopiedMirror<'_, Leg, NoGate>,
+) -> Option<Pass<Leg>>
+where
+    R: Threads + Wait + Sync + Copy + Clock + Net<Listener = TcpListener, Stream = TcpStream>,
+{
+    let (opener, shared) = (controlled.legs.opener(), copied.shared);
+    let (copier, own) = copying;
+    thread::scope(thread::scope_env(), rt, |scope| {
+        let start = scope.spawn(move || copy_legs(rt, opener, copier, own, copied));
+        let Ok(copying) = start else {
+            return None;
+        };
+        let is_served = serve_both(rt, shared, export, passes, controlled);
+        let own = copying.join(rt);
+        if is_served { Some(own) } else { None }
+    })
+}
+
 // Saves superblocks whenever that is wanted, until saves are closed. One that could not be done is
 // wanted again by `reopen` alone.
 fn write_superblocks<R: Wait>(
@@ -88,129 +156,75 @@ fn write_superblocks<R: Wait>(
     }
 }
 
-/// What is served, and by what.
-#[derive(Drop)]
-pub struct Serving<'x, 'n, O: OpensLegs> {
-    /// What the server's threads share.
-    pub shared: &'x Shared<'x>,
-    /// What sessions serve.
-    pub export: &'x ServedExport<'x, 'n>,
-    /// What an administrator wants of copies.
-    pub orders: &'x CopyOrders,
-    /// What opens the legs' files anew.
-    pub legs: &'x LegRenewer<'x, O>,
-    /// What makes the legs of stripes that are opened anew.
-    pub maker: &'x LegMaker<'x>,
-    /// What saves superblocks, where there are some.
-    pub writer: Option<&'x Mutex<SuperblockWriter<LateSlots>>>,
+// Serves as above, while one thread saves superblocks. The last of them is saved in the end.
+fn serve_saving<R, O: OpensLegs + Sync>(
+    rt: &R,
+    export: &ServedExport<'_, '_>,
+    passes: &mut [Pass<Leg>],
+    copying: Copying,
+    controlled: &Controlled<'_, Leg, NoGate, LegRenewer<'_, O>, LegMaker<'_>>,
+    copied: &CopiedMirror<'_, Leg, NoGate>,
+    writer: &Mutex<SuperblockWriter<LateSlots>>,
+) -> Option<Pass<Leg>>
+where
+    R: Threads + Wait + Sync + Copy + Clock + Net<Listener = TcpListener, Stream = TcpStream>,
+{
+    let (mirror, shared) = (controlled.mirror, copied.shared);
+    let saves = shared.state.info.saves();
+    writer.lock(rt).tell_start(rt, saves, shared.lines);
+    thread::scope(thread::scope_env(), rt, |scope| {
+        let saving = scope.spawn(move || write_superblocks(rt, shared, writer, mirror));
+        let Ok(saving) = saving else {
+            return None;
+        };
+        let own = serve_copying(rt, export, passes, copying, controlled, copied);
+        mirror.close_saves(rt);
+        saving.join(rt);
+        let doubts = controlled.orders.doubts();
+        let lines = shared.lines;
+        if writer.lock(rt).settle(rt, mirror, doubts, saves, lines) {
+            let changed = controlled.legs.settled_times(rt);
+            writer.lock(rt).end(rt, mirror, saves, lines, &changed);
+        }
+        own
+    })
 }
 
-impl<'x, 'n, O: OpensLegs + Sync> Serving<'x, 'n, O> {
-    // Serves the control port and sessions, until the last of these has ended. False where a thread
-    // could not be started.
-    fn serve_both<R>(&self, rt: &R, passes: &mut [Pass<Leg>]) -> bool
-    where
-        R: Threads + Wait + Sync + Copy + Clock + Net<Listener = TcpListener, Stream = TcpStream>,
-    {
-        let (shared, export) = (self.shared, self.export);
-        let state = shared.state;
-        let controlled = &Controlled {
-            mirror: export.mirror,
-            name: export.named.name(),
-            unread: &state.unread,
-            sessions: &state.places,
-            info: &state.info,
-            metrics: &state.metrics,
-            orders: self.orders,
-            legs: self.legs,
-            maker: self.maker,
-        };
-        let has_ended = &state.has_ended;
-        let is_served = thread::scope(thread::scope_env(), rt, |scope| {
-            let Ok(control_port) = scope.spawn(move || serve_control(rt, shared, controlled)) else {
-                return false;
-            };
-            let is_served = serve_syncing(rt, shared, export, passes);
-            has_ended.store(true, Ordering::SeqCst);
-            shared.control.wake(rt);
-            control_port.join(rt) && is_served
-        });
-        has_ended.store(true, Ordering::SeqCst);
-        is_served
-    }
-
-    // Serves until the last session has ended, while one thread copies legs, which has the first
-    // pass. False where a thread could not be started.
-    fn serve_copying<R>(&self, rt: &R, passes: &mut [Pass<Leg>], copier: Copier) -> bool
-    where
-        R: Threads + Wait + Sync + Copy + Clock + Net<Listener = TcpListener, Stream = TcpStream>,
-    {
-        let opener = self.legs.opener();
-        let copied = &CopiedMirror {
-            mirror: self.export.mirror,
-            orders: self.orders,
-            shared: self.shared,
-        };
-        let Some((own, clients)) = passes.split_first_mut() else {
-            return false;
-        };
-        thread::scope(thread::scope_env(), rt, |scope| {
-            let copying = scope.spawn(move || resynchronise(rt, opener, copier, copied, own));
-            copying.is_ok() && self.serve_both(rt, clients)
-        })
-    }
-
-    // Serves as above, while one thread saves superblocks. The last of them is saved in the end.
-    fn serve_saving<R>(
-        &self,
-        rt: &R,
-        passes: &mut [Pass<Leg>],
-        copier: Copier,
-        writer: &Mutex<SuperblockWriter<LateSlots>>,
-    ) -> bool
-    where
-        R: Threads + Wait + Sync + Copy + Clock + Net<Listener = TcpListener, Stream = TcpStream>,
-    {
-        let (mirror, shared) = (self.export.mirror, self.shared);
-        let (saves, lines) = (shared.state.info.saves(), shared.lines);
-        writer.lock(rt).tell_start(rt, saves, lines);
-        thread::scope(thread::scope_env(), rt, |scope| {
-            let saving = scope.spawn(move || write_superblocks(rt, shared, writer, mirror));
-            let Ok(saving) = saving else {
-                return false;
-            };
-            let is_served = self.serve_copying(rt, passes, copier);
-            mirror.close_saves(rt);
-            saving.join(rt);
-            let doubts = self.orders.doubts();
-            if writer.lock(rt).settle(rt, mirror, doubts, saves, lines) {
-                let changed = self.legs.settled_times(rt);
-                writer.lock(rt).end(rt, mirror, saves, lines, &changed);
-            }
-            is_served
-        })
-    }
-
-    /// Serves until the last session has ended, while one thread copies legs and tells what happens
-    /// to them, one saves superblocks where there are some, and others serve the control port.
-    /// Copies begin as they are ordered.
-    pub fn serve<'a, R>(
-        &self,
-        rt: &R,
-        passes: &mut [Pass<Leg>],
-        copier: Copier,
-    ) -> Result<(), StartFault<'a>>
-    where
-        R: Threads + Wait + Sync + Copy + Clock + Net<Listener = TcpListener, Stream = TcpStream>,
-    {
-        let is_served = match self.writer {
-            Some(writer) => self.serve_saving(rt, passes, copier, writer),
-            None => self.serve_copying(rt, passes, copier),
-        };
-        if is_served {
-            Ok(())
-        } else {
-            Err(StartFault::Memory)
-        }
-    }
+/// Serves until the last session has ended, while one thread copies legs and tells what happens
+/// to them, one saves superblocks where there are some, and others serve the control port. Copies
+/// begin as they are ordered. Gives the copier's pass back.
+pub fn serve_and_copy<'a, 's, R, O: OpensLegs + Sync>(
+    rt: &R,
+    shared: &'s Shared<'s>,
+    export: &ServedExport<'_, '_>,
+    passes: &mut [Pass<Leg>],
+    copying: Copying,
+    own: &Equipment,
+    (legs, maker): (&LegRenewer<'_, O>, &LegMaker<'_>),
+) -> Result<Pass<Leg>, StartFault<'a>>
+where
+    R: Threads + Wait + Sync + Copy + Clock + Net<Listener = TcpListener, Stream = TcpStream>,
+{
+    let (mirror, orders) = (export.mirror, &own.orders);
+    let controlled = &Controlled {
+        mirror,
+        name: export.named.name(),
+        unread: &shared.state.unread,
+        sessions: &shared.state.places,
+        info: &shared.state.info,
+        metrics: &shared.state.metrics,
+        orders,
+        legs,
+        maker,
+    };
+    let copied = &CopiedMirror {
+        mirror,
+        orders,
+        shared,
+    };
+    let pass = match &own.superblocks {
+        Some(writer) => serve_saving(rt, export, passes, copying, controlled, copied, writer),
+        None => serve_copying(rt, export, passes, copying, controlled, copied),
+    };
+    pass.ok_or(StartFault::Memory)
 }
