@@ -19,7 +19,7 @@ QUIET_SECONDS = 2
 # What it means that none comes. An older server serves one connection at a time, and none after a quit.
 NO_ANSWER = "a leg hangs, or the control port is busy"
 # What a line of which no answer came may do yet, where it does something.
-STILL = {"fail", "attach", "replace", "retire", "reopen", "kick", "copy-rate", "verify", "quit"}
+STILL = {"fail", "attach", "replace", "retire", "pause", "resume", "reopen", "kick", "copy-rate", "verify", "quit"}
 # What no server sends more of: bytes in a line, stripes, and lines of metrics.
 MOST_BYTES, MOST_STRIPES, MOST_METRICS = 4096, 1024, 4096
 STRIPE = re.compile(r"stripe (\d{1,20}): (.*)")
@@ -33,6 +33,7 @@ ATTACHED = re.compile(r"attach (\d+): joining (\d+) left (\d+) notout (\d+) stop
 REPLACED = re.compile(r"replace (\d+): joining (\d+) left (\d+) out (\d+) stopped (\d+)( unsaved)?")
 REFUSED = re.compile(r"(?:fail|attach|replace|retire) \d+: (last|busy|stopped|retired|not the highest|in use|locked|length|cannot open|not saved"
                      r"|is a block device: give --superblock FOLDER|no file|was cut|another file)")
+PAUSED = re.compile(r"leg (\d{1,3}): paused")
 RETIRED = re.compile(r"retire (\d+): out( unsaved)?")
 REOPENED = re.compile(r"reopen: opened (\d+) left (\d+) stopped (\d+)")
 # What a server says of a mirror as a whole beside its stripes, a word and a colon before it.
@@ -302,8 +303,18 @@ def stripe_of(line):
 
 
 def stripes_in(lines):
-    """The stripes of a status, each as a dictionary."""
-    return [stripe_of(line) for line in lines if not WHOLE.fullmatch(line)]
+    """The stripes of a status, each as a dictionary. A leg that is paused says so in each."""
+    paused = {int(found[1]) for found in map(PAUSED.fullmatch, lines) if found}
+    stripes = [stripe_of(line) for line in lines if not WHOLE.fullmatch(line) and not PAUSED.fullmatch(line)]
+    for stripe in stripes:
+        for number, leg in enumerate(stripe.get("legs", [])):
+            leg["paused"] = number in paused
+    return stripes
+
+
+def paused_in(stripes):
+    """The legs that are paused, by rising number."""
+    return sorted({number for stripe in stripes for number, leg in enumerate(stripe.get("legs", [])) if leg.get("paused")})
 
 
 def whole_in(lines):
@@ -339,15 +350,16 @@ def count_of_legs(stripes):
 
 
 def legs_of(stripes):
-    """Each leg in the whole mirror: the worst of its states, in how many stripes it is in sync, and how many blocks it
-    lacks in all, which is None where a stripe does not tell it."""
-    found = []
+    """Each leg in the whole mirror: the worst of its states, in how many stripes it is in sync, how many blocks it lacks
+    in all, which is None where a stripe does not tell it, and whether it is paused."""
+    found, paused = [], paused_in(stripes)
     is_told = all("legs" in stripe for stripe in stripes)
     states = {state: legs_in(stripes, state) for state in ("out", "join", "in")}
     for leg in range(count_of_legs(stripes)):
         state = next(state for state, legs in states.items() if leg in legs)
         left = sum(states["join"].get(leg, [])) if is_told and state != "out" else None
-        found.append({"leg": leg, "state": state, "in_sync": len(states["in"].get(leg, [])), "left": left})
+        found.append({"leg": leg, "state": state, "in_sync": len(states["in"].get(leg, [])), "left": left,
+                      "paused": leg in paused})
     return found
 
 

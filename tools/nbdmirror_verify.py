@@ -8,7 +8,7 @@ import time
 from nbdmirror_control import Trouble
 
 RUNNING = re.compile(r"verify: running (\d{1,3}) %")
-STOPPED = re.compile(r"verify: stopped at (\d{1,3}) %")
+STOPPED = re.compile(r"verify: stopped at (\d{1,3}) %(.*)")
 EQUAL = re.compile(r"verify: (\d{1,20}) regions compared, none differs(.*)")
 DIFFER = re.compile(r"verify: (\d{1,20}) of (\d{1,20}) regions differ, the first at((?:,? stripe \d+ region \d+)+)"
                     r"; replace one leg to repair it(.*)")
@@ -16,6 +16,7 @@ PLACE = re.compile(r"stripe (\d+) region (\d+)")
 UNREAD = re.compile(r"; (\d{1,20}) regions could not be read, the first at((?:,? ?leg \d+ stripe \d+ region \d+)+)")
 UNREAD_PLACE = re.compile(r"leg (\d+) stripe (\d+) region (\d+)")
 MISSED = re.compile(r"; (\d{1,20}) regions could not be compared")
+REPAIRED = re.compile(r"; (\d{1,20}) regions repaired on leg (\d)")
 FINDING = re.compile(r"finding: differing (\d{1,20}) compared (\d{1,20}) age (\d{1,20}) (open|partly|older) at"
                      r"((?: \d{1,20}\+\d{1,20})*)")
 # What is said of a finding, by whether legs were replaced since.
@@ -82,12 +83,18 @@ def finding_sentence(finding):
            f"{ago(finding['seconds_ago'])}{STANDS[finding['state']]}: {places}"
 
 
+def repaired_in(rest):
+    """What the end of a line tells of a leg that was repaired, if one was."""
+    found = REPAIRED.search(rest)
+    return {"repaired": {"leg": int(found[2]), "regions": int(found[1])}} if found else {}
+
+
 def found_in(line):
     """What a line on a comparison tells, as a dictionary."""
     if found := RUNNING.fullmatch(line):
         return {"state": "running", "percent": int(found[1])}
     if found := STOPPED.fullmatch(line):
-        return {"state": "stopped", "percent": int(found[1])}
+        return {"state": "stopped", "percent": int(found[1]), **repaired_in(found[2])}
     if line == "verify: none yet":
         return {"state": "none"}
     if found := EQUAL.fullmatch(line):
@@ -103,7 +110,7 @@ def found_in(line):
         "unread": int(unread[1]) if unread else 0,
         "unread_regions": [{"leg": int(leg), "stripe": int(stripe), "region": int(region)}
                            for leg, stripe, region in UNREAD_PLACE.findall(unread[2] if unread else "")],
-        "not_compared": int(missed[1]) if missed else 0,
+        "not_compared": int(missed[1]) if missed else 0, **repaired_in(rest),
     }
 
 
@@ -117,8 +124,10 @@ def verdict(found):
 
 
 def ask(control, line):
-    """The server's answer to a line on comparisons."""
+    """The server's answer to a line on comparisons. None where it names a leg that is not there."""
     answer = control.ask(line)
+    if answer == "bad command" and line.startswith("verify repair "):
+        return None
     if not answer.startswith("verify: "):
         raise Trouble(f"the server answered '{answer}' to '{line}'")
     return answer

@@ -103,6 +103,8 @@ def add_legs(command):
     """The words of what is done with a leg."""
     command("fail", "take a leg out").add_argument("leg", type=leg_number)
     command("retire", "take the last leg out for good").add_argument("leg", type=leg_number)
+    command("pause", "copy no more to a leg until it is resumed").add_argument("leg", type=leg_number)
+    command("resume", "copy to a leg again that was paused").add_argument("leg", type=leg_number)
     for name, text in (("attach", "copy a leg again"), ("replace", "open a leg's file anew and copy it whole")):
         one = command(name, text)
         one.add_argument("leg", type=leg_number)
@@ -132,6 +134,8 @@ def add_verify(command):
     form = one.add_mutually_exclusive_group()
     form.add_argument("--wait", action="store_true", help="until it is over, and tell what differs")
     form.add_argument("--stop", action="store_true", help="end it where it is")
+    one.add_argument("--repair", type=leg_number, metavar="N",
+                     help="write what differs on leg N anew, as all other legs hold it")
     one.add_argument("--json", action="store_true", help="for machines, with --wait")
 
 
@@ -175,4 +179,6 @@ def parse(arguments):
         parser.error("status: --watch goes with a table")
     if words.command == "verify" and words.json and not words.wait:
         parser.error("verify: --json goes with --wait")
+    if words.command == "verify" and words.stop and words.repair is not None:
+        parser.error("verify: --stop goes without --repair")
     return words

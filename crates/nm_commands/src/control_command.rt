@@ -1,15 +1,11 @@
 //! The lines of the control port.
-ghost use Rattle.std.specs.Prelude.{◌≡◌, ℕ, List, ◌++◌, IfSome, IsNone};
-ghost use Rattle.nm_commands.specs.ControlLine.{Asks, IsCopyRate, IsNumbered, IsNumeralOf};
-ghost use Rattle.nm_commands.specs.ControlLine.{IsQuitWithin, IsReadAs, IsWithNumber};
+ghost use Rattle.std.specs.Prelude.{◌≡◌, ℕ, List, ◌++◌, codes, IfSome, IsNone};
+ghost use Rattle.nm_commands.specs.ControlLine.{Asks, IsLineOf, IsNumberedLine, IsNumeralOf};
+ghost use Rattle.nm_commands.specs.ControlLine.{IsPassed, IsReadAs, IsSaid, IsWithNumber};
+ghost use Rattle.nm_commands.specs.ControlLine.{command_of};
 
+use crate::command_word::{Argument, CommandWord, ROWS};
 use std::str::from_utf8;
-
-/// How many seconds a `quit` gives the clients at most: a day.
-const MOST_SECONDS: u64 = 86_400;
-
-/// At how many MiB a second legs are copied at most.
-const MOST_MIB: u64 = 65_535;
 
 /// What a line asks for.
 #[derive(Clone, Copy, Debug, PartialEq, Eq)]
@@ -30,6 +26,10 @@ pub enum ControlCommand {
     Replace(u64),
     /// The leg goes out in every stripe for good.
     Retire(u64),
+    /// Copies to the leg wait.
+    Pause(u64),
+    /// Copies to the leg go on.
+    Resume(u64),
     /// The stripe is opened anew, if it has stopped.
     Reopen(u64),
     /// Each stripe that has stopped is opened anew.
@@ -42,6 +42,8 @@ pub enum ControlCommand {
     DefaultCopyRate,
     /// The legs in sync are compared, or how far that is.
     Verify,
+    /// The legs in sync are compared, and what differs on this one is written anew.
+    VerifyRepair(u64),
     /// The comparison ends where it is.
     VerifyStop,
     /// The server ends once its clients have left.
@@ -83,120 +85,112 @@ fn after<'a>(line: &'a [u8], start: &[u8]) -> Option<&'a [u8]>
     if head == start { Some(word) } else { None }
 }
 
-// The number that follows this beginning of a line.
-fn number_after(line: &[u8], start: &[u8]) -> Option<u64>
-    ensures some { IfSome result (λ number. IsWithNumber start.now line.now number) }
-    ensures none { IsNone result → (number : ℕ) → IsWithNumber start.now line.now number → ⊥ }
+// What follows this word and a blank.
+fn after_word<'a>(line: &'a [u8], word: &[u8]) -> Option<&'a [u8]>
+    ensures some { IfSome result (λ rest.
+        line.entry.now ≡ (word.now ++ codes " ") ++ rest.now) }
+    ensures none { IsNone result → (rest : List ℕ)
+        → line.entry.now ≡ (word.now ++ codes " ") ++ rest → ⊥ }
 {
-    number_of(after(line, start)?)
+    let rest = after(line, word)?;
+    after(rest, b" ")
 }
 
-// The seconds within which a line asks the server to end.
-fn quit_within(line: &[u8]) -> Option<u64>
-    ensures some { IfSome result (IsQuitWithin line.now) }
-    ensures none { IsNone result → (seconds : ℕ) → IsQuitWithin line.now seconds → ⊥ }
+// The number that follows this word and a blank.
+fn number_after(line: &[u8], word: &[u8]) -> Option<u64>
+    ensures some { IfSome result (λ number.
+        IsWithNumber (word.now ++ codes " ") line.now number) }
+    ensures none { IsNone result → (number : ℕ)
+        → IsWithNumber (word.now ++ codes " ") line.now number → ⊥ }
 {
-    let seconds = number_after(line, b"quit ")?;
-    if seconds > MOST_SECONDS {
+    number_of(after_word(line, word)?)
+}
+
+// The number that follows this word and a blank, if it may follow.
+fn bounded_after(line: &[u8], word: &[u8], argument: Argument) -> Option<u64>
+    ensures some { IfSome result (λ number. IsNumberedLine argument word.now line.now number) }
+    ensures none { IsNone result → (number : ℕ)
+        → IsNumberedLine argument word.now line.now number → ⊥ }
+{
+    let number = number_after(line, word)?;
+    if number < argument.least() || number > argument.most() {
         return None;
     }
-    Some(seconds)
+    Some(number)
 }
 
-// The rate, in MiB a second, that a line asks for.
-fn copy_rate(line: &[u8]) -> Option<u64>
-    ensures some { IfSome result (IsCopyRate line.now) }
-    ensures none { IsNone result → (mib : ℕ) → IsCopyRate line.now mib → ⊥ }
+// The number in a line of this word and what follows it: 0 where nothing does. None where it is
+// another line.
+fn number_said(argument: Argument, word: &[u8], line: &[u8]) -> Option<u64>
+    ensures some { IfSome result (λ number. IsSaid argument word.now line.now number) }
+    ensures none { IsNone result → (number : ℕ)
+        → IsSaid argument word.now line.now number → ⊥ }
 {
-    let mib = number_after(line, b"copy-rate ")?;
-    if mib == 0 || mib > MOST_MIB {
-        return None;
+    match argument {
+        Argument::Nothing => { if line == word { Some(0) } else { None } }
+        other => bounded_after(line, word, other),
     }
-    Some(mib)
 }
 
-// The command of a line that has no number.
-fn bare_command(line: &[u8]) -> Option<ControlCommand>
+impl CommandWord {
+    // The number in a line of this row: 0 where the row has none. None where it is no line of this
+    // row.
+    fn number_in(self, line: &[u8]) -> Option<u64>
+        ensures some { IfSome result (λ number. IsLineOf self line.now number) }
+        ensures none { IsNone result → (number : ℕ) → IsLineOf self line.now number → ⊥ }
+    {
+        number_said(self.argument(), self.text().as_bytes(), line)
+    }
+
+    // What a line of this row asks for, with the number in it.
+    fn command(self, number: u64) -> ControlCommand
+        ensures { result ≡ command_of self number }
+    {
+        match self {
+            CommandWord::Status => ControlCommand::Status,
+            CommandWord::Unread => ControlCommand::Unread,
+            CommandWord::Info => ControlCommand::Info,
+            CommandWord::Metrics => ControlCommand::Metrics,
+            CommandWord::Fail => ControlCommand::Fail(number),
+            CommandWord::Attach => ControlCommand::Attach(number),
+            CommandWord::Replace => ControlCommand::Replace(number),
+            CommandWord::Retire => ControlCommand::Retire(number),
+            CommandWord::Pause => ControlCommand::Pause(number),
+            CommandWord::Resume => ControlCommand::Resume(number),
+            CommandWord::Reopen => ControlCommand::Reopen(number),
+            CommandWord::ReopenAll => ControlCommand::ReopenAll,
+            CommandWord::CopyRate => ControlCommand::CopyRate,
+            CommandWord::SetCopyRate => ControlCommand::SetCopyRate(number),
+            CommandWord::DefaultCopyRate => ControlCommand::DefaultCopyRate,
+            CommandWord::Verify => ControlCommand::Verify,
+            CommandWord::VerifyRepair => ControlCommand::VerifyRepair(number),
+            CommandWord::VerifyStop => ControlCommand::VerifyStop,
+            CommandWord::Quit => ControlCommand::Quit,
+            CommandWord::QuitWithin => ControlCommand::QuitWithin(number),
+            CommandWord::Clients => ControlCommand::Clients,
+            CommandWord::Kick => ControlCommand::Kick(number),
+        }
+    }
+}
+
+// The command of a line by the row at this place of the table, if it is a line of that row.
+fn command_at(line: &[u8], place: usize) -> Option<ControlCommand>
     ensures some { IfSome result (λ command. Asks line.now command) }
-    ensures none { IsNone result
-        → (command : ControlCommand) → Asks line.now command → IsNumbered command }
+    ensures none { IsNone result → IsPassed line.now place }
 {
-    if line == b"status".as_slice() {
-        return Some(ControlCommand::Status);
-    }
-    if line == b"unread".as_slice() {
-        return Some(ControlCommand::Unread);
-    }
-    if line == b"info".as_slice() {
-        return Some(ControlCommand::Info);
-    }
-    if line == b"metrics".as_slice() {
-        return Some(ControlCommand::Metrics);
-    }
-    if line == b"copy-rate".as_slice() {
-        return Some(ControlCommand::CopyRate);
-    }
-    if line == b"copy-rate default".as_slice() {
-        return Some(ControlCommand::DefaultCopyRate);
-    }
-    if line == b"verify".as_slice() {
-        return Some(ControlCommand::Verify);
-    }
-    if line == b"verify stop".as_slice() {
-        return Some(ControlCommand::VerifyStop);
-    }
-    if line == b"clients".as_slice() {
-        return Some(ControlCommand::Clients);
-    }
-    if line == b"quit".as_slice() {
-        return Some(ControlCommand::Quit);
-    }
-    if line == b"reopen all".as_slice() {
-        return Some(ControlCommand::ReopenAll);
-    }
-    None
-}
-
-// The command of a line that has a number.
-fn numbered_command(line: &[u8]) -> Option<ControlCommand>
-    ensures some { IfSome result (λ command. Asks line.now command) }
-    ensures none { IsNone result
-        → (command : ControlCommand) → Asks line.now command → IsNumbered command → ⊥ }
-{
-    if let Some(leg) = number_after(line, b"fail ") {
-        return Some(ControlCommand::Fail(leg));
-    }
-    if let Some(leg) = number_after(line, b"attach ") {
-        return Some(ControlCommand::Attach(leg));
-    }
-    if let Some(leg) = number_after(line, b"replace ") {
-        return Some(ControlCommand::Replace(leg));
-    }
-    if let Some(leg) = number_after(line, b"retire ") {
-        return Some(ControlCommand::Retire(leg));
-    }
-    if let Some(stripe) = number_after(line, b"reopen ") {
-        return Some(ControlCommand::Reopen(stripe));
-    }
-    if let Some(client) = number_after(line, b"kick ") {
-        return Some(ControlCommand::Kick(client));
-    }
-    if let Some(mib) = copy_rate(line) {
-        return Some(ControlCommand::SetCopyRate(mib));
-    }
-    let seconds = quit_within(line)?;
-    Some(ControlCommand::QuitWithin(seconds))
+    let word = CommandWord::nth(place)?;
+    let number = word.number_in(line)?;
+    Some(word.command(number))
 }
 
 /// Reads a line, without its LF.
 pub fn control_line(line: &[u8]) -> ControlCommand
     ensures { IsReadAs line.now result }
 {
-    if let Some(command) = bare_command(line) {
-        return command;
+    for place in 0..ROWS {
+        if let Some(command) = command_at(line, place) {
+            return command;
+        }
     }
-    match numbered_command(line) {
-        Some(command) => command,
-        None => ControlCommand::Bad,
-    }
+    ControlCommand::Bad
 }

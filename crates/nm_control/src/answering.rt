@@ -7,7 +7,7 @@ use crate::replacing::{RenewsLegs, Replaced};
 use crate::retiring::{is_retired, put_retire};
 use crate::stopped::put_stopped;
 use crate::verify_answers::{put_known, put_verify, put_verify_stop};
-use crate::whole::put_status;
+use crate::whole::{put_pause, put_resume, put_status};
 use nm_commands::{ControlCommand, Fed, LineRoom, control_line};
 use nm_lanes::Gate;
 use nm_leg::LegPart;
@@ -234,6 +234,16 @@ fn say_bye(quit: Quit, text: &mut String) -> After {
     After::Quit(quit)
 }
 
+// The leg of this number: none has 255 or more.
+fn leg_of(number: u64) -> u8 {
+    number.min(255) as u8
+}
+
+// So many MiB a second, as the rate of copies.
+fn rate_of(mib: u64) -> u16 {
+    mib.min(65_535) as u16
+}
+
 // Does what a line asks for, and puts the answer.
 fn do_line<R: Wait + Clock, L: LegPart, G: Gate + Drop, N: RenewsLegs<L>, M: MakesLegs<L>>(
     rt: &R,
@@ -247,10 +257,12 @@ fn do_line<R: Wait + Clock, L: LegPart, G: Gate + Drop, N: RenewsLegs<L>, M: Mak
         ControlCommand::Unread => server.unread.put(rt, server.mirror.shape(), text),
         ControlCommand::Info => put_info(rt, alloc, server, text),
         ControlCommand::Metrics => put_numbers(rt, alloc, server, text),
-        ControlCommand::Fail(leg) => put_fail(rt, server, leg.min(255) as u8, text),
-        ControlCommand::Attach(leg) => put_attach(rt, server, leg.min(255) as u8, text),
-        ControlCommand::Replace(leg) => put_replace(rt, alloc, server, leg.min(255) as u8, text),
-        ControlCommand::Retire(leg) => put_retire(rt, server, leg.min(255) as u8, text),
+        ControlCommand::Fail(leg) => put_fail(rt, server, leg_of(leg), text),
+        ControlCommand::Attach(leg) => put_attach(rt, server, leg_of(leg), text),
+        ControlCommand::Replace(leg) => put_replace(rt, alloc, server, leg_of(leg), text),
+        ControlCommand::Retire(leg) => put_retire(rt, server, leg_of(leg), text),
+        ControlCommand::Pause(leg) => put_pause(server.mirror, leg_of(leg), text),
+        ControlCommand::Resume(leg) => put_resume(server.mirror, leg_of(leg), text),
         ControlCommand::Reopen(stripe) => {
             let stripe = stripe.min(u64::from(u32::MAX)) as u32;
             put_reopen(rt, alloc, server, Some(stripe), text)
@@ -258,11 +270,10 @@ fn do_line<R: Wait + Clock, L: LegPart, G: Gate + Drop, N: RenewsLegs<L>, M: Mak
         ControlCommand::ReopenAll => put_reopen(rt, alloc, server, None, text),
         ControlCommand::Clients => server.sessions.put(rt, text),
         ControlCommand::CopyRate => put_copy_rate(server.orders, text),
-        ControlCommand::SetCopyRate(mib) => {
-            set_copy_rate(server.orders, Some(mib.min(65_535) as u16), text)
-        }
+        ControlCommand::SetCopyRate(mib) => set_copy_rate(server.orders, Some(rate_of(mib)), text),
         ControlCommand::DefaultCopyRate => set_copy_rate(server.orders, None, text),
-        ControlCommand::Verify => put_verify(rt, alloc, server, text),
+        ControlCommand::Verify => put_verify(rt, alloc, server, None, text),
+        ControlCommand::VerifyRepair(leg) => put_verify(rt, alloc, server, Some(leg_of(leg)), text),
         ControlCommand::VerifyStop => put_verify_stop(rt, server.orders.verify(), text),
         ControlCommand::Kick(client) => put_kick(rt, server.sessions, client, text),
         ControlCommand::Quit => return say_bye(Quit::WhenTheyLeave, text),

@@ -1,20 +1,24 @@
 //! Who copies legs, and tells what happens to them.
 ghost use Rattle.nm_control.specs.Rounds.{IsRoundOf};
 
+use crate::copied_mirror::CopiedMirror;
 use crate::copy_orders::CopyOrders;
 use crate::due_syncs::DueSyncs;
 use crate::healing::Healing;
 use crate::leg_watch::LegWatch;
 use crate::verifier::Verifier;
-use nm_geometry::Shape;
+use nm_geometry::{MOST_LEGS, Shape};
 use nm_lanes::Gate;
 use nm_leg::LegPart;
 use nm_leg_files::OpensLegs;
-use nm_mirror::{CopyRound, Mirror};
-use nm_reports::{LegLines, LegStory, LogLines, UnreadList};
+use nm_mirror::{CopyRound, Mirror, Pass};
+use nm_reports::{LegLines, LegStory, LogLines};
 use std::alloc::{AllocError, Global};
 use std::sync::Wait;
 use std::time::Clock;
+
+/// How many legs there are at most.
+const LEGS: usize = MOST_LEGS as usize;
 
 /// Copies the legs of a mirror of this shape, and tells what happens to them and what could not be
 /// read.
@@ -28,6 +32,8 @@ pub struct Copier {
     syncs: DueSyncs,
     healing: Option<Healing>,
     verifier: Verifier,
+    // Whether each leg was last told to be paused.
+    paused: [bool; LEGS],
     ghost fits: { IsRoundOf shape round },
 }
 
@@ -53,6 +59,7 @@ impl Copier {
             syncs: DueSyncs::new(),
             healing,
             verifier: Verifier::new(alloc)?,
+            paused: [false; LEGS],
         })
     }
 
@@ -70,26 +77,28 @@ impl Copier {
         mirror.resync_turn(rt, &mut self.round, orders.doubts())
     }
 
-    /// Takes a turn at comparing legs, where that is asked for. How many runs were looked at.
+    /// Takes a turn at comparing legs, where that is asked for; what it repairs is written through
+    /// the pass. How many runs were looked at.
     pub fn verify<R: Wait + Clock, L: LegPart, G: Gate + Drop>(
         &mut self,
         rt: &R,
-        mirror: &Mirror<L, G>,
-        orders: &CopyOrders,
-        lines: &LogLines,
+        copied: &CopiedMirror<'_, L, G>,
+        pass: &mut Pass<L>,
         now: u64,
     ) -> u32 {
-        self.verifier.turn(rt, mirror, orders.verify(), lines, now)
+        let (desk, lines) = (copied.orders.verify(), copied.shared.lines);
+        self.verifier
+            .turn(rt, copied.mirror, pass, desk, lines, now)
     }
 
     /// Tells how each leg stands, as the server begins or ends.
     pub fn tell_all<R: Wait + Clock, L: LegPart, G: Gate + Drop>(
         &mut self,
         rt: &R,
-        mirror: &Mirror<L, G>,
-        lines: &LogLines,
+        copied: &CopiedMirror<'_, L, G>,
         when: &str,
     ) {
+        let (mirror, lines) = (copied.mirror, copied.shared.lines);
         self.story.tell_all(rt, self.alloc, lines, mirror, when);
     }
 
@@ -97,27 +106,45 @@ impl Copier {
     pub fn tell<R: Wait + Clock, L: LegPart, G: Gate + Drop>(
         &mut self,
         rt: &R,
-        mirror: &Mirror<L, G>,
-        unread: &UnreadList,
-        lines: &LogLines,
+        copied: &CopiedMirror<'_, L, G>,
         now: u64,
     ) {
-        unread.set(rt, &self.round);
+        let (mirror, shared) = (copied.mirror, copied.shared);
+        let lines = shared.lines;
+        shared.state.unread.set(rt, &self.round);
         self.story
             .tell_unread(rt, self.alloc, lines, &self.round, now);
         self.story.tell_changes(rt, self.alloc, lines, mirror, now);
+        self.tell_paused(rt, mirror, lines);
         self.story.tell_failed_reads(rt, self.alloc, lines, now);
+    }
+
+    // Tells which legs were paused or resumed since that was last told.
+    fn tell_paused<R: Wait, L: LegPart, G: Gate + Drop>(
+        &mut self,
+        rt: &R,
+        mirror: &Mirror<L, G>,
+        lines: &LogLines,
+    ) {
+        let alloc = self.alloc;
+        for (leg, told) in self.paused.iter_mut().enumerate() {
+            let is_paused = mirror.is_paused(leg.min(255) as u8);
+            if *told == is_paused {
+                continue;
+            }
+            *told = is_paused;
+            let word = if is_paused { "paused" } else { "resumed" };
+            lines.inform(rt, format!(in alloc; "leg {leg}: its copies are {word}"));
+        }
     }
 
     /// Takes the legs out as a whole of which a call failed.
     pub fn watch<R: Wait + Clock, L: LegPart, G: Gate + Drop>(
         &self,
         rt: &R,
-        mirror: &Mirror<L, G>,
-        orders: &CopyOrders,
-        lines: &LogLines,
+        copied: &CopiedMirror<'_, L, G>,
     ) {
-        self.watch.look(rt, self.alloc, mirror, orders, lines);
+        self.watch.look(rt, self.alloc, copied);
     }
 
     /// Syncs what was written and not flushed for five seconds, at this time, in milliseconds.
@@ -135,22 +162,11 @@ impl Copier {
         &mut self,
         rt: &R,
         opener: &O,
-        mirror: &Mirror<L, G>,
-        orders: &CopyOrders,
-        lines: &LogLines,
+        copied: &CopiedMirror<'_, L, G>,
         now: u64,
     ) {
         if let Some(healing) = &mut self.healing {
-            healing.look(
-                rt,
-                self.alloc,
-                opener,
-                &self.story,
-                mirror,
-                orders,
-                lines,
-                now,
-            );
+            healing.look(rt, opener, &self.story, copied, now);
         }
     }
 

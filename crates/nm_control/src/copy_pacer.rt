@@ -1,12 +1,10 @@
 //! When the copier takes its next turn.
 
+use crate::copied_mirror::CopiedMirror;
 use crate::copier::Copier;
-use crate::copy_orders::CopyOrders;
 use nm_lanes::Gate;
 use nm_leg::LegPart;
-use nm_mirror::Mirror;
-use nm_places::SessionPlaces;
-use nm_reports::LogLines;
+use nm_mirror::Pass;
 use nm_service::{CopyTurn, rest_after};
 use std::sync::Wait;
 use std::thread;
@@ -50,16 +48,14 @@ impl CopyPacer {
         &mut self,
         rt: &R,
         copier: &mut Copier,
-        mirror: &Mirror<L, G>,
-        places: &SessionPlaces,
-        orders: &CopyOrders,
+        copied: &CopiedMirror<'_, L, G>,
     ) -> bool {
         let begun = Instant::now(rt).ok();
-        let steps = copier.turn(rt, mirror, orders);
+        let steps = copier.turn(rt, copied.mirror, copied.orders);
         if steps == 0 {
             return false;
         }
-        self.rest_after(rt, steps, &begun, places, orders);
+        self.rest_after(rt, steps, &begun, copied);
         true
     }
 
@@ -68,38 +64,35 @@ impl CopyPacer {
         &mut self,
         rt: &R,
         copier: &mut Copier,
-        mirror: &Mirror<L, G>,
-        places: &SessionPlaces,
-        orders: &CopyOrders,
-        lines: &LogLines,
+        copied: &CopiedMirror<'_, L, G>,
+        pass: &mut Pass<L>,
         now: u64,
     ) -> bool {
         let begun = Instant::now(rt).ok();
-        let runs = copier.verify(rt, mirror, orders, lines, now);
+        let runs = copier.verify(rt, copied, pass, now);
         if runs == 0 {
             return false;
         }
-        self.rest_after(rt, runs.saturating_mul(2), &begun, places, orders);
+        self.rest_after(rt, runs.saturating_mul(2), &begun, copied);
         true
     }
 
     // Rests after so many steps since this moment.
-    fn rest_after<R: Clock>(
+    fn rest_after<R: Clock, L: LegPart, G: Gate + Drop>(
         &mut self,
         rt: &R,
         steps: u32,
         begun: &Option<Instant>,
-        places: &SessionPlaces,
-        orders: &CopyOrders,
+        copied: &CopiedMirror<'_, L, G>,
     ) {
-        let calls = places.calls();
+        let calls = copied.shared.state.places.calls();
         let turn = CopyTurn {
             bytes: steps.saturating_mul(STEP_BYTES),
             took: microseconds_since(rt, begun),
             is_shared: calls != self.calls,
         };
         self.calls = calls;
-        self.rest = rest_after(orders.rate(), &turn);
+        self.rest = rest_after(copied.orders.rate(), &turn);
     }
 }
 

@@ -104,8 +104,17 @@ impl Finding {
     }
 }
 
-/// Puts the bytes of the export of the first regions that differ, as a line of the log tells them.
-pub fn put_differing(found: &Findings, shape: &Shape, text: &mut String) -> Result<(), AllocError> {
-    text.push_str("verify: these bytes of the export differ, from and how many:")?;
+/// Puts the bytes of the export of the first of these regions, behind a word on them, as a line of
+/// the log tells them.
+pub fn put_places(
+    what: &str,
+    found: &Findings,
+    shape: &Shape,
+    text: &mut String,
+) -> Result<(), AllocError> {
+    write!(
+        text,
+        "verify: these bytes of the export {what}, from and how many:"
+    )?;
     Finding::new(*found).put_bytes(shape, text)
 }

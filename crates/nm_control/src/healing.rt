@@ -1,10 +1,10 @@
 //! Attaches legs again that went out by a failed call.
 
+use crate::copied_mirror::CopiedMirror;
 use crate::copy_orders::CopyOrders;
 use nm_lanes::Gate;
 use nm_leg::LegPart;
 use nm_leg_files::{LegPlace, OpensLegs, Unfit};
-use nm_mirror::Mirror;
 use nm_reports::{LegStory, LogLines};
 use nm_service::{AttachTime, AutoAttach, LegEvent, ReadReturns, event_of};
 use std::alloc::{AllocError, Global};
@@ -13,6 +13,7 @@ use std::sync::{Arc, Wait};
 // A leg, when it is attached again, and the time of the next try that was told.
 #[derive(Drop)]
 struct HealingLeg {
+    alloc: Global,
     number: u8,
     place: Arc<LegPlace>,
     tries: AutoAttach,
@@ -41,7 +42,6 @@ impl HealingLeg {
     fn stays_out<R: Wait>(
         &mut self,
         rt: &R,
-        alloc: Global,
         event: LegEvent,
         orders: &CopyOrders,
         lines: &LogLines,
@@ -58,7 +58,7 @@ impl HealingLeg {
             return self.is_given_up;
         }
         self.is_given_up = true;
-        let (leg, name) = (self.number, self.place.name());
+        let (alloc, leg, name) = (self.alloc, self.number, self.place.name());
         lines.warn(
             rt,
             format!(in alloc;
@@ -70,14 +70,7 @@ impl HealingLeg {
     }
 
     // Takes how the leg stands, and tells when the next try comes where that is new.
-    fn note<R: Wait>(
-        &mut self,
-        rt: &R,
-        alloc: Global,
-        event: LegEvent,
-        lines: &LogLines,
-        now: u64,
-    ) {
+    fn note<R: Wait>(&mut self, rt: &R, event: LegEvent, lines: &LogLines, now: u64) {
         let AttachTime::At(due) = self.tries.take(event, now) else {
             self.told = None;
             return;
@@ -86,7 +79,8 @@ impl HealingLeg {
             return;
         }
         self.told = Some(due);
-        let (leg, name, seconds) = (self.number, self.place.name(), seconds_until(due, now));
+        let (alloc, seconds) = (self.alloc, seconds_until(due, now));
+        let (leg, name) = (self.number, self.place.name());
         lines.inform(
             rt,
             format!(in alloc; "leg {leg} ({name}): to be attached again in {seconds} s"),
@@ -97,12 +91,11 @@ impl HealingLeg {
     fn find_wanted<R: Wait, O: OpensLegs>(
         &self,
         rt: &R,
-        alloc: Global,
         opener: &O,
         orders: &CopyOrders,
         lines: &LogLines,
     ) {
-        let (leg, name) = (self.number, self.place.name());
+        let (alloc, leg, name) = (self.alloc, self.number, self.place.name());
         if !orders.missing().is_wanted(leg) {
             return;
         }
@@ -122,9 +115,9 @@ impl HealingLeg {
         &self,
         rt: &R,
         opener: &O,
-        mirror: &Mirror<L, G>,
-        orders: &CopyOrders,
+        copied: &CopiedMirror<'_, L, G>,
     ) -> Result<(), Unfit> {
+        let (mirror, orders) = (copied.mirror, copied.orders);
         self.place.check(opener)?;
         orders.missing().remove(self.number);
         let Some(counts) = orders.attach_by_itself(rt, mirror, self.number) else {
@@ -140,7 +133,6 @@ impl HealingLeg {
     fn tell_hindrance<R: Wait>(
         &mut self,
         rt: &R,
-        alloc: Global,
         number: u64,
         why: Unfit,
         lines: &LogLines,
@@ -150,7 +142,8 @@ impl HealingLeg {
             return;
         };
         self.told = Some(due);
-        let (leg, name, seconds) = (self.number, self.place.name(), seconds_until(due, now));
+        let (alloc, seconds) = (self.alloc, seconds_until(due, now));
+        let (leg, name) = (self.number, self.place.name());
         lines.warn(
             rt,
             format!(in alloc;
@@ -164,26 +157,24 @@ impl HealingLeg {
     fn try_now<R: Wait, O: OpensLegs, L: LegPart, G: Gate + Drop>(
         &mut self,
         rt: &R,
-        alloc: Global,
         opener: &O,
-        mirror: &Mirror<L, G>,
-        orders: &CopyOrders,
-        lines: &LogLines,
+        copied: &CopiedMirror<'_, L, G>,
         now: u64,
     ) {
         let AttachTime::Now(number) = self.tries.take(LegEvent::Time, now) else {
             return;
         };
-        let has_unread = self.has_unread(orders);
-        if let Err(why) = self.attach(rt, opener, mirror, orders) {
-            self.tell_hindrance(rt, alloc, number, why, lines, now);
+        let lines = copied.shared.lines;
+        let has_unread = self.has_unread(copied.orders);
+        if let Err(why) = self.attach(rt, opener, copied) {
+            self.tell_hindrance(rt, number, why, lines, now);
             return;
         }
         if has_unread {
             self.returns.note(now);
         }
         self.told = None;
-        let (leg, name) = (self.number, self.place.name());
+        let (alloc, leg, name) = (self.alloc, self.number, self.place.name());
         lines.inform(
             rt,
             format!(in alloc; "leg {leg} ({name}): attached again by itself, try {number}"),
@@ -208,6 +199,7 @@ impl Healing {
         let mut legs = Vec::new(alloc);
         for (number, place) in places.into_iter().enumerate() {
             legs.push(HealingLeg {
+                alloc,
                 number: number.min(255) as u8,
                 place,
                 tries: AutoAttach::new(),
@@ -224,30 +216,28 @@ impl Healing {
     pub fn look<R: Wait, O: OpensLegs, L: LegPart, G: Gate + Drop>(
         &mut self,
         rt: &R,
-        alloc: Global,
         opener: &O,
         story: &LegStory,
-        mirror: &Mirror<L, G>,
-        orders: &CopyOrders,
-        lines: &LogLines,
+        copied: &CopiedMirror<'_, L, G>,
         now: u64,
     ) {
+        let (orders, lines) = (copied.orders, copied.shared.lines);
         let Some(by_hand) = orders.by_hand() else {
             return;
         };
         for leg in self.legs.iter_mut() {
-            leg.find_wanted(rt, alloc, opener, orders, lines);
+            leg.find_wanted(rt, opener, orders, lines);
             if !self.by_itself {
                 continue;
             }
             let number = leg.number as usize;
             let is_out = by_hand.get(number).copied().unwrap_or(false);
             let event = event_of(&story.sight(number), is_out);
-            if leg.stays_out(rt, alloc, event, orders, lines, now) {
+            if leg.stays_out(rt, event, orders, lines, now) {
                 continue;
             }
-            leg.note(rt, alloc, event, lines, now);
-            leg.try_now(rt, alloc, opener, mirror, orders, lines, now);
+            leg.note(rt, event, lines, now);
+            leg.try_now(rt, opener, copied, now);
         }
     }
 }

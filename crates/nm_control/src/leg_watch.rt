@@ -1,11 +1,11 @@
 //! Takes legs out as a whole of which a call failed.
 
-use crate::copy_orders::CopyOrders;
+use crate::copied_mirror::CopiedMirror;
 use nm_lanes::Gate;
 use nm_leg::LegPart;
 use nm_leg_files::LegPlace;
 use nm_mirror::{Mirror, StripeStatus};
-use nm_reports::{Failure, LogLines};
+use nm_reports::Failure;
 use nm_stripe::LegState;
 use std::alloc::Global;
 use std::sync::{Arc, Wait};
@@ -78,10 +78,9 @@ impl LegWatch {
         &self,
         rt: &R,
         alloc: Global,
-        mirror: &Mirror<L, G>,
-        orders: &CopyOrders,
-        lines: &LogLines,
+        copied: &CopiedMirror<'_, L, G>,
     ) {
+        let (mirror, orders) = (copied.mirror, copied.orders);
         for (leg, place) in self.places.iter().enumerate() {
             let number = leg.min(255) as u8;
             let Some(doubts) = orders.doubts().leg(number) else {
@@ -103,7 +102,7 @@ impl LegWatch {
                     "leg {leg} ({name}): a read failed, and others do not: it stays in the other \
                      stripes"
                 );
-                lines.inform(rt, text);
+                copied.shared.lines.inform(rt, text);
             }
         }
     }

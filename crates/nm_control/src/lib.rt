@@ -4,8 +4,10 @@
 #![tactic(auto)]
 
 mod answering;
+mod answering_meanwhile;
 mod control_port;
 mod controlled;
+mod copied_mirror;
 mod copier;
 mod copy_orders;
 mod copy_pacer;
@@ -15,6 +17,7 @@ mod healing;
 mod leg_watch;
 mod missing_legs;
 mod reopening;
+mod repairs;
 mod replacing;
 mod resync;
 mod retiring;
@@ -26,8 +29,10 @@ mod verify_text;
 mod whole;
 
 pub use crate::answering::{AnswersControl, control};
+pub use crate::answering_meanwhile::answer_meanwhile;
 pub use crate::control_port::serve_control;
 pub use crate::controlled::Controlled;
+pub use crate::copied_mirror::CopiedMirror;
 pub use crate::copier::Copier;
 pub use crate::copy_orders::CopyOrders;
 pub use crate::healing::Healing;

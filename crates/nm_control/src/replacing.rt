@@ -88,6 +88,11 @@ impl<'x, O> LegRenewer<'x, O> {
         })
     }
 
+    /// What opens the legs' files.
+    pub fn opener(&self) -> &'x O {
+        self.opener
+    }
+
     /// Makes each leg's file durable, and says when it was changed last: 0 where that is unknown.
     pub fn settled_times<R: Wait>(&self, rt: &R) -> [u64; 8] {
         let mut times = [0; 8];

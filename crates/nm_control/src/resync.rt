@@ -1,13 +1,12 @@
 //! The thread that copies legs, and compares them.
 
+use crate::copied_mirror::CopiedMirror;
 use crate::copier::Copier;
-use crate::copy_orders::CopyOrders;
 use crate::copy_pacer::CopyPacer;
 use nm_lanes::Gate;
 use nm_leg::LegPart;
 use nm_leg_files::OpensLegs;
-use nm_mirror::Mirror;
-use nm_places::Shared;
+use nm_mirror::Pass;
 use nm_reports::milliseconds_since;
 use nm_service::Interval;
 use std::sync::Wait;
@@ -33,34 +32,29 @@ fn look<R: Wait + Clock, O: OpensLegs, L: LegPart, G: Gate + Drop>(
     rt: &R,
     opener: &O,
     copier: &mut Copier,
-    mirror: &Mirror<L, G>,
-    orders: &CopyOrders,
-    shared: &Shared<'_>,
+    copied: &CopiedMirror<'_, L, G>,
     now: u64,
 ) {
-    let (state, lines) = (shared.state, shared.lines);
-    state.places.look(rt);
-    copier.watch(rt, mirror, orders, lines);
-    copier.sync_due(rt, mirror, now);
-    copier.tell(rt, mirror, &state.unread, lines, now);
-    copier.heal(rt, opener, mirror, orders, lines, now);
-    lines.flush_incidents(rt);
+    copied.shared.state.places.look(rt);
+    copier.watch(rt, copied);
+    copier.sync_due(rt, copied.mirror, now);
+    copier.tell(rt, copied, now);
+    copier.heal(rt, opener, copied, now);
+    copied.shared.lines.flush_incidents(rt);
 }
 
-// Takes a turn at copying, or at comparing legs; a pause where neither did something.
+// Takes a turn at copying, or at comparing legs through the pass; a pause where neither did
+// something.
 fn take_turn<R: Wait + Clock, L: LegPart, G: Gate + Drop>(
     rt: &R,
-    copier: &mut Copier,
-    pacer: &mut CopyPacer,
-    mirror: &Mirror<L, G>,
-    orders: &CopyOrders,
-    shared: &Shared<'_>,
+    (copier, pacer): (&mut Copier, &mut CopyPacer),
+    copied: &CopiedMirror<'_, L, G>,
+    pass: &mut Pass<L>,
     now: u64,
 ) {
-    let (places, lines) = (&shared.state.places, shared.lines);
     if !pacer.rest(rt)
-        && !pacer.turn(rt, copier, mirror, places, orders)
-        && !pacer.verify(rt, copier, mirror, places, orders, lines, now)
+        && !pacer.turn(rt, copier, copied)
+        && !pacer.verify(rt, copier, copied, pass, now)
     {
         thread::sleep(rt, Duration::from_millis(PAUSE_MILLISECONDS));
     }
@@ -72,29 +66,30 @@ fn take_turn<R: Wait + Clock, L: LegPart, G: Gate + Drop>(
 /// Between them it looks for clients that have gone or are idle, has what could not be read tried
 /// again once a minute, takes legs out as a whole that fail, attaches those that are to heal, and
 /// tells what happens. What was not flushed for five seconds is synced, and marks of stripes in
-/// which nothing was written for five seconds are cleared.
+/// which nothing was written for five seconds are cleared. What is repaired is written through the
+/// pass.
 pub fn resynchronise<R: Wait + Clock, O: OpensLegs, L: LegPart, G: Gate + Drop>(
     rt: &R,
     opener: &O,
     copier: Copier,
-    mirror: &Mirror<L, G>,
-    orders: &CopyOrders,
-    shared: &Shared<'_>,
+    copied: &CopiedMirror<'_, L, G>,
+    pass: &mut Pass<L>,
 ) {
+    let (mirror, orders, shared) = (copied.mirror, copied.orders, copied.shared);
     let (mut copier, mut pacer) = (copier, CopyPacer::new());
     let begun = Instant::now(rt).ok();
     let mut looks = Interval::new(LOOK_MILLISECONDS);
     let mut tries = Interval::new(AGAIN_MILLISECONDS);
     let mut settles = Interval::new(SETTLE_MILLISECONDS);
     let _ = tries.take(0);
-    copier.tell_all(rt, mirror, shared.lines, "serving");
+    copier.tell_all(rt, copied, "serving");
     for _ in rt.forever() {
         if shared.state.has_ended.load(Ordering::SeqCst) {
             break;
         }
         let now = milliseconds_since(rt, &begun);
         if looks.take(now) {
-            look(rt, opener, &mut copier, mirror, orders, shared, now);
+            look(rt, opener, &mut copier, copied, now);
         }
         if orders.take_new_round() || copier.has_unread() && tries.take(now) {
             copier.begin_again();
@@ -102,7 +97,8 @@ pub fn resynchronise<R: Wait + Clock, O: OpensLegs, L: LegPart, G: Gate + Drop>(
         if settles.take(now) {
             mirror.settle_turn(rt, orders.doubts());
         }
-        take_turn(rt, &mut copier, &mut pacer, mirror, orders, shared, now);
+        let both = (&mut copier, &mut pacer);
+        take_turn(rt, both, copied, pass, now);
     }
-    copier.tell_all(rt, mirror, shared.lines, "at the end");
+    copier.tell_all(rt, copied, "at the end");
 }

@@ -1,10 +1,11 @@
 //! Who compares the legs in sync, and tells what differs.
 
-use crate::finding::put_differing;
+use crate::finding::put_places;
+use crate::repairs::Repairs;
 use crate::verify_desk::{VerifyDesk, VerifyStage, Verifying};
 use nm_lanes::Gate;
 use nm_leg::LegPart;
-use nm_mirror::{Findings, MOST_BYTES, Mirror, Seen, Verification};
+use nm_mirror::{Cursor, Findings, MOST_BYTES, Mirror, Pass, Seen};
 use nm_reports::LogLines;
 use nm_service::Interval;
 use std::alloc::{AllocError, Global};
@@ -44,49 +45,91 @@ impl Verifier {
         })
     }
 
-    /// Compares two legs by one run, and pauses where a write came between.
+    /// Compares two legs by one run, and pauses where a write came between. Where they differ and a
+    /// leg is repaired, they are compared once more after that.
     fn look<R: Wait + Clock, L: LegPart, G: Gate + Drop>(
         &mut self,
         rt: &R,
         mirror: &Mirror<L, G>,
-        round: &mut Verification,
+        pass: &mut Pass<L>,
+        known: &mut Verifying,
     ) {
-        let room = self.room.as_mut_slice();
-        if room.len() != ROOM || round.at.stripe >= mirror.shape().stripes {
+        let before = known.round;
+        if self.room.len() != ROOM || before.at.stripe >= mirror.shape().stripes {
             return;
         }
-        if let Seen::Written(_) = mirror.verify_turn(rt, round, room) {
-            thread::sleep(rt, Duration::from_millis(PAUSE_MILLISECONDS));
+        match mirror.verify_turn(rt, &mut known.round, self.room.as_mut_slice()) {
+            Seen::Written(_) => thread::sleep(rt, Duration::from_millis(PAUSE_MILLISECONDS)),
+            Seen::Differs(_) => {
+                if let Some(repairs) = &mut known.repairs {
+                    if self.repair(rt, mirror, pass, before.at, repairs) {
+                        known.round = before;
+                    }
+                }
+            }
+            _ => (),
+        }
+    }
+
+    /// Has the run there written anew for the sake of a leg, as the others hold it. Whether it was,
+    /// or is to be tried again.
+    fn repair<R: Wait + Clock, L: LegPart, G: Gate + Drop>(
+        &mut self,
+        rt: &R,
+        mirror: &Mirror<L, G>,
+        pass: &mut Pass<L>,
+        at: Cursor,
+        repairs: &mut Repairs,
+    ) -> bool {
+        let shape = mirror.shape();
+        let room = self.room.as_mut_slice();
+        if room.len() != ROOM
+            || at.stripe >= shape.stripes
+            || pass.stripes() != shape.stripes as usize
+            || !repairs.tries_again(at)
+        {
+            return false;
+        }
+        match mirror.repair_run(rt, self.alloc, pass, at, repairs.leg(), room) {
+            Ok(true) => {
+                repairs.note(at.stripe, at.block / shape.region.max(1));
+                true
+            }
+            Ok(false) => false,
+            Err(_) => {
+                thread::sleep(rt, Duration::from_millis(PAUSE_MILLISECONDS));
+                true
+            }
         }
     }
 
     /// Takes a turn at a verification that was asked for, at this time in milliseconds, and tells
-    /// how it begins, goes on and ends. How many runs it looked at, at most; none where none goes
-    /// on.
+    /// how it begins, goes on and ends; what it repairs is written through the pass. How many runs
+    /// it looked at, at most; none where none goes on.
     pub fn turn<R: Wait + Clock, L: LegPart, G: Gate + Drop>(
         &mut self,
         rt: &R,
         mirror: &Mirror<L, G>,
+        pass: &mut Pass<L>,
         desk: &VerifyDesk,
         lines: &LogLines,
         now: u64,
     ) -> u32 {
-        let known = desk.known(rt);
+        let mut known = desk.known(rt);
         match known.stage {
             VerifyStage::Asked => self.begin(rt, mirror, desk, lines, &known, now),
             VerifyStage::Stopping => {
-                let _ = desk.note(rt, VerifyStage::Stopped, &known.round);
+                let _ = desk.note(rt, VerifyStage::Stopped, &known);
                 self.tell(rt, mirror, lines, &desk.known(rt));
                 return 0;
             }
             VerifyStage::Running => (),
             _ => return 0,
         }
-        let mut round = known.round;
         for _ in 0..LOOKS {
-            self.look(rt, mirror, &mut round);
+            self.look(rt, mirror, pass, &mut known);
         }
-        self.end_turn(rt, mirror, desk, lines, &round, now);
+        self.end_turn(rt, mirror, desk, lines, &known, now);
         LOOKS
     }
 
@@ -100,12 +143,17 @@ impl Verifier {
         known: &Verifying,
         now: u64,
     ) {
-        let _ = desk.note(rt, VerifyStage::Running, &known.round);
+        let _ = desk.note(rt, VerifyStage::Running, known);
         let _ = self.tells.take(now);
-        lines.inform(
-            rt,
-            format!(in self.alloc; "verify: started, {} legs", mirror.legs()),
-        );
+        let (alloc, legs) = (self.alloc, mirror.legs());
+        let line = match &known.repairs {
+            Some(repairs) => {
+                let leg = repairs.leg();
+                format!(in alloc; "verify: started, {legs} legs, leg {leg} is repaired")
+            }
+            None => format!(in alloc; "verify: started, {legs} legs"),
+        };
+        lines.inform(rt, line);
     }
 
     /// Notes how far it is, and tells it at the end, and every ten seconds before.
@@ -115,18 +163,18 @@ impl Verifier {
         mirror: &Mirror<L, G>,
         desk: &VerifyDesk,
         lines: &LogLines,
-        round: &Verification,
+        known: &Verifying,
         now: u64,
     ) {
-        let is_over = round.at.stripe >= mirror.shape().stripes;
+        let is_over = known.round.at.stripe >= mirror.shape().stripes;
         let stage = if is_over {
             VerifyStage::Done
         } else {
             VerifyStage::Running
         };
-        let is_noted = desk.note(rt, stage, round);
+        let is_noted = desk.note(rt, stage, known);
         if is_noted && is_over {
-            desk.end(rt, &round.found);
+            desk.end(rt, &known.round.found);
         }
         if is_over || self.tells.take(now) {
             self.tell(rt, mirror, lines, &desk.known(rt));
@@ -150,25 +198,32 @@ impl Verifier {
         let found = &known.round.found;
         if known.stage == VerifyStage::Done && (found.differing > 0 || found.unread > 0) {
             lines.warn(rt, line);
-            self.tell_bytes(rt, mirror, lines, found);
+            self.tell_bytes(rt, mirror, lines, "differ", found);
         } else {
             lines.inform(rt, line);
         }
+        match (&known.repairs, known.stage) {
+            (Some(repairs), VerifyStage::Done | VerifyStage::Stopped) => {
+                self.tell_bytes(rt, mirror, lines, "were written anew", repairs.written());
+            }
+            _ => (),
+        }
     }
 
-    /// Tells which bytes of the export differ, if some do.
+    /// Tells of which bytes of the export this is so, if it is of some.
     fn tell_bytes<R: Wait, L: LegPart, G: Gate + Drop>(
         &self,
         rt: &R,
         mirror: &Mirror<L, G>,
         lines: &LogLines,
+        what: &str,
         found: &Findings,
     ) {
         if found.differing == 0 {
             return;
         }
         let mut text = String::new(self.alloc);
-        let line = match put_differing(found, mirror.shape(), &mut text) {
+        let line = match put_places(what, found, mirror.shape(), &mut text) {
             Ok(()) => Ok(text),
             Err(error) => Err(error),
         };

@@ -28,6 +28,20 @@ fn has_two(glance: &Glance) -> bool {
     }
 }
 
+// Whether this leg is the only one in sync of the stripe.
+fn is_last(glance: &Glance, leg: u8) -> bool {
+    match glance.told() {
+        Some(StripeStatus::Running { legs, .. }) => {
+            let legs = legs.as_slice();
+            match legs.get(leg as usize) {
+                Some(status) => status.state == LegState::InSync && count_in_sync(legs) == 1,
+                None => false,
+            }
+        }
+        _ => false,
+    }
+}
+
 /// Puts how the verification stands.
 pub fn put_known<R: Wait, L: LegPart, G: Gate + Drop, N: RenewsLegs<L>, M: MakesLegs<L>>(
     rt: &R,
@@ -39,20 +53,31 @@ pub fn put_known<R: Wait, L: LegPart, G: Gate + Drop, N: RenewsLegs<L>, M: Makes
     text.push_str("\n")
 }
 
-/// The answer to `verify`: it is started, unless one goes on, or no stripe has two legs in sync.
+/// The answer to `verify`, and where a leg is named, which is repaired, to `verify repair`: it is
+/// started, unless one goes on, no stripe has two legs in sync, or that leg is the last one in sync
+/// of a stripe.
 pub fn put_verify<R: Wait + Clock, L: LegPart, G: Gate + Drop, N: RenewsLegs<L>, M: MakesLegs<L>>(
     rt: &R,
     alloc: Global,
     server: &Controlled<'_, L, G, N, M>,
+    repaired: Option<u8>,
     text: &mut String,
 ) -> Result<(), AllocError> {
     let Ok(stripes) = server.mirror.glance(rt, alloc) else {
         return Err(AllocError);
     };
+    if let Some(leg) = repaired {
+        if leg >= server.mirror.legs() {
+            return text.push_str("bad command\n");
+        }
+        if stripes.iter().any(|glance| is_last(glance, leg)) {
+            return writeln!(text, "verify: leg {leg} is the last in sync");
+        }
+    }
     if !stripes.iter().any(has_two) {
         return text.push_str("verify: none in sync to compare\n");
     }
-    if server.orders.verify().ask(rt) {
+    if server.orders.verify().ask(rt, repaired) {
         return text.push_str("verify: started\n");
     }
     put_known(rt, server, text)

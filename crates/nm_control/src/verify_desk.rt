@@ -1,7 +1,8 @@
 //! Where a verification of the legs is ordered, and told of.
 
 use crate::finding::Finding;
-use crate::verify_text::{percent, put_end};
+use crate::repairs::Repairs;
+use crate::verify_text::{percent, put_end, put_written};
 use nm_geometry::Shape;
 use nm_mirror::{Findings, Verification};
 use nm_reports::{Verified, milliseconds_since};
@@ -33,6 +34,8 @@ pub struct Verifying {
     pub stage: VerifyStage,
     /// Where it is, and what it found.
     pub round: Verification,
+    /// What it wrote anew, where it repairs a leg.
+    pub repairs: Option<Repairs>,
 }
 
 impl Verifying {
@@ -54,7 +57,10 @@ impl Verifying {
             }
             VerifyStage::Done => put_end(&self.round.found, text)?,
         }
-        Ok(())
+        match &self.repairs {
+            Some(repairs) if !self.goes_on() => put_written(repairs, text),
+            _ => Ok(()),
+        }
     }
 }
 
@@ -86,6 +92,7 @@ impl VerifyDesk {
             known: Mutex::new(Verifying {
                 stage: VerifyStage::Never,
                 round: Verification::new(),
+                repairs: None,
             }),
             past: Mutex::new(Past {
                 ended: None,
@@ -150,8 +157,9 @@ impl VerifyDesk {
         *self.known.lock(rt)
     }
 
-    /// Asks for a verification, unless one goes on. Whether it is a new one.
-    pub fn ask<R: Wait>(&self, rt: &R) -> bool {
+    /// Asks for a verification, which repairs this leg if one is named, unless one goes on. Whether
+    /// it is a new one.
+    pub fn ask<R: Wait>(&self, rt: &R, repaired: Option<u8>) -> bool {
         let mut known = self.known.lock(rt);
         if known.goes_on() {
             return false;
@@ -159,6 +167,7 @@ impl VerifyDesk {
         *known = Verifying {
             stage: VerifyStage::Asked,
             round: Verification::new(),
+            repairs: repaired.map(Repairs::of),
         };
         true
     }
@@ -173,19 +182,18 @@ impl VerifyDesk {
         goes_on
     }
 
-    /// Notes how far it is, unless it was told to end, or another was asked for. Whether it was
-    /// noted.
-    pub fn note<R: Wait>(&self, rt: &R, stage: VerifyStage, round: &Verification) -> bool {
+    /// Notes how far it is, and what is done with it, unless it was told to end, or another was
+    /// asked for. Whether it was noted.
+    pub fn note<R: Wait>(&self, rt: &R, stage: VerifyStage, now: &Verifying) -> bool {
         let mut known = self.known.lock(rt);
         let is_its_own = match known.stage {
             VerifyStage::Running => true,
-            VerifyStage::Asked => stage == VerifyStage::Running && is_first(round),
+            VerifyStage::Asked => stage == VerifyStage::Running && is_first(&now.round),
             VerifyStage::Stopping => stage == VerifyStage::Stopped,
             _ => false,
         };
         if is_its_own {
-            known.stage = stage;
-            known.round = *round;
+            *known = Verifying { stage, ..*now };
         }
         is_its_own
     }

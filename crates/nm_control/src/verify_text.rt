@@ -1,5 +1,6 @@
 //! What a verification of the legs is told as.
 
+use crate::repairs::Repairs;
 use nm_geometry::Shape;
 use nm_mirror::{Findings, RegionPlace, Verification};
 use std::alloc::AllocError;
@@ -72,4 +73,10 @@ pub fn put_end(found: &Findings, text: &mut String) -> Result<(), AllocError> {
     }
     put_unread(found, text)?;
     put_missed(found, text)
+}
+
+/// Puts how many regions were written anew for the sake of a leg.
+pub fn put_written(repairs: &Repairs, text: &mut String) -> Result<(), AllocError> {
+    let (leg, regions) = (repairs.leg(), repairs.written().differing);
+    write!(text, "; {regions} regions repaired on leg {leg}")
 }

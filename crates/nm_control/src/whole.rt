@@ -1,4 +1,5 @@
-//! The answer to `status`: each stripe, and the mirror as a whole.
+//! The answer to `status`: each stripe, and the mirror as a whole; and those to `pause` and
+//! `resume`, which it tells of.
 
 use crate::controlled::Controlled;
 use crate::replacing::RenewsLegs;
@@ -6,7 +7,7 @@ use nm_commands::VERSION;
 use nm_lanes::Gate;
 use nm_leg::LegPart;
 use nm_leg_files::MakesLegs;
-use nm_mirror::{Glance, StripeStatus};
+use nm_mirror::{Glance, Mirror, StripeStatus};
 use nm_reports::is_printable;
 use nm_service::Ailments;
 use nm_stripe::LegState;
@@ -34,6 +35,15 @@ fn count_stripe(glance: &Glance, found: &mut Ailments) {
     }
 }
 
+// How many legs are paused.
+fn count_paused<L: LegPart, G: Gate + Drop>(mirror: &Mirror<L, G>) -> u64 {
+    let mut count = 0u64;
+    for leg in 0..mirror.legs() {
+        count = count.saturating_add(u64::from(mirror.is_paused(leg)));
+    }
+    count
+}
+
 // What is not well in the mirror, whose stripes were just seen.
 fn ailments<R: Wait + Clock, L: LegPart, G: Gate + Drop, N: RenewsLegs<L>, M: MakesLegs<L>>(
     rt: &R,
@@ -48,7 +58,8 @@ fn ailments<R: Wait + Clock, L: LegPart, G: Gate + Drop, N: RenewsLegs<L>, M: Ma
         failed_reads: orders.doubts().failed_reads(),
         differing: orders.verify().verified(rt).differing,
         unsaved: u64::from(saves.has_failed()),
-        copied: 0,
+        // A leg that is paused waits, as one that is being copied.
+        copied: count_paused(server.mirror),
         busy: 0,
     };
     for glance in glances {
@@ -74,6 +85,19 @@ fn put_whole<R: Wait + Clock, L: LegPart, G: Gate + Drop, N: RenewsLegs<L>, M: M
     writeln!(text, "\nserver: version {VERSION}")
 }
 
+// Puts a line a leg that is paused.
+fn put_paused<L: LegPart, G: Gate + Drop>(
+    mirror: &Mirror<L, G>,
+    text: &mut String,
+) -> Result<(), AllocError> {
+    for leg in 0..mirror.legs() {
+        if mirror.is_paused(leg) {
+            writeln!(text, "leg {leg}: paused")?;
+        }
+    }
+    Ok(())
+}
+
 /// The answer to `status`.
 pub fn put_status<R: Wait + Clock, L: LegPart, G: Gate + Drop, N: RenewsLegs<L>, M: MakesLegs<L>>(
     rt: &R,
@@ -88,5 +112,36 @@ pub fn put_status<R: Wait + Clock, L: LegPart, G: Gate + Drop, N: RenewsLegs<L>,
         writeln!(text, "stripe {stripe}: {glance}")?;
     }
     put_whole(rt, server, &stripes, text)?;
+    put_paused(server.mirror, text)?;
     text.push_str("end\n")
+}
+
+/// The answer to `pause`.
+pub fn put_pause<L: LegPart, G: Gate + Drop>(
+    mirror: &Mirror<L, G>,
+    leg: u8,
+    text: &mut String,
+) -> Result<(), AllocError> {
+    if leg >= mirror.legs() {
+        return text.push_str("bad command\n");
+    }
+    let was_paused = if mirror.pause_leg(leg) { "" } else { "was " };
+    writeln!(text, "pause {leg}: {was_paused}paused")
+}
+
+/// The answer to `resume`.
+pub fn put_resume<L: LegPart, G: Gate + Drop>(
+    mirror: &Mirror<L, G>,
+    leg: u8,
+    text: &mut String,
+) -> Result<(), AllocError> {
+    if leg >= mirror.legs() {
+        return text.push_str("bad command\n");
+    }
+    let came = if mirror.resume_leg(leg) {
+        "resumed"
+    } else {
+        "was not paused"
+    };
+    writeln!(text, "resume {leg}: {came}")
 }

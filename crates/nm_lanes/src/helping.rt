@@ -32,9 +32,9 @@ impl<R: Wait, G: Gate, K> StripeCall<'_, R, G, K> {
         Ok(())
     }
 
-    /// Does a step of the copy to a leg; where a write is in its way, pushes that one: without it
-    /// the copy would not come further, and who waits for it would turn for ever. Another refusal
-    /// that does not end the call is harmless.
+    /// Does a step of the copy to a leg, in the region that is open: it opens none. Where a write is
+    /// in its way, pushes that one: without it the copy would not come further, and who waits for it
+    /// would turn for ever. Another refusal that does not end the call is harmless.
     fn help_copy<L: LegPart, D: Lane<L, K>>(
         &self,
         lane: &mut D,
@@ -44,7 +44,7 @@ impl<R: Wait, G: Gate, K> StripeCall<'_, R, G, K> {
         ensures err { IfErr result (λ kind.
             LaneStops D.follows lane.old lane.new [] (EndsSo Nobodys kind)) }
     {
-        match self.copy(lane, leg, MOST_RUN as u64, 0) {
+        match self.copy(lane, leg, MOST_RUN as u64, u64::MAX) {
             Ok(Copying::Copied { .. }) => Ok(()),
             Ok(Copying::Nothing) => Ok(()),
             Ok(Copying::LegLost(_)) => Ok(()),

@@ -1,11 +1,8 @@
 -- The legs' files, the mirror that is laid over them, and where its legs stand.
 use Rattle.std.specs.Arc.{arc_value}
-use Rattle.std.specs.Prelude.{◌≡◌, ℕ, zero, suc, ◌*◌, ◌-◌, ◌^◌, min, string_bytes}
+use Rattle.std.specs.Prelude.{ℕ, zero, suc, ◌*◌, ◌-◌, ◌^◌, min, string_bytes}
 use Rattle.std.specs.Prelude.{List, [], ◌∷◌, ◌++◌, length, map}
 use Rattle.nm_geometry.specs.Geometry.{Geometry, geometry, regions_for}
-use Rattle.nm_leg.specs.Leg.{LegType}
-use Rattle.nm_mirror.specs.Opening.{Asked, AreAllOpened}
-use Rattle.nm_rules.specs.State.{StripeState}
 use Rattle.nm_leg_files.specs.declared.counting_file.CountingFile.{CountingFile}
 use Rattle.nm_leg_files.specs.declared.limited_file.LimitedFile.{LimitedFile}
 use Rattle.nm_leg_files.specs.declared.leg_file.LegFile.{LegFile}
@@ -75,10 +72,3 @@ abbrev pub file_places : (stripes : ℕ) → Geometry → LegFile → List LegPl
 file_places zero shape leg = []
 file_places (suc stripes) shape leg =
     file_places stripes shape leg ++ place_on stripes shape leg ∷ []
-
--- the stripes were opened as was asked for, each on legs that stand on their own files
-pub record AreOpenedOn {L : Type 0} (type : LegType L) (place : L → LegPlace) (files : LegFiles)
-    (asked : Asked) (stripes : List (StripeState L)) : Type 0 where
-  pub legs : List (List L)
-  pub places : map (map place) legs ≡ mirror_places asked.shape files
-  pub opened : AreAllOpened type asked legs stripes

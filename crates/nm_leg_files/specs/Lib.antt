@@ -1,14 +1,6 @@
-pub mod Alike
-pub mod ChangedStart
 pub mod Files
 pub mod Fitting
 pub mod Here
 pub mod LegTime
-pub mod Replies
 pub mod SavedTimes
 pub mod Saving
-pub mod Starting
-pub mod SuperblockChoice
-pub mod SuperblockSets
-pub mod TwoPlaces
-pub mod Unknown

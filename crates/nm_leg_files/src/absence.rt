@@ -1,8 +1,7 @@
 //! Legs that a start goes on without.
-ghost use Rattle.std.specs.Prelude.{◌≡◌, ◌<◌, ◌↔◌, false, IfOk, IsTrue};
+ghost use Rattle.std.specs.Prelude.{◌≡◌, false, IfOk};
 ghost use Rattle.nm_leg_files.specs.Files.{name_of};
 ghost use Rattle.nm_leg_files.specs.Here.{is_here};
-ghost use Rattle.nm_leg_files.specs.Unknown.{AreUnknown, IsUnknown};
 
 use crate::late_file::LateFile;
 use crate::leg_file::LegFile;
@@ -10,7 +9,6 @@ use crate::leg_files::LegFiles;
 use crate::limited_file::LimitedFile;
 use nm_file_leg::SharedFile;
 use nm_geometry::MOST_STRIPES;
-use nm_superblock::Superblock;
 use std::alloc::{AllocError, Global};
 use std::sync::Arc;
 use std::{fmt, io};
@@ -65,26 +63,6 @@ fn absence_by(was_changed: bool) -> Absence {
     } else {
         Absence::Another
     }
-}
-
-// Whether the newest superblock knows this leg, of which this one was found, or none.
-fn is_unknown(newest: &Superblock, leg: usize, beside: &Option<Superblock>) -> bool
-    requires { leg < 8 }
-    ensures { IsTrue result ↔ IsUnknown newest.now leg beside.now }
-{
-    leg < newest.legs as usize && beside.is_none()
-}
-
-/// Which legs the newest superblock knows though none was found of them: another file may stand
-/// under such a leg's name.
-pub fn unknown_legs(newest: &Superblock, found: &[Option<Superblock>; 8]) -> [bool; 8]
-    ensures { AreUnknown 8 newest.now found.now result }
-{
-    let mut unknown = [false; 8];
-    'legs: for leg in 0..8 {
-        unknown[leg] = is_unknown(newest, leg, &found[leg]);
-    }
-    unknown
 }
 
 impl LegFiles {

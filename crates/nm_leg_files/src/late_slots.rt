@@ -49,7 +49,7 @@ fn check_whole(many: usize) -> io::Result<()> {
 
 impl LateSlots {
     /// Those of a file that is open, from this byte on, under the limit of its leg's calls.
-    pub(crate) fn here(
+    pub fn here(
         alloc: Global,
         file: File,
         first: u64,
@@ -62,7 +62,7 @@ impl LateSlots {
     }
 
     /// Those of a file that is opened later.
-    pub(crate) fn late(
+    pub fn late(
         file: Arc<LateFile>,
         first: u64,
         limit: &CallLimit,
@@ -74,7 +74,7 @@ impl LateSlots {
     }
 
     /// The same slots of the same file.
-    pub(crate) fn share(&self) -> Result<LateSlots, AllocError> {
+    pub fn share(&self) -> Result<LateSlots, AllocError> {
         Ok(LateSlots {
             file: self.file.share()?,
             first: self.first,
@@ -96,7 +96,7 @@ impl LateSlots {
 
     /// Whether all the bytes are zeroes that a leg has for its superblock, of which these slots are
     /// the first.
-    pub(crate) fn is_clear(&self) -> io::Result<bool> {
+    pub fn is_clear(&self) -> io::Result<bool> {
         let mut bytes = [0; SLOT_BYTES];
         for piece in 0..WINDOW_PIECES {
             let found = self.file.read_bytes(self.piece_at(piece), &mut bytes)?;
@@ -109,7 +109,7 @@ impl LateSlots {
     }
 
     /// Makes them zeroes, durably.
-    pub(crate) fn clear(&self) -> io::Result<()> {
+    pub fn clear(&self) -> io::Result<()> {
         for piece in 0..WINDOW_PIECES {
             let written = self
                 .file

@@ -1,6 +1,6 @@
 //! The superblock of a leg that was missing at the start.
+ghost use Rattle.std.specs.Prelude.{◌≡◌, max};
 
-use crate::adding::with_added;
 use crate::late_file::LateFile;
 use crate::leg_opener::OpensLegs;
 use crate::leg_opening::lock_opened;
@@ -29,14 +29,14 @@ pub struct LateSuperblock {
     pub name: String,
     /// The file, once it is open.
     pub file: Arc<LateFile>,
-    // Where in which file it stands.
-    pub(crate) at: SlotsAt,
+    /// Where in which file it stands.
+    pub at: SlotsAt,
     /// The superblock that the start went by.
     pub went_by: Superblock,
 }
 
-// The slot that begins at this byte.
-pub(crate) fn slot_at(file: &File, at: u64) -> Option<[u8; 4096]> {
+/// The slot that begins at this byte.
+pub fn slot_at(file: &File, at: u64) -> Option<[u8; 4096]> {
     let mut slot = [0; SLOT_BYTES];
     match file.read_at(&mut slot, at) {
         Ok(SLOT_BYTES) => Some(slot),
@@ -68,7 +68,7 @@ fn found_from(file: &File, from: u64) -> Option<Superblock> {
 
 /// The file of a leg that was opened, if it was, once more for the superblock inside it: this one
 /// is locked, and the other is to be the same.
-pub(crate) fn again(opened: io::Result<File>, leg: &File) -> Result<File, Unopened> {
+pub fn again(opened: io::Result<File>, leg: &File) -> Result<File, Unopened> {
     match opened {
         Ok(file) if are_one(&file, leg) => Ok(file),
         Ok(_) => Err(Unopened::by(io::Error::from(ErrorKind::NotFound))),
@@ -86,10 +86,19 @@ fn write_blank(file: &File, at: u64) -> io::Result<()> {
 }
 
 /// Leaves no superblock in the slots from this byte on, durably.
-pub(crate) fn blank_from(file: &File, from: u64) -> io::Result<()> {
+pub fn blank_from(file: &File, from: u64) -> io::Result<()> {
     write_blank(file, from)?;
     write_blank(file, from.saturating_add(SLOT_BYTES as u64))?;
     file.sync_all()
+}
+
+/// A superblock as one of so many legs, where it has fewer: legs were added since it was saved.
+pub fn with_added(superblock: &Superblock, legs: u8) -> Superblock
+    ensures { result ≡ record superblock.now { legs = max superblock.now.legs legs } }
+{
+    let mut own = *superblock;
+    own.legs = own.legs.max(legs);
+    own
 }
 
 impl LateSuperblock {

@@ -48,8 +48,8 @@ struct FileAtWork {
     counts: Arc<LegCounts>,
 }
 
-// Whether both are of one file.
-pub(crate) fn is_same(one: &Metadata, other: &Metadata) -> bool {
+/// Whether both are of one file.
+pub fn is_same(one: &Metadata, other: &Metadata) -> bool {
     one.dev() == other.dev() && one.ino() == other.ino()
 }
 

@@ -1,9 +1,12 @@
-//! What others have of the legs' files: shares of what is noted and counted of them.
+//! What others have of the legs' files: how long they are, and shares of what is noted and counted
+//! of them.
 
 use crate::leg_files::LegFiles;
+use crate::leg_opening::BLOCK_BYTES;
 use crate::limited_file::{CallLimit, share_limit};
 use nm_reports::{LegCounts, LegLines, LegTrouble};
 use std::alloc::{AllocError, Global};
+use std::fs::File;
 use std::sync::Arc;
 
 impl LegFiles {
@@ -43,5 +46,20 @@ impl LegFiles {
             limits.push(share_limit(file.shared.file().limit())?)?;
         }
         Ok(limits)
+    }
+
+    /// How many legs there are.
+    pub fn count(&self) -> usize {
+        self.files.len()
+    }
+
+    /// How many bytes each file that is here has for the export.
+    pub fn export_bytes(&self) -> u64 {
+        self.blocks.saturating_mul(BLOCK_BYTES)
+    }
+
+    /// The file of this leg, if it is here.
+    pub fn file(&self, leg: usize) -> Option<&File> {
+        self.files.get(leg)?.shared.file().late().file()
     }
 }

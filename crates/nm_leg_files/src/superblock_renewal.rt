@@ -1,13 +1,12 @@
 //! A leg that is replaced gets a superblock's file of its own, and a new id.
 ghost use Rattle.std.specs.Prelude.{◌≢◌};
 
-use crate::inside_slots::{blank_window, no_memory};
+use crate::blank_files::{blank_file, blank_window, no_memory};
 use crate::late_slots::LateSlots;
 use crate::late_superblock::{again, blank_from, held_from};
 use crate::leg_opener::OpensLegs;
 use crate::leg_opening::lock_opened;
 use crate::limited_file::CallLimit;
-use crate::superblock_opening::blank_file;
 use crate::superblock_writer::SuperblockWriter;
 use crate::window::SlotsAt;
 use nm_reports::Unopened;

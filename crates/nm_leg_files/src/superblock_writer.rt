@@ -75,7 +75,8 @@ fn is_partial(last: &Superblock, leg: u8) -> bool {
 #[derive(Drop)]
 pub struct SuperblockWriter<S: SlotFile> {
     pub(crate) alloc: Global,
-    pub(crate) files: SuperblockFiles<S>,
+    /// The files.
+    pub files: SuperblockFiles<S>,
     // From leg 0 on.
     pub(crate) names: Vec<String>,
     pub(crate) slots_at: SlotsAt,
@@ -85,7 +86,7 @@ pub struct SuperblockWriter<S: SlotFile> {
 impl<S: SlotFile> SuperblockWriter<S> {
     /// A writer of these files, with their names from leg 0's on, where in them the superblocks
     /// stand, and the newest one that was found in them: none where they were made.
-    pub(crate) fn new(
+    pub fn new(
         alloc: Global,
         files: SuperblockFiles<S>,
         names: Vec<String>,

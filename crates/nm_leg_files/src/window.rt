@@ -38,7 +38,7 @@ pub fn export_bytes(bytes: u64, window: u64) -> u64
 
 /// Where the slots of legs' superblocks stand.
 #[derive(Clone, Copy, Debug, PartialEq, Eq)]
-pub(crate) enum SlotsAt {
+pub enum SlotsAt {
     /// In a file beside each leg.
     Beside,
     /// In a file for each leg in a folder.
@@ -49,7 +49,7 @@ pub(crate) enum SlotsAt {
 
 impl SlotsAt {
     /// Where they stand in this place, where legs have so many bytes for the export.
-    pub(crate) fn of(place: SuperblockPlace<'_>, bytes: u64) -> SlotsAt {
+    pub fn of(place: SuperblockPlace<'_>, bytes: u64) -> SlotsAt {
         match place {
             SuperblockPlace::Beside => SlotsAt::Beside,
             SuperblockPlace::Inside => SlotsAt::Inside(bytes),
@@ -58,7 +58,7 @@ impl SlotsAt {
     }
 
     /// At which byte of a file they begin.
-    pub(crate) fn first_byte(&self) -> u64 {
+    pub fn first_byte(&self) -> u64 {
         match self {
             SlotsAt::Inside(at) => *at,
             _ => 0,
@@ -66,7 +66,7 @@ impl SlotsAt {
     }
 
     /// Whether they are in the legs' own files.
-    pub(crate) fn is_inside(&self) -> bool {
+    pub fn is_inside(&self) -> bool {
         matches!(self, SlotsAt::Inside(_))
     }
 }
@@ -84,18 +84,18 @@ fn has_mark(slot: &[u8; 4096]) -> bool {
 
 /// Whether two slots inside a leg hold a superblock, or what is left of one. Else they hold what a
 /// client wrote there, or nothing.
-pub(crate) fn are_marked(first: &[u8; 4096], second: &[u8; 4096]) -> bool {
+pub fn are_marked(first: &[u8; 4096], second: &[u8; 4096]) -> bool {
     has_mark(first) || has_mark(second)
 }
 
 /// At which byte of a leg's file a superblock inside it begins.
-pub(crate) fn inside_from(file: &File) -> Option<u64> {
+pub fn inside_from(file: &File) -> Option<u64> {
     bytes_of(file)?.checked_sub(WINDOW_BYTES)
 }
 
 /// The superblock inside the leg of this file: one of a mirror over as many blocks as the leg has
 /// for the export before it.
-pub(crate) fn superblock_inside(file: &File) -> Option<Superblock> {
+pub fn superblock_inside(file: &File) -> Option<Superblock> {
     let from = inside_from(file)?;
     let own = held_from(file, from)?;
     if own.blocks == from / BLOCK_BYTES {

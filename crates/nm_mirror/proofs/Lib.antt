@@ -1,3 +1,4 @@
+mod ListLemmas
 mod MarkedLemmas
 mod NumberLemmas
 mod OneInSync

@@ -4,6 +4,7 @@ pub mod Closing
 pub mod CopyRound
 pub mod Counting
 pub mod Counts
+pub mod Holding
 pub mod Marked
 pub mod Numbers
 pub mod MirrorFault
@@ -12,6 +13,7 @@ pub mod Passes
 pub mod Refused
 pub mod Reopening
 pub mod Replacing
+pub mod Repair
 pub mod Resync
 pub mod RoundChanges
 pub mod RoundInside

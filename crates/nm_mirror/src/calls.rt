@@ -4,6 +4,7 @@ ghost use Rattle.nm_geometry.specs.Pieces.{LiesInside};
 ghost use Rattle.nm_lanes.specs.Flushes.{HasFlushed, HasFlushedSome, IsStripeOf, Touches};
 ghost use Rattle.nm_lanes.specs.Reads.{HasRead, HasReadSome};
 ghost use Rattle.nm_lanes.specs.Runs.{runs_of_range};
+ghost use Rattle.nm_leg.specs.Leg.{leg_type};
 ghost use Rattle.nm_mirror.specs.Counting.{Follows};
 
 use crate::bounds::within_bounds;
@@ -30,11 +31,11 @@ impl<L: LegPart, G: Gate + Drop> Mirror<L, G> {
         requires pass { length pass.old.parts.items ≡ self.now.shape.stripes }
         requires inside { LiesInside (record { offset = offset; length = length into.old })
             self.now.shape }
-        ensures ok { OnOk result (HasRead {L = L} Follows self.now.shape
+        ensures ok { OnOk result (HasRead (Follows (leg_type L.model L.honest)) self.now.shape
             (runs_of_range self.now.shape
             (record { offset = offset; length = length into.old }))
             (pass.old.parts.items, pass.new.parts.items) into.new) }
-        ensures err { IfErr result (HasReadSome {L = L} Follows self.now.shape
+        ensures err { IfErr result (HasReadSome (Follows (leg_type L.model L.honest)) self.now.shape
             (runs_of_range self.now.shape
             (record { offset = offset; length = length into.old }))
             (pass.old.parts.items, pass.new.parts.items)) }
@@ -63,11 +64,11 @@ impl<L: LegPart, G: Gate + Drop> Mirror<L, G> {
         requires whole { length into.old % 512 ≡ 0 }
         requires inside { LiesInside (record { offset = 512 * from; length = length into.old })
             self.now.shape }
-        ensures ok { OnOk result (HasRead {L = L} Follows self.now.shape
+        ensures ok { OnOk result (HasRead (Follows (leg_type L.model L.honest)) self.now.shape
             (runs_of_range self.now.shape
             (record { offset = 512 * from; length = length into.old }))
             (pass.old.parts.items, pass.new.parts.items) into.new) }
-        ensures err { IfErr result (HasReadSome {L = L} Follows self.now.shape
+        ensures err { IfErr result (HasReadSome (Follows (leg_type L.model L.honest)) self.now.shape
             (runs_of_range self.now.shape
             (record { offset = 512 * from; length = length into.old }))
             (pass.old.parts.items, pass.new.parts.items)) }
@@ -81,9 +82,11 @@ impl<L: LegPart, G: Gate + Drop> Mirror<L, G> {
     /// Where a stripe cannot go on, the others are synced all the same.
     pub fn flush<R: Wait>(&self, rt: &R, pass: &mut Pass<L>) -> Result<(), CallError>
         requires pass { length pass.old.parts.items ≡ self.now.shape.stripes }
-        ensures ok { OnOk result (HasFlushed {L = L} Follows self.now.shape.legs
+        ensures ok { OnOk result (HasFlushed (Follows (leg_type L.model L.honest))
+            self.now.shape.legs
             (IsStripeOf self.now.shape) (pass.old.parts.items, pass.new.parts.items)) }
-        ensures err { IfErr result (HasFlushedSome {L = L} Follows self.now.shape.legs
+        ensures err { IfErr result (HasFlushedSome (Follows (leg_type L.model L.honest))
+            self.now.shape.legs
             (IsStripeOf self.now.shape) (pass.old.parts.items, pass.new.parts.items)) }
     {
         flush_by(
@@ -107,10 +110,12 @@ impl<L: LegPart, G: Gate + Drop> Mirror<L, G> {
         requires pass { length pass.old.parts.items ≡ self.now.shape.stripes }
         requires inside { LiesInside (record { offset = offset; length = len })
             self.now.shape }
-        ensures ok { OnOk result (HasFlushed {L = L} Follows self.now.shape.legs
+        ensures ok { OnOk result (HasFlushed (Follows (leg_type L.model L.honest))
+            self.now.shape.legs
             (Touches self.now.shape (record { offset = offset; length = len }))
             (pass.old.parts.items, pass.new.parts.items)) }
-        ensures err { IfErr result (HasFlushedSome {L = L} Follows self.now.shape.legs
+        ensures err { IfErr result (HasFlushedSome (Follows (leg_type L.model L.honest))
+            self.now.shape.legs
             (Touches self.now.shape (record { offset = offset; length = len }))
             (pass.old.parts.items, pass.new.parts.items)) }
     {

@@ -1,21 +1,25 @@
-//! The steps of a pass that a stripe's gate has to let pass.
-ghost use Rattle.std.specs.Prelude.{[], ◌∷◌};
+//! The steps of a pass on the stripe behind a lock.
+ghost use Rattle.std.specs.Prelude.{◌≡◌, [], ◌∷◌};
 ghost use Rattle.nm_lanes.specs.Answers.{answer_of_begin, answer_of_claim, answer_of_copy};
-ghost use Rattle.nm_lanes.specs.Answers.{answer_of_sync, HandsBack};
+ghost use Rattle.nm_lanes.specs.Answers.{answer_of_push, answer_of_read, answer_of_sync, HandsBack};
 ghost use Rattle.nm_lanes.specs.Done.{done_as};
+ghost use Rattle.nm_leg.specs.Leg.{leg_type};
 ghost use Rattle.nm_mirror.specs.Asks.{LetsPass};
 ghost use Rattle.nm_mirror.specs.Counting.{Follows};
+ghost use Rattle.nm_mirror.specs.Holding.{AsksHeld};
 ghost use Rattle.nm_mirror.specs.declared.ask.Ask.TheVariants as ask;
+ghost use Rattle.nm_stripe.specs.Read.{LeavesTarget};
 ghost use Rattle.nm_stripe.specs.declared.step.Step.TheVariants as step;
 
 use crate::held::Held;
 use nm_fanout::Data;
 use nm_leg::LegPart;
 use nm_part::Part;
-use nm_stripe::{Beginning, Copying, Refusal, Syncing, Written};
+use nm_stripe::{Beginning, Copying, Reach, Reading, Refusal, Syncing, Written};
 
-/// Each step asks the stripe through the part, and may be done only where the gate lets it pass: no
-/// contract of a lane can say that of what stands behind a lock.
+/// Each step asks the stripe through the part once, and changes nothing else that is held. A begin,
+/// a claim, a flush and a copy may be done only where the gate lets it pass: no contract of a lane
+/// can say that of what stands behind a lock.
 impl<L: LegPart> Held<L> {
     /// Begins a write.
     #[inline(always)]
@@ -26,19 +30,56 @@ impl<L: LegPart> Held<L> {
         data: Data,
     ) -> Result<Beginning, (Refusal, Data)>
         requires { LetsPass self.old.gated.durable self.old.gated.stripe (ask.Begin block) }
-        ensures follows { Follows {L = L} part.old
+        ensures follows { Follows (leg_type L.model L.honest) part.old
             (done_as (step.Begin block «data») (answer_of_begin result) ∷ []) part.new }
+        ensures asks { AsksHeld (leg_type L.model L.honest) (step.Begin block «data»)
+            (answer_of_begin result) part.old (self.old, self.new) }
         ensures handed_back { HandsBack «data» result }
     {
         part.begin(&mut self.gated.stripe, block, data)
+    }
+
+    /// Pushes a write to a leg.
+    #[inline(always)]
+    pub(crate) fn push(
+        &mut self,
+        part: &mut Part<L>,
+        ticket: u64,
+        leg: u8,
+    ) -> Result<Reach, Refusal>
+        ensures follows { Follows (leg_type L.model L.honest) part.old
+            (done_as (step.Push ticket leg) (answer_of_push result) ∷ []) part.new }
+        ensures asks { AsksHeld (leg_type L.model L.honest) (step.Push ticket leg)
+            (answer_of_push result) part.old (self.old, self.new) }
+    {
+        part.push(&mut self.gated.stripe, ticket, leg)
+    }
+
+    /// Reads a run.
+    #[inline(always)]
+    pub(crate) fn read(
+        &mut self,
+        part: &mut Part<L>,
+        block: u64,
+        into: &mut [u8],
+    ) -> Result<Reading<L>, Refusal>
+        ensures follows { Follows (leg_type L.model L.honest) part.old
+            (done_as (step.Read block into.old) (answer_of_read result into.new) ∷ []) part.new }
+        ensures asks { AsksHeld (leg_type L.model L.honest) (step.Read block into.old)
+            (answer_of_read result into.new) part.old (self.old, self.new) }
+        ensures target { LeavesTarget result into.old into.new }
+    {
+        part.read(&mut self.gated.stripe, block, into)
     }
 
     /// Claims a write.
     #[inline(always)]
     pub(crate) fn claim(&mut self, part: &mut Part<L>, ticket: u64) -> Result<Written<L>, Refusal>
         requires { LetsPass self.old.gated.durable self.old.gated.stripe ask.Answer }
-        ensures { Follows {L = L} part.old
+        ensures follows { Follows (leg_type L.model L.honest) part.old
             (done_as (step.Claim ticket) (answer_of_claim result) ∷ []) part.new }
+        ensures asks { AsksHeld (leg_type L.model L.honest) (step.Claim ticket)
+            (answer_of_claim result) part.old (self.old, self.new) }
     {
         part.claim(&mut self.gated.stripe, ticket)
     }
@@ -47,8 +88,10 @@ impl<L: LegPart> Held<L> {
     #[inline(always)]
     pub(crate) fn flush(&mut self, part: &mut Part<L>, leg: u8) -> Result<Syncing, Refusal>
         requires { LetsPass self.old.gated.durable self.old.gated.stripe ask.Answer }
-        ensures { Follows {L = L} part.old
+        ensures follows { Follows (leg_type L.model L.honest) part.old
             (done_as (step.Flush leg) (answer_of_sync result) ∷ []) part.new }
+        ensures asks { AsksHeld (leg_type L.model L.honest) (step.Flush leg)
+            (answer_of_sync result) part.old (self.old, self.new) }
     {
         part.flush(&mut self.gated.stripe, leg)
     }
@@ -63,8 +106,10 @@ impl<L: LegPart> Held<L> {
         from: u64,
     ) -> Result<Copying, Refusal>
         requires { LetsPass self.old.gated.durable self.old.gated.stripe (ask.Copy leg from) }
-        ensures { Follows {L = L} part.old
+        ensures follows { Follows (leg_type L.model L.honest) part.old
             (done_as (step.Copy leg most from) (answer_of_copy result) ∷ []) part.new }
+        ensures asks { AsksHeld (leg_type L.model L.honest) (step.Copy leg most from)
+            (answer_of_copy result) part.old (self.old, self.new) }
     {
         part.copy(&mut self.gated.stripe, leg, most, from)
     }

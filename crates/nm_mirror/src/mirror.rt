@@ -13,12 +13,13 @@ use nm_lanes::{CallKind, Gate, Place, StepKind};
 use nm_leg::LegPart;
 use nm_replay::Memory;
 use std::alloc::{AllocError, Global};
+use std::sync::atomic::{AtomicU32, Ordering};
 use std::sync::{Arc, Mutex, MutexGuard, Wait};
 
 /// A mirror: its stripes, by rising number, each behind a lock of its own that has its number; the
 /// gate that its calls pass between their steps; how many passes it made; whose turn it is to shut
-/// out writes; and where saves are asked for, if it has superblocks. The lock of that count is
-/// taken by `pass` alone.
+/// out writes; where saves are asked for, if it has superblocks; and which legs are paused, a bit
+/// each. The lock of that count is taken by `pass` alone.
 #[derive(Drop)]
 pub struct Mirror<L: LegPart, G: Gate + Drop> {
     pub(crate) shape: Shape,
@@ -27,6 +28,7 @@ pub struct Mirror<L: LegPart, G: Gate + Drop> {
     pub(crate) made: Mutex<u32>,
     pub(crate) shutting: Mutex<()>,
     pub(crate) desk: Option<Arc<SaveDesk>>,
+    paused: AtomicU32,
     ghost one_each: { vec_len locks ≡ shape.stripes },
     ghost in_order: { AreInOrder (map (λ lock. lock.number) locks.items) },
 }
@@ -94,6 +96,11 @@ fn lock_each<L: LegPart>(
     Ok(locks)
 }
 
+/// The bit of a leg.
+fn bit_of(leg: u8) -> u32 {
+    1u32 << u32::from(leg.min(31))
+}
+
 impl<L: LegPart, G: Gate + Drop> Mirror<L, G> {
     /// A mirror of these stripes, of which each has what a superblock may say of it, or none has.
     /// Where memory is refused the stripes and the gate come back.
@@ -122,6 +129,7 @@ impl<L: LegPart, G: Gate + Drop> Mirror<L, G> {
             made: Mutex::new(0),
             shutting: Mutex::new(()),
             desk,
+            paused: AtomicU32::new(0),
         })
     }
 
@@ -153,6 +161,29 @@ impl<L: LegPart, G: Gate + Drop> Mirror<L, G> {
         ensures { result ≡ self.now.shape.legs }
     {
         self.shape.legs
+    }
+
+    /// Pauses the leg, whatever its state is: until it is resumed a copy to it opens no region, and
+    /// ends at most one that is open. Whether it was not paused.
+    pub fn pause_leg(&self, leg: u8) -> bool {
+        let bit = bit_of(leg);
+        self.paused.fetch_or(bit, Ordering::SeqCst) & bit == 0
+    }
+
+    /// Has copies to the leg go on. Whether it was paused.
+    pub fn resume_leg(&self, leg: u8) -> bool {
+        let bit = bit_of(leg);
+        self.paused.fetch_and(!bit, Ordering::SeqCst) & bit != 0
+    }
+
+    /// Whether the leg is paused.
+    pub fn is_paused(&self, leg: u8) -> bool {
+        self.paused.load(Ordering::SeqCst) & bit_of(leg) != 0
+    }
+
+    /// Whether some leg is paused.
+    pub(crate) fn has_paused(&self) -> bool {
+        self.paused.load(Ordering::SeqCst) != 0
     }
 
     /// Tells the gate of a step of a call that has no pass.

@@ -5,12 +5,14 @@ ghost use Rattle.nm_stripe.specs.Read.{LeavesTarget};
 ghost use Rattle.nm_lanes.specs.Answers.{answer_of_begin, answer_of_claim, answer_of_copy};
 ghost use Rattle.nm_lanes.specs.Answers.{answer_of_push, answer_of_read, answer_of_sync, HandsBack};
 ghost use Rattle.nm_lanes.specs.Done.{done_as};
+ghost use Rattle.nm_leg.specs.Leg.{leg_type};
 ghost use Rattle.nm_part.specs.Parts.{part_of};
 ghost use Rattle.nm_mirror.specs.Counting.{Follows};
 
 use crate::ask::Ask;
 use crate::held::Held;
 use crate::lock::Lock;
+use crate::sight::Sight;
 use nm_fanout::Data;
 use nm_lanes::Lane;
 use nm_leg::LegPart;
@@ -22,14 +24,17 @@ use std::sync::Wait;
 /// The part of a pass in one stripe, as a lane over the stripe's lock.
 ///
 /// A begin, a claim, a sync and a copy wait until the stripe's gate lets them pass. Where no
-/// superblock can be saved, what the gate refuses is refused as `SaveFailed`. A write ends with the
-/// opening of the stripe in which it began: then its claim is refused as `NoTicket`, since
-/// another may have its ticket.
+/// superblock can be saved, what the gate refuses is refused as `SaveFailed`, and so is a write that
+/// is to begin only if none began since a look, and comes late. A write ends with the opening of the
+/// stripe in which it began: then its claim is refused as `NoTicket`, since another may have its
+/// ticket.
 #[derive(Drop)]
 pub struct PartLane<L> {
     part: Part<L>,
     // The opening of the stripe in which the last write began.
     opening: u64,
+    // The look since which no other write may have begun where one begins, if there is such a look.
+    since: Option<Sight>,
 }
 
 impl<L> Model for PartLane<L> {
@@ -47,6 +52,13 @@ impl<L> PartLane<L> {
     {
         self.part.count()
     }
+
+    /// From now on a write begins only where none began since this look, or always.
+    pub(crate) fn begin_since(&mut self, since: Option<Sight>)
+        ensures { self.new ≡ self.old }
+    {
+        self.since = since;
+    }
 }
 
 impl<L: LegPart> PartLane<L> {
@@ -57,15 +69,25 @@ impl<L: LegPart> PartLane<L> {
         PartLane {
             part: Part::of(&held.gated.stripe),
             opening: held.openings,
+            since: None,
+        }
+    }
+
+    // Whether a write may not begin any more, since another one began after the look.
+    fn is_late(&self, held: &Held<L>) -> bool {
+        match self.since {
+            Some(sight) => sight.is_past(held),
+            None => false,
         }
     }
 }
 
 impl<L: LegPart> Lane<L, Lock<L>> for PartLane<L> {
     ghost use Rattle.std.specs.Prelude.{◌≡◌, refl};
+    ghost use Rattle.nm_leg.specs.Leg.{leg_type};
     ghost use Rattle.nm_mirror.specs.Counting.{Follows, part-joined};
 
-    ghost follows = { Follows };
+    ghost follows = { Follows (leg_type L.model L.honest) };
 
     #[inline(always)]
     fn begin<R: Wait>(
@@ -75,11 +97,12 @@ impl<L: LegPart> Lane<L, Lock<L>> for PartLane<L> {
         block: u64,
         data: Data,
     ) -> Result<Beginning, (Refusal, Data)>
-        ensures follows { Follows {L = L} self.old
+        ensures follows { Follows (leg_type L.model L.honest) self.old
             (done_as (step.Begin block «data») (answer_of_begin result) ∷ []) self.new }
         ensures handed_back { HandsBack «data» result }
     {
         match lock.hold_for(rt, Ask::Begin(block)) {
+            Some(held) if self.is_late(&held) => Err((Refusal::SaveFailed, data)),
             Some(mut held) => {
                 self.opening = held.openings;
                 held.begin(&mut self.part, block, data)
@@ -96,17 +119,17 @@ impl<L: LegPart> Lane<L, Lock<L>> for PartLane<L> {
         ticket: u64,
         leg: u8,
     ) -> Result<Reach, Refusal>
-        ensures follows { Follows {L = L} self.old
+        ensures follows { Follows (leg_type L.model L.honest) self.old
             (done_as (step.Push ticket leg) (answer_of_push result) ∷ []) self.new }
     {
         let mut held = lock.hold_to_write(rt);
         lock.note_write();
-        self.part.push(&mut held.gated.stripe, ticket, leg)
+        held.push(&mut self.part, ticket, leg)
     }
 
     #[inline(always)]
     fn claim<R: Wait>(&mut self, rt: &R, lock: &Lock<L>, ticket: u64) -> Result<Written<L>, Refusal>
-        ensures follows { Follows {L = L} self.old
+        ensures follows { Follows (leg_type L.model L.honest) self.old
             (done_as (step.Claim ticket) (answer_of_claim result) ∷ []) self.new }
     {
         match lock.hold_for(rt, Ask::Answer) {
@@ -127,15 +150,15 @@ impl<L: LegPart> Lane<L, Lock<L>> for PartLane<L> {
         block: u64,
         into: &mut [u8],
     ) -> Result<Reading<L>, Refusal>
-        ensures follows { Follows self.old
+        ensures follows { Follows (leg_type L.model L.honest) self.old
             (done_as (step.Read block into.old) (answer_of_read result into.new) ∷ []) self.new }
         ensures target { LeavesTarget result into.old into.new }
     {
-        self.part.read(&mut lock.hold(rt).gated.stripe, block, into)
+        lock.hold(rt).read(&mut self.part, block, into)
     }
 
     fn flush<R: Wait>(&mut self, rt: &R, lock: &Lock<L>, leg: u8) -> Result<Syncing, Refusal>
-        ensures follows { Follows {L = L} self.old
+        ensures follows { Follows (leg_type L.model L.honest) self.old
             (done_as (step.Flush leg) (answer_of_sync result) ∷ []) self.new }
     {
         let Some(mut held) = lock.hold_for(rt, Ask::Answer) else {
@@ -153,7 +176,7 @@ impl<L: LegPart> Lane<L, Lock<L>> for PartLane<L> {
         most: u64,
         from: u64,
     ) -> Result<Copying, Refusal>
-        ensures follows { Follows {L = L} self.old
+        ensures follows { Follows (leg_type L.model L.honest) self.old
             (done_as (step.Copy leg most from) (answer_of_copy result) ∷ []) self.new }
     {
         let Some(mut held) = lock.hold_for(rt, Ask::Copy(leg, from)) else {
@@ -174,5 +197,5 @@ impl<L: LegPart> Lane<L, Lock<L>> for PartLane<L> {
     ghost stays = { λ part. (refl, tt) };
 
     ghost joins = { λ first mid last before after p q.
-        part-joined first mid last before after p q };
+        part-joined (leg_type L.model L.honest) first mid last before after p q };
 }

@@ -7,6 +7,7 @@ ghost use Rattle.nm_mirror.specs.Passes.{HasCountedNothing, RefusesOneMore, Refu
 use crate::mirror::Mirror;
 use crate::part_lane::PartLane;
 use crate::refused::Refused;
+use crate::sight::Sight;
 use nm_lanes::Gate;
 use nm_leg::LegPart;
 use std::alloc::Global;
@@ -29,6 +30,16 @@ impl<L> Pass<L> {
         ensures { result ≡ length self.now.parts.items }
     {
         self.parts.len()
+    }
+
+    /// From now on a write of the pass begins in this stripe only where none began since this look,
+    /// or always.
+    pub(crate) fn begin_since(&mut self, stripe: u32, since: Option<Sight>)
+        ensures parts { self.new.parts.items ≡ self.old.parts.items }
+    {
+        if let Some(part) = self.parts.get_mut(stripe as usize) {
+            part.begin_since(since);
+        }
     }
 }
 

@@ -1,5 +1,6 @@
 //! One turn of the resynchroniser.
-ghost use Rattle.std.specs.Prelude.{◌≡◌, ◌*◌, ◌<◌, ◌≤◌, length};
+ghost use Rattle.std.specs.Prelude.{◌≡◌, ◌*◌, ◌-◌, ◌^◌, ◌<◌, ◌≤◌, ◌||◌, length, is_some, not};
+ghost use Rattle.nm_stripe.specs.Copy.{region_to_copy};
 ghost use Rattle.nm_leg.specs.Leg.{leg_type};
 ghost use Rattle.nm_mirror.specs.RoundChanges.{GoesOnTo, visited};
 ghost use Rattle.nm_mirror.specs.Resync.{BringsUp, CopiesTo, Helps, Pushes};
@@ -87,6 +88,27 @@ impl Tried {
     }
 }
 
+/// Whether a copy to the leg has a region open.
+fn is_open<L: LegPart>(stripe: &Stripe<L>, leg: u8) -> bool
+    requires { leg < length stripe.now.legs }
+    ensures { result ≡ is_some (region_to_copy leg (2 ^ 64 - 1) stripe.now) }
+{
+    stripe.region_to_copy(leg, u64::MAX).is_some()
+}
+
+/// The place of the copy to a leg that is paused: its round is over, but where a region is open.
+fn place_paused<L: LegPart>(stripe: &Stripe<L>, leg: u8, place: LegRound) -> LegRound
+    requires { leg < length stripe.now.legs }
+    ensures from { result.from ≡ place.from }
+    ensures over { result.is_over
+        ≡ (place.is_over || not (is_some (region_to_copy leg (2 ^ 64 - 1) stripe.now))) }
+{
+    LegRound {
+        from: place.from,
+        is_over: place.is_over || !is_open(stripe, leg),
+    }
+}
+
 /// Calls a joining leg in sync where nothing is left to copy to it, and else copies to it, unless
 /// its round is over, or the gate refuses the step.
 fn bring_up<L: LegPart>(gated: &mut GatedStripe<L>, leg: u8, place: LegRound) -> Tried
@@ -135,12 +157,15 @@ fn push_to<L: LegPart>(stripe: &mut Stripe<L>, owed: Option<(u64, u8)>) -> Helpe
     }
 }
 
-/// Copies to the leg, if there is such a leg and the gate lets it pass.
+/// Copies to the leg in the region that is open, if there is one and the gate lets it pass.
 fn copy_to<L: LegPart>(gated: &mut GatedStripe<L>, leg: u8) -> Helped
     ensures step { CopiesTo (leg_type L.model L.honest) leg gated.old gated.new result }
     ensures durable { gated.new.durable ≡ gated.old.durable }
 {
-    if (leg as usize) >= gated.stripe.legs() || gated.may_copy(leg, 0).is_some() {
+    if (leg as usize) >= gated.stripe.legs()
+        || !is_open(&gated.stripe, leg)
+        || gated.may_copy(leg, 0).is_some()
+    {
         return Helped::Nothing;
     }
     Helped::Copied(leg, gated.stripe.copy(leg, MOST_RUN as u64, 0))
@@ -191,8 +216,9 @@ impl<L: LegPart, G: Gate + Drop> Mirror<L, G> {
     /// that. Where a write or another copy stands in the way of the copy, it helps that by one
     /// step.
     ///
-    /// A region that the last leg in sync cannot be read in is passed over, until `begin_again`. A
-    /// leg in doubt is not called in sync: it goes out there.
+    /// A region that the last leg in sync cannot be read in is passed over, until `begin_again`;
+    /// while a leg is paused it stays told. A copy to a leg that is paused opens no region.
+    /// A leg in doubt is not called in sync: it goes out there.
     /// What a gate refuses is left for a later turn: it waits for no superblock, but wants one to
     /// be saved wherever that changes something. Answers how many steps were not refused.
     pub fn resync_turn<R: Wait, D: Doubts>(&self, rt: &R, round: &mut CopyRound, doubts: &D) -> u32
@@ -224,7 +250,7 @@ impl<L: LegPart, G: Gate + Drop> Mirror<L, G> {
         ensures round { GoesOnTo round.old round.new }
     {
         let mut done = 0u32;
-        let mut goes_on = false;
+        let mut goes_on = self.has_paused();
         for leg in 0..self.shape.legs {
             if let Some(first) = self.resync(rt, stripe, leg, round, doubts) {
                 goes_on = true;
@@ -235,6 +261,17 @@ impl<L: LegPart, G: Gate + Drop> Mirror<L, G> {
             round.settle(stripe);
         }
         done
+    }
+
+    /// The place of the copy to a leg, which may be paused.
+    fn place_of(&self, stripe: &Stripe<L>, leg: u8, place: LegRound) -> LegRound
+        requires { leg < length stripe.now.legs }
+    {
+        if self.is_paused(leg) {
+            place_paused(stripe, leg, place)
+        } else {
+            place
+        }
     }
 
     /// Does a step for one leg of one stripe, in one hold, and notes what came of it.
@@ -255,7 +292,8 @@ impl<L: LegPart, G: Gate + Drop> Mirror<L, G> {
             round.visit(stripe, leg, Visit::Rests);
             return None;
         }
-        let tried = bring_up(&mut held.gated, leg, round.place(stripe, leg));
+        let place = self.place_of(&held.gated.stripe, leg, round.place(stripe, leg));
+        let tried = bring_up(&mut held.gated, leg, place);
         drop_doubted(&mut held.gated.stripe, leg, tried, doubts);
         let is_unsaved = held.gated.wants_save();
         drop(held);

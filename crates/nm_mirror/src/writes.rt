@@ -4,6 +4,7 @@ ghost use Rattle.nm_geometry.specs.Pieces.{LiesInside};
 ghost use Rattle.nm_lanes.specs.Cuts.{cuts_for, zeroes_for};
 ghost use Rattle.nm_lanes.specs.Runs.{runs_of_range};
 ghost use Rattle.nm_lanes.specs.Writes.{HasWritten, HasWrittenSome, FailsWriting};
+ghost use Rattle.nm_leg.specs.Leg.{leg_type};
 ghost use Rattle.nm_mirror.specs.Counting.{Follows};
 
 use crate::bounds::within_bounds;
@@ -37,12 +38,13 @@ impl<L: LegPart, G: Gate + Drop> Mirror<L, G> {
         requires pass { length pass.old.parts.items ≡ self.now.shape.stripes }
         requires inside { LiesInside (record { offset = offset; length = length payload })
             self.now.shape }
-        ensures ok { OnOk result (HasWritten {L = L} Follows self.now.shape
+        ensures ok { OnOk result (HasWritten (Follows (leg_type L.model L.honest)) self.now.shape
             (cuts_for (runs_of_range self.now.shape
             (record { offset = offset; length = length payload })) payload)
             (pass.old.parts.items, pass.new.parts.items)) }
         ensures nothing { length payload ≡ 0 → IsOk result }
-        ensures err { IfErr result (FailsWriting {L = L} Follows self.now.shape
+        ensures err { IfErr result (FailsWriting (Follows (leg_type L.model L.honest))
+            self.now.shape
             (cuts_for (runs_of_range self.now.shape
             (record { offset = offset; length = length payload })) payload)
             (pass.old.parts.items, pass.new.parts.items)) }
@@ -73,12 +75,13 @@ impl<L: LegPart, G: Gate + Drop> Mirror<L, G> {
         requires whole { length payload % 512 ≡ 0 }
         requires inside { LiesInside (record { offset = 512 * from; length = length payload })
             self.now.shape }
-        ensures ok { OnOk result (HasWritten {L = L} Follows self.now.shape
+        ensures ok { OnOk result (HasWritten (Follows (leg_type L.model L.honest)) self.now.shape
             (cuts_for (runs_of_range self.now.shape
             (record { offset = 512 * from; length = length payload }))
             payload) (pass.old.parts.items, pass.new.parts.items)) }
         ensures nothing { length payload ≡ 0 → IsOk result }
-        ensures err { IfErr result (FailsWriting {L = L} Follows self.now.shape
+        ensures err { IfErr result (FailsWriting (Follows (leg_type L.model L.honest))
+            self.now.shape
             (cuts_for (runs_of_range self.now.shape
             (record { offset = 512 * from; length = length payload }))
             payload) (pass.old.parts.items, pass.new.parts.items)) }
@@ -104,11 +107,12 @@ impl<L: LegPart, G: Gate + Drop> Mirror<L, G> {
     ) -> Result<(), CallError>
         requires pass { length pass.old.parts.items ≡ self.now.shape.stripes }
         requires inside { LiesInside (record { offset = offset; length = len }) self.now.shape }
-        ensures ok { OnOk result (HasWritten {L = L} Follows self.now.shape
+        ensures ok { OnOk result (HasWritten (Follows (leg_type L.model L.honest)) self.now.shape
             (zeroes_for (runs_of_range self.now.shape
             (record { offset = offset; length = len })))
             (pass.old.parts.items, pass.new.parts.items)) }
-        ensures err { IfErr result (HasWrittenSome {L = L} Follows self.now.shape
+        ensures err { IfErr result (HasWrittenSome (Follows (leg_type L.model L.honest))
+            self.now.shape
             (zeroes_for (runs_of_range self.now.shape
             (record { offset = offset; length = len })))
             (pass.old.parts.items, pass.new.parts.items)) }
@@ -138,11 +142,12 @@ impl<L: LegPart, G: Gate + Drop> Mirror<L, G> {
         requires pass { length pass.old.parts.items ≡ self.now.shape.stripes }
         requires inside { LiesInside (record { offset = 512 * from; length = 512 * count })
             self.now.shape }
-        ensures ok { OnOk result (HasWritten {L = L} Follows self.now.shape
+        ensures ok { OnOk result (HasWritten (Follows (leg_type L.model L.honest)) self.now.shape
             (zeroes_for (runs_of_range self.now.shape
             (record { offset = 512 * from; length = 512 * count })))
             (pass.old.parts.items, pass.new.parts.items)) }
-        ensures err { IfErr result (HasWrittenSome {L = L} Follows self.now.shape
+        ensures err { IfErr result (HasWrittenSome (Follows (leg_type L.model L.honest))
+            self.now.shape
             (zeroes_for (runs_of_range self.now.shape
             (record { offset = 512 * from; length = 512 * count })))
             (pass.old.parts.items, pass.new.parts.items)) }

@@ -1,10 +1,12 @@
 //! What a refusal does not say: which file or address, and why. It stands in the line before it.
 
+use crate::address::Address;
 use crate::start_fault::StartFault;
 use crate::superblock_names::superblock_name;
 use crate::unbound::Unbound;
 use jiff::Timestamp;
 use nm_commands::{Settings, SuperblockPlace};
+use nm_system::Process;
 use std::alloc::{AllocError, Global};
 use std::io::{ErrorKind, Write};
 use std::{fmt, io};
@@ -74,18 +76,68 @@ fn put_unopened<E: Write>(
     Ok(())
 }
 
+// What the option of an address is, and the port that it has where none is given.
+fn option_of(address: Address<'_>, settings: &Settings<'_>) -> (&'static str, u16) {
+    if address == Address::of_clients(settings) {
+        ("--listen", 10809)
+    } else {
+        ("--control", 10810)
+    }
+}
+
+// Tells that this port has no address.
+fn put_no_address<E: Write>(name: &str, err: &mut E) {
+    let _ = writeln!(
+        err,
+        "nbdmirror: {name}: has no address: give 127.0.0.1:{name}"
+    );
+}
+
+// Tells that this address has no port.
+fn put_no_port<E: Write>(name: &str, port: u16, err: &mut E) {
+    let _ = if name.contains(':') {
+        writeln!(err, "nbdmirror: {name}: has no port: give [{name}]:{port}")
+    } else {
+        writeln!(err, "nbdmirror: {name}: has no port: give {name}:{port}")
+    };
+}
+
+// Tells that somebody listens at this address: this process, where the system tells which.
+fn put_taken<E: Write>(name: &str, holder: Option<Process>, option: &str, err: &mut E) {
+    let _ = match holder {
+        Some(holder) => writeln!(
+            err,
+            "nbdmirror: {name}: {holder} has it: give another by {option}"
+        ),
+        None => writeln!(
+            err,
+            "nbdmirror: {name}: is in use: give another by {option}"
+        ),
+    };
+}
+
 // Why no socket listens at this address.
 fn put_unbound<E: Write>(
     alloc: Global,
-    name: &str,
+    address: Address<'_>,
     why: Unbound,
+    settings: &Settings<'_>,
     err: &mut E,
 ) -> Result<(), AllocError> {
+    let text = format!(in alloc; "{address}")?;
+    let name = text.as_str();
+    let (option, port) = option_of(address, settings);
     match why {
         Unbound::System(error) => return put_system(alloc, name, error, err),
+        Unbound::NoAddress => put_no_address(name, err),
+        Unbound::NoPort => put_no_port(name, port, err),
         Unbound::NoPath => put_line(name, "has no path", err),
         Unbound::NoSocket => put_line(name, "is no socket", err),
-        Unbound::Taken => put_line(name, "somebody listens there", err),
+        Unbound::OfClients => {
+            let text = "is the address of clients too: give another by --control";
+            put_line(name, text, err);
+        }
+        Unbound::Taken(holder) => put_taken(name, holder, option, err),
     }
     Ok(())
 }
@@ -137,12 +189,21 @@ fn old_superblock_of(
 }
 
 // Tells of the files of a leg's superblocks of which neither came after the other.
-fn put_apart<E: Write>(name: &str, old: &str, err: &mut E) {
+fn put_apart<E: Write>(
+    alloc: Global,
+    settings: &Settings<'_>,
+    leg: usize,
+    err: &mut E,
+) -> Result<(), AllocError> {
+    let own = superblock_of(alloc, settings, leg)?;
+    let earlier = old_superblock_of(alloc, settings, leg)?;
+    let (name, old) = (own.as_str(), earlier.as_str());
     let _ = writeln!(
         err,
         "nbdmirror: {name}: neither came after {old}, nor before it: remove the one that no longer \
          holds, or name the newest leg by --force-master"
     );
+    Ok(())
 }
 
 // Tells that the name's file is longer than it may be.
@@ -215,11 +276,7 @@ fn put_of_superblocks<E: Write>(
             let name = old_superblock_of(alloc, settings, leg)?;
             put_unopened(alloc, name.as_str(), why, err)?;
         }
-        StartFault::PlacesApart(leg) => {
-            let name = superblock_of(alloc, settings, leg)?;
-            let old = old_superblock_of(alloc, settings, leg)?;
-            put_apart(name.as_str(), old.as_str(), err);
-        }
+        StartFault::PlacesApart(leg) => put_apart(alloc, settings, leg, err)?,
         StartFault::AnotherFile(leg) => {
             let own = superblock_of(alloc, settings, leg)?;
             let name = match settings.superblock {
@@ -229,15 +286,9 @@ fn put_of_superblocks<E: Write>(
             put_another(name_of(&settings.legs, leg), name, leg, err);
         }
         StartFault::WasChanged(leg, recorded, found) => {
+            let file = name_of(&settings.legs, leg);
             let name = superblock_of(alloc, settings, leg)?;
-            put_changed(
-                name_of(&settings.legs, leg),
-                name.as_str(),
-                leg,
-                recorded,
-                found,
-                err,
-            );
+            put_changed(file, name.as_str(), leg, recorded, found, err);
         }
         _ => (),
     }
@@ -277,8 +328,7 @@ pub fn tell_reason<E: Write>(
             put_line(name_of(names, leg as usize), "a read failed", err);
         }
         StartFault::CannotListen(address, why) => {
-            let text = format!(in alloc; "{address}")?;
-            put_unbound(alloc, text.as_str(), why, err)?;
+            put_unbound(alloc, address, why, settings, err)?;
         }
         _ => put_of_superblocks(alloc, fault, settings, err)?,
     }

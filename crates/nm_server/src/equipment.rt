@@ -1,16 +1,16 @@
 //! The mirror of the program, with all that it is served by.
 
+use crate::control_meanwhile::ControlMeanwhile;
 use nm_commands::Settings;
 use nm_control::{Copier, CopyOrders, Healing, LegWatch, MissingLegs};
 use nm_leg_files::{
     FileMirror, LateSlots, LateSuperblock, Leg, LegFiles, LegPlace, LegSyncs, SuperblockWriter,
-    Superblocks,
 };
-use nm_mirror::Pass;
-use nm_opening::open_asked_for;
+use nm_mirror::{MOST_PASSES, Pass};
 use nm_reports::{LogLines, Metrics, MirrorDoubts, StartFault};
 use nm_serving::AT_ONCE;
 use nm_sockets::Listener;
+use nm_starts::{Superblocks, open_asked_for};
 use std::alloc::{AllocError, Global};
 use std::fs::File;
 use std::random::RandomSource;
@@ -19,7 +19,8 @@ use std::sync::{Arc, Mutex, Wait};
 use std::thread::Threads;
 use std::time::Clock;
 
-// The passes of so many sessions.
+// The passes of who copies legs, and of so many sessions, as far as a mirror makes so many: the last
+// of 64 sessions has one less than others.
 fn passes_of<'a, R: Wait>(
     rt: &R,
     alloc: Global,
@@ -27,7 +28,8 @@ fn passes_of<'a, R: Wait>(
     sessions: u8,
 ) -> Result<Vec<Pass<Leg>>, StartFault<'a>> {
     let mut passes = Vec::new(alloc);
-    for _ in 0..sessions as usize * AT_ONCE {
+    let wanted = 1 + sessions as usize * AT_ONCE;
+    for _ in 0..wanted.min(MOST_PASSES as usize) {
         let Ok(pass) = mirror.pass(rt, alloc) else {
             return Err(StartFault::Memory);
         };
@@ -175,7 +177,7 @@ fn equip<'a>(
 pub struct Opened {
     /// The mirror.
     pub mirror: FileMirror,
-    /// The passes of its sessions.
+    /// The passes of who copies its legs, and of its sessions.
     pub passes: Vec<Pass<Leg>>,
     /// Who copies its legs.
     pub copier: Copier,
@@ -196,7 +198,8 @@ pub fn open<'a, R>(
 where
     R: Threads + Wait + Sync + Clock + RandomSource + Files<File = File>,
 {
-    let opened = open_asked_for(rt, alloc, settings, &mut files, control, lines)?;
+    let meanwhile = ControlMeanwhile { control };
+    let opened = open_asked_for(rt, alloc, settings, &mut files, &meanwhile, lines)?;
     files.tell_missing(rt, alloc, lines);
     let mirror = opened.mirror;
     let own = equip(alloc, settings, &files, opened.superblocks)?;

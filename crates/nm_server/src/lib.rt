@@ -5,6 +5,7 @@
 #![tactic(auto)]
 
 mod absent;
+mod control_meanwhile;
 mod equipment;
 mod program;
 mod serving;

@@ -8,19 +8,19 @@ use crate::equipment::{Opened, metrics_of, open};
 use crate::serving::serve_and_copy;
 use clap::Error;
 use clap::error::ErrorKind;
-use nm_commands::{Settings, settings};
+use nm_commands::{Settings, settings, write_words};
 use nm_control::LegRenewer;
 use nm_geometry::{MOST_LEGS, Shape};
-use nm_leg_files::{
-    FileMirror, Leg, LegFiles, LegMaker, LegPlace, LegRules, OpensLegs, check_added, check_files,
-    check_from, check_moved, check_shrink, check_stack, reply_bytes_of, settle_place, sort_legs,
-    try_threads,
-};
+use nm_leg_files::{FileMirror, Leg, LegFiles, LegMaker, LegPlace, LegRules, OpensLegs};
 use nm_mirror::Pass;
 use nm_places::{ServingState, SessionRules, Shared};
 use nm_reports::{Address, LogForm, LogLines, Metrics, StartFault, tell_reason};
 use nm_serving::{AT_ONCE, ExportName, ServedExport};
-use nm_sockets::{Listener, listen};
+use nm_sockets::{Listener, listen, listen_beside};
+use nm_starts::{
+    check_added, check_files, check_from, check_moved, check_shrink, check_stack, reply_bytes_of,
+    settle_place, sort_legs, try_threads,
+};
 use nm_system::{Limits, take_standard_streams};
 use std::alloc::Global;
 use std::convert::AsStr;
@@ -159,13 +159,13 @@ fn state_of<'a, R: Threads + Wait + Sync + Clock>(
 }
 
 // Serves the mirror that was opened until a `quit`, and ends it.
-fn serve<'a, R, P: OpensLegs + Sync, O: Write>(
+fn serve<'a, 's, R, P: OpensLegs + Sync, O: Write>(
     rt: &R,
     opener: &P,
     settings: &Settings<'a>,
     named: &ExportName<'a>,
     opened: Opened,
-    shared: &Shared<'_>,
+    shared: &'s Shared<'s>,
     out: &mut O,
 ) -> Result<(), StartFault<'a>>
 where
@@ -182,18 +182,19 @@ where
         syncs: &own.syncs,
     };
     own.orders.begin_limits();
-    serve_and_copy(
+    let own_pass = passes.pop().ok_or(StartFault::Memory)?;
+    let own_pass = serve_and_copy(
         rt,
-        opener,
         shared,
         &export,
         passes.as_mut_slice(),
-        copier,
-        &own.orders,
-        &legs,
-        &maker,
-        writer,
+        (copier, own_pass),
+        &own,
+        (&legs, &maker),
     )?;
+    if passes.push(own_pass).is_err() {
+        return Err(StartFault::Memory);
+    }
     let (stopped, all) = (count_stopped(rt, &mirror), mirror.shape().stripes);
     close(alloc, mirror, passes, settings.verbose, out)?;
     if stopped > 0 {
@@ -223,9 +224,7 @@ where
         + Net<Listener = TcpListener, Stream = TcpStream>
         + 'static,
 {
-    let Some(_streams) = take_standard_streams(rt, alloc) else {
-        return Err(StartFault::NoStandardStreams);
-    };
+    let _streams = take_standard_streams(rt, alloc).ok_or(StartFault::NoStandardStreams)?;
     settle_place(rt, settings);
     sort_legs(rt, alloc, settings, lines)?;
     let settings = &*settings;
@@ -234,7 +233,7 @@ where
     check_stack(&limits)?;
     let files = open_files(rt, alloc, settings, &limits)?;
     let clients = listen(rt, alloc, Address::of_clients(settings))?;
-    let control = listen(rt, alloc, Address::Named(settings.control))?;
+    let control = listen_beside(rt, alloc, Address::Named(settings.control), &clients)?;
     files.start_threads(rt)?;
     let metrics = metrics_of(alloc, &files, settings.sessions)?;
     // Whatever may be refused is, before a superblock is made.
@@ -254,6 +253,21 @@ fn tell_fault<E: Write>(fault: &StartFault<'_>, err: &mut E) -> u8
     let _ = writeln!(err, "{fault}");
     let _ = err.flush();
     fault.status()
+}
+
+// Tells the same, and before it which file or address is meant, and why it is refused.
+fn tell_ended<P: OpensLegs, E: Write>(
+    alloc: Global,
+    opener: &P,
+    settings: &Settings<'_>,
+    fault: &StartFault<'_>,
+    err: &mut E,
+) -> u8
+    ensures { result ≡ status_of fault.now }
+{
+    let _ = tell_reason(alloc, fault, settings, err);
+    let _ = tell_absent(alloc, opener, fault, settings, err);
+    tell_fault(fault, err)
 }
 
 // Writes what clap says, and returns the exit status. What cannot be written is lost.
@@ -277,6 +291,11 @@ fn tell_words<O: Write, E: Write>(error: &Error, out: &mut O, err: &mut E) -> u8
     }
 }
 
+// Whether the words ask for the table of the control port's words, which no help tells of.
+fn ask_for_table<S: AsStr>(words: &[S]) -> bool {
+    words.len() == 2 && words[1].as_str() == "--words"
+}
+
 /// Tells why the words of the command line could not be had, and returns the exit status.
 pub fn refuse_words<E: Write>(error: &io::Error, err: &mut E) -> u8 {
     if error.kind() == IoErrorKind::OutOfMemory {
@@ -288,7 +307,8 @@ pub fn refuse_words<E: Write>(error: &io::Error, err: &mut E) -> u8 {
 /// Runs the server that these words ask for, the first of them the program's name, and returns the
 /// exit status. The thread that attaches legs again opens their files by `opener`.
 ///
-/// 0 after a `quit`, or where the words ask for the help or the version, which `out` has then.
+/// 0 after a `quit`, or where the words ask for the help, the version, or by `--words` for those of
+/// the control port, which `out` has then.
 /// Otherwise `err` says why: status 2 for words that are no command line, 3 for
 /// settings or legs that do not fit, 4 where it cannot listen, 5 out of memory, 6 where what the
 /// stripes have had is not what the sessions counted, 7 where no master is named and the legs
@@ -315,6 +335,10 @@ where
         + Net<Listener = TcpListener, Stream = TcpStream>
         + 'static,
 {
+    if ask_for_table(words) {
+        let _ = write_words(out);
+        return 0;
+    }
     let mut settings = match settings(alloc, words) {
         Ok(settings) => settings,
         Err(error) => return tell_words(&error, out, err),
@@ -326,10 +350,6 @@ where
     lines.close(rt);
     match ended {
         Ok(()) => 0,
-        Err(fault) => {
-            let _ = tell_reason(alloc, &fault, &settings, err);
-            let _ = tell_absent(alloc, opener, &fault, &settings, err);
-            tell_fault(&fault, err)
-        }
+        Err(fault) => tell_ended(alloc, opener, &settings, &fault, err),
     }
 }

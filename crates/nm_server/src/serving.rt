@@ -1,6 +1,7 @@
 //! Everything that is at work while the server serves.
 
-use nm_control::{Controlled, Copier, CopyOrders, LegRenewer, resynchronise, serve_control};
+use crate::equipment::Equipment;
+use nm_control::{Controlled, CopiedMirror, Copier, LegRenewer, resynchronise, serve_control};
 use nm_lanes::NoGate;
 use nm_leg_files::{FileMirror, LateSlots, Leg, LegMaker, OpensLegs, SuperblockWriter};
 use nm_mirror::Pass;
@@ -91,26 +92,45 @@ where
     is_served
 }
 
-// Serves until the last session has ended, while one thread copies legs. False where a thread could
-// not be started.
-fn serve_copying<R, O: OpensLegs + Sync>(
+/// Who copies legs, and its pass.
+pub type Copying = (Copier, Pass<Leg>);
+
+// Copies legs until all sessions have ended, and gives the pass back.
+fn copy_legs<R: Wait + Clock, O: OpensLegs>(
     rt: &R,
     opener: &O,
-    shared: &Shared<'_>,
+    copier: Copier,
+    own: Pass<Leg>,
+    copied: &CopiedMirror<'_, Leg, NoGate>,
+) -> Pass<Leg> {
+    let mut own = own;
+    resynchronise(rt, opener, copier, copied, &mut own);
+    own
+}
+
+// Serves until the last session has ended, while one thread copies legs, whose pass is given back.
+// None where a thread could not be started.
+fn serve_copying<R, O: OpensLegs + Sync>(
+    rt: &R,
     export: &ServedExport<'_, '_>,
     passes: &mut [Pass<Leg>],
-    copier: Copier,
+    copying: Copying,
     controlled: &Controlled<'_, Leg, NoGate, LegRenewer<'_, O>, LegMaker<'_>>,
-) -> bool
+    copied: &CopiedMirror<'_, Leg, NoGate>,
+) -> Option<Pass<Leg>>
 where
     R: Threads + Wait + Sync + Copy + Clock + Net<Listener = TcpListener, Stream = TcpStream>,
 {
-    let (mirror, orders) = (controlled.mirror, controlled.orders);
+    let (opener, shared) = (controlled.legs.opener(), copied.shared);
+    let (copier, own) = copying;
     thread::scope(thread::scope_env(), rt, |scope| {
-        let copying = scope.spawn(move || {
-            resynchronise(rt, opener, copier, mirror, orders, shared)
-        });
-        copying.is_ok() && serve_both(rt, shared, export, passes, controlled)
+        let start = scope.spawn(move || copy_legs(rt, opener, copier, own, copied));
+        let Ok(copying) = start else {
+            return None;
+        };
+        let is_served = serve_both(rt, shared, export, passes, controlled);
+        let own = copying.join(rt);
+        if is_served { Some(own) } else { None }
     })
 }
 
@@ -139,25 +159,25 @@ fn write_superblocks<R: Wait>(
 // Serves as above, while one thread saves superblocks. The last of them is saved in the end.
 fn serve_saving<R, O: OpensLegs + Sync>(
     rt: &R,
-    opener: &O,
-    shared: &Shared<'_>,
     export: &ServedExport<'_, '_>,
     passes: &mut [Pass<Leg>],
-    copier: Copier,
+    copying: Copying,
     controlled: &Controlled<'_, Leg, NoGate, LegRenewer<'_, O>, LegMaker<'_>>,
+    copied: &CopiedMirror<'_, Leg, NoGate>,
     writer: &Mutex<SuperblockWriter<LateSlots>>,
-) -> bool
+) -> Option<Pass<Leg>>
 where
     R: Threads + Wait + Sync + Copy + Clock + Net<Listener = TcpListener, Stream = TcpStream>,
 {
-    let (mirror, saves) = (controlled.mirror, shared.state.info.saves());
+    let (mirror, shared) = (controlled.mirror, copied.shared);
+    let saves = shared.state.info.saves();
     writer.lock(rt).tell_start(rt, saves, shared.lines);
     thread::scope(thread::scope_env(), rt, |scope| {
         let saving = scope.spawn(move || write_superblocks(rt, shared, writer, mirror));
         let Ok(saving) = saving else {
-            return false;
+            return None;
         };
-        let is_served = serve_copying(rt, opener, shared, export, passes, copier, controlled);
+        let own = serve_copying(rt, export, passes, copying, controlled, copied);
         mirror.close_saves(rt);
         saving.join(rt);
         let doubts = controlled.orders.doubts();
@@ -166,30 +186,28 @@ where
             let changed = controlled.legs.settled_times(rt);
             writer.lock(rt).end(rt, mirror, saves, lines, &changed);
         }
-        is_served
+        own
     })
 }
 
 /// Serves until the last session has ended, while one thread copies legs and tells what happens
 /// to them, one saves superblocks where there are some, and others serve the control port. Copies
-/// begin as these orders say.
-pub fn serve_and_copy<'a, R, O: OpensLegs + Sync>(
+/// begin as they are ordered. Gives the copier's pass back.
+pub fn serve_and_copy<'a, 's, R, O: OpensLegs + Sync>(
     rt: &R,
-    opener: &O,
-    shared: &Shared<'_>,
+    shared: &'s Shared<'s>,
     export: &ServedExport<'_, '_>,
     passes: &mut [Pass<Leg>],
-    copier: Copier,
-    orders: &CopyOrders,
-    legs: &LegRenewer<'_, O>,
-    maker: &LegMaker<'_>,
-    writer: Option<&Mutex<SuperblockWriter<LateSlots>>>,
-) -> Result<(), StartFault<'a>>
+    copying: Copying,
+    own: &Equipment,
+    (legs, maker): (&LegRenewer<'_, O>, &LegMaker<'_>),
+) -> Result<Pass<Leg>, StartFault<'a>>
 where
     R: Threads + Wait + Sync + Copy + Clock + Net<Listener = TcpListener, Stream = TcpStream>,
 {
+    let (mirror, orders) = (export.mirror, &own.orders);
     let controlled = &Controlled {
-        mirror: export.mirror,
+        mirror,
         name: export.named.name(),
         unread: &shared.state.unread,
         sessions: &shared.state.places,
@@ -199,15 +217,14 @@ where
         legs,
         maker,
     };
-    let is_served = match writer {
-        Some(writer) => serve_saving(
-            rt, opener, shared, export, passes, copier, controlled, writer,
-        ),
-        None => serve_copying(rt, opener, shared, export, passes, copier, controlled),
+    let copied = &CopiedMirror {
+        mirror,
+        orders,
+        shared,
     };
-    if is_served {
-        Ok(())
-    } else {
-        Err(StartFault::Memory)
-    }
+    let pass = match &own.superblocks {
+        Some(writer) => serve_saving(rt, export, passes, copying, controlled, copied, writer),
+        None => serve_copying(rt, export, passes, copying, controlled, copied),
+    };
+    pass.ok_or(StartFault::Memory)
 }

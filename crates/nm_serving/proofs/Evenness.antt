@@ -2,6 +2,7 @@
 use Rattle.std.proofs.Common.{◌≡◌, ℕ, suc, ◌+◌, List, [], ◌∷◌, length, Ok, Err, refl, ap}
 use Rattle.nm_geometry.specs.Geometry.{Geometry}
 use Rattle.nm_lanes.specs.Ends.{EachLane}
+use Rattle.nm_leg.specs.Leg.{LegType}
 use Rattle.nm_part.specs.PartState.{PartState}
 use Rattle.nm_serving.specs.Calls.{Acts}
 use Rattle.nm_session.specs.declared.target_fault.TargetFault.TheVariants.{Memory, Io, Full}
@@ -17,32 +18,32 @@ each-as-many Goes stripe [] (after ∷ new) each = absurd each
 each-as-many Goes stripe (before ∷ old) [] each = absurd each
 
 -- whatever the call is and is answered
-pub as-many : (L : Type 0) (shape : Geometry) (call : TargetCall) (old new : List PartState)
-    → Acts L shape call (old, new) → length new ≡ length old
-as-many L shape (Reads offset bytes (Ok done)) old new acts = acts.does.leads.as_many
-as-many L shape (Reads offset bytes (Err Memory)) old new acts = absurd acts
-as-many L shape (Reads offset bytes (Err Io)) old new acts =
+pub as-many : {L : Type 0} (type : LegType L) (shape : Geometry) (call : TargetCall) (old new : List PartState)
+    → Acts type shape call (old, new) → length new ≡ length old
+as-many type shape (Reads offset bytes (Ok done)) old new acts = acts.does.leads.as_many
+as-many type shape (Reads offset bytes (Err Memory)) old new acts = absurd acts
+as-many type shape (Reads offset bytes (Err Io)) old new acts =
     each-as-many _ 0 old new acts.1.tried.each
-as-many L shape (Reads offset bytes (Err Full)) old new acts = absurd acts
-as-many L shape (Writes offset bytes (Ok done)) old new acts = acts.does.leads.as_many
-as-many L shape (Writes offset bytes (Err Memory)) old new acts = ap length acts
-as-many L shape (Writes offset bytes (Err Io)) old new acts =
+as-many type shape (Reads offset bytes (Err Full)) old new acts = absurd acts
+as-many type shape (Writes offset bytes (Ok done)) old new acts = acts.does.leads.as_many
+as-many type shape (Writes offset bytes (Err Memory)) old new acts = ap length acts
+as-many type shape (Writes offset bytes (Err Io)) old new acts =
     each-as-many _ 0 old new acts.1.tried.each
-as-many L shape (Writes offset bytes (Err Full)) old new acts =
+as-many type shape (Writes offset bytes (Err Full)) old new acts =
     each-as-many _ 0 old new acts.1.tried.each
-as-many L shape (Zeroes offset count (Ok done)) old new acts = acts.does.leads.as_many
-as-many L shape (Zeroes offset count (Err Memory)) old new acts = absurd acts
-as-many L shape (Zeroes offset count (Err Io)) old new acts =
+as-many type shape (Zeroes offset count (Ok done)) old new acts = acts.does.leads.as_many
+as-many type shape (Zeroes offset count (Err Memory)) old new acts = absurd acts
+as-many type shape (Zeroes offset count (Err Io)) old new acts =
     each-as-many _ 0 old new acts.1.tried.each
-as-many L shape (Zeroes offset count (Err Full)) old new acts =
+as-many type shape (Zeroes offset count (Err Full)) old new acts =
     each-as-many _ 0 old new acts.1.tried.each
-as-many L shape (Flushes (Ok done)) old new acts = acts.does.leads.as_many
-as-many L shape (Flushes (Err Memory)) old new acts = absurd acts
-as-many L shape (Flushes (Err Io)) old new acts = each-as-many _ 0 old new acts.1.tried.each
-as-many L shape (Flushes (Err Full)) old new acts = each-as-many _ 0 old new acts.1.tried.each
-as-many L shape (Syncs offset count (Ok done)) old new acts = acts.does.leads.as_many
-as-many L shape (Syncs offset count (Err Memory)) old new acts = absurd acts
-as-many L shape (Syncs offset count (Err Io)) old new acts =
+as-many type shape (Flushes (Ok done)) old new acts = acts.does.leads.as_many
+as-many type shape (Flushes (Err Memory)) old new acts = absurd acts
+as-many type shape (Flushes (Err Io)) old new acts = each-as-many _ 0 old new acts.1.tried.each
+as-many type shape (Flushes (Err Full)) old new acts = each-as-many _ 0 old new acts.1.tried.each
+as-many type shape (Syncs offset count (Ok done)) old new acts = acts.does.leads.as_many
+as-many type shape (Syncs offset count (Err Memory)) old new acts = absurd acts
+as-many type shape (Syncs offset count (Err Io)) old new acts =
     each-as-many _ 0 old new acts.1.tried.each
-as-many L shape (Syncs offset count (Err Full)) old new acts =
+as-many type shape (Syncs offset count (Err Full)) old new acts =
     each-as-many _ 0 old new acts.1.tried.each

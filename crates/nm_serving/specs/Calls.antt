@@ -10,6 +10,7 @@ use Rattle.nm_lanes.specs.Flushes.{HasFlushed, HasFlushedSome, IsStripeOf, Touch
 use Rattle.nm_lanes.specs.Reads.{HasRead, HasReadSome}
 use Rattle.nm_lanes.specs.Runs.{runs_of_range}
 use Rattle.nm_lanes.specs.Writes.{HasWritten, HasWrittenSome}
+use Rattle.nm_leg.specs.Leg.{LegType}
 use Rattle.nm_mirror.specs.Counting.{Follows}
 use Rattle.nm_mirror.specs.declared.pass.Pass.{Pass}
 use Rattle.nm_part.specs.PartState.{PartState}
@@ -58,59 +59,59 @@ range_at offset length = record { offset = offset; length = length }
 
 -- a read of the runs of this range: all of them and these bytes found; or some, and then a step
 -- ended it
-abbrev pub Read : (L : Type 0) → Geometry → ByteRange → List ℕ → Answer → Parts → Type 0
-Read L shape range bytes (Ok done) parts =
-    HasRead {L = L} Follows shape (runs_of_range shape range) parts bytes
-Read L shape range bytes (Err Memory) parts = ⊥
-Read L shape range bytes (Err Full) parts = ⊥
-Read L shape range bytes (Err Io) parts =
-    (cause : CallError) × HasReadSome {L = L} Follows shape (runs_of_range shape range) parts cause
+abbrev pub Read : {L : Type 0} → LegType L → Geometry → ByteRange → List ℕ → Answer → Parts → Type 0
+Read type shape range bytes (Ok done) parts =
+    HasRead (Follows type) shape (runs_of_range shape range) parts bytes
+Read type shape range bytes (Err Memory) parts = ⊥
+Read type shape range bytes (Err Full) parts = ⊥
+Read type shape range bytes (Err Io) parts =
+    (cause : CallError) × HasReadSome (Follows type) shape (runs_of_range shape range) parts cause
 
 -- a write of these bytes to the runs of this range: all of it; nothing, out of memory; or some, and
 -- then a step ended it
-abbrev pub Write : (L : Type 0) → Geometry → ByteRange → List ℕ → Answer → Parts → Type 0
-Write L shape range bytes (Ok done) parts =
-    HasWritten {L = L} Follows shape (cuts_for (runs_of_range shape range) bytes) parts
-Write L shape range bytes (Err Memory) parts = parts.1 ≡ parts.0
-Write L shape range bytes (Err fault) parts =
+abbrev pub Write : {L : Type 0} → LegType L → Geometry → ByteRange → List ℕ → Answer → Parts → Type 0
+Write type shape range bytes (Ok done) parts =
+    HasWritten (Follows type) shape (cuts_for (runs_of_range shape range) bytes) parts
+Write type shape range bytes (Err Memory) parts = parts.1 ≡ parts.0
+Write type shape range bytes (Err fault) parts =
     (cause : CallError)
-    × HasWrittenSome {L = L} Follows shape (cuts_for (runs_of_range shape range) bytes) parts cause
+    × HasWrittenSome (Follows type) shape (cuts_for (runs_of_range shape range) bytes) parts cause
 
 -- zeroes written to the runs of this range, which takes no memory
-abbrev pub Zero : (L : Type 0) → Geometry → ByteRange → Answer → Parts → Type 0
-Zero L shape range (Ok done) parts =
-    HasWritten {L = L} Follows shape (zeroes_for (runs_of_range shape range)) parts
-Zero L shape range (Err Memory) parts = ⊥
-Zero L shape range (Err fault) parts =
+abbrev pub Zero : {L : Type 0} → LegType L → Geometry → ByteRange → Answer → Parts → Type 0
+Zero type shape range (Ok done) parts =
+    HasWritten (Follows type) shape (zeroes_for (runs_of_range shape range)) parts
+Zero type shape range (Err Memory) parts = ⊥
+Zero type shape range (Err fault) parts =
     (cause : CallError)
-    × HasWrittenSome {L = L} Follows shape (zeroes_for (runs_of_range shape range)) parts cause
+    × HasWrittenSome (Follows type) shape (zeroes_for (runs_of_range shape range)) parts cause
 
 -- a sync, which takes no memory: each leg was synced in each of these stripes; or in some of them,
 -- and then a step ended it
-abbrev pub Sync : (L : Type 0) → Geometry → (ℕ → Type 0) → Answer → Parts → Type 0
-Sync L shape Synced (Ok done) parts = HasFlushed {L = L} Follows shape.legs Synced parts
-Sync L shape Synced (Err Memory) parts = ⊥
-Sync L shape Synced (Err fault) parts =
-    (cause : CallError) × HasFlushedSome {L = L} Follows shape.legs Synced parts cause
+abbrev pub Sync : {L : Type 0} → LegType L → Geometry → (ℕ → Type 0) → Answer → Parts → Type 0
+Sync type shape Synced (Ok done) parts = HasFlushed (Follows type) shape.legs Synced parts
+Sync type shape Synced (Err Memory) parts = ⊥
+Sync type shape Synced (Err fault) parts =
+    (cause : CallError) × HasFlushedSome (Follows type) shape.legs Synced parts cause
 
 -- what a call does, answered so, through a pass that has a part for each stripe
-abbrev pub Acts : (L : Type 0) → Geometry → TargetCall → Parts → Type 0
-Acts L shape (Reads offset bytes answer) =
-    Read L shape (range_at offset (length bytes)) bytes answer
-Acts L shape (Writes offset bytes answer) =
-    Write L shape (range_at offset (length bytes)) bytes answer
-Acts L shape (Zeroes offset count answer) =
-    Zero L shape (range_at offset count) answer
-Acts L shape (Flushes answer) = Sync L shape (IsStripeOf shape) answer
-Acts L shape (Syncs offset count answer) =
-    Sync L shape (Touches shape (range_at offset count)) answer
+abbrev pub Acts : {L : Type 0} → LegType L → Geometry → TargetCall → Parts → Type 0
+Acts type shape (Reads offset bytes answer) =
+    Read type shape (range_at offset (length bytes)) bytes answer
+Acts type shape (Writes offset bytes answer) =
+    Write type shape (range_at offset (length bytes)) bytes answer
+Acts type shape (Zeroes offset count answer) =
+    Zero type shape (range_at offset count) answer
+Acts type shape (Flushes answer) = Sync type shape (IsStripeOf shape) answer
+Acts type shape (Syncs offset count answer) =
+    Sync type shape (Touches shape (range_at offset count)) answer
 
 -- calls one after the other
-abbrev pub LeadMirror : (L : Type 0) → Geometry → List PartState → List TargetCall
+abbrev pub LeadMirror : {L : Type 0} → LegType L → Geometry → List PartState → List TargetCall
     → List PartState → Type 0
-LeadMirror L shape old [] new = new ≡ old
-LeadMirror L shape old (call ∷ calls) new =
-    (mid : List PartState) × Acts L shape call (old, mid) × LeadMirror L shape mid calls new
+LeadMirror type shape old [] new = new ≡ old
+LeadMirror type shape old (call ∷ calls) new =
+    (mid : List PartState) × Acts type shape call (old, mid) × LeadMirror type shape mid calls new
 
 -- how a mirror's blocks lie in its stripes, and the parts of a pass through it
 pub record PassState : Type 0 where
@@ -122,28 +123,28 @@ abbrev pub state_of : {L : Type 0} → Geometry → Pass L → PassState
 state_of shape pass = record { shape = shape; parts = pass.parts.items }
 
 -- the calls lead from one to the other, and the shape stays
-pub record Leads (L : Type 0) (old : PassState) (calls : List TargetCall) (new : PassState)
+pub record Leads {L : Type 0} (type : LegType L) (old : PassState) (calls : List TargetCall) (new : PassState)
     : Type 0 where
   pub shape : new.shape ≡ old.shape
-  pub calls_lead : LeadMirror L old.shape old.parts calls new.parts
+  pub calls_lead : LeadMirror type old.shape old.parts calls new.parts
 
 -- no call leads from one to itself
-pub leads-nowhere : (L : Type 0) (old : PassState) → Leads L old [] old
-leads-nowhere L old = record { shape = refl; calls_lead = refl }
+pub leads-nowhere : {L : Type 0} (type : LegType L) (old : PassState) → Leads type old [] old
+leads-nowhere type old = record { shape = refl; calls_lead = refl }
 
-lead-on : (L : Type 0) (shape : Geometry) (old mid new : List PartState)
-    (first second : List TargetCall) → LeadMirror L shape old first mid
-    → LeadMirror L shape mid second new → LeadMirror L shape old (first ++ second) new
-lead-on L shape old mid new [] second before after = rw (← before) after
-lead-on L shape old mid new (call ∷ first) second before after =
-    (before.0, before.1, lead-on L shape before.0 mid new first second before.2 after)
+lead-on : {L : Type 0} (type : LegType L) (shape : Geometry) (old mid new : List PartState)
+    (first second : List TargetCall) → LeadMirror type shape old first mid
+    → LeadMirror type shape mid second new → LeadMirror type shape old (first ++ second) new
+lead-on type shape old mid new [] second before after = rw (← before) after
+lead-on type shape old mid new (call ∷ first) second before after =
+    (before.0, before.1, lead-on type shape before.0 mid new first second before.2 after)
 
 -- calls that follow one another are one list
-pub leads-on : (L : Type 0) (old mid new : PassState) (first second : List TargetCall)
-    → Leads L old first mid → Leads L mid second new → Leads L old (first ++ second) new
-leads-on L old mid new first second before after = record {
+pub leads-on : {L : Type 0} (type : LegType L) (old mid new : PassState) (first second : List TargetCall)
+    → Leads type old first mid → Leads type mid second new → Leads type old (first ++ second) new
+leads-on type old mid new first second before after = record {
   shape = after.shape ∙ before.shape;
   calls_lead =
-      lead-on L old.shape old.parts mid.parts new.parts first second before.calls_lead
+      lead-on type old.shape old.parts mid.parts new.parts first second before.calls_lead
       (rw before.shape at after.calls_lead);
 }

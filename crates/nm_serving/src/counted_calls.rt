@@ -4,6 +4,7 @@ ghost use Rattle.nm_serving.specs.Calls.{Acts, IsEven, IsInside, answered};
 
 use crate::mirror_calls::MirrorCalls;
 use nm_geometry::Shape;
+use nm_leg::LegPart;
 use nm_mirror::Pass;
 use nm_reports::MirrorCall;
 use nm_session::TargetFault;
@@ -17,7 +18,7 @@ pub struct CountedCalls<'a, C> {
     pub(crate) activity: &'a Activity,
 }
 
-impl<'a, L, C: MirrorCalls<L>> MirrorCalls<L> for CountedCalls<'a, C> {
+impl<'a, L: LegPart, C: MirrorCalls<L>> MirrorCalls<L> for CountedCalls<'a, C> {
     ghost shape = { λ counted. C.shape counted.calls };
 
     fn layout(&self) -> &Shape {

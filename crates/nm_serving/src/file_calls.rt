@@ -1,5 +1,6 @@
 //! The calls of the mirror that the program serves.
 ghost use Rattle.std.specs.Prelude.{◌≡◌, length};
+ghost use Rattle.nm_leg.specs.Leg.{leg_type};
 ghost use Rattle.nm_serving.specs.Calls.{Acts, IsEven, IsInside, answered, told};
 
 use crate::mirror_calls::MirrorCalls;
@@ -112,7 +113,7 @@ pub fn call_mirror<R: Wait, L: LegPart, G: Gate + Drop>(
 ) -> Result<(), TargetFault>
     requires even { IsEven mirror.now.shape pass.old.parts.items }
     requires inside { IsInside mirror.now.shape call (length into.old) }
-    ensures { Acts L mirror.now.shape (answered call into.new result)
+    ensures { Acts (leg_type L.model L.honest) mirror.now.shape (answered call into.new result)
         (pass.old.parts.items, pass.new.parts.items) }
 {
     match call {

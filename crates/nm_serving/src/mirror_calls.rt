@@ -1,16 +1,18 @@
 //! The calls of a mirror, lent to the targets of a session.
 ghost use Rattle.std.specs.Prelude.{◌≡◌, length};
 ghost use Rattle.nm_geometry.specs.Geometry.{Geometry};
+ghost use Rattle.nm_leg.specs.Leg.{leg_type};
 ghost use Rattle.nm_serving.specs.Calls.{Acts, IsEven, IsInside, answered};
 
 use nm_geometry::Shape;
+use nm_leg::LegPart;
 use nm_mirror::Pass;
 use nm_reports::MirrorCall;
 use nm_session::TargetFault;
 use std::sync::atomic::AtomicBool;
 
 /// The calls of a mirror, each through a pass of its shape.
-pub trait MirrorCalls<L> {
+pub trait MirrorCalls<L: LegPart> {
     /// How the blocks of the mirror lie in its stripes.
     ghost shape: { Self → Geometry };
 
@@ -29,6 +31,6 @@ pub trait MirrorCalls<L> {
     ) -> Result<(), TargetFault>
         requires even { IsEven (shape self.now) pass.old.parts.items }
         requires inside { IsInside (shape self.now) call (length into.old) }
-        ensures { Acts L (shape self.now) (answered call into.new result)
+        ensures { Acts (leg_type L.model L.honest) (shape self.now) (answered call into.new result)
             (pass.old.parts.items, pass.new.parts.items) };
 }

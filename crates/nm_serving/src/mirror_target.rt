@@ -1,11 +1,13 @@
 //! What a session's requests act on: a mirror, through a pass.
 ghost use Rattle.std.specs.Prelude.{◌≡◌, ◌*◌, ◌↔◌, [], ◌∷◌, length, IsSome, IfSome};
+ghost use Rattle.nm_leg.specs.Leg.{leg_type};
 ghost use Rattle.nm_serving.specs.Calls.{IsEven, IsInside, Leads, answered, leads-nowhere};
 ghost use Rattle.nm_serving.specs.Calls.{leads-on, state_of};
 
 use crate::mirror_calls::MirrorCalls;
 use bytes::Bytes;
 use nm_geometry::Shape;
+use nm_leg::LegPart;
 use nm_mirror::Pass;
 use nm_reports::MirrorCall;
 use nm_session::{Target, TargetFault};
@@ -13,7 +15,7 @@ use std::sync::atomic::AtomicBool;
 
 /// A mirror as a session's target, through a pass that has a part for each of its stripes.
 #[derive(Drop)]
-pub struct MirrorTarget<'a, L, C: MirrorCalls<L> + Drop, H> {
+pub struct MirrorTarget<'a, L: LegPart, C: MirrorCalls<L> + Drop, H> {
     mirror: &'a C,
     pass: &'a mut Pass<L>,
     // Set once the client has gone, for which zeroes need not be written to their end.
@@ -23,7 +25,7 @@ pub struct MirrorTarget<'a, L, C: MirrorCalls<L> + Drop, H> {
     ghost even: { IsEven (C.shape mirror.now) pass.now.parts.items },
 }
 
-impl<'a, L, C: MirrorCalls<L> + Drop, H: Drop> MirrorTarget<'a, L, C, H> {
+impl<'a, L: LegPart, C: MirrorCalls<L> + Drop, H: Drop> MirrorTarget<'a, L, C, H> {
     /// The mirror through this pass; none where the pass is of another shape. Zeroes end before
     /// their next region once `is_gone`. `hang_up` is dropped with the target.
     pub fn new(
@@ -48,7 +50,7 @@ impl<'a, L, C: MirrorCalls<L> + Drop, H: Drop> MirrorTarget<'a, L, C, H> {
     }
 }
 
-impl<'a, L, C: MirrorCalls<L> + Drop, H> MirrorTarget<'a, L, C, H> {
+impl<'a, L: LegPart, C: MirrorCalls<L> + Drop, H> MirrorTarget<'a, L, C, H> {
     /// How the mirror's blocks lie in its stripes.
     pub fn layout(&self) -> &Shape
         ensures { result.now ≡ C.shape self.now.mirror.now }
@@ -59,7 +61,8 @@ impl<'a, L, C: MirrorCalls<L> + Drop, H> MirrorTarget<'a, L, C, H> {
     // Makes this call of the mirror, a read's into the buffer.
     fn call(&mut self, call: MirrorCall, into: &mut [u8]) -> Result<(), TargetFault>
         requires inside { IsInside (C.shape self.old.mirror.now) call (length into.old) }
-        ensures { Leads L (state_of (C.shape self.old.mirror.now) self.old.pass.now)
+        ensures { Leads (leg_type L.model L.honest)
+            (state_of (C.shape self.old.mirror.now) self.old.pass.now)
             (answered call into.new result ∷ [])
             (state_of (C.shape self.new.mirror.now) self.new.pass.now) }
     {
@@ -68,17 +71,18 @@ impl<'a, L, C: MirrorCalls<L> + Drop, H> MirrorTarget<'a, L, C, H> {
     }
 }
 
-impl<'a, L, C: MirrorCalls<L> + Drop, H> Target for MirrorTarget<'a, L, C, H> {
+impl<'a, L: LegPart, C: MirrorCalls<L> + Drop, H> Target for MirrorTarget<'a, L, C, H> {
     ghost size = { λ target. 512 * (C.shape target.mirror.now).blocks };
 
-    ghost follows = { λ old calls new. Leads L
+    ghost follows = { λ old calls new. Leads (leg_type L.model L.honest)
         (state_of (C.shape old.mirror.now) old.pass.now) calls
         (state_of (C.shape new.mirror.now) new.pass.now) };
 
     ghost stays = { λ target.
-        leads-nowhere L (state_of (C.shape target.mirror.now) target.pass.now) };
+        leads-nowhere (leg_type L.model L.honest)
+        (state_of (C.shape target.mirror.now) target.pass.now) };
 
-    ghost joins = { λ from between to. leads-on L
+    ghost joins = { λ from between to. leads-on (leg_type L.model L.honest)
         (state_of (C.shape from.mirror.now) from.pass.now)
         (state_of (C.shape between.mirror.now) between.pass.now)
         (state_of (C.shape to.mirror.now) to.pass.now) };

@@ -21,12 +21,11 @@ use nm_sockets::{
     tell_begin, tell_end,
 };
 use nm_wire::{Export, Name};
-use nm_workers::{SpinToken, negotiate, transmit};
+use nm_workers::{negotiate, transmit};
 use std::alloc::Global;
 use std::cell::Cell;
 use std::net::Shutdown;
 use std::sync::Wait;
-use std::sync::atomic::AtomicBool;
 use std::thread;
 use std::thread::Threads;
 use std::time::{Clock, Duration, Instant};
@@ -140,7 +139,7 @@ fn negotiate_in_time<R: Wait + Clock>(
 // asks for nothing more, ends the read under way.
 //
 // A pass of another shape, which the mirror itself never makes, is told as memory that is refused.
-fn targets_of<'a, L, C: MirrorCalls<L> + Drop>(
+fn targets_of<'a, L: LegPart, C: MirrorCalls<L> + Drop>(
     alloc: Global,
     mirror: &'a C,
     passes: &'a mut [Pass<L>],
@@ -176,16 +175,16 @@ fn answer_requests<R, L: LegPart + Send, C: MirrorCalls<L> + Sync + Drop>(
     mirror: &C,
     passes: &mut [Pass<L>],
     core: SessionCore,
-    is_over: &AtomicBool,
-    lookout: &SpinToken,
+    places: &SessionPlaces,
 ) -> Result<Served, ServeFault>
 where
     R: Threads + Wait + Sync,
     requires size { size_of core.haggling.export ≤ 512 * (C.shape mirror.now).blocks }
 {
     let targets = targets_of(alloc, mirror, passes, client)?;
-    let reader = ClientReader::new(client, is_over);
+    let reader = ClientReader::new(client, places.is_over());
     let sender = ReplyWriter::new(ClientWriter::new(client));
+    let lookout = places.lookout();
     transmit(rt, alloc, core, reader, sender, targets, lookout).result
 }
 
@@ -237,8 +236,7 @@ fn serve_client<R: Threads + Wait + Sync + Copy + Clock>(
         },
         activity: &client.activity,
     };
-    let (is_over, lookout) = (places.is_over(), places.lookout());
-    let served = answer_requests(rt, alloc, client, &calls, passes, core, is_over, lookout)?;
+    let served = answer_requests(rt, alloc, client, &calls, passes, core, places)?;
     Ok(SessionEnd::By(served.end))
 }
 

@@ -25,7 +25,7 @@ pub use crate::control_places::{CONNECTIONS, ControlPlaces};
 pub use crate::control_stream::ControlStream;
 pub use crate::hang_up::HangUp;
 pub use crate::listener::Listener;
-pub use crate::listening::listen;
+pub use crate::listening::{listen, listen_beside};
 pub use crate::served_client::{Closing, ServedClient};
 pub use crate::session_lines::{SessionEnd, tell_begin, tell_end};
 pub use crate::stream::{Peer, Stream};

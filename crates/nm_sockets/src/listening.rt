@@ -3,13 +3,18 @@
 use crate::listener::Listener;
 use crate::socket_file::{SocketFile, bind_at};
 use nm_reports::{Address, StartFault, Unbound};
-use std::alloc::Global;
+use nm_system::holder_of_port;
+use std::alloc::{AllocError, Global};
 use std::fs::File;
+use std::io;
 use std::io::Write;
-use std::net::{Net, TcpListener, TcpStream};
+use std::net::{IpAddr, Net, SocketAddr, TcpListener, TcpStream};
 use std::rt::Files;
 use std::sync::Wait;
 use std::time::Clock;
+
+/// The system's number for an address that is in use.
+const ADDRESS_IN_USE: i32 = 98;
 
 /// A socket that listens where it was asked for. The file of a Unix socket is removed with it.
 #[derive(Drop)]
@@ -19,6 +24,29 @@ pub struct Listening<'a, 'p, R: Files<File = File> + Clock + Wait> {
     /// The socket itself.
     pub listener: Listener,
     address: Address<'p>,
+}
+
+// Why no socket listens at this address over TCP, of which the system says this.
+fn unbound_at<R: Files<File = File>>(
+    rt: &R,
+    alloc: Global,
+    text: &str,
+    error: io::Error,
+) -> Unbound {
+    if error.raw_os_error() == Some(ADDRESS_IN_USE) {
+        let holder = match text.parse::<SocketAddr>() {
+            Ok(address) => holder_of_port(rt, alloc, address.port()).unwrap_or(None),
+            Err(_) => None,
+        };
+        return Unbound::Taken(holder);
+    }
+    if text.parse::<u16>().is_ok() {
+        Unbound::NoAddress
+    } else if text.parse::<IpAddr>().is_ok() {
+        Unbound::NoPort
+    } else {
+        Unbound::System(error)
+    }
 }
 
 /// A socket that listens at this address.
@@ -31,7 +59,7 @@ where
     R: Files<File = File> + Clock + Wait + Net<Listener = TcpListener, Stream = TcpStream>,
 {
     if let Some(path) = address.unix_path() {
-        return match bind_at(rt, path) {
+        return match bind_at(rt, alloc, path) {
             Ok((file, listener)) => Ok(Listening {
                 file: Some(file),
                 listener: Listener::Unix(listener),
@@ -47,8 +75,36 @@ where
             listener: Listener::Tcp(listener),
             address,
         }),
-        Err(error) => Err(StartFault::CannotListen(address, Unbound::System(error))),
+        Err(error) => {
+            let why = unbound_at(rt, alloc, text.as_str(), error);
+            Err(StartFault::CannotListen(address, why))
+        }
     }
+}
+
+/// A socket that listens at this address beside that of clients.
+pub fn listen_beside<'a, 'p, R>(
+    rt: &'a R,
+    alloc: Global,
+    address: Address<'p>,
+    clients: &Listening<'_, '_, R>,
+) -> Result<Listening<'a, 'p, R>, StartFault<'p>>
+where
+    R: Files<File = File> + Clock + Wait + Net<Listener = TcpListener, Stream = TcpStream>,
+{
+    let listening = listen(rt, alloc, address);
+    if let Err(StartFault::CannotListen(_, Unbound::Taken(_))) = &listening {
+        if is_same(alloc, address, clients.address)? {
+            return Err(StartFault::CannotListen(address, Unbound::OfClients));
+        }
+    }
+    listening
+}
+
+// Whether two addresses are written alike.
+fn is_same(alloc: Global, one: Address<'_>, other: Address<'_>) -> Result<bool, AllocError> {
+    let text = format!(in alloc; "{one}")?;
+    Ok(text == format!(in alloc; "{other}")?)
 }
 
 impl<R: Files<File = File> + Clock + Wait> Listening<'_, '_, R> {

@@ -1,6 +1,8 @@
 //! The file of a Unix socket, from its start to its end.
 
 use nm_reports::Unbound;
+use nm_system::holder_of_path;
+use std::alloc::Global;
 use std::fs::{File, TryLockError};
 use std::io::ErrorKind;
 use std::net::Net;
@@ -69,7 +71,11 @@ impl<R: Files<File = File> + Clock + Wait> Drop for SocketFile<'_, '_, R> {
 
 // Removes a socket's file on which nobody listens. Any other file stays, and is a reason not to
 // listen there.
-fn remove_stale<R: Net + Files<File = File>>(rt: &R, path: &str) -> Result<(), Unbound> {
+fn remove_stale<R: Net + Files<File = File>>(
+    rt: &R,
+    alloc: Global,
+    path: &str,
+) -> Result<(), Unbound> {
     let found = match rt.symlink_metadata(path) {
         Ok(found) => found,
         Err(error) if error.kind() == ErrorKind::NotFound => return Ok(()),
@@ -79,7 +85,7 @@ fn remove_stale<R: Net + Files<File = File>>(rt: &R, path: &str) -> Result<(), U
         return Err(Unbound::NoSocket);
     }
     match UnixStream::connect(rt, path) {
-        Ok(_) => Err(Unbound::Taken),
+        Ok(_) => Err(Unbound::Taken(holder_of_path(rt, alloc, path).unwrap_or(None))),
         Err(error) if error.kind() == ErrorKind::ConnectionRefused => {
             rt.remove_file(path)?;
             Ok(())
@@ -92,13 +98,14 @@ fn remove_stale<R: Net + Files<File = File>>(rt: &R, path: &str) -> Result<(), U
 /// the folder and to the umask.
 pub fn bind_at<'a, 'p, R: Net + Files<File = File> + Clock + Wait>(
     rt: &'a R,
+    alloc: Global,
     path: &'p str,
 ) -> Result<(SocketFile<'a, 'p, R>, UnixListener), Unbound> {
     if path.is_empty() {
         return Err(Unbound::NoPath);
     }
     let _locked = lock_folder(rt, path);
-    remove_stale(rt, path)?;
+    remove_stale(rt, alloc, path)?;
     let listener = UnixListener::bind(rt, path)?;
     let node = node_at(rt, path);
     Ok((SocketFile { rt, path, node }, listener))

@@ -41,8 +41,8 @@ pub fn swap_of(line: &[u8]) -> &[u8] {
     }
 }
 
-// The number of some decimal digits.
-fn number(digits: &[u8]) -> Option<u64> {
+/// The number of some decimal digits.
+pub fn number(digits: &[u8]) -> Option<u64> {
     str::from_utf8(digits).ok()?.parse::<u64>().ok()
 }
 
@@ -99,4 +99,35 @@ pub fn soft_limit(limits: &[u8], name: &str) -> Option<u64> {
         }
     }
     None
+}
+
+// The word of a line at this place, where blanks stand between words.
+fn word_at(line: &[u8], place: usize) -> Option<&[u8]> {
+    let mut words = line
+        .split(|byte| *byte == b' ')
+        .filter(|word| !word.is_empty());
+    words.nth(place)
+}
+
+/// The number of the socket that listens at this port, by a line of `/proc/net/tcp`, where the port
+/// stands as `:2A39`.
+pub fn listens_at_port(line: &[u8], port: &[u8]) -> Option<u64> {
+    let is_there = word_at(line, 1)?.ends_with(port);
+    let is_listening = word_at(line, 3)? == b"0A".as_slice();
+    if is_there && is_listening {
+        number(word_at(line, 9)?)
+    } else {
+        None
+    }
+}
+
+/// The number of the socket that listens at this path, by a line of `/proc/net/unix`.
+pub fn listens_at_path(line: &[u8], path: &[u8]) -> Option<u64> {
+    let is_there = word_at(line, 7)? == path;
+    let is_listening = word_at(line, 3)? == b"00010000".as_slice();
+    if is_there && is_listening {
+        number(word_at(line, 6)?)
+    } else {
+        None
+    }
 }

@@ -6,6 +6,13 @@ use std::io;
 use std::io::{ErrorKind, Read};
 use std::rt::Files;
 
+/// How many bytes of a folder's names are read at once: the system gives none where the next one,
+/// of at most 255, does not fit.
+const AT_ONCE: usize = 4096;
+
+/// How often a folder is read at most.
+const MOST_READS: usize = 65_536;
+
 // What was read, unless there was no memory for it.
 fn unless_no_memory(bytes: Vec<u8>, read: io::Result<usize>) -> Result<Vec<u8>, AllocError> {
     match read {
@@ -38,6 +45,17 @@ pub fn names<R: Files<File = File>>(
     let Ok(mut folder) = rt.open_dir(path) else {
         return Ok(bytes);
     };
-    let read = folder.read_to_end(&mut bytes);
-    unless_no_memory(bytes, read)
+    let mut room = [0; AT_ONCE];
+    for _ in 0..MOST_READS {
+        match folder.read(&mut room) {
+            Ok(read) if read > 0 => {
+                if let Some(some) = room.get(..read) {
+                    bytes.extend_from_slice(some)?;
+                }
+            }
+            Err(error) if error.kind() == ErrorKind::Interrupted => (),
+            _ => break,
+        }
+    }
+    Ok(bytes)
 }

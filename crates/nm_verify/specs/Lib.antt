@@ -1,3 +1,4 @@
+pub mod Agreement
 pub mod Cursor
 pub mod Findings
 pub mod Looks

@@ -13,7 +13,7 @@ pub(crate) fn is_here<L: LegPart>(stripe: &Stripe<L>, leg: u8) -> bool
 }
 
 /// The lowest leg in sync from this one on.
-fn next_here<L: LegPart>(stripe: &Stripe<L>, from: u8) -> Option<u8>
+pub(crate) fn next_here<L: LegPart>(stripe: &Stripe<L>, from: u8) -> Option<u8>
     ensures some { IfSome result (λ leg. IsNext from leg stripe.now) }
     ensures few { IfSome result (λ leg. leg < 8) }
     ensures none { IsNone result → HasNoneFrom from stripe.now }

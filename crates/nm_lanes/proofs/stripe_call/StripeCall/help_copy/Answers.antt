@@ -16,7 +16,7 @@ returns-in_err-help_write-in-Err-clause-err g c =
     let refusal = c.in-Err.refusal in
     let kind = c.in_err-help_write-in-Err.field-0.0 in
     let none : end_of refusal ≡ None = search rules in
-    let helped = does-help g.D.Lane.follows c.args.lane.now c.copy.new.lane (step.Copy c.args.leg 128 0) (refused_with_nothing refusal) c.in-Err.ensures.follows (ap (λ k. is_none k) none) in
+    let helped = does-help g.D.Lane.follows c.args.lane.now c.copy.new.lane (step.Copy c.args.leg 128 18446744073709551615) (refused_with_nothing refusal) c.in-Err.ensures.follows (ap (λ k. is_none k) none) in
     let all = does-stops g.D.Lane.follows g.met.D.Lane.joins c.args.lane.now c.copy.new.lane c.help_write.new.lane [] [] (EndsSo Nobodys kind) helped c.in_err-help_write-in-Err.ensures.err in
     search (rules, all)
 
@@ -24,5 +24,5 @@ pub returns-in_ok-help_write-in-Err-clause-ok : goal.returns-in_ok-help_write-in
 returns-in_ok-help_write-in-Err-clause-ok g c =
     let refusal = c.in-Err.refusal in
     let none : end_of refusal ≡ None = search rules in
-    refused-goes g.D.Lane.follows g.met.D.Lane.joins c.args.lane.now c.copy.new.lane c.help_write.new.lane (step.Copy c.args.leg 128 0) (refused_with_nothing refusal)
+    refused-goes g.D.Lane.follows g.met.D.Lane.joins c.args.lane.now c.copy.new.lane c.help_write.new.lane (step.Copy c.args.leg 128 18446744073709551615) (refused_with_nothing refusal)
     c.in-Err.ensures.follows (ap (λ k. is_none k) none) c.in_ok-help_write-in-Err.ensures.ok

@@ -1,7 +1,0 @@
-use Rattle.std.proofs.Common.{◌≡◌, length}
-use Rattle.nm_leg_files.specs.Unknown.{AreUnknown}
-use Rattle.nm_leg_files.proofs.absence.unknown_legs.Given as goal
-
--- the legs so far are told
-abbrev pub invariant-legs : goal.invariant-legs
-invariant-legs l = (length l.unknown ≡ 8) × AreUnknown l.leg l.newest l.found l.unknown

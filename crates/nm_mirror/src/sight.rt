@@ -1,0 +1,19 @@
+//! When a stripe was looked at.
+
+use crate::held::Held;
+use nm_leg::LegPart;
+
+/// The opening in which a stripe was looked at, and the ticket that its next write had then: where
+/// both are the same later, no write began since.
+#[derive(Clone, Copy)]
+pub struct Sight {
+    pub(crate) opening: u64,
+    pub(crate) tickets: u64,
+}
+
+impl Sight {
+    /// Whether a write began in the stripe since, or it was opened anew.
+    pub(crate) fn is_past<L: LegPart>(self, held: &Held<L>) -> bool {
+        held.openings != self.opening || held.gated.stripe.tickets() != self.tickets
+    }
+}

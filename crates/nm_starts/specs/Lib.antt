@@ -1,0 +1,9 @@
+pub mod Alike
+pub mod ChangedStart
+pub mod OpenedOn
+pub mod Replies
+pub mod Starting
+pub mod SuperblockChoice
+pub mod SuperblockSets
+pub mod TwoPlaces
+pub mod Unknown

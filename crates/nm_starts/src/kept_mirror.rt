@@ -1,0 +1,312 @@
+//! The mirror over the legs' files, as it is opened: with superblocks, or without.
+ghost use Rattle.std.specs.Prelude.{map};
+ghost use Rattle.nm_mirror.specs.Stripes.{AreStripesOf};
+
+use crate::adding::take_added;
+use crate::changed_start::{as_they_were, changed_here, open_compared};
+use crate::equal_start::open_untold;
+use crate::found_legs::{find_legs, tell_compared};
+use crate::ids::draw_id;
+use crate::image_shape::shape_by;
+use crate::image_start::open_by_image;
+use crate::kept::{KeptImage, Superblocks, open_gates};
+use crate::meanwhile::Meanwhile;
+use crate::moving::{moved_legs, tell_unmoved};
+use crate::place_checks::{check_first, check_place};
+use crate::start_image::image_for;
+use crate::starting::{named_master, start_for};
+use crate::superblock_choice::{FoundLegs, taken_legs};
+use crate::superblock_places::FoundPlaces;
+use crate::unknown::unknown_legs;
+use crossbeam_channel::bounded;
+use nm_assemble::{named_leg, newest_of};
+use nm_commands::{Settings, SuperblockPlace};
+use nm_gate::GatedStripe;
+use nm_geometry::Shape;
+use nm_lanes::NoGate;
+use nm_leg_files::{BytesRead, FileMirror, Leg, LegFiles};
+use nm_mirror::{InitialSync, Mirror};
+use nm_reports::{Comparison, LogLines, StartFault, tell_progress};
+use nm_superblock::Superblock;
+use std::alloc::Global;
+use std::fs::File;
+use std::random::RandomSource;
+use std::rt::Files;
+use std::sync::atomic::AtomicU64;
+use std::sync::{Arc, Wait};
+use std::thread;
+use std::thread::Threads;
+use std::time::Clock;
+
+/// The mirror, and what saves its superblocks, if it has some.
+#[derive(Drop)]
+pub struct OpenedMirror {
+    /// The mirror.
+    pub mirror: FileMirror,
+    /// Its superblocks.
+    pub superblocks: Option<Superblocks>,
+}
+
+// The mirror of these stripes.
+fn mirror_of<'a>(
+    alloc: Global,
+    shape: Shape,
+    stripes: Vec<GatedStripe<Leg>>,
+) -> Result<FileMirror, StartFault<'a>>
+    requires { AreStripesOf shape (map (λ own. own.stripe) stripes.items) }
+{
+    match Mirror::new(alloc, shape, stripes, NoGate) {
+        Ok(mirror) => Ok(mirror),
+        Err(_) => Err(StartFault::Memory),
+    }
+}
+
+// The mirror over the legs' files, which its stripes share: they are compared, since all of them
+// were changed.
+fn open_changed<'a, R: Files<File = File>>(
+    rt: &R,
+    alloc: Global,
+    settings: &Settings<'a>,
+    files: &LegFiles,
+    read: &BytesRead,
+    kept: KeptImage,
+) -> Result<OpenedMirror, StartFault<'a>> {
+    let shape = shape_by(settings, files, &kept.image)?;
+    let master = named_leg(&kept.image, 0).unwrap_or(0) as u8;
+    let stripes = open_compared(alloc, settings.policy, files, &shape, read, master)?;
+    let (gated, superblocks) = kept.gate(rt, alloc, &shape, stripes)?;
+    Ok(OpenedMirror {
+        mirror: mirror_of(alloc, shape, gated)?,
+        superblocks: Some(superblocks),
+    })
+}
+
+// The mirror over the legs' files, which its stripes share, as legs stand that no superblock tells
+// of, or that are compared. It gets its first superblocks, if they are kept.
+fn open_mirror<'a, R: Files<File = File>>(
+    rt: &R,
+    alloc: Global,
+    settings: &Settings<'a>,
+    files: &LegFiles,
+    read: &BytesRead,
+    kept: Option<KeptImage>,
+) -> Result<OpenedMirror, StartFault<'a>> {
+    let kept = match kept {
+        Some(kept) if kept.is_compared => {
+            return open_changed(rt, alloc, settings, files, read, kept);
+        }
+        kept => kept,
+    };
+    let Some(shape) = files.shape(settings.stripes) else {
+        return Err(StartFault::Memory);
+    };
+    let stripes = open_untold(alloc, settings, files, &shape, read)?;
+    match kept {
+        None => {
+            let open = open_gates(alloc, &shape, stripes)?;
+            Ok(OpenedMirror {
+                mirror: mirror_of(alloc, shape, open)?,
+                superblocks: None,
+            })
+        }
+        Some(kept) => {
+            let (gated, superblocks) = kept.gate(rt, alloc, &shape, stripes)?;
+            Ok(OpenedMirror {
+                mirror: mirror_of(alloc, shape, gated)?,
+                superblocks: Some(superblocks),
+            })
+        }
+    }
+}
+
+// Opens the mirror, while one thread tells how far the comparison of its legs is, and another one
+// answers. Where no thread can be had nothing is told.
+fn open_watched<'a, R, M: Meanwhile + Sync>(
+    rt: &R,
+    alloc: Global,
+    settings: &Settings<'a>,
+    files: &LegFiles,
+    meanwhile: &M,
+    lines: &LogLines,
+    kept: Option<KeptImage>,
+) -> Result<OpenedMirror, StartFault<'a>>
+where
+    R: Threads + Wait + Sync + Clock + Files<File = File>,
+{
+    let Ok(read) = Arc::new(alloc, AtomicU64::new(0)) else {
+        return Err(StartFault::Memory);
+    };
+    if start_for(settings.start) == InitialSync::Full || settings.legs.len() < 2 {
+        return open_mirror(rt, alloc, settings, files, &read, kept);
+    }
+    let Ok((comparing, has_ended)) = bounded(alloc, 1) else {
+        return Err(StartFault::Memory);
+    };
+    let own_comparison = Comparison {
+        legs: settings.legs.len(),
+        bytes: files.bytes(),
+        read: &read,
+    };
+    let (ended, comparison) = (&has_ended, &own_comparison);
+    thread::scope(thread::scope_env(), rt, |scope| {
+        let _ = scope.spawn(move || tell_progress(rt, alloc, ended, comparison, lines));
+        let _ = scope.spawn(move || meanwhile.answer(rt, alloc, ended, comparison));
+        let mirror = open_mirror(rt, alloc, settings, files, &read, kept);
+        drop(comparing);
+        mirror
+    })
+}
+
+// The mirror that this image opens.
+fn open_image<'a, R: Files<File = File>>(
+    rt: &R,
+    alloc: Global,
+    settings: &Settings<'a>,
+    files: &LegFiles,
+    kept: KeptImage,
+) -> Result<OpenedMirror, StartFault<'a>> {
+    let Ok(read) = Arc::new(alloc, AtomicU64::new(0)) else {
+        return Err(StartFault::Memory);
+    };
+    let (image, here) = (kept.image, kept.here);
+    let shape = shape_by(settings, files, &image)?;
+    let policy = settings.policy;
+    let stripes = open_by_image(alloc, policy, files, &shape, &read, &image, &here)?;
+    let (gated, superblocks) = kept.gate(rt, alloc, &shape, stripes)?;
+    Ok(OpenedMirror {
+        mirror: mirror_of(alloc, shape, gated)?,
+        superblocks: Some(superblocks),
+    })
+}
+
+// Lets go of the files under names of legs that the newest superblock knows, and of which none was
+// found: nothing is copied over them by a start that nobody forced.
+fn lay_unknown_aside<'a>(
+    alloc: Global,
+    settings: &Settings<'_>,
+    newest: Option<Superblock>,
+    found: &[Option<Superblock>; 8],
+    files: &mut LegFiles,
+) -> Result<(), StartFault<'a>> {
+    match newest {
+        Some(newest) if settings.force_master.is_none() => {
+            files.lay_aside(alloc, &unknown_legs(&newest, found))?;
+            Ok(())
+        }
+        _ => Ok(()),
+    }
+}
+
+// Refuses a leg that was named as the newest one, or as one that was moved, and is missing.
+fn check_all_named<'a>(settings: &Settings<'_>, files: &LegFiles) -> Result<(), StartFault<'a>> {
+    files.check_named(named_master(settings))?;
+    for (leg, is_moved) in moved_legs(settings).iter().enumerate() {
+        if *is_moved {
+            files.check_named(Some(leg as u8))?;
+        }
+    }
+    Ok(())
+}
+
+// What a start goes by of what it has found, and whether it compares the legs: where all were
+// changed, as they were before.
+fn gone_by<R: Wait>(
+    rt: &R,
+    alloc: Global,
+    settings: &Settings<'_>,
+    seen: &FoundLegs,
+    lines: &LogLines,
+) -> (FoundLegs, bool) {
+    match as_they_were(settings, seen) {
+        Some(unchanged) => {
+            tell_compared(rt, alloc, lines);
+            (unchanged, true)
+        }
+        None => (*seen, false),
+    }
+}
+
+// What is found of the legs by the superblocks in these places, and the newest of these. Files under
+// names of legs that it knows and of which none was found are let go of.
+fn see_legs<'a, R: Files<File = File> + Wait>(
+    rt: &R,
+    alloc: Global,
+    settings: &Settings<'a>,
+    files: &mut LegFiles,
+    places: &mut FoundPlaces,
+    lines: &LogLines,
+) -> Result<(FoundLegs, Option<Superblock>), StartFault<'a>> {
+    places.tell(rt, alloc, lines);
+    let mut superblocks = places.superblocks(alloc, settings)?;
+    let newest = newest_of(&superblocks);
+    if let Some(newest) = &newest {
+        take_added(&mut superblocks, newest.legs);
+    }
+    lay_unknown_aside(alloc, settings, newest, &superblocks, files)?;
+    let seen = find_legs(rt, alloc, settings, files, &superblocks, lines)?;
+    tell_unmoved(rt, alloc, &seen, lines);
+    Ok((seen, newest))
+}
+
+// The mirror that superblocks open, or that gets its first ones.
+fn open_kept<'a, R, M: Meanwhile + Sync>(
+    rt: &R,
+    alloc: Global,
+    settings: &Settings<'a>,
+    files: &mut LegFiles,
+    meanwhile: &M,
+    lines: &LogLines,
+) -> Result<OpenedMirror, StartFault<'a>>
+where
+    R: Threads + Wait + Sync + Clock + RandomSource + Files<File = File>,
+{
+    check_all_named(settings, files)?;
+    let mut places = FoundPlaces::open(rt, alloc, settings, files)?;
+    let (seen, went_by) = see_legs(rt, alloc, settings, files, &mut places, lines)?;
+    let (told, is_compared) = gone_by(rt, alloc, settings, &seen, lines);
+    let (image, is_first) = image_for(rt, settings, files, &told, draw_id(rt)?)?;
+    if is_first {
+        check_first(settings, files, &places.new)?;
+    }
+    files.keep_own(alloc, &taken_legs(settings, &told), &changed_here(&seen))?;
+    files.record(&image);
+    let above = places.above_old(image);
+    let FoundPlaces { new, old } = places;
+    let kept = KeptImage {
+        files: new,
+        image: above,
+        here: files.here(),
+        went_by,
+        is_compared,
+    };
+    let opened = if is_first || is_compared {
+        open_watched(rt, alloc, settings, files, meanwhile, lines, Some(kept))?
+    } else {
+        open_image(rt, alloc, settings, files, kept)?
+    };
+    // The new place has them all, and nobody is served yet.
+    if let Some(old) = old {
+        old.leave_moved(rt, alloc, opened.superblocks.as_ref(), lines)?;
+    }
+    Ok(opened)
+}
+
+/// Opens the mirror that the settings ask for: by superblocks, where they are kept. Who answers
+/// meanwhile does so while its legs are compared.
+pub fn open_asked_for<'a, R, M: Meanwhile + Sync>(
+    rt: &R,
+    alloc: Global,
+    settings: &Settings<'a>,
+    files: &mut LegFiles,
+    meanwhile: &M,
+    lines: &LogLines,
+) -> Result<OpenedMirror, StartFault<'a>>
+where
+    R: Threads + Wait + Sync + Clock + RandomSource + Files<File = File>,
+{
+    check_place(rt, alloc, settings, files)?;
+    if settings.superblock == SuperblockPlace::Nowhere {
+        return open_watched(rt, alloc, settings, files, meanwhile, lines, None);
+    }
+    open_kept(rt, alloc, settings, files, meanwhile, lines)
+}

@@ -1,0 +1,93 @@
+//! The numbers of legs whose superblocks are inside them, whatever the order of their names.
+
+use nm_assemble::{Misnumbered, leg_numbers};
+use nm_commands::{Settings, SuperblockPlace};
+use nm_geometry::MOST_LEGS;
+use nm_leg_files::superblock_inside;
+use nm_reports::{LogLines, StartFault};
+use std::alloc::{AllocError, Global};
+use std::fs::{File, OpenOptions};
+use std::os::unix::fs::FileTypeExt;
+use std::rt::Files;
+use std::sync::Wait;
+
+// The number that the superblock inside the file of this name says, if there is one.
+fn number_inside<R: Files<File = File>>(rt: &R, name: &str) -> Option<u8> {
+    match rt.metadata(name) {
+        Ok(found) if found.is_file() || found.file_type().is_block_device() => (),
+        _ => return None,
+    }
+    let file = OpenOptions::new().read(true).open(rt, name).ok()?;
+    Some(superblock_inside(&file)?.leg)
+}
+
+// What the superblocks inside the files of these names say.
+fn numbers_inside<R: Files<File = File>>(rt: &R, names: &[&str]) -> [Option<u8>; 8] {
+    let mut said = [None; 8];
+    for (own, name) in said.iter_mut().zip(names.iter()) {
+        *own = number_inside(rt, *name);
+    }
+    said
+}
+
+// The name of this place among these.
+fn name_at<'a>(names: &[&'a str], place: usize) -> &'a str {
+    names.get(place).copied().unwrap_or("")
+}
+
+// Why the legs of these names have no numbers. That none is left cannot be: each number is said by
+// one leg at most.
+fn misnumbered<'a>(names: &[&'a str], why: Misnumbered) -> StartFault<'a> {
+    match why {
+        Misnumbered::Twice(one, other, leg) => {
+            StartFault::TwoOfLeg(name_at(names, one), name_at(names, other), leg)
+        }
+        Misnumbered::Beyond(one, leg) => {
+            StartFault::LegBeyond(name_at(names, one), leg, names.len())
+        }
+        Misnumbered::NoneLeft => StartFault::Memory,
+    }
+}
+
+// The names in the order of their legs' numbers.
+fn in_order<'a>(
+    alloc: Global,
+    names: &[&'a str],
+    numbers: &[u8; 8],
+) -> Result<Vec<&'a str>, AllocError> {
+    let mut sorted = Vec::new(alloc);
+    for leg in 0..names.len() {
+        for (name, number) in names.iter().zip(numbers.iter()) {
+            if *number as usize == leg {
+                sorted.push(*name)?;
+            }
+        }
+    }
+    Ok(sorted)
+}
+
+/// Puts the legs' names in the order of the numbers that the superblocks inside their files say,
+/// and tells them. A file without one has one of the numbers that are left.
+pub fn sort_legs<'a, R: Files<File = File> + Wait>(
+    rt: &R,
+    alloc: Global,
+    settings: &mut Settings<'a>,
+    lines: &LogLines,
+) -> Result<(), StartFault<'a>> {
+    let count = settings.legs.len();
+    if settings.superblock != SuperblockPlace::Inside || count > MOST_LEGS as usize {
+        return Ok(());
+    }
+    let said = numbers_inside(rt, &settings.legs);
+    let numbers = match leg_numbers(&said, count as u8) {
+        Ok(numbers) => numbers,
+        Err(why) => return Err(misnumbered(&settings.legs, why)),
+    };
+    for (name, own) in settings.legs.iter().zip(said.iter()) {
+        if let Some(leg) = own {
+            lines.inform(rt, format!(in alloc; "{name} is leg {leg}"));
+        }
+    }
+    settings.legs = in_order(alloc, &settings.legs, &numbers)?;
+    Ok(())
+}

@@ -1,0 +1,110 @@
+//! The image that a start opens the legs by: a mirror's first one, or that of its superblocks.
+
+use crate::adding::{check_added, check_known};
+use crate::ids::{draw_id, draw_mirror_id};
+use crate::inside::check_unshrunk;
+use crate::starting::named_master;
+use crate::superblock_choice::{Choice, FoundLegs, choose, taken_legs};
+use nm_assemble::{LegsHere, NewMirror, first_superblock};
+use nm_commands::{Settings, Start};
+use nm_geometry::Shape;
+use nm_leg_files::{LegFiles, REGION};
+use nm_reports::StartFault;
+use nm_superblock::Superblock;
+use std::random::RandomSource;
+
+/// How many regions the spans of one number have in all stripes: 64 MiB.
+const SPAN_REGIONS: u32 = 1024;
+
+// The image of a mirror's first superblocks: without a named master all legs are found equal, or
+// taken to be.
+fn first_image<'a, R: RandomSource>(
+    rt: &R,
+    settings: &Settings<'_>,
+    shape: &Shape,
+    legs: &LegsHere,
+    lineage: u64,
+) -> Result<Superblock, StartFault<'a>> {
+    let mut leg_ids = [0; 8];
+    for leg in 0..shape.legs as usize {
+        if let Some(id) = leg_ids.get_mut(leg) {
+            *id = draw_id(rt)?;
+        }
+    }
+    let new = NewMirror {
+        mirror: draw_mirror_id(rt)?,
+        blocks: shape.blocks,
+        region_blocks: REGION as u32,
+        span_regions: SPAN_REGIONS.div_ceil(shape.stripes.max(1)),
+        stripes: shape.stripes.min(64) as u8,
+        legs: shape.legs,
+        leg_ids,
+        lineage,
+        identities: legs.identities,
+    };
+    let named = named_master(settings);
+    let equal = if named.is_none() || settings.start == Start::Equal {
+        legs.here
+    } else {
+        [false; 8]
+    };
+    Ok(first_superblock(&new, named.unwrap_or(0) as usize, &equal))
+}
+
+// Gives each leg a new id that is here and that the image knows in no stripe: what was kept of it
+// says nothing any more.
+fn renew_ids<'a, R: RandomSource>(
+    rt: &R,
+    image: &mut Superblock,
+    here: &[bool; 8],
+) -> Result<(), StartFault<'a>> {
+    let mut known = 0u8;
+    for stripe in 0..64 {
+        known |= image.sets.in_sync(stripe) | image.sets.partial(stripe);
+    }
+    for leg in 0..8 {
+        if here[leg] && (known >> leg) & 1 == 0 {
+            if let Some(id) = image.leg_ids.get_mut(leg) {
+                *id = draw_id(rt)?;
+            }
+        }
+    }
+    Ok(())
+}
+
+/// The image that the legs are opened by, and whether it is the first of a mirror.
+pub fn image_for<'a, R: RandomSource>(
+    rt: &R,
+    settings: &Settings<'a>,
+    files: &LegFiles,
+    seen: &FoundLegs,
+    lineage: u64,
+) -> Result<(Superblock, bool), StartFault<'a>> {
+    match choose(settings, seen, lineage)? {
+        Choice::First => {
+            check_added(settings, false)?;
+            // Without superblocks nobody knows what a missing leg has.
+            if let Some((leg, why)) = files.missing() {
+                return Err(StartFault::CannotOpen(leg, why));
+            }
+            let Some(shape) = files.shape(settings.stripes) else {
+                return Err(StartFault::Memory);
+            };
+            let image = first_image(rt, settings, &shape, &seen.legs, lineage)?;
+            Ok((image, true))
+        }
+        Choice::Image(image) => {
+            let mut image = image;
+            check_unshrunk(settings)?;
+            if settings.force_master.is_none() {
+                check_known(settings, image.legs)?;
+                for leg in image.legs..settings.legs.len().min(8) as u8 {
+                    files.check_named(Some(leg))?;
+                }
+            }
+            renew_ids(rt, &mut image, &taken_legs(settings, seen))?;
+            image.legs = image.legs.max(settings.legs.len().min(8) as u8);
+            Ok((image, false))
+        }
+    }
+}

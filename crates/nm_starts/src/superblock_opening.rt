@@ -1,0 +1,356 @@
+//! The files of legs' superblocks, as a start opens, locks, reads and makes them.
+
+use crate::inside_slots::{FoundSlots, holds_none, make_inside, read_inside};
+use nm_commands::{Settings, SuperblockPlace};
+use nm_leg_files::{
+    CallLimit, LateFile, LateSlots, LateSuperblock, LegFiles, SlotsAt, blank_file, bytes_of,
+    no_memory, open_locked, open_or_make,
+};
+use nm_reports::{LogLines, StartFault, Unopened, superblock_name};
+use nm_saves::{SuperblockFile, SuperblockFiles, found_beside};
+use nm_superblock::Superblock;
+use std::alloc::Global;
+use std::fs::File;
+use std::io::ErrorKind;
+use std::rt::Files;
+use std::sync::{Arc, Wait};
+
+/// How many bytes a superblock's file has.
+const FILE_BYTES: u64 = 8192;
+
+/// The files of the legs' superblocks as they were found, leg 0's first, and their names.
+#[derive(Drop)]
+pub struct FoundFiles {
+    pub(crate) files: Vec<Option<SuperblockFile<LateSlots>>>,
+    pub(crate) names: Vec<String>,
+    pub(crate) at: SlotsAt,
+    // The slots inside legs that hold no superblock.
+    pub(crate) free: Vec<Option<LateSlots>>,
+    limits: Vec<CallLimit>,
+    // Which of them this start has made.
+    made: Made,
+    // The superblocks of legs that are not here, which are moved into them as they are.
+    pub(crate) carried: Vec<Option<Superblock>>,
+}
+
+/// The files of superblocks while the server serves.
+#[derive(Drop)]
+pub struct AllFiles {
+    /// The files.
+    pub files: SuperblockFiles<LateSlots>,
+    /// Their names, from leg 0's on.
+    pub names: Vec<String>,
+    /// Those of missing legs that are opened later.
+    pub late: Vec<LateSuperblock>,
+    // Where in the files they stand.
+    pub(crate) at: SlotsAt,
+    // Which of them this start has made.
+    made: Made,
+}
+
+// What a start has made: these files, and what is inside legs in these slots.
+#[derive(Drop)]
+struct Made {
+    files: [bool; 8],
+    slots: Vec<LateSlots>,
+}
+
+// Removes these of the files of these names, and what is in these slots.
+fn remove<R: Files<File = File>>(rt: &R, names: &[String], made: &Made) {
+    for (name, is_made) in names.iter().zip(made.files.iter()) {
+        if *is_made {
+            let _ = rt.remove_file(name.as_str());
+        }
+    }
+    for slots in &made.slots {
+        let _ = slots.clear();
+    }
+}
+
+impl Made {
+    // Makes the superblock's file of this leg, with this superblock in it, or none yet. It is noted
+    // as made by this start where nothing had its name.
+    fn make<'a, R: Files<File = File>>(
+        &mut self,
+        rt: &R,
+        alloc: Global,
+        leg: usize,
+        name: &str,
+        first: Option<Superblock>,
+        limit: &CallLimit,
+    ) -> Result<SuperblockFile<LateSlots>, StartFault<'a>> {
+        if let Some(is_made) = self.files.get_mut(leg) {
+            *is_made = rt.symlink_metadata(name).is_err();
+        }
+        match make_file(rt, alloc, name, first, limit) {
+            Ok(made) => Ok(made),
+            Err(why) => Err(StartFault::CannotSave(leg, why)),
+        }
+    }
+}
+
+impl AllFiles {
+    /// Removes the files that this start has made: it is refused.
+    pub fn remove_made<R: Files<File = File>>(&self, rt: &R) {
+        remove(rt, &self.names, &self.made);
+    }
+}
+
+// Opens, locks and reads the superblock's file of this name, if there is one. One that is shorter
+// than it is made to be was cut off while it was made, and never held a superblock.
+fn read_file<R: Files<File = File>>(
+    rt: &R,
+    alloc: Global,
+    name: &str,
+    limit: &CallLimit,
+) -> Result<Option<SuperblockFile<LateSlots>>, Unopened> {
+    let file = match open_locked(rt, name) {
+        Ok(file) => file,
+        Err(Unopened::System(error)) if error.kind() == ErrorKind::NotFound => return Ok(None),
+        Err(why) => return Err(why),
+    };
+    match bytes_of(&file) {
+        Some(bytes) if bytes >= FILE_BYTES => (),
+        _ => return Ok(None),
+    }
+    let Ok(slots) = LateSlots::here(alloc, file, 0, limit) else {
+        return Err(no_memory());
+    };
+    match SuperblockFile::open(slots) {
+        Ok(found) => Ok(Some(found)),
+        Err(error) => Err(Unopened::by(error)),
+    }
+}
+
+// Makes the superblock's file of this name, and has the folder keep it: with this superblock in it,
+// or none yet.
+fn make_file<R: Files<File = File>>(
+    rt: &R,
+    alloc: Global,
+    name: &str,
+    first: Option<Superblock>,
+    limit: &CallLimit,
+) -> Result<SuperblockFile<LateSlots>, Unopened> {
+    let mut made = blank_file(alloc, open_or_make(rt, name), limit)?;
+    if let Some(superblock) = first {
+        if let Err(error) = made.save(&superblock) {
+            return Err(Unopened::by(error));
+        }
+    }
+    Ok(made)
+}
+
+// The superblock that is moved as it is into the file of this leg, which is not here.
+fn carried_to(all: &[Option<Superblock>], leg: usize, is_here: bool) -> Option<Superblock> {
+    match all.get(leg) {
+        Some(carried) if !is_here => *carried,
+        _ => None,
+    }
+}
+
+// The superblock's file of this name, of a leg that is missing, as is the file: both are opened
+// later.
+fn late_file<'a>(
+    alloc: Global,
+    leg: usize,
+    name: &str,
+    at: SlotsAt,
+    went_by: Superblock,
+    limit: &CallLimit,
+) -> Result<(SuperblockFile<LateSlots>, LateSuperblock), StartFault<'a>> {
+    let Ok(file) = Arc::new(alloc, LateFile::missing(0)) else {
+        return Err(StartFault::Memory);
+    };
+    let late = LateSuperblock {
+        leg,
+        name: String::from_str(alloc, name)?,
+        file: Arc::try_clone(&file)?,
+        at,
+        went_by,
+    };
+    match SuperblockFile::open(LateSlots::late(file, at.first_byte(), limit)?) {
+        Ok(slots) => Ok((slots, late)),
+        Err(error) => Err(StartFault::CannotSave(leg, Unopened::by(error))),
+    }
+}
+
+// The superblock's file of this name, or the slots inside the leg on this file, if that is here.
+fn find_slots<R: Files<File = File>>(
+    rt: &R,
+    alloc: Global,
+    name: &str,
+    at: SlotsAt,
+    leg: Option<&File>,
+    limit: &CallLimit,
+) -> Result<FoundSlots, Unopened> {
+    match (at, leg) {
+        (SlotsAt::Inside(from), Some(leg)) => read_inside(rt, alloc, name, leg, from, limit),
+        (SlotsAt::Inside(_), None) => Ok((None, None)),
+        _ => Ok((read_file(rt, alloc, name, limit)?, None)),
+    }
+}
+
+impl FoundFiles {
+    /// Opens, locks and reads the files that are in this place, leg after leg. That of a leg that
+    /// is not here may be unreadable: then none is there.
+    pub fn open<'a, R: Files<File = File>>(
+        rt: &R,
+        alloc: Global,
+        settings: &Settings<'_>,
+        place: SuperblockPlace<'_>,
+        legs: &LegFiles,
+    ) -> Result<FoundFiles, StartFault<'a>> {
+        let (at, limits) = (SlotsAt::of(place, legs.export_bytes()), legs.limits(alloc)?);
+        let (mut files, mut names, mut free) = (Vec::new(alloc), Vec::new(alloc), Vec::new(alloc));
+        for (leg, own) in settings.legs.iter().enumerate() {
+            let Some(name) = superblock_name(alloc, place, leg, own)? else {
+                continue;
+            };
+            let Some(limit) = limits.get(leg) else {
+                continue;
+            };
+            let own = legs.file(leg);
+            let (file, slots) = match find_slots(rt, alloc, name.as_str(), at, own, limit) {
+                Ok(found) => found,
+                Err(Unopened::System(_)) if own.is_none() => (None, None),
+                Err(why) => return Err(StartFault::CannotSave(leg, why)),
+            };
+            let is_kept = files.push(file).is_ok() && names.push(name).is_ok();
+            if !is_kept || free.push(slots).is_err() {
+                return Err(StartFault::Memory);
+            }
+        }
+        Ok(FoundFiles {
+            files,
+            names,
+            at,
+            free,
+            limits,
+            made: Made {
+                files: [false; 8],
+                slots: Vec::new(alloc),
+            },
+            carried: Vec::new(alloc),
+        })
+    }
+
+    /// The superblocks that they hold: none in a file that is damaged.
+    pub fn found(&self) -> [Option<Superblock>; 8] {
+        found_beside(&self.files)
+    }
+
+    /// Tells of each file that is damaged.
+    pub fn tell_damaged<R: Wait>(&self, rt: &R, alloc: Global, lines: &LogLines) {
+        for (leg, file) in self.files.iter().enumerate() {
+            let (Some(file), Some(name)) = (file, self.names.get(leg)) else {
+                continue;
+            };
+            if file.is_damaged() {
+                let name = name.as_str();
+                let text = format!(in alloc;
+                    "leg {leg}: its superblock ({name}) is damaged, and counts as missing"
+                );
+                lines.warn(rt, text);
+            }
+        }
+    }
+
+    // Makes the file of a leg that has none so far; that of a missing leg is opened later.
+    fn complete_leg<'a, R: Files<File = File>>(
+        &mut self,
+        rt: &R,
+        alloc: Global,
+        leg: usize,
+        is_here: bool,
+        went_by: Option<Superblock>,
+    ) -> Result<Option<LateSuperblock>, StartFault<'a>> {
+        let (Some(place), Some(name)) = (self.files.get_mut(leg), self.names.get(leg)) else {
+            return Ok(None);
+        };
+        let Some(limit) = self.limits.get(leg) else {
+            return Ok(None);
+        };
+        if is_here && self.at.is_inside() {
+            return match make_inside(place, self.free.get_mut(leg), &mut self.made.slots) {
+                Ok(()) => Ok(None),
+                Err(why) => Err(StartFault::CannotSave(leg, why)),
+            };
+        }
+        let carried = carried_to(&self.carried, leg, is_here);
+        // What stands under the name of a missing leg's superblock and holds none is opened anew
+        // with the leg.
+        if carried.is_some() || !is_here && matches!(&*place, Some(file) if holds_none(file)) {
+            *place = None;
+        }
+        if place.is_some() {
+            return Ok(None);
+        }
+        if is_here || carried.is_some() {
+            let name = name.as_str();
+            *place = Some(self.made.make(rt, alloc, leg, name, carried, limit)?);
+            return Ok(None);
+        }
+        let Some(went_by) = went_by else {
+            return Ok(None);
+        };
+        let (slots, late) = late_file(alloc, leg, name.as_str(), self.at, went_by, limit)?;
+        *place = Some(slots);
+        Ok(Some(late))
+    }
+
+    // Does so for each leg. What is opened later is told.
+    fn complete_legs<'a, R: Files<File = File>>(
+        &mut self,
+        rt: &R,
+        alloc: Global,
+        here: &[bool; 8],
+        went_by: Option<Superblock>,
+    ) -> Result<Vec<LateSuperblock>, StartFault<'a>> {
+        let mut late = Vec::new(alloc);
+        for leg in 0..self.names.len() {
+            let is_here = here.get(leg).copied().unwrap_or(false);
+            let Some(one) = self.complete_leg(rt, alloc, leg, is_here, went_by)? else {
+                continue;
+            };
+            if late.push(one).is_err() {
+                return Err(StartFault::Memory);
+            }
+        }
+        Ok(late)
+    }
+
+    /// Makes the files that are not there, of legs that are here; those of missing legs are opened
+    /// later, if the start went by a superblock. What saves go on from is this image. Where one
+    /// cannot be made none is.
+    pub fn complete<'a, R: Files<File = File>>(
+        self,
+        rt: &R,
+        alloc: Global,
+        here: &[bool; 8],
+        image: Superblock,
+        went_by: Option<Superblock>,
+    ) -> Result<AllFiles, StartFault<'a>> {
+        let mut own = self;
+        let late = match own.complete_legs(rt, alloc, here, went_by) {
+            Ok(late) => late,
+            Err(fault) => {
+                remove(rt, &own.names, &own.made);
+                return Err(fault);
+            }
+        };
+        let FoundFiles {
+            files,
+            names,
+            at,
+            made,
+            ..
+        } = own;
+        Ok(AllFiles {
+            files: SuperblockFiles::new(files, image),
+            names,
+            late,
+            at,
+            made,
+        })
+    }
+}

@@ -1,0 +1,12 @@
+-- Each leg in sync so far but two gave the bytes, and nothing changed but legs.
+use Rattle.std.proofs.Common.{◌≡◌, ◌≢◌, ◌<◌, ℕ, length}
+use Rattle.nm_leg.specs.Leg.{leg_type}
+use Rattle.nm_verify.specs.Agreement.{Gives}
+use Rattle.nm_verify.specs.Pairs.{IsHere}
+use Rattle.nm_verify.proofs.agreement.others_give.Given as goal
+
+abbrev pub invariant-loop-leg : goal.invariant-loop-leg
+invariant-loop-leg g l =
+    (l.stripe ≡ record l.fn.stripe { legs = l.stripe.legs }) × (length l.stripe.legs ≡ length l.fn.stripe.legs)
+    × (length l.found ≡ length l.fn.found)
+    × ((k : ℕ) → k < l.leg → IsHere k l.fn.stripe → k ≢ l.but.0 → k ≢ l.but.1 → Gives (leg_type g.L.LegPart.model g.L.LegPart.honest) k l.block l.held)
