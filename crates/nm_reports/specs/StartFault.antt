@@ -18,6 +18,7 @@ status_of fault.NothingToShrink = 2
 status_of fault.NoStandardStreams = 3
 status_of (fault.FewDescriptors needed) = 3
 status_of (fault.SmallStack needed) = 3
+status_of (fault.SmallAddressSpace threads) = 3
 status_of fault.TooManyLegs = 3
 status_of (fault.NoMaster leg) = 3
 status_of (fault.TwoMasters master forced) = 3

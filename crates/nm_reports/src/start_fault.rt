@@ -23,6 +23,9 @@ pub enum StartFault<'a> {
     /// The stacks of threads would be smaller than they need, in KiB.
     #[error("nbdmirror: the stack limit is below {0} KiB")]
     SmallStack(u64),
+    /// So many threads and the replies of all sessions do not fit into the address space.
+    #[error("nbdmirror: the address space limit is too small for {0} threads")]
+    SmallAddressSpace(usize),
     /// A mirror has at most 8 legs.
     #[error("nbdmirror: more than 8 legs")]
     TooManyLegs,
@@ -204,6 +207,7 @@ impl StartFault<'_> {
             StartFault::NoStandardStreams
             | StartFault::FewDescriptors(_)
             | StartFault::SmallStack(_)
+            | StartFault::SmallAddressSpace(_)
             | StartFault::TooManyLegs
             | StartFault::NoMaster(_)
             | StartFault::TwoMasters(_, _)

@@ -19,7 +19,7 @@ use nm_serving::{AT_ONCE, ExportName, ServedExport};
 use nm_sockets::{Listener, listen, listen_beside};
 use nm_starts::{
     check_added, check_files, check_from, check_moved, check_shrink, check_stack, reply_bytes_of,
-    settle_place, sort_legs, try_threads,
+    settle_place, sort_legs, try_address_space, try_threads,
 };
 use nm_system::{Limits, take_standard_streams};
 use std::alloc::Global;
@@ -34,6 +34,10 @@ use std::sync::atomic::AtomicU64;
 use std::sync::{Arc, Wait};
 use std::thread::Threads;
 use std::time::Clock;
+
+/// How many threads a session has at most: the one that serves its place, one that reads, and those
+/// of its requests.
+const OF_SESSION: usize = 2 + AT_ONCE;
 
 /// How many threads there are beside those of sessions and legs: the control port's, the one that
 /// copies, the one that saves superblocks, and one that reads for a session.
@@ -153,8 +157,9 @@ fn state_of<'a, R: Threads + Wait + Sync + Clock>(
     let Ok(state) = ServingState::new(rt, alloc, sessions, rules, metrics) else {
         return Err(StartFault::Memory);
     };
-    let legs = settings.legs.len();
-    try_threads(rt, alloc, sessions + legs + AT_ONCE + OTHER_THREADS)?;
+    let others = settings.legs.len() + OTHER_THREADS;
+    try_address_space(rt, alloc, limits, sessions * OF_SESSION + others)?;
+    try_threads(rt, alloc, sessions + AT_ONCE + others)?;
     Ok(state)
 }
 
@@ -209,6 +214,7 @@ fn run<'a, R, P: OpensLegs + Sync, O: Write>(
     alloc: Global,
     opener: &P,
     settings: &mut Settings<'a>,
+    limits: &Limits,
     out: &mut O,
     lines: &LogLines,
 ) -> Result<(), StartFault<'a>>
@@ -229,15 +235,13 @@ where
     sort_legs(rt, alloc, settings, lines)?;
     let settings = &*settings;
     let named = export_asked(settings)?;
-    let limits = Limits::read(rt, alloc)?;
-    check_stack(&limits)?;
-    let files = open_files(rt, alloc, settings, &limits)?;
+    let files = open_files(rt, alloc, settings, limits)?;
     let clients = listen(rt, alloc, Address::of_clients(settings))?;
     let control = listen_beside(rt, alloc, Address::Named(settings.control), &clients)?;
     files.start_threads(rt)?;
     let metrics = metrics_of(alloc, &files, settings.sessions)?;
     // Whatever may be refused is, before a superblock is made.
-    let state = state_of(rt, alloc, settings, &limits, metrics)?;
+    let state = state_of(rt, alloc, settings, limits, metrics)?;
     let opened = open(rt, alloc, settings, files, &control.listener, lines)?;
     warn_if_open(rt, alloc, &control.listener, settings.control, lines);
     clients.tell(out, "listening on");
@@ -291,6 +295,14 @@ fn tell_words<O: Write, E: Write>(error: &Error, out: &mut O, err: &mut E) -> u8
     }
 }
 
+// The limits of the process, unless a thread would run out of its stack: this one too, in what
+// reads the words.
+fn limits_of<'a, R: Files<File = File>>(rt: &R, alloc: Global) -> Result<Limits, StartFault<'a>> {
+    let limits = Limits::read(rt, alloc)?;
+    check_stack(&limits)?;
+    Ok(limits)
+}
+
 // Whether the words ask for the table of the control port's words, which no help tells of.
 fn ask_for_table<S: AsStr>(words: &[S]) -> bool {
     words.len() == 2 && words[1].as_str() == "--words"
@@ -335,6 +347,10 @@ where
         + Net<Listener = TcpListener, Stream = TcpStream>
         + 'static,
 {
+    let limits = match limits_of(rt, alloc) {
+        Ok(limits) => limits,
+        Err(fault) => return tell_fault(&fault, err),
+    };
     if ask_for_table(words) {
         let _ = write_words(out);
         return 0;
@@ -346,7 +362,7 @@ where
     let Ok(lines) = LogLines::start(rt, alloc, LogForm::of(rt, alloc)) else {
         return tell_fault(&StartFault::Memory, err);
     };
-    let ended = run(rt, alloc, opener, &mut settings, out, &lines);
+    let ended = run(rt, alloc, opener, &mut settings, &limits, out, &lines);
     lines.close(rt);
     match ended {
         Ok(()) => 0,

@@ -4,6 +4,5 @@ pub mod OpenedOn
 pub mod Replies
 pub mod Starting
 pub mod SuperblockChoice
-pub mod SuperblockSets
 pub mod TwoPlaces
 pub mod Unknown

@@ -1,13 +1,13 @@
 //! Stripes behind their gates: what the start chose is saved, and each gate is told.
-ghost use Rattle.std.specs.Prelude.{◌≤◌, ◌<◌, IfOk, map};
+ghost use Rattle.std.specs.Prelude.{IfOk, map};
 ghost use Rattle.nm_mirror.specs.Stripes.{AreStripesOf};
 
 use crate::superblock_opening::{AllFiles, FoundFiles};
-use crate::superblock_sets::{legs_in, marks_in};
-use nm_gate::{DurableState, GatedStripe};
+use nm_gate::GatedStripe;
 use nm_geometry::Shape;
 use nm_leg_files::{LateSlots, LateSuperblock, Leg, SuperblockWriter};
-use nm_mirror::{MOST_SPANS, gated, ungated};
+use nm_mirror::{gated, ungated};
+use nm_plans::durable_states;
 use nm_reports::{StartFault, Unopened};
 use nm_saves::SuperblockFiles;
 use nm_stripe::Stripe;
@@ -53,53 +53,6 @@ pub fn open_gates<'a>(
         Ok(all) => Ok(all),
         Err(_) => Err(StartFault::Memory),
     }
-}
-
-// What the gate of a stripe takes the durable superblock to say, once the image is saved.
-fn durable_state<'a>(
-    alloc: Global,
-    image: &Superblock,
-    stripe: usize,
-    spans: usize,
-) -> Result<DurableState, StartFault<'a>>
-    requires stripe { stripe < 64 }
-    requires spans { spans ≤ 16384 }
-{
-    let named = image.sets.in_sync(stripe);
-    let marks = marks_in(alloc, &image.marked, spans)?;
-    Ok(DurableState::new(
-        legs_in(named),
-        legs_in(named | image.sets.candidates(stripe)),
-        legs_in(image.sets.partial(stripe)),
-        marks,
-        u64::from(image.span_regions.max(1)),
-    ))
-}
-
-// The same for each of these stripes.
-fn durable_states<'a>(
-    alloc: Global,
-    image: &Superblock,
-    stripes: &[Stripe<Leg>],
-) -> Result<Vec<DurableState>, StartFault<'a>> {
-    let mut states = Vec::new(alloc);
-    for (number, stripe) in stripes.iter().enumerate() {
-        if number >= 64 {
-            break;
-        }
-        let place = stripe.place();
-        let regions = place.blocks.div_ceil(place.region.max(1));
-        let span = u64::from(image.span_regions.max(1));
-        let spans = regions.div_ceil(span).min(MOST_SPANS as u64) as usize;
-        let state = match durable_state(alloc, image, number, spans) {
-            Ok(state) => state,
-            Err(fault) => return Err(fault),
-        };
-        if states.push(state).is_err() {
-            return Err(StartFault::Memory);
-        }
-    }
-    Ok(states)
 }
 
 // Whether one of the superblocks that were found is of a version before that which is saved.

@@ -1,6 +1,6 @@
 //! What the server needs of the system, so that it is told at the start where it is too little.
 ghost use Rattle.std.specs.Prelude.{◌≡◌, ◌+◌, ◌*◌};
-ghost use Rattle.nm_starts.specs.Replies.{reply_bytes};
+ghost use Rattle.nm_starts.specs.Replies.{all_reply_bytes, reply_bytes};
 
 use nm_leg_files::LegRules;
 use nm_reports::StartFault;
@@ -24,16 +24,23 @@ fn files_needed(legs: u8, threads: u8, sessions: u8) -> u64
 /// How many bytes the replies of all sessions carry at most.
 const MOST_REPLY_BYTES: u64 = 4 << 30;
 
+/// How many bytes the replies of all sessions may carry: 4 GiB, or half of the address space where
+/// that is less.
+pub fn all_reply_bytes(limits: &Limits) -> u64
+    ensures { result ≡ all_reply_bytes limits.now.address_space }
+{
+    match limits.address_space {
+        Some(most) => (most / 2).min(MOST_REPLY_BYTES),
+        None => MOST_REPLY_BYTES,
+    }
+}
+
 /// How many bytes the replies to what is outstanding in each of so many sessions may carry: its
-/// part of 4 GiB, or of half of the address space where that is less.
+/// part of those of all.
 pub fn reply_bytes_of(limits: &Limits, sessions: u8) -> u64
     ensures { result ≡ reply_bytes limits.now.address_space sessions }
 {
-    let all = match limits.address_space {
-        Some(most) => (most / 2).min(MOST_REPLY_BYTES),
-        None => MOST_REPLY_BYTES,
-    };
-    all / u64::from(sessions.max(1))
+    all_reply_bytes(limits) / u64::from(sessions.max(1))
 }
 
 /// Refuses limits under which a thread would run out of its stack.

@@ -1,6 +1,6 @@
 use Rattle.std.proofs.Common.{◌≡◌, length}
-use Rattle.nm_starts.specs.SuperblockSets.{AreMarksOf}
-use Rattle.nm_starts.proofs.superblock_sets.marks_in.Given as goal
+use Rattle.nm_plans.specs.Sets.{AreMarksOf}
+use Rattle.nm_plans.proofs.sets.marks_in.Given as goal
 
 -- the marks so far are told
 abbrev pub invariant-spans : goal.invariant-spans

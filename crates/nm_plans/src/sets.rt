@@ -1,7 +1,7 @@
 //! What a superblock says of one stripe, leg by leg and span by span.
 ghost use Rattle.std.specs.Prelude.{◌≡◌, ◌<◌, ◌≤◌, ◌↔◌, IsTrue, IfOk, length};
 ghost use Rattle.std.specs.Int.{bit_at};
-ghost use Rattle.nm_starts.specs.SuperblockSets.{AreLegsOf, AreMarksOf};
+ghost use Rattle.nm_plans.specs.Sets.{AreLegsOf, AreMarksOf};
 
 use nm_superblock::SpanMap;
 use std::alloc::{AllocError, Global};

@@ -2,7 +2,7 @@
 use Rattle.std.proofs.Common.{arith, ◌∙◌}
 use Rattle.std.proofs.lemmas.Bool.{cases_eq}
 use Rattle.std.proofs.lemmas.List.{get_or-set_other, get_or-set_same, length-set}
-use Rattle.nm_starts.proofs.superblock_sets.legs_in.Goals as goal
+use Rattle.nm_plans.proofs.sets.legs_in.Goals as goal
 
 pub legs-preserved : goal.legs-preserved
 legs-preserved c = (

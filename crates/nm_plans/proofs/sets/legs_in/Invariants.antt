@@ -1,6 +1,6 @@
 use Rattle.std.proofs.Common.{◌≡◌, length}
-use Rattle.nm_starts.specs.SuperblockSets.{AreLegsOf}
-use Rattle.nm_starts.proofs.superblock_sets.legs_in.Given as goal
+use Rattle.nm_plans.specs.Sets.{AreLegsOf}
+use Rattle.nm_plans.proofs.sets.legs_in.Given as goal
 
 -- the legs so far are told
 abbrev pub invariant-legs : goal.invariant-legs

@@ -1,0 +1,4 @@
+mod ByImage
+mod GoesOn
+mod OneMore
+mod Unions
