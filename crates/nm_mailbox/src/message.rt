@@ -1,8 +1,10 @@
+use bytes::BytesMut;
+
 /// What the thread that reads from the client sends.
 #[derive(Debug, Drop)]
 pub enum Piece {
-    /// Bytes that were read.
-    Bytes(Vec<u8>),
+    /// Bytes that were read, in the room that they were read into.
+    Bytes(BytesMut),
     /// The client's bytes have ended.
     Ended,
     /// A read failed.

@@ -1,10 +1,11 @@
-//! How the blocks of memory under the receive buffer grow, and when a new one begins.
+//! How the blocks of memory under the received bytes grow, and when a new one begins.
 //!
-//! A payload is a cut of the buffer's block, and one that is kept keeps the whole block.
-ghost use Rattle.std.specs.Prelude.{◌≡◌, ◌+◌, ◌^◌, ◌<◌, ◌≤◌, ◌++◌, length, OnOk, OnErr};
+//! A payload is a cut of a block, and one that is kept keeps the whole block.
+ghost use Rattle.std.specs.Prelude.{◌≡◌, ◌+◌, ◌^◌, ◌<◌, ◌≤◌, ◌++◌, length, take, drop};
+ghost use Rattle.std.specs.Prelude.{IfOk, OnOk, OnErr};
+ghost use Rattle.nm_wire.specs.Sizes.{max_payload};
 
-use crate::cutting::missing_len;
-use bytes::BytesMut;
+use bytes::{Bytes, BytesMut};
 use std::alloc::AllocError;
 
 // After a payload longer than this a new block begins.
@@ -13,20 +14,44 @@ const LONG_PAYLOAD: usize = 64 * 1024;
 // A piece as long as this may begin a block of its own.
 const LONG_PIECE: usize = 16 * 1024;
 
+// A piece becomes a block itself only where it fills at least one part in this many of its room.
+const MOST_ROOM: usize = 4;
+
 // Once one part in this many of a request has come, its block is made as long as the request.
 const FIRST_PART: usize = 16;
 
-// Appends the piece. The block doubles as bytes come, and once, after the first part of a request,
-// it grows to the request's end and one more piece. A long piece that ends its request begins a
-// block that the two fill: room that is left is zeroed first, and the payload takes most of it.
-pub(crate) fn append(buffer: &mut BytesMut, piece: &[u8]) -> Result<(), AllocError>
+// Every payload may share a block up to this size.
+const SMALL_BLOCK: usize = 1024 * 1024;
+
+// A larger block is shared by payloads of at least a sixteenth of it.
+const LEAST_PART: usize = 16;
+
+// Whether a new block begins after a payload of this length.
+pub(crate) fn is_long_payload(payload: usize) -> bool {
+    payload > LONG_PAYLOAD
+}
+
+// Whether the piece is a block worth keeping: long, and with little room behind it.
+pub(crate) fn is_to_become_block(piece: &BytesMut) -> bool {
+    LONG_PIECE <= piece.len() && piece.capacity() / MOST_ROOM <= piece.len()
+}
+
+// Appends the piece, where so many bytes of the first request have not come. The block doubles as
+// bytes come, and once, after the first part of a request, it grows to the request's end and one
+// more piece. A long piece that ends its request begins a block that the two fill: room that is
+// left is zeroed first, and the payload takes most of it.
+pub(crate) fn append_to(
+    buffer: &mut BytesMut,
+    piece: &[u8],
+    missing: usize,
+) -> Result<(), AllocError>
+    requires capped { missing ≤ 28 + max_payload }
     ensures ok { OnOk result (buffer.new.items ≡ buffer.old.items ++ piece.now) }
     ensures room { OnOk result (buffer.old.spare ≤ buffer.new.spare + length piece.now) }
     ensures full { OnErr result (buffer.old.spare < length piece.now) }
     ensures err { OnErr result (buffer.new.items ≡ buffer.old.items) }
 {
     if buffer.capacity() - buffer.len() < piece.len() {
-        let missing = missing_len(buffer.as_slice());
         if missing <= piece.len() && LONG_PIECE <= piece.len() && buffer.len() <= piece.len() {
             return append_anew(buffer, piece);
         }
@@ -68,19 +93,27 @@ fn lengthen(buffer: &mut BytesMut, more: usize)
     }
 }
 
-// Moves the bytes to a new block if the payload cut before them was long, and no shorter than they
-// are, so that moving costs no more than feeding it did. They stay where memory is refused, and
-// where they begin with another long request, which may use the block again.
-pub(crate) fn leave_long_block(buffer: &mut BytesMut, payload: usize)
-    ensures { buffer.new.items ≡ buffer.old.items }
+// Takes the bytes up to the end of a range off the buffer, and returns those of the range: a cut of
+// the buffer's block, but a copy where the block is large and the range a small part of it.
+pub(crate) fn cut_range(
+    buffer: &mut BytesMut,
+    start: usize,
+    len: usize,
+) -> Result<Bytes, AllocError>
+    requires { start + len ≤ length buffer.old.items }
+    ensures payload { IfOk result (λ payload. payload ≡ take len (drop start buffer.old.items)) }
+    ensures rest { IfOk result (λ _. buffer.new.items ≡ drop (start + len) buffer.old.items) }
+    ensures err { OnErr result (buffer.new ≡ buffer.old) }
 {
-    if payload <= LONG_PAYLOAD || payload < buffer.len() {
-        return;
-    }
-    if missing_len(buffer.as_slice()) <= LONG_PAYLOAD {
+    let capacity = buffer.capacity();
+    let end = start + len;
+    if capacity > SMALL_BLOCK && len < capacity / LEAST_PART {
         let alloc = *buffer.allocator();
-        if let Ok(rest) = BytesMut::copy_from_slice(alloc, buffer.as_slice()) {
-            *buffer = rest;
-        }
+        let range = Bytes::copy_from_slice(alloc, &buffer.as_slice()[start..end])?;
+        buffer.advance(end);
+        return Ok(range);
     }
+    let mut range = buffer.freeze_to(end)?;
+    range.advance(start);
+    Ok(range)
 }

@@ -16,6 +16,7 @@ mod cutting;
 mod fault;
 mod judging;
 pub mod laws;
+mod received;
 mod request;
 mod request_reader;
 mod task;

@@ -6,9 +6,9 @@ ghost use Rattle.nm_requests.specs.First.{HasPayload, BeginsRead, message_of};
 ghost use Rattle.nm_requests.specs.Message.{Message, read_length};
 ghost use Rattle.nm_requests.specs.Stream.{StartsWith};
 
-use crate::blocks::append;
 use crate::cutting::{cut_first, first_read_len, missing_len};
 use crate::fault::Fault;
+use crate::received::Received;
 use crate::request::Request;
 use bytes::BytesMut;
 use std::alloc::{AllocError, Global};
@@ -21,7 +21,7 @@ use std::marker::Model;
 #[derive(Debug, Drop)]
 pub struct RequestReader {
     // None until memory is first needed: a new reader takes none.
-    buffer: Option<BytesMut>,
+    buffer: Option<Received>,
     count: u64,
     fault: Option<Fault>,
 }
@@ -64,7 +64,7 @@ impl RequestReader {
         ensures { result ≡ self.now.room }
     {
         match &self.buffer {
-            Some(buffer) => buffer.capacity() - buffer.len(),
+            Some(buffer) => buffer.room(),
             None => 0,
         }
     }
@@ -78,7 +78,7 @@ impl RequestReader {
         ensures kept { IsUnchanged self.old self.new }
     {
         if self.buffer.is_none() {
-            self.buffer = Some(BytesMut::new(alloc));
+            self.buffer = Some(Received::new(alloc));
         }
         if let Some(buffer) = &mut self.buffer {
             buffer.reserve(n)?;
@@ -101,10 +101,34 @@ impl RequestReader {
             return Err(fault);
         }
         if self.buffer.is_none() {
-            self.buffer = Some(BytesMut::new(alloc));
+            self.buffer = Some(Received::new(alloc));
         }
         if let Some(buffer) = &mut self.buffer {
-            append(buffer, piece)?;
+            buffer.append(piece)?;
+        }
+        Ok(())
+    }
+
+    /// Takes the next piece of the stream with its memory. A long piece becomes the receive buffer
+    /// where nothing is unread, or no more than a request's header: none of its bytes is copied.
+    /// Any other piece is copied, and keeps its room. Faults are answered as by `feed`.
+    pub fn take_piece(&mut self, alloc: Global, piece: &mut BytesMut) -> Result<(), Fault>
+        ensures ok { OnOk result (Feeds self.old piece.old.items self.new) }
+        ensures for_good { IfSome self.old.fault (λ fault. (result ≡ Err fault)
+            × Stops self.old fault self.new) }
+        ensures memory { IfNone self.old.fault (OnErr result (result ≡ Err Fault.Memory)) }
+        ensures full { result ≡ Err Fault.Memory → self.old.room < length piece.old.items }
+        ensures err { OnErr result (IsUnchanged self.old self.new) }
+        ensures kept { OnErr result (piece.new ≡ piece.old) }
+    {
+        if let Some(fault) = self.fault {
+            return Err(fault);
+        }
+        if self.buffer.is_none() {
+            self.buffer = Some(Received::new(alloc));
+        }
+        if let Some(buffer) = &mut self.buffer {
+            buffer.take_piece(alloc, piece)?;
         }
         Ok(())
     }
@@ -118,7 +142,7 @@ impl RequestReader {
         ensures begins { 0 < result → BeginsRead self.now.rest result }
     {
         match &self.buffer {
-            Some(buffer) => first_read_len(buffer.as_slice()),
+            Some(buffer) => first_read_len(buffer),
             None => 0,
         }
     }
@@ -130,7 +154,7 @@ impl RequestReader {
             → StartsWith 0 (self.now.rest ++ more) message [] → result ≡ length more }
     {
         match &self.buffer {
-            Some(buffer) => missing_len(buffer.as_slice()),
+            Some(buffer) => missing_len(buffer),
             None => 0,
         }
     }

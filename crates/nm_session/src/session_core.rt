@@ -28,6 +28,7 @@ use crate::outstanding::Outstanding;
 use crate::phase::Phase;
 use crate::refused::Refused;
 use crate::stage::Stage;
+use bytes::BytesMut;
 use nm_haggle::Haggle;
 use nm_requests::{Fault, RequestReader, Task};
 use nm_wire::{Export, SimpleReply};
@@ -111,6 +112,24 @@ impl SessionCore {
         match self.stage {
             Stage::Haggling => self.feed_haggling(alloc, piece),
             Stage::Serving => match self.reader.feed(alloc, piece) {
+                Ok(()) => Ok(()),
+                Err(_) => Err(Refused::Memory),
+            },
+            Stage::Ended(_) => Err(Refused::Closed),
+        }
+    }
+
+    /// Takes the next piece of what the client sends with its memory: past the haggling the bytes of
+    /// a long one are not copied where nothing is unread, or no more than a request's header.
+    pub fn take_piece(&mut self, alloc: Global, piece: &mut BytesMut) -> Result<(), Refused>
+        ensures ok { OnOk result (Feeds self.old piece.old.items self.new) }
+        ensures closed { (result ≡ Err Refused.Closed) ↔ IsEnded self.old.stage }
+        ensures only { IfErr result (λ e. (e ≡ Refused.Closed) ⊎ (e ≡ Refused.Memory)) }
+        ensures err { OnErr result (self.new ≡ self.old) }
+    {
+        match self.stage {
+            Stage::Haggling => self.feed_haggling(alloc, piece.as_slice()),
+            Stage::Serving => match self.reader.take_piece(alloc, piece) {
                 Ok(()) => Ok(()),
                 Err(_) => Err(Refused::Memory),
             },

@@ -63,7 +63,7 @@ pub(crate) fn receive<R: Wait, C, T: Target + Drop>(
     Ok(state)
 }
 
-// Feeds the piece to the core, and lets the room for the next one follow it, or answers a request
+// Has the core take the piece, and lets the room for the next one follow it, or answers a request
 // with what came of its task. Gives what is known then of the client's bytes.
 fn handle_message<T: Target>(
     alloc: Global,
@@ -82,13 +82,17 @@ fn handle_message<T: Target>(
             Ok(()) => Ok(state),
             Err(fault) => Err(fault),
         },
-        Message::Piece(Piece::Bytes(bytes)) => match core.feed(alloc, bytes.as_slice()) {
-            Ok(()) => {
-                room.follow(alloc, bytes);
-                Ok(ReadState::Idle)
+        Message::Piece(Piece::Bytes(bytes)) => {
+            let mut piece = bytes;
+            let count = piece.len();
+            match core.take_piece(alloc, &mut piece) {
+                Ok(()) => {
+                    room.follow(alloc, count, piece);
+                    Ok(ReadState::Idle)
+                }
+                Err(_) => Err(ServeFault::Memory),
             }
-            Err(_) => Err(ServeFault::Memory),
-        },
+        }
         Message::Piece(Piece::Ended) => Ok(ReadState::Eof),
         Message::Piece(Piece::Failed) => Err(ServeFault::Read),
     }

@@ -1,13 +1,13 @@
 //! The channel by which the owner of a session's core permits the reading thread to read. It
 //! takes no lock, and wakes the reading thread only where that one sleeps.
-ghost use Rattle.std.specs.Prelude.{◌≡◌, ◌<◌, vec_len};
+ghost use Rattle.std.specs.Prelude.{◌≡◌, ◌<◌, []};
 ghost use Rattle.nm_session.specs.Batch.{IsStarved};
 ghost use Rattle.nm_workers.specs.declared.round.ReadState.TheVariants.{Idle};
 ghost use Rattle.nm_workers.specs.Moving.{HasNoRequest};
 ghost use Rattle.crossbeam_channel.specs.Claims.{IsSeatAt};
 ghost use Rattle.crossbeam_channel.specs.Ends.{sends_on, receives_on};
 
-use crate::read_buffer::ReadBuffer;
+use crate::read_buffer::{ReadBuffer, Room};
 use crate::round::{NoRequest, ReadState};
 use crossbeam_channel::protocol::{Free, Split};
 use crossbeam_channel::{Pass, RuledReceiver, RuledSender, bounded_with};
@@ -19,8 +19,10 @@ use std::sync::Wait;
 // The permit to read one piece, with the room that it is read into.
 #[derive(Drop)]
 pub struct ReadPermit {
-    room: Vec<u8>,
-    ghost some: { 0 < vec_len room },
+    room: Room,
+    ghost empty: { room.bytes.items ≡ [] },
+    ghost some: { 0 < room.bytes.spare },
+    ghost wanted: { 0 < room.wanted },
 }
 
 impl ReadPermit {
@@ -58,8 +60,10 @@ impl ReadPermit {
     }
 
     // The room.
-    pub(crate) fn into_room(self) -> Vec<u8>
-        ensures { 0 < vec_len result }
+    pub(crate) fn into_room(self) -> Room
+        ensures empty { result.bytes.items ≡ [] }
+        ensures some { 0 < result.bytes.spare }
+        ensures wanted { 0 < result.wanted }
     {
         let ReadPermit { room } = self;
         room

@@ -1,13 +1,17 @@
 //! Reading what the client sends: on a thread of its own, or on that of the session's owner.
-ghost use Rattle.std.specs.Prelude.{◌≡◌, true, ℕ, List, Option, IfOk, IfErr};
+ghost use Rattle.std.specs.Prelude.{◌≡◌, ◌<◌, true, [], ℕ, List, Option, IfOk, IfErr, OnOk};
+ghost use Rattle.std.specs.Io.KnownBytes.{Consumes, IsAtEnd};
 ghost use Rattle.nm_mailbox.specs.Ends.{pieces_by, IsSameEnd};
 ghost use Rattle.nm_workers.specs.Reading.{Gives, ReadsOn, Reads, ReadsFurther};
 ghost use Rattle.nm_workers.specs.Reading as reading;
 
 use crate::permits::{PermitReceiver, PermitSender, ReadPermit, permit_channel};
+use crate::read_buffer::Room;
 use crate::spin_wait::{BusyPoll, SpinWait};
+use bytes::BytesMut;
 use nm_mailbox::{Piece, PieceEnd};
 use std::alloc::Global;
+use std::io;
 use std::io::Read;
 use std::snapshot::Snapshot;
 use std::sync::Wait;
@@ -20,6 +24,8 @@ pub struct Reader<I, M: Drop> {
     pub(crate) source: I,
     pub(crate) pieces: PieceEnd<M>,
     pub(crate) is_open: bool,
+    // Whether a read failed after others had filled a part of a piece: that is told next.
+    has_failed: bool,
 }
 
 impl<I, M: Drop> Reader<I, M> {
@@ -33,6 +39,7 @@ impl<I, M: Drop> Reader<I, M> {
             source,
             pieces,
             is_open: true,
+            has_failed: false,
         }
     }
 }
@@ -106,7 +113,13 @@ fn read_on<R: Wait, I: Read, M: Drop>(rt: &R, reader: &mut Reader<I, M>, permit:
     ensures reads { ReadsFurther I.remaining reader.old reader.new }
 {
     if reader.is_open {
-        reader.is_open = read_piece(rt, &mut reader.source, &mut reader.pieces, permit);
+        reader.is_open = read_piece(
+            rt,
+            &mut reader.source,
+            &mut reader.has_failed,
+            &mut reader.pieces,
+            permit,
+        );
     }
 }
 
@@ -114,6 +127,7 @@ fn read_on<R: Wait, I: Read, M: Drop>(rt: &R, reader: &mut Reader<I, M>, permit:
 fn read_piece<R: Wait, I: Read, M: Drop>(
     rt: &R,
     source: &mut I,
+    has_failed: &mut bool,
     pieces: &mut PieceEnd<M>,
     permit: ReadPermit,
 ) -> bool
@@ -122,7 +136,7 @@ fn read_piece<R: Wait, I: Read, M: Drop>(
         → Reads result input (I.remaining source.new) (pieces_by pieces.new) }
     ensures channel { IsSameEnd pieces.new pieces.old }
 {
-    let piece = take_piece(source, permit);
+    let piece = take_piece(source, has_failed, permit);
     let is_open = brings_bytes(&piece);
     match pieces.send(rt, piece) {
         Ok(()) => is_open,
@@ -141,19 +155,41 @@ fn brings_bytes(piece: &Piece) -> bool
     }
 }
 
-// Reads into the room that the permit brings.
-fn take_piece<I: Read>(source: &mut I, permit: ReadPermit) -> Piece
+// Reads a piece into the room that the permit brings, unless it is still to be told that a read
+// failed. One that fails after others gave bytes is told with the next permit, and nothing is read.
+fn take_piece<I: Read>(source: &mut I, has_failed: &mut bool, permit: ReadPermit) -> Piece
     ensures { Gives result (I.remaining source.old) (I.remaining source.new) }
 {
-    let mut room = permit.into_room();
-    let Ok(count) = source.read(&mut room) else {
+    if *has_failed {
         return Piece::Failed;
-    };
-    if count == 0 {
-        return Piece::Ended;
     }
-    room.truncate(count);
-    Piece::Bytes(room)
+    let Room { mut bytes, wanted } = permit.into_room();
+    let filled = fill(source, &mut bytes, wanted);
+    if !bytes.is_empty() {
+        *has_failed = filled.is_err();
+        return Piece::Bytes(bytes);
+    }
+    match filled {
+        Ok(()) => Piece::Ended,
+        Err(_) => Piece::Failed,
+    }
+}
+
+// Reads into the room until it has at least so many bytes, or the client's bytes end.
+fn fill<I: Read>(source: &mut I, room: &mut BytesMut, wanted: usize) -> io::Result<()>
+    requires empty { room.old.items ≡ [] }
+    requires some { 0 < room.old.spare }
+    requires wanted { 0 < wanted }
+    ensures gives { Consumes (I.remaining source.old) (I.remaining source.new) room.new.items }
+    ensures end { OnOk result (room.new.items ≡ [] → IsAtEnd (I.remaining source.new)) }
+{
+    'reads: while room.len() < wanted {
+        let count = room.read_from(source)?;
+        if count == 0 {
+            break;
+        }
+    }
+    Ok(())
 }
 
 // What the reading thread promises, by the side that it starts with.

@@ -9,18 +9,16 @@ some_from n m same some = omega arith
 
 pub returns-in_err-payload-clause-memory : goal.returns-in_err-payload-clause-memory
 returns-in_err-payload-clause-memory c _ =
-    let there = rw c.in-Some.is at c.in_ok-head.ensures.whole in
-    let has = rw c.as_slice.ensures at there in
+    let has = rw c.in-Some.is at c.in_ok-head.ensures.whole in
     payload_from_whole c.args.index c.args.buffer.now.items c.in-Some.head has
     (some_from c.payload_len.result _ c.payload_len.ensures (λ e. false≢true
     (c.in_err-payload.ensures.empty e)))
 
 pub returns-clause-request : goal.returns-clause-request
 returns-clause-request c =
-    let there = rw c.in-Some.is at c.in_ok-head.ensures.whole in
-    let has = rw c.as_slice.ensures at there in
+    let has = rw c.in-Some.is at c.in_ok-head.ensures.whole in
     starts_from_cut c.args.index c.args.buffer.now.items c.in_ok-payload.payload
-    c.cut_payload.new.buffer.items c.in-Some.head has
+    c.cut_payload.new.self.items c.in-Some.head has
     (c.in_ok-payload.ensures.payload ∙ ap (λ n. take n
     (drop 28 c.args.buffer.now.items)) c.payload_len.ensures)
     (c.in_ok-payload.ensures.rest ∙ ap (λ n. drop

@@ -8,9 +8,8 @@ use Rattle.nm_requests.proofs.request_reader.RequestReader.missing.Goals as goal
 
 pub returns-in-Some-clause-missing : goal.returns-in-Some-clause-missing
 returns-in-Some-clause-missing c message more long starts =
-    let rest : c.args.self.now.rest ≡ c.as_slice.result.now =
-    ap (λ (u : Unread). u.rest) (sym c.self.view_is) ∙ ap unread_bytes c.in-Some.is
-    ∙ sym c.as_slice.ensures in
+    let rest : c.args.self.now.rest ≡ c.in-Some.buffer.items =
+    ap (λ (u : Unread). u.rest) (sym c.self.view_is) ∙ ap unread_bytes c.in-Some.is in
     c.missing_len.ensures.missing message more
     (subst (λ (bytes : List ℕ). 28 ≤ length bytes) rest long)
     (subst (λ (bytes : List ℕ). StartsWith 0 (bytes ++ more) message []) rest starts)

@@ -8,9 +8,8 @@ use Rattle.nm_requests.proofs.request_reader.RequestReader.read_length.Goals as 
 
 pub returns-in-Some-clause-first : goal.returns-in-Some-clause-first
 returns-in-Some-clause-first c message after starts =
-    let rest : c.args.self.now.rest ≡ c.as_slice.result.now =
-    ap (λ (u : Unread). u.rest) (sym c.self.view_is) ∙ ap unread_bytes c.in-Some.is
-    ∙ sym c.as_slice.ensures in
+    let rest : c.args.self.now.rest ≡ c.in-Some.buffer.items =
+    ap (λ (u : Unread). u.rest) (sym c.self.view_is) ∙ ap unread_bytes c.in-Some.is in
     c.first_read_len.ensures.first c.args.self.now.count message after
     (subst (λ (bytes : List ℕ). StartsWith c.args.self.now.count bytes message after) rest starts)
 
