@@ -28,6 +28,8 @@ FAILED = re.compile(r"fail (\d+): failed (\d+) last (\d+) out (\d+) stopped (\d+
 UNSYNCED = re.compile(r'nbdmirror_leg_unsynced_bytes\{leg="(\d{1,3})"\} (\d{1,20})')
 UNREAD = re.compile(r"unread (\d{1,20}) (\d{1,20}) (\d{1,20}) (\d{1,20})")
 UNREAD_END = re.compile(r"end (\d{1,20})")
+HISTORY = re.compile(r"history (\d{1,20}): (\d{1,4}) of (\d{1,20})")
+ENTRY = re.compile(r"(\d{1,20}) (?:read|write (\d{1,20})) (\d{1,20}) ([0-9a-f]{16})")
 COPY_RATE = re.compile(r"copy-rate (\d{1,5}|default)")
 ATTACHED = re.compile(r"attach (\d+): joining (\d+) left (\d+) notout (\d+) stopped (\d+)( unsaved)?")
 REPLACED = re.compile(r"replace (\d+): joining (\d+) left (\d+) out (\d+) stopped (\d+)( unsaved)?")
@@ -190,6 +192,21 @@ class Control:
         end = UNREAD_END.fullmatch(line)
         return {"count": int(end[1]), "regions": regions, "left_out": int(end[1]) - len(regions)} if end else None
 
+    def history(self, stripe):
+        """What a stripe has read and written last, as a dictionary. None where there is no such stripe, or it is busy, and
+        the line that says so."""
+        line = self.ask(f"history {stripe}")
+        if line in ("bad command", f"history {stripe}: busy"):
+            return None, line
+        found, entries = HISTORY.fullmatch(line), []
+        if not found or int(found[1]) != stripe:
+            raise Trouble(f"the server answered '{line}'")
+        for _ in range(int(found[2])):
+            entries.append(entry_of(self.next_line()))
+        if (end := self.next_line()) != "end":
+            raise Trouble(f"the server answered '{end}'")
+        return {"stripe": stripe, "kept": int(found[2]), "total": int(found[3]), "entries": entries}, line
+
     def metrics(self):
         """What the server has counted, as lines in the text form that Prometheus reads."""
         self.send("metrics")
@@ -219,6 +236,16 @@ def rate_of(answer):
     """The rate that an answer tells, in MiB a second: 0 where copies have the default, None where it tells none."""
     found = COPY_RATE.fullmatch(answer)
     return found and (0 if found[1] == "default" else int(found[1]))
+
+
+def entry_of(line):
+    """A line of a stripe's history: an entry's number, what it did to which of the stripe's own blocks, and a digest of
+    that block's bytes; of a write its ticket too."""
+    found = ENTRY.fullmatch(line)
+    if not found:
+        raise Trouble(f"the server answered '{line}'")
+    kind = {"kind": "read"} if found[2] is None else {"kind": "write", "ticket": int(found[2])}
+    return {"seq": int(found[1]), **kind, "block": int(found[3]), "digest": found[4]}
 
 
 def superblock_in(lines):

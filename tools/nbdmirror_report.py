@@ -164,6 +164,17 @@ def width_of(rows):
     return max(map(len, lines_of(rows, None, False)))
 
 
+def history_lines(history, most):
+    """How many of a stripe's reads and writes are kept, and a table with a row each, of at most so many columns."""
+    told = f"{history['total']} reads and writes of stripe {history['stripe']}"
+    if not history["entries"]:
+        return [f"none of {told} is kept"]
+    rows = [["entry", "what", "ticket", "block", "digest"]]
+    rows += [[str(entry["seq"]), entry["kind"], str(entry.get("ticket", "")), str(entry["block"]), entry["digest"]]
+             for entry in history["entries"]]
+    return [f"the last {history['kept']} of {told}", "", *lines_of([[Cell(text) for text in row] for row in rows], most, False)]
+
+
 def moment(second):
     """A second, counted from 1970 on, as the time of day, with the day where that is another one."""
     then = time.localtime(second)

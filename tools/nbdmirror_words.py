@@ -26,6 +26,13 @@ def leg_number(word):
     return number
 
 
+def stripe_number(word):
+    number = number_of(word, 20)
+    if number is None:
+        raise argparse.ArgumentTypeError("a stripe is a number, as `status -v` tells it")
+    return number
+
+
 def stripe_or_all(word):
     number = number_of(word, 20)
     if word != "all" and number is None:
@@ -116,6 +123,13 @@ def add_legs(command):
     rate.add_argument("rate", type=mib_a_second, nargs="?", metavar="MIB", help="MiB a second, or default")
 
 
+def add_history(command):
+    """The words of `history`."""
+    one = command("history", "the last reads and writes of a stripe")
+    one.add_argument("stripe", type=stripe_number, metavar="STRIPE", help="its number")
+    one.add_argument("--json", action="store_true", help="for machines")
+
+
 def add_ends(command):
     """The words of what has to do with the server's end and its start."""
     end = command("quit", "end the server")
@@ -150,6 +164,7 @@ def add_commands(command):
     """Each command with its words."""
     add_status(command)
     command("info", "since when the server serves, or how far its start is")
+    add_history(command)
     add_legs(command)
     command("clients", "who is connected").add_argument("--json", action="store_true", help="for machines")
     command("kick", "close a client's connection").add_argument("client", type=client_number)

@@ -108,32 +108,34 @@ said_if_any argument word line (Some number) some is = said argument word line n
 pub is_row : (word : CommandWord) → IsRow word
 is_row row.Status = (0, refl)
 is_row row.Unread = (1, refl)
-is_row row.Info = (2, refl)
-is_row row.Metrics = (3, refl)
-is_row row.Fail = (4, refl)
-is_row row.Attach = (5, refl)
-is_row row.Replace = (6, refl)
-is_row row.Retire = (7, refl)
-is_row row.Pause = (8, refl)
-is_row row.Resume = (9, refl)
-is_row row.Reopen = (10, refl)
-is_row row.ReopenAll = (11, refl)
-is_row row.CopyRate = (12, refl)
-is_row row.SetCopyRate = (13, refl)
-is_row row.DefaultCopyRate = (14, refl)
-is_row row.Verify = (15, refl)
-is_row row.VerifyRepair = (16, refl)
-is_row row.VerifyStop = (17, refl)
-is_row row.Quit = (18, refl)
-is_row row.QuitWithin = (19, refl)
-is_row row.Clients = (20, refl)
-is_row row.Kick = (21, refl)
+is_row row.History = (2, refl)
+is_row row.Info = (3, refl)
+is_row row.Metrics = (4, refl)
+is_row row.Fail = (5, refl)
+is_row row.Attach = (6, refl)
+is_row row.Replace = (7, refl)
+is_row row.Retire = (8, refl)
+is_row row.Pause = (9, refl)
+is_row row.Resume = (10, refl)
+is_row row.Reopen = (11, refl)
+is_row row.ReopenAll = (12, refl)
+is_row row.CopyRate = (13, refl)
+is_row row.SetCopyRate = (14, refl)
+is_row row.DefaultCopyRate = (15, refl)
+is_row row.Verify = (16, refl)
+is_row row.VerifyRepair = (17, refl)
+is_row row.VerifyStop = (18, refl)
+is_row row.Quit = (19, refl)
+is_row row.QuitWithin = (20, refl)
+is_row row.Clients = (21, refl)
+is_row row.Kick = (22, refl)
 
 -- a line of a row asks for what the row does
 pub asks_by : (word : CommandWord) (number : ℕ) (line : List ℕ) → IsLineOf word line number →
     Asks line (command_of word number)
 asks_by row.Status number line is = is
 asks_by row.Unread number line is = is
+asks_by row.History number line is = is
 asks_by row.Info number line is = is
 asks_by row.Metrics number line is = is
 asks_by row.Fail number line is = is

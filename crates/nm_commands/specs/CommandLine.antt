@@ -116,9 +116,10 @@ with_client_options app = with_rule (with_rule app
 -- The command line, with its options' defaults and ranges. `r` is 114.
 abbrev pub nbdmirror : (policies starts : Bor (List (Bor Text))) → App
 nbdmirror policies starts =
-    with_rule (with_rule (with_rule (with_rule
+    with_rule (with_rule (with_rule (with_rule (with_rule
     (with_client_options (with_superblock_options (copying_command policies starts)))
     (number_rule (codes "sessions") (codes "16") (pos 1) (pos 64)))
+    (number_rule (codes "history") (codes "16") (pos 0) (pos 1024)))
     (lettered 114 (flag_rule (codes "read-only"))))
     (flag_rule (codes "force-in-use")))
     (words_rule (codes "leg"))

@@ -26,7 +26,7 @@ IsWithNumber start line number =
 -- The rows of the table.
 abbrev pub rows : List CommandWord
 rows =
-    row.Status ∷ row.Unread ∷ row.Info ∷ row.Metrics
+    row.Status ∷ row.Unread ∷ row.History ∷ row.Info ∷ row.Metrics
     ∷ row.Fail ∷ row.Attach ∷ row.Replace ∷ row.Retire
     ∷ row.Pause ∷ row.Resume ∷ row.Reopen ∷ row.ReopenAll
     ∷ row.CopyRate ∷ row.SetCopyRate ∷ row.DefaultCopyRate ∷ row.Verify
@@ -42,6 +42,7 @@ IsRow word = (place : ℕ) × (slice_get rows place ≡ Some word)
 abbrev pub word_of : CommandWord → List ℕ
 word_of row.Status = codes "status"
 word_of row.Unread = codes "unread"
+word_of row.History = codes "history"
 word_of row.Info = codes "info"
 word_of row.Metrics = codes "metrics"
 word_of row.Fail = codes "fail"
@@ -65,6 +66,7 @@ word_of row.Kick = codes "kick"
 
 -- What follows the word of a row, behind a blank.
 abbrev pub argument_of : CommandWord → Argument
+argument_of row.History = Stripe
 argument_of row.Fail = Leg
 argument_of row.Attach = Leg
 argument_of row.Replace = Leg
@@ -93,6 +95,7 @@ most_of argument = 2 ^ 64 - 1
 abbrev pub help_of : CommandWord → List ℕ
 help_of row.Status = codes "how each stripe stands"
 help_of row.Unread = codes "the regions that could not be read"
+help_of row.History = codes "the last reads and writes of a stripe"
 help_of row.Info = codes "what the server tells of itself"
 help_of row.Metrics = codes "what the server has counted"
 help_of row.Fail = codes "take a leg out"
@@ -139,6 +142,7 @@ IsPassed line place =
 abbrev pub command_of : CommandWord → ℕ → ControlCommand
 command_of row.Status number = ask.Status
 command_of row.Unread number = ask.Unread
+command_of row.History number = ask.History number
 command_of row.Info number = ask.Info
 command_of row.Metrics number = ask.Metrics
 command_of row.Fail number = ask.Fail number
@@ -164,6 +168,7 @@ command_of row.Kick number = ask.Kick number
 abbrev pub row_of : ControlCommand → Option (CommandWord × ℕ)
 row_of ask.Status = Some (row.Status, 0)
 row_of ask.Unread = Some (row.Unread, 0)
+row_of (ask.History stripe) = Some (row.History, stripe)
 row_of ask.Info = Some (row.Info, 0)
 row_of ask.Metrics = Some (row.Metrics, 0)
 row_of (ask.Fail leg) = Some (row.Fail, leg)

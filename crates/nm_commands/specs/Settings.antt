@@ -106,6 +106,7 @@ pub record HasSettings (rows : List Row) (s : Settings) : Type 0 where
   pub copy_rate : HasNumber rows (codes "copy-rate") s.copy_rate
   pub leg_timeout : HasNumber rows (codes "leg-timeout") s.leg_timeout
   pub sessions : IsNumber (one_of (codes "sessions") rows) s.sessions
+  pub history : IsNumber (one_of (codes "history") rows) s.history
   pub idle_limit : HasNumber rows (codes "idle-limit") s.idle_limit
   pub verbose : HasFlag rows (codes "verbose") s.verbose
   pub read_only : HasFlag rows (codes "read-only") s.read_only

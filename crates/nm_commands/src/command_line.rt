@@ -21,7 +21,7 @@ use crate::start::Start;
 use crate::superblock_options::{
     added_legs, moved_legs, place_from, superblock_place, with_superblock_options,
 };
-use crate::values::{bare_number, number, text};
+use crate::values::{bare_number, number, text, wide_number};
 use crate::version::VERSION;
 use clap::error::ErrorKind;
 use clap::parser::ValueSource;
@@ -121,8 +121,17 @@ fn command_line<'a>(alloc: Global) -> Result<Command<'a>, Error>
     let program = with_client_options(alloc, with_superblocks)?;
     let sessions = number_option(alloc, "sessions", "16", 1, 64, "how many clients at once");
     let with_sessions = program.arg(sessions)?;
+    let history = number_option(
+        alloc,
+        "history",
+        "16",
+        0,
+        1024,
+        "how many of its last reads and writes a stripe keeps",
+    );
+    let with_history = with_sessions.arg(history)?;
     let read_only = lettered_flag(alloc, "read-only", 'r', "refuse writes");
-    let with_read_only = with_sessions.arg(read_only)?;
+    let with_read_only = with_history.arg(read_only)?;
     let force_in_use = flag(
         alloc,
         "force-in-use",
@@ -268,6 +277,7 @@ fn settings_of<'a>(alloc: Global, matches: &ArgMatches<'a>) -> Result<Settings<'
     let added = added_legs(alloc, matches)?;
     let moved = moved_legs(alloc, matches)?;
     let sessions = number(matches, "sessions")?;
+    let history = wide_number(matches, "history")?;
     let legs = legs_of(alloc, matches)?;
     Ok(Settings {
         listen,
@@ -291,6 +301,7 @@ fn settings_of<'a>(alloc: Global, matches: &ArgMatches<'a>) -> Result<Settings<'
         copy_rate: copy_rate(matches)?,
         leg_timeout: leg_timeout(matches)?,
         sessions,
+        history,
         idle_limit: idle_limit(matches)?,
         verbose: matches.get_flag("verbose"),
         read_only: matches.get_flag("read-only"),

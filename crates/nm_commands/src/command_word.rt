@@ -4,7 +4,7 @@ ghost use Rattle.nm_commands.specs.ControlLine.{IsRow, argument_of, help_of, lea
 ghost use Rattle.nm_commands.specs.ControlLine.{rows, word_of};
 
 /// How many rows the table has.
-pub const ROWS: usize = 22;
+pub const ROWS: usize = 23;
 
 /// How many seconds a `quit` gives the clients at most: a day.
 const MOST_SECONDS: u64 = 86_400;
@@ -71,6 +71,8 @@ pub enum CommandWord {
     Status,
     /// The regions that could not be read.
     Unread,
+    /// The last reads and writes of a stripe.
+    History,
     /// What the server tells of itself.
     Info,
     /// What the server has counted.
@@ -122,6 +124,7 @@ impl CommandWord {
         let rows = [
             CommandWord::Status,
             CommandWord::Unread,
+            CommandWord::History,
             CommandWord::Info,
             CommandWord::Metrics,
             CommandWord::Fail,
@@ -157,6 +160,7 @@ impl CommandWord {
         match self {
             CommandWord::Status => "status",
             CommandWord::Unread => "unread",
+            CommandWord::History => "history",
             CommandWord::Info => "info",
             CommandWord::Metrics => "metrics",
             CommandWord::Fail => "fail",
@@ -185,6 +189,7 @@ impl CommandWord {
         ensures { result ≡ argument_of self }
     {
         match self {
+            CommandWord::History => Argument::Stripe,
             CommandWord::Fail => Argument::Leg,
             CommandWord::Attach => Argument::Leg,
             CommandWord::Replace => Argument::Leg,
@@ -207,6 +212,7 @@ impl CommandWord {
         match self {
             CommandWord::Status => "how each stripe stands",
             CommandWord::Unread => "the regions that could not be read",
+            CommandWord::History => "the last reads and writes of a stripe",
             CommandWord::Info => "what the server tells of itself",
             CommandWord::Metrics => "what the server has counted",
             CommandWord::Fail => "take a leg out",

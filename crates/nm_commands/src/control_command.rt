@@ -14,6 +14,8 @@ pub enum ControlCommand {
     Status,
     /// The regions that could not be read, so that they were not copied.
     Unread,
+    /// The last reads and writes of the stripe.
+    History(u64),
     /// What the server tells of itself.
     Info,
     /// What the server has counted.
@@ -149,6 +151,7 @@ impl CommandWord {
         match self {
             CommandWord::Status => ControlCommand::Status,
             CommandWord::Unread => ControlCommand::Unread,
+            CommandWord::History => ControlCommand::History(number),
             CommandWord::Info => ControlCommand::Info,
             CommandWord::Metrics => ControlCommand::Metrics,
             CommandWord::Fail => ControlCommand::Fail(number),

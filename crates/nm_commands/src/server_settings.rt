@@ -47,6 +47,8 @@ pub struct Settings<'a> {
     pub leg_timeout: Option<u32>,
     /// How many sessions may be served at once.
     pub sessions: u8,
+    /// How many entries of its history each stripe keeps: 0 to 1,024.
+    pub history: u16,
     /// After how many seconds without a request a client is closed, where it is.
     pub idle_limit: Option<u32>,
     /// Whether sessions that begin and end are logged.

@@ -29,6 +29,17 @@ pub fn number(matches: &ArgMatches<'_>, id: &str) -> Result<u8, Error>
     }
 }
 
+/// The number of an option that is above 255 for some.
+pub fn wide_number(matches: &ArgMatches<'_>, id: &str) -> Result<u16, Error>
+    ensures ok { IfOk result (λ number. IsNumber (one_text (found_of matches.now) id.now) number) }
+    ensures memory { IfErr result (λ error. kind_of error ≡ OutOfMemory) }
+{
+    match matches.get_one::<u16>(id) {
+        Some(number) => Ok(number),
+        None => Err(Error::from(AllocError)),
+    }
+}
+
 /// The number of an option that has no default, if the words have it.
 pub fn bare_number(matches: &ArgMatches<'_>, id: &str) -> Result<Option<u8>, Error>
     ensures some { IfOk result (λ found. IfSome found (λ number.

@@ -6,6 +6,7 @@ use crate::reopening::reopen;
 use crate::replacing::{RenewsLegs, Replaced};
 use crate::retiring::{is_retired, put_retire};
 use crate::stopped::put_stopped;
+use crate::stripe_history::put_history;
 use crate::verify_answers::{put_known, put_verify, put_verify_stop};
 use crate::whole::{put_pause, put_resume, put_status};
 use nm_commands::{ControlCommand, Fed, LineRoom, control_line};
@@ -239,6 +240,11 @@ fn leg_of(number: u64) -> u8 {
     number.min(255) as u8
 }
 
+// The stripe of this number: none has 2^32 - 1 or more.
+fn stripe_of(number: u64) -> u32 {
+    number.min(u64::from(u32::MAX)) as u32
+}
+
 // So many MiB a second, as the rate of copies.
 fn rate_of(mib: u64) -> u16 {
     mib.min(65_535) as u16
@@ -255,6 +261,7 @@ fn do_line<R: Wait + Clock, L: LegPart, G: Gate + Drop, N: RenewsLegs<L>, M: Mak
     let put = match control_line(line) {
         ControlCommand::Status => put_status(rt, alloc, server, text),
         ControlCommand::Unread => server.unread.put(rt, server.mirror.shape(), text),
+        ControlCommand::History(one) => put_history(rt, alloc, server.mirror, stripe_of(one), text),
         ControlCommand::Info => put_info(rt, alloc, server, text),
         ControlCommand::Metrics => put_numbers(rt, alloc, server, text),
         ControlCommand::Fail(leg) => put_fail(rt, server, leg_of(leg), text),
@@ -263,10 +270,7 @@ fn do_line<R: Wait + Clock, L: LegPart, G: Gate + Drop, N: RenewsLegs<L>, M: Mak
         ControlCommand::Retire(leg) => put_retire(rt, server, leg_of(leg), text),
         ControlCommand::Pause(leg) => put_pause(server.mirror, leg_of(leg), text),
         ControlCommand::Resume(leg) => put_resume(server.mirror, leg_of(leg), text),
-        ControlCommand::Reopen(stripe) => {
-            let stripe = stripe.min(u64::from(u32::MAX)) as u32;
-            put_reopen(rt, alloc, server, Some(stripe), text)
-        }
+        ControlCommand::Reopen(one) => put_reopen(rt, alloc, server, Some(stripe_of(one)), text),
         ControlCommand::ReopenAll => put_reopen(rt, alloc, server, None, text),
         ControlCommand::Clients => server.sessions.put(rt, text),
         ControlCommand::CopyRate => put_copy_rate(server.orders, text),

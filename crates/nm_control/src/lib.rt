@@ -22,6 +22,7 @@ mod replacing;
 mod resync;
 mod retiring;
 mod stopped;
+mod stripe_history;
 mod verifier;
 mod verify_answers;
 mod verify_desk;

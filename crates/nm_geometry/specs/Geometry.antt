@@ -1,22 +1,25 @@
 -- How an export's blocks are shared out among stripes.
 use Rattle.std.specs.Prelude.{ℕ, zero, suc, ◌+◌, ◌-◌, ◌*◌, ◌/◌, ◌%◌, ◌≤◌, ◌^◌, min}
 
--- the numbers of blocks in the export, in a region and in a chunk, of stripes, and of legs
+-- the numbers of blocks in the export, in a region and in a chunk, of stripes, of legs, and of the
+-- entries that a stripe's history keeps at most
 pub record Geometry : Type 0 where
   pub blocks : ℕ
   pub region : ℕ
   pub chunk : ℕ
   pub stripes : ℕ
   pub legs : ℕ
+  pub history : ℕ
 
 -- these numbers, together
-abbrev pub geometry : ℕ → ℕ → ℕ → ℕ → ℕ → Geometry
-geometry blocks region chunk stripes legs = record {
+abbrev pub geometry : ℕ → ℕ → ℕ → ℕ → ℕ → ℕ → Geometry
+geometry blocks region chunk stripes legs history = record {
   blocks = blocks;
   region = region;
   chunk = chunk;
   stripes = stripes;
   legs = legs;
+  history = history;
 }
 
 -- how many regions so many blocks have: only the last may be shorter
@@ -40,6 +43,7 @@ pub record IsGeometry (shape : Geometry) : Type 0 where
   pub in_regions : shape.stripes ≤ regions shape
   pub some_legs : 1 ≤ shape.legs
   pub most_legs : shape.legs ≤ 8
+  pub most_history : shape.history ≤ 1024
 
 -- the region that a block lies in
 abbrev pub region_of : ℕ → Geometry → ℕ

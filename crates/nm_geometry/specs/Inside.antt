@@ -10,6 +10,7 @@ geometry_of s = record {
   chunk = s.chunk;
   stripes = s.stripes;
   legs = s.legs;
+  history = s.history;
 }
 
 -- the fields of these numbers
@@ -20,4 +21,5 @@ shape_of shape = record {
   chunk = shape.chunk;
   stripes = shape.stripes;
   legs = shape.legs;
+  history = shape.history;
 }

@@ -19,7 +19,11 @@ pub const MOST_STRIPES: u32 = 64;
 /// How many legs a stripe has at most.
 pub const MOST_LEGS: u8 = 8;
 
-/// The shape of a mirror: how its export's blocks are shared out among stripes.
+/// How many entries the history of a stripe keeps at most.
+pub const MOST_HISTORY: u16 = 1_024;
+
+/// The shape of a mirror: how its export's blocks are shared out among stripes, and how much of
+/// its history each of these keeps.
 ///
 /// The export is cut into regions, of which only the last may be shorter, and its regions go to the
 /// stripes in turn. Each stripe counts its own regions and blocks from 0, without gaps.
@@ -35,6 +39,8 @@ pub struct Shape {
     pub stripes: u32,
     /// How many legs each stripe has: 1 to 8.
     pub legs: u8,
+    /// How many entries the history of each stripe keeps: 0 to 1,024.
+    pub history: u16,
 }
 
 impl Model for Shape {
@@ -54,9 +60,18 @@ impl Model for Shape {
 
 impl Shape {
     /// The shape of these numbers; none where one of them is out of its bounds.
-    pub fn new(blocks: u64, region: u64, chunk: u64, stripes: u32, legs: u8) -> Option<Shape>
-        ensures some { IsSome result ↔ IsGeometry (geometry blocks region chunk stripes legs) }
-        ensures shape { IfSome result (λ shape. shape ≡ geometry blocks region chunk stripes legs) }
+    pub fn new(
+        blocks: u64,
+        region: u64,
+        chunk: u64,
+        stripes: u32,
+        legs: u8,
+        history: u16,
+    ) -> Option<Shape>
+        ensures some { IsSome result
+            ↔ IsGeometry (geometry blocks region chunk stripes legs history) }
+        ensures shape { IfSome result (λ shape.
+            shape ≡ geometry blocks region chunk stripes legs history) }
     {
         let bounded = 1 <= blocks
             && blocks <= MOST_BLOCKS
@@ -65,7 +80,8 @@ impl Shape {
             && 1 <= chunk
             && chunk <= region
             && 1 <= legs
-            && legs <= MOST_LEGS;
+            && legs <= MOST_LEGS
+            && history <= MOST_HISTORY;
         if !bounded || stripes == 0 || stripes > MOST_STRIPES {
             return None;
         }
@@ -78,6 +94,7 @@ impl Shape {
             chunk,
             stripes,
             legs,
+            history,
         })
     }
 

@@ -32,9 +32,9 @@ impl<R: Wait, G: Gate, K> StripeCall<'_, R, G, K> {
         Ok(())
     }
 
-    /// Does a step of the copy to a leg, in the region that is open: it opens none. Where a write is
-    /// in its way, pushes that one: without it the copy would not come further, and who waits for it
-    /// would turn for ever. Another refusal that does not end the call is harmless.
+    /// Does a step of the copy to a leg, in the region that is open: it opens none. Where a write
+    /// is in its way, pushes that one: without it the copy would not come further, and who waits
+    /// for it would turn for ever. Another refusal that does not end the call is harmless.
     fn help_copy<L: LegPart, D: Lane<L, K>>(
         &self,
         lane: &mut D,

@@ -8,12 +8,12 @@ use Rattle.nm_leg_files.specs.declared.limited_file.LimitedFile.{LimitedFile}
 use Rattle.nm_leg_files.specs.declared.leg_file.LegFile.{LegFile}
 use Rattle.nm_leg_files.specs.declared.leg_files.LegFiles.{LegFiles}
 
--- the mirror over the files: regions of 128 blocks, chunks of as many, and as many stripes as were
--- asked for, or one a region where there are fewer regions
-abbrev pub laid_over : (stripes : ℕ) → LegFiles → Geometry
-laid_over stripes files =
+-- the mirror over the files: regions of 128 blocks, chunks of as many, as many stripes as were
+-- asked for, or one a region where there are fewer regions, and so many kept entries a stripe
+abbrev pub laid_over : (stripes history : ℕ) → LegFiles → Geometry
+laid_over stripes history files =
     geometry files.blocks 128 128 (min stripes (regions_for 128 files.blocks))
-    (length files.files.items)
+    (length files.files.items) history
 
 -- how many bytes all the files have, or the largest number there is
 abbrev pub bytes_in : LegFiles → ℕ

@@ -281,10 +281,11 @@ impl LegFiles {
         own.saturating_mul(self.files.len() as u64)
     }
 
-    /// The shape of a mirror over these files, with so many stripes or one a region.
-    pub fn shape(&self, stripes: u8) -> Option<Shape>
-        ensures some { IsSome result ↔ IsGeometry (laid_over stripes self.now) }
-        ensures shape { IfSome result (λ shape. shape ≡ laid_over stripes self.now) }
+    /// The shape of a mirror over these files, with so many stripes or one a region, of which each
+    /// keeps so many entries of its history.
+    pub fn shape(&self, stripes: u8, history: u16) -> Option<Shape>
+        ensures some { IsSome result ↔ IsGeometry (laid_over stripes history self.now) }
+        ensures shape { IfSome result (λ shape. shape ≡ laid_over stripes history self.now) }
     {
         let regions = self.blocks.div_ceil(REGION);
         let stripes = u64::from(stripes).min(regions) as u32;
@@ -294,6 +295,7 @@ impl LegFiles {
             CHUNK,
             stripes,
             self.files.len().min(255) as u8,
+            history,
         )
     }
 }

@@ -52,7 +52,7 @@ abbrev flags : List LegRegions
 flags = joined ∷ gone ∷ []
 
 abbrev place : At
-place = record { stripe = 0; blocks = 1; region = 1; chunk = 1 }
+place = record { stripe = 0; blocks = 1; region = 1; chunk = 1; history = 0 }
 
 abbrev two : Reopening Leg
 two = record { legs = legs; states = states; flags = flags; master = 0; first = 0; policy = RoundRobin }

@@ -28,8 +28,8 @@ IsLetPass stripe (Push ticket leg) = Unit {0}
 IsLetPass stripe (Read block room) = Unit {0}
 IsLetPass stripe step = (durable : Option Durable) × IsAllowed durable stripe step
 
--- a stripe of legs of this type was asked for the step through the part, and answered so. It has the
--- part's number, or was found astray; and some gate lets the step pass, if it may be asked for.
+-- a stripe of legs of this type was asked for the step through the part, and answered so. It has
+-- the part's number, or was found astray; and some gate lets the step pass, if it may be asked for.
 pub record WasAskedOne {L : Type 0} (type : LegType L) (part : PartState) (done : Done L)
     : Type 0 where
   pub before : StripeState L
@@ -43,8 +43,8 @@ IsGated (Push ticket leg) = ⊥
 IsGated (Read block room) = ⊥
 IsGated step = Unit {0}
 
--- no stripe was asked for the step, since no superblock can be saved any more, or a write that was to
--- begin right behind a look came late: a push and a read need neither
+-- no stripe was asked for the step, since no superblock can be saved any more, or a write that was
+-- to begin right behind a look came late: a push and a read need neither
 abbrev pub IsNotSaved : {L : Type 0} → Done L → Type 0
 IsNotSaved done = IsGated done.step × (done.answer ≡ Refused SaveFailed (handed_in done.step))
 
@@ -65,8 +65,8 @@ AreAsked type part [] = Unit {0}
 AreAsked type part (done ∷ list) =
     WasAsked type part done × AreAsked type (part_after done.answer part) list
 
--- these steps with their answers, which are those of a stripe of legs of this type, lead from one part
--- to another
+-- these steps with their answers, which are those of a stripe of legs of this type, lead from one
+-- part to another
 abbrev pub Follows : {L : Type 0} → LegType L → PartState → List (Done L) → PartState → Type 0
 Follows type part list later = (later ≡ part_after_all list part) × AreAsked type part list
 

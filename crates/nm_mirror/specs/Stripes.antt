@@ -17,6 +17,7 @@ place_of number shape = record {
   blocks = stripe_blocks number shape;
   region = shape.region;
   chunk = shape.chunk;
+  history = shape.history;
 }
 
 -- the stripe of this number in the shape, before its first step

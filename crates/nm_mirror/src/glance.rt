@@ -1,6 +1,8 @@
-//! What each stripe is doing, without waiting for one whose leg does not answer.
-ghost use Rattle.std.specs.Prelude.{◌≡◌, length, IfOk};
+//! What each stripe is doing, without waiting for one whose leg does not answer; and what one has
+//! done last.
+ghost use Rattle.std.specs.Prelude.{◌≡◌, ◌<◌, ◌≤◌, length, IfOk, IfSome};
 
+use crate::last_entries::LastEntries;
 use crate::lock::Lock;
 use crate::mirror::Mirror;
 use crate::status::{StripeStatus, status_of};
@@ -37,6 +39,8 @@ pub struct Glance {
     // Of each leg, how many blocks have the regions of which something is not synced, where that is
     // asked for.
     unsynced: Option<[u64; 8]>,
+    // The entries that it keeps, where they are asked for.
+    last: Option<LastEntries>,
     // How many threads had waited for the stripe and got it, at the first look.
     got: u64,
     // Whether it is still to be looked at.
@@ -54,6 +58,22 @@ fn unsynced_of<L: LegPart>(stripe: &Stripe<L>) -> [u64; 8] {
 }
 
 impl Glance {
+    // One at the stripe behind this lock, which is to be looked at, also for what is asked for.
+    fn new<L: LegPart>(
+        lock: &Lock<L>,
+        unsynced: Option<[u64; 8]>,
+        last: Option<LastEntries>,
+    ) -> Glance {
+        Glance {
+            told: None,
+            master: 0,
+            unsynced,
+            last,
+            got: lock.got(),
+            is_open: true,
+        }
+    }
+
     /// What the stripe is doing, unless it is busy.
     pub fn told(&self) -> Option<&StripeStatus> {
         self.told.as_ref()
@@ -93,11 +113,20 @@ impl Glance {
                 if let Some(legs) = &mut self.unsynced {
                     *legs = unsynced_of(&held.gated.stripe);
                 }
+                if let Some(last) = &mut self.last {
+                    *last = held.last_entries(alloc)?;
+                }
                 self.is_open = false;
             }
             None => self.is_open = !long || lock.got() != self.got,
         }
         Ok(())
+    }
+
+    // The entries that were asked for. None where the stripe is busy.
+    fn into_last(self) -> Option<LastEntries> {
+        let Glance { told, last, .. } = self;
+        if told.is_some() { last } else { None }
     }
 }
 
@@ -172,6 +201,31 @@ impl<L: LegPart, G: Gate + Drop> Mirror<L, G> {
         self.glance_with(rt, alloc, Some([0; 8]))
     }
 
+    /// The entries that a stripe keeps, and how many it has had, copied in one hold of its lock.
+    /// None where that stays taken for half a second, as in a glance.
+    pub fn last_entries<R: Wait + Clock>(
+        &self,
+        rt: &R,
+        alloc: Global,
+        stripe: u32,
+    ) -> Result<Option<LastEntries>, Memory>
+        requires { stripe < self.now.shape.stripes }
+        ensures { IfOk result (λ found.
+            IfSome found (λ last. length last.entries.items ≤ last.total)) }
+    {
+        let place = stripe as usize;
+        let locks = &self.locks[place..place + 1];
+        let asked = LastEntries::none(alloc);
+        let mut one = Vec::new(alloc);
+        one.reserve(1)?;
+        one.push_reserved(Glance::new(&locks[0], None, Some(asked)));
+        look_all(rt, locks, one.as_mut_slice(), alloc)?;
+        match one.pop() {
+            Some(glance) => Ok(glance.into_last()),
+            None => Ok(None),
+        }
+    }
+
     // What each stripe is doing, and what is asked for beside it.
     fn glance_with<R: Wait + Clock>(
         &self,
@@ -184,13 +238,7 @@ impl<L: LegPart, G: Gate + Drop> Mirror<L, G> {
         let mut all = Vec::new(alloc);
         all.reserve(self.locks.len())?;
         for lock in &self.locks {
-            all.push_reserved(Glance {
-                told: None,
-                master: 0,
-                unsynced,
-                got: lock.got(),
-                is_open: true,
-            });
+            all.push_reserved(Glance::new(lock, unsynced, None));
         }
         look_all(rt, &self.locks, all.as_mut_slice(), alloc)?;
         Ok(all)

@@ -46,6 +46,7 @@ pub(crate) fn place_of(shape: &Shape, number: usize) -> At
         blocks: shape.stripe_blocks(stripe),
         region: shape.region,
         chunk: shape.chunk,
+        history: shape.history,
     }
 }
 

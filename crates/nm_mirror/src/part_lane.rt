@@ -24,10 +24,10 @@ use std::sync::Wait;
 /// The part of a pass in one stripe, as a lane over the stripe's lock.
 ///
 /// A begin, a claim, a sync and a copy wait until the stripe's gate lets them pass. Where no
-/// superblock can be saved, what the gate refuses is refused as `SaveFailed`, and so is a write that
-/// is to begin only if none began since a look, and comes late. A write ends with the opening of the
-/// stripe in which it began: then its claim is refused as `NoTicket`, since another may have its
-/// ticket.
+/// superblock can be saved, what the gate refuses is refused as `SaveFailed`, and so is a write
+/// that is to begin only if none began since a look, and comes late. A write ends with the opening
+/// of the stripe in which it began: then its claim is refused as `NoTicket`, since another may have
+/// its ticket.
 #[derive(Drop)]
 pub struct PartLane<L> {
     part: Part<L>,

@@ -65,7 +65,7 @@ module _ {L : Type 0} (type : LegType L) (old new : StripeState L) where
 
 -- what a method explains is what its step explains of that answer
 module _ {L : Type 0} (model : L → Leg) (old new : StripeState L) where
-  unchanged : length old.kept ≡ min 1024 old.total → new ≡ old → IsExplainedStep model [] old new
+  unchanged : length old.kept.entries ≡ min old.kept.most old.total → new ≡ old → IsExplainedStep model [] old new
   unchanged kept stays = subst (λ (s : StripeState L). IsExplainedStep model [] old s) (sym stays) (explained-stays model old kept)
 
   pub begin-acts : (block : ℕ) (bytes : Data) (result : Result Beginning (Refusal × Data)) → IfOk result (IsExplainedBegin model old new block bytes) → OnErr result (IsExplainedStep model [] old new)
@@ -74,7 +74,7 @@ module _ {L : Type 0} (model : L → Leg) (old new : StripeState L) where
   begin-acts block bytes (Ok (beginning.LegLost leg own)) ok refused = ok
   begin-acts block bytes (Err given) ok refused = refused
 
-  pub push-acts : (ticket leg : ℕ) (result : Result Reach Refusal) → NoneHalted {L = L} (answer_of_push result ∷ []) → IfOk result (IsExplainedReach model old new) → length old.kept ≡ min 1024 old.total → OnErr result (new ≡ old)
+  pub push-acts : (ticket leg : ℕ) (result : Result Reach Refusal) → NoneHalted {L = L} (answer_of_push result ∷ []) → IfOk result (IsExplainedReach model old new) → length old.kept.entries ≡ min old.kept.most old.total → OnErr result (new ≡ old)
       → IsExplainedStep model (marks {L = L} (Push ticket leg) (answer_of_push result)) old new
   push-acts ticket leg (Ok (reach.Pushed count)) running ok kept stays = ok
   push-acts ticket leg (Ok (reach.Complete number)) running ok kept stays = ok
@@ -82,7 +82,7 @@ module _ {L : Type 0} (model : L → Leg) (old new : StripeState L) where
   push-acts ticket leg (Ok reach.Halted) running ok kept stays = absurd running
   push-acts ticket leg (Err refusal) running ok kept stays = unchanged kept stays
 
-  pub claim-acts : (ticket : ℕ) (result : Result EntryNames Refusal) → IfOk result (λ written. IsExplainedStep model (replies_of ticket written.number written.count) old new) → length old.kept ≡ min 1024 old.total → OnErr result (new ≡ old)
+  pub claim-acts : (ticket : ℕ) (result : Result EntryNames Refusal) → IfOk result (λ written. IsExplainedStep model (replies_of ticket written.number written.count) old new) → length old.kept.entries ≡ min old.kept.most old.total → OnErr result (new ≡ old)
       → IsExplainedStep model (marks {L = L} (Claim ticket) (answer_of_claim result)) old new
   claim-acts ticket (Ok written) ok kept stays = ok
   claim-acts ticket (Err refusal) ok kept stays = unchanged kept stays

@@ -33,30 +33,30 @@ numbered-drop n first es inside numbers =
     subst (λ k. NumberedFrom k (drop n es)) size
     (numbered-rest first (take n es) (drop n es) (subst (λ xs. NumberedFrom first xs) (sym (take-append-drop n es)) numbers))
 
--- what is kept: at most 1,024, and all of few
-pub length-last_kept : (es : List Entry) → length (last_kept es) ≡ min 1024 (length es)
-length-last_kept es = omega (arith, length-drop (length es - 1024) es)
+-- what is kept: at most so many, and all of few
+pub length-last_kept : (most : ℕ) (es : List Entry) → length (last_kept most es) ≡ min most (length es)
+length-last_kept most es = omega (arith, length-drop (length es - most) es)
 
-pub last_kept-few : (es : List Entry) → length es ≤ 1024 → last_kept es ≡ es
-last_kept-few es few = ap (λ n. drop n es) (let none : length es - 1024 ≡ 0 = omega (arith, few) in none)
+pub last_kept-few : (most : ℕ) (es : List Entry) → length es ≤ most → last_kept most es ≡ es
+last_kept-few most es few = ap (λ n. drop n es) (let none : length es - most ≡ 0 = omega (arith, few) in none)
 
-pub last_kept-none : (es : List Entry) → length es ≤ 1024 → es ≡ last_kept (es ++ [])
-last_kept-none es few = sym (ap (λ xs. last_kept xs) (append-nil es) ∙ last_kept-few es few)
+pub last_kept-none : (most : ℕ) (es : List Entry) → length es ≤ most → es ≡ last_kept most (es ++ [])
+last_kept-none most es few = sym (ap (λ xs. last_kept most xs) (append-nil es) ∙ last_kept-few most es few)
 
 -- what is kept of some entries, and then of that and others, is what is kept of all
-pub last_kept-append : (xs ys : List Entry) → last_kept (last_kept xs ++ ys) ≡ last_kept (xs ++ ys)
-last_kept-append xs ys =
-    let n : ℕ = length xs - 1024 in
+pub last_kept-append : (most : ℕ) (xs ys : List Entry) → last_kept most (last_kept most xs ++ ys) ≡ last_kept most (xs ++ ys)
+last_kept-append most xs ys =
+    let n : ℕ = length xs - most in
     let inside : n ≤ length xs = omega arith in
-    let joined : last_kept xs ++ ys ≡ drop n (xs ++ ys) = sym (drop-append-le n xs ys inside) in
-    let all : n + (length (drop n (xs ++ ys)) - 1024) ≡ length (xs ++ ys) - 1024 = omega (arith, length-drop n (xs ++ ys), length-append xs ys) in
-    ap (λ zs. last_kept zs) joined ∙ drop-drop (length (drop n (xs ++ ys)) - 1024) n (xs ++ ys) ∙ ap (λ k. drop k (xs ++ ys)) all
+    let joined : last_kept most xs ++ ys ≡ drop n (xs ++ ys) = sym (drop-append-le n xs ys inside) in
+    let all : n + (length (drop n (xs ++ ys)) - most) ≡ length (xs ++ ys) - most = omega (arith, length-drop n (xs ++ ys), length-append xs ys) in
+    ap (λ zs. last_kept most zs) joined ∙ drop-drop (length (drop n (xs ++ ys)) - most) n (xs ++ ys) ∙ ap (λ k. drop k (xs ++ ys)) all
 
-pub consistent-last_kept : (es : List Entry) → Consistent es → Consistent (last_kept es)
-consistent-last_kept es consistent = consistent-drop (length es - 1024) es consistent
+pub consistent-last_kept : (most : ℕ) (es : List Entry) → Consistent es → Consistent (last_kept most es)
+consistent-last_kept most es consistent = consistent-drop (length es - most) es consistent
 
-pub ends-last_kept : (es : List Entry) (array : Array) → EndsIn es array → EndsIn (last_kept es) array
-ends-last_kept es array ends = ends-drop (length es - 1024) es array ends
+pub ends-last_kept : (most : ℕ) (es : List Entry) (array : Array) → EndsIn es array → EndsIn (last_kept most es) array
+ends-last_kept most es array ends = ends-drop (length es - most) es array ends
 
-pub numbered-last_kept : (first : ℕ) (es : List Entry) → NumberedFrom first es → NumberedFrom (first + (length es - 1024)) (last_kept es)
-numbered-last_kept first es numbers = numbered-drop (length es - 1024) first es (omega arith) numbers
+pub numbered-last_kept : (most first : ℕ) (es : List Entry) → NumberedFrom first es → NumberedFrom (first + (length es - most)) (last_kept most es)
+numbered-last_kept most first es numbers = numbered-drop (length es - most) first es (omega arith) numbers

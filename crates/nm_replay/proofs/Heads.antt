@@ -7,7 +7,11 @@ use Rattle.nm_replay.specs.declared.head.Head.{Head}
 use Rattle.nm_replay.specs.declared.entry.Kind.{Kind}
 use Rattle.nm_replay.specs.declared.entry.Kind.TheVariants.{Read, Write, Patch}
 use Rattle.nm_replay.specs.Heads.{entry_of, heads_from, joined, next_head}
-use Rattle.nm_replay.specs.Kept.{last_kept, next_kind, run_from, ticket_in}
+use Rattle.nm_replay.specs.Kept.{KeptEntries, last_kept, next_kind, run_from, ticket_in}
+
+-- so many of these entries at most are kept
+abbrev pub kept_of : ℕ → List Entry → KeptEntries
+kept_of most entries = record { entries = entries; most = most }
 
 pub length-joined : (hs : List Head) (bs : List ℕ) → length (joined hs bs) ≡ length hs
 length-joined [] bs = refl
@@ -38,16 +42,16 @@ joined-append (h ∷ hs) more bs b size =
     ∙ ap (λ es. entry_of h (take 512 bs) ∷ es) (ap (λ x. joined (hs ++ more) x) (drop-append-le 512 bs b one) ∙ joined-append hs more (drop 512 bs) b rest)
 
 -- what is left where both lists give up what is past their ends
-pub joined-kept : (hs more : List Head) (bs b : List ℕ) → length bs ≡ 512 * length hs → length b ≡ 512 * length more
-    → joined (drop (length (hs ++ more) - 1024) (hs ++ more)) (drop (length (bs ++ b) - 524288) (bs ++ b))
-    ≡ last_kept (joined hs bs ++ joined more b)
-joined-kept hs more bs b size new =
-    let n : ℕ = length (hs ++ more) - 1024 in
-    let over : length (bs ++ b) - 524288 ≡ 512 * n = omega (arith, size, new, length-append bs b, length-append hs more) in
+pub joined-kept : (most : ℕ) (hs more : List Head) (bs b : List ℕ) → length bs ≡ 512 * length hs → length b ≡ 512 * length more
+    → joined (drop (length (hs ++ more) - most) (hs ++ more)) (drop (length (bs ++ b) - 512 * most) (bs ++ b))
+    ≡ last_kept most (joined hs bs ++ joined more b)
+joined-kept most hs more bs b size new =
+    let n : ℕ = length (hs ++ more) - most in
+    let over : length (bs ++ b) - 512 * most ≡ 512 * n = omega (arith, size, new, length-append bs b, length-append hs more) in
     ap (λ k. joined (drop n (hs ++ more)) (drop k (bs ++ b))) over
     ∙ sym (joined-drop n (hs ++ more) (bs ++ b))
-    ∙ ap (λ k. drop (k - 1024) (joined (hs ++ more) (bs ++ b))) (sym (length-joined (hs ++ more) (bs ++ b)))
-    ∙ ap (λ es. last_kept es) (joined-append hs more bs b size)
+    ∙ ap (λ k. drop (k - most) (joined (hs ++ more) (bs ++ b))) (sym (length-joined (hs ++ more) (bs ++ b)))
+    ∙ ap (λ es. last_kept most es) (joined-append hs more bs b size)
 
 -- the entries of a run have the heads of its blocks
 pub joined-run : (n number : ℕ) (kind : Kind) (block : ℕ) (bs : List ℕ)

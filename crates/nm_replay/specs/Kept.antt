@@ -1,16 +1,25 @@
 -- A kept history, as contracts see it.
-use Rattle.std.specs.Prelude.{ℕ, zero, suc, ◌+◌, ◌-◌, List, [], ◌∷◌, length, take, drop}
+use Rattle.std.specs.Prelude.{ℕ, zero, suc, ◌+◌, ◌-◌, List, [], ◌∷◌, ◌++◌, length, take, drop}
 use Rattle.nm_replay.specs.declared.entry.Entry.{Entry}
 use Rattle.nm_replay.specs.declared.entry.Kind.{Kind}
 use Rattle.nm_replay.specs.declared.entry.Kind.TheVariants.{Read, Write, Patch}
 
--- the last 1,024 of the entries; all of them where there are fewer
-abbrev pub last_kept : List Entry → List Entry
-last_kept entries = drop (length entries - 1024) entries
+-- the last so many of the entries; all of them where there are fewer
+abbrev pub last_kept : ℕ → List Entry → List Entry
+last_kept most entries = drop (length entries - most) entries
 
--- the entries that are kept, in the order of their pushes, and how many there were in all
-pub record KeptHistory : Type 0 where
+-- the entries that are kept, in the order of their pushes, and how many are kept at most
+pub record KeptEntries : Type 0 where
   pub entries : List Entry
+  pub most : ℕ
+
+-- what is kept once these entries came: as many of the last as before
+abbrev pub kept_with : List Entry → KeptEntries → KeptEntries
+kept_with more kept = record kept { entries = last_kept kept.most (kept.entries ++ more) }
+
+-- the entries that are kept, and how many there were in all
+pub record KeptHistory : Type 0 where
+  pub last : KeptEntries
   pub total : ℕ
 
 -- the ticket in this kind, and 0 at a read

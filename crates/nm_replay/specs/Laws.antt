@@ -36,9 +36,10 @@ LegalThenLegal =
     → Legal (next + length earlier) piece middle to
     → Legal next (earlier ++ piece) from to
 
--- where entries are consistent and end in an array, so are and so do those of them that are kept
+-- where entries are consistent and end in an array, so are and so do the last of them, however
+-- many are kept
 abbrev pub KeptIsConsistent : Type 0
 KeptIsConsistent =
-    (entries : List Entry) (to : Array)
+    (most : ℕ) (entries : List Entry) (to : Array)
     → Consistent entries → EndsIn entries to
-    → Consistent (last_kept entries) × EndsIn (last_kept entries) to
+    → Consistent (last_kept most entries) × EndsIn (last_kept most entries) to

@@ -2,7 +2,7 @@ ghost use Rattle.std.specs.Prelude.{◌≡◌, ◌+◌, ◌*◌, ◌/◌, ◌^�
 ghost use Rattle.std.specs.Prelude.{length, min, IsOk, IfOk};
 ghost use Rattle.circular_buffer.specs.Buffer.{keep_last};
 ghost use Rattle.nm_replay.specs.Heads.{heads_from, joined};
-ghost use Rattle.nm_replay.specs.Kept.{last_kept, run_from, ticket_in};
+ghost use Rattle.nm_replay.specs.Kept.{kept_with, run_from, ticket_in};
 
 use crate::block::BLOCK_BYTES;
 use crate::entry::{Entry, Kind};
@@ -12,10 +12,7 @@ use circular_buffer::HeapCircularBuffer;
 use std::alloc::{AllocError, Global};
 use std::marker::Model;
 
-/// How many entries are kept at most.
-const KEPT: usize = 1_024;
-
-/// The last 1,024 entries of the history of an array, and the count of all its entries.
+/// The last entries of the history of an array, as many as were asked for, and the count of all.
 ///
 /// `new` takes all its memory, so a `push` takes none.
 #[derive(Debug, Drop)]
@@ -34,13 +31,12 @@ impl Model for Kept {
     ghost Value = { KeptHistory };
 
     ghost view = { λ k. record {
-      entries = joined k.heads.items k.bytes.items;
+      last = record { entries = joined k.heads.items k.bytes.items; most = k.heads.capacity };
       total = k.total;
     } };
 
-    ghost invariant = { λ k. (k.heads.capacity ≡ 1024)
-        × (k.bytes.capacity ≡ 524288)
-        × (length k.heads.items ≡ min 1024 k.total)
+    ghost invariant = { λ k. (k.bytes.capacity ≡ 512 * k.heads.capacity)
+        × (length k.heads.items ≡ min k.heads.capacity k.total)
         × (length k.bytes.items ≡ 512 * length k.heads.items) };
 }
 
@@ -75,23 +71,24 @@ fn add_heads(heads: &mut HeapCircularBuffer<Head>, first: Head, count: usize)
 }
 
 impl Kept {
-    /// The empty history, with memory for all the entries that it will ever keep.
-    pub fn new(alloc: Global) -> Result<Self, Memory>
-        ensures entries { IfOk result (λ kept. kept.entries ≡ []) }
+    /// The empty history, with memory for as many entries as it will ever keep.
+    pub fn new(alloc: Global, most: u16) -> Result<Self, Memory>
+        ensures last { IfOk result (λ kept. kept.last ≡ record { entries = []; most = most }) }
         ensures total { IfOk result (λ kept. kept.total ≡ 0) }
     {
+        let most = usize::from(most);
         Ok(Kept {
-            heads: HeapCircularBuffer::with_capacity(alloc, KEPT)?,
-            bytes: HeapCircularBuffer::with_capacity(alloc, KEPT * BLOCK_BYTES)?,
+            heads: HeapCircularBuffer::with_capacity(alloc, most)?,
+            bytes: HeapCircularBuffer::with_capacity(alloc, most * BLOCK_BYTES)?,
             total: 0,
         })
     }
 
-    /// Adds an entry at the end. Where 1,024 are kept, the oldest is dropped.
+    /// Adds an entry at the end. Where as many are kept as may be, the oldest is dropped.
     #[inline(always)]
     pub fn push(&mut self, entry: &Entry)
         requires { self.old.total < 2 ^ 63 }
-        ensures entries { self.new.entries ≡ last_kept (self.old.entries ++ entry.now ∷ []) }
+        ensures last { self.new.last ≡ kept_with (entry.now ∷ []) self.old.last }
         ensures total { self.new.total ≡ self.old.total + 1 }
     {
         self.heads.push_back(Head::of(entry));
@@ -100,15 +97,15 @@ impl Kept {
     }
 
     /// Adds the entries of a run at the end, one for each block of the bytes: the numbers, kinds
-    /// and blocks are those from these on. The last 1,024 entries stay. The bytes are copied once.
+    /// and blocks are those from these on. Of the bytes those that are kept are copied, once.
     pub fn push_run(&mut self, number: u64, kind: Kind, block: u64, bytes: &[u8])
         requires whole { length bytes.now ≡ 512 * (length bytes.now / 512) }
         requires total { self.old.total + length bytes.now / 512 ≤ 2 ^ 63 }
         requires numbers { number + length bytes.now / 512 < 2 ^ 64 }
         requires tickets { ticket_in kind + length bytes.now / 512 < 2 ^ 64 }
         requires blocks { block + length bytes.now / 512 < 2 ^ 64 }
-        ensures entries { self.new.entries ≡ last_kept (self.old.entries
-            ++ run_from (length bytes.now / 512) number kind block bytes.now) }
+        ensures last { self.new.last ≡ kept_with
+            (run_from (length bytes.now / 512) number kind block bytes.now) self.old.last }
         ensures total { self.new.total ≡ self.old.total + length bytes.now / 512 }
     {
         let count = bytes.len() / BLOCK_BYTES;
@@ -120,7 +117,7 @@ impl Kept {
     /// How many entries were pushed in all.
     pub fn total(&self) -> u64
         ensures value { result ≡ self.now.total }
-        ensures kept { length self.now.entries ≡ min 1024 self.now.total }
+        ensures kept { length self.now.last.entries ≡ min self.now.last.most self.now.total }
     {
         self.total
     }
@@ -128,8 +125,8 @@ impl Kept {
     /// A copy of the kept entries, in the order of their pushes.
     #[tactic(auto, using(crate::proofs::Heads::no_heads))]
     pub fn entries(&self, alloc: Global) -> Result<Vec<Entry>, Memory>
-        ensures ok { IfOk result (λ copy. copy.items ≡ self.now.entries) }
-        ensures memory_only_at_growth { self.now.entries ≡ [] → IsOk result }
+        ensures ok { IfOk result (λ copy. copy.items ≡ self.now.last.entries) }
+        ensures memory_only_at_growth { self.now.last.entries ≡ [] → IsOk result }
     {
         if self.heads.is_empty() {
             return Ok(Vec::new(alloc));

@@ -34,8 +34,8 @@ pub fn end_piece_is_legal()
     ensures { EndPieceIsLegal }
 {}
 
-/// Of a list of entries that is consistent and ends in an array, the last 1,024 are consistent and
-/// end in that array.
+/// Of a list of entries that is consistent and ends in an array, the last are consistent and end in
+/// that array, however many are kept.
 pub fn kept_is_consistent()
     ensures { KeptIsConsistent }
 {}

@@ -179,6 +179,7 @@ module _ {L : Type 0} (type : LegType L) (old : StripeState L) (run block : ℕ)
     starts = k.starts;
     numbered = k.numbered;
     most = k.most;
+    asked = k.asked;
     given = omega (arith, k.given, unlanded-with_new new_record old.records refl);
     below = omega (arith, may.below, unlanded-with_new new_record old.records refl);
     low = low-with_new old.first old.records new_record k.low (omega (arith, may.below));
@@ -206,7 +207,7 @@ module _ {L : Type 0} (type : LegType L) (old : StripeState L) (run block : ℕ)
         (λ was. k.reached t r leg is_leg was.1 going free (begin-clear leg r.block clear))
         (new_cases old.tickets t old.records new_record r records.tickets refl at);
     alike = λ leg b is_leg inside_b none clear. k.alike leg b is_leg inside_b (busy-front b old.records (new_record ∷ []) none) (begin-clear leg b clear);
-    last = subst (λ xs. EndsIn old.kept xs) (sym begin-array) k.last;
+    last = subst (λ xs. EndsIn old.kept.entries xs) (sym begin-array) k.last;
     unlanded = λ t r at none. subst (λ xs. RecordFits r xs) (sym begin-array) (⊎_elim
         (λ new. subst (λ (x : Record). RecordFits x (stripe_array type.model old)) (sym new.1) fits)
         (λ was. k.unlanded t r was.1 none)

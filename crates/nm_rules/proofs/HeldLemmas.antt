@@ -89,7 +89,7 @@ module _ {A B : Type 0} (mine : A → Leg) (other : B → Leg) (honest : Bool) (
   held-agrees a = record {
     reached = λ t r leg inside at going free clear. ap (λ xs. slice_get xs r.block) (h.contents leg) ∙ a.reached t r leg (omega (arith, inside, h.count)) at going free clear;
     alike = λ leg block inside within none clear. ap (λ xs. slice_get xs block) (h.contents leg) ∙ a.alike leg block (omega (arith, inside, h.count)) within none clear ∙ ap (λ xs. slice_get xs block) (sym (h.contents s.master));
-    last = subst (λ (xs : Array). EndsIn s.kept xs) (sym held-array) a.last;
+    last = subst (λ (xs : Array). EndsIn s.kept.entries xs) (sym held-array) a.last;
     unlanded = subst (λ (xs : Array). AllFit s.records xs) (sym held-array) a.unlanded;
     buffer = λ c k on is. held-buffer c k (a.buffer c k on is);
   }
@@ -100,7 +100,7 @@ module _ {A B : Type 0} (mine : A → Leg) (other : B → Leg) (honest : Bool) (
     records = record { in_order = k.records.in_order; tickets = k.records.tickets; one_writer = k.records.one_writer; inside = k.records.inside; landed = k.records.landed; settling = k.records.settling };
     writes = record { owed = k.writes.owed; apart = k.writes.apart; marked = λ t r leg at inside going out. k.writes.marked t r leg at (omega (arith, inside, h.count)) going out };
     chunk = held-chunk s.copy s.chunk k.chunk;
-    numbers = record { start = k.numbers.start; starts = k.numbers.starts; numbered = k.numbers.numbered; most = k.numbers.most; given = k.numbers.given; below = k.numbers.below; low = k.numbers.low };
+    numbers = record { start = k.numbers.start; starts = k.numbers.starts; numbered = k.numbers.numbered; most = k.numbers.most; asked = k.numbers.asked; given = k.numbers.given; below = k.numbers.below; low = k.numbers.low };
     turn = k.turn;
     consistent = k.consistent;
     agrees = λ is_honest runs. held-agrees (k.agrees is_honest runs);

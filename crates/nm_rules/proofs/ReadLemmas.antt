@@ -13,7 +13,7 @@ use Rattle.nm_fanout.specs.Records.{unlanded}
 use Rattle.nm_leg.specs.Leg.{LegType}
 use Rattle.nm_rules.specs.Acts.{Acts, IsExplainedStep}
 use Rattle.nm_rules.specs.Array.{laid_from, stripe_array, write_life, read_life}
-use Rattle.nm_rules.specs.Kept.{kept_with}
+use Rattle.nm_replay.specs.Kept.{kept_with}
 use Rattle.nm_rules.specs.Invariant.{HasNumbers, LegsAgree, Keeps}
 use Rattle.nm_rules.specs.Read.{FailsInRead}
 use Rattle.nm_rules.specs.BlockCalls.{ReadsBlockAt}
@@ -85,15 +85,16 @@ module _ {L : Type 0} (type : LegType L) (old : StripeState L) (legs : List L) (
         starts = omega (arith, kept-starts was.start number old.kept (entry ∷ []) was.starts);
         numbered = kept-numbered was.start old.kept (entry ∷ []) was.numbered (sym was.starts, tt);
         most = kept-length old.total old.kept (entry ∷ []) was.most;
+        asked = was.asked;
         given = omega (arith, was.given);
         below = omega (arith, may.below);
         low = was.low;
       }
 
-  read-ends : IsTrue type.honest → block < old.place.blocks → EndsIn new.kept (stripe_array type.model old)
+  read-ends : IsTrue type.honest → block < old.place.blocks → EndsIn new.kept.entries (stripe_array type.model old)
   read-ends is_honest inside =
       kept-ends old.kept (entry ∷ []) (stripe_array type.model old)
-      (ends-push_by old.kept entry (stripe_array type.model old) (stripe_array type.model old) (k.agrees is_honest may.runs).last (read-array is_honest inside) (λ b off. refl))
+      (ends-push_by old.kept.entries entry (stripe_array type.model old) (stripe_array type.model old) (k.agrees is_honest may.runs).last (read-array is_honest inside) (λ b off. refl))
 
   read-agrees : IsTrue type.honest → block < old.place.blocks → LegsAgree type.model new
   read-agrees is_honest inside =
@@ -101,7 +102,7 @@ module _ {L : Type 0} (type : LegType L) (old : StripeState L) (legs : List L) (
       record {
         reached = agree.reached;
         alike = agree.alike;
-        last = subst (λ xs. EndsIn new.kept xs) (sym (array_stays is_honest)) (read-ends is_honest inside);
+        last = subst (λ xs. EndsIn new.kept.entries xs) (sym (array_stays is_honest)) (read-ends is_honest inside);
         unlanded = agree.unlanded;
         buffer = λ copy chunk copy_at chunk_at.
             let was = agree.buffer copy chunk copy_at chunk_at in
@@ -122,7 +123,7 @@ module _ {L : Type 0} (type : LegType L) (old : StripeState L) (legs : List L) (
         numbers = read-numbers;
         turn = few;
         consistent = λ is_honest. kept-consistent old.kept (entry ∷ [])
-            (consistent-read k.numbers.start old.kept (stripe_array type.model old) number block bytes k.numbers.numbered (sym k.numbers.starts) (k.agrees is_honest may.runs).last (read-array is_honest inside) (k.consistent is_honest));
+            (consistent-read k.numbers.start old.kept.entries (stripe_array type.model old) number block bytes k.numbers.numbered (sym k.numbers.starts) (k.agrees is_honest may.runs).last (read-array is_honest inside) (k.consistent is_honest));
         agrees = λ is_honest runs. read-agrees is_honest inside;
       }
 

@@ -52,7 +52,7 @@ module _ {L : Type 0} (type : LegType L) (place : At) (r : Reopening L) (may : M
     records = record { in_order = record { few = omega arith; ascending = tt; whole = tt }; tickets = tt; one_writer = tt; inside = λ t x at. cc; landed = λ t x at. cc; settling = λ is. cc };
     writes = record { owed = λ t x j at. cc; apart = λ t x at. cc; marked = λ t x j at. cc };
     chunk = tt;
-    numbers = record { start = r.first; starts = omega arith; numbered = tt; most = omega arith; given = omega arith; below = omega arith; low = tt };
+    numbers = record { start = r.first; starts = omega arith; numbered = tt; most = omega arith; asked = refl; given = omega arith; below = omega arith; low = tt };
     turn = omega arith;
     consistent = λ is_honest. consistent-empty;
     agrees = λ is_honest runs. record {

@@ -140,7 +140,7 @@ module _ {L : Type 0} (type : LegType L) (old : StripeState L) (leg : ℕ) (more
     records = record { in_order = k.records.in_order; tickets = k.records.tickets; one_writer = k.records.one_writer; inside = k.records.inside; landed = k.records.landed; settling = k.records.settling };
     writes = return-writes;
     chunk = chunk-stays old new old.copy old.chunk return-copy (λ c h is. record { long = is.long; some = is.some; most = is.most; more = is.more; read_first = is.read_first }) k.chunk;
-    numbers = record { start = k.numbers.start; starts = k.numbers.starts; numbered = k.numbers.numbered; most = k.numbers.most; given = k.numbers.given; below = k.numbers.below; low = k.numbers.low };
+    numbers = record { start = k.numbers.start; starts = k.numbers.starts; numbered = k.numbers.numbered; most = k.numbers.most; asked = k.numbers.asked; given = k.numbers.given; below = k.numbers.below; low = k.numbers.low };
     turn = k.turn;
     consistent = k.consistent;
     agrees = λ is_honest runs. return-agrees (k.agrees is_honest runs);

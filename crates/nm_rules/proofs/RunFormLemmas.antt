@@ -1,12 +1,11 @@
 -- What a run that has reached its leg leaves, in one piece.
 use Rattle.std.proofs.Common.{◌≡◌, ℕ, ◌+◌, ◌==◌, ◌&&◌, ◌||◌, Bool, true, false, List, [], ◌∷◌, length, refl, sym, ap, ◌∙◌, arith, cond, is_none}
 use Rattle.std.specs.List.{list_any}
-use Rattle.nm_replay.specs.declared.entry.Entry.{Entry}
 use Rattle.nm_fanout.proofs.Owed.{is_under_way-without_leg}
 use Rattle.nm_fanout.specs.declared.write_record.Record.{Record}
 use Rattle.nm_fanout.specs.Record.{is_under_way, without_leg, with_entry}
 use Rattle.nm_fanout.specs.Records.{changed, landed, reached}
-use Rattle.nm_rules.specs.Kept.{kept_with}
+use Rattle.nm_replay.specs.Kept.{KeptEntries, kept_with}
 use Rattle.nm_rules.specs.Push.{lands_at, write_entry}
 use Rattle.nm_rules.specs.RunPush.{land_each, reach_each, run_entries, run_landed, run_reached}
 use Rattle.nm_rules.specs.State.{StripeState, next_number}
@@ -90,5 +89,5 @@ run-lands {L} legs leg (q ∷ qs) r old all =
     ∙ ap (λ (b : Bool). let s : StripeState L = record old { legs = legs; records = last; kept = kept_with (run_entries (old.first + (old.total + 1)) (q ∷ qs)) (kept_with (write_entry (next_number old) r ∷ []) old.kept); total = old.total + 1 + length (q ∷ qs); settling = b } in s)
     (settles old.settling (list_any is_under_way first) (list_any is_under_way last) (idle-land_each leg (old.first + (old.total + 1)) (q ∷ qs) first))
     ∙ ap (λ (xs : List Record). let s : StripeState L = record old { legs = legs; records = xs; kept = kept_with (run_entries (old.first + (old.total + 1)) (q ∷ qs)) (kept_with (write_entry (next_number old) r ∷ []) old.kept); total = old.total + 1 + length (q ∷ qs); settling = old.settling && list_any is_under_way xs } in s) records
-    ∙ ap (λ (es : List Entry). let s : StripeState L = record old { legs = legs; records = land_each leg (next_number old) (r ∷ (q ∷ qs)) old.records; kept = es; total = old.total + 1 + length (q ∷ qs); settling = old.settling && list_any is_under_way (land_each leg (next_number old) (r ∷ (q ∷ qs)) old.records) } in s) kept
+    ∙ ap (λ (es : KeptEntries). let s : StripeState L = record old { legs = legs; records = land_each leg (next_number old) (r ∷ (q ∷ qs)) old.records; kept = es; total = old.total + 1 + length (q ∷ qs); settling = old.settling && list_any is_under_way (land_each leg (next_number old) (r ∷ (q ∷ qs)) old.records) } in s) kept
     ∙ ap (λ (n : ℕ). let s : StripeState L = record old { legs = legs; records = land_each leg (next_number old) (r ∷ (q ∷ qs)) old.records; kept = kept_with (run_entries (next_number old) (r ∷ (q ∷ qs))) old.kept; total = n; settling = old.settling && list_any is_under_way (land_each leg (next_number old) (r ∷ (q ∷ qs)) old.records) } in s) total

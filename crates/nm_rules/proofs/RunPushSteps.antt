@@ -12,7 +12,7 @@ use Rattle.nm_rules.specs.BlockCalls.{WritesBlockAt}
 use Rattle.nm_rules.specs.Acts.{IsExplainedStep}
 use Rattle.nm_rules.specs.Array.{written}
 use Rattle.nm_rules.specs.Invariant.{Keeps}
-use Rattle.nm_rules.specs.Kept.{kept_with}
+use Rattle.nm_replay.specs.Kept.{kept_with}
 use Rattle.nm_rules.specs.Lost.{settled}
 use Rattle.nm_rules.specs.Push.{after_landing, after_push, after_reach, lands_at, write_entry}
 use Rattle.nm_rules.specs.RunCalls.{WritesRunAt}

@@ -4,7 +4,6 @@ use Rattle.std.proofs.Common.{◌≡◌, ℕ, ◌+◌, ◌-◌, ◌/◌, ◌%◌
 use Rattle.std.specs.Option.{option_or}
 use Rattle.std.proofs.lemmas.Bool.Decides.{nat_tests}
 use Rattle.nm_replay.specs.declared.block.Block.{Block}
-use Rattle.nm_replay.specs.declared.entry.Entry.{Entry}
 use Rattle.nm_replay.specs.Array.{Array}
 use Rattle.nm_replay.specs.Events.{BeginsRead, Event, RepliesRead, entry_of_read, marks_of}
 use Rattle.nm_fanout.specs.Records.{unlanded}
@@ -18,7 +17,7 @@ use Rattle.nm_rules.specs.Acts.{IsExplainedStep}
 use Rattle.nm_rules.specs.Array.{contents_of, stripe_array}
 use Rattle.nm_rules.specs.Cause.{when}
 use Rattle.nm_rules.specs.Invariant.{Keeps}
-use Rattle.nm_rules.specs.Kept.{kept_with}
+use Rattle.nm_replay.specs.Kept.{KeptEntries, kept_with}
 use Rattle.nm_rules.specs.Read.{FailsInRead, LosesInRead, read_cause, turn_after}
 use Rattle.nm_rules.specs.RunCalls.{ReadsRunAt}
 use Rattle.nm_rules.specs.RunRead.{FailsInReadRun, FindsRun, LosesInReadRun, after_read_run, last_block, marks_of_reads, read_entries, read_run_cause, read_run_rows, reads_of}
@@ -109,7 +108,7 @@ read-form {L} legs turn (c ∷ cs) b old block =
     ∙ kept-append old.kept (entry_of_read (next_number old) block b ∷ []) (read_entries (next_number old + 1) (block + 1) (c ∷ cs)) in
     let total : old.total + 1 + length (c ∷ cs) ≡ old.total + length (b ∷ (c ∷ cs)) = omega arith in
     read-form legs turn cs c (after_read_one old legs block b turn) (block + 1)
-    ∙ ap (λ (es : List Entry). let s : StripeState L = record old { legs = legs; turn = turn; kept = es; total = old.total + 1 + length (c ∷ cs) } in s) kept
+    ∙ ap (λ (es : KeptEntries). let s : StripeState L = record old { legs = legs; turn = turn; kept = es; total = old.total + 1 + length (c ∷ cs) } in s) kept
     ∙ ap (λ (n : ℕ). let s : StripeState L = record old { legs = legs; turn = turn; kept = kept_with (read_entries (next_number old) block (b ∷ (c ∷ cs))) old.kept; total = n } in s) total
 
 -- the marks of the reads of a run

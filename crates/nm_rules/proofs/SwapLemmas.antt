@@ -95,7 +95,7 @@ module _ {L : Type 0} (type : LegType L) (old : StripeState L) (leg : ℕ) (part
     alike = λ j block inside block_in none clear.
         holds-same j block block_in clear ∙ agree.alike j block (omega (arith, inside, count)) block_in none clear
         ∙ ap (λ (xs : List Block). slice_get xs block) (sym master-same);
-    last = subst (λ (xs : List Block). EndsIn old.kept xs) (sym array-same) agree.last;
+    last = subst (λ (xs : List Block). EndsIn old.kept.entries xs) (sym array-same) agree.last;
     unlanded = subst (λ (xs : List Block). AllFit old.records xs) (sym array-same) agree.unlanded;
     buffer = λ c chunk is_open is_chunk.
         let held = agree.buffer c chunk is_open is_chunk in
@@ -114,7 +114,7 @@ module _ {L : Type 0} (type : LegType L) (old : StripeState L) (leg : ℕ) (part
     records = record { in_order = k.records.in_order; tickets = k.records.tickets; one_writer = k.records.one_writer; inside = k.records.inside; landed = k.records.landed; settling = k.records.settling };
     writes = swap-writes;
     chunk = chunk-stays old new old.copy old.chunk (λ c is. record { joining = is.joining; behind = is.behind; within = is.within }) (λ c h is. record { long = is.long; some = is.some; most = is.most; more = is.more; read_first = is.read_first }) k.chunk;
-    numbers = record { start = k.numbers.start; starts = k.numbers.starts; numbered = k.numbers.numbered; most = k.numbers.most; given = k.numbers.given; below = k.numbers.below; low = k.numbers.low };
+    numbers = record { start = k.numbers.start; starts = k.numbers.starts; numbered = k.numbers.numbered; most = k.numbers.most; asked = k.numbers.asked; given = k.numbers.given; below = k.numbers.below; low = k.numbers.low };
     turn = k.turn;
     consistent = k.consistent;
     agrees = λ is_honest runs. swap-agrees (k.agrees is_honest runs);

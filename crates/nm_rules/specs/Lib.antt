@@ -11,7 +11,6 @@ pub mod Failing
 pub mod Flushed
 pub mod Invariant
 pub mod Joining
-pub mod Kept
 pub mod Laws
 pub mod Losing
 pub mod Lost

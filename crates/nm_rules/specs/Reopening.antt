@@ -42,7 +42,7 @@ reopened place r = record {
   chunk = None;
   records = [];
   tickets = 0;
-  kept = [];
+  kept = record { entries = []; most = place.history };
   first = r.first;
   total = 0;
 }

@@ -13,7 +13,7 @@ use Rattle.nm_rules.specs.declared.refusal.Refusal.{Refusal}
 use Rattle.nm_rules.specs.declared.refusal.Refusal.TheVariants.{Stopped, NoTicket, NotOwed}
 use Rattle.nm_rules.specs.Array.{written}
 use Rattle.nm_rules.specs.Cause.{when, first_cause}
-use Rattle.nm_rules.specs.Kept.{kept_with}
+use Rattle.nm_replay.specs.Kept.{kept_with}
 use Rattle.nm_rules.specs.Lost.{lost}
 use Rattle.nm_rules.specs.Push.{lands_at, write_entry}
 use Rattle.nm_rules.specs.RunCalls.{WritesRunAt}

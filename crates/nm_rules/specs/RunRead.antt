@@ -8,7 +8,7 @@ use Rattle.nm_leg.specs.Leg.{LegType}
 use Rattle.nm_rules.specs.declared.refusal.Refusal.{Refusal}
 use Rattle.nm_rules.specs.declared.refusal.Refusal.TheVariants.{Settling, Stopped, Exhausted}
 use Rattle.nm_rules.specs.Cause.{when, first_cause}
-use Rattle.nm_rules.specs.Kept.{kept_with}
+use Rattle.nm_replay.specs.Kept.{kept_with}
 use Rattle.nm_rules.specs.Lost.{lost}
 use Rattle.nm_rules.specs.Read.{read_leg, turn_after}
 use Rattle.nm_rules.specs.RunCalls.{ReadsRunAt}

@@ -9,4 +9,6 @@ pub struct At {
     pub region: u64,
     /// How many blocks a chunk has.
     pub chunk: u64,
+    /// How many entries the stripe's history keeps at most.
+    pub history: u16,
 }

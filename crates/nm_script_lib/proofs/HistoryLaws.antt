@@ -92,7 +92,7 @@ judged_legal entries total P is judged = judged true ((λ known. is), (λ known.
 
 -- the history of a stripe, from a copy of what it keeps
 pub stripe_history : (stripe : MemStripe) (entries : List Entry) (total : ℕ) (buffer : List ℕ)
-    (P : List ℕ → Type 0) → entries ≡ stripe.kept →
+    (P : List ℕ → Type 0) → entries ≡ stripe.kept.entries →
     total ≡ stripe.total → buffer ≡ [] → Consistent entries →
     JudgesHistory entries total (λ text. P (buffer ++ text)) → P (history stripe)
 stripe_history stripe entries total buffer P e t g is judged =
@@ -100,12 +100,12 @@ stripe_history stripe entries total buffer P e t g is judged =
     (λ text. P (buffer ++ text)) is judged in
     let bare : P (history_lines entries total true) = subst
     (λ (x : List ℕ). P (x ++ history_lines entries total true)) g here in
-    subst (λ (x : ℕ). P (history_lines stripe.kept x true)) t
+    subst (λ (x : ℕ). P (history_lines stripe.kept.entries x true)) t
     (subst (λ (x : List Entry). P (history_lines x total true)) e bare)
 
 -- what a stripe keeps, as a copy of its entries shows it
 pub record Copied (stripe : MemStripe) (entries : List Entry) (total : ℕ) : Type 0 where
-  pub entries_are : entries ≡ stripe.kept
+  pub entries_are : entries ≡ stripe.kept.entries
   pub total_is : total ≡ stripe.total
   pub consistent : Consistent entries
 

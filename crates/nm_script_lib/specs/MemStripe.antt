@@ -87,7 +87,13 @@ pub record AreLoadedLegs (m : MirrorLine) (loads : List Load) (legs : List Power
 
 -- The place of the stripe.
 abbrev pub place_of : MirrorLine → At
-place_of m = record { stripe = 0; blocks = m.blocks; region = m.region; chunk = m.chunk }
+place_of m = record {
+  stripe = 0;
+  blocks = m.blocks;
+  region = m.region;
+  chunk = m.chunk;
+  history = 1024;
+}
 
 -- A new stripe has the mirror's shape, such legs, all of them in sync, and the mirror's first
 -- number and policy.

@@ -58,7 +58,7 @@ JudgesHistory entries total P =
 
 -- The lines of the history that a stripe keeps, which is legal.
 abbrev pub history : MemStripe → List ℕ
-history stripe = history_lines stripe.kept stripe.total true
+history stripe = history_lines stripe.kept.entries stripe.total true
 
 -- What a run writes after its opening: a line for each step, then the history.
 abbrev pub run_text : List (List ℕ) → ScriptStripe → List ℕ

@@ -52,6 +52,9 @@ fn all_in_sync(legs: u8) -> u8
     u8::MAX >> (8 - legs)
 }
 
+/// How many entries of its history the stripe keeps.
+const MOST_KEPT: u16 = 1_024;
+
 /// The place of a mirror's one stripe.
 fn place_of(mirror: &MirrorLine) -> At
     ensures { result ≡ place_of mirror.now }
@@ -61,6 +64,7 @@ fn place_of(mirror: &MirrorLine) -> At
         blocks: mirror.blocks,
         region: mirror.region,
         chunk: mirror.chunk,
+        history: MOST_KEPT,
     }
 }
 

@@ -19,8 +19,8 @@ use std::sync::{Arc, Mutex, Wait};
 use std::thread::Threads;
 use std::time::Clock;
 
-// The passes of who copies legs, and of so many sessions, as far as a mirror makes so many: the last
-// of 64 sessions has one less than others.
+// The passes of who copies legs, and of so many sessions, as far as a mirror makes so many: the
+// last of 64 sessions has one less than others.
 fn passes_of<'a, R: Wait>(
     rt: &R,
     alloc: Global,

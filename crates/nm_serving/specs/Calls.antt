@@ -69,7 +69,8 @@ Read type shape range bytes (Err Io) parts =
 
 -- a write of these bytes to the runs of this range: all of it; nothing, out of memory; or some, and
 -- then a step ended it
-abbrev pub Write : {L : Type 0} → LegType L → Geometry → ByteRange → List ℕ → Answer → Parts → Type 0
+abbrev pub Write : {L : Type 0}
+    → LegType L → Geometry → ByteRange → List ℕ → Answer → Parts → Type 0
 Write type shape range bytes (Ok done) parts =
     HasWritten (Follows type) shape (cuts_for (runs_of_range shape range) bytes) parts
 Write type shape range bytes (Err Memory) parts = parts.1 ≡ parts.0
@@ -123,8 +124,8 @@ abbrev pub state_of : {L : Type 0} → Geometry → Pass L → PassState
 state_of shape pass = record { shape = shape; parts = pass.parts.items }
 
 -- the calls lead from one to the other, and the shape stays
-pub record Leads {L : Type 0} (type : LegType L) (old : PassState) (calls : List TargetCall) (new : PassState)
-    : Type 0 where
+pub record Leads {L : Type 0} (type : LegType L) (old : PassState) (calls : List TargetCall)
+    (new : PassState) : Type 0 where
   pub shape : new.shape ≡ old.shape
   pub calls_lead : LeadMirror type old.shape old.parts calls new.parts
 
@@ -140,7 +141,8 @@ lead-on type shape old mid new (call ∷ first) second before after =
     (before.0, before.1, lead-on type shape before.0 mid new first second before.2 after)
 
 -- calls that follow one another are one list
-pub leads-on : {L : Type 0} (type : LegType L) (old mid new : PassState) (first second : List TargetCall)
+pub leads-on : {L : Type 0} (type : LegType L) (old mid new : PassState)
+    (first second : List TargetCall)
     → Leads type old first mid → Leads type mid second new → Leads type old (first ++ second) new
 leads-on type old mid new first second before after = record {
   shape = after.shape ∙ before.shape;

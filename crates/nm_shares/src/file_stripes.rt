@@ -32,6 +32,7 @@ fn place_of(shape: &Shape, stripe: u32) -> At
         blocks: shape.stripe_blocks(stripe),
         region: shape.region,
         chunk: shape.chunk,
+        history: shape.history,
     }
 }
 

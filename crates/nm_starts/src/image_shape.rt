@@ -12,7 +12,7 @@ pub fn shape_by<'a>(
     files: &LegFiles,
     image: &Superblock,
 ) -> Result<Shape, StartFault<'a>> {
-    let shape = match files.shape(image.stripes) {
+    let shape = match files.shape(image.stripes, settings.history) {
         Some(shape) if fits(&shape, image) => shape,
         _ => return Err(StartFault::OtherMirror(image.leg as usize)),
     };
@@ -30,7 +30,7 @@ fn check_stripes<'a>(
     if !settings.names_stripes {
         return Ok(());
     }
-    match files.shape(settings.stripes) {
+    match files.shape(settings.stripes, settings.history) {
         Some(asked) if asked.stripes != u32::from(image.stripes) => {
             Err(StartFault::OtherStripes(settings.stripes, image.stripes))
         }

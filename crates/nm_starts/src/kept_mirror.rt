@@ -97,7 +97,7 @@ fn open_mirror<'a, R: Files<File = File>>(
         }
         kept => kept,
     };
-    let Some(shape) = files.shape(settings.stripes) else {
+    let Some(shape) = files.shape(settings.stripes, settings.history) else {
         return Err(StartFault::Memory);
     };
     let stripes = open_untold(alloc, settings, files, &shape, read)?;
@@ -226,8 +226,8 @@ fn gone_by<R: Wait>(
     }
 }
 
-// What is found of the legs by the superblocks in these places, and the newest of these. Files under
-// names of legs that it knows and of which none was found are let go of.
+// What is found of the legs by the superblocks in these places, and the newest of these. Files
+// under names of legs that it knows and of which none was found are let go of.
 fn see_legs<'a, R: Files<File = File> + Wait>(
     rt: &R,
     alloc: Global,

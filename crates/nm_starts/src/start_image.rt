@@ -87,7 +87,7 @@ pub fn image_for<'a, R: RandomSource>(
             if let Some((leg, why)) = files.missing() {
                 return Err(StartFault::CannotOpen(leg, why));
             }
-            let Some(shape) = files.shape(settings.stripes) else {
+            let Some(shape) = files.shape(settings.stripes, settings.history) else {
                 return Err(StartFault::Memory);
             };
             let image = first_image(rt, settings, &shape, &seen.legs, lineage)?;

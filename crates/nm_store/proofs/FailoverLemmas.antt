@@ -19,7 +19,7 @@ use Rattle.nm_fanout.proofs.Places.{IsAt-own, set-at}
 use Rattle.nm_fanout.proofs.RunOrder.{ascends-runs, run-at}
 use Rattle.nm_fanout.proofs.Waiting.{waiting-None, waiting-at, waiting-set}
 use Rattle.nm_regions.specs.Table.{RegionTable, regions_of}
-use Rattle.nm_rules.specs.Kept.{kept_with}
+use Rattle.nm_replay.specs.Kept.{KeptEntries, kept_with}
 use Rattle.nm_rules.specs.Lost.{landing}
 use Rattle.nm_rules.specs.Push.{write_entry}
 use Rattle.nm_rules.specs.RunPush.{run_entries}
@@ -117,7 +117,7 @@ absent None is = refl
 absent (Some n) is = absurd cc
 
 -- what is left to do after the run at this place
-pub record RunLands (next place : ℕ) (rs : List Record) (r : Record) (kept : List Entry)
+pub record RunLands (next place : ℕ) (rs : List Record) (r : Record) (kept : KeptEntries)
     : Type 0 where
   pub at : IsAt r.ticket place rs
   pub none : r.entry ≡ None
@@ -127,7 +127,7 @@ pub record RunLands (next place : ℕ) (rs : List Record) (r : Record) (kept : L
       (kept_with (run_entries next (laid_out r)) kept) ≡ kept_with (landing next (flat rs)) kept
   pub count : unlanded_blocks (landed r.ticket next rs) + blocks_in r.data ≡ unlanded_blocks rs
 
-lands-at : (next place : ℕ) (rs : List Record) (r : Record) (kept : List Entry) → AreRuns rs
+lands-at : (next place : ℕ) (rs : List Record) (r : Record) (kept : KeptEntries) → AreRuns rs
     → slice_get rs place ≡ Some r → is_none r.entry ≡ true → AllBefore place rs r
     → RunLands next place rs r kept
 lands-at next place rs r kept h there waits before =
@@ -156,7 +156,7 @@ lands-at next place rs r kept h there waits before =
       );
     }
 
-pub run-lands-next : (next place : ℕ) (rs : List Record) (r : Record) (kept : List Entry)
+pub run-lands-next : (next place : ℕ) (rs : List Record) (r : Record) (kept : KeptEntries)
     → AreRuns rs → first_unlanded rs ≡ Some place → slice_get rs place ≡ Some r
     → RunLands next place rs r kept
 run-lands-next next place rs r kept h first there =
@@ -182,7 +182,7 @@ all-done next (r ∷ rs) d all =
     )
 
 -- where none is left all is done
-pub all-runs-landed : (next : ℕ) (rs : List Record) (kept : List Entry) → length kept ≤ 1024
+pub all-runs-landed : (next : ℕ) (rs : List Record) (kept : KeptEntries) → length kept.entries ≤ kept.most
     → first_unlanded rs ≡ None
     → (runs_landed next rs ≡ rs) × (kept_with (landing next (flat rs)) kept ≡ kept)
     × (unlanded_blocks rs ≡ 0)

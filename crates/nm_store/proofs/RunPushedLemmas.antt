@@ -8,7 +8,7 @@ use Rattle.nm_fanout.specs.RecordData.{blocks_in}
 use Rattle.nm_fanout.specs.Records.{IsAt, landed, reached}
 use Rattle.nm_fanout.specs.Runs.{AreRuns, flat, laid_out}
 use Rattle.nm_fanout.proofs.Laying.{length-run}
-use Rattle.nm_rules.specs.Kept.{kept_with}
+use Rattle.nm_replay.specs.Kept.{KeptEntries, kept_with}
 use Rattle.nm_rules.specs.Lost.{settled}
 use Rattle.nm_rules.specs.RunPush.{after_push_run, land_each, reach_each, run_entries, run_landed, run_lands, run_reached}
 use Rattle.nm_rules.specs.Runs.{of_run}
@@ -45,7 +45,7 @@ module _ {L : Type 0} (old : StripeState L) (rs : List Record) (is : old.records
       ap (λ (l : List Record). settled (record old { records = l })) all
       ∙ ap (λ (b : Bool). cond {A = StripeState L} b (run_landed old old.legs run leg) (run_reached old old.legs run leg)) (sym (as-first ∙ stays))
 
-  abbrev lands_in : List Record → List Entry → ℕ → StripeState L
+  abbrev lands_in : List Record → KeptEntries → ℕ → StripeState L
   lands_in records kept total = record old { records = records; kept = kept; total = total }
 
   pub pushes-land : ((leg == old.master) && is_none x.entry) ≡ true

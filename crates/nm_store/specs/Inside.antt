@@ -24,7 +24,7 @@ state_of s = record {
   chunk = s.buffer.chunk;
   records = flat s.records;
   tickets = s.tickets;
-  kept = s.kept.entries;
+  kept = s.kept.last;
   first = s.first;
   total = s.kept.total;
 }

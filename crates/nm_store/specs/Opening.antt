@@ -13,5 +13,5 @@ pub record IsRoom (place : At) (legs bits : ℕ) (room : Room) : Type 0 where
   pub regions : room.regions ≡ regions.opened place.blocks place.region (bits_from bits legs 0)
   pub buffer : room.buffer ≡ empty place.chunk
   pub records : room.records ≡ []
-  pub kept : room.kept.entries ≡ []
+  pub last : room.kept.last ≡ record { entries = []; most = place.history }
   pub total : room.kept.total ≡ 0

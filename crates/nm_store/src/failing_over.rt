@@ -2,7 +2,7 @@
 ghost use Rattle.std.specs.Prelude.{◌≡◌, ◌+◌, ◌≤◌, ◌^◌, max};
 ghost use Rattle.nm_fanout.specs.Records.{unlanded};
 ghost use Rattle.nm_fanout.specs.Runs.{flat, runs_landed, unlanded_blocks};
-ghost use Rattle.nm_rules.specs.Kept.{kept_with};
+ghost use Rattle.nm_replay.specs.Kept.{kept_with};
 ghost use Rattle.nm_rules.specs.State.{next_number};
 ghost use Rattle.nm_rules.specs.Lost.{landing, failed_over};
 ghost use Rattle.nm_store.specs.Landing.{AreWords};
@@ -20,8 +20,8 @@ fn land_all(records: &mut Records, kept: &mut Kept, first: u64)
     requires numbers { first + kept.old.total + unlanded_blocks records.old ≤ max (2 ^ 63) first }
     requires words { AreWords records.old }
     ensures records { records.new ≡ runs_landed (first + kept.old.total) records.old }
-    ensures entries { kept.new.entries
-        ≡ kept_with (landing (first + kept.old.total) (flat records.old)) kept.old.entries }
+    ensures last { kept.new.last
+        ≡ kept_with (landing (first + kept.old.total) (flat records.old)) kept.old.last }
     ensures total { kept.new.total ≡ kept.old.total + unlanded_blocks records.old }
 {
     let mut number = first + kept.total();

@@ -5,7 +5,7 @@ ghost use Rattle.nm_fanout.specs.Record.{IsRun};
 ghost use Rattle.nm_fanout.specs.RecordData.{blocks_in};
 ghost use Rattle.nm_fanout.specs.Records.{IsAt, landed};
 ghost use Rattle.nm_fanout.specs.Runs.{laid_out};
-ghost use Rattle.nm_rules.specs.Kept.{kept_with};
+ghost use Rattle.nm_replay.specs.Kept.{kept_with};
 ghost use Rattle.nm_rules.specs.RunPush.{run_entries};
 ghost use Rattle.nm_store.specs.Landing.{MayLand};
 
@@ -16,8 +16,8 @@ use nm_replay::{BLOCK_BYTES, Block, Entry, Kept, Kind};
 fn keep_entries(kept: &mut Kept, run: &Record, number: u64)
     requires run { IsRun run.now }
     requires may { MayLand run.now number kept.old.total }
-    ensures entries { kept.new.entries
-        ≡ kept_with (run_entries number (laid_out run.now)) kept.old.entries }
+    ensures last { kept.new.last
+        ≡ kept_with (run_entries number (laid_out run.now)) kept.old.last }
     ensures total { kept.new.total ≡ kept.old.total + blocks_in run.now.data }
 {
     if let RecordData::Merged { from, len, .. } = &run.data {
@@ -43,8 +43,8 @@ pub(crate) fn land_run(records: &mut Records, kept: &mut Kept, place: usize, num
         → MayLand r number kept.old.total }
     ensures records { (ticket : ℕ) → IsAt ticket place records.old
         → records.new ≡ landed ticket number records.old }
-    ensures entries { (r : Record) → slice_get records.old place ≡ Some r
-        → kept.new.entries ≡ kept_with (run_entries number (laid_out r)) kept.old.entries }
+    ensures last { (r : Record) → slice_get records.old place ≡ Some r
+        → kept.new.last ≡ kept_with (run_entries number (laid_out r)) kept.old.last }
     ensures total { (r : Record) → slice_get records.old place ≡ Some r
         → kept.new.total ≡ kept.old.total + blocks_in r.data }
 {

@@ -72,7 +72,7 @@ impl Room {
             regions: Regions::new(alloc, place.blocks, place.region, &in_sync)?,
             buffer: CopyBuffer::new(alloc, place.chunk)?,
             records: Records::new(alloc)?,
-            kept: Kept::new(alloc)?,
+            kept: Kept::new(alloc, place.history)?,
         })
     }
 }

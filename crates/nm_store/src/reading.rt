@@ -2,7 +2,7 @@
 ghost use Rattle.std.specs.Prelude.{◌≡◌, ◌+◌, ◌*◌, ◌<◌, ◌≤◌, ◌^◌, [], length, is_ok, Some};
 ghost use Rattle.nm_leg.specs.Leg.{blocks_in, blocks_of, leg_type};
 ghost use Rattle.nm_leg.specs.LegCalls.{HasRun};
-ghost use Rattle.nm_rules.specs.Kept.{kept_with};
+ghost use Rattle.nm_replay.specs.Kept.{kept_with};
 ghost use Rattle.nm_rules.specs.RunCalls.{ReadsRunAt};
 ghost use Rattle.nm_rules.specs.RunRead.{after_read_run, last_block, read_entries};
 ghost use Rattle.nm_rules.specs.Runs.{FitsRun};
@@ -37,8 +37,8 @@ fn keep_blocks(kept: &mut Kept, number: u64, block: u64, bytes: &[u8])
     requires numbers { number + blocks_in bytes.now ≤ 2 ^ 63 }
     requires blocks { block + blocks_in bytes.now < 2 ^ 64 }
     requires whole { length bytes.now ≡ 512 * blocks_in bytes.now }
-    ensures entries { kept.new.entries
-        ≡ kept_with (read_entries number block (blocks_of bytes.now)) kept.old.entries }
+    ensures last { kept.new.last
+        ≡ kept_with (read_entries number block (blocks_of bytes.now)) kept.old.last }
     ensures total { kept.new.total ≡ kept.old.total + blocks_in bytes.now }
 {
     kept.push_run(number, Kind::Read, block, bytes);

@@ -50,7 +50,7 @@ concat-push [] events = append-nil events
 concat-push (p ∷ lists) events = ap (λ es. p ++ es) (concat-push lists events) ∙ sym (append_assoc p (concat lists) events)
 
 -- no steps, and one step more
-pub none-acts : {L : Type 0} (model : L → Leg) (stripe : StripeState L) → length stripe.kept ≡ min 1024 stripe.total → ActOnOneArray model [] [] stripe stripe
+pub none-acts : {L : Type 0} (model : L → Leg) (stripe : StripeState L) → length stripe.kept.entries ≡ min stripe.kept.most stripe.total → ActOnOneArray model [] [] stripe stripe
 none-acts model stripe few = record { events_of_each = []; interleaving = tt; acts = acts-none model stripe few }
 
 pub act-push : {L : Type 0} (model : L → Leg) (old mid new : StripeState L) (steps : List (Step L)) (answers : List (Answer L)) (step : Step L) (answer : Answer L)
@@ -193,7 +193,7 @@ pub record HasRun {L : Type 0} (type : LegType L) (old : StripeState L) (steps r
   pub acts : IsTrue type.honest → NoneHalted answers → ActOnOneArray type.model done answers old now
   pub asked : AllAsked type.model now (reverse rest)
 
-pub run-begins : {L : Type 0} (type : LegType L) (old : StripeState L) (steps : List (Step L)) → length old.kept ≡ min 1024 old.total → AllAsked type.model old steps → HasRun type old steps (reverse steps) [] old
+pub run-begins : {L : Type 0} (type : LegType L) (old : StripeState L) (steps : List (Step L)) → length old.kept.entries ≡ min old.kept.most old.total → AllAsked type.model old steps → HasRun type old steps (reverse steps) [] old
 run-begins type old steps few asked = record {
   done = [];
   split = reverse-reverse steps;

@@ -192,8 +192,8 @@ impl<L: LegPart> Stripe<L> {
 
     /// A copy of the kept entries, by rising number.
     pub fn entries(&self, alloc: Global) -> Result<Vec<Entry>, Memory>
-        ensures ok { IfOk result (λ copy. copy.items ≡ self.now.kept) }
-        ensures memory_only_at_growth { self.now.kept ≡ [] → IsOk result }
+        ensures ok { IfOk result (λ copy. copy.items ≡ self.now.kept.entries) }
+        ensures memory_only_at_growth { self.now.kept.entries ≡ [] → IsOk result }
     {
         self.store.entries(alloc)
     }

@@ -47,7 +47,8 @@ fn others_give<L: LegPart>(
     requires run { FitsRun stripe.old.place block (blocks_in held.now) }
     requires whole { length held.now ≡ 512 * blocks_in held.now }
     requires room { length held.now ≤ length found.old }
-    ensures all { IsTrue result → AllGive (leg_type L.model L.honest) but block stripe.old held.now }
+    ensures all { IsTrue result
+        → AllGive (leg_type L.model L.honest) but block stripe.old held.now }
     ensures others { stripe.new ≡ record stripe.old { legs = stripe.new.legs } }
     ensures long { length found.new ≡ length found.old }
 {

@@ -10,8 +10,10 @@ returns-clause-ok c =
     let served = c.in_ok-program.ensures.ok ∙ ap with_client_options kept in
     let one = c.in_ok-with_sessions.ensures.shape c.number_option-sessions.ensures.own
     ∙ ap₂ with_rule served c.number_option-sessions.ensures.rule in
+    let kept_entries = c.in_ok-with_history.ensures.shape c.number_option-history.ensures.own
+    ∙ ap₂ with_rule one c.number_option-history.ensures.rule in
     let two = c.in_ok-with_read_only.ensures.shape c.lettered_flag-read_only.ensures.own
-    ∙ ap₂ with_rule one c.lettered_flag-read_only.ensures.rule in
+    ∙ ap₂ with_rule kept_entries c.lettered_flag-read_only.ensures.rule in
     let three = c.in_ok-with_flags.ensures.shape c.flag-force_in_use.ensures.own
     ∙ ap₂ with_rule two c.flag-force_in_use.ensures.rule in
     let all : app_of c.in_ok-command.command ≡ nbdmirror line.0 line.2.0 =

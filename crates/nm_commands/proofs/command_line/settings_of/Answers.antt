@@ -37,6 +37,7 @@ returns-clause-ok c =
       leg_timeout = said_number_if_any f rows (codes "leg-timeout") _ refl
           c.in_ok-leg_timeout.ensures.some c.in_ok-leg_timeout.ensures.none;
       sessions = said_number f rows (codes "sessions") _ refl c.in_ok-sessions.ensures.ok;
+      history = said_number f rows (codes "history") _ refl c.in_ok-history.ensures.ok;
       idle_limit = said_number_if_any f rows (codes "idle-limit") _ refl
           c.in_ok-idle_limit.ensures.some c.in_ok-idle_limit.ensures.none;
       verbose = said_flag f rows (codes "verbose") _ refl c.get_flag-4.ensures.value

@@ -1,8 +1,8 @@
 -- Whole blocks have an entry each, cut out of the run's bytes.
-use Rattle.std.proofs.Common.{◌≡◌, ℕ, ◌++◌, ◌/◌, List, length, sym, ap, ◌∙◌, arith}
+use Rattle.std.proofs.Common.{◌≡◌, ℕ, ◌/◌, List, length, sym, ap, ◌∙◌, arith}
 use Rattle.nm_replay.specs.declared.entry.Entry.{Entry}
 use Rattle.nm_replay.specs.Array.{Entire}
-use Rattle.nm_replay.specs.Kept.{last_kept}
+use Rattle.nm_replay.specs.Kept.{kept_with}
 use Rattle.nm_fanout.specs.RecordData.{bytes_of, span_of}
 use Rattle.nm_fanout.specs.Runs.{entries_from}
 use Rattle.nm_store.proofs.RunEntryLemmas.{entries-whole, no-part}
@@ -11,13 +11,13 @@ use Rattle.nm_store.proofs.landing.keep_entries.Goals as goal
 pub returns : goal.returns
 returns c =
     let r = c.args.run.now in
-    let old = c.args.kept.now.entries in
+    let old = c.args.kept.now.last in
     let whole : span_of r.data ≡ Entire = no-part r.data c.in_default.not-Merged in
     let bytes : c.bytes-2.result.now ≡ bytes_of r.data = c.bytes-2.ensures.bytes in
     record {
-      entries = c.keep_run.ensures.entries
-          ∙ ap (λ (bs : List ℕ). last_kept (old ++ entries_from (length bs / 512) c.args.number r.ticket r.block bs)) bytes
-          ∙ ap (λ (es : List Entry). last_kept (old ++ es)) (sym (entries-whole c.args.number r whole));
+      last = c.keep_run.ensures.last
+          ∙ ap (λ (bs : List ℕ). kept_with (entries_from (length bs / 512) c.args.number r.ticket r.block bs) old) bytes
+          ∙ ap (λ (es : List Entry). kept_with es old) (sym (entries-whole c.args.number r whole));
       total = omega (
         arith,
         c.keep_run.ensures.total,

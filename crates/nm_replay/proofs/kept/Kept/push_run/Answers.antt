@@ -3,8 +3,8 @@ use Rattle.std.proofs.Common.{◌≡◌, ℕ, ◌+◌, ◌-◌, ◌*◌, ◌/◌
 use Rattle.nm_replay.specs.declared.entry.Entry.{Entry}
 use Rattle.nm_replay.specs.declared.head.Head.{Head}
 use Rattle.nm_replay.specs.Heads.{heads_from, joined}
-use Rattle.nm_replay.specs.Kept.{last_kept, run_from}
-use Rattle.nm_replay.proofs.Heads.{joined-kept, joined-run, length-heads_from}
+use Rattle.nm_replay.specs.Kept.{kept_with, last_kept, run_from}
+use Rattle.nm_replay.proofs.Heads.{joined-kept, joined-run, kept_of, length-heads_from}
 use Rattle.nm_replay.proofs.kept.Kept.push_run.Goals as goal
 
 pub invariant_of-self : goal.invariant_of-self
@@ -14,33 +14,32 @@ invariant_of-self c =
     let b = c.args.bytes.now in
     let n : ℕ = length b / 512 in
     let more : List Head = heads_from n c.new.result in
-    let heads : length c.add_heads.new.heads.items ≡ min 1024 (c.self.inside.total + n) = omega (
+    let most : ℕ = c.self.inside.heads.capacity in
+    let heads : length c.add_heads.new.heads.items ≡ min most (c.self.inside.total + n) = omega (
       arith,
       ap (λ xs. length xs) c.add_heads.ensures.items,
-      c.self.invariant.0,
-      length-drop (length (hs ++ more) - c.self.inside.heads.capacity) (hs ++ more),
+      length-drop (length (hs ++ more) - most) (hs ++ more),
       length-append hs more,
       length-heads_from n c.new.result,
-      c.self.invariant.2,
+      c.self.invariant.1,
     ) in
-    let bytes : length c.extend_from_slice.new.self.items ≡ 512 * min 1024 (c.self.inside.total + n) = omega (
+    let bytes : length c.extend_from_slice.new.self.items ≡ 512 * min most (c.self.inside.total + n) = omega (
       arith,
       ap (λ x. length x.items) c.extend_from_slice.ensures,
-      c.self.invariant.1,
+      c.self.invariant.0,
       length-drop (length (bs ++ b) - c.self.inside.bytes.capacity) (bs ++ b),
       length-append bs b,
       c.requires.whole,
+      c.self.invariant.1,
       c.self.invariant.2,
-      c.self.invariant.3,
     ) in (
-      c.add_heads.ensures.capacity ∙ c.self.invariant.0,
-      ap (λ x. x.capacity) c.extend_from_slice.ensures ∙ c.self.invariant.1,
-      heads,
+      ap (λ x. x.capacity) c.extend_from_slice.ensures ∙ c.self.invariant.0 ∙ ap (λ k. 512 * k) (sym c.add_heads.ensures.capacity),
+      heads ∙ ap (λ k. min k (c.self.inside.total + n)) (sym c.add_heads.ensures.capacity),
       bytes ∙ ap (λ k. 512 * k) (sym heads),
     )
 
-pub returns-clause-entries : goal.returns-clause-entries
-returns-clause-entries c =
+pub returns-clause-last : goal.returns-clause-last
+returns-clause-last c =
     let hs = c.self.inside.heads.items in
     let bs = c.self.inside.bytes.items in
     let b = c.args.bytes.now in
@@ -48,14 +47,14 @@ returns-clause-entries c =
     let h : Head = c.new.result in
     let more : List Head = heads_from n h in
     let run : List Entry = run_from n c.args.number c.args.kind c.args.block b in
-    let heads : c.add_heads.new.heads.items ≡ drop (length (hs ++ more) - 1024) (hs ++ more) =
-    c.add_heads.ensures.items ∙ ap (λ k. drop (length (hs ++ more) - k) (hs ++ more)) c.self.invariant.0 in
-    let bytes : c.extend_from_slice.new.self.items ≡ drop (length (bs ++ b) - 524288) (bs ++ b) =
-    ap (λ x. x.items) c.extend_from_slice.ensures ∙ ap (λ k. drop (length (bs ++ b) - k) (bs ++ b)) c.self.invariant.1 in
+    let most : ℕ = c.self.inside.heads.capacity in
+    let bytes : c.extend_from_slice.new.self.items ≡ drop (length (bs ++ b) - 512 * most) (bs ++ b) =
+    ap (λ x. x.items) c.extend_from_slice.ensures ∙ ap (λ k. drop (length (bs ++ b) - k) (bs ++ b)) c.self.invariant.0 in
     let size : length b ≡ 512 * length more = omega (arith, c.requires.whole, length-heads_from n h) in
     let is_run : joined more b ≡ run = ap (λ x. joined (heads_from n x) b) c.new.ensures ∙ joined-run n c.args.number c.args.kind c.args.block b in
-    ap (λ x. joined x c.extend_from_slice.new.self.items) heads
-    ∙ ap (λ x. joined (drop (length (hs ++ more) - 1024) (hs ++ more)) x) bytes
-    ∙ joined-kept hs more bs b c.self.invariant.3 size
-    ∙ ap (λ x. last_kept (joined hs bs ++ x)) is_run
-    ∙ ap (λ k. last_kept (k.entries ++ run)) c.self.view_is
+    ap (λ k. kept_of k (joined c.add_heads.new.heads.items c.extend_from_slice.new.self.items)) c.add_heads.ensures.capacity
+    ∙ ap (λ es. kept_of most es) (ap (λ x. joined x c.extend_from_slice.new.self.items) c.add_heads.ensures.items
+    ∙ ap (λ x. joined (drop (length (hs ++ more) - most) (hs ++ more)) x) bytes
+    ∙ joined-kept most hs more bs b c.self.invariant.2 size
+    ∙ ap (λ x. last_kept most (joined hs bs ++ x)) is_run)
+    ∙ ap (λ k. kept_with run k.last) c.self.view_is

@@ -40,4 +40,4 @@ returns g c =
     let old = state_of c.self.inside in
     let list : flat c.land_all.new.records ≡ landed_all (next_number old) old.records = ap (λ (l : List Record). flat l) c.land_all.ensures.records ∙ flat-landed_all (next_number old) c.self.inside.records in
     let total : c.land_all.new.kept.total ≡ old.total + unlanded old.records = c.land_all.ensures.total ∙ ap (λ (n : ℕ). old.total + n) (sym (flat-unlanded c.self.inside.records)) in
-    rw (list, c.land_all.ensures.entries, total, ← c.self.view_is) (search rules)
+    rw (list, c.land_all.ensures.last, total, ← c.self.view_is) (search rules)

@@ -8,7 +8,7 @@ use Rattle.nm_fanout.specs.Records.{IsAt, landed, reached, unlanded}
 use Rattle.nm_fanout.specs.Runs.{flat, laid_out}
 use Rattle.nm_fanout.proofs.FlatSteps.{flat-unlanded}
 use Rattle.nm_regions.specs.Table.{RegionTable}
-use Rattle.nm_rules.specs.Kept.{kept_with}
+use Rattle.nm_replay.specs.Kept.{kept_with}
 use Rattle.nm_rules.specs.Lost.{settled}
 use Rattle.nm_rules.specs.RunPush.{after_push_run, push_run_cause, run_entries}
 use Rattle.nm_rules.specs.Runs.{of_run}
@@ -133,7 +133,7 @@ returns g c =
           let records : w.land_run.new.records ≡ landed x.ticket n (reached x.ticket leg rs) = w.land_run.ensures.records x.ticket (subst (λ (l : List Record). IsAt x.ticket place l) (sym list) p.at_after)
           ∙ ap (λ (l : List Record). landed x.ticket (old.first + w.total.result) l) list ∙ ap (λ (k : ℕ). landed x.ticket k (reached x.ticket leg rs)) number in
           let here : slice_get c.reach_run.new.records place ≡ Some y = ap (λ (l : List Record). slice_get l place) list ∙ p.after in
-          let entries : w.land_run.new.kept.entries ≡ kept_with (run_entries n (laid_out y)) old.kept = w.land_run.ensures.entries y here ∙ ap (λ (k : ℕ). kept_with (run_entries k (laid_out y)) old.kept) number in
+          let entries : w.land_run.new.kept.last ≡ kept_with (run_entries n (laid_out y)) old.kept = w.land_run.ensures.last y here ∙ ap (λ (k : ℕ). kept_with (run_entries k (laid_out y)) old.kept) number in
           let total : w.land_run.new.kept.total ≡ old.total + blocks_in x.data = w.land_run.ensures.total y here in
           let now : c.if-lands.self ≡ record old { records = flat (landed x.ticket n (reached x.ticket leg rs)); kept = kept_with (run_entries n (laid_out y)) old.kept; total = old.total + blocks_in x.data } = w.self-is ∙ rw (c.reach_run.ensures.counts, records, entries, total) refl in
           c.settle.ensures ∙ ap (λ (s : StripeState _). settled s) now ∙ pushes-land old rs refl x.ticket place leg x c.find.ensures.in_order p.at c.at.ensures.found lands ∙ named
