@@ -85,6 +85,14 @@ def free_port():
                 pass
 
 
+def free_ports(count):
+    """So many of them, no two the same."""
+    ports = set()
+    while len(ports) < count:
+        ports.add(free_port())
+    return list(ports)
+
+
 def used_by(pid):
     """Threads, descriptors, and memory in KiB of a process."""
     with open(f"/proc/{pid}/status", encoding="ascii") as file:
@@ -148,7 +156,7 @@ class Server:
 
     def launch(self, options=()):
         """Starts it at free ports, and does not wait."""
-        self.port, self.control_port = free_port(), free_port()
+        self.port, self.control_port = free_ports(2)
         words = [self.program, "--listen", f"127.0.0.1:{self.port}",
                  "--control", f"127.0.0.1:{self.control_port}", *self.options, *options, *self.files]
 
@@ -433,4 +441,4 @@ class Client:
 
 if __name__ == "__main__":
     assert sys.argv[1] == "ports", __doc__
-    print(*(free_port() for _ in range(int(sys.argv[2]))))
+    print(*free_ports(int(sys.argv[2])))

@@ -88,7 +88,7 @@ class SameCommand(h.Server):
     def launch(self, options=()):
         """Starts it, and does not wait. Until it has started once another port may be tried."""
         if not self.words:
-            self.port, self.control_port = h.free_port(), h.free_port()
+            self.port, self.control_port = h.free_ports(2)
             self.words = [self.program, "--listen", f"127.0.0.1:{self.port}",
                           "--control", f"127.0.0.1:{self.control_port}", *self.options, *self.files]
         assert not options, "another command"

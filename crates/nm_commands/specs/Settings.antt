@@ -12,12 +12,17 @@ use Rattle.clap.specs.declared.parser.matches.ValueSource.{ValueSource}
 use Rattle.clap.specs.declared.parser.matches.ValueSource.TheVariants.{CommandLine}
 use Rattle.nm_choice.specs.declared.policy.Policy.{Policy}
 use Rattle.nm_choice.specs.declared.policy.Policy.TheVariants.{RoundRobin, Striped}
+use Rattle.nm_commands.specs.declared.client_settings.ClientSettings.{ClientSettings}
+use Rattle.nm_commands.specs.declared.copy_settings.CopySettings.{CopySettings}
+use Rattle.nm_commands.specs.declared.listen_settings.ListenSettings.{ListenSettings}
+use Rattle.nm_commands.specs.declared.mirror_settings.MirrorSettings.{MirrorSettings}
+use Rattle.nm_commands.specs.declared.opening_settings.OpeningSettings.{OpeningSettings}
+use Rattle.nm_commands.specs.declared.server_settings.Settings.{Settings}
 use Rattle.nm_commands.specs.declared.start.Start.{Start}
 use Rattle.nm_commands.specs.declared.start.Start.TheVariants.{Compare, Equal, Full}
 use Rattle.nm_commands.specs.declared.superblock_place.SuperblockPlace.{SuperblockPlace}
 use Rattle.nm_commands.specs.declared.superblock_place.SuperblockPlace.TheVariants.{Beside, Folder}
 use Rattle.nm_commands.specs.declared.superblock_place.SuperblockPlace.TheVariants.{Inside, Nowhere}
-use Rattle.nm_commands.specs.declared.server_settings.Settings.{Settings}
 use Rattle.nm_commands.specs.CommandLine.{ArePolicies, AreStarts, nbdmirror}
 
 -- The word for a policy.
@@ -83,15 +88,23 @@ TellsNamed rows id told = IsTrue told ↔ IsNamed id rows
 abbrev pub NamesTwo : List Row → Type 0
 NamesTwo rows = IsNamed (codes "listen") rows × IsNamed (codes "port") rows
 
--- The settings are the values that the rows have.
-pub record HasSettings (rows : List Row) (s : Settings) : Type 0 where
-  pub listen : first_of (codes "listen") rows ≡ Some s.listen.now
+-- Clients and control connect where the rows say.
+pub record HasListening (rows : List Row) (s : ListenSettings) : Type 0 where
+  pub address : first_of (codes "listen") rows ≡ Some s.address.now
   pub port : HasNumber rows (codes "port") s.port
   pub control : first_of (codes "control") rows ≡ Some s.control.now
-  pub name : first_of (codes "name") rows ≡ Some s.name.now
+
+-- The mirror is the one that the rows say.
+pub record HasMirror (rows : List Row) (s : MirrorSettings) : Type 0 where
+  pub legs : all_of (codes "leg") rows ≡ Some (map (λ leg. leg.now) s.legs.items)
+  pub force_in_use : HasFlag rows (codes "force-in-use") s.force_in_use
   pub stripes : IsNumber (one_of (codes "stripes") rows) s.stripes
   pub names_stripes : TellsNamed rows (codes "stripes") s.names_stripes
   pub policy : first_of (codes "policy") rows ≡ Some (policy_text s.policy)
+  pub history : IsNumber (one_of (codes "history") rows) s.history
+
+-- The mirror is opened as the rows say.
+pub record HasOpening (rows : List Row) (s : OpeningSettings) : Type 0 where
   pub master : HasNumber rows (codes "master") s.master
   pub start : first_of (codes "start") rows ≡ Some (start_text s.start)
   pub superblock : IsPlaceOf (first_of (codes "superblock") rows) s.superblock
@@ -102,16 +115,28 @@ pub record HasSettings (rows : List Row) (s : Settings) : Type 0 where
   pub added : AreAll (all_of (codes "add-leg") rows) (map (λ leg. leg.now) s.added.items)
   pub moved : AreAll (all_of (codes "moved") rows) (map (λ leg. leg.now) s.moved.items)
   pub shrink : HasFlag rows (codes "shrink") s.shrink
+
+-- Legs are copied as the rows say.
+pub record HasCopies (rows : List Row) (s : CopySettings) : Type 0 where
   pub auto_attach : HasFlag rows (codes "auto-attach") s.auto_attach
   pub copy_rate : HasNumber rows (codes "copy-rate") s.copy_rate
   pub leg_timeout : HasNumber rows (codes "leg-timeout") s.leg_timeout
+
+-- Clients are served as the rows say.
+pub record HasClients (rows : List Row) (s : ClientSettings) : Type 0 where
+  pub export : first_of (codes "name") rows ≡ Some s.export.now
+  pub read_only : HasFlag rows (codes "read-only") s.read_only
   pub sessions : IsNumber (one_of (codes "sessions") rows) s.sessions
-  pub history : IsNumber (one_of (codes "history") rows) s.history
   pub idle_limit : HasNumber rows (codes "idle-limit") s.idle_limit
   pub verbose : HasFlag rows (codes "verbose") s.verbose
-  pub read_only : HasFlag rows (codes "read-only") s.read_only
-  pub force_in_use : HasFlag rows (codes "force-in-use") s.force_in_use
-  pub legs : all_of (codes "leg") rows ≡ Some (map (λ leg. leg.now) s.legs.items)
+
+-- The settings are the values that the rows have, subject by subject.
+pub record HasSettings (rows : List Row) (s : Settings) : Type 0 where
+  pub listening : HasListening rows s.listening
+  pub mirror : HasMirror rows s.mirror
+  pub opening : HasOpening rows s.opening
+  pub copies : HasCopies rows s.copies
+  pub clients : HasClients rows s.clients
 
 -- The settings are those that the words of a command line ask for, with the defaults for the rest.
 -- Such words have no fault, and not both an address and a port for clients.

@@ -1,9 +1,10 @@
 //! The values of options that any of them may have.
-ghost use Rattle.std.specs.Prelude.{◌≡◌, None, Some, IfErr, IfOk, IfSome};
-ghost use Rattle.clap.specs.Words.{first_value, found_of, kind_of, one_text};
+ghost use Rattle.std.specs.Prelude.{◌≡◌, ◌↔◌, None, Some, IfErr, IfOk, IfSome, IsTrue};
+ghost use Rattle.clap.specs.Words.{first_value, found_of, kind_of, one_text, rows_of};
 ghost use Rattle.clap.specs.declared.error.kind.ErrorKind.TheVariants.{OutOfMemory};
-ghost use Rattle.nm_commands.specs.Settings.{IsNumber};
+ghost use Rattle.nm_commands.specs.Settings.{IsNamed, IsNumber};
 
+use clap::parser::ValueSource;
 use clap::{ArgMatches, Error};
 use std::alloc::AllocError;
 
@@ -52,4 +53,11 @@ pub fn bare_number(matches: &ArgMatches<'_>, id: &str) -> Result<Option<u8>, Err
         None => Ok(None),
         Some(_) => Ok(Some(number(matches, id)?)),
     }
+}
+
+/// Whether the words themselves have this option.
+pub fn is_named(matches: &ArgMatches<'_>, id: &str) -> bool
+    ensures { IsTrue result ↔ IsNamed id.now (rows_of (found_of matches.now)) }
+{
+    matches.value_source(id) == Some(ValueSource::CommandLine)
 }

@@ -6,32 +6,27 @@ use crate::missing_legs::MissingLegs;
 use crate::replacing::{RenewsLegs, Replaced, replace_now};
 use crate::retiring::{Retired, retire_now};
 use crate::verify_desk::VerifyDesk;
-use nm_geometry::MOST_LEGS;
 use nm_lanes::Gate;
 use nm_leg::LegPart;
 use nm_leg_files::CallLimit;
 use nm_mirror::{AttachCounts, FailCounts, Mirror};
 use nm_reports::MirrorDoubts;
+use nm_service::LegOrders;
 use std::alloc::Global;
 use std::sync::atomic::{AtomicBool, AtomicU32, Ordering};
-use std::sync::{Mutex, Wait};
+use std::sync::{Condvar, Mutex, Wait};
 
-/// How many legs there are at most.
-const LEGS: usize = MOST_LEGS as usize;
-
-/// Whether each leg was taken out by hand, and not attached since.
-pub type ByHand = [bool; LEGS];
-
-/// The rate of copies, the legs that were taken out by hand, those that are being replaced, the
-/// order to compare legs, and whether copies begin again.
+/// The rate of copies, what is ordered of each leg, the order to compare legs, and whether copies
+/// begin again.
 #[derive(Drop)]
 pub struct CopyOrders {
     // In MiB a second; 0 where none is set.
     rate: AtomicU32,
-    by_hand: Mutex<ByHand>,
+    // Nobody waits for anything who has this lock.
+    legs: Mutex<LegOrders>,
+    // A command on a leg has ended.
+    ended: Condvar,
     verify: VerifyDesk,
-    // Nobody waits for a lock who has this one.
-    replaced: Mutex<ByHand>,
     // How many of the last legs are out for good.
     retired: AtomicU32,
     wants_round: AtomicBool,
@@ -41,26 +36,14 @@ pub struct CopyOrders {
     doubts: MirrorDoubts,
 }
 
-// Notes of a leg whether it is so.
-fn note(legs: &mut ByHand, leg: u8, is_so: bool) {
-    if let Some(place) = legs.get_mut(leg as usize) {
-        *place = is_so;
-    }
-}
-
-// Whether the leg is noted.
-fn is_noted(legs: &ByHand, leg: u8) -> bool {
-    legs.get(leg as usize).copied().unwrap_or(false)
-}
-
 impl CopyOrders {
     /// Copies at this rate, in MiB a second, or at what clients leave; no leg was taken out.
     pub fn new(rate: Option<u16>) -> CopyOrders {
         CopyOrders {
             rate: AtomicU32::new(u32::from(rate.unwrap_or(0))),
-            by_hand: Mutex::new([false; LEGS]),
+            legs: Mutex::new(LegOrders::new()),
+            ended: Condvar::new(),
             verify: VerifyDesk::new(),
-            replaced: Mutex::new([false; LEGS]),
             retired: AtomicU32::new(0),
             wants_round: AtomicBool::new(false),
             missing: MissingLegs::none(),
@@ -150,6 +133,39 @@ impl CopyOrders {
         self.wants_round.swap(false, Ordering::SeqCst)
     }
 
+    // Begins to take the leg out or to attach it, once nobody does so. Whether it stayed out
+    // before: none while it is being replaced.
+    fn begin_move<R: Wait>(&self, rt: &R, leg: u8) -> Option<bool> {
+        let legs = self.legs.lock(rt);
+        let mut legs = self.ended.wait_while(rt, legs, |legs| legs.is_moving(leg));
+        legs.begin_move(leg)
+    }
+
+    // The same, which waits for nobody: none where a command on the leg is under way.
+    fn begin_move_now<R: Wait>(&self, rt: &R, leg: u8) -> Option<bool> {
+        let mut legs = self.legs.lock(rt);
+        legs.begin_move(leg)
+    }
+
+    // Ends the command on the leg, which stays out from now on or not.
+    fn end_command<R: Wait>(&self, rt: &R, leg: u8, stays_out: bool) {
+        self.legs.lock(rt).end(leg, stays_out);
+        self.ended.notify_all();
+    }
+
+    // Lets the leg join every stripe again, and counts what came of it.
+    fn attach_now<R: Wait, L: LegPart, G: Gate + Drop>(
+        &self,
+        rt: &R,
+        mirror: &Mirror<L, G>,
+        leg: u8,
+    ) -> AttachCounts
+        requires { leg < mirror.now.shape.legs }
+    {
+        let returning = self.doubts.returning(leg);
+        mirror.attach_leg(rt, leg, returning, &self.doubts)
+    }
+
     /// Takes the leg out of every stripe by hand, and counts what came of it: none while it is
     /// being replaced.
     pub fn fail<R: Wait, L: LegPart, G: Gate + Drop>(
@@ -160,23 +176,19 @@ impl CopyOrders {
     ) -> Option<FailCounts>
         requires { leg < mirror.now.shape.legs }
     {
-        let mut by_hand = self.by_hand.lock(rt);
-        if is_noted(&self.replaced.lock(rt), leg) {
-            return None;
-        }
+        let stayed_out = self.begin_move(rt, leg)?;
         self.doubts.note_taken_out(leg);
         let counts = mirror.fail_leg(rt, leg);
-        if counts.failed > 0 || counts.out > 0 {
-            note(&mut by_hand, leg, true);
-        }
+        let stays_out = stayed_out || counts.failed > 0 || counts.out > 0;
+        self.end_command(rt, leg, stays_out);
         Some(counts)
     }
 
     /// Takes the leg out where it has to be since a call of it failed: of every stripe in which it
     /// is not the last in sync where it fails as a whole, else of those whose copies it would
     /// spoil. It is not noted as taken out by hand. Then what was seen failing is handled: whether
-    /// it is the first since the leg came back. Nothing is done while a command on legs is under
-    /// way, which may have the leg come back, or it is being replaced.
+    /// it is the first since the leg came back. Nothing is done while a command on the leg is under
+    /// way, which may have it come back.
     pub fn take_out_failed<R: Wait, L: LegPart, G: Gate + Drop>(
         &self,
         rt: &R,
@@ -185,21 +197,23 @@ impl CopyOrders {
         is_whole: bool,
         seen: u64,
     ) -> bool {
-        let Some(_by_hand) = self.by_hand.try_lock() else {
-            return false;
-        };
-        if leg >= mirror.legs() || self.is_replaced(rt, leg) {
+        if leg >= mirror.legs() {
             return false;
         }
+        let Some(stays_out) = self.begin_move_now(rt, leg) else {
+            return false;
+        };
         if is_whole {
             let _ = mirror.fail_leg(rt, leg);
         } else {
             mirror.spare_copies(rt, leg);
         }
-        match self.doubts.leg(leg) {
+        let is_first = match self.doubts.leg(leg) {
             Some(doubts) => doubts.handle(seen),
             None => false,
-        }
+        };
+        self.end_command(rt, leg, stays_out);
+        is_first
     }
 
     /// Lets the leg join every stripe again by hand, and counts what came of it: none while it is
@@ -212,32 +226,31 @@ impl CopyOrders {
     ) -> Option<AttachCounts>
         requires { leg < mirror.now.shape.legs }
     {
-        let mut by_hand = self.by_hand.lock(rt);
-        if is_noted(&self.replaced.lock(rt), leg) || self.has_left_call(leg) {
+        let stayed_out = self.begin_move(rt, leg)?;
+        if self.has_left_call(leg) {
+            self.end_command(rt, leg, stayed_out);
             return None;
         }
-        note(&mut by_hand, leg, false);
-        let returning = self.doubts.returning(leg);
-        Some(mirror.attach_leg(rt, leg, returning, &self.doubts))
+        let counts = self.attach_now(rt, mirror, leg);
+        self.end_command(rt, leg, false);
+        Some(counts)
     }
 
-    /// Whether the leg is being replaced.
+    /// Whether the leg is being replaced, or taken out for good.
     pub fn is_replaced<R: Wait>(&self, rt: &R, leg: u8) -> bool {
-        is_noted(&self.replaced.lock(rt), leg)
+        self.legs.lock(rt).is_replaced(leg)
     }
 
-    // Notes that the leg is being replaced, unless it is so already, a call of it was left, or it
-    // is taken out or attached right now. Until that ends it is out by hand. Whether it was noted.
+    // Begins to replace the leg, or to take it out for good, once it is neither taken out nor
+    // attached. Whether it stayed out before: none where it is being replaced, or a call of it was
+    // left.
     fn begin_replace<R: Wait>(&self, rt: &R, leg: u8) -> Option<bool> {
-        let mut by_hand = self.by_hand.lock(rt);
-        let mut replaced = self.replaced.lock(rt);
-        if is_noted(&replaced, leg) || self.has_left_call(leg) {
+        let legs = self.legs.lock(rt);
+        let mut legs = self.ended.wait_while(rt, legs, |legs| legs.is_moving(leg));
+        if self.has_left_call(leg) {
             return None;
         }
-        let was_out = is_noted(&by_hand, leg);
-        note(&mut replaced, leg, true);
-        note(&mut by_hand, leg, true);
-        Some(was_out)
+        legs.begin_replace(leg)
     }
 
     /// Puts a leg on a file that is opened anew in the place of this one in every stripe. Where
@@ -269,9 +282,7 @@ impl CopyOrders {
                 self.verify.note_replaced(rt, leg, mirror.legs());
             }
         }
-        let mut by_hand = self.by_hand.lock(rt);
-        note(&mut by_hand, leg, is_out);
-        note(&mut self.replaced.lock(rt), leg, false);
+        self.end_command(rt, leg, is_out);
         replaced
     }
 
@@ -306,9 +317,7 @@ impl CopyOrders {
         if matches!(retired, Retired::Out) {
             self.retired.fetch_add(1, Ordering::SeqCst);
         }
-        let mut by_hand = self.by_hand.lock(rt);
-        note(&mut by_hand, leg, is_out);
-        note(&mut self.replaced.lock(rt), leg, false);
+        self.end_command(rt, leg, is_out);
         retired
     }
 
@@ -324,7 +333,7 @@ impl CopyOrders {
         }
     }
 
-    /// Lets the leg join by itself: none where the leg was taken out by hand, a command on legs is
+    /// Lets the leg join by itself: none where the leg was taken out by hand, a command on it is
     /// under way, or a call of it that was left has not returned.
     pub fn attach_by_itself<R: Wait, L: LegPart, G: Gate + Drop>(
         &self,
@@ -332,18 +341,21 @@ impl CopyOrders {
         mirror: &Mirror<L, G>,
         leg: u8,
     ) -> Option<AttachCounts> {
-        let by_hand = self.by_hand.try_lock()?;
-        let is_out = by_hand.get(leg as usize).copied()?;
-        if is_out || leg >= mirror.legs() || self.has_left_call(leg) {
+        if leg >= mirror.legs() {
             return None;
         }
-        let returning = self.doubts.returning(leg);
-        Some(mirror.attach_leg(rt, leg, returning, &self.doubts))
+        let stays_out = self.begin_move_now(rt, leg)?;
+        if stays_out || self.has_left_call(leg) {
+            self.end_command(rt, leg, stays_out);
+            return None;
+        }
+        let counts = self.attach_now(rt, mirror, leg);
+        self.end_command(rt, leg, false);
+        Some(counts)
     }
 
-    /// Which legs were taken out by hand: none of it where a command on legs is under way.
-    pub fn by_hand(&self) -> Option<ByHand> {
-        let by_hand = self.by_hand.try_lock()?;
-        Some(*by_hand)
+    /// Whether the leg was taken out by hand: none where a command on it is under way.
+    pub fn stays_out<R: Wait>(&self, rt: &R, leg: u8) -> Option<bool> {
+        self.legs.lock(rt).stays_out(leg)
     }
 }

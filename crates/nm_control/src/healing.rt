@@ -212,7 +212,7 @@ impl Healing {
     }
 
     /// Looks at how each leg stands at this time, in milliseconds, and attaches those that are due.
-    /// While somebody takes a leg out or attaches one nothing is done.
+    /// One on which a command is under way is passed over.
     pub fn look<R: Wait, O: OpensLegs, L: LegPart, G: Gate + Drop>(
         &mut self,
         rt: &R,
@@ -222,17 +222,15 @@ impl Healing {
         now: u64,
     ) {
         let (orders, lines) = (copied.orders, copied.shared.lines);
-        let Some(by_hand) = orders.by_hand() else {
-            return;
-        };
         for leg in self.legs.iter_mut() {
             leg.find_wanted(rt, opener, orders, lines);
             if !self.by_itself {
                 continue;
             }
-            let number = leg.number as usize;
-            let is_out = by_hand.get(number).copied().unwrap_or(false);
-            let event = event_of(&story.sight(number), is_out);
+            let Some(stays_out) = orders.stays_out(rt, leg.number) else {
+                continue;
+            };
+            let event = event_of(&story.sight(leg.number as usize), stays_out);
             if leg.stays_out(rt, event, orders, lines, now) {
                 continue;
             }

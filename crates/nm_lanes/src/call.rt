@@ -4,6 +4,7 @@ ghost use Rattle.nm_geometry.specs.Geometry.{IsGeometry};
 ghost use Rattle.nm_geometry.specs.Pieces.{LiesInside, end_of};
 
 use crate::call_kind::CallKind;
+use crate::caller::Caller;
 use crate::gate::Gate;
 use crate::piece_range::PieceRange;
 use crate::stripe_call::StripeCall;
@@ -29,14 +30,10 @@ pub(crate) fn range_inside(shape: &Shape, offset: u64, length: u64) -> ByteRange
     ByteRange { offset, length }
 }
 
-/// A call of a mirror of this shape, over its locks.
+/// A call of a mirror.
 #[derive(Drop)]
 pub(crate) struct Call<'a, R, G, K> {
-    pub(crate) rt: &'a R,
-    pub(crate) shape: &'a Shape,
-    pub(crate) gate: &'a G,
-    pub(crate) locks: &'a [K],
-    pub(crate) pass: Option<u32>,
+    pub(crate) caller: &'a Caller<'a, R, G, K>,
     pub(crate) kind: CallKind,
     /// Where the caller can go: whether it is gone.
     pub(crate) is_gone: Option<&'a AtomicBool>,
@@ -56,15 +53,15 @@ impl<R: Wait, G: Gate, K> Call<'_, R, G, K> {
 
     /// The call at work on one block of a stripe, or on none, through the stripe's own lock.
     pub(crate) fn on_stripe(&self, stripe: u32, block: Option<u64>) -> StripeCall<'_, R, G, K>
-        requires { stripe < length self.now.locks.now }
+        requires { stripe < length self.now.caller.now.locks.now }
         ensures stripe { result.stripe ≡ stripe }
-        ensures lock { slice_get self.now.locks.now stripe ≡ Some result.lock.now }
+        ensures lock { slice_get self.now.caller.now.locks.now stripe ≡ Some result.lock.now }
     {
         StripeCall {
-            rt: self.rt,
-            gate: self.gate,
-            lock: &self.locks[stripe as usize],
-            pass: self.pass,
+            rt: self.caller.rt,
+            gate: self.caller.gate,
+            lock: &self.caller.locks[stripe as usize],
+            pass: self.caller.pass,
             call: self.kind,
             stripe,
             block,

@@ -9,6 +9,7 @@ use crate::call::{Call, range_inside, within_bounds};
 use crate::call_error::CallError;
 use crate::call_error_kind::CallErrorKind;
 use crate::call_kind::CallKind;
+use crate::caller::Caller;
 use crate::gate::Gate;
 use crate::lane::Lane;
 use crate::stripe_call::StripeCall;
@@ -40,11 +41,11 @@ fn flush_one<L: LegPart, K, D: Lane<L, K>, R: Wait, G: Gate>(
     lanes: &mut [D],
 ) -> Result<(), CallError>
     requires one { length lanes.old ≡ 1 }
-    requires inside { stripe < length call.now.locks.now }
-    ensures syncs { SyncsLanes D.follows call.now.shape.now.legs stripe
+    requires inside { stripe < length call.now.caller.now.locks.now }
+    ensures syncs { SyncsLanes D.follows call.now.caller.now.shape.now.legs stripe
         (lanes.old, lanes.new) result }
 {
-    let shape = call.shape;
+    let shape = call.caller.shape;
     let stripe_call = call.on_stripe(stripe, None);
     match stripe_call.sync_all(&mut lanes[0], shape.legs) {
         Ok(()) => Ok(()),
@@ -60,9 +61,9 @@ fn flush_lanes<L: LegPart, K, D: Lane<L, K>, R: Wait, G: Gate>(
     first: u32,
     lanes: &mut [D],
 ) -> Result<(), CallError>
-    requires locks { length call.now.locks.now ≤ 64 }
-    requires inside { first + length lanes.old ≤ length call.now.locks.now }
-    ensures syncs { SyncsLanes D.follows call.now.shape.now.legs first
+    requires locks { length call.now.caller.now.locks.now ≤ 64 }
+    requires inside { first + length lanes.old ≤ length call.now.caller.now.locks.now }
+    ensures syncs { SyncsLanes D.follows call.now.caller.now.shape.now.legs first
         (lanes.old, lanes.new) result }
 {
     if lanes.len() == 0 {
@@ -90,16 +91,16 @@ fn flush_spans<L: LegPart, K, D: Lane<L, K>, R: Wait, G: Gate>(
     spans: Spans,
     lanes: &mut [D],
 ) -> Result<(), CallError>
-    requires locks { length call.now.locks.now ≡ call.now.shape.now.stripes }
-    requires lanes { length lanes.old ≡ call.now.shape.now.stripes }
+    requires locks { length call.now.caller.now.locks.now ≡ call.now.caller.now.shape.now.stripes }
+    requires lanes { length lanes.old ≡ call.now.caller.now.shape.now.stripes }
     requires order { (spans.low ≤ spans.first) × (spans.first ≤ spans.end) }
-    requires inside { spans.end ≤ call.now.shape.now.stripes }
-    ensures ok { OnOk result (HasFlushed D.follows call.now.shape.now.legs
+    requires inside { spans.end ≤ call.now.caller.now.shape.now.stripes }
+    ensures ok { OnOk result (HasFlushed D.follows call.now.caller.now.shape.now.legs
         (InSpans spans.low spans.first spans.end) (lanes.old, lanes.new)) }
-    ensures err { IfErr result (HasFlushedSome D.follows call.now.shape.now.legs
+    ensures err { IfErr result (HasFlushedSome D.follows call.now.caller.now.shape.now.legs
         (InSpans spans.low spans.first spans.end) (lanes.old, lanes.new)) }
 {
-    within_bounds(call.shape);
+    within_bounds(call.caller.shape);
     let Spans { low, first, end } = spans;
     let (front, rest) = lanes.split_at_mut(low as usize);
     let (_, rest) = rest.split_at_mut((first - low) as usize);
@@ -116,29 +117,22 @@ fn flush_spans<L: LegPart, K, D: Lane<L, K>, R: Wait, G: Gate>(
 /// Syncs every leg of every stripe. A leg that is out is passed over; one that goes out by it is
 /// asked again, and found out.
 pub fn flush_by<'a, L: LegPart, K, D: Lane<L, K>, R: Wait, G: Gate>(
-    rt: &'a R,
-    shape: &'a Shape,
-    gate: &'a G,
-    pass: Option<u32>,
-    locks: &'a [K],
+    caller: &'a Caller<'a, R, G, K>,
     lanes: &mut [D],
 ) -> Result<(), CallError>
-    requires locks { length locks.now ≡ shape.now.stripes }
-    requires lanes { length lanes.old ≡ shape.now.stripes }
-    ensures ok { OnOk result (HasFlushed D.follows shape.now.legs (IsStripeOf shape.now)
-        (lanes.old, lanes.new)) }
-    ensures err { IfErr result (HasFlushedSome D.follows shape.now.legs (IsStripeOf shape.now)
-        (lanes.old, lanes.new)) }
+    requires locks { length caller.now.locks.now ≡ caller.now.shape.now.stripes }
+    requires lanes { length lanes.old ≡ caller.now.shape.now.stripes }
+    ensures ok { OnOk result (HasFlushed D.follows caller.now.shape.now.legs
+        (IsStripeOf caller.now.shape.now) (lanes.old, lanes.new)) }
+    ensures err { IfErr result (HasFlushedSome D.follows caller.now.shape.now.legs
+        (IsStripeOf caller.now.shape.now) (lanes.old, lanes.new)) }
 {
     let call = Call {
-        rt,
-        shape,
-        gate,
-        locks,
-        pass,
+        caller,
         kind: CallKind::Flush,
         is_gone: None,
     };
+    let shape = caller.shape;
     let spans = Spans {
         low: 0,
         first: 0,
@@ -192,41 +186,33 @@ fn spans_around(shape: &Shape, region: u64, count: u64) -> Spans
 
 /// Syncs every leg of the stripes in which some of the bytes from `offset` on lie.
 pub fn sync_by<'a, L: LegPart, K, D: Lane<L, K>, R: Wait, G: Gate>(
-    rt: &'a R,
-    shape: &'a Shape,
-    gate: &'a G,
-    pass: Option<u32>,
-    locks: &'a [K],
+    caller: &'a Caller<'a, R, G, K>,
     lanes: &mut [D],
     offset: u64,
     len: u64,
 ) -> Result<(), CallError>
-    requires locks { length locks.now ≡ shape.now.stripes }
-    requires lanes { length lanes.old ≡ shape.now.stripes }
-    requires inside { LiesInside (record { offset = offset; length = len }) shape.now }
-    ensures ok { OnOk result (HasFlushed D.follows shape.now.legs
-        (Touches shape.now (record { offset = offset; length = len }))
+    requires locks { length caller.now.locks.now ≡ caller.now.shape.now.stripes }
+    requires lanes { length lanes.old ≡ caller.now.shape.now.stripes }
+    requires inside { LiesInside (record { offset = offset; length = len }) caller.now.shape.now }
+    ensures ok { OnOk result (HasFlushed D.follows caller.now.shape.now.legs
+        (Touches caller.now.shape.now (record { offset = offset; length = len }))
         (lanes.old, lanes.new)) }
-    ensures err { IfErr result (HasFlushedSome D.follows shape.now.legs
-        (Touches shape.now (record { offset = offset; length = len }))
+    ensures err { IfErr result (HasFlushedSome D.follows caller.now.shape.now.legs
+        (Touches caller.now.shape.now (record { offset = offset; length = len }))
         (lanes.old, lanes.new)) }
 {
     let call = Call {
-        rt,
-        shape,
-        gate,
-        locks,
-        pass,
+        caller,
         kind: CallKind::SyncTouched,
         is_gone: None,
     };
-    within_bounds(shape);
-    let range = range_inside(shape, offset, len);
+    within_bounds(caller.shape);
+    let range = range_inside(caller.shape, offset, len);
     if range.pieces() == 0 {
         return Ok(());
     }
-    let (first, count) = stripes_touched(shape, range);
-    let spans = spans_around(shape, first, count);
+    let (first, count) = stripes_touched(caller.shape, range);
+    let spans = spans_around(caller.shape, first, count);
     match flush_spans(&call, spans, lanes) {
         Ok(()) => Ok(()),
         Err(cause) => Err(cause),

@@ -8,6 +8,7 @@
 pub use call_error::CallError;
 pub use call_error_kind::CallErrorKind;
 pub use call_kind::CallKind;
+pub use caller::Caller;
 pub use flushing::{flush_by, sync_by};
 pub use gate::{Gate, NoGate};
 pub use lane::Lane;
@@ -23,6 +24,7 @@ mod call;
 mod call_error;
 mod call_error_kind;
 mod call_kind;
+mod caller;
 mod cutting;
 mod flushing;
 mod gate;

@@ -7,6 +7,7 @@ ghost use Rattle.nm_lanes.specs.Runs.{runs_of_range};
 use crate::call::{Call, range_inside};
 use crate::call_error::CallError;
 use crate::call_kind::CallKind;
+use crate::caller::Caller;
 use crate::gate::Gate;
 use crate::lane::Lane;
 use crate::piece_range::PieceRange;
@@ -21,37 +22,30 @@ use std::sync::Wait;
 /// On an error, in each stripe the first of its runs were read, and what stands in `into` is not
 /// told.
 pub fn read_by<'a, L: LegPart, K, D: Lane<L, K>, R: Wait, G: Gate>(
-    rt: &'a R,
-    shape: &'a Shape,
-    gate: &'a G,
-    pass: Option<u32>,
-    locks: &'a [K],
+    caller: &'a Caller<'a, R, G, K>,
     lanes: &mut [D],
     offset: u64,
     into: &mut [u8],
 ) -> Result<(), CallError>
-    requires locks { length locks.now ≡ shape.now.stripes }
-    requires lanes { length lanes.old ≡ shape.now.stripes }
-    requires inside { LiesInside (record { offset = offset; length = length into.old }) shape.now }
-    ensures ok { OnOk result (HasRead D.follows shape.now
-        (runs_of_range shape.now
+    requires locks { length caller.now.locks.now ≡ caller.now.shape.now.stripes }
+    requires lanes { length lanes.old ≡ caller.now.shape.now.stripes }
+    requires inside { LiesInside (record { offset = offset; length = length into.old })
+        caller.now.shape.now }
+    ensures ok { OnOk result (HasRead D.follows caller.now.shape.now
+        (runs_of_range caller.now.shape.now
         (record { offset = offset; length = length into.old }))
         (lanes.old, lanes.new) into.new) }
-    ensures err { IfErr result (HasReadSome D.follows shape.now
-        (runs_of_range shape.now
+    ensures err { IfErr result (HasReadSome D.follows caller.now.shape.now
+        (runs_of_range caller.now.shape.now
         (record { offset = offset; length = length into.old }))
         (lanes.old, lanes.new)) }
 {
     let call = Call {
-        rt,
-        shape,
-        gate,
-        locks,
-        pass,
+        caller,
         kind: CallKind::Read,
         is_gone: None,
     };
-    let range = range_inside(shape, offset, into.len() as u64);
+    let range = range_inside(caller.shape, offset, into.len() as u64);
     let pieces = PieceRange {
         range,
         first: 0,

@@ -26,19 +26,20 @@ fn do_lane<L: LegPart, K, D: Lane<L, K>, R: Wait, G: Gate>(
     cuts: &mut [RunWrite],
     into: &mut [u8],
 ) -> Result<(), CallErrorKind>
-    requires locks { length call.now.locks.now ≡ call.now.shape.now.stripes }
-    requires pieces { IsPieceRange call.now.shape.now region.pieces cuts.old }
+    requires locks { length call.now.caller.now.locks.now ≡ call.now.caller.now.shape.now.stripes }
+    requires pieces { IsPieceRange call.now.caller.now.shape.now region.pieces cuts.old }
     requires target { length into.old ≡ target_of region.pieces }
-    requires region { IsRegionPieces call.now.shape.now region }
-    ensures ok { OnOk result (LaneDid D.follows (λ own. DoesEach call.now.shape.now
-        region.pieces.is_read (filling call.now.shape.now region.pieces cuts.old) into.new
+    requires region { IsRegionPieces call.now.caller.now.shape.now region }
+    ensures ok { let shape = call.now.caller.now.shape.now in
+        OnOk result (LaneDid D.follows (λ own. DoesEach shape region.pieces.is_read
+        (filling shape region.pieces cuts.old) into.new
         (steps_in region.stripe own)) lane.old lane.new) }
-    ensures err { IfErr result (λ kind. LaneTries D.follows (λ own. DoesSome call.now.shape.now
-        region.pieces.is_read (filling call.now.shape.now region.pieces cuts.old)
-        (steps_in region.stripe own))
+    ensures err { let shape = call.now.caller.now.shape.now in
+        IfErr result (λ kind. LaneTries D.follows (λ own. DoesSome shape region.pieces.is_read
+        (filling shape region.pieces cuts.old) (steps_in region.stripe own))
         (record { stripe = region.stripe; kind = kind }) region.stripe lane.old lane.new) }
 {
-    let shape = call.shape;
+    let shape = call.caller.shape;
     within_bounds(shape);
     let mut block = first_in_stripe(shape, region);
     let mut left = region.pieces;
@@ -70,15 +71,15 @@ fn do_stripe<L: LegPart, K, D: Lane<L, K>, R: Wait, G: Gate>(
     into: &mut [u8],
 ) -> Result<(), CallError>
     requires one { length lanes.old ≡ 1 }
-    requires locks { length call.now.locks.now ≡ call.now.shape.now.stripes }
-    requires pieces { IsPieceRange call.now.shape.now region.pieces cuts.old }
+    requires locks { length call.now.caller.now.locks.now ≡ call.now.caller.now.shape.now.stripes }
+    requires pieces { IsPieceRange call.now.caller.now.shape.now region.pieces cuts.old }
     requires target { length into.old ≡ target_of region.pieces }
-    requires region { IsRegionPieces call.now.shape.now region }
-    ensures does { DoesLanes D.follows call.now.shape.now region.pieces.is_read
-        (filling call.now.shape.now region.pieces cuts.old)
+    requires region { IsRegionPieces call.now.caller.now.shape.now region }
+    ensures does { DoesLanes D.follows call.now.caller.now.shape.now region.pieces.is_read
+        (filling call.now.caller.now.shape.now region.pieces cuts.old)
         region.stripe (lanes.old, lanes.new) into.new result }
 {
-    within_bounds(call.shape);
+    within_bounds(call.caller.shape);
     match do_lane(call, region, &mut lanes[0], cuts, into) {
         Ok(()) => Ok(()),
         Err(kind) => Err(CallError {
@@ -96,22 +97,22 @@ fn do_next<L: LegPart, K, D: Lane<L, K>, R: Wait, G: Gate>(
     cuts: &mut [RunWrite],
     into: &mut [u8],
 ) -> Result<u64, CallError>
-    requires locks { length call.now.locks.now ≡ call.now.shape.now.stripes }
-    requires lanes { length lanes.old ≡ call.now.shape.now.stripes }
-    requires pieces { IsPieceRange call.now.shape.now pieces cuts.old }
+    requires locks { length call.now.caller.now.locks.now ≡ call.now.caller.now.shape.now.stripes }
+    requires lanes { length lanes.old ≡ call.now.caller.now.shape.now.stripes }
+    requires pieces { IsPieceRange call.now.caller.now.shape.now pieces cuts.old }
     requires target { length into.old ≡ target_of pieces }
     requires some { 0 < pieces.count }
-    ensures ok { IfOk result (DoesNext D.follows call.now.shape.now pieces
+    ensures ok { IfOk result (DoesNext D.follows call.now.caller.now.shape.now pieces
         (cuts.old, cuts.new) (lanes.old, lanes.new) into.new) }
-    ensures err { IfErr result (HasDoneSome D.follows call.now.shape.now pieces.is_read
-        (filling call.now.shape.now pieces cuts.old) (lanes.old, lanes.new)) }
+    ensures err { IfErr result (HasDoneSome D.follows call.now.caller.now.shape.now pieces.is_read
+        (filling call.now.caller.now.shape.now pieces cuts.old) (lanes.old, lanes.new)) }
 {
-    let region = next_region(call.shape, pieces);
+    let region = next_region(call.caller.shape, pieces);
     let done = region.pieces.count;
     let (_, rest) = lanes.split_at_mut(region.stripe as usize);
     let (lane, _) = rest.split_at_mut(1);
-    let (own, _) = cuts.split_at_mut(region.pieces.cuts_of(call.shape));
-    let (near, _) = into.split_at_mut(region.pieces.target_of(call.shape));
+    let (own, _) = cuts.split_at_mut(region.pieces.cuts_of(call.caller.shape));
+    let (near, _) = into.split_at_mut(region.pieces.target_of(call.caller.shape));
     match do_stripe(call, region, lane, own, near) {
         Ok(()) => Ok(done),
         Err(cause) => Err(cause),
@@ -126,14 +127,14 @@ pub(crate) fn do_all<L: LegPart, K, D: Lane<L, K>, R: Wait, G: Gate>(
     cuts: &mut [RunWrite],
     into: &mut [u8],
 ) -> Result<(), CallError>
-    requires locks { length call.now.locks.now ≡ call.now.shape.now.stripes }
-    requires lanes { length lanes.old ≡ call.now.shape.now.stripes }
-    requires pieces { IsPieceRange call.now.shape.now pieces cuts.old }
+    requires locks { length call.now.caller.now.locks.now ≡ call.now.caller.now.shape.now.stripes }
+    requires lanes { length lanes.old ≡ call.now.caller.now.shape.now.stripes }
+    requires pieces { IsPieceRange call.now.caller.now.shape.now pieces cuts.old }
     requires target { length into.old ≡ target_of pieces }
-    ensures ok { OnOk result (HasDone D.follows call.now.shape.now pieces.is_read
-        (filling call.now.shape.now pieces cuts.old) (lanes.old, lanes.new) into.new) }
-    ensures err { IfErr result (HasDoneSome D.follows call.now.shape.now pieces.is_read
-        (filling call.now.shape.now pieces cuts.old) (lanes.old, lanes.new)) }
+    ensures ok { OnOk result (HasDone D.follows call.now.caller.now.shape.now pieces.is_read
+        (filling call.now.caller.now.shape.now pieces cuts.old) (lanes.old, lanes.new) into.new) }
+    ensures err { IfErr result (HasDoneSome D.follows call.now.caller.now.shape.now pieces.is_read
+        (filling call.now.caller.now.shape.now pieces cuts.old) (lanes.old, lanes.new)) }
 {
     let mut left = pieces;
     let mut taken = 0;
@@ -141,8 +142,8 @@ pub(crate) fn do_all<L: LegPart, K, D: Lane<L, K>, R: Wait, G: Gate>(
     while left.count > 0 {
         let done = do_next(call, left, lanes, &mut cuts[taken..], &mut into[from..])?;
         let first = left.first_of(done);
-        taken += first.cuts_of(call.shape);
-        from += first.target_of(call.shape);
+        taken += first.cuts_of(call.caller.shape);
+        from += first.target_of(call.caller.shape);
         left = left.rest_of(done);
     }
     Ok(())

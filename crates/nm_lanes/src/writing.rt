@@ -7,6 +7,7 @@ ghost use Rattle.nm_lanes.specs.Writes.{FailsWriting, HasWritten};
 
 use crate::call::{Call, range_inside};
 use crate::call_kind::CallKind;
+use crate::caller::Caller;
 use crate::cutting::split_payload;
 use crate::gate::Gate;
 use crate::lane::Lane;
@@ -32,26 +33,23 @@ use std::sync::Wait;
 /// `WriteFault::Io` where a stripe could not go on, which ends the call. In each stripe the first
 /// of its runs were written, and the next one's write may have begun.
 pub fn write_by<'a, L: LegPart, K, D: Lane<L, K>, R: Wait, G: Gate>(
-    rt: &'a R,
+    caller: &'a Caller<'a, R, G, K>,
     alloc: Global,
-    shape: &'a Shape,
-    gate: &'a G,
-    pass: Option<u32>,
-    locks: &'a [K],
     lanes: &mut [D],
     offset: u64,
     payload: Bytes,
 ) -> Result<(), WriteFault>
-    requires locks { length locks.now ≡ shape.now.stripes }
-    requires lanes { length lanes.old ≡ shape.now.stripes }
-    requires inside { LiesInside (record { offset = offset; length = length payload }) shape.now }
-    ensures ok { OnOk result (HasWritten D.follows shape.now
-        (cuts_for (runs_of_range shape.now
+    requires locks { length caller.now.locks.now ≡ caller.now.shape.now.stripes }
+    requires lanes { length lanes.old ≡ caller.now.shape.now.stripes }
+    requires inside { LiesInside (record { offset = offset; length = length payload })
+        caller.now.shape.now }
+    ensures ok { OnOk result (HasWritten D.follows caller.now.shape.now
+        (cuts_for (runs_of_range caller.now.shape.now
         (record { offset = offset; length = length payload })) payload)
         (lanes.old, lanes.new)) }
     ensures nothing { length payload ≡ 0 → IsOk result }
-    ensures err { IfErr result (FailsWriting D.follows shape.now
-        (cuts_for (runs_of_range shape.now
+    ensures err { IfErr result (FailsWriting D.follows caller.now.shape.now
+        (cuts_for (runs_of_range caller.now.shape.now
         (record { offset = offset; length = length payload })) payload)
         (lanes.old, lanes.new)) }
 {
@@ -59,7 +57,7 @@ pub fn write_by<'a, L: LegPart, K, D: Lane<L, K>, R: Wait, G: Gate>(
         return Ok(());
     }
     let len = payload.len() as u64;
-    let range = range_inside(shape, offset, len);
+    let range = range_inside(caller.shape, offset, len);
     let pieces = PieceRange {
         range,
         first: 0,
@@ -67,15 +65,11 @@ pub fn write_by<'a, L: LegPart, K, D: Lane<L, K>, R: Wait, G: Gate>(
         no_payload: false,
         is_read: false,
     };
-    let Ok(mut writes) = split_payload(alloc, shape, pieces, payload) else {
+    let Ok(mut writes) = split_payload(alloc, caller.shape, pieces, payload) else {
         return Err(WriteFault::Memory);
     };
     let call = Call {
-        rt,
-        shape,
-        gate,
-        locks,
-        pass,
+        caller,
         kind: CallKind::Write,
         is_gone: None,
     };

@@ -8,6 +8,7 @@ ghost use Rattle.nm_lanes.specs.Writes.{HasWritten, HasWrittenSome};
 use crate::call::{Call, range_inside};
 use crate::call_error::CallError;
 use crate::call_kind::CallKind;
+use crate::caller::Caller;
 use crate::gate::Gate;
 use crate::lane::Lane;
 use crate::piece_range::PieceRange;
@@ -24,39 +25,31 @@ use std::sync::atomic::AtomicBool;
 /// further run is begun, and each that began is done; if some are left the call ends as
 /// `CallErrorKind::Gone`. On another error the first runs of each stripe were written, and the next
 /// one's write may have begun.
-pub fn zero_by<L: LegPart, K, D: Lane<L, K>, R: Wait, G: Gate>(
-    rt: &R,
-    shape: &Shape,
-    gate: &G,
-    pass: Option<u32>,
-    locks: &[K],
+pub fn zero_by<'a, L: LegPart, K, D: Lane<L, K>, R: Wait, G: Gate>(
+    caller: &'a Caller<'a, R, G, K>,
     lanes: &mut [D],
     offset: u64,
     len: u64,
-    is_gone: Option<&AtomicBool>,
+    is_gone: Option<&'a AtomicBool>,
 ) -> Result<(), CallError>
-    requires locks { length locks.now ≡ shape.now.stripes }
-    requires lanes { length lanes.old ≡ shape.now.stripes }
-    requires inside { LiesInside (record { offset = offset; length = len }) shape.now }
-    ensures ok { OnOk result (HasWritten D.follows shape.now
-        (zeroes_for (runs_of_range shape.now
+    requires locks { length caller.now.locks.now ≡ caller.now.shape.now.stripes }
+    requires lanes { length lanes.old ≡ caller.now.shape.now.stripes }
+    requires inside { LiesInside (record { offset = offset; length = len }) caller.now.shape.now }
+    ensures ok { OnOk result (HasWritten D.follows caller.now.shape.now
+        (zeroes_for (runs_of_range caller.now.shape.now
         (record { offset = offset; length = len })))
         (lanes.old, lanes.new)) }
-    ensures err { IfErr result (HasWrittenSome D.follows shape.now
-        (zeroes_for (runs_of_range shape.now
+    ensures err { IfErr result (HasWrittenSome D.follows caller.now.shape.now
+        (zeroes_for (runs_of_range caller.now.shape.now
         (record { offset = offset; length = len })))
         (lanes.old, lanes.new)) }
 {
     let call = Call {
-        rt,
-        shape,
-        gate,
-        locks,
-        pass,
+        caller,
         kind: CallKind::Zero,
         is_gone,
     };
-    let range = range_inside(shape, offset, len);
+    let range = range_inside(caller.shape, offset, len);
     let pieces = PieceRange {
         range,
         first: 0,

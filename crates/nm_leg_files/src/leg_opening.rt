@@ -48,13 +48,13 @@ impl LegRules {
     /// may be missing.
     pub fn of(settings: &Settings<'_>, limits: &Limits) -> LegRules {
         LegRules {
-            may_lack: !matches!(settings.superblock, SuperblockPlace::Nowhere),
-            force_in_use: settings.force_in_use,
+            may_lack: !matches!(settings.opening.superblock, SuperblockPlace::Nowhere),
+            force_in_use: settings.mirror.force_in_use,
             file_bytes: limits.file_bytes,
-            leg_timeout: settings.leg_timeout,
-            threads: settings.stripes.min(MOST_CALLS) + 1,
-            has_beside: matches!(settings.superblock, SuperblockPlace::Beside),
-            window: window_of(settings.superblock),
+            leg_timeout: settings.copies.leg_timeout,
+            threads: settings.mirror.stripes.min(MOST_CALLS) + 1,
+            has_beside: matches!(settings.opening.superblock, SuperblockPlace::Beside),
+            window: window_of(settings.opening.superblock),
         }
     }
 

@@ -4,7 +4,7 @@ ghost use Rattle.nm_leg_files.specs.declared.saving.AfterTry.TheVariants.{End};
 ghost use Rattle.nm_leg_files.specs.Saving.{GoesOn, HasAll, IsClean, IsLastSomewhere};
 
 use nm_mirror::FailCounts;
-use nm_saves::FailedFiles;
+use nm_saves::{FailedFiles, Saved};
 use nm_superblock::{LegSets, SpanMap};
 
 /// What follows a try to save the superblocks.
@@ -19,12 +19,12 @@ pub enum AfterTry {
 }
 
 /// What follows a try that gave this.
-pub fn after_try(tried: &Result<(), FailedFiles>) -> AfterTry
+pub fn after_try(tried: &Result<Saved, FailedFiles>) -> AfterTry
     ensures ok { OnOk tried.now (result ≡ End) }
     ensures failed { IfErr tried.now (λ failed. GoesOn failed.legs result) }
 {
     match tried {
-        Ok(()) => AfterTry::End,
+        Ok(_) => AfterTry::End,
         Err(failed) => after_failure(&failed.legs),
     }
 }

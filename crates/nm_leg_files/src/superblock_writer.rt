@@ -204,9 +204,10 @@ impl<S: SlotFile> SuperblockWriter<S> {
         let last = self.files.image();
         let known = known_times(&ended.unwrap_or([0; 8]), &last.identities);
         let changed = saved_times(&known, &last.changed, &out);
-        let after = after_try(&self.files.save(sets, marked, clean, &changed, &out));
-        if after == AfterTry::End {
-            mirror.end_save(rt, order);
+        let tried = self.files.save(sets, marked, clean, &changed, &out);
+        let after = after_try(&tried);
+        if let Ok(saved) = tried {
+            mirror.end_save(rt, order, saved);
             status.end(self.files.image().generation);
         }
         after

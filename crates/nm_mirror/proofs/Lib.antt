@@ -1,3 +1,5 @@
+mod ClaimingLemmas
+mod CountedLemmas
 mod ListLemmas
 mod MarkedLemmas
 mod NumberLemmas
@@ -9,3 +11,4 @@ mod ReopenLemmas
 mod RoundLemmas
 mod SaveLemmas
 mod StatusLemmas
+mod TakingLemmas

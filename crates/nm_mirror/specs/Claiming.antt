@@ -1,10 +1,18 @@
 -- Writes that are claimed for nobody, since the calls that began them have ended.
-use Rattle.std.specs.Prelude.{◌≡◌, ℕ, Bool, true, IsSome, None}
+use Rattle.std.specs.Prelude.{◌≡◌, ◌++◌, ℕ, Bool, true, false, if◌then◌else◌, nat_lt}
+use Rattle.std.specs.Prelude.{List, [], ◌∷◌, length, Option, None, Some, IsSome}
 use Rattle.nm_rules.specs.RunClaim.{ClaimsRun, claim_run_cause}
 use Rattle.nm_rules.specs.Runs.{EntryNames}
+use Rattle.nm_rules.specs.declared.refusal.Refusal.{Refusal}
+use Rattle.nm_rules.specs.declared.refusal.Refusal.TheVariants.{NotYet}
 use Rattle.nm_mirror.specs.Reopening.{sum_of}
 use Rattle.nm_mirror.specs.declared.held.Held.{Held}
 use Rattle.nm_mirror.specs.declared.stripe_end.Past.{Past}
+
+-- the tickets once this one is added, where there is room: for 256
+abbrev pub with_ticket : ℕ → List ℕ → List ℕ
+with_ticket ticket tickets =
+    if nat_lt (length tickets) 256 then tickets ++ ticket ∷ [] else tickets
 
 -- so many blocks more were left, each with its entry
 abbrev pub with_left : ℕ → Past → Past
@@ -19,6 +27,11 @@ pub record LeavesGate {L : Type 0} (old new : Held L) : Type 0 where
   pub openings : new.openings ≡ old.openings
   pub unclaimed : new.unclaimed ≡ old.unclaimed
 
+-- whether a write is gone once this is why it may not be claimed: not where it still owes a leg
+abbrev pub is_gone : Option Refusal → Bool
+is_gone (Some NotYet) = false
+is_gone cause = true
+
 -- The write of this ticket is claimed, if it is finished, and gone; the stripe's end counts its
 -- entries as ever, among those of writes that were left. If it is not, nothing changes.
 pub record ClaimsFor {L : Type 0} (ticket : ℕ) (gone : Bool) (old new : Held L) : Type 0 where
@@ -26,4 +39,5 @@ pub record ClaimsFor {L : Type 0} (ticket : ℕ) (gone : Bool) (old new : Held L
       × ((entries : EntryNames) × ClaimsRun old.gated.stripe new.gated.stripe ticket entries
       × (new.past ≡ with_left entries.count old.past))
   pub stays : IsSome (claim_run_cause old.gated.stripe ticket) → new ≡ old
+  pub told : gone ≡ is_gone (claim_run_cause old.gated.stripe ticket)
   pub gate : LeavesGate old new

@@ -1,7 +1,9 @@
 pub mod Asks
 pub mod Claiming
+pub mod ClaimingLeft
 pub mod Closing
 pub mod CopyRound
+pub mod Counted
 pub mod Counting
 pub mod Counts
 pub mod Holding
@@ -17,7 +19,10 @@ pub mod Repair
 pub mod Resync
 pub mod RoundChanges
 pub mod RoundInside
+pub mod SaveDesk
 pub mod Saves
+pub mod Saving
+pub mod Settling
 pub mod Status
 pub mod Stripes
 pub mod Verify

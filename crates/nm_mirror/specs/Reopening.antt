@@ -1,10 +1,10 @@
 -- A stripe that stopped, once it is opened anew from the leg it stopped on.
-use Rattle.std.specs.Prelude.{◌≡◌, ℕ, ◌+◌, ◌-◌, ◌^◌, ◌<◌, true, min}
-use Rattle.std.specs.Prelude.{List, length, Option, None, Some}
+use Rattle.std.specs.Prelude.{◌≡◌, ℕ, zero, suc, ◌+◌, ◌-◌, ◌^◌, ◌<◌, Bool, false, true, min}
+use Rattle.std.specs.Prelude.{List, [], length, Option, None, Some}
 use Rattle.nm_choice.specs.declared.policy.Policy.{Policy}
 use Rattle.nm_leg.specs.Leg.{LegType}
 use Rattle.nm_rules.specs.Opening.{opened}
-use Rattle.nm_rules.specs.State.{StripeState, next_number}
+use Rattle.nm_rules.specs.State.{StripeState, left, next_number}
 use Rattle.nm_rules.specs.declared.at.At.{At}
 use Rattle.nm_stripe.specs.End.{EndOf, end_of}
 use Rattle.nm_gate.specs.Anew.{GoesOnAnew}
@@ -12,6 +12,8 @@ use Rattle.nm_gate.specs.Durable.{Durable, is_named}
 use Rattle.nm_mirror.specs.Asks.{LetsPass}
 use Rattle.nm_mirror.specs.declared.ask.Ask.TheVariants.{Answer}
 use Rattle.nm_mirror.specs.declared.held.Held.{Held}
+use Rattle.nm_mirror.specs.declared.reopening.Reopened.{Reopened}
+use Rattle.nm_mirror.specs.declared.reopening.Reopened.TheVariants as reopened
 use Rattle.nm_mirror.specs.declared.stripe_end.Past.{Past}
 
 -- the sum of two counts, as far as it can be told
@@ -58,7 +60,7 @@ pub record Reopens {L : Type 0} (place : At) (legs : List L) (policy : Policy) (
   pub durable : new.gated.durable ≡ old.gated.durable
   pub past : new.past ≡ past_after (end_of old.gated.stripe) old.past
   pub openings : new.openings ≡ sum_of old.openings 1
-  pub unclaimed : new.unclaimed.count ≡ 0
+  pub unclaimed : new.unclaimed ≡ []
 
 -- where there is a superblock, all that the promises on crashes rest on holds of a stripe that
 -- opens so
@@ -67,3 +69,32 @@ abbrev pub GoesOn : {L : Type 0} → LegType L → At → List L → (master fir
 GoesOn type place legs master first policy None = Unit {0}
 GoesOn type place legs master first policy (Some d) =
     GoesOnAnew type place legs d master first policy
+
+-- how many blocks are left to copy to the first of the stripe's legs, as far as it can be told
+abbrev pub left_to_first : {L : Type 0} → ℕ → StripeState L → ℕ
+left_to_first zero stripe = 0
+left_to_first (suc legs) stripe = sum_of (left_to_first legs stripe) (left legs stripe)
+
+-- how many are left to copy to all of them
+abbrev pub left_to_all : {L : Type 0} → StripeState L → ℕ
+left_to_all stripe = left_to_first (length stripe.legs) stripe
+
+-- a stripe of this number has stopped, or has not, in a hold of it
+pub record HasStopped (L : Type 0) (number : ℕ) (stopped : Bool) : Type 0 where
+  pub stripe : StripeState L
+  pub number_is : stripe.place.stripe ≡ number
+  pub stopped_is : stripe.stopped ≡ stopped
+
+-- the stripe behind the lock was opened anew in a hold of it, with so many blocks left to copy
+pub record OpensAnew {L : Type 0} (place : At) (legs : List L) (policy : Policy) (blocks : ℕ)
+    : Type 0 where
+  pub held : Held L × Held L
+  pub number_is : held.0.gated.stripe.place.stripe ≡ place.stripe
+  pub reopens : Reopens place legs policy held.0 held.1
+  pub left : blocks ≡ left_to_all held.1.gated.stripe
+
+-- what came of a stripe that was to be opened anew at this place, on these legs
+abbrev pub EndsReopening : {L : Type 0} → At → List L → Policy → Reopened → Type 0
+EndsReopening {L} place legs policy reopened.Runs = HasStopped L place.stripe false
+EndsReopening place legs policy (reopened.Opened blocks) = OpensAnew place legs policy blocks
+EndsReopening place legs policy reopened.Stays = Unit {0}

@@ -1,5 +1,6 @@
 -- What is told of a stripe.
 use Rattle.std.specs.Prelude.{◌≡◌, ℕ, List, length, min, slice_get, Some, true, false}
+use Rattle.nm_replay.specs.declared.entry.Entry.{Entry}
 use Rattle.nm_rules.specs.State.{StripeState, leg_state, left}
 use Rattle.nm_mirror.specs.declared.status.LegStatus.{LegStatus}
 use Rattle.nm_mirror.specs.declared.status.StripeStatus.{StripeStatus}
@@ -26,3 +27,20 @@ IsStatus stripe Stopped = stripe.stopped ≡ true
 IsStatus stripe (Running master settling legs) =
     (stripe.stopped ≡ false) × (master ≡ stripe.master) × (settling ≡ stripe.settling)
     × AreLegs stripe legs.items
+
+-- this is told of a stripe of this number, in a hold of it
+pub record TellsOf (L : Type 0) (number : ℕ) (told : StripeStatus) : Type 0 where
+  pub stripe : StripeState L
+  pub number_is : stripe.place.stripe ≡ number
+  pub status : IsStatus stripe told
+
+-- what is told in order is of the stripes in order
+abbrev pub EachTellsOf : (L : Type 0) → List StripeStatus → Type 0
+EachTellsOf L told =
+    (number : ℕ) (one : StripeStatus) → slice_get told number ≡ Some one → TellsOf L number one
+
+-- a stripe of this number keeps these entries, in a hold of it
+pub record KeepsEntries (L : Type 0) (number : ℕ) (entries : List Entry) : Type 0 where
+  pub stripe : StripeState L
+  pub number_is : stripe.place.stripe ≡ number
+  pub entries_are : entries ≡ stripe.kept.entries

@@ -8,14 +8,29 @@ ghost use Rattle.nm_leg.specs.Leg.{leg_type};
 ghost use Rattle.nm_mirror.specs.Counting.{Follows};
 
 use crate::bounds::within_bounds;
+use crate::lock::Lock;
 use crate::mirror::Mirror;
 use crate::pass::Pass;
-use nm_lanes::{CallError, Gate, flush_by, read_by, sync_by};
+use nm_lanes::{CallError, Caller, Gate, flush_by, read_by, sync_by};
 use nm_leg::LegPart;
 use nm_replay::BLOCK_BYTES;
 use std::sync::Wait;
 
 impl<L: LegPart, G: Gate + Drop> Mirror<L, G> {
+    /// The caller that has the pass of this number.
+    pub(crate) fn caller<'a, R: Wait>(&'a self, rt: &'a R, number: u32) -> Caller<'a, R, G, Lock<L>>
+        ensures shape { result.shape.now ≡ self.now.shape }
+        ensures locks { length result.locks.now ≡ self.now.shape.stripes }
+    {
+        Caller {
+            rt,
+            shape: &self.shape,
+            gate: &self.gate,
+            locks: self.locks(),
+            pass: Some(number),
+        }
+    }
+
     /// Reads the bytes of the export from `offset` on into all of `into`: each block that they
     /// touch once, in order.
     ///
@@ -40,16 +55,8 @@ impl<L: LegPart, G: Gate + Drop> Mirror<L, G> {
             (record { offset = offset; length = length into.old }))
             (pass.old.parts.items, pass.new.parts.items)) }
     {
-        read_by(
-            rt,
-            &self.shape,
-            &self.gate,
-            Some(pass.number),
-            self.locks(),
-            pass.parts.as_mut_slice(),
-            offset,
-            into,
-        )
+        let caller = self.caller(rt, pass.number);
+        read_by(&caller, pass.parts.as_mut_slice(), offset, into)
     }
 
     /// Reads whole blocks of the export from this one on into all of `into`, as `read_at`.
@@ -89,14 +96,8 @@ impl<L: LegPart, G: Gate + Drop> Mirror<L, G> {
             self.now.shape.legs
             (IsStripeOf self.now.shape) (pass.old.parts.items, pass.new.parts.items)) }
     {
-        flush_by(
-            rt,
-            &self.shape,
-            &self.gate,
-            Some(pass.number),
-            self.locks(),
-            pass.parts.as_mut_slice(),
-        )
+        let caller = self.caller(rt, pass.number);
+        flush_by(&caller, pass.parts.as_mut_slice())
     }
 
     /// Syncs every leg of the stripes in which some of the bytes from `offset` on lie, as `flush`.
@@ -119,15 +120,7 @@ impl<L: LegPart, G: Gate + Drop> Mirror<L, G> {
             (Touches self.now.shape (record { offset = offset; length = len }))
             (pass.old.parts.items, pass.new.parts.items)) }
     {
-        sync_by(
-            rt,
-            &self.shape,
-            &self.gate,
-            Some(pass.number),
-            self.locks(),
-            pass.parts.as_mut_slice(),
-            offset,
-            len,
-        )
+        let caller = self.caller(rt, pass.number);
+        sync_by(&caller, pass.parts.as_mut_slice(), offset, len)
     }
 }

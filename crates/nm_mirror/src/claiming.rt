@@ -1,17 +1,24 @@
 //! Writes are claimed whose calls ended while no superblock could be saved.
+ghost use Rattle.std.specs.Prelude.{◌≡◌, reverse};
+ghost use Rattle.nm_leg.specs.Leg.{leg_type};
 ghost use Rattle.nm_mirror.specs.Asks.{LetsPass};
-ghost use Rattle.nm_mirror.specs.Claiming.{ClaimsFor};
+ghost use Rattle.nm_mirror.specs.Claiming.{ClaimsFor, LeavesGate};
+ghost use Rattle.nm_mirror.specs.ClaimingLeft.{ClaimsEach, ClaimsIfSaved, PushesWrite, TriesClaim};
+ghost use Rattle.nm_mirror.specs.ClaimingLeft.{with_none_left};
 ghost use Rattle.nm_mirror.specs.declared.ask.Ask.TheVariants.{Answer};
 
 use crate::ask::{Ask, refusal_of};
 use crate::held::Held;
-use crate::unclaimed::{MOST_WRITES, Unclaimed};
+use crate::unclaimed::Unclaimed;
 use nm_leg::LegPart;
 use nm_stripe::{Refusal, Stripe};
+use std::mem::replace;
 
 /// Pushes the write of this ticket to each leg that it owes.
-fn push_all<L: LegPart>(stripe: &mut Stripe<L>, ticket: u64) {
-    'legs: for _ in 0..8 {
+fn push_all<L: LegPart>(stripe: &mut Stripe<L>, ticket: u64)
+    ensures { PushesWrite (leg_type L.model L.honest) ticket stripe.old stripe.new }
+{
+    'pushes: for turn in 0..8usize {
         match stripe.next_owed(ticket) {
             Some(leg) if (leg as usize) < stripe.legs() => {
                 let _ = stripe.push(ticket, leg);
@@ -35,32 +42,46 @@ impl<L: LegPart> Held<L> {
                 self.past.landed = self.past.landed.saturating_add(count);
                 true
             }
-            Err(refusal) => refusal != Refusal::NotYet,
+            Err(Refusal::NotYet) => false,
+            Err(_) => true,
         }
     }
 
     // The same, where the gate lets that pass.
-    fn claim_where_saved(&mut self, ticket: u64) -> bool {
+    fn claim_where_saved(&mut self, ticket: u64) -> bool
+        ensures claims { ClaimsIfSaved ticket result self.old self.new }
+        ensures gate { LeavesGate self.old self.new }
+    {
         match refusal_of(&self.gated, Ask::Answer) {
             None => self.claim_for_nobody(ticket),
             Some(_) => false,
         }
     }
 
+    // Pushes the write of this ticket to each leg that it owes, and claims it where the gate lets
+    // that pass. Whether it is gone.
+    fn try_claim(&mut self, ticket: u64) -> bool
+        ensures tries { TriesClaim (leg_type L.model L.honest) ticket result self.old self.new }
+        ensures gate { LeavesGate self.old self.new }
+    {
+        push_all(&mut self.gated.stripe, ticket);
+        self.claim_where_saved(ticket)
+    }
+
     /// Claims the writes whose calls have ended, as far as the gate lets that pass and they reach
     /// their legs. The others stay for the next save.
-    pub(crate) fn claim_left(&mut self) {
+    pub(crate) fn claim_left(&mut self)
+        ensures each { ClaimsEach (leg_type L.model L.honest) (reverse self.old.unclaimed)
+            (with_none_left self.old) self.new }
+        ensures gate { self.new.gated.durable ≡ self.old.gated.durable }
+        ensures opening { self.new.openings ≡ self.old.openings }
+    {
         if self.unclaimed.is_empty() {
             return;
         }
-        let mut rest = self.unclaimed;
-        self.unclaimed = Unclaimed::new();
-        'writes: for _ in 0..MOST_WRITES {
-            let Some(ticket) = rest.take() else {
-                return;
-            };
-            push_all(&mut self.gated.stripe, ticket);
-            if !self.claim_where_saved(ticket) {
+        let mut rest = replace(&mut self.unclaimed, Unclaimed::new());
+        'writes: while let Some(ticket) = rest.take() {
+            if !self.try_claim(ticket) {
                 self.unclaimed.add(ticket);
             }
         }

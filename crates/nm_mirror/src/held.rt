@@ -1,5 +1,5 @@
 //! What is behind a stripe's lock.
-ghost use Rattle.std.specs.Prelude.{◌≡◌, ◌<◌, ◌↔◌, ℕ, length, false, true, IsTrue};
+ghost use Rattle.std.specs.Prelude.{◌≡◌, ◌<◌, ◌↔◌, ℕ, [], length, false, true, IsTrue};
 ghost use Rattle.nm_gate.specs.Durable.{is_named};
 ghost use Rattle.nm_leg.specs.Leg.{leg_type};
 ghost use Rattle.nm_leg.specs.LegCalls.{EachHas};
@@ -49,7 +49,7 @@ impl<L: LegPart> Held<L> {
         ensures gated { result.gated ≡ gated }
         ensures first { result.openings ≡ 0 }
         ensures past { result.past ≡ no_past }
-        ensures claimed { result.unclaimed.count ≡ 0 }
+        ensures claimed { result.unclaimed ≡ [] }
     {
         Held {
             gated,

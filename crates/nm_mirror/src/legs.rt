@@ -7,6 +7,7 @@ ghost use Rattle.nm_mirror.specs.Asks.{LetsJoin};
 ghost use Rattle.nm_rules.specs.Attach.{Returns, attach_cause};
 ghost use Rattle.nm_rules.specs.Failing.{GoesOut, fail_cause};
 ghost use Rattle.nm_rules.specs.State.{left};
+ghost use Rattle.nm_mirror.specs.Counted.{FailsEach, FailsIn, fail_answer};
 ghost use Rattle.nm_mirror.specs.Counts.{attached_so, attaches, failed_so, fails};
 
 use crate::ask::Ask;
@@ -27,6 +28,7 @@ pub(crate) fn fail_in<L: LegPart>(stripe: &mut Stripe<L>, leg: u8, counts: &mut 
     requires leg { leg < length stripe.old.legs }
     requires room { fails counts.old < 2 ^ 64 - 1 }
     ensures counts { counts.new ≡ failed_so (fail_cause stripe.old leg) counts.old }
+    ensures one { fails counts.new ≡ fails counts.old + 1 }
     ensures fails { fail_cause stripe.old leg ≡ None → GoesOut stripe.old stripe.new leg }
     ensures stays { IsSome (fail_cause stripe.old leg) → stripe.new ≡ stripe.old }
 {
@@ -35,6 +37,23 @@ pub(crate) fn fail_in<L: LegPart>(stripe: &mut Stripe<L>, leg: u8, counts: &mut 
         Err(Refusal::Stopped) => counts.stopped += 1,
         Err(Refusal::AlreadyOut) => counts.out += 1,
         Err(_) => counts.last += 1,
+    }
+}
+
+/// The same in a stripe that may have no such leg, which it tells as out.
+fn fail_if_there<L: LegPart>(stripe: &mut Stripe<L>, leg: u8, counts: &mut FailCounts)
+    requires room { fails counts.old < 2 ^ 64 - 1 }
+    ensures counts { counts.new ≡ failed_so (fail_answer stripe.old leg) counts.old }
+    ensures one { fails counts.new ≡ fails counts.old + 1 }
+    ensures fails { fail_answer stripe.old leg ≡ None → GoesOut stripe.old stripe.new leg }
+    ensures stays { IsSome (fail_answer stripe.old leg) → stripe.new ≡ stripe.old }
+{
+    if (leg as usize) < stripe.legs() {
+        fail_in(stripe, leg, counts);
+    } else if stripe.is_stopped() {
+        counts.stopped += 1;
+    } else {
+        counts.out += 1;
     }
 }
 
@@ -66,6 +85,7 @@ fn attach_in<L: LegPart>(gated: &mut GatedStripe<L>, leg: u8, counts: &mut Attac
     requires room { attaches counts.old < 2 ^ 64 - 1 }
     ensures counts { counts.new ≡ attached_so (attach_cause gated.old.stripe leg)
         (left leg gated.new.stripe) counts.old }
+    ensures one { attaches counts.new ≡ attaches counts.old + 1 }
     ensures returns { attach_cause gated.old.stripe leg ≡ None
         → Returns L.model gated.old.stripe gated.new.stripe leg
         (suspects leg gated.old.durable) }
@@ -89,7 +109,7 @@ impl<L: LegPart> Held<L> {
         requires joins { LetsJoin self.old.gated.durable self.old.gated.stripe leg }
         requires leg { leg < length self.old.gated.stripe.legs }
         requires room { attaches counts.old < 2 ^ 64 - 1 }
-        ensures { attaches counts.new ≤ attaches counts.old + 1 }
+        ensures { attaches counts.new ≡ attaches counts.old + 1 }
     {
         attach_in(&mut self.gated, leg, counts);
     }
@@ -98,7 +118,7 @@ impl<L: LegPart> Held<L> {
 /// Counts a stripe in which the leg stays as it is.
 fn count_unchanged<L: LegPart>(stripe: &Stripe<L>, counts: &mut AttachCounts)
     requires { attaches counts.old < 2 ^ 64 - 1 }
-    ensures { attaches counts.new ≤ attaches counts.old + 1 }
+    ensures { attaches counts.new ≡ attaches counts.old + 1 }
 {
     if stripe.is_stopped() {
         counts.stopped += 1;
@@ -153,8 +173,10 @@ fn hold_to_attach<'x, L: LegPart, R: Wait>(
     rt: &R,
     leg: u8,
 ) -> Option<MutexGuard<'x, Held<L>>>
-    ensures { IfSome result (λ guard. LetsJoin (mutex_guard_value guard).gated.durable
+    ensures joins { IfSome result (λ guard. LetsJoin (mutex_guard_value guard).gated.durable
         (mutex_guard_value guard).gated.stripe leg) }
+    ensures number { IfSome result (λ guard.
+        (mutex_guard_value guard).gated.stripe.place.stripe ≡ lock.now.number) }
 {
     let held = lock.hold(rt);
     if !may_join(&held.gated.stripe, leg) {
@@ -169,18 +191,32 @@ impl<L: LegPart, G: Gate + Drop> Mirror<L, G> {
     /// but wants the loss to be saved.
     pub fn fail_leg<R: Wait>(&self, rt: &R, leg: u8) -> FailCounts
         requires { leg < self.now.shape.legs }
+        ensures all { fails result ≡ self.now.shape.stripes }
+        ensures each { FailsEach L leg self.now.shape.stripes result }
     {
-        let mut counts = FailCounts::default();
+        let mut counts = FailCounts {
+            failed: 0,
+            last: 0,
+            out: 0,
+            stopped: 0,
+        };
         for stripe in 0..self.shape.stripes {
-            let mut held = self.hold(rt, stripe);
-            if (leg as usize) < held.gated.stripe.legs() {
-                fail_in(&mut held.gated.stripe, leg, &mut counts);
-            }
-            drop(held);
+            self.fail_one(rt, stripe, leg, &mut counts);
             self.pass_gate(CallKind::FailLeg, stripe, StepKind::Fail);
         }
         self.want_save(rt);
         counts
+    }
+
+    /// Takes the leg out of the stripe of this number, and counts what came of it.
+    fn fail_one<R: Wait>(&self, rt: &R, stripe: u32, leg: u8, counts: &mut FailCounts)
+        requires stripe { stripe < self.now.shape.stripes }
+        requires room { fails counts.old < 2 ^ 64 - 1 }
+        ensures one { fails counts.new ≡ fails counts.old + 1 }
+        ensures counts { FailsIn L leg stripe counts.old counts.new }
+    {
+        let mut held = self.hold(rt, stripe);
+        fail_if_there(&mut held.gated.stripe, leg, counts);
     }
 
     /// Takes the leg out of each stripe in which it joins, or from which others are copied that
@@ -198,7 +234,9 @@ impl<L: LegPart, G: Gate + Drop> Mirror<L, G> {
     }
 
     /// How an attach of the leg counts, where it is out in no stripe: none where it is out in one.
-    fn count_attached<R: Wait>(&self, rt: &R, leg: u8) -> Option<AttachCounts> {
+    fn count_attached<R: Wait>(&self, rt: &R, leg: u8) -> Option<AttachCounts>
+        ensures { IfSome result (λ counts. attaches counts ≡ self.now.shape.stripes) }
+    {
         let mut counts = AttachCounts::default();
         for stripe in 0..self.shape.stripes {
             let held = self.hold(rt, stripe);
@@ -213,14 +251,18 @@ impl<L: LegPart, G: Gate + Drop> Mirror<L, G> {
     /// Lets the leg join each stripe again in which it is out, and counts what came of it. Where a
     /// superblock may still call it in sync there, it waits for the next one. Nothing is copied to
     /// it from a master in doubt that is not the last in sync.
-    fn return_leg<R: Wait, D: Doubts>(&self, rt: &R, leg: u8, doubts: &D) -> AttachCounts {
+    fn return_leg<R: Wait, D: Doubts>(&self, rt: &R, leg: u8, doubts: &D) -> AttachCounts
+        ensures { attaches result ≡ self.now.shape.stripes }
+    {
         let mut counts = AttachCounts::default();
         for stripe in 0..self.shape.stripes {
-            match hold_to_attach(&self.locks[stripe as usize], rt, leg) {
+            match hold_to_attach(self.lock_of(stripe), rt, leg) {
                 Some(mut held) => {
                     if (leg as usize) < held.gated.stripe.legs() {
                         held.attach(leg, &mut counts);
                         drop_doubted_master(&mut held.gated.stripe, leg, doubts);
+                    } else {
+                        count_unchanged(&held.gated.stripe, &mut counts);
                     }
                 }
                 None => counts.stopped += 1,
@@ -244,6 +286,7 @@ impl<L: LegPart, G: Gate + Drop> Mirror<L, G> {
         doubts: &D,
     ) -> AttachCounts
         requires { leg < self.now.shape.legs }
+        ensures { attaches result ≡ self.now.shape.stripes }
     {
         if let Some(counts) = self.count_attached(rt, leg) {
             return counts;

@@ -66,6 +66,7 @@ mod replacing;
 mod resync;
 mod save_desk;
 mod save_order;
+mod save_taking;
 mod saving;
 mod settling;
 mod shutting;

@@ -163,8 +163,10 @@ impl<L: LegPart> Lock<L> {
     /// Meanwhile it asks for saves. None where none can be done.
     #[inline(always)]
     pub(crate) fn hold_for<R: Wait>(&self, rt: &R, ask: Ask) -> Option<MutexGuard<'_, Held<L>>>
-        ensures { IfSome result (λ guard. LetsPass (mutex_guard_value guard).gated.durable
+        ensures passes { IfSome result (λ guard. LetsPass (mutex_guard_value guard).gated.durable
             (mutex_guard_value guard).gated.stripe ask) }
+        ensures number { IfSome result (λ guard.
+            (mutex_guard_value guard).gated.stripe.place.stripe ≡ self.now.number) }
     {
         let held = self.hold(rt);
         if refusal_of(&held.gated, ask).is_none() {
@@ -177,8 +179,10 @@ impl<L: LegPart> Lock<L> {
     // Asks for a save where the gate refuses this, and tries again once one is done.
     #[cold]
     fn hold_once_saved<R: Wait>(&self, rt: &R, ask: Ask) -> Option<MutexGuard<'_, Held<L>>>
-        ensures { IfSome result (λ guard. LetsPass (mutex_guard_value guard).gated.durable
+        ensures passes { IfSome result (λ guard. LetsPass (mutex_guard_value guard).gated.durable
             (mutex_guard_value guard).gated.stripe ask) }
+        ensures number { IfSome result (λ guard.
+            (mutex_guard_value guard).gated.stripe.place.stripe ≡ self.now.number) }
     {
         for _ in rt.forever() {
             let held = self.hold(rt);

@@ -9,7 +9,7 @@ use crate::mirror_fault::MirrorFault;
 use crate::opening::Opening;
 use nm_geometry::Shape;
 use nm_leg::LegPart;
-use nm_rules::LegOpening;
+use nm_rules::{LegOpening, MarkedPlan};
 use nm_stripe::{Policy, Stripe};
 use std::alloc::Global;
 
@@ -56,18 +56,13 @@ impl<L: LegPart> Opening<L> {
         if self.stripes.reserve(1).is_err() {
             return Err(MirrorFault::Memory);
         }
-        let others = &start.legs[..legs.len()];
-        match Stripe::open_marked(
-            alloc,
-            place,
-            legs,
-            start.master,
-            others,
+        let plan = MarkedPlan {
+            master: start.master,
+            others: &start.legs[..legs.len()],
             marked,
             span,
-            0,
-            policy,
-        ) {
+        };
+        match Stripe::open_marked(alloc, place, legs, &plan, 0, policy) {
             Ok(stripe) => {
                 self.stripes.push_reserved(stripe);
                 Ok(())

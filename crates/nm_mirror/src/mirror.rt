@@ -141,12 +141,20 @@ impl<L: LegPart, G: Gate + Drop> Mirror<L, G> {
         self.locks.as_slice()
     }
 
+    /// The lock of the stripe of this number.
+    pub(crate) fn lock_of(&self, stripe: u32) -> &Lock<L>
+        requires { stripe < self.now.shape.stripes }
+        ensures { result.now.number ≡ stripe }
+    {
+        &self.locks[stripe as usize]
+    }
+
     /// Waits for the stripe of this number, and takes it until the guard is dropped.
     pub(crate) fn hold<R: Wait>(&self, rt: &R, stripe: u32) -> MutexGuard<'_, Held<L>>
         requires { stripe < self.now.shape.stripes }
         ensures { (mutex_guard_value result).gated.stripe.place.stripe ≡ stripe }
     {
-        self.locks[stripe as usize].hold(rt)
+        self.lock_of(stripe).hold(rt)
     }
 
     /// How the mirror's blocks lie in its stripes.

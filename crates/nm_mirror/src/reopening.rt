@@ -1,5 +1,7 @@
 //! Stripes that stopped are opened anew, and saves that could not be done are tried again.
 ghost use Rattle.std.specs.Prelude.{◌≡◌, ◌<◌};
+ghost use Rattle.nm_mirror.specs.Reopening.{EndsReopening, HasStopped, left_to_all};
+ghost use Rattle.nm_mirror.specs.Stripes.{place_of};
 
 use crate::ask::Ask;
 use crate::bounds::within_bounds;
@@ -23,7 +25,9 @@ pub enum Reopened {
 }
 
 /// How many blocks are left to copy to all legs of the stripe.
-fn left_in<L: LegPart>(stripe: &Stripe<L>) -> u64 {
+fn left_in<L: LegPart>(stripe: &Stripe<L>) -> u64
+    ensures { result ≡ left_to_all stripe.now }
+{
     let mut blocks = 0u64;
     'legs: for leg in 0..stripe.legs() {
         blocks = blocks.saturating_add(stripe.left(leg as u8));
@@ -35,6 +39,7 @@ impl<L: LegPart, G: Gate + Drop> Mirror<L, G> {
     /// Whether the stripe has stopped.
     pub fn has_stopped<R: Wait>(&self, rt: &R, stripe: u32) -> bool
         requires { stripe < self.now.shape.stripes }
+        ensures { HasStopped L stripe result }
     {
         self.hold(rt, stripe).gated.stripe.is_stopped()
     }
@@ -54,6 +59,7 @@ impl<L: LegPart, G: Gate + Drop> Mirror<L, G> {
         policy: Policy,
     ) -> Reopened
         requires { stripe < self.now.shape.stripes }
+        ensures { EndsReopening (place_of stripe self.now.shape) legs.items policy result }
     {
         within_bounds(&self.shape);
         if !self.has_stopped(rt, stripe) {
@@ -63,7 +69,7 @@ impl<L: LegPart, G: Gate + Drop> Mirror<L, G> {
         if legs.len() != self.shape.legs as usize || !have_all(&legs, place.blocks) {
             return Reopened::Stays;
         }
-        let lock = &self.locks[stripe as usize];
+        let lock = self.lock_of(stripe);
         let Some(mut held) = lock.hold_for(rt, Ask::Answer) else {
             return Reopened::Stays;
         };

@@ -1,11 +1,13 @@
 //! Puts another leg in the place of one in every stripe.
 ghost use Rattle.std.specs.Prelude.{◌≡◌, ◌≢◌, ◌+◌, ◌-◌, ◌^◌, ◌<◌, ◌≤◌, ◌↔◌, length, None};
-ghost use Rattle.std.specs.Prelude.{IfErr, IsSome, IsTrue, OnOk};
+ghost use Rattle.std.specs.Prelude.{IfErr, IfOk, IfSome, IsSome, IsTrue, OnOk, Some, true};
+ghost use Rattle.std.specs.Prelude.{if◌then◌else◌};
+ghost use Rattle.nm_choice.specs.declared.leg_state.LegState.TheVariants.{Out};
 ghost use Rattle.nm_rules.specs.Attach.{Replaces, attach_cause};
-ghost use Rattle.nm_rules.specs.State.{left};
+ghost use Rattle.nm_rules.specs.State.{left, leg_state};
 ghost use Rattle.nm_mirror.specs.Asks.{LetsPass};
 ghost use Rattle.nm_mirror.specs.Counts.{replaced_so, replaces};
-ghost use Rattle.nm_mirror.specs.Replacing.{IsOnlyOne};
+ghost use Rattle.nm_mirror.specs.Replacing.{EndsWithdrawal, IsOnlyOne, IsWithdrawn};
 ghost use Rattle.nm_mirror.specs.declared.ask.Ask.TheVariants as ask;
 
 use crate::ask::Ask;
@@ -47,6 +49,26 @@ fn is_only_one<L: LegPart>(stripe: &Stripe<L>, leg: u8) -> bool
     true
 }
 
+/// How many stripes have stopped, with this one, if so many others have.
+fn count_stopped<L: LegPart>(stripe: &Stripe<L>, stopped: u64) -> u64
+    requires { stopped < 2 ^ 64 - 1 }
+    ensures counts { result ≡ (if stripe.now.stopped then stopped + 1 else stopped) }
+    ensures few { result ≤ stopped + 1 }
+{
+    if stripe.is_stopped() {
+        stopped + 1
+    } else {
+        stopped
+    }
+}
+
+/// Whether the stripe has no such leg, or it is out.
+fn is_gone<L: LegPart>(stripe: &Stripe<L>, leg: u8) -> bool
+    ensures { IsTrue result → leg < length stripe.now.legs → leg_state leg stripe.now ≡ Out }
+{
+    (leg as usize) >= stripe.legs() || stripe.state(leg) == LegState::Out
+}
+
 /// Puts the new leg in the place of this one in this stripe, and counts what came of it.
 fn replace_in<L: LegPart>(stripe: &mut Stripe<L>, leg: u8, part: L, counts: &mut ReplaceCounts)
     requires leg { leg < length stripe.old.legs }
@@ -54,6 +76,7 @@ fn replace_in<L: LegPart>(stripe: &mut Stripe<L>, leg: u8, part: L, counts: &mut
     requires room { replaces counts.old < 2 ^ 64 - 1 }
     ensures counts { counts.new
         ≡ replaced_so (attach_cause stripe.old leg) (left leg stripe.new) counts.old }
+    ensures one { replaces counts.new ≡ replaces counts.old + 1 }
     ensures replaces { attach_cause stripe.old leg ≡ None
         → Replaces stripe.old stripe.new leg part }
     ensures stays { IsSome (attach_cause stripe.old leg) → stripe.new ≡ stripe.old }
@@ -75,7 +98,7 @@ impl<L: LegPart> Held<L> {
         requires leg { leg < length self.old.gated.stripe.legs }
         requires length { length (L.model part).contents ≡ self.old.gated.stripe.place.blocks }
         requires room { replaces counts.old < 2 ^ 64 - 1 }
-        ensures { replaces counts.new ≤ replaces counts.old + 1 }
+        ensures { replaces counts.new ≡ replaces counts.old + 1 }
     {
         replace_in(&mut self.gated.stripe, leg, part, counts);
     }
@@ -84,16 +107,16 @@ impl<L: LegPart> Held<L> {
 impl<L: LegPart, G: Gate + Drop> Mirror<L, G> {
     /// Why the leg cannot be taken out to be replaced, as the stripes are looked at one after the
     /// other.
-    fn hindrance_to_withdraw<R: Wait>(&self, rt: &R, leg: u8) -> Option<Withdrawal> {
+    fn hindrance_to_withdraw<R: Wait>(&self, rt: &R, leg: u8) -> Option<Withdrawal>
+        ensures { IfSome result (EndsWithdrawal L leg self.now.shape.stripes) }
+    {
         let mut stopped = 0u64;
-        for lock in &self.locks {
-            let held = lock.hold(rt);
+        for stripe in 0..self.shape.stripes {
+            let held = self.hold(rt, stripe);
             if (leg as usize) < held.gated.stripe.legs() && is_only_one(&held.gated.stripe, leg) {
                 return Some(Withdrawal::Last);
             }
-            if held.gated.stripe.is_stopped() {
-                stopped = stopped.saturating_add(1);
-            }
+            stopped = count_stopped(&held.gated.stripe, stopped);
         }
         if stopped == 0 {
             return None;
@@ -101,31 +124,70 @@ impl<L: LegPart, G: Gate + Drop> Mirror<L, G> {
         Some(Withdrawal::Stopped(stopped))
     }
 
+    /// Takes the leg out of every stripe. Why another may not take its place, where it stays in
+    /// some.
+    fn hindrance_to_fail<R: Wait>(&self, rt: &R, leg: u8) -> Option<Withdrawal>
+        requires { leg < self.now.shape.legs }
+        ensures { IfSome result (EndsWithdrawal L leg self.now.shape.stripes) }
+    {
+        let counts = self.fail_leg(rt, leg);
+        if counts.last > 0 {
+            return Some(Withdrawal::Last);
+        }
+        if counts.stopped > 0 {
+            return Some(Withdrawal::Stopped(counts.stopped));
+        }
+        None
+    }
+
+    /// Waits until a superblock is saved that says nothing of what the leg holds in the stripe of
+    /// this number. Whether it is out there: not where it joined again meanwhile. None where no
+    /// superblock can be saved.
+    fn wait_to_replace<R: Wait>(&self, rt: &R, stripe: u32, leg: u8) -> Option<bool>
+        requires { stripe < self.now.shape.stripes }
+        ensures { result ≡ Some true → IsWithdrawn L leg stripe }
+    {
+        let held = self.lock_of(stripe).hold_for(rt, Ask::Replace(leg))?;
+        Some(is_gone(&held.gated.stripe, leg))
+    }
+
+    /// The same in every stripe. None where the leg joined one again meanwhile.
+    fn await_withdrawal<R: Wait>(&self, rt: &R, leg: u8) -> Option<Withdrawal>
+        ensures { IfSome result (EndsWithdrawal L leg self.now.shape.stripes) }
+    {
+        for stripe in 0..self.shape.stripes {
+            match self.wait_to_replace(rt, stripe, leg) {
+                Some(true) => (),
+                Some(false) => return None,
+                None => return Some(Withdrawal::NotSaved),
+            }
+        }
+        Some(Withdrawal::Out)
+    }
+
     /// Takes the leg out of every stripe so that another may take its place, and waits until a
     /// superblock is saved that says nothing of what it holds.
     ///
     /// All stripes are looked at first. Where the leg is the only one in sync in some of them, or
     /// some have stopped, nothing is done. What becomes so after that look is refused the same way:
-    /// then the leg stays out of the stripes that it was taken out of by then.
+    /// then the leg stays out of the stripes that it was taken out of by then. Where somebody lets
+    /// it join one again meanwhile, all is done once more.
     pub fn withdraw_leg<R: Wait>(&self, rt: &R, leg: u8) -> Withdrawal
         requires { leg < self.now.shape.legs }
+        ensures { EndsWithdrawal L leg self.now.shape.stripes result }
     {
-        if let Some(why) = self.hindrance_to_withdraw(rt, leg) {
-            return why;
-        }
-        let counts = self.fail_leg(rt, leg);
-        if counts.last > 0 {
-            return Withdrawal::Last;
-        }
-        if counts.stopped > 0 {
-            return Withdrawal::Stopped(counts.stopped);
-        }
-        for lock in &self.locks {
-            if lock.hold_for(rt, Ask::Replace(leg)).is_none() {
-                return Withdrawal::NotSaved;
+        for _ in rt.forever() {
+            if let Some(why) = self.hindrance_to_withdraw(rt, leg) {
+                return why;
+            }
+            if let Some(why) = self.hindrance_to_fail(rt, leg) {
+                return why;
+            }
+            if let Some(end) = self.await_withdrawal(rt, leg) {
+                return end;
             }
         }
-        Withdrawal::Out
+        unreachable!()
     }
 
     /// Puts these legs, one a stripe, in the place of this one, which is out since `withdraw_leg`,
@@ -142,6 +204,7 @@ impl<L: LegPart, G: Gate + Drop> Mirror<L, G> {
     ) -> Result<ReplaceCounts, Vec<L>>
         requires { leg < self.now.shape.legs }
         ensures all { OnOk result (length parts.items ≡ self.now.shape.stripes) }
+        ensures counted { IfOk result (λ counts. replaces counts ≡ self.now.shape.stripes) }
         ensures handed_back { IfErr result (λ back. (back.items ≡ parts.items)
             × (length parts.items ≢ self.now.shape.stripes)) }
     {
@@ -152,8 +215,9 @@ impl<L: LegPart, G: Gate + Drop> Mirror<L, G> {
         let mut rest = parts;
         rest.reverse();
         for stripe in 0..self.shape.stripes {
-            if let Some(part) = rest.pop() {
-                self.replace_part(rt, stripe, leg, part, &mut counts);
+            match rest.pop() {
+                Some(part) => self.replace_part(rt, stripe, leg, part, &mut counts),
+                None => counts.out += 1,
             }
             self.pass_gate(CallKind::AttachLeg, stripe, StepKind::Replace);
         }
@@ -172,9 +236,9 @@ impl<L: LegPart, G: Gate + Drop> Mirror<L, G> {
     )
         requires stripe { stripe < self.now.shape.stripes }
         requires room { replaces counts.old < 2 ^ 64 - 1 }
-        ensures { replaces counts.new ≤ replaces counts.old + 1 }
+        ensures { replaces counts.new ≡ replaces counts.old + 1 }
     {
-        let Some(mut held) = self.locks[stripe as usize].hold_for(rt, Ask::Replace(leg)) else {
+        let Some(mut held) = self.lock_of(stripe).hold_for(rt, Ask::Replace(leg)) else {
             counts.out += 1;
             return;
         };

@@ -1,4 +1,6 @@
 //! What is wanted of the next superblock, and who waits for it.
+ghost use Rattle.std.specs.Prelude.{◌≡◌, ◌&&◌, false, nat_le, not, true};
+ghost use Rattle.nm_mirror.specs.SaveDesk.{asked, asked_again, no_wants, taken, wanted_of};
 
 use std::sync::{Condvar, Mutex, Wait};
 use std::time::{Clock, Duration};
@@ -33,8 +35,27 @@ struct Wants {
 }
 
 impl Wants {
-    // Asks for a save, which marks this span too, and calls this leg partial nowhere.
-    fn ask(&mut self, span: Option<u64>, whole: Option<u8>) {
+    // Nothing is wanted yet.
+    fn new() -> Wants
+        ensures { result ≡ no_wants }
+    {
+        Wants {
+            spans: [false; MOST_SPANS],
+            whole: [false; 8],
+            is_wanted: false,
+            begun: 0,
+            ended: 0,
+            is_broken: false,
+            is_again: false,
+            is_closed: false,
+        }
+    }
+
+    // Asks for a save, which marks this span too, and calls this leg partial nowhere. Nothing
+    // changes where one could not be done.
+    fn ask(&mut self, span: Option<u64>, whole: Option<u8>)
+        ensures { self.new ≡ asked span whole self.old }
+    {
         if self.is_broken {
             return;
         }
@@ -52,24 +73,34 @@ impl Wants {
     }
 
     // Asks for a save though one could not be done.
-    fn ask_again(&mut self) {
+    fn ask_again(&mut self)
+        ensures { self.new ≡ asked_again self.old }
+    {
         self.is_broken = false;
         self.is_again = true;
         self.ask(None, None);
     }
 
     // Whether nothing is to be done.
-    fn is_idle(&self) -> bool {
+    fn is_idle(&self) -> bool
+        ensures { result ≡ (not self.now.is_wanted && not self.now.is_closed) }
+    {
         !self.is_wanted && !self.is_closed
     }
 
     // Whether none of the saves after the last one of so many has ended, and one may yet.
-    fn is_to_come(&self, begun: u64) -> bool {
+    fn is_to_come(&self, begun: u64) -> bool
+        ensures { result ≡ (nat_le self.now.ended begun && not self.now.is_broken
+            && not self.now.is_closed) }
+    {
         self.ended <= begun && !self.is_broken && !self.is_closed
     }
 
     // Begins a save of what is wanted so far.
-    fn take(&mut self) -> Wanted {
+    fn take(&mut self) -> Wanted
+        ensures wanted { result ≡ wanted_of self.old }
+        ensures taken { self.new ≡ taken self.old }
+    {
         let wanted = Wanted {
             spans: self.spans,
             whole: self.whole,
@@ -79,6 +110,31 @@ impl Wants {
         self.is_wanted = false;
         self.begun = self.begun.saturating_add(1);
         wanted
+    }
+
+    // Whether the save that is wanted is tried again. It is told once.
+    fn take_again(&mut self) -> bool
+        ensures told { result ≡ self.old.is_again }
+        ensures once { self.new ≡ record self.old { is_again = false } }
+    {
+        let is_again = self.is_again;
+        self.is_again = false;
+        is_again
+    }
+
+    // Ends the saves that have begun.
+    fn end(&mut self)
+        ensures { self.new ≡ record self.old { ended = self.old.begun } }
+    {
+        self.ended = self.begun;
+    }
+
+    // No save is done until it is tried again.
+    fn fail(&mut self)
+        ensures { self.new ≡ record self.old { is_broken = true; is_wanted = false } }
+    {
+        self.is_broken = true;
+        self.is_wanted = false;
     }
 }
 
@@ -96,16 +152,7 @@ impl SaveDesk {
     /// A desk at which nothing is wanted.
     pub(crate) fn new() -> SaveDesk {
         SaveDesk {
-            wants: Mutex::new(Wants {
-                spans: [false; MOST_SPANS],
-                whole: [false; 8],
-                is_wanted: false,
-                begun: 0,
-                ended: 0,
-                is_broken: false,
-                is_again: false,
-                is_closed: false,
-            }),
+            wants: Mutex::new(Wants::new()),
             changed: Condvar::new(),
         }
     }
@@ -163,10 +210,7 @@ impl SaveDesk {
 
     /// Whether the save that is wanted is tried again. It is told once.
     pub(crate) fn takes_another_try<R: Wait>(&self, rt: &R) -> bool {
-        let mut wants = self.wants.lock(rt);
-        let is_again = wants.is_again;
-        wants.is_again = false;
-        is_again
+        self.wants.lock(rt).take_again()
     }
 
     /// Waits until a save is wanted: false once the desk is closed.
@@ -184,18 +228,13 @@ impl SaveDesk {
 
     /// Ends the save that has begun: who waits for it goes on.
     pub(crate) fn end<R: Wait>(&self, rt: &R) {
-        let mut wants = self.wants.lock(rt);
-        wants.ended = wants.begun;
-        drop(wants);
+        self.wants.lock(rt).end();
         self.changed.notify_all();
     }
 
     /// A save could not be done, and none is until it is tried again: nobody waits from now on.
     pub(crate) fn fail<R: Wait>(&self, rt: &R) {
-        let mut wants = self.wants.lock(rt);
-        wants.is_broken = true;
-        wants.is_wanted = false;
-        drop(wants);
+        self.wants.lock(rt).fail();
         self.changed.notify_all();
     }
 

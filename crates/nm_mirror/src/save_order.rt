@@ -1,8 +1,10 @@
 //! What the next superblock says of each stripe.
-ghost use Rattle.std.specs.Prelude.{◌≡◌, ◌<◌};
+ghost use Rattle.std.specs.Prelude.{◌≡◌, ◌<◌, slice_index_or};
+ghost use Rattle.nm_gate.specs.Claims.{no_claims};
 ghost use Rattle.nm_mirror.specs.Saves.{IsMapOf, IsSetOf, SaysClaims, SetsClaims};
 
 use crate::save_desk::MOST_SPANS;
+use crate::save_taking::Taken;
 use nm_gate::LegClaims;
 use nm_superblock::{LegSets, SpanMap};
 
@@ -16,12 +18,14 @@ pub(crate) const NO_CLAIMS: LegClaims = LegClaims {
     partial: [false; 8],
 };
 
-/// What the next superblock says of each stripe: what each claims of its legs, and the spans that
-/// are marked. Only a mirror makes one, as a save begins, and takes it back as the save ends.
+/// What the next superblock says of each stripe: what each claims of its legs, but for those that
+/// are to be whole, and the spans that are marked. Only a mirror makes one, as a save begins, and
+/// takes it back as the save ends.
 #[derive(Drop)]
 pub struct SaveOrder {
     pub(crate) claims: [LegClaims; MOST_STRIPES],
     pub(crate) spans: [bool; MOST_SPANS],
+    pub(crate) whole: [bool; 8],
     sets: LegSets,
     marked: SpanMap,
     out: [bool; 8],
@@ -77,38 +81,47 @@ fn map_of(spans: &[bool; MOST_SPANS]) -> SpanMap
 }
 
 impl SaveOrder {
-    /// What a superblock says that makes these claims, and marks these spans; and the legs that are
-    /// out in every stripe.
-    pub(crate) fn new(
-        claims: [LegClaims; MOST_STRIPES],
-        spans: [bool; MOST_SPANS],
-        out: [bool; 8],
-    ) -> SaveOrder
-        ensures claims { result.claims ≡ claims }
-        ensures spans { result.spans ≡ spans }
-        ensures out { result.out ≡ out }
+    /// What a superblock says that makes the claims that were taken, and marks the spans; and the
+    /// legs that are out in every stripe, and those that are to be whole.
+    pub(crate) fn new(taken: Taken, whole: [bool; 8]) -> SaveOrder
+        ensures claims { result.claims ≡ taken.claims }
+        ensures spans { result.spans ≡ taken.spans }
+        ensures out { result.out ≡ taken.out }
+        ensures whole { result.whole ≡ whole }
     {
+        let Taken { claims, spans, out } = taken;
         let sets = sets_of(&claims);
         let marked = map_of(&spans);
         SaveOrder {
             claims,
             spans,
+            whole,
             sets,
             marked,
             out,
         }
     }
 
+    /// What it claims of the stripe of this number.
+    pub(crate) fn claims_on(&self, number: u32) -> LegClaims
+        requires { number < 64 }
+        ensures { result ≡ slice_index_or self.now.claims number no_claims }
+    {
+        self.claims[number as usize]
+    }
+
     /// What it says of the legs of each stripe.
     pub fn sets(&self) -> &LegSets
-        ensures { SaysClaims self.now.claims result.now }
+        ensures says { SaysClaims self.now.claims result.now }
+        ensures same { result.now ≡ self.now.sets }
     {
         &self.sets
     }
 
     /// The spans that it marks, in every stripe.
     pub fn marked(&self) -> &SpanMap
-        ensures { IsMapOf self.now.spans result.now }
+        ensures marks { IsMapOf self.now.spans result.now }
+        ensures same { result.now ≡ self.now.marked }
     {
         &self.marked
     }

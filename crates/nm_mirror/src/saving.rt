@@ -1,40 +1,18 @@
 //! Saves: what the next superblock says is taken from the stripes, and they are told once it is
 //! durable.
-ghost use Rattle.nm_mirror.specs.Saves.{IsJoined};
+ghost use Rattle.std.specs.Prelude.{◌≡◌};
+ghost use Rattle.nm_mirror.specs.Saving.{AreAmong, IsTaken, taken_for};
 
 use crate::bounds::within_bounds;
 use crate::mirror::Mirror;
 use crate::save_desk::{MOST_SPANS, Wanted};
-use crate::save_order::{MOST_STRIPES, NO_CLAIMS, SaveOrder};
-use crate::whole::called_whole;
-use nm_gate::GatedStripe;
+use crate::save_order::SaveOrder;
+use crate::save_taking::{Taken, end_at, fail_at, join_marks};
 use nm_lanes::Gate;
 use nm_leg::LegPart;
-use nm_stripe::LegState;
+use nm_saves::Saved;
 use std::sync::Wait;
 use std::time::{Clock, Duration};
-
-/// Adds these marks to the spans.
-fn join_marks(spans: &mut [bool; MOST_SPANS], marks: &[bool])
-    ensures { IsJoined marks.now spans.old spans.new }
-{
-    let count = marks.len().min(MOST_SPANS);
-    'spans: for span in 0..count {
-        if marks[span] {
-            spans[span] = true;
-        }
-    }
-}
-
-/// Takes the legs away from the set that are not out in the stripe.
-fn keep_out<L: LegPart>(gated: &GatedStripe<L>, out: &mut [bool; 8]) {
-    let count = gated.stripe.legs().min(8);
-    'legs: for leg in 0..count {
-        if gated.stripe.state(leg as u8) != LegState::Out {
-            out[leg] = false;
-        }
-    }
-}
 
 /// Saves, for the one thread that does them: `next_save`, then `begin_save`, then `end_save` or
 /// `fail_save`. In a mirror without superblocks none is ever wanted.
@@ -82,46 +60,75 @@ impl<L: LegPart, G: Gate + Drop> Mirror<L, G> {
         }
     }
 
-    /// What is wanted, with the spans that a stripe has marked. A save begins with it.
+    /// What is wanted of the save that begins.
     fn wanted_to_save<R: Wait>(&self, rt: &R) -> Wanted {
-        let mut wanted = match &self.desk {
+        match &self.desk {
             Some(desk) => desk.begin(rt),
             None => Wanted {
                 spans: [false; MOST_SPANS],
                 whole: [false; 8],
             },
-        };
-        for lock in &self.locks {
-            join_marks(&mut wanted.spans, lock.hold(rt).gated.marks());
         }
-        wanted
+    }
+
+    /// Adds the spans that a stripe has marked.
+    #[tactic(auto, using(crate::proofs::TakingLemmas::among_same, crate::proofs::TakingLemmas::join_among))]
+    fn join_all_marks<R: Wait>(&self, rt: &R, spans: &mut [bool; MOST_SPANS])
+        ensures { AreAmong spans.old spans.new }
+    {
+        'locks: for lock in &self.locks {
+            join_marks(spans, lock.hold(rt).gated.marks());
+        }
+    }
+
+    /// Takes from each stripe what the next superblock says of it, with these spans.
+    #[tactic(auto, using(crate::proofs::TakingLemmas::none_taken, crate::proofs::TakingLemmas::none_long, crate::proofs::TakingLemmas::take_more, crate::proofs::TakingLemmas::take_long, crate::proofs::TakingLemmas::take_among, crate::proofs::TakingLemmas::among_same))]
+    fn take_all<R: Wait>(&self, rt: &R, spans: [bool; MOST_SPANS], whole: &[bool; 8]) -> Taken
+        ensures taken { IsTaken L self.now.shape.stripes whole.now result }
+        ensures wanted { AreAmong spans result.spans }
+    {
+        within_bounds(&self.shape);
+        let mut taken = Taken::new(spans);
+        'stripes: for stripe in 0..self.shape.stripes {
+            let mut held = self.hold(rt, stripe);
+            taken.take(&mut held.gated, whole);
+        }
+        taken
+    }
+
+    /// Takes what is wanted, and all spans that a stripe has marked.
+    #[tactic(auto, using(crate::proofs::TakingLemmas::taken_same, crate::proofs::TakingLemmas::among_twice))]
+    fn order_of<R: Wait>(&self, rt: &R, wanted: Wanted) -> SaveOrder
+        ensures taken { IsTaken L self.now.shape.stripes result.whole (taken_for result) }
+        ensures whole { result.whole ≡ wanted.whole }
+        ensures wanted { AreAmong wanted.spans result.spans }
+    {
+        let Wanted { mut spans, whole } = wanted;
+        self.join_all_marks(rt, &mut spans);
+        SaveOrder::new(self.take_all(rt, spans, &whole), whole)
     }
 
     /// Begins a save: what the next superblock says of each stripe. It marks all spans that a
     /// stripe has marked, and those that are wanted. A leg that is to be replaced is partial
     /// nowhere.
-    pub fn begin_save<R: Wait>(&self, rt: &R) -> SaveOrder {
-        within_bounds(&self.shape);
-        let Wanted { mut spans, whole } = self.wanted_to_save(rt);
-        let mut claims = [NO_CLAIMS; MOST_STRIPES];
-        let mut out = [true; 8];
-        for stripe in 0..self.shape.stripes {
-            let mut held = self.hold(rt, stripe);
-            join_marks(&mut spans, held.gated.marks());
-            claims[stripe as usize] = called_whole(&held.gated.begin_save(&spans), &whole);
-            keep_out(&held.gated, &mut out);
-        }
-        SaveOrder::new(claims, spans, out)
+    pub fn begin_save<R: Wait>(&self, rt: &R) -> SaveOrder
+        ensures { IsTaken L self.now.shape.stripes result.whole (taken_for result) }
+    {
+        let wanted = self.wanted_to_save(rt);
+        self.order_of(rt, wanted)
     }
 
-    /// Ends a save: its superblock is durable, and there is no older one. Who waits for it goes on,
-    /// and writes are claimed whose calls ended while no save could be done.
-    pub fn end_save<R: Wait>(&self, rt: &R, order: SaveOrder) {
+    /// Ends a save: the order's superblock was saved, so it is durable, and there is no older one.
+    /// Who waits for it goes on, and writes are claimed whose calls ended while no save could be
+    /// done.
+    pub fn end_save<R: Wait>(&self, rt: &R, order: SaveOrder, saved: Saved)
+        requires sets { saved.sets ≡ order.sets }
+        requires marked { saved.marked ≡ order.marked }
+    {
         within_bounds(&self.shape);
         for stripe in 0..self.shape.stripes {
-            let claims = order.claims[stripe as usize];
             let mut held = self.hold(rt, stripe);
-            held.gated.end_save(claims, &order.spans);
+            end_at(&mut held.gated, &order);
             held.claim_left();
         }
         if let Some(desk) = &self.desk {
@@ -133,7 +140,8 @@ impl<L: LegPart, G: Gate + Drop> Mirror<L, G> {
     /// ends as `SaveFailed`, and so do the calls of whoever waits.
     pub fn fail_save<R: Wait>(&self, rt: &R) {
         for lock in &self.locks {
-            lock.hold(rt).gated.fail_save();
+            let mut held = lock.hold(rt);
+            fail_at(&mut held.gated);
         }
         if let Some(desk) = &self.desk {
             desk.fail(rt);

@@ -1,27 +1,47 @@
 //! Syncs that no client asks for: of what was not flushed, and of stripes that are at rest, whose
 //! marks are cleared.
+ghost use Rattle.std.specs.Prelude.{◌≡◌, ◌<◌, ◌&&◌, ℕ, false, length, IfSome, IsTrue, None};
+ghost use Rattle.std.specs.Prelude.{slice_index_or};
+ghost use Rattle.std.specs.List.{list_any};
+ghost use Rattle.nm_leg.specs.Leg.{leg_type};
+ghost use Rattle.nm_gate.specs.Claims.{has, legs_where, marks_of};
+ghost use Rattle.nm_gate.specs.Settling.{EndsInFailure, MaySettle, TriesSync};
+ghost use Rattle.nm_mirror.specs.Saves.{IsSetOf};
+ghost use Rattle.nm_mirror.specs.Settling.{WasSynced, SyncsFirst, SyncsSome};
+ghost use Rattle.nm_mirror.specs.Settling.{has_at_work, is_at_work};
 
 use crate::ask::{Ask, refusal_of};
 use crate::doubts::Doubts;
 use crate::lock::Lock;
 use crate::mirror::Mirror;
-use nm_geometry::MOST_LEGS;
+use nm_gate::GatedStripe;
 use nm_lanes::Gate;
 use nm_leg::LegPart;
-use nm_stripe::{LegState, Stripe, Syncing};
+use nm_stripe::{LegState, Refusal, Stripe, Syncing};
 use std::sync::Wait;
 
-/// Flushes the leg, if the stripe has it and it is not out. Whether it does not fail.
-fn flush_one<L: LegPart>(stripe: &mut Stripe<L>, leg: u8) -> bool {
-    if (leg as usize) >= stripe.legs() || stripe.state(leg) == LegState::Out {
-        return true;
+/// Flushes the leg, if it is not out. Whether it does not fail.
+fn flush_one<L: LegPart>(stripe: &mut Stripe<L>, leg: u8) -> bool
+    requires { leg < length stripe.old.legs }
+    ensures { TriesSync (leg_type L.model L.honest) leg result stripe.old stripe.new }
+{
+    match stripe.flush(leg) {
+        Ok(Syncing::Synced) => true,
+        Ok(Syncing::LegLost(_)) => false,
+        Err(Refusal::AlreadyOut) => true,
+        Err(_) => false,
     }
-    matches!(stripe.flush(leg), Ok(Syncing::Synced))
 }
 
 /// Flushes each leg of the stripe that is not out, until one fails. Whether none does.
-fn flush_legs<L: LegPart>(stripe: &mut Stripe<L>) -> bool {
-    for leg in 0..MOST_LEGS {
+fn flush_legs<L: LegPart>(stripe: &mut Stripe<L>) -> bool
+    ensures synced { IsTrue result → SyncsFirst (leg_type L.model L.honest)
+        (length stripe.old.legs) stripe.old stripe.new }
+    ensures failed { result ≡ false → EndsInFailure (leg_type L.model L.honest) stripe.new }
+    ensures moves { SyncsSome (leg_type L.model L.honest) stripe.old stripe.new }
+{
+    let legs = stripe.legs() as u8;
+    'legs: for leg in 0..legs {
         if !flush_one(stripe, leg) {
             return false;
         }
@@ -29,37 +49,115 @@ fn flush_legs<L: LegPart>(stripe: &mut Stripe<L>) -> bool {
     true
 }
 
-/// Whether a leg is in doubt that is not out in the stripe. A sync of it tells nothing of what it
-/// was written before.
-fn has_doubted<L: LegPart, D: Doubts>(stripe: &Stripe<L>, doubts: &D) -> bool {
-    let count = stripe.legs().min(MOST_LEGS as usize);
-    for leg in 0..count as u8 {
-        if stripe.state(leg) != LegState::Out && doubts.is_doubted(leg) {
-            return true;
-        }
+/// Whether the stripe has the leg, and it is not out.
+fn is_at_work<L: LegPart>(stripe: &Stripe<L>, leg: u8) -> bool
+    ensures { result ≡ is_at_work stripe.now leg }
+{
+    if (leg as usize) >= stripe.legs() {
+        return false;
     }
-    false
+    match stripe.state(leg) {
+        LegState::Out => false,
+        LegState::InSync | LegState::Joining => true,
+    }
 }
 
-/// Clears the stripe's marks where its legs are equal and none is in doubt, in one hold. Whether it
-/// had some, and has none.
+/// The legs that are not out in the stripe.
+fn at_work<L: LegPart>(stripe: &Stripe<L>) -> [bool; 8]
+    ensures { result ≡ legs_where (is_at_work stripe.now) }
+{
+    [
+        is_at_work(stripe, 0),
+        is_at_work(stripe, 1),
+        is_at_work(stripe, 2),
+        is_at_work(stripe, 3),
+        is_at_work(stripe, 4),
+        is_at_work(stripe, 5),
+        is_at_work(stripe, 6),
+        is_at_work(stripe, 7),
+    ]
+}
+
+/// The legs of the one set that are in the other, too.
+fn in_both(one: &[bool; 8], other: &[bool; 8]) -> [bool; 8]
+    ensures { result ≡ legs_where (λ leg. has leg one.now && has leg other.now) }
+{
+    [
+        one[0] && other[0],
+        one[1] && other[1],
+        one[2] && other[2],
+        one[3] && other[3],
+        one[4] && other[4],
+        one[5] && other[5],
+        one[6] && other[6],
+        one[7] && other[7],
+    ]
+}
+
+/// The legs that are in doubt.
+fn doubted_of<D: Doubts>(doubts: &D) -> [bool; 8] {
+    [
+        doubts.is_doubted(0),
+        doubts.is_doubted(1),
+        doubts.is_doubted(2),
+        doubts.is_doubted(3),
+        doubts.is_doubted(4),
+        doubts.is_doubted(5),
+        doubts.is_doubted(6),
+        doubts.is_doubted(7),
+    ]
+}
+
+/// Whether a leg of those in doubt is not out in the stripe. A sync of it tells nothing of what it
+/// was written before.
+fn has_doubted<L: LegPart>(stripe: &Stripe<L>, doubted: &[bool; 8]) -> bool
+    ensures { result ≡ has_at_work stripe.now doubted.now }
+{
+    in_both(&at_work(stripe), doubted).iter().any(|on| *on)
+}
+
+/// Clears the stripe's marks where its legs are equal and none is in doubt. Whether it had some,
+/// and has none.
 ///
 /// Its legs are synced before it is looked whether one is in doubt: a power loss under way would
 /// fail a call by then. The syncs by which the gate settles make no call any more, since nothing
 /// was written since.
+fn settle_gated<L: LegPart, D: Doubts>(gated: &mut GatedStripe<L>, doubts: &D) -> bool
+    ensures none { gated.old.durable ≡ None → result ≡ false }
+    ensures marked { IfSome gated.old.durable (λ d. IsTrue result
+        → IsTrue (list_any (λ marked. marked) d.marked)) }
+    ensures synced { IfSome gated.old.durable (λ d. IsTrue result → MaySettle gated.old.stripe d) }
+    ensures flushed { IsTrue result
+        → WasSynced (leg_type L.model L.honest) gated.old.stripe }
+    ensures settled { IsTrue result → (span : ℕ)
+        → slice_index_or (marks_of gated.new.durable) span false ≡ false }
+    ensures stays { result ≡ false → gated.new.durable ≡ gated.old.durable }
+{
+    if !gated.may_settle() {
+        return false;
+    }
+    if !flush_legs(&mut gated.stripe) {
+        return false;
+    }
+    if has_doubted(&gated.stripe, &doubted_of(doubts)) {
+        return false;
+    }
+    gated.settle()
+}
+
+/// The same, in one hold.
 fn settle<L: LegPart, R: Wait, D: Doubts>(rt: &R, lock: &Lock<L>, doubts: &D) -> bool {
-    let mut held = lock.hold(rt);
-    held.gated.may_settle()
-        && flush_legs(&mut held.gated.stripe)
-        && !has_doubted(&held.gated.stripe, doubts)
-        && held.gated.settle()
+    settle_gated(&mut lock.hold(rt).gated, doubts)
 }
 
 /// The legs that are not out in the stripe, a bit each.
-fn legs_at_work<L: LegPart>(stripe: &Stripe<L>) -> u8 {
-    let mut legs = 0;
-    for leg in 0..stripe.legs().min(MOST_LEGS as usize) as u8 {
-        if stripe.state(leg) != LegState::Out {
+fn legs_at_work<L: LegPart>(stripe: &Stripe<L>) -> u8
+    ensures { IsSetOf (legs_where (is_at_work stripe.now)) result }
+{
+    let at_work = at_work(stripe);
+    let mut legs = 0u8;
+    'legs: for leg in 0..8 {
+        if at_work[leg] {
             legs |= 1 << leg;
         }
     }

@@ -1,6 +1,6 @@
 //! What each stripe is doing.
 ghost use Rattle.std.specs.Prelude.{◌≡◌, ◌<◌, length, IfOk};
-ghost use Rattle.nm_mirror.specs.Status.{IsStatus, AreLegs};
+ghost use Rattle.nm_mirror.specs.Status.{AreLegs, EachTellsOf, IsStatus, KeepsEntries, TellsOf};
 
 use crate::mirror::Mirror;
 use nm_geometry::MOST_LEGS;
@@ -100,19 +100,29 @@ impl fmt::Display for StripeStatus {
 impl<L: LegPart, G: Gate + Drop> Mirror<L, G> {
     /// What each stripe is doing, by rising number of the stripes.
     pub fn status<R: Wait>(&self, rt: &R, alloc: Global) -> Result<Vec<StripeStatus>, Memory>
-        ensures { IfOk result (λ all. length all.items ≡ length self.now.locks.items) }
+        ensures all { IfOk result (λ all. length all.items ≡ self.now.shape.stripes) }
+        ensures each { IfOk result (λ all. EachTellsOf L all.items) }
     {
         let mut all = Vec::new(alloc);
-        all.reserve(self.locks.len())?;
-        for lock in &self.locks {
-            all.push_reserved(status_of(&lock.hold(rt).gated.stripe, alloc)?);
+        all.reserve(self.shape.stripes as usize)?;
+        for stripe in 0..self.shape.stripes {
+            all.push_reserved(self.status_in(rt, alloc, stripe)?);
         }
         Ok(all)
+    }
+
+    /// What the stripe of this number is doing.
+    fn status_in<R: Wait>(&self, rt: &R, alloc: Global, stripe: u32) -> Result<StripeStatus, Memory>
+        requires { stripe < self.now.shape.stripes }
+        ensures { IfOk result (TellsOf L stripe) }
+    {
+        status_of(&self.hold(rt, stripe).gated.stripe, alloc)
     }
 
     /// A copy of the entries that a stripe keeps, by rising number.
     pub fn kept<R: Wait>(&self, rt: &R, alloc: Global, stripe: u32) -> Result<Vec<Entry>, Memory>
         requires { stripe < self.now.shape.stripes }
+        ensures { IfOk result (λ kept. KeepsEntries L stripe kept.items) }
     {
         self.hold(rt, stripe).gated.stripe.entries(alloc)
     }

@@ -49,17 +49,8 @@ impl<L: LegPart, G: Gate + Drop> Mirror<L, G> {
             (record { offset = offset; length = length payload })) payload)
             (pass.old.parts.items, pass.new.parts.items)) }
     {
-        write_by(
-            rt,
-            alloc,
-            &self.shape,
-            &self.gate,
-            Some(pass.number),
-            self.locks(),
-            pass.parts.as_mut_slice(),
-            offset,
-            payload,
-        )
+        let caller = self.caller(rt, pass.number);
+        write_by(&caller, alloc, pass.parts.as_mut_slice(), offset, payload)
     }
 
     /// Writes whole blocks of the export from this one on, as `write_at`.
@@ -117,17 +108,8 @@ impl<L: LegPart, G: Gate + Drop> Mirror<L, G> {
             (record { offset = offset; length = len })))
             (pass.old.parts.items, pass.new.parts.items)) }
     {
-        zero_by(
-            rt,
-            &self.shape,
-            &self.gate,
-            Some(pass.number),
-            self.locks(),
-            pass.parts.as_mut_slice(),
-            offset,
-            len,
-            is_gone,
-        )
+        let caller = self.caller(rt, pass.number);
+        zero_by(&caller, pass.parts.as_mut_slice(), offset, len, is_gone)
     }
 
     /// Writes zeroes to so many whole blocks of the export from this one on, as `zero_at`.

@@ -1,6 +1,6 @@
 ghost use Rattle.std.specs.Prelude.{◌≡◌};
 
-use nm_commands::Settings;
+use nm_commands::ClientSettings;
 
 /// What holds for each session.
 #[derive(Clone, Copy, Debug, PartialEq, Eq)]
@@ -14,16 +14,16 @@ pub struct SessionRules {
 }
 
 impl SessionRules {
-    /// What the settings ask for, where the replies may carry so many bytes.
-    pub fn of(settings: &Settings<'_>, reply_bytes: usize) -> SessionRules
+    /// What the settings of clients ask for, where the replies may carry so many bytes.
+    pub fn of(clients: &ClientSettings<'_>, reply_bytes: usize) -> SessionRules
         ensures replies { result.reply_bytes ≡ reply_bytes }
-        ensures idle_limit { result.idle_limit ≡ settings.now.idle_limit }
-        ensures verbose { result.is_verbose ≡ settings.now.verbose }
+        ensures idle_limit { result.idle_limit ≡ clients.now.idle_limit }
+        ensures verbose { result.is_verbose ≡ clients.now.verbose }
     {
         SessionRules {
             reply_bytes,
-            idle_limit: settings.idle_limit,
-            is_verbose: settings.verbose,
+            idle_limit: clients.idle_limit,
+            is_verbose: clients.verbose,
         }
     }
 }

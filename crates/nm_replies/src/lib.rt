@@ -5,11 +5,13 @@
 #![tactic(auto)]
 
 pub use frames::{frame, put_frame};
+pub use read_frame::ReadFrame;
 pub use reply::Reply;
 pub use reply_writer::ReplyWriter;
 pub use send_fault::SendFault;
 
 mod frames;
+mod read_frame;
 mod reply;
 mod reply_writer;
 mod send_fault;

@@ -1,7 +1,7 @@
 ghost use Rattle.std.specs.Prelude.{ℕ, List, IfSome, IsNone};
 ghost use Rattle.nm_reports.specs.Address.{IsAtPath};
 
-use nm_commands::Settings;
+use nm_commands::ListenSettings;
 use std::fmt;
 
 /// Where a socket is to listen.
@@ -15,10 +15,10 @@ pub enum Address<'a> {
 
 impl<'a> Address<'a> {
     /// Where clients connect: a port that was named stands in place of the address.
-    pub fn of_clients(settings: &Settings<'a>) -> Address<'a> {
-        match settings.port {
+    pub fn of_clients(listening: &ListenSettings<'a>) -> Address<'a> {
+        match listening.port {
             Some(port) => Address::LocalPort(port),
-            None => Address::Named(settings.listen),
+            None => Address::Named(listening.address),
         }
     }
 

@@ -5,7 +5,7 @@ use crate::start_fault::StartFault;
 use crate::superblock_names::superblock_name;
 use crate::unbound::Unbound;
 use jiff::Timestamp;
-use nm_commands::{Settings, SuperblockPlace};
+use nm_commands::{ListenSettings, Settings, SuperblockPlace};
 use nm_system::Process;
 use std::alloc::{AllocError, Global};
 use std::io::{ErrorKind, Write};
@@ -77,8 +77,8 @@ fn put_unopened<E: Write>(
 }
 
 // What the option of an address is, and the port that it has where none is given.
-fn option_of(address: Address<'_>, settings: &Settings<'_>) -> (&'static str, u16) {
-    if address == Address::of_clients(settings) {
+fn option_of(address: Address<'_>, listening: &ListenSettings<'_>) -> (&'static str, u16) {
+    if address == Address::of_clients(listening) {
         ("--listen", 10809)
     } else {
         ("--control", 10810)
@@ -121,12 +121,12 @@ fn put_unbound<E: Write>(
     alloc: Global,
     address: Address<'_>,
     why: Unbound,
-    settings: &Settings<'_>,
+    listening: &ListenSettings<'_>,
     err: &mut E,
 ) -> Result<(), AllocError> {
     let text = format!(in alloc; "{address}")?;
     let name = text.as_str();
-    let (option, port) = option_of(address, settings);
+    let (option, port) = option_of(address, listening);
     match why {
         Unbound::System(error) => return put_system(alloc, name, error, err),
         Unbound::NoAddress => put_no_address(name, err),
@@ -165,11 +165,11 @@ fn put_length<E: Write>(name: &str, bytes: Option<u64>, is_inside: bool, err: &m
 
 // The name of the file of this leg's superblock: beside the leg, where there is to be none.
 fn superblock_of(alloc: Global, settings: &Settings<'_>, leg: usize) -> Result<String, AllocError> {
-    let place = match settings.superblock {
+    let place = match settings.opening.superblock {
         SuperblockPlace::Nowhere => SuperblockPlace::Beside,
         place => place,
     };
-    match superblock_name(alloc, place, leg, name_of(&settings.legs, leg))? {
+    match superblock_name(alloc, place, leg, name_of(&settings.mirror.legs, leg))? {
         Some(name) => Ok(name),
         None => Ok(String::new(alloc)),
     }
@@ -181,8 +181,11 @@ fn old_superblock_of(
     settings: &Settings<'_>,
     leg: usize,
 ) -> Result<String, AllocError> {
-    let place = settings.superblock_from.unwrap_or(SuperblockPlace::Nowhere);
-    match superblock_name(alloc, place, leg, name_of(&settings.legs, leg))? {
+    let place = settings
+        .opening
+        .superblock_from
+        .unwrap_or(SuperblockPlace::Nowhere);
+    match superblock_name(alloc, place, leg, name_of(&settings.mirror.legs, leg))? {
         Some(name) => Ok(name),
         None => Ok(String::new(alloc)),
     }
@@ -279,14 +282,14 @@ fn put_of_superblocks<E: Write>(
         StartFault::PlacesApart(leg) => put_apart(alloc, settings, leg, err)?,
         StartFault::AnotherFile(leg) => {
             let own = superblock_of(alloc, settings, leg)?;
-            let name = match settings.superblock {
+            let name = match settings.opening.superblock {
                 SuperblockPlace::Inside => "the superblock inside",
                 _ => own.as_str(),
             };
-            put_another(name_of(&settings.legs, leg), name, leg, err);
+            put_another(name_of(&settings.mirror.legs, leg), name, leg, err);
         }
         StartFault::WasChanged(leg, recorded, found) => {
-            let file = name_of(&settings.legs, leg);
+            let file = name_of(&settings.mirror.legs, leg);
             let name = superblock_of(alloc, settings, leg)?;
             put_changed(file, name.as_str(), leg, recorded, found, err);
         }
@@ -303,7 +306,7 @@ pub fn tell_reason<E: Write>(
     settings: &Settings<'_>,
     err: &mut E,
 ) -> Result<(), AllocError> {
-    let names = settings.legs.as_slice();
+    let names = settings.mirror.legs.as_slice();
     match *fault {
         StartFault::CannotOpen(leg, why) => put_unopened(alloc, name_of(names, leg), why, err)?,
         StartFault::InUse(leg) => {
@@ -311,7 +314,7 @@ pub fn tell_reason<E: Write>(
             put_line(name_of(names, leg), text, err);
         }
         StartFault::BadLength(leg, bytes) => {
-            let is_inside = settings.superblock == SuperblockPlace::Inside;
+            let is_inside = settings.opening.superblock == SuperblockPlace::Inside;
             put_length(name_of(names, leg), bytes, is_inside, err);
         }
         StartFault::OtherLength(leg, bytes, other, other_bytes) => {
@@ -328,7 +331,7 @@ pub fn tell_reason<E: Write>(
             put_line(name_of(names, leg as usize), "a read failed", err);
         }
         StartFault::CannotListen(address, why) => {
-            put_unbound(alloc, address, why, settings, err)?;
+            put_unbound(alloc, address, why, &settings.listening, err)?;
         }
         _ => put_of_superblocks(alloc, fault, settings, err)?,
     }

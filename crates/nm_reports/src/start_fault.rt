@@ -170,8 +170,8 @@ pub enum StartFault<'a> {
     #[error("nbdmirror: leg {0}: its superblocks in two places went on apart")]
     PlacesApart(usize),
     /// No leg that is in sync in this stripe by the superblocks is here.
-    #[error("nbdmirror: stripe {0}: no leg in sync is here: bring its disk back, or name the newest \
-         leg that is here by --force-master")]
+    #[error("nbdmirror: stripe {0}: no leg in sync is here: bring its disk back, or name the \
+         newest leg that is here by --force-master")]
     NoneInSync(usize),
     /// The superblocks do not know this leg of this name.
     #[error("nbdmirror: leg {0} ({1}): has no superblock of this mirror: --add-leg {0} copies the \
@@ -204,41 +204,6 @@ impl StartFault<'_> {
             | StartFault::NoPlace
             | StartFault::StaysInside
             | StartFault::NothingToShrink => 2,
-            StartFault::NoStandardStreams
-            | StartFault::FewDescriptors(_)
-            | StartFault::SmallStack(_)
-            | StartFault::SmallAddressSpace(_)
-            | StartFault::TooManyLegs
-            | StartFault::NoMaster(_)
-            | StartFault::TwoMasters(_, _)
-            | StartFault::NoLegToAdd(_)
-            | StartFault::NothingToAddTo(_)
-            | StartFault::AlreadyShrunk
-            | StartFault::TwoOfLeg(_, _, _)
-            | StartFault::LegBeyond(_, _, _)
-            | StartFault::BadName
-            | StartFault::CannotOpen(_, _)
-            | StartFault::InUse(_)
-            | StartFault::BadLength(_, _)
-            | StartFault::OtherLength(_, _, _, _)
-            | StartFault::OverFileLimit(_, _, _)
-            | StartFault::HasSuperblock(_)
-            | StartFault::HeldBeside(_, _)
-            | StartFault::KeptBeside(_, _)
-            | StartFault::HeldInside(_)
-            | StartFault::HoldsData(_)
-            | StartFault::CannotMove(_, _)
-            | StartFault::NoPlaceBeside(_)
-            | StartFault::CannotSave(_, _)
-            | StartFault::OtherMirror(_)
-            | StartFault::OtherLeg(_, _)
-            | StartFault::WasLeg(_, _)
-            | StartFault::NotFirstStart
-            | StartFault::NotWhole
-            | StartFault::OtherStripes(_, _)
-            | StartFault::NotInSync(_)
-            | StartFault::NoRandomNumbers
-            | StartFault::CannotRead(_) => 3,
             StartFault::CannotListen(_, _) => 4,
             StartFault::Memory => 5,
             StartFault::CannotClose => 6,
@@ -252,6 +217,8 @@ impl StartFault<'_> {
             | StartFault::PlacesApart(_)
             | StartFault::NoneInSync(_)
             | StartFault::NotKnown(_, _) => 7,
+            // Settings or legs that do not fit.
+            _ => 3,
         }
     }
 }

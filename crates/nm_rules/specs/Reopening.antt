@@ -13,6 +13,7 @@ use Rattle.nm_regions.specs.Table.{regions_of}
 use Rattle.nm_rules.specs.declared.at.At.{At}
 use Rattle.nm_rules.specs.declared.leg_opening.LegOpening.{LegOpening}
 use Rattle.nm_rules.specs.declared.leg_opening.LegOpening.TheVariants.{Missing, Partial, Whole}
+use Rattle.nm_rules.specs.declared.marked_plan.MarkedPlan.{MarkedPlan}
 use Rattle.nm_rules.specs.Array.{contents_of}
 use Rattle.nm_rules.specs.State.{StripeState, is_out}
 
@@ -107,6 +108,14 @@ pub record OpeningPlan : Type 0 where
   pub master : ℕ
   pub others : List LegOpening
   pub marks : Marks
+
+-- the plan that the code hands in
+abbrev pub plan_of : MarkedPlan → OpeningPlan
+plan_of plan = record {
+  master = plan.master;
+  others = plan.others.now;
+  marks = record { marked = plan.marked.now; span = plan.span };
+}
 
 -- the states of the legs: the master is in sync
 abbrev pub reopened_states : OpeningPlan → List LegState

@@ -7,10 +7,12 @@
 
 pub use at::At;
 pub use leg_opening::LegOpening;
+pub use marked_plan::MarkedPlan;
 pub use open_fault::OpenFault;
 pub use refusal::Refusal;
 
 mod at;
 mod leg_opening;
+mod marked_plan;
 mod open_fault;
 mod refusal;

@@ -1,5 +1,6 @@
 pub mod Settling
 pub mod Written
 pub mod Rounds
-pub mod Saved
+pub mod ErrorLemmas
+pub mod BothRounds
 pub mod Reread

@@ -6,6 +6,7 @@
 #![tactic(auto)]
 
 pub use found::found_beside;
+pub use saved::Saved;
 pub use saving::FailedFiles;
 pub use slot_file::SlotFile;
 pub use superblock_file::SuperblockFile;
@@ -18,6 +19,7 @@ mod knowing;
 mod named;
 mod renewing;
 mod rereading;
+mod saved;
 mod saving;
 mod slot_file;
 mod superblock_file;

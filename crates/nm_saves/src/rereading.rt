@@ -1,6 +1,8 @@
 //! Files of which a write or a sync failed are read again, so that they may be written again.
 ghost use Rattle.std.specs.Prelude.{◌≡◌, ◌<◌, IsTrue, is_ok};
-ghost use Rattle.nm_saves.specs.Rereading.{RereadsAt, RereadsFailed, RereadsTo};
+ghost use Rattle.nm_saves.specs.Errors.{TellsReading};
+ghost use Rattle.nm_saves.specs.Files.{file_of};
+ghost use Rattle.nm_saves.specs.Rereading.{RereadsAt, RereadsFailed, RereadsTo, TellsTo};
 ghost use Rattle.nm_saves.specs.SlotFile.{IsDurably, KeepsSlots, place_of};
 
 use crate::knowing::highest_of;
@@ -29,7 +31,8 @@ fn read_failed<F: SlotFile>(
     files: &mut [Option<SuperblockFile<F>>],
     errors: &mut [Option<io::Error>; 8],
 )
-    ensures { RereadsTo 8 F.honest files.old files.new }
+    ensures files { RereadsTo 8 F.honest files.old files.new }
+    ensures errors { TellsTo 8 files.old files.new errors.old errors.new }
 {
     'legs: for leg in 0..8 {
         read_failed_at(files, &mut errors[leg], leg);
@@ -43,7 +46,8 @@ fn read_failed_at<F: SlotFile>(
     leg: usize,
 )
     requires { leg < 8 }
-    ensures { RereadsAt F.honest leg files.old files.new }
+    ensures file { RereadsAt F.honest leg files.old files.new }
+    ensures error { TellsReading (file_of leg files.old) (file_of leg files.new) last.old last.new }
 {
     if leg >= files.len() {
         return;

@@ -1,5 +1,6 @@
 //! Saving one superblock into the files of some legs, one after the other.
-ghost use Rattle.std.specs.Prelude.{◌<◌, ◌↔◌, IsTrue, is_ok};
+ghost use Rattle.std.specs.Prelude.{◌<◌, ◌↔◌, IsTrue, is_ok, not};
+ghost use Rattle.nm_saves.specs.Errors.{KeepsErrors, KeepsFirst};
 ghost use Rattle.nm_saves.specs.Files.{HasFailed, SavesAt, SavesTo, round_of};
 
 use crate::slot_file::SlotFile;
@@ -24,7 +25,8 @@ pub(crate) fn save_to<F: SlotFile>(
     next: &Superblock,
     to: &[bool; 8],
 ) -> [bool; 8]
-    ensures { SavesTo 8 F.honest (round_of next.now to.now result) files.old files.new }
+    ensures files { SavesTo 8 F.honest (round_of next.now to.now result) files.old files.new }
+    ensures errors { KeepsErrors result errors.old errors.new }
 {
     let mut failed = [false; 8];
     'legs: for leg in 0..8 {
@@ -43,7 +45,8 @@ fn has_saved<F: SlotFile>(
     leg: usize,
 ) -> bool
     requires { leg < 8 }
-    ensures { SavesAt F.honest result leg next.now files.old files.new }
+    ensures file { SavesAt F.honest result leg next.now files.old files.new }
+    ensures error { KeepsFirst (not result) first.old first.new }
 {
     match save_at(files, next, leg) {
         Ok(()) => true,

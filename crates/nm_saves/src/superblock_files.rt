@@ -1,9 +1,12 @@
-ghost use Rattle.std.specs.Prelude.{◌≡◌, ◌≤◌, ◌⊎◌, IfErr, OnOk};
+ghost use Rattle.std.specs.Prelude.{◌≡◌, ◌<◌, ◌≤◌, ◌⊎◌, IfErr, IfOk, OnOk, IsNone, None};
+ghost use Rattle.std.specs.Prelude.{option_copied, replicate};
+ghost use Rattle.nm_saves.specs.Errors.{error_of};
 ghost use Rattle.nm_saves.specs.Files.{AreFailed, AreUpTo, IsLeastUpTo, file_of, newest_of};
 ghost use Rattle.nm_saves.specs.SavingAll.{IsDone, IsUndone, TakesNone, request_of};
 
 use crate::knowing::{failed_legs, highest_of, other_legs, seen_after};
 use crate::named::{is_nameless, named_legs};
+use crate::saved::Saved;
 use crate::saving::{FailedFiles, has_failed, save_to};
 use crate::slot_file::SlotFile;
 use crate::superblock_file::SuperblockFile;
@@ -28,7 +31,12 @@ impl<F: SlotFile> Model for SuperblockFiles<F> {
 
     ghost Value = { FilesState };
 
-    ghost view = { λ f. record { files = f.files.items; image = f.image; highest = f.highest } };
+    ghost view = { λ f. record {
+      files = f.files.items;
+      image = f.image;
+      highest = f.highest;
+      errors = f.errors;
+    } };
 }
 
 impl<F: SlotFile> SuperblockFiles<F> {
@@ -40,6 +48,7 @@ impl<F: SlotFile> SuperblockFiles<F> {
         ensures own { image.generation ≤ result.highest }
         ensures above { AreUpTo 8 result.highest files.items }
         ensures least { IsLeastUpTo 8 image.generation result.highest files.items }
+        ensures errors { result.errors ≡ replicate 8 None }
     {
         let highest = highest_of(&files, image.generation);
         SuperblockFiles {
@@ -77,8 +86,11 @@ impl<F: SlotFile> SuperblockFiles<F> {
         failed_legs(&self.files)
     }
 
-    /// The first error of the file of this leg, if a save into it failed.
-    pub fn error(&self, leg: usize) -> Option<&io::Error> {
+    /// The error that is kept of the file of this leg: the first one, if a save into it failed.
+    pub fn error(&self, leg: usize) -> Option<&io::Error>
+        ensures own { leg < 8 → option_copied result ≡ error_of leg self.now.errors }
+        ensures none { 8 ≤ leg → IsNone result }
+    {
         if leg >= 8 {
             return None;
         }
@@ -89,6 +101,7 @@ impl<F: SlotFile> SuperblockFiles<F> {
     /// file of each leg that it names, which is one that is in sync in some stripe. Where one of
     /// these fails, no file of another leg is touched, and the answer is which failed. Then into
     /// those of the other legs, but for these that are out; a failure there is none of the save's.
+    /// The answer is then what was saved.
     ///
     /// A save that names no leg in some stripe does not begin, nor one without a generation.
     pub fn save(
@@ -98,9 +111,11 @@ impl<F: SlotFile> SuperblockFiles<F> {
         clean: bool,
         changed: &[u64; 8],
         out: &[bool; 8],
-    ) -> Result<(), FailedFiles>
+    ) -> Result<Saved, FailedFiles>
         ensures done { OnOk result (IsDone F.honest
             (request_of sets.now marked.now clean changed.now out.now) self.old self.new) }
+        ensures sets { IfOk result (λ saved. saved.sets ≡ sets.now) }
+        ensures marks { IfOk result (λ saved. saved.marked ≡ marked.now) }
         ensures undone { IfErr result (λ e.
             TakesNone (request_of sets.now marked.now clean changed.now out.now) e.legs
             self.old self.new
@@ -129,6 +144,6 @@ impl<F: SlotFile> SuperblockFiles<F> {
         let lacking = save_to(&mut self.files, &mut self.errors, &next, &others);
         next.seen = seen_after(&next, &named, &others, &lacking);
         self.image = next;
-        Ok(())
+        Ok(Saved::of(&next))
     }
 }

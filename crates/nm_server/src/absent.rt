@@ -37,8 +37,9 @@ fn tell_superblock<P: OpensLegs, E: Write>(
     leg: usize,
     err: &mut E,
 ) -> Result<(), AllocError> {
-    let own = settings.legs.get(leg).copied().unwrap_or("");
-    let place: SuperblockPlace<'_> = settings.superblock_from.unwrap_or(settings.superblock);
+    let own = settings.mirror.legs.get(leg).copied().unwrap_or("");
+    let opening = &settings.opening;
+    let place: SuperblockPlace<'_> = opening.superblock_from.unwrap_or(opening.superblock);
     let Some(name) = superblock_name(alloc, place, leg, own)? else {
         return Ok(());
     };
@@ -60,7 +61,7 @@ pub fn tell_absent<P: OpensLegs, E: Write>(
     match *fault {
         StartFault::MayBeNewer(leg) => tell_superblock(alloc, opener, settings, leg, err),
         StartFault::NoneInSync(_) => {
-            for (leg, name) in settings.legs.iter().enumerate() {
+            for (leg, name) in settings.mirror.legs.iter().enumerate() {
                 match opener.open(name) {
                     Ok(_) => tell_superblock(alloc, opener, settings, leg, err)?,
                     Err(error) => put_unopened(alloc, leg, name, error, err)?,

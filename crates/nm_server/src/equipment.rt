@@ -1,7 +1,7 @@
 //! The mirror of the program, with all that it is served by.
 
 use crate::control_meanwhile::ControlMeanwhile;
-use nm_commands::Settings;
+use nm_commands::{CopySettings, Settings};
 use nm_control::{Copier, CopyOrders, Healing, LegWatch, MissingLegs};
 use nm_leg_files::{
     FileMirror, LateSlots, LateSuperblock, Leg, LegFiles, LegPlace, LegSyncs, SuperblockWriter,
@@ -71,25 +71,25 @@ fn shares_of(alloc: Global, places: &[Arc<LegPlace>]) -> Result<Vec<Arc<LegPlace
 // What attaches legs again, where that is asked for, or where one is missing.
 fn healing_of<'a>(
     alloc: Global,
-    settings: &Settings<'a>,
+    copies: &CopySettings,
     files: &LegFiles,
     places: &[Arc<LegPlace>],
 ) -> Result<Option<Healing>, StartFault<'a>> {
-    if !settings.auto_attach && files.missing().is_none() {
+    if !copies.auto_attach && files.missing().is_none() {
         return Ok(None);
     }
     let own = shares_of(alloc, places)?;
-    Ok(Some(Healing::new(alloc, own, settings.auto_attach)?))
+    Ok(Some(Healing::new(alloc, own, copies.auto_attach)?))
 }
 
 // What an administrator wants of copies at first, and which legs are missing.
 fn orders_of<'a>(
     alloc: Global,
-    settings: &Settings<'_>,
+    copies: &CopySettings,
     files: &LegFiles,
 ) -> Result<CopyOrders, StartFault<'a>> {
     let reasons = files.reasons(alloc)?;
-    let orders = CopyOrders::new(settings.copy_rate).with_missing(MissingLegs::of(reasons));
+    let orders = CopyOrders::new(copies.copy_rate).with_missing(MissingLegs::of(reasons));
     let doubts = MirrorDoubts::of(files.troubles(alloc)?);
     Ok(orders.with_limits(files.limits(alloc)?).with_doubts(doubts))
 }
@@ -100,12 +100,12 @@ fn copier_of<'a>(
     mirror: &FileMirror,
     files: &LegFiles,
     places: &[Arc<LegPlace>],
-    settings: &Settings<'a>,
+    copies: &CopySettings,
 ) -> Result<Copier, StartFault<'a>> {
     let Ok(legs) = files.lines(alloc) else {
         return Err(StartFault::Memory);
     };
-    let healing = healing_of(alloc, settings, files, places)?;
+    let healing = healing_of(alloc, copies, files, places)?;
     let watch = LegWatch::new(shares_of(alloc, places)?);
     match Copier::new(alloc, mirror.shape(), legs, watch, healing) {
         Ok(copier) => Ok(copier),
@@ -158,7 +158,7 @@ pub struct Equipment {
 // What is at hand beside the mirror over these files.
 fn equip<'a>(
     alloc: Global,
-    settings: &Settings<'a>,
+    copies: &CopySettings,
     files: &LegFiles,
     superblocks: Option<Superblocks>,
 ) -> Result<Equipment, StartFault<'a>> {
@@ -168,7 +168,7 @@ fn equip<'a>(
         syncs: LegSyncs::new(alloc, shares_of(alloc, &places)?)?,
         places,
         superblocks,
-        orders: orders_of(alloc, settings, files)?,
+        orders: orders_of(alloc, copies, files)?,
     })
 }
 
@@ -202,9 +202,9 @@ where
     let opened = open_asked_for(rt, alloc, settings, &mut files, &meanwhile, lines)?;
     files.tell_missing(rt, alloc, lines);
     let mirror = opened.mirror;
-    let own = equip(alloc, settings, &files, opened.superblocks)?;
-    let copier = copier_of(alloc, &mirror, &files, &own.places, settings)?;
-    let passes = passes_of(rt, alloc, &mirror, settings.sessions)?;
+    let own = equip(alloc, &settings.copies, &files, opened.superblocks)?;
+    let copier = copier_of(alloc, &mirror, &files, &own.places, &settings.copies)?;
+    let passes = passes_of(rt, alloc, &mirror, settings.clients.sessions)?;
     Ok(Opened {
         mirror,
         passes,

@@ -8,7 +8,7 @@ use crate::equipment::{Opened, metrics_of, open};
 use crate::serving::serve_and_copy;
 use clap::Error;
 use clap::error::ErrorKind;
-use nm_commands::{Settings, settings, write_words};
+use nm_commands::{MirrorSettings, Settings, settings, write_words};
 use nm_control::LegRenewer;
 use nm_geometry::{MOST_LEGS, Shape};
 use nm_leg_files::{FileMirror, Leg, LegFiles, LegMaker, LegPlace, LegRules, OpensLegs};
@@ -45,26 +45,27 @@ const OTHER_THREADS: usize = 9;
 
 // The export that the settings ask for, unless they are wrong by themselves.
 fn export_asked<'a>(settings: &Settings<'a>) -> Result<ExportName<'a>, StartFault<'a>> {
-    if settings.legs.len() > MOST_LEGS as usize {
+    if settings.mirror.legs.len() > MOST_LEGS as usize {
         return Err(StartFault::TooManyLegs);
     }
-    for named in [settings.master, settings.force_master] {
+    let opening = &settings.opening;
+    for named in [opening.master, opening.force_master] {
         if let Some(master) = named {
-            if master as usize >= settings.legs.len() {
+            if master as usize >= settings.mirror.legs.len() {
                 return Err(StartFault::NoMaster(master));
             }
         }
     }
-    if let (Some(master), Some(forced)) = (settings.master, settings.force_master) {
+    if let (Some(master), Some(forced)) = (opening.master, opening.force_master) {
         if master != forced {
             return Err(StartFault::TwoMasters(master, forced));
         }
     }
     check_added(settings, true)?;
     check_moved(settings)?;
-    check_from(settings)?;
-    check_shrink(settings)?;
-    match ExportName::new(settings.name, settings.read_only) {
+    check_from(opening)?;
+    check_shrink(opening)?;
+    match ExportName::new(settings.clients.export, settings.clients.read_only) {
         Some(named) => Ok(named),
         None => Err(StartFault::BadName),
     }
@@ -73,12 +74,12 @@ fn export_asked<'a>(settings: &Settings<'a>) -> Result<ExportName<'a>, StartFaul
 // What makes the legs of stripes that are opened anew.
 fn maker_of<'a, 'x>(
     alloc: Global,
-    settings: &Settings<'a>,
+    mirror: &MirrorSettings<'a>,
     places: &'x [Arc<LegPlace>],
     shape: &Shape,
 ) -> Result<LegMaker<'x>, StartFault<'a>> {
     match Arc::new(alloc, AtomicU64::new(0)) {
-        Ok(read) => Ok(LegMaker::new(places, shape, read, settings.policy)),
+        Ok(read) => Ok(LegMaker::new(places, shape, read, mirror.policy)),
         Err(_) => Err(StartFault::Memory),
     }
 }
@@ -137,9 +138,9 @@ fn open_files<'a, R: Files<File = File>>(
     limits: &Limits,
 ) -> Result<LegFiles, StartFault<'a>> {
     let rules = LegRules::of(settings, limits);
-    let files = LegFiles::open(rt, alloc, &settings.legs, &rules)?;
-    let legs = settings.legs.len().min(MOST_LEGS as usize) as u8;
-    check_files(limits, legs, &rules, settings.sessions)?;
+    let files = LegFiles::open(rt, alloc, &settings.mirror.legs, &rules)?;
+    let legs = settings.mirror.legs.len().min(MOST_LEGS as usize) as u8;
+    check_files(limits, legs, &rules, settings.clients.sessions)?;
     Ok(files)
 }
 
@@ -151,13 +152,13 @@ fn state_of<'a, R: Threads + Wait + Sync + Clock>(
     limits: &Limits,
     metrics: Metrics,
 ) -> Result<ServingState, StartFault<'a>> {
-    let sessions = settings.sessions as usize;
-    let bytes = reply_bytes_of(limits, settings.sessions) as usize;
-    let rules = SessionRules::of(settings, bytes);
+    let sessions = settings.clients.sessions as usize;
+    let bytes = reply_bytes_of(limits, settings.clients.sessions) as usize;
+    let rules = SessionRules::of(&settings.clients, bytes);
     let Ok(state) = ServingState::new(rt, alloc, sessions, rules, metrics) else {
         return Err(StartFault::Memory);
     };
-    let others = settings.legs.len() + OTHER_THREADS;
+    let others = settings.mirror.legs.len() + OTHER_THREADS;
     try_address_space(rt, alloc, limits, sessions * OF_SESSION + others)?;
     try_threads(rt, alloc, sessions + AT_ONCE + others)?;
     Ok(state)
@@ -180,7 +181,7 @@ where
     let (own, copier) = (opened.own, opened.copier);
     let (places, writer) = (own.places.as_slice(), own.superblocks.as_ref());
     let legs = LegRenewer::new(alloc, opener, places, writer, mirror.shape())?;
-    let maker = maker_of(alloc, settings, places, mirror.shape())?;
+    let maker = maker_of(alloc, &settings.mirror, places, mirror.shape())?;
     let export = ServedExport {
         named,
         mirror: &mirror,
@@ -201,7 +202,7 @@ where
         return Err(StartFault::Memory);
     }
     let (stopped, all) = (count_stopped(rt, &mirror), mirror.shape().stripes);
-    close(alloc, mirror, passes, settings.verbose, out)?;
+    close(alloc, mirror, passes, settings.clients.verbose, out)?;
     if stopped > 0 {
         return Err(StartFault::StripesStopped(stopped, all));
     }
@@ -236,14 +237,15 @@ where
     let settings = &*settings;
     let named = export_asked(settings)?;
     let files = open_files(rt, alloc, settings, limits)?;
-    let clients = listen(rt, alloc, Address::of_clients(settings))?;
-    let control = listen_beside(rt, alloc, Address::Named(settings.control), &clients)?;
+    let listening = &settings.listening;
+    let clients = listen(rt, alloc, Address::of_clients(listening))?;
+    let control = listen_beside(rt, alloc, Address::Named(listening.control), &clients)?;
     files.start_threads(rt)?;
-    let metrics = metrics_of(alloc, &files, settings.sessions)?;
+    let metrics = metrics_of(alloc, &files, settings.clients.sessions)?;
     // Whatever may be refused is, before a superblock is made.
     let state = state_of(rt, alloc, settings, limits, metrics)?;
     let opened = open(rt, alloc, settings, files, &control.listener, lines)?;
-    warn_if_open(rt, alloc, &control.listener, settings.control, lines);
+    warn_if_open(rt, alloc, &control.listener, listening.control, lines);
     clients.tell(out, "listening on");
     control.tell(out, "control on");
     let shared = Shared::new(alloc, &clients.listener, &control.listener, lines, &state);

@@ -6,6 +6,7 @@ pub mod Idle
 pub mod Latency
 pub mod Lines
 pub mod MetricText
+pub mod Orders
 pub mod Pacing
 pub mod Repeating
 pub mod Returning

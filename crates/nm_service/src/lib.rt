@@ -1,8 +1,8 @@
 //! What a server keeps in order while it serves, as plain data: the lines that wait to be written,
 //! what happens again and again and is told now and then, when a leg is attached again by itself
-//! and how often, how long a copy rests, which session has been idle too long, times by powers of
-//! two, metrics and sizes as text, which connection of the control port has to make room, and how
-//! well a mirror is, in one word.
+//! and how often, what is ordered of each leg, how long a copy rests, which session has been idle
+//! too long, times by powers of two, metrics and sizes as text, which connection of the control
+//! port has to make room, and how well a mirror is, in one word.
 //!
 //! It starts no thread, waits for nothing and reads no clock: its callers say what time it is.
 #![tactic(auto)]
@@ -14,6 +14,7 @@ mod idle;
 mod interval;
 mod latency;
 mod leg_change;
+mod leg_orders;
 mod line_queue;
 mod mebibytes;
 mod metric_text;
@@ -29,6 +30,7 @@ pub use crate::idle::{LastChange, SessionUse};
 pub use crate::interval::Interval;
 pub use crate::latency::{LATENCY_BUCKETS, latency_bucket};
 pub use crate::leg_change::{LegChange, LegSight};
+pub use crate::leg_orders::{LegOrder, LegOrders};
 pub use crate::line_queue::LineQueue;
 pub use crate::mebibytes::Mebibytes;
 pub use crate::metric_text::{put_heading, put_sample};

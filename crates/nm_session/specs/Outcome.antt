@@ -9,7 +9,7 @@ use Rattle.nm_session.specs.declared.outcome.Outcome.TheVariants.{Done, Data, Er
 -- the bytes that were read, none where nothing was to be read, or the error
 abbrev pub says : Outcome → Result (List ℕ) ℕ
 says Done = Ok []
-says (Data bytes) = Ok bytes.items
+says (Data bytes) = Ok bytes
 says (Error code) = Err code
 
 -- how many bytes the reply to a task carries

@@ -37,7 +37,7 @@ pub(crate) fn serve_one<T: Target>(
 {
     match core.next(alloc)? {
         Next::Issue(index, task, payload) => {
-            let called = call(alloc, target, index, task, payload);
+            let called = call(alloc, target, index, task, payload, Vec::new(alloc));
             answer(alloc, core, called)?;
             Ok(Stop::Answered)
         }

@@ -1,6 +1,6 @@
 //! What becomes of a request once it is judged.
 ghost use Rattle.std.specs.Prelude.{◌≡◌, ◌+◌, ◌<◌, ◌≤◌, ◌++◌, [], vec_len, vec_capacity};
-ghost use Rattle.std.specs.Prelude.{◌↔◌, IsTrue, IfOk, OnOk, OnErr};
+ghost use Rattle.std.specs.Prelude.{◌↔◌, IsTrue, IfOk, IfErr, OnOk, OnErr};
 ghost use Rattle.nm_session.specs.Asking as asking;
 ghost use Rattle.nm_requests.specs.Judging.{LiesInside};
 ghost use Rattle.nm_session.specs.Asking.{IsJudged, outstanding_for, own_reply, next_after};
@@ -129,20 +129,41 @@ pub(crate) fn is_fit(task: Task, outcome: &Outcome) -> bool
     let length = reply_length(task);
     match outcome {
         Outcome::Done => length == 0,
-        Outcome::Data(bytes) => bytes.len() == length,
+        Outcome::Data(frame) => frame.len() == length,
         Outcome::Error(code) => *code != 0,
     }
 }
 
-// Appends the reply to a request with this outcome. Refused, the output stays.
-pub(crate) fn put_outcome(out: &mut Vec<u8>, cookie: u64, outcome: &Outcome) -> Result<(), Memory>
+// Appends the reply to a request with this outcome. Where nothing else waits, the buffer that a
+// READ was read into becomes the output. Refused, the output stays and the outcome comes back.
+pub(crate) fn put_outcome(out: &mut Vec<u8>, cookie: u64, outcome: Outcome) -> Result<(), Outcome>
+    ensures ok { OnOk result
+        (out.new.items ≡ out.old.items ++ reply_frame cookie (says outcome)) }
+    ensures back { IfErr result (λ e. e ≡ outcome) }
+    ensures err { OnErr result (out.new.items ≡ out.old.items) }
+{
+    match outcome {
+        Outcome::Data(frame) if out.is_empty() => {
+            *out = frame.into_frame(cookie);
+            Ok(())
+        }
+        outcome => match copy_outcome(out, cookie, &outcome) {
+            Ok(()) => Ok(()),
+            Err(_) => Err(outcome),
+        },
+    }
+}
+
+// Appends the reply to a request with this outcome, whose data are copied. Refused, the output
+// stays.
+fn copy_outcome(out: &mut Vec<u8>, cookie: u64, outcome: &Outcome) -> Result<(), Memory>
     ensures ok { OnOk result
         (out.new.items ≡ out.old.items ++ reply_frame cookie (says outcome.now)) }
     ensures err { OnErr result (out.new.items ≡ out.old.items) }
 {
     match outcome {
         Outcome::Done => put_frame(out, SimpleReply { error: 0, cookie }, &[]),
-        Outcome::Data(bytes) => put_frame(out, SimpleReply { error: 0, cookie }, bytes.as_slice()),
+        Outcome::Data(frame) => put_frame(out, SimpleReply { error: 0, cookie }, frame.data()),
         Outcome::Error(code) => put_frame(
             out,
             SimpleReply {

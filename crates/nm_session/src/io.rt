@@ -34,7 +34,7 @@ pub fn feed_piece<I: Read>(
     Ok(true)
 }
 
-/// Sends what is to go out, all of it.
+/// Sends what is to go out, all of it. A READ's buffer may be used again then.
 pub fn send_out<O: Write>(
     core: &mut SessionCore,
     sender: &mut ReplyWriter<O>,
@@ -49,7 +49,10 @@ pub fn send_out<O: Write>(
         return Ok(());
     }
     match sender.send(bytes.as_slice()) {
-        Ok(()) => Ok(()),
+        Ok(()) => {
+            core.keep_buffer(bytes);
+            Ok(())
+        }
         Err(SendFault::Device(sent)) => Err(ServeFault::Write(sent)),
         Err(SendFault::Failed) => Err(ServeFault::Write(0)),
     }

@@ -24,6 +24,7 @@ pub use target::Target;
 pub use target_fault::TargetFault;
 
 mod batch;
+mod buffer_pool;
 mod called;
 mod calling;
 mod connection;

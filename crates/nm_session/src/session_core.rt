@@ -16,6 +16,7 @@ ghost use Rattle.nm_session.specs.Reading.{Reads, ReadsOn, RepliesItself, Tells}
 ghost use Rattle.nm_session.specs.declared.outstanding.Outstanding.{Outstanding};
 ghost use Rattle.nm_session.specs.declared.stage.Stage.TheVariants as stage;
 
+use crate::buffer_pool::BufferPool;
 use crate::dispatch::{
     asked_by, dispatch, is_fit, is_same, judge_within, put_outcome, reply_length, stage_after,
     sum_within,
@@ -52,6 +53,7 @@ pub struct SessionCore {
     // How many bytes the replies to the outstanding requests carry at most.
     asked: usize,
     out: Vec<u8>,
+    spare: BufferPool,
 }
 
 impl Model for SessionCore {
@@ -88,6 +90,7 @@ impl SessionCore {
                 outstanding,
                 asked: 0,
                 out,
+                spare: BufferPool::new(alloc),
             }),
             Err(_) => Err((Refused::Memory, export)),
         }
@@ -249,7 +252,8 @@ impl SessionCore {
             .all(|held| held.index != index || is_same(held.task, task))
     }
 
-    /// Replies to the outstanding request with this index, by the outcome of its task.
+    /// Replies to the outstanding request with this index, by the outcome of its task. The data of
+    /// a READ are not copied where nothing else waits to go out.
     pub fn answer(
         &mut self,
         _alloc: Global,
@@ -274,7 +278,7 @@ impl SessionCore {
             return Err((refused, outcome));
         };
         let cookie = self.outstanding[at].cookie;
-        if put_outcome(&mut self.out, cookie, &outcome).is_err() {
+        if let Err(outcome) = put_outcome(&mut self.out, cookie, outcome) {
             return Err((Refused::Memory, outcome));
         }
         let held = self.outstanding.remove(at);
@@ -289,6 +293,20 @@ impl SessionCore {
     {
         let alloc = *self.out.allocator();
         mem::replace(&mut self.out, Vec::new(alloc))
+    }
+
+    /// A buffer for this task, which `call` reads into: one that was kept, or an empty one.
+    pub fn take_buffer(&mut self, alloc: Global, task: Task) -> Vec<u8>
+        ensures { self.new ≡ self.old }
+    {
+        self.spare.take(alloc, task)
+    }
+
+    /// Keeps a buffer that was sent for READs to come, if it is long: at most 16 of 256 KiB each.
+    pub fn keep_buffer(&mut self, buffer: Vec<u8>)
+        ensures { self.new ≡ self.old }
+    {
+        self.spare.keep(buffer);
     }
 
     /// How many bytes wait to go out.

@@ -1,5 +1,6 @@
 -- The mirror that the settings ask for, and why it does not start on its legs.
 use Rattle.std.specs.Prelude.{◌≡◌, ◌⊎◌, ℕ, List, Option, None, Some}
+use Rattle.nm_commands.specs.declared.opening_settings.OpeningSettings.{OpeningSettings}
 use Rattle.nm_commands.specs.declared.server_settings.Settings.{Settings}
 use Rattle.nm_commands.specs.declared.start.Start as asked
 use Rattle.nm_commands.specs.declared.start.Start.TheVariants as asked_start
@@ -25,8 +26,8 @@ abbrev pub forced_or_named : (forced master : Option ℕ) → Option ℕ
 forced_or_named (Some leg) master = Some leg
 forced_or_named None master = master
 
-abbrev pub named_master : Settings → Option ℕ
-named_master settings = forced_or_named settings.force_master settings.master
+abbrev pub named_master : OpeningSettings → Option ℕ
+named_master opening = forced_or_named opening.force_master opening.master
 
 -- the leg that was named as the master, and leg 0 where none was
 abbrev pub master_or_first : Option ℕ → ℕ
@@ -37,9 +38,9 @@ master_or_first None = 0
 abbrev pub asked_by : Settings → Geometry → Asked
 asked_by settings shape = record {
   shape = shape;
-  master = master_or_first (named_master settings);
-  policy = settings.policy;
-  start = start_for settings.start;
+  master = master_or_first (named_master settings.opening);
+  policy = settings.mirror.policy;
+  start = start_for settings.opening.start;
 }
 
 -- the legs are not known to be alike: leg 0 cannot be read beside the others, or some leg lacks

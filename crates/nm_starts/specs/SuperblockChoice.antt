@@ -1,7 +1,7 @@
 -- What a start by superblocks goes by, and why it is refused: by rows, of which the first that
 -- applies decides.
 use Rattle.std.specs.Prelude.{◌≡◌, ◌≢◌, ◌⊎◌, ◌≤◌, ℕ, Bool, List, Option, None, Some, min, max}
-use Rattle.std.specs.Prelude.{IsTrue, slice_index_or}
+use Rattle.std.specs.Prelude.{slice_index_or}
 use Rattle.nm_assemble.specs.Assembly.{IsAssembly, IsRefused}
 use Rattle.nm_assemble.specs.Image.{IsClosedTo, IsFork, IsForced, IsImage, OpensAll}
 use Rattle.nm_assemble.specs.Own.{AreOwn}
@@ -10,7 +10,7 @@ use Rattle.nm_assemble.specs.declared.assembly.AssembleFault.{AssembleFault}
 use Rattle.nm_assemble.specs.declared.assembly.AssembleFault.TheVariants as refused
 use Rattle.nm_assemble.specs.declared.assembly.Assembly.{Assembly}
 use Rattle.nm_assemble.specs.declared.misfit.Misfit.TheVariants.{Apart, OtherLeg, OtherMirror}
-use Rattle.nm_commands.specs.declared.server_settings.Settings.{Settings}
+use Rattle.nm_commands.specs.declared.opening_settings.OpeningSettings.{OpeningSettings}
 use Rattle.nm_commands.specs.declared.start.Start.TheVariants.{Equal, Full}
 use Rattle.nm_reports.specs.declared.start_fault.StartFault.{StartFault}
 use Rattle.nm_reports.specs.declared.start_fault.StartFault.TheVariants as fault
@@ -37,8 +37,8 @@ IsSureOr lineage seen newest sure image =
     (IsSureStart newest seen.found × (image ≡ sure)) ⊎ IsDegraded lineage seen newest sure image
 
 -- the image of a start that nobody forced
-pub record IsAssembled (s : Settings) (seen : FoundLegs) (lineage : ℕ) (newest image : Superblock)
-    : Type 0 where
+pub record IsAssembled (s : OpeningSettings) (seen : FoundLegs) (lineage : ℕ)
+    (newest image : Superblock) : Type 0 where
   pub unequal : s.start ≢ Equal
   pub part : s.start ≢ Full
   pub assembly : Assembly
@@ -51,7 +51,7 @@ pub record IsAssembled (s : Settings) (seen : FoundLegs) (lineage : ℕ) (newest
   pub goes_on : IsSureOr lineage seen newest sure image
 
 -- the image that a start goes by: a leg that was forced on it is the only one that is named
-abbrev pub GoesBy : (forced : Option ℕ) → Settings → FoundLegs → (lineage : ℕ)
+abbrev pub GoesBy : (forced : Option ℕ) → OpeningSettings → FoundLegs → (lineage : ℕ)
     → (newest image : Superblock) → Type 0
 GoesBy (Some leg) s seen lineage newest image = IsForced leg lineage seen.legs newest image
 GoesBy None s seen lineage newest image = IsAssembled s seen lineage newest image
@@ -65,7 +65,7 @@ Takes None seen taken =
 Takes (Some leg) seen taken = taken ≡ seen.legs.here
 
 -- what a start goes by
-abbrev pub Chooses : Settings → FoundLegs → (lineage : ℕ) → Choice → Type 0
+abbrev pub Chooses : OpeningSettings → FoundLegs → (lineage : ℕ) → Choice → Type 0
 Chooses s seen lineage First = IsEmpty 8 seen.found
 Chooses s seen lineage (Image image) =
     (newest : Superblock) × IsNewest 8 newest seen.found
@@ -93,7 +93,7 @@ told (refused.MayBeNewer leg) seen newest = fault.MayBeNewer leg
 told (refused.NoneInSync stripe) seen newest = fault.NoneInSync stripe
 
 -- superblocks do not decide
-pub record IsTold (s : Settings) (seen : FoundLegs) (tells : StartFault) : Type 0 where
+pub record IsTold (s : OpeningSettings) (seen : FoundLegs) (tells : StartFault) : Type 0 where
   pub unforced : s.force_master ≡ None
   pub newest : Superblock
   pub greatest : IsNewest 8 newest seen.found
@@ -102,7 +102,7 @@ pub record IsTold (s : Settings) (seen : FoundLegs) (tells : StartFault) : Type 
   pub told : tells ≡ told why seen newest
 
 -- a leg was named that cannot be the master of each stripe
-pub record IsNotInSync (s : Settings) (seen : FoundLegs) (leg : ℕ) : Type 0 where
+pub record IsNotInSync (s : OpeningSettings) (seen : FoundLegs) (leg : ℕ) : Type 0 where
   pub unforced : s.force_master ≡ None
   pub named : s.master ≡ Some leg
   pub assembly : Assembly
@@ -110,7 +110,7 @@ pub record IsNotInSync (s : Settings) (seen : FoundLegs) (leg : ℕ) : Type 0 wh
   pub closed : (stripe : ℕ) × IsClosedTo leg assembly stripe
 
 -- why a start by superblocks is refused
-abbrev pub RefusesChoice : Settings → FoundLegs → StartFault → Type 0
+abbrev pub RefusesChoice : OpeningSettings → FoundLegs → StartFault → Type 0
 RefusesChoice s seen (fault.NoMaster leg) =
     (8 ≤ leg) × ((s.force_master ≡ Some leg) ⊎ (s.master ≡ Some leg))
 RefusesChoice s seen fault.NotFirstStart =

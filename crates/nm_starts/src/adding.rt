@@ -1,6 +1,6 @@
 //! Legs that superblocks do not know yet.
 
-use nm_commands::{Settings, SuperblockPlace};
+use nm_commands::{OpeningSettings, Settings, SuperblockPlace};
 use nm_leg_files::with_added;
 use nm_reports::StartFault;
 use nm_superblock::Superblock;
@@ -12,8 +12,8 @@ pub(crate) fn number_of(word: &str) -> u8 {
 }
 
 // Whether the words say that the mirror may be copied over this leg.
-fn is_added(settings: &Settings<'_>, leg: usize) -> bool {
-    for word in settings.added.iter() {
+fn is_added(opening: &OpeningSettings<'_>, leg: usize) -> bool {
+    for word in opening.added.iter() {
         if number_of(word) as usize == leg {
             return true;
         }
@@ -33,12 +33,12 @@ pub fn take_added(found: &mut [Option<Superblock>; 8], legs: u8) {
 /// Refuses a leg that is to be added and is none; and where there are no superblocks, or are none
 /// yet, all that are to be added.
 pub fn check_added<'a>(settings: &Settings<'_>, is_known: bool) -> Result<(), StartFault<'a>> {
-    for word in settings.added.iter() {
+    for word in settings.opening.added.iter() {
         let leg = number_of(word);
-        if leg as usize >= settings.legs.len() {
+        if leg as usize >= settings.mirror.legs.len() {
             return Err(StartFault::NoLegToAdd(leg));
         }
-        if !is_known || settings.superblock == SuperblockPlace::Nowhere {
+        if !is_known || settings.opening.superblock == SuperblockPlace::Nowhere {
             return Err(StartFault::NothingToAddTo(leg));
         }
     }
@@ -47,8 +47,8 @@ pub fn check_added<'a>(settings: &Settings<'_>, is_known: bool) -> Result<(), St
 
 /// Refuses the first leg that superblocks of so many legs do not know, and that is not to be added.
 pub fn check_known<'a>(settings: &Settings<'a>, legs: u8) -> Result<(), StartFault<'a>> {
-    for (leg, name) in settings.legs.iter().enumerate() {
-        if leg >= legs as usize && !is_added(settings, leg) {
+    for (leg, name) in settings.mirror.legs.iter().enumerate() {
+        if leg >= legs as usize && !is_added(&settings.opening, leg) {
             return Err(StartFault::NotKnown(leg, *name));
         }
     }

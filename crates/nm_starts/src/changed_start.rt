@@ -8,7 +8,7 @@ use crate::alike::are_alike;
 use crate::superblock_choice::FoundLegs;
 use nm_assemble::{LegsHere, are_all_changed, changed_legs, newest_of};
 use nm_choice::Policy;
-use nm_commands::Settings;
+use nm_commands::OpeningSettings;
 use nm_geometry::Shape;
 use nm_leg_files::{BytesRead, Leg, LegFiles, mirror_legs};
 use nm_mirror::{InitialSync, MirrorFault, open_stripes};
@@ -18,11 +18,11 @@ use std::alloc::Global;
 
 /// What is found of the legs as if none was changed, where all were, and no leg is forced on the
 /// start: it goes by that, once it has compared them.
-pub fn as_they_were(settings: &Settings<'_>, seen: &FoundLegs) -> Option<FoundLegs>
-    ensures some { IfSome result (λ own. IsAsItWas settings.now seen.now own) }
-    ensures none { IfNone result (IsOtherStart settings.now seen.now) }
+pub fn as_they_were(opening: &OpeningSettings<'_>, seen: &FoundLegs) -> Option<FoundLegs>
+    ensures some { IfSome result (λ own. IsAsItWas opening.now seen.now own) }
+    ensures none { IfNone result (IsOtherStart opening.now seen.now) }
 {
-    if settings.force_master.is_some() {
+    if opening.force_master.is_some() {
         return None;
     }
     let Some(newest) = newest_of(&seen.found) else {

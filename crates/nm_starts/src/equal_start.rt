@@ -69,8 +69,8 @@ pub fn open_untold<'a>(
 ) -> Result<Vec<Stripe<Leg>>, StartFault<'a>>
     ensures { IfOk result (λ stripes. AreStripesOf shape.now stripes.items) }
 {
-    match settings.start {
-        Start::Equal => open_equal(alloc, settings.policy, files, shape, read),
+    match settings.opening.start {
+        Start::Equal => open_equal(alloc, settings.mirror.policy, files, shape, read),
         _ => open_on_files(alloc, settings, files, shape, read),
     }
 }

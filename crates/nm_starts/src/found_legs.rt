@@ -3,7 +3,7 @@
 use crate::moving::moved_legs;
 use crate::superblock_choice::FoundLegs;
 use nm_assemble::LegsHere;
-use nm_commands::Settings;
+use nm_commands::OpeningSettings;
 use nm_leg_files::LegFiles;
 use nm_reports::{LogLines, StartFault};
 use nm_superblock::Superblock;
@@ -16,7 +16,7 @@ use std::sync::Wait;
 pub fn find_legs<'a, R: Files<File = File> + Wait>(
     rt: &R,
     alloc: Global,
-    settings: &Settings<'_>,
+    opening: &OpeningSettings<'_>,
     files: &LegFiles,
     superblocks: &[Option<Superblock>; 8],
     lines: &LogLines,
@@ -26,7 +26,7 @@ pub fn find_legs<'a, R: Files<File = File> + Wait>(
         settled: files.settle(),
         identities: files.identities(rt, alloc, lines)?,
         changed: files.changed(),
-        moved: moved_legs(settings),
+        moved: moved_legs(opening),
     };
     Ok(FoundLegs {
         found: *superblocks,

@@ -1,6 +1,6 @@
 //! The shape of the mirror that superblocks are of.
 
-use nm_commands::Settings;
+use nm_commands::MirrorSettings;
 use nm_geometry::Shape;
 use nm_leg_files::LegFiles;
 use nm_reports::StartFault;
@@ -8,31 +8,31 @@ use nm_superblock::Superblock;
 
 /// The shape of the mirror that the image is of, over these files.
 pub fn shape_by<'a>(
-    settings: &Settings<'_>,
+    mirror: &MirrorSettings<'_>,
     files: &LegFiles,
     image: &Superblock,
 ) -> Result<Shape, StartFault<'a>> {
-    let shape = match files.shape(image.stripes, settings.history) {
+    let shape = match files.shape(image.stripes, mirror.history) {
         Some(shape) if fits(&shape, image) => shape,
         _ => return Err(StartFault::OtherMirror(image.leg as usize)),
     };
-    check_stripes(settings, files, image)?;
+    check_stripes(mirror, files, image)?;
     Ok(shape)
 }
 
 // Refuses another number of stripes than the image's, where one was named. More than there are
 // regions are as many as these.
 fn check_stripes<'a>(
-    settings: &Settings<'_>,
+    mirror: &MirrorSettings<'_>,
     files: &LegFiles,
     image: &Superblock,
 ) -> Result<(), StartFault<'a>> {
-    if !settings.names_stripes {
+    if !mirror.names_stripes {
         return Ok(());
     }
-    match files.shape(settings.stripes, settings.history) {
+    match files.shape(mirror.stripes, mirror.history) {
         Some(asked) if asked.stripes != u32::from(image.stripes) => {
-            Err(StartFault::OtherStripes(settings.stripes, image.stripes))
+            Err(StartFault::OtherStripes(mirror.stripes, image.stripes))
         }
         _ => Ok(()),
     }

@@ -2,7 +2,7 @@
 
 use crate::starting::named_master;
 use crate::superblock_opening::FoundFiles;
-use nm_commands::{Settings, SuperblockPlace};
+use nm_commands::{OpeningSettings, Settings, SuperblockPlace};
 use nm_leg_files::{LegFiles, blank_from, inside_from, superblock_inside};
 use nm_reports::{StartFault, Unopened};
 use std::fs::File;
@@ -12,27 +12,27 @@ use std::rt::Files;
 /// Takes superblocks to be inside the legs where the words do not say where they are, and a leg is
 /// a block device: beside that they would not outlive a restart.
 pub fn settle_place<R: Files<File = File>>(rt: &R, settings: &mut Settings<'_>) {
-    if settings.names_superblock {
+    if settings.opening.names_superblock {
         return;
     }
-    for name in settings.legs.iter() {
+    for name in settings.mirror.legs.iter() {
         if matches!(rt.metadata(*name), Ok(found) if found.file_type().is_block_device()) {
-            settings.superblock = SuperblockPlace::Inside;
+            settings.opening.superblock = SuperblockPlace::Inside;
         }
     }
 }
 
 /// Refuses that what legs have may go for superblocks inside them, where these are to be elsewhere.
-pub fn check_shrink<'a>(settings: &Settings<'_>) -> Result<(), StartFault<'a>> {
-    if settings.shrink && settings.superblock != SuperblockPlace::Inside {
+pub fn check_shrink<'a>(opening: &OpeningSettings<'_>) -> Result<(), StartFault<'a>> {
+    if opening.shrink && opening.superblock != SuperblockPlace::Inside {
         return Err(StartFault::NothingToShrink);
     }
     Ok(())
 }
 
 /// Refuses that what legs have may go for superblocks inside them, where they have some.
-pub fn check_unshrunk<'a>(settings: &Settings<'_>) -> Result<(), StartFault<'a>> {
-    if settings.shrink {
+pub fn check_unshrunk<'a>(opening: &OpeningSettings<'_>) -> Result<(), StartFault<'a>> {
+    if opening.shrink {
         return Err(StartFault::AlreadyShrunk);
     }
     Ok(())
@@ -55,10 +55,10 @@ pub fn check_none_inside<'a>(files: &LegFiles) -> Result<(), StartFault<'a>> {
 /// Refuses the first leg that has a superblock inside it, where none are kept. Where a leg was
 /// named as the newest by force, these superblocks are made invalid.
 pub fn leave_none_inside<'a>(
-    settings: &Settings<'_>,
+    opening: &OpeningSettings<'_>,
     files: &LegFiles,
 ) -> Result<(), StartFault<'a>> {
-    if settings.force_master.is_none() {
+    if opening.force_master.is_none() {
         return check_none_inside(files);
     }
     for leg in 0..files.count() {
@@ -95,8 +95,8 @@ impl FoundFiles {
 
     /// Refuses the first leg of a new mirror that has data where its superblock is to be inside it,
     /// unless these may go, or a master is named.
-    pub fn check_free<'a>(&self, settings: &Settings<'_>) -> Result<(), StartFault<'a>> {
-        if !self.at.is_inside() || settings.shrink || named_master(settings).is_some() {
+    pub fn check_free<'a>(&self, opening: &OpeningSettings<'_>) -> Result<(), StartFault<'a>> {
+        if !self.at.is_inside() || opening.shrink || named_master(opening).is_some() {
             return Ok(());
         }
         for leg in 0..self.files.len() {

@@ -20,7 +20,7 @@ use crate::superblock_places::FoundPlaces;
 use crate::unknown::unknown_legs;
 use crossbeam_channel::bounded;
 use nm_assemble::{named_leg, newest_of};
-use nm_commands::{Settings, SuperblockPlace};
+use nm_commands::{MirrorSettings, OpeningSettings, Settings, SuperblockPlace};
 use nm_gate::GatedStripe;
 use nm_geometry::Shape;
 use nm_lanes::NoGate;
@@ -66,14 +66,14 @@ fn mirror_of<'a>(
 fn open_changed<'a, R: Files<File = File>>(
     rt: &R,
     alloc: Global,
-    settings: &Settings<'a>,
+    mirror: &MirrorSettings<'a>,
     files: &LegFiles,
     read: &BytesRead,
     kept: KeptImage,
 ) -> Result<OpenedMirror, StartFault<'a>> {
-    let shape = shape_by(settings, files, &kept.image)?;
+    let shape = shape_by(mirror, files, &kept.image)?;
     let master = named_leg(&kept.image, 0).unwrap_or(0) as u8;
-    let stripes = open_compared(alloc, settings.policy, files, &shape, read, master)?;
+    let stripes = open_compared(alloc, mirror.policy, files, &shape, read, master)?;
     let (gated, superblocks) = kept.gate(rt, alloc, &shape, stripes)?;
     Ok(OpenedMirror {
         mirror: mirror_of(alloc, shape, gated)?,
@@ -93,11 +93,11 @@ fn open_mirror<'a, R: Files<File = File>>(
 ) -> Result<OpenedMirror, StartFault<'a>> {
     let kept = match kept {
         Some(kept) if kept.is_compared => {
-            return open_changed(rt, alloc, settings, files, read, kept);
+            return open_changed(rt, alloc, &settings.mirror, files, read, kept);
         }
         kept => kept,
     };
-    let Some(shape) = files.shape(settings.stripes, settings.history) else {
+    let Some(shape) = files.shape(settings.mirror.stripes, settings.mirror.history) else {
         return Err(StartFault::Memory);
     };
     let stripes = open_untold(alloc, settings, files, &shape, read)?;
@@ -136,14 +136,14 @@ where
     let Ok(read) = Arc::new(alloc, AtomicU64::new(0)) else {
         return Err(StartFault::Memory);
     };
-    if start_for(settings.start) == InitialSync::Full || settings.legs.len() < 2 {
+    if start_for(settings.opening.start) == InitialSync::Full || settings.mirror.legs.len() < 2 {
         return open_mirror(rt, alloc, settings, files, &read, kept);
     }
     let Ok((comparing, has_ended)) = bounded(alloc, 1) else {
         return Err(StartFault::Memory);
     };
     let own_comparison = Comparison {
-        legs: settings.legs.len(),
+        legs: settings.mirror.legs.len(),
         bytes: files.bytes(),
         read: &read,
     };
@@ -161,7 +161,7 @@ where
 fn open_image<'a, R: Files<File = File>>(
     rt: &R,
     alloc: Global,
-    settings: &Settings<'a>,
+    mirror: &MirrorSettings<'a>,
     files: &LegFiles,
     kept: KeptImage,
 ) -> Result<OpenedMirror, StartFault<'a>> {
@@ -169,8 +169,8 @@ fn open_image<'a, R: Files<File = File>>(
         return Err(StartFault::Memory);
     };
     let (image, here) = (kept.image, kept.here);
-    let shape = shape_by(settings, files, &image)?;
-    let policy = settings.policy;
+    let shape = shape_by(mirror, files, &image)?;
+    let policy = mirror.policy;
     let stripes = open_by_image(alloc, policy, files, &shape, &read, &image, &here)?;
     let (gated, superblocks) = kept.gate(rt, alloc, &shape, stripes)?;
     Ok(OpenedMirror {
@@ -183,13 +183,13 @@ fn open_image<'a, R: Files<File = File>>(
 // found: nothing is copied over them by a start that nobody forced.
 fn lay_unknown_aside<'a>(
     alloc: Global,
-    settings: &Settings<'_>,
+    opening: &OpeningSettings<'_>,
     newest: Option<Superblock>,
     found: &[Option<Superblock>; 8],
     files: &mut LegFiles,
 ) -> Result<(), StartFault<'a>> {
     match newest {
-        Some(newest) if settings.force_master.is_none() => {
+        Some(newest) if opening.force_master.is_none() => {
             files.lay_aside(alloc, &unknown_legs(&newest, found))?;
             Ok(())
         }
@@ -198,9 +198,12 @@ fn lay_unknown_aside<'a>(
 }
 
 // Refuses a leg that was named as the newest one, or as one that was moved, and is missing.
-fn check_all_named<'a>(settings: &Settings<'_>, files: &LegFiles) -> Result<(), StartFault<'a>> {
-    files.check_named(named_master(settings))?;
-    for (leg, is_moved) in moved_legs(settings).iter().enumerate() {
+fn check_all_named<'a>(
+    opening: &OpeningSettings<'_>,
+    files: &LegFiles,
+) -> Result<(), StartFault<'a>> {
+    files.check_named(named_master(opening))?;
+    for (leg, is_moved) in moved_legs(opening).iter().enumerate() {
         if *is_moved {
             files.check_named(Some(leg as u8))?;
         }
@@ -213,11 +216,11 @@ fn check_all_named<'a>(settings: &Settings<'_>, files: &LegFiles) -> Result<(), 
 fn gone_by<R: Wait>(
     rt: &R,
     alloc: Global,
-    settings: &Settings<'_>,
+    opening: &OpeningSettings<'_>,
     seen: &FoundLegs,
     lines: &LogLines,
 ) -> (FoundLegs, bool) {
-    match as_they_were(settings, seen) {
+    match as_they_were(opening, seen) {
         Some(unchanged) => {
             tell_compared(rt, alloc, lines);
             (unchanged, true)
@@ -231,19 +234,19 @@ fn gone_by<R: Wait>(
 fn see_legs<'a, R: Files<File = File> + Wait>(
     rt: &R,
     alloc: Global,
-    settings: &Settings<'a>,
+    opening: &OpeningSettings<'a>,
     files: &mut LegFiles,
     places: &mut FoundPlaces,
     lines: &LogLines,
 ) -> Result<(FoundLegs, Option<Superblock>), StartFault<'a>> {
     places.tell(rt, alloc, lines);
-    let mut superblocks = places.superblocks(alloc, settings)?;
+    let mut superblocks = places.superblocks(alloc, opening)?;
     let newest = newest_of(&superblocks);
     if let Some(newest) = &newest {
         take_added(&mut superblocks, newest.legs);
     }
-    lay_unknown_aside(alloc, settings, newest, &superblocks, files)?;
-    let seen = find_legs(rt, alloc, settings, files, &superblocks, lines)?;
+    lay_unknown_aside(alloc, opening, newest, &superblocks, files)?;
+    let seen = find_legs(rt, alloc, opening, files, &superblocks, lines)?;
     tell_unmoved(rt, alloc, &seen, lines);
     Ok((seen, newest))
 }
@@ -260,15 +263,16 @@ fn open_kept<'a, R, M: Meanwhile + Sync>(
 where
     R: Threads + Wait + Sync + Clock + RandomSource + Files<File = File>,
 {
-    check_all_named(settings, files)?;
+    let opening = &settings.opening;
+    check_all_named(opening, files)?;
     let mut places = FoundPlaces::open(rt, alloc, settings, files)?;
-    let (seen, went_by) = see_legs(rt, alloc, settings, files, &mut places, lines)?;
-    let (told, is_compared) = gone_by(rt, alloc, settings, &seen, lines);
+    let (seen, went_by) = see_legs(rt, alloc, opening, files, &mut places, lines)?;
+    let (told, is_compared) = gone_by(rt, alloc, opening, &seen, lines);
     let (image, is_first) = image_for(rt, settings, files, &told, draw_id(rt)?)?;
     if is_first {
-        check_first(settings, files, &places.new)?;
+        check_first(opening, files, &places.new)?;
     }
-    files.keep_own(alloc, &taken_legs(settings, &told), &changed_here(&seen))?;
+    files.keep_own(alloc, &taken_legs(opening, &told), &changed_here(&seen))?;
     files.record(&image);
     let above = places.above_old(image);
     let FoundPlaces { new, old } = places;
@@ -282,7 +286,7 @@ where
     let opened = if is_first || is_compared {
         open_watched(rt, alloc, settings, files, meanwhile, lines, Some(kept))?
     } else {
-        open_image(rt, alloc, settings, files, kept)?
+        open_image(rt, alloc, &settings.mirror, files, kept)?
     };
     // The new place has them all, and nobody is served yet.
     if let Some(old) = old {
@@ -305,7 +309,7 @@ where
     R: Threads + Wait + Sync + Clock + RandomSource + Files<File = File>,
 {
     check_place(rt, alloc, settings, files)?;
-    if settings.superblock == SuperblockPlace::Nowhere {
+    if settings.opening.superblock == SuperblockPlace::Nowhere {
         return open_watched(rt, alloc, settings, files, meanwhile, lines, None);
     }
     open_kept(rt, alloc, settings, files, meanwhile, lines)

@@ -74,20 +74,20 @@ pub fn sort_legs<'a, R: Files<File = File> + Wait>(
     settings: &mut Settings<'a>,
     lines: &LogLines,
 ) -> Result<(), StartFault<'a>> {
-    let count = settings.legs.len();
-    if settings.superblock != SuperblockPlace::Inside || count > MOST_LEGS as usize {
+    let count = settings.mirror.legs.len();
+    if settings.opening.superblock != SuperblockPlace::Inside || count > MOST_LEGS as usize {
         return Ok(());
     }
-    let said = numbers_inside(rt, &settings.legs);
+    let said = numbers_inside(rt, &settings.mirror.legs);
     let numbers = match leg_numbers(&said, count as u8) {
         Ok(numbers) => numbers,
-        Err(why) => return Err(misnumbered(&settings.legs, why)),
+        Err(why) => return Err(misnumbered(&settings.mirror.legs, why)),
     };
-    for (name, own) in settings.legs.iter().zip(said.iter()) {
+    for (name, own) in settings.mirror.legs.iter().zip(said.iter()) {
         if let Some(leg) = own {
             lines.inform(rt, format!(in alloc; "{name} is leg {leg}"));
         }
     }
-    settings.legs = in_order(alloc, &settings.legs, &numbers)?;
+    settings.mirror.legs = in_order(alloc, &settings.mirror.legs, &numbers)?;
     Ok(())
 }

@@ -3,15 +3,15 @@
 use crate::adding::number_of;
 use crate::superblock_choice::FoundLegs;
 use nm_assemble::{LegsHere, newest_of, own_legs};
-use nm_commands::{Settings, SuperblockPlace};
+use nm_commands::{OpeningSettings, Settings, SuperblockPlace};
 use nm_reports::{LogLines, StartFault};
 use std::alloc::Global;
 use std::sync::Wait;
 
 /// The legs of which the words say that they were moved.
-pub fn moved_legs(settings: &Settings<'_>) -> [bool; 8] {
+pub fn moved_legs(opening: &OpeningSettings<'_>) -> [bool; 8] {
     let mut moved = [false; 8];
-    for word in settings.moved.iter() {
+    for word in opening.moved.iter() {
         if let Some(is_moved) = moved.get_mut(number_of(word) as usize) {
             *is_moved = true;
         }
@@ -22,12 +22,12 @@ pub fn moved_legs(settings: &Settings<'_>) -> [bool; 8] {
 /// Refuses a leg that was moved and is none, and where there are no superblocks all that were
 /// moved.
 pub fn check_moved<'a>(settings: &Settings<'_>) -> Result<(), StartFault<'a>> {
-    for word in settings.moved.iter() {
+    for word in settings.opening.moved.iter() {
         let leg = number_of(word);
-        if leg as usize >= settings.legs.len() {
+        if leg as usize >= settings.mirror.legs.len() {
             return Err(StartFault::NoLegMoved(leg));
         }
-        if settings.superblock == SuperblockPlace::Nowhere {
+        if settings.opening.superblock == SuperblockPlace::Nowhere {
             return Err(StartFault::NothingMoved(leg));
         }
     }

@@ -37,11 +37,11 @@ pub fn check_no_superblocks<'a, R: Files<File = File>>(
     alloc: Global,
     settings: &Settings<'_>,
 ) -> Result<(), StartFault<'a>> {
-    for (leg, name) in settings.legs.iter().enumerate() {
+    for (leg, name) in settings.mirror.legs.iter().enumerate() {
         let Some(own) = file_beside(rt, alloc, leg, name)? else {
             continue;
         };
-        if settings.force_master.is_none() {
+        if settings.opening.force_master.is_none() {
             return Err(StartFault::HasSuperblock(leg));
         }
         if let Err(error) = rt.remove_file(own.as_str()) {
@@ -87,15 +87,15 @@ pub fn check_none_beside<'a, R: Files<File = File>>(
     alloc: Global,
     settings: &Settings<'a>,
 ) -> Result<(), StartFault<'a>> {
-    if settings.superblock_from == Some(SuperblockPlace::Beside) {
+    if settings.opening.superblock_from == Some(SuperblockPlace::Beside) {
         return Ok(());
     }
-    for (leg, name) in settings.legs.iter().enumerate() {
+    for (leg, name) in settings.mirror.legs.iter().enumerate() {
         let Some(own) = file_beside(rt, alloc, leg, name)? else {
             continue;
         };
         if may_go_by(rt, own.as_str()) {
-            return Err(match settings.superblock {
+            return Err(match settings.opening.superblock {
                 SuperblockPlace::Inside => StartFault::KeptBeside(leg, *name),
                 _ => StartFault::HeldBeside(leg, *name),
             });

@@ -3,7 +3,7 @@
 use crate::inside::{check_none_inside, leave_none_inside};
 use crate::no_superblocks::{check_no_superblocks, check_none_beside};
 use crate::superblock_opening::FoundFiles;
-use nm_commands::{Settings, SuperblockPlace};
+use nm_commands::{OpeningSettings, Settings, SuperblockPlace};
 use nm_leg_files::LegFiles;
 use nm_reports::StartFault;
 use std::alloc::Global;
@@ -17,10 +17,10 @@ pub fn check_place<'a, R: Files<File = File>>(
     settings: &Settings<'a>,
     files: &LegFiles,
 ) -> Result<(), StartFault<'a>> {
-    match settings.superblock {
+    match settings.opening.superblock {
         SuperblockPlace::Nowhere => {
             check_no_superblocks(rt, alloc, settings)?;
-            leave_none_inside(settings, files)
+            leave_none_inside(&settings.opening, files)
         }
         SuperblockPlace::Beside => Ok(()),
         SuperblockPlace::Folder(_) | SuperblockPlace::Inside => {
@@ -32,12 +32,12 @@ pub fn check_place<'a, R: Files<File = File>>(
 /// Refuses the first superblocks of a mirror where legs have some inside, and inside legs that have
 /// something else there.
 pub fn check_first<'a>(
-    settings: &Settings<'_>,
+    opening: &OpeningSettings<'_>,
     files: &LegFiles,
     found: &FoundFiles,
 ) -> Result<(), StartFault<'a>> {
-    if settings.superblock == SuperblockPlace::Inside {
-        found.check_free(settings)
+    if opening.superblock == SuperblockPlace::Inside {
+        found.check_free(opening)
     } else {
         check_none_inside(files)
     }

@@ -6,7 +6,7 @@ use crate::inside::check_unshrunk;
 use crate::starting::named_master;
 use crate::superblock_choice::{Choice, FoundLegs, choose, taken_legs};
 use nm_assemble::{LegsHere, NewMirror, first_superblock};
-use nm_commands::{Settings, Start};
+use nm_commands::{OpeningSettings, Settings, Start};
 use nm_geometry::Shape;
 use nm_leg_files::{LegFiles, REGION};
 use nm_reports::StartFault;
@@ -20,7 +20,7 @@ const SPAN_REGIONS: u32 = 1024;
 // taken to be.
 fn first_image<'a, R: RandomSource>(
     rt: &R,
-    settings: &Settings<'_>,
+    opening: &OpeningSettings<'_>,
     shape: &Shape,
     legs: &LegsHere,
     lineage: u64,
@@ -42,8 +42,8 @@ fn first_image<'a, R: RandomSource>(
         lineage,
         identities: legs.identities,
     };
-    let named = named_master(settings);
-    let equal = if named.is_none() || settings.start == Start::Equal {
+    let named = named_master(opening);
+    let equal = if named.is_none() || opening.start == Start::Equal {
         legs.here
     } else {
         [false; 8]
@@ -80,30 +80,30 @@ pub fn image_for<'a, R: RandomSource>(
     seen: &FoundLegs,
     lineage: u64,
 ) -> Result<(Superblock, bool), StartFault<'a>> {
-    match choose(settings, seen, lineage)? {
+    match choose(&settings.opening, seen, lineage)? {
         Choice::First => {
             check_added(settings, false)?;
             // Without superblocks nobody knows what a missing leg has.
             if let Some((leg, why)) = files.missing() {
                 return Err(StartFault::CannotOpen(leg, why));
             }
-            let Some(shape) = files.shape(settings.stripes, settings.history) else {
+            let Some(shape) = files.shape(settings.mirror.stripes, settings.mirror.history) else {
                 return Err(StartFault::Memory);
             };
-            let image = first_image(rt, settings, &shape, &seen.legs, lineage)?;
+            let image = first_image(rt, &settings.opening, &shape, &seen.legs, lineage)?;
             Ok((image, true))
         }
         Choice::Image(image) => {
             let mut image = image;
-            check_unshrunk(settings)?;
-            if settings.force_master.is_none() {
+            check_unshrunk(&settings.opening)?;
+            if settings.opening.force_master.is_none() {
                 check_known(settings, image.legs)?;
-                for leg in image.legs..settings.legs.len().min(8) as u8 {
+                for leg in image.legs..settings.mirror.legs.len().min(8) as u8 {
                     files.check_named(Some(leg))?;
                 }
             }
-            renew_ids(rt, &mut image, &taken_legs(settings, seen))?;
-            image.legs = image.legs.max(settings.legs.len().min(8) as u8);
+            renew_ids(rt, &mut image, &taken_legs(&settings.opening, seen))?;
+            image.legs = image.legs.max(settings.mirror.legs.len().min(8) as u8);
             Ok((image, false))
         }
     }

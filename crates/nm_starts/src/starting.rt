@@ -10,7 +10,7 @@ ghost use Rattle.nm_starts.specs.Starting.{RefusesStart, asked_by, master_or_fir
 ghost use Rattle.nm_starts.specs.Starting.{named_master, start_for, unread_master};
 
 use crate::alike::are_alike;
-use nm_commands::Settings;
+use nm_commands::{OpeningSettings, Settings};
 use nm_file_leg::FileLeg;
 use nm_geometry::Shape;
 use nm_leg::LegPart;
@@ -32,12 +32,12 @@ pub fn start_for(start: nm_commands::Start) -> InitialSync
 }
 
 /// The leg that was named as the one with the newest contents: by force, or else as the master.
-pub fn named_master(settings: &Settings<'_>) -> Option<u8>
-    ensures { result ≡ named_master settings.now }
+pub fn named_master(opening: &OpeningSettings<'_>) -> Option<u8>
+    ensures { result ≡ named_master opening.now }
 {
-    match settings.force_master {
+    match opening.force_master {
         Some(leg) => Some(leg),
-        None => settings.master,
+        None => opening.master,
     }
 }
 
@@ -71,16 +71,16 @@ pub fn open_asked<'a, L: LegPart>(
     ensures stripes { IfOk result (λ stripes. AreStripesOf shape.now stripes.items) }
     ensures opened { IfOk result (λ stripes. AreAllOpened (leg_type L.model L.honest)
         (asked_by settings.now shape.now) (map (λ own. own.items) legs.items) stripes.items) }
-    ensures alike { IfOk result (λ stripes. named_master settings.now ≡ None
+    ensures alike { IfOk result (λ stripes. named_master settings.now.opening ≡ None
         → AreAlike stripes.items) }
     ensures refused { IfErr result (RefusesStart (leg_type L.model L.honest)
-        (named_master settings.now)
+        (named_master settings.now.opening)
         (asked_by settings.now shape.now) (map (λ own. own.items) legs.items)) }
 {
-    let named = named_master(settings);
+    let named = named_master(&settings.opening);
     let master = master_or_first(named);
-    let start = start_for(settings.start);
-    let stripes = match open_stripes(alloc, shape, legs, master, settings.policy, start) {
+    let start = start_for(settings.opening.start);
+    let stripes = match open_stripes(alloc, shape, legs, master, settings.mirror.policy, start) {
         Ok(stripes) => stripes,
         Err(MirrorFault::MasterFault) => return Err(unread_master(named)),
         // That they do not fit cannot be: each leg was made with the blocks of its stripe.
@@ -107,7 +107,7 @@ pub fn open_on_files<'a>(
         ⟦<FileLeg<CountingFile> as LegPart>⟧.honest)
         (λ leg. leg_place leg.medium leg.stripe leg.shape)
         files.now (asked_by settings.now shape.now) stripes.items) }
-    ensures alike { IfOk result (λ stripes. named_master settings.now ≡ None
+    ensures alike { IfOk result (λ stripes. named_master settings.now.opening ≡ None
         → AreAlike stripes.items) }
 {
     let legs = match mirror_legs(alloc, files, shape, read) {

@@ -10,7 +10,7 @@ use nm_assemble::{
     AssembleFault, Assembly, LegsHere, Misfit, assemble, begin_lineage, forced_image, missing_leg,
     newest_of, own_legs,
 };
-use nm_commands::{Settings, Start};
+use nm_commands::{OpeningSettings, Start};
 use nm_reports::StartFault;
 use nm_superblock::Superblock;
 
@@ -122,28 +122,28 @@ fn sure_or_forked(
 
 // The image of a start that nobody forced.
 fn assembled<'a>(
-    settings: &Settings<'_>,
+    opening: &OpeningSettings<'_>,
     seen: &FoundLegs,
     newest: &Superblock,
     lineage: u64,
 ) -> Result<Superblock, StartFault<'a>>
     requires newest { IsNewest 8 newest.now seen.now.found }
-    requires unforced { settings.now.force_master ≡ None }
-    requires leg { IfSome settings.now.master (λ leg. leg < 8) }
-    ensures ok { IfOk result (IsAssembled settings.now seen.now lineage newest.now) }
-    ensures refused { IfErr result (RefusesChoice settings.now seen.now) }
+    requires unforced { opening.now.force_master ≡ None }
+    requires leg { IfSome opening.now.master (λ leg. leg < 8) }
+    ensures ok { IfOk result (IsAssembled opening.now seen.now lineage newest.now) }
+    ensures refused { IfErr result (RefusesChoice opening.now seen.now) }
 {
-    if settings.start == Start::Equal {
+    if opening.start == Start::Equal {
         return Err(StartFault::NotFirstStart);
     }
-    if settings.start == Start::Full {
+    if opening.start == Start::Full {
         return Err(StartFault::NotWhole);
     }
-    let assembly = match assemble(&seen.found, &seen.legs, settings.degraded) {
+    let assembly = match assemble(&seen.found, &seen.legs, opening.degraded) {
         Ok(assembly) => assembly,
         Err(why) => return Err(told(why, seen, newest)),
     };
-    let asked = match asked_master(settings.master, &assembly) {
+    let asked = match asked_master(opening.master, &assembly) {
         Ok(asked) => asked,
         Err(leg) => return Err(StartFault::NotInSync(leg)),
     };
@@ -154,10 +154,10 @@ fn assembled<'a>(
 
 /// The legs whose files a start by superblocks takes: those that are here and their own, and all
 /// that are here where a leg was forced on it, or where there are no superblocks.
-pub fn taken_legs(settings: &Settings<'_>, seen: &FoundLegs) -> [bool; 8]
-    ensures { Takes settings.now.force_master seen.now result }
+pub fn taken_legs(opening: &OpeningSettings<'_>, seen: &FoundLegs) -> [bool; 8]
+    ensures { Takes opening.now.force_master seen.now result }
 {
-    match (settings.force_master, newest_of(&seen.found)) {
+    match (opening.force_master, newest_of(&seen.found)) {
         (None, Some(newest)) => own_legs(&newest, &seen.legs),
         _ => seen.legs.here,
     }
@@ -166,28 +166,28 @@ pub fn taken_legs(settings: &Settings<'_>, seen: &FoundLegs) -> [bool; 8]
 /// What a start by superblocks goes by: where a leg was forced on it that leg, else the newest
 /// superblock, if it decides. A start that is not sure, or that is forced, begins this lineage.
 pub fn choose<'a>(
-    settings: &Settings<'_>,
+    opening: &OpeningSettings<'_>,
     seen: &FoundLegs,
     lineage: u64,
 ) -> Result<Choice, StartFault<'a>>
-    ensures ok { IfOk result (Chooses settings.now seen.now lineage) }
-    ensures refused { IfErr result (RefusesChoice settings.now seen.now) }
+    ensures ok { IfOk result (Chooses opening.now seen.now lineage) }
+    ensures refused { IfErr result (RefusesChoice opening.now seen.now) }
 {
-    if let Some(leg) = beyond(settings.force_master) {
+    if let Some(leg) = beyond(opening.force_master) {
         return Err(StartFault::NoMaster(leg));
     }
-    if let Some(leg) = beyond(settings.master) {
+    if let Some(leg) = beyond(opening.master) {
         return Err(StartFault::NoMaster(leg));
     }
     let Some(newest) = newest_of(&seen.found) else {
         return Ok(Choice::First);
     };
-    match settings.force_master {
+    match opening.force_master {
         Some(leg) => {
             let image = forced_image(&newest, leg as usize, lineage, &seen.legs);
             Ok(Choice::Image(image))
         }
-        None => match assembled(settings, seen, &newest, lineage) {
+        None => match assembled(opening, seen, &newest, lineage) {
             Ok(image) => Ok(Choice::Image(image)),
             Err(fault) => Err(fault),
         },

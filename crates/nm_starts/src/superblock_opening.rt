@@ -1,7 +1,7 @@
 //! The files of legs' superblocks, as a start opens, locks, reads and makes them.
 
 use crate::inside_slots::{FoundSlots, holds_none, make_inside, read_inside};
-use nm_commands::{Settings, SuperblockPlace};
+use nm_commands::{MirrorSettings, SuperblockPlace};
 use nm_leg_files::{
     CallLimit, LateFile, LateSlots, LateSuperblock, LegFiles, SlotsAt, blank_file, bytes_of,
     no_memory, open_locked, open_or_make,
@@ -196,13 +196,13 @@ impl FoundFiles {
     pub fn open<'a, R: Files<File = File>>(
         rt: &R,
         alloc: Global,
-        settings: &Settings<'_>,
+        mirror: &MirrorSettings<'_>,
         place: SuperblockPlace<'_>,
         legs: &LegFiles,
     ) -> Result<FoundFiles, StartFault<'a>> {
         let (at, limits) = (SlotsAt::of(place, legs.export_bytes()), legs.limits(alloc)?);
         let (mut files, mut names, mut free) = (Vec::new(alloc), Vec::new(alloc), Vec::new(alloc));
-        for (leg, own) in settings.legs.iter().enumerate() {
+        for (leg, own) in mirror.legs.iter().enumerate() {
             let Some(name) = superblock_name(alloc, place, leg, own)? else {
                 continue;
             };

@@ -6,7 +6,7 @@ use crate::kept::Superblocks;
 use crate::superblock_opening::FoundFiles;
 use crate::two_places::{PlaceFound, carried_superblocks, counted, earlier_superblocks, is_moved};
 use nm_assemble::{first_misfit, newest_of};
-use nm_commands::{Settings, SuperblockPlace};
+use nm_commands::{OpeningSettings, Settings, SuperblockPlace};
 use nm_leg_files::{LateSlots, LegFiles, is_same, remove_durably};
 use nm_reports::{LogLines, StartFault, Unopened};
 use nm_saves::SuperblockFile;
@@ -35,11 +35,11 @@ pub struct OldPlace {
 
 /// Refuses a place from which superblocks are to be moved, where it is the one to which they are,
 /// or where one of the two is none.
-pub fn check_from<'a>(settings: &Settings<'_>) -> Result<(), StartFault<'a>> {
-    let Some(from) = settings.superblock_from else {
+pub fn check_from<'a>(opening: &OpeningSettings<'_>) -> Result<(), StartFault<'a>> {
+    let Some(from) = opening.superblock_from else {
         return Ok(());
     };
-    let to = settings.superblock;
+    let to = opening.superblock;
     if from == SuperblockPlace::Nowhere || to == SuperblockPlace::Nowhere {
         return Err(StartFault::NoPlace);
     }
@@ -74,13 +74,13 @@ fn open_old<'a, R: Files<File = File>>(
     settings: &Settings<'_>,
     legs: &LegFiles,
 ) -> Result<Option<OldPlace>, StartFault<'a>> {
-    let Some(from) = settings.superblock_from else {
+    let Some(from) = settings.opening.superblock_from else {
         return Ok(None);
     };
-    if are_one_folder(rt, settings.superblock, from) {
+    if are_one_folder(rt, settings.opening.superblock, from) {
         return Err(StartFault::SamePlace);
     }
-    match FoundFiles::open(rt, alloc, settings, from, legs) {
+    match FoundFiles::open(rt, alloc, &settings.mirror, from, legs) {
         Ok(files) => Ok(Some(OldPlace { files })),
         Err(StartFault::CannotSave(leg, why)) => Err(StartFault::CannotMove(leg, why)),
         Err(fault) => Err(fault),
@@ -215,7 +215,8 @@ impl FoundPlaces {
         legs: &LegFiles,
     ) -> Result<FoundPlaces, StartFault<'a>> {
         let old = open_old(rt, alloc, settings, legs)?;
-        let new = FoundFiles::open(rt, alloc, settings, settings.superblock, legs)?;
+        let place = settings.opening.superblock;
+        let new = FoundFiles::open(rt, alloc, &settings.mirror, place, legs)?;
         Ok(FoundPlaces { new, old })
     }
 
@@ -236,14 +237,14 @@ impl FoundPlaces {
     pub fn superblocks<'a>(
         &mut self,
         alloc: Global,
-        settings: &Settings<'_>,
+        opening: &OpeningSettings<'_>,
     ) -> Result<[Option<Superblock>; 8], StartFault<'a>> {
         let Some(own) = &self.old else {
             return Ok(self.new.found());
         };
         let (new, old) = (found_in(&self.new), found_in(&own.files));
         let both = counted(&new, &old);
-        if settings.force_master.is_none() {
+        if opening.force_master.is_none() {
             check_left(&both, &new, &old)?;
         }
         match Vec::from_array(alloc, carried_superblocks(&both, &new.found)) {

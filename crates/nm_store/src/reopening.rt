@@ -7,8 +7,8 @@ ghost use Rattle.nm_regions.specs.Table.{is_out, leg_at, regions_of};
 ghost use Rattle.nm_resync.specs.Chunk.{IsChunkSize};
 ghost use Rattle.nm_rules.specs.Attach.{fallen};
 ghost use Rattle.nm_rules.specs.Comparing.{waiting};
-ghost use Rattle.nm_rules.specs.Reopening.{Marks, OpeningPlan, marks_from, planned, reopened};
-ghost use Rattle.nm_rules.specs.Reopening.{reopened_leg, reopened_state};
+ghost use Rattle.nm_rules.specs.Reopening.{Marks, OpeningPlan, marks_from, plan_of, planned};
+ghost use Rattle.nm_rules.specs.Reopening.{reopened, reopened_leg, reopened_state};
 ghost use Rattle.nm_store.specs.Reopening.{AreAside, IsAside, opened_upto};
 
 use crate::store::Store;
@@ -16,7 +16,7 @@ use nm_choice::{LegState, Policy};
 use nm_leg::LegPart;
 use nm_regions::Regions;
 use nm_replay::Memory;
-use nm_rules::{At, LegOpening};
+use nm_rules::{At, LegOpening, MarkedPlan};
 use std::alloc::Global;
 
 /// Whether the span is marked. One past the last is not.
@@ -132,28 +132,22 @@ impl<L: LegPart> Store<L> {
         alloc: Global,
         place: At,
         legs: Vec<L>,
-        master: u8,
-        others: &[LegOpening],
-        marked: &[bool],
-        span: u64,
+        plan: &MarkedPlan<'_>,
         first: u64,
         policy: Policy,
     ) -> Result<Store<L>, (Memory, Vec<L>)>
         requires sizes { AreSizes place.blocks place.region (length legs.items) }
         requires chunk { IsChunkSize place.chunk }
-        requires master { master < length legs.items }
-        requires each { length others.now ≡ length legs.items }
-        requires some { 0 < span }
-        ensures opened { let marks : Marks = record { marked = marked.now; span = span } in
-            let plan : OpeningPlan =
-            record { master = master; others = others.now; marks = marks } in
-            IfOk result (λ store. store ≡ reopened place
-            (planned place legs.items plan first policy)) }
+        requires master { plan.now.master < length legs.items }
+        requires each { length plan.now.others.now ≡ length legs.items }
+        requires some { 0 < plan.now.span }
+        ensures opened { IfOk result (λ store. store ≡ reopened place
+            (planned place legs.items (plan_of plan.now) first policy)) }
         ensures handed_back { IfErr result (λ refused. refused.1.items ≡ legs.items) }
     {
         let mut store = Store::open(alloc, place, legs, 0, first, policy)?;
-        store.start_comparing(master);
-        store.open_legs(others, marked, span);
+        store.start_comparing(plan.master);
+        store.open_legs(plan.others, plan.marked, plan.span);
         Ok(store)
     }
 }

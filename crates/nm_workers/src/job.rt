@@ -26,6 +26,8 @@ pub struct Job<E: Extent> {
     index: u64,
     task: Task,
     payload: Bytes,
+    // What a READ may be read into.
+    buffer: Vec<u8>,
     of: PhantomData<E>,
 }
 
@@ -66,7 +68,10 @@ impl<E: Extent> Job<E> {
             return Err(ServeFault::Memory);
         };
         match next {
-            Next::Issue(index, task, payload) => Ok(Ok(Job::new(index, task, payload))),
+            Next::Issue(index, task, payload) => {
+                let buffer = core.take_buffer(alloc, task);
+                Ok(Ok(Job::new(index, task, payload, buffer)))
+            }
             Next::Starved => Ok(Err(NoRequest::Starved)),
             Next::Full => Ok(Err(NoRequest::Full)),
             Next::Ended => Ok(Err(NoRequest::Ended)),
@@ -74,7 +79,7 @@ impl<E: Extent> Job<E> {
     }
 
     // A job for any target of the session.
-    fn new(index: u64, task: Task, payload: Bytes) -> Job<E>
+    fn new(index: u64, task: Task, payload: Bytes, buffer: Vec<u8>) -> Job<E>
         requires { IsCallable E.bytes task payload }
         ensures { result ≡ record { index = index; task = task; payload = payload } }
     {
@@ -82,6 +87,7 @@ impl<E: Extent> Job<E> {
             index,
             task,
             payload,
+            buffer,
             of: PhantomData,
         }
     }
@@ -102,18 +108,21 @@ impl<E: Extent> Job<E> {
         }
     }
 
-    // Its request's index, its task and its payload.
-    pub(crate) fn into_parts(self) -> (u64, Task, Bytes)
-        ensures parts { result ≡ (self.index, self.task, self.payload) }
+    // Its request's index, its task, its payload and its buffer.
+    pub(crate) fn into_parts(self) -> (u64, Task, Bytes, Vec<u8>)
+        ensures index { result.0 ≡ self.index }
+        ensures task { result.1 ≡ self.task }
+        ensures payload { result.2 ≡ self.payload }
         ensures callable { IsCallable E.bytes result.1 result.2 }
     {
         let Job {
             index,
             task,
             payload,
+            buffer,
             of: _,
         } = self;
-        (index, task, payload)
+        (index, task, payload, buffer)
     }
 }
 
@@ -149,9 +158,9 @@ impl<T: Target> JobResult<T> {
             (λ calls. T.follows target.old calls target.new) }
         ensures size { T.size target.new ≡ T.size target.old }
     {
-        let (index, task, payload) = job.into_parts();
+        let (index, task, payload, buffer) = job.into_parts();
         JobResult {
-            called: call(alloc, target, index, task, payload),
+            called: call(alloc, target, index, task, payload, buffer),
             of: PhantomData,
         }
     }

@@ -18,11 +18,11 @@ use std::sync::Wait;
 // How many messages a mailbox has room for.
 const WAITING: usize = 32;
 
-// From how many bytes of replies on they are sent before more outcomes are taken.
-pub(crate) const GATHERED: usize = 1024 * 1024;
+// From how many bytes of replies on they are sent before more outcomes are taken. So the reply to a
+// long READ mostly waits alone, and goes out from the buffer that it was read into.
+pub(crate) const GATHERED: usize = 64 * 1024;
 
-// Waits for a message, and takes it and those that wait by then, up to about 1 MiB of replies: what
-// they carry is in the outcome and in the output for a while.
+// Waits for a message, and takes it and those that wait by then, up to about 64 KiB of replies.
 pub(crate) fn receive<R: Wait, C, T: Target + Drop>(
     rt: &R,
     alloc: Global,

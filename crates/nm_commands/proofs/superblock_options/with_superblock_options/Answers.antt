@@ -11,11 +11,11 @@ returns-clause-ok c =
     let two = c.in_ok-with_degraded.ensures.shape c.flag-degraded.ensures.own
     ∙ ap₂ with_rule from c.flag-degraded.ensures.rule in
     let three = c.in_ok-with_force_master.ensures.shape
-    c.bare_number_option-force_master.ensures.own
-    ∙ ap₂ with_rule two c.bare_number_option-force_master.ensures.rule in
-    let four = c.in_ok-with_add_leg.ensures.shape c.repeated_option-add_leg.ensures.own
-    ∙ ap₂ with_rule three c.repeated_option-add_leg.ensures.rule in
-    let five = c.in_ok-with_moved.ensures.shape c.repeated_option-moved.ensures.own
-    ∙ ap₂ with_rule four c.repeated_option-moved.ensures.rule in
+    c.force_master_option-force_master.ensures.own
+    ∙ ap₂ with_rule two c.force_master_option-force_master.ensures.rule in
+    let four = c.in_ok-with_add_leg.ensures.shape c.add_leg_option-add_leg.ensures.own
+    ∙ ap₂ with_rule three c.add_leg_option-add_leg.ensures.rule in
+    let five = c.in_ok-with_moved.ensures.shape c.moved_option-moved.ensures.own
+    ∙ ap₂ with_rule four c.moved_option-moved.ensures.rule in
     c.in_ok-command.ensures.shape c.flag-shrink.ensures.own
     ∙ ap₂ with_rule five c.flag-shrink.ensures.rule

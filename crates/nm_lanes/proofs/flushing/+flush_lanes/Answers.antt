@@ -9,7 +9,7 @@ use Rattle.nm_lanes.proofs.flushing.+flush_lanes.Goals as goal
 
 pub returns-in-Ok : goal.returns-in-Ok
 returns-in-Ok g t c =
-    let legs = c.args.call.now.shape.now.legs in
+    let legs = c.args.call.now.caller.now.shape.now.legs in
     let cut = c.split_at_mut-lane in
     let at : c.args.first + 1 ≡ c.args.first + length cut.result.0.now = omega (arith, cut.ensures.front_len) in
     let all = both-ok g.D.Lane.follows (λ stripe own. IsLegSyncs legs own) (λ stripe own. AllSync legs own) (λ stripe own all. all.only) c.args.first (c.args.first + 1) cut.result.0.now c.flush_one-done.new.lanes cut.result.1.now c.flush_lanes-others.new.lanes
@@ -18,7 +18,7 @@ returns-in-Ok g t c =
 
 pub returns-in-Err : goal.returns-in-Err
 returns-in-Err g t c =
-    let legs = c.args.call.now.shape.now.legs in
+    let legs = c.args.call.now.caller.now.shape.now.legs in
     let cut = c.split_at_mut-lane in
     let at : c.args.first + 1 ≡ c.args.first + length cut.result.0.now = omega (arith, cut.ensures.front_len) in
     let ended = subst (λ (r : Result _ CallError). RunsLanes g.D.Lane.follows (λ stripe own. IsLegSyncs legs own) (λ stripe own. AllSync legs own) c.args.first (cut.result.0.now, c.flush_one-done.new.lanes) r) c.in-Err.is c.flush_one-done.ensures.syncs in

@@ -8,7 +8,7 @@ use Rattle.nm_lanes.proofs.flushing.flush_one.Goals as goal
 
 pub returns-in-Ok : goal.returns-in-Ok
 returns-in-Ok g c =
-    let legs = c.args.call.now.shape.now.legs in
+    let legs = c.args.call.now.caller.now.shape.now.legs in
     let old = get_or c.args.lanes.now 0 c.index-lanes-0.result in
     let new = c.sync_all.new.lane in
     let is : c.shape.inside.legs ≡ legs = search rules in
@@ -17,7 +17,7 @@ returns-in-Ok g c =
 
 pub returns-in-Err : goal.returns-in-Err
 returns-in-Err g c =
-    let legs = c.args.call.now.shape.now.legs in
+    let legs = c.args.call.now.caller.now.shape.now.legs in
     let old = get_or c.args.lanes.now 0 c.index-lanes-0.result in
     let new = c.sync_all.new.lane in
     let kind = c.in-Err.kind in

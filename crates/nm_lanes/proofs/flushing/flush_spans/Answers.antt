@@ -6,7 +6,7 @@ use Rattle.nm_lanes.proofs.flushing.flush_spans.Goals as goal
 
 pub returns-in-Err-clause-err : goal.returns-in-Err-clause-err
 returns-in-Err-clause-err g c =
-    let shape = c.args.call.now.shape.now in
+    let shape = c.args.call.now.caller.now.shape.now in
     let spans = c.args.spans in
     let front = c.split_at_mut-front in
     let rest = c.split_at_mut-rest in
@@ -21,7 +21,7 @@ returns-in-Err-clause-err g c =
 
 pub returns-in-Ok-clause-ok : goal.returns-in-Ok-clause-ok
 returns-in-Ok-clause-ok g c =
-    let shape = c.args.call.now.shape.now in
+    let shape = c.args.call.now.caller.now.shape.now in
     let spans = c.args.spans in
     let front = c.split_at_mut-front in
     let rest = c.split_at_mut-rest in
@@ -36,7 +36,7 @@ returns-in-Ok-clause-ok g c =
 
 pub returns-in-Err-flush_lanes-clause-err : goal.returns-in-Err-flush_lanes-clause-err
 returns-in-Err-flush_lanes-clause-err g c =
-    let shape = c.args.call.now.shape.now in
+    let shape = c.args.call.now.caller.now.shape.now in
     let spans = c.args.spans in
     let front = c.split_at_mut-front in
     let rest = c.split_at_mut-rest in

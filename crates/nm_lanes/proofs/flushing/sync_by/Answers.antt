@@ -10,11 +10,11 @@ pub returns-then-pieces-eq0-clause-ok : goal.returns-then-pieces-eq0-clause-ok
 returns-then-pieces-eq0-clause-ok g c =
     let none : touched (record { offset = c.args.offset; length = c.args.len }) ≡ 0 = search rules in
     let laws = g.met.D.Lane in
-    flush-none g.D.Lane.follows laws.stays c.args.lanes.now c.args.shape.now.legs (Touches c.args.shape.now (record { offset = c.args.offset; length = c.args.len })) (λ stripe a. omega (arith, none, a.inside))
+    flush-none g.D.Lane.follows laws.stays c.args.lanes.now c.args.caller.now.shape.now.legs (Touches c.args.caller.now.shape.now (record { offset = c.args.offset; length = c.args.len })) (λ stripe a. omega (arith, none, a.inside))
 
 pub returns-in-Ok-clause-ok : goal.returns-in-Ok-clause-ok
 returns-in-Ok-clause-ok g c =
-    let shape = c.args.shape.now in
+    let shape = c.args.caller.now.shape.now in
     let spans = c.spans_around-spans.result in
     let did = flush-as g.D.Lane.follows (c.args.lanes.now, c.flush_spans.new.lanes) shape.legs (InSpans spans.low spans.first spans.end) (Touches shape c.range_inside-range.result)
     (λ stripe is. c.stripes_touched-first.ensures.only stripe (c.spans_around-spans.ensures.only stripe is)) (λ stripe is. c.spans_around-spans.ensures.some stripe (c.stripes_touched-first.ensures.touched stripe is)) c.in-Ok.ensures.ok in
@@ -22,7 +22,7 @@ returns-in-Ok-clause-ok g c =
 
 pub returns-in-Err-clause-err : goal.returns-in-Err-clause-err
 returns-in-Err-clause-err g c =
-    let shape = c.args.shape.now in
+    let shape = c.args.caller.now.shape.now in
     let spans = c.spans_around-spans.result in
     let some = flush_some-as g.D.Lane.follows (c.args.lanes.now, c.flush_spans.new.lanes) shape.legs (InSpans spans.low spans.first spans.end) (Touches shape c.range_inside-range.result) c.in-Err.cause
     (λ stripe is. c.stripes_touched-first.ensures.only stripe (c.spans_around-spans.ensures.only stripe is)) c.in-Err.ensures.err in

@@ -14,8 +14,8 @@ pub do_all-read-requires-clause-pieces : goal.do_all-read-requires-clause-pieces
 do_all-read-requires-clause-pieces g c =
     let range = c.range_inside-range.result in
     let end : end_of range < 2 ^ 64 = search rules in
-    let inside : LiesInside range c.args.shape.now = search rules in
-    let all = zeroes-piece_range c.args.shape.now range c.pieces.result true [] inside end c.pieces.ensures.pieces in
+    let inside : LiesInside range c.args.caller.now.shape.now = search rules in
+    let all = zeroes-piece_range c.args.caller.now.shape.now range c.pieces.result true [] inside end c.pieces.ensures.pieces in
     search (rules, all)
 
 pub do_all-read-requires-clause-target : goal.do_all-read-requires-clause-target
@@ -27,7 +27,7 @@ do_all-read-requires-clause-target g c =
 
 pub returns-in-Ok-clause-ok : goal.returns-in-Ok-clause-ok
 returns-in-Ok-clause-ok g c =
-    let shape = c.args.shape.now in
+    let shape = c.args.caller.now.shape.now in
     let range = c.range_inside-range.result in
     let runs = runs_in_pieces shape (all_of range c.pieces.result true true) in
     let are = zeroes-runs runs ∙ all-runs shape range c.pieces.result true true c.pieces.ensures.pieces ∙ ap (λ (r : ByteRange). runs_of_range shape r) c.range_inside-range.ensures.range in
@@ -35,7 +35,7 @@ returns-in-Ok-clause-ok g c =
 
 pub returns-in-Err-clause-err : goal.returns-in-Err-clause-err
 returns-in-Err-clause-err g c =
-    let shape = c.args.shape.now in
+    let shape = c.args.caller.now.shape.now in
     let range = c.range_inside-range.result in
     let runs = runs_in_pieces shape (all_of range c.pieces.result true true) in
     let are = zeroes-runs runs ∙ all-runs shape range c.pieces.result true true c.pieces.ensures.pieces ∙ ap (λ (r : ByteRange). runs_of_range shape r) c.range_inside-range.ensures.range in

@@ -15,7 +15,7 @@ pub loop-left-init : goal.loop-left-init
 loop-left-init g c =
     let laws = g.met.D.Lane in
     record {
-      far = all-begins g.D.Lane.follows laws.stays c.args.call.now.shape.now c.args.pieces c.args.cuts.now c.args.lanes.now c.requires.pieces;
+      far = all-begins g.D.Lane.follows laws.stays c.args.call.now.caller.now.shape.now c.args.pieces c.args.cuts.now c.args.lanes.now c.requires.pieces;
       read = refl;
       taken = omega arith;
       target = omega (arith, c.requires.target);
@@ -26,7 +26,7 @@ loop-left-init g c =
 pub returns-in_err-done-clause-err : goal.returns-in_err-done-clause-err
 returns-in_err-done-clause-err g c =
     let laws = g.met.D.Lane in
-    let shape = c.args.call.now.shape.now in
+    let shape = c.args.call.now.caller.now.shape.now in
     let loop = c.loop-left in
     let slice = take_rest loop.cuts loop.taken in
     let ended = subst (λ (ws : List RunWrite). HasDoneSome g.D.Lane.follows shape loop.left.is_read (filling shape loop.left ws) (loop.lanes, c.do_next.new.lanes) c.in_err-done.field-0.0) slice c.in_err-done.ensures.err in
@@ -37,7 +37,7 @@ pub loop-left-preserved : goal.loop-left-preserved
 loop-left-preserved g c =
     let laws = g.met.D.Lane in
     let loop = c.loop-left in
-    let shape = c.args.call.now.shape.now in
+    let shape = c.args.call.now.caller.now.shape.now in
     let done = c.in_ok-done.done in
     let new = c.do_next.new.cuts in
     let count = length loop.cuts - loop.taken in
@@ -72,7 +72,7 @@ loop-left-preserved g c =
 pub overflow_add-taken : goal.overflow_add-taken
 overflow_add-taken g c =
     let loop = c.loop-left in
-    let shape = c.args.call.now.shape.now in
+    let shape = c.args.call.now.caller.now.shape.now in
     let done = c.in_ok-done.done in
     let ok : DoesNext g.D.Lane.follows shape loop.left (take (length loop.cuts - loop.taken) (drop loop.taken loop.cuts), c.do_next.new.cuts) (loop.lanes, c.do_next.new.lanes) c.do_next.new.into done = search rules in
     let fits = cuts-fit shape loop.left done (drop loop.taken loop.cuts) (parts shape loop.left done ok.most ok.ends) loop.invariant.far.rest in
@@ -83,7 +83,7 @@ overflow_add-taken g c =
 
 pub returns-clause-ok : goal.returns-clause-ok
 returns-clause-ok g c =
-    let shape = c.args.call.now.shape.now in
+    let shape = c.args.call.now.caller.now.shape.now in
     let loop = c.loop-left in
     let none : loop.left.count ≡ 0 = search rules in
     let over : length loop.into ≤ loop.from = target-none loop.left none loop.from (length loop.into) loop.invariant.target in
@@ -96,7 +96,7 @@ cuts_of-taken-requires-clause-end g c = rw c.first_of-first.ensures c.loop-left.
 pub cuts_of-taken-requires-clause-inside : goal.cuts_of-taken-requires-clause-inside
 cuts_of-taken-requires-clause-inside g c =
     let loop = c.loop-left in
-    let shape = c.args.call.now.shape.now in
+    let shape = c.args.call.now.caller.now.shape.now in
     let ok : DoesNext g.D.Lane.follows shape loop.left (take (length loop.cuts - loop.taken) (drop loop.taken loop.cuts), c.do_next.new.cuts) (loop.lanes, c.do_next.new.lanes) c.do_next.new.into c.in_ok-done.done = search rules in
     rw c.first_of-first.ensures (omega (arith, ok.most, loop.invariant.far.rest.inside))
 
@@ -106,14 +106,14 @@ target_of-from-requires-clause-end g c = rw c.first_of-first.ensures c.loop-left
 pub target_of-from-requires-clause-blocks : goal.target_of-from-requires-clause-blocks
 target_of-from-requires-clause-blocks g c =
     let loop = c.loop-left in
-    let shape = c.args.call.now.shape.now in
+    let shape = c.args.call.now.caller.now.shape.now in
     let ok : DoesNext g.D.Lane.follows shape loop.left (take (length loop.cuts - loop.taken) (drop loop.taken loop.cuts), c.do_next.new.cuts) (loop.lanes, c.do_next.new.lanes) c.do_next.new.into c.in_ok-done.done = search rules in
     rw c.first_of-first.ensures (omega (arith, ok.most, loop.invariant.far.rest.blocks))
 
 pub overflow_add-from : goal.overflow_add-from
 overflow_add-from g c =
     let loop = c.loop-left in
-    let shape = c.args.call.now.shape.now in
+    let shape = c.args.call.now.caller.now.shape.now in
     let done = c.in_ok-done.done in
     let ok : DoesNext g.D.Lane.follows shape loop.left (take (length loop.cuts - loop.taken) (drop loop.taken loop.cuts), c.do_next.new.cuts) (loop.lanes, c.do_next.new.lanes) c.do_next.new.into done = search rules in
     let target : c.target_of-from.result ≡ target_of (first_of done loop.left) = c.target_of-from.ensures ∙ ap (λ (p : PieceRange). target_of p) c.first_of-first.ensures in

@@ -6,7 +6,7 @@ use Rattle.nm_lanes.proofs.region_runs.do_all.Given as goal
 
 abbrev pub invariant-loop-left : goal.invariant-loop-left
 invariant-loop-left g l = record {
-  far : AllSoFar g.D.Lane.follows l.fn.call.shape.now l.fn.pieces.is_read (filling l.fn.call.shape.now l.fn.pieces l.fn.cuts) l.left (drop l.taken l.cuts) (take l.from l.into) l.fn.lanes l.lanes;
+  far : AllSoFar g.D.Lane.follows l.fn.call.caller.now.shape.now l.fn.pieces.is_read (filling l.fn.call.caller.now.shape.now l.fn.pieces l.fn.cuts) l.left (drop l.taken l.cuts) (take l.from l.into) l.fn.lanes l.lanes;
   read : l.left.is_read ≡ l.fn.pieces.is_read;
   taken : l.taken ≤ length l.cuts;
   target : l.from + target_of l.left ≡ length l.into;

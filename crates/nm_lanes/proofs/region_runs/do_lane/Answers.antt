@@ -15,7 +15,7 @@ use Rattle.nm_lanes.proofs.region_runs.do_lane.Goals as goal
 
 pub loop-left-init : goal.loop-left-init
 loop-left-init g c = record {
-  far = run-begins g.D.Lane.follows g.met.D.Lane.stays c.args.call.now.shape.now c.args.region.pieces c.args.region.stripe c.args.cuts.now c.args.lane.now c.requires.pieces;
+  far = run-begins g.D.Lane.follows g.met.D.Lane.stays c.args.call.now.caller.now.shape.now c.args.region.pieces c.args.region.stripe c.args.cuts.now c.args.lane.now c.requires.pieces;
   read = refl;
   target = omega (arith, c.requires.target);
   long = refl;
@@ -28,7 +28,7 @@ loop-left-init g c = record {
 
 pub returns-in_err-do_one-clause-err : goal.returns-in_err-do_one-clause-err
 returns-in_err-do_one-clause-err g c =
-    let shape = c.args.call.now.shape.now in
+    let shape = c.args.call.now.caller.now.shape.now in
     let loop = c.loop-left in
     let reads = c.args.region.pieces.is_read in
     let all = filling shape c.args.region.pieces c.args.cuts.now in
@@ -46,7 +46,7 @@ returns-in_err-do_one-clause-err g c =
 
 pub loop-left-preserved : goal.loop-left-preserved
 loop-left-preserved g c =
-    let shape = c.args.call.now.shape.now in
+    let shape = c.args.call.now.caller.now.shape.now in
     let loop = c.loop-left in
     let write = c.take-write.result.0 in
     let blocks = c.take-write.result.1 in
@@ -87,7 +87,7 @@ loop-left-preserved g c =
 
 pub returns-clause-ok : goal.returns-clause-ok
 returns-clause-ok g c =
-    let shape = c.args.call.now.shape.now in
+    let shape = c.args.call.now.caller.now.shape.now in
     let loop = c.loop-left in
     let none : loop.left.count ≡ 0 = search rules in
     let over : length loop.into ≤ loop.from = target-none loop.left none loop.from (length loop.into) loop.invariant.target in
@@ -95,7 +95,7 @@ returns-clause-ok g c =
 
 pub returns-then-gives_up-clause-err : goal.returns-then-gives_up-clause-err
 returns-then-gives_up-clause-err g c =
-    let shape = c.args.call.now.shape.now in
+    let shape = c.args.call.now.caller.now.shape.now in
     let loop = c.loop-left in
     let write = c.take-write.result.0 in
     let first = c.take-write.ensures.first in

@@ -13,7 +13,7 @@ use Rattle.nm_lanes.proofs.region_runs.do_next.Goals as goal
 
 pub split_at_mut-own-requires : goal.split_at_mut-own-requires
 split_at_mut-own-requires g c =
-    let shape = c.args.call.now.shape.now in
+    let shape = c.args.call.now.caller.now.shape.now in
     let pieces = c.args.pieces in
     let next = c.next_region-region in
     let done = next.result.pieces.count in
@@ -31,7 +31,7 @@ split_at_mut-near-requires g c =
 
 pub do_stripe-requires-clause-pieces : goal.do_stripe-requires-clause-pieces
 do_stripe-requires-clause-pieces g c =
-    let shape = c.args.call.now.shape.now in
+    let shape = c.args.call.now.caller.now.shape.now in
     let next = c.next_region-region in
     let own = c.split_at_mut-own in
     let part = parts shape c.args.pieces next.result.pieces.count next.ensures.most next.ensures.ends in
@@ -42,7 +42,7 @@ do_stripe-requires-clause-pieces g c =
 
 pub returns-in-Ok-clause-ok : goal.returns-in-Ok-clause-ok
 returns-in-Ok-clause-ok g c =
-    let shape = c.args.call.now.shape.now in
+    let shape = c.args.call.now.caller.now.shape.now in
     let pieces = c.args.pieces in
     let next = c.next_region-region in
     let done = next.result.pieces.count in
@@ -79,7 +79,7 @@ returns-in-Ok-clause-ok g c =
 pub returns-in-Err-clause-err : goal.returns-in-Err-clause-err
 returns-in-Err-clause-err g c =
     let laws = g.met.D.Lane in
-    let shape = c.args.call.now.shape.now in
+    let shape = c.args.call.now.caller.now.shape.now in
     let pieces = c.args.pieces in
     let next = c.next_region-region in
     let done = next.result.pieces.count in

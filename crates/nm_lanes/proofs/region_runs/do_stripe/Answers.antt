@@ -10,7 +10,7 @@ use Rattle.nm_lanes.proofs.region_runs.do_stripe.Goals as goal
 
 pub returns-in-Ok : goal.returns-in-Ok
 returns-in-Ok g c =
-    let shape = c.args.call.now.shape.now in
+    let shape = c.args.call.now.caller.now.shape.now in
     let region = c.args.region in
     let reads = region.pieces.is_read in
     let writes = filling shape region.pieces c.args.cuts.now in
@@ -28,7 +28,7 @@ returns-in-Ok g c =
 
 pub returns-in-Err : goal.returns-in-Err
 returns-in-Err g c =
-    let shape = c.args.call.now.shape.now in
+    let shape = c.args.call.now.caller.now.shape.now in
     let region = c.args.region in
     let reads = region.pieces.is_read in
     let writes = filling shape region.pieces c.args.cuts.now in

@@ -13,13 +13,13 @@ pub do_all-written-requires-clause-pieces : goal.do_all-written-requires-clause-
 do_all-written-requires-clause-pieces g c =
     let range = c.range_inside-range.result in
     let end : end_of range < 2 ^ 64 = search rules in
-    let inside : LiesInside range c.args.shape.now = search rules in
-    let all = cuts-piece_range c.args.shape.now range c.pieces.result c.in-Ok.writes.items c.args.payload inside end c.pieces.ensures.pieces c.in-Ok.ensures.cuts in
+    let inside : LiesInside range c.args.caller.now.shape.now = search rules in
+    let all = cuts-piece_range c.args.caller.now.shape.now range c.pieces.result c.in-Ok.writes.items c.args.payload inside end c.pieces.ensures.pieces c.in-Ok.ensures.cuts in
     search (rules, all)
 
 pub returns-in-Ok-written-clause-ok : goal.returns-in-Ok-written-clause-ok
 returns-in-Ok-written-clause-ok g c =
-    let shape = c.args.shape.now in
+    let shape = c.args.caller.now.shape.now in
     let range = c.range_inside-range.result in
     let long : c.len-len.result ≡ length c.args.payload = search rules in
     let runs = all-runs shape range c.pieces.result false false c.pieces.ensures.pieces ∙ ap (λ (r : ByteRange). runs_of_range shape r) c.range_inside-range.ensures.range ∙ ap (λ (n : ℕ). runs_of_range shape (record { offset = c.args.offset; length = n })) long in
@@ -28,7 +28,7 @@ returns-in-Ok-written-clause-ok g c =
 
 pub returns-clause-err : goal.returns-clause-err
 returns-clause-err g c =
-    let shape = c.args.shape.now in
+    let shape = c.args.caller.now.shape.now in
     let range = c.range_inside-range.result in
     let long : c.len-len.result ≡ length c.args.payload = search rules in
     let runs = all-runs shape range c.pieces.result false false c.pieces.ensures.pieces ∙ ap (λ (r : ByteRange). runs_of_range shape r) c.range_inside-range.ensures.range ∙ ap (λ (n : ℕ). runs_of_range shape (record { offset = c.args.offset; length = n })) long in

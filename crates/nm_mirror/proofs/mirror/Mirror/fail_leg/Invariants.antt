@@ -1,7 +1,9 @@
--- Each stripe so far was counted once at most.
-use Rattle.std.proofs.Common.{◌≤◌}
+-- Each stripe so far was counted once.
+use Rattle.std.proofs.Common.{◌≡◌}
+use Rattle.nm_mirror.specs.Counted.{FailsEach}
 use Rattle.nm_mirror.specs.Counts.{fails}
 use Rattle.nm_mirror.proofs.mirror.Mirror.fail_leg.Given as goal
 
 abbrev pub invariant-loop-stripe : goal.invariant-loop-stripe
-invariant-loop-stripe g l = fails l.counts ≤ l.stripe
+invariant-loop-stripe g l =
+    (fails l.counts ≡ l.stripe) × FailsEach g.row.L.Denot l.leg l.stripe l.counts

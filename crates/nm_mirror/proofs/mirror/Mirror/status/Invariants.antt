@@ -1,7 +1,9 @@
 -- The stripes so far are told of, and there is room for the others.
 use Rattle.std.proofs.Common.{◌≡◌, ◌≤◌, vec_len, vec_capacity}
+use Rattle.nm_mirror.specs.Status.{EachTellsOf}
 use Rattle.nm_mirror.proofs.mirror.Mirror.status.Given as goal
 
-abbrev pub invariant-loop-lock : goal.invariant-loop-lock
-invariant-loop-lock g l =
-    (vec_len l.all ≡ l.lock-index) × (vec_len l.self.locks ≤ vec_capacity l.all)
+abbrev pub invariant-loop-stripe : goal.invariant-loop-stripe
+invariant-loop-stripe g l =
+    (vec_len l.all ≡ l.stripe) × (l.self.shape.stripes ≤ vec_capacity l.all)
+    × EachTellsOf g.row.L.Denot l.all.items

@@ -1,0 +1,8 @@
+-- Each turn is one push more.
+use Rattle.std.proofs.Common.{◌≤◌}
+use Rattle.nm_leg.specs.Leg.{leg_type}
+use Rattle.nm_mirror.proofs.ClaimingLemmas.{HasPushed}
+use Rattle.nm_mirror.proofs.claiming.push_all.Given as goal
+
+abbrev pub invariant-pushes : goal.invariant-pushes
+invariant-pushes g l = HasPushed (leg_type g.L.LegPart.model g.L.LegPart.honest) l.ticket l.turn l.fn.stripe l.stripe × (l.turn ≤ 8)

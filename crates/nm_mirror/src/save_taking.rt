@@ -1,0 +1,127 @@
+//! What a save takes from one stripe after the other, and what it tells their gates.
+ghost use Rattle.std.specs.Prelude.{◌≡◌, ◌<◌, ◌&&◌, replicate, true};
+ghost use Rattle.nm_gate.specs.Changes.{Leads};
+ghost use Rattle.nm_gate.specs.Claims.{no_claims};
+ghost use Rattle.nm_leg.specs.Leg.{leg_type};
+ghost use Rattle.nm_mirror.specs.Saves.{IsJoined};
+ghost use Rattle.nm_mirror.specs.Saving.{BeginsAt, EndsAt, FailsAt, KeepsOut, Takes, is_out_in};
+ghost use Rattle.nm_rules.specs.Invariant.{HasLegs};
+ghost use Rattle.nm_rules.specs.State.{is_out};
+
+use crate::save_desk::MOST_SPANS;
+use crate::save_order::{MOST_STRIPES, NO_CLAIMS, SaveOrder};
+use crate::whole::called_whole;
+use nm_gate::{GatedStripe, LegClaims};
+use nm_leg::LegPart;
+use nm_stripe::{LegState, Stripe};
+
+/// Adds these marks to the spans.
+pub(crate) fn join_marks(spans: &mut [bool; MOST_SPANS], marks: &[bool])
+    ensures { IsJoined marks.now spans.old spans.new }
+{
+    let count = marks.len().min(MOST_SPANS);
+    'spans: for span in 0..count {
+        if marks[span] {
+            spans[span] = true;
+        }
+    }
+}
+
+/// Whether a leg of this state is out.
+fn is_out(state: LegState) -> bool
+    ensures { result ≡ is_out state }
+{
+    match state {
+        LegState::Out => true,
+        LegState::InSync | LegState::Joining => false,
+    }
+}
+
+/// Whether the leg is none of the stripe's, or is out there.
+fn is_out_in<L: LegPart>(stripe: &Stripe<L>, leg: u8) -> bool
+    ensures { result ≡ is_out_in leg stripe.now }
+{
+    !((leg as usize) < stripe.legs()) || is_out(stripe.state(leg))
+}
+
+/// Whether a leg that was out so far is none of the stripe's, or is out there.
+fn stays_out<L: LegPart>(out: bool, stripe: &Stripe<L>, leg: u8) -> bool
+    ensures { result ≡ (out && is_out_in leg stripe.now) }
+{
+    out && is_out_in(stripe, leg)
+}
+
+/// The legs of the set that are out in the stripe, too.
+fn kept_out<L: LegPart>(stripe: &Stripe<L>, out: &[bool; 8]) -> [bool; 8]
+    ensures { KeepsOut stripe.now out.now result }
+{
+    [
+        stays_out(out[0], stripe, 0),
+        stays_out(out[1], stripe, 1),
+        stays_out(out[2], stripe, 2),
+        stays_out(out[3], stripe, 3),
+        stays_out(out[4], stripe, 4),
+        stays_out(out[5], stripe, 5),
+        stays_out(out[6], stripe, 6),
+        stays_out(out[7], stripe, 7),
+    ]
+}
+
+/// What a save has taken from the stripes so far: what each claims of its legs, the spans that are
+/// marked, and the legs that are out in each.
+pub(crate) struct Taken {
+    pub claims: [LegClaims; MOST_STRIPES],
+    pub spans: [bool; MOST_SPANS],
+    pub out: [bool; 8],
+}
+
+impl Taken {
+    /// Nothing yet, but for these spans.
+    pub(crate) fn new(spans: [bool; MOST_SPANS]) -> Taken
+        ensures claims { result.claims ≡ replicate 64 no_claims }
+        ensures spans { result.spans ≡ spans }
+        ensures out { result.out ≡ replicate 8 true }
+    {
+        Taken {
+            claims: [NO_CLAIMS; MOST_STRIPES],
+            spans,
+            out: [true; 8],
+        }
+    }
+
+    /// Begins a save in this stripe, and takes from it what the next superblock says of it, which
+    /// calls these legs partial no more.
+    pub(crate) fn take<L: LegPart>(&mut self, gated: &mut GatedStripe<L>, whole: &[bool; 8])
+        requires { gated.old.stripe.place.stripe < 64 }
+        ensures takes { Takes gated.old whole.now self.old self.new }
+        ensures begins { BeginsAt self.new.spans gated.old gated.new }
+        ensures moves { HasLegs L.model gated.old.stripe → Leads (leg_type L.model L.honest)
+            gated.old.stripe gated.old.durable gated.new.stripe gated.new.durable }
+    {
+        join_marks(&mut self.spans, gated.marks());
+        let number = gated.stripe.number() as usize;
+        self.out = kept_out(&gated.stripe, &self.out);
+        let claims = gated.begin_save(&self.spans);
+        self.claims[number] = called_whole(&claims, whole);
+    }
+}
+
+/// Tells a stripe's gate that this order's superblock is the durable one.
+pub(crate) fn end_at<L: LegPart>(gated: &mut GatedStripe<L>, order: &SaveOrder)
+    requires { gated.old.stripe.place.stripe < 64 }
+    ensures ends { EndsAt order.now gated.old gated.new }
+    ensures moves { HasLegs L.model gated.old.stripe → Leads (leg_type L.model L.honest)
+        gated.old.stripe gated.old.durable gated.new.stripe gated.new.durable }
+{
+    let claims = order.claims_on(gated.stripe.number());
+    gated.end_save(claims, &order.spans);
+}
+
+/// Tells a stripe's gate that a save could not be done.
+pub(crate) fn fail_at<L: LegPart>(gated: &mut GatedStripe<L>)
+    ensures fails { FailsAt gated.old gated.new }
+    ensures moves { Leads (leg_type L.model L.honest)
+        gated.old.stripe gated.old.durable gated.new.stripe gated.new.durable }
+{
+    gated.fail_save();
+}
