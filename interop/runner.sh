@@ -10,7 +10,9 @@
 #   # legs: 2             with so many legs, where not with one and with two
 #   # tries: 1            never once more: what it shows once is so
 #   # run: by name alone  only where it is named
-passed=0 failed=0 not_tried=
+passed=0 failed=0 not_tried='' broken='' last_words=''
+said=$(mktemp)
+trap 'rm -f "$said"' EXIT
 
 # header SCRIPT NAME: what the script's line of this name says, or nothing.
 header() { sed -n "s/^# $2: //p" "$1"; }
@@ -34,8 +36,9 @@ run_one() {
         status=late
         return
     fi
-    timeout -k 10 "$((left < limit ? left : limit))" "$@" 2>&1
+    timeout -k 10 "$((left < limit ? left : limit))" "$@" > "$said" 2>&1
     status=$?
+    cat "$said"
     case $status in 124 | 137) [ "$left" -ge "$limit" ] || status=late ;; esac
 }
 
@@ -45,9 +48,17 @@ was_not_tried() {
         not_tried="$not_tried${not_tried:+; }$1"
         echo "$1: NOT TRIED: $2"
     else
-        failed=$((failed + 1))
+        echo "$2" > "$said"
+        has_failed "$1"
         echo "$1: FAILED: $2"
     fi
+}
+
+# has_failed NAME: a script that failed, and what it said last.
+has_failed() {
+    failed=$((failed + 1))
+    broken="$broken${broken:+; }$1"
+    last_words="$last_words$1:"$'\n'"$(tail -n 15 "$said")"$'\n'
 }
 
 # try NAME SECONDS SCRIPT WORD..
@@ -75,7 +86,7 @@ try() {
         77) was_not_tried "$name" "this machine lacks something" ;;
         late) was_not_tried "$name" "no time was left of the $BUDGET seconds for all" ;;
         *)
-            failed=$((failed + 1))
+            has_failed "$name"
             case $status in
                 124 | 137) echo "$name: FAILED: not ended after $((SECONDS - started)) s" ;;
                 *) echo "$name: FAILED" ;;
@@ -84,9 +95,11 @@ try() {
     esac
 }
 
-# Ends the run: what was not tried, then 'N passed, M failed'.
+# Ends the run: what failed said last, what was not tried, what failed, then 'N passed, M failed'.
 finish() {
+    printf '%s' "$last_words"
     [ -z "$not_tried" ] || echo "NOT TRIED: $not_tried"
+    [ -z "$broken" ] || echo "FAILED: $broken"
     echo "$passed passed, $failed failed"
     [ "$failed" = 0 ]
     exit
