@@ -1,6 +1,6 @@
 //! The thread that saves superblocks.
 
-ghost use Rattle.std.specs.Prelude.{◌≤◌};
+ghost use Rattle.std.specs.Prelude.{◌≡◌, ◌≤◌};
 
 use crate::change_times::{known_times, saved_times};
 use crate::saving::{AfterTry, after_try, is_clean, is_last_somewhere};
@@ -92,7 +92,9 @@ impl<S: SlotFile> SuperblockWriter<S> {
         names: Vec<String>,
         slots_at: SlotsAt,
         went_by: Option<Superblock>,
-    ) -> SuperblockWriter<S> {
+    ) -> SuperblockWriter<S>
+        ensures { result.files ≡ files }
+    {
         SuperblockWriter {
             alloc,
             files,
