@@ -10,8 +10,5 @@ pub mod Haggled
 pub mod Once
 pub mod Changing
 pub mod Reading
-pub mod Motion
-pub mod OneRequest
-pub mod Pieces
-pub mod WholeSessions
+pub mod Events
 pub mod ReadEvents

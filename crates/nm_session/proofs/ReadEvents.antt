@@ -1,5 +1,5 @@
 -- What `next` does, as events.
-use Rattle.std.proofs.Common.{◌≡◌, ℕ, zero, suc, List, [], ◌∷◌, ◌++◌, Ok, refl, subst, ◌⊎◌, ⊎_elim}
+use Rattle.std.proofs.Common.{◌≡◌, ℕ, zero, suc, List, [], ◌∷◌, ◌++◌, Ok, refl, ◌⊎◌, ⊎_elim}
 use Rattle.nm_requests.specs.declared.task.Task.TheVariants.{Disconnect}
 use Rattle.nm_session.specs.declared.next.Next.{Next}
 use Rattle.nm_session.specs.declared.next.Next.TheVariants as next
@@ -7,11 +7,7 @@ use Rattle.nm_session.specs.Event.{Event, Fed, Asked, Stopped, Answered, Took, R
 use Rattle.nm_session.specs.Laws.{AreReadings, IsRead, NextReads, NextReadsOn}
 use Rattle.nm_session.specs.Reading.{Tells, RepliesTimes, StaysEnded, Disconnects, Breaks}
 use Rattle.nm_session.specs.Session.{Session}
-
-runs_on : (xs ys : List Event) (a b d : Session) → Runs a xs b → Runs b ys d → Runs a (xs ++ ys) d
-runs_on [] ys a b d is runs = subst (λ (s : Session). Runs s ys d) is runs
-runs_on (x ∷ xs) ys a b d first runs =
-    (first.0, first.1, runs_on xs ys first.0 b d first.2 runs)
+use Rattle.nm_session.proofs.Events.{runs-append}
 
 readings_on : (xs ys : List Event) → AreReadings xs → AreReadings ys → AreReadings (xs ++ ys)
 readings_on [] ys first then = then
@@ -25,7 +21,7 @@ join : (a b d : Session) → IsRead a b → IsRead b d → IsRead a d
 join a b d first then = record {
   events = first.events ++ then.events;
   are_readings = readings_on first.events then.events first.are_readings then.are_readings;
-  runs = runs_on first.events then.events a b d first.runs then.runs;
+  runs = runs-append a b d first.events then.events first.runs then.runs;
 }
 
 none : (old new : Session) → new ≡ old → IsRead old new

@@ -11,9 +11,6 @@ pub mod Laws
 pub mod CalledValue
 pub mod Target
 pub mod Calling
-pub mod MemTarget
 pub mod ServeFault
-pub mod Moving
-pub mod Batch
 pub mod Io
 pub mod Serving

@@ -26,9 +26,13 @@ pub record Issues (old : Session) (index : ℕ) (task : Task) (payload : List �
   pub fills : Fills task payload
 
 -- no whole request is there: the client and the server still haggle, or the unread bytes are no
--- request and no fault; nothing changes
+-- request and no fault
+abbrev pub IsStarved : Session → Type 0
+IsStarved core = (core.stage ≡ stage.Haggling) ⊎ (IsReading core × EndsAs core.count core.rest None)
+
+-- no whole request is there; nothing changes
 pub record Starves (old new : Session) : Type 0 where
-  pub unfinished : (old.stage ≡ stage.Haggling) ⊎ (IsReading old × EndsAs old.count old.rest None)
+  pub unfinished : IsStarved old
   pub unchanged : new ≡ old
 
 -- as many requests are outstanding as may be; nothing changes

@@ -2,7 +2,6 @@
 use Rattle.std.proofs.Common.{◌≡◌, ℕ, List, [], ◌∷◌, Option, take, true, false, refl, sym, ap, ◌∙◌, subst, append-nil, inl}
 use Rattle.std.specs.Io.KnownBytes.{Appends, Consumes}
 use Rattle.std.proofs.KnownBytes.{Appends-nil, Consumes-nil}
-use Rattle.nm_session.proofs.Pieces.{none_after_send}
 use Rattle.nm_session.specs.declared.end.End.{End}
 use Rattle.nm_session.specs.declared.end.End.TheVariants as end
 use Rattle.nm_session.specs.declared.serve_fault.ServeFault.{ServeFault}
@@ -14,10 +13,11 @@ use Rattle.nm_requests.specs.declared.task.Task.{Task}
 use Rattle.nm_session.specs.Calling.{TaskResult}
 use Rattle.nm_session.specs.Event.{Fed, Took, Takes}
 use Rattle.nm_session.specs.Feeding.{FeedsAt}
-use Rattle.nm_session.specs.Moving.{state}
 use Rattle.nm_session.specs.Io.{FeedsPiece, FeedsNone, SendsOut, SendsPart}
+use Rattle.nm_session.specs.declared.outstanding.Outstanding.{Outstanding}
+use Rattle.nm_session.specs.declared.phase.Phase.TheVariants as phase
 use Rattle.nm_session.specs.Serving.{CoreEnds, IsEnd}
-use Rattle.nm_session.specs.Session.{Session}
+use Rattle.nm_session.specs.Session.{Session, phase_at}
 use Rattle.nm_workers.specs.Serving.{Io, io, Goes, Ends, Breaks}
 use Rattle.nm_workers.proofs.WholeSessions.{goes_on, ends_on, breaks_on}
 
@@ -84,6 +84,13 @@ module _ {F : Task → TaskResult → Type 0} where
     cause = refl;
   }
 
+-- the phase tells the stage
+pub haggling_stage : (at : Stage) (outstanding : List Outstanding) → phase.Haggling ≡ phase_at at outstanding → at ≡ stage.Haggling
+haggling_stage stage.Haggling outstanding is = refl
+haggling_stage stage.Serving outstanding is = absurd (cc)
+haggling_stage (stage.Ended by) [] is = absurd (cc)
+haggling_stage (stage.Ended by) (held ∷ outstanding) is = absurd (cc)
+
 -- what is outstanding stays
 sent_idle : (old new : Session) (bytes : List ℕ) → Takes old bytes new → old.outstanding ≡ [] → new.outstanding ≡ []
 sent_idle old new bytes takes idle = ap (λ (s : Session). s.outstanding) takes.new_is ∙ idle
@@ -94,12 +101,11 @@ fed_idle stage.Haggling old new bytes feeds idle = ap (λ (s : Session). s.outst
 fed_idle stage.Serving old new bytes feeds idle = ap (λ (s : Session). s.outstanding) feeds ∙ idle
 fed_idle (stage.Ended by) old new bytes feeds idle = absurd feeds
 
-as_told : (unread written : Option (List ℕ)) (told : End) (core : Session) → CoreEnds told core.stage
-    → IsEnd told (state core (tt {0}) unread written)
-as_told unread written end.EndOfInput core ends = absurd ends
-as_told unread written end.Disc core ends = ends
-as_told unread written end.Aborted core ends = ends
-as_told unread written end.Protocol core ends = ends
+as_told : (unread : Option (List ℕ)) (told : End) (core : Session) → CoreEnds told core.stage → IsEnd told core unread
+as_told unread end.EndOfInput core ends = absurd ends
+as_told unread end.Disc core ends = ends
+as_told unread end.Aborted core ends = ends
+as_told unread end.Protocol core ends = ends
 
 module _ {F : Task → TaskResult → Type 0} where
   module _ (start old mid : Session) (u : Io) (bytes output written : Option (List ℕ))
@@ -120,7 +126,7 @@ module _ {F : Task → TaskResult → Type 0} where
       mid_idle = sent_idle old mid old.out sent.takes idle
 
       pub mid_sent : mid.out ≡ []
-      mid_sent = none_after_send old mid old.out sent.takes
+      mid_sent = ap (λ (s : Session). s.out) sent.takes.new_is
 
       -- and then a piece is fed
       pub fed_goes : (new : Session) (unread : Option (List ℕ)) → FeedsPiece true mid new bytes unread
@@ -175,5 +181,5 @@ module _ {F : Task → TaskResult → Type 0} where
             answered = mid_idle;
             sent = mid_sent;
             requests = refl;
-            end_is = as_told bytes written told mid ends;
+            end_is = as_told bytes told mid ends;
           }))

@@ -1,19 +1,21 @@
 -- What reading requests does to a core, and that each task can be called for.
-use Rattle.std.proofs.Common.{◌≡◌, ℕ, ◌≤◌, List, [], ◌∷◌, ◌++◌, sym, ap, ◌∙◌, subst, ◌⊎◌, inl, inr}
+use Rattle.std.proofs.Common.{◌≡◌, ℕ, ◌≤◌, List, [], ◌∷◌, ◌++◌, Some, Ok, sym, ap, ◌∙◌, subst, ◌⊎◌, inl, inr, arith}
+use Rattle.nm_requests.specs.declared.request.Request.{Request}
 use Rattle.nm_requests.specs.declared.task.Task.{Task}
-use Rattle.nm_session.proofs.Motion.{runs-append}
-use Rattle.nm_session.proofs.OneRequest.{callable}
+use Rattle.nm_requests.specs.declared.task.Task.TheVariants as task
+use Rattle.nm_requests.specs.Judging.{LiesInside}
+use Rattle.nm_session.proofs.Events.{runs-append}
 use Rattle.nm_session.proofs.ReadEvents.{next_reads_on}
 use Rattle.nm_session.specs.declared.next.Next.TheVariants as next
 use Rattle.nm_session.specs.declared.stage.Stage.{Stage}
 use Rattle.nm_session.specs.declared.stage.Stage.TheVariants as stage
+use Rattle.nm_session.specs.Asking.{next_after}
 use Rattle.nm_session.specs.Calling.{IsCallable}
 use Rattle.nm_session.specs.Event.{Event, Fed, Asked, Stopped, Answered, Took, Runs}
 use Rattle.nm_session.specs.Feeding.{FeedsAt, IsEnded}
 use Rattle.nm_session.specs.Laws.{AreReadings, IsRead}
-use Rattle.nm_session.specs.Reading.{Reads, StaysEnded, Disconnects, Breaks}
+use Rattle.nm_session.specs.Reading.{Fills, IsStarved, Reads, StaysEnded, Disconnects, Breaks}
 use Rattle.nm_session.specs.Session.{Session, IsFull}
-use Rattle.nm_session.specs.Batch.{IsStarved}
 use Rattle.nm_wire.specs.declared.export.Export.{Export}
 use Rattle.nm_wire.specs.Export.{size_of}
 
@@ -62,7 +64,18 @@ reads_on a b d first more = record {
   runs = runs-append a b d first.events more.events first.runs more.runs;
 }
 
--- a task that is handed out can be called for
+-- a task that lies inside an export can be called for
+callable : (request : Request) (export : Export) (task : Task) (index : ℕ) (payload : List ℕ) (size : ℕ)
+    → LiesInside request export task → Fills task payload → size_of export ≤ size
+    → next_after request (Ok task) ≡ Some (next.Issue index task payload) → IsCallable size task payload
+callable request export task.Nothing index payload size inside fills large is = absurd (cc)
+callable request export task.Disconnect index payload size inside fills large is = absurd (cc)
+callable request export task.Flush index payload size inside fills large is = tt
+callable request export (task.Read offset count) index payload size inside fills large is = omega (arith, inside.0.inside)
+callable request export (task.Write offset count fua) index payload size inside fills large is = (omega (arith, inside.0.inside), fills)
+callable request export (task.Zero offset count fua) index payload size inside fills large is = omega (arith, inside.inside)
+
+-- so can one that is handed out
 pub issued_callable : (old new : Session) (index : ℕ) (task : Task) (payload : List ℕ) (size : ℕ)
     → Reads old (next.Issue index task payload) new → size_of old.haggling.export ≤ size
     → IsCallable size task payload

@@ -1,7 +1,6 @@
 -- What the parts of a round do together.
-use Rattle.std.proofs.Common.{◌≡◌, ℕ, List, [], Option, inl, inr, Result, Ok, Err, IfErr, IsErrAnd, refl, sym, subst}
+use Rattle.std.proofs.Common.{◌≡◌, ℕ, List, [], Option, inl, inr, Result, Ok, Err, IfErr, IsErrAnd, refl, sym, ap, subst}
 use Rattle.nm_mailbox.specs.declared.message.Message.{Message}
-use Rattle.nm_session.proofs.Pieces.{none_after_send}
 use Rattle.nm_session.specs.declared.serve_fault.ServeFault.{ServeFault}
 use Rattle.nm_session.specs.declared.serve_fault.ServeFault.TheVariants as fault
 use Rattle.nm_session.specs.declared.served.Served.{Served}
@@ -11,7 +10,7 @@ use Rattle.nm_session.specs.Calling.{TaskResult}
 use Rattle.nm_session.specs.Laws.{IsRead}
 use Rattle.nm_session.specs.Io.{SendsOut, SendsPart}
 use Rattle.nm_session.specs.Session.{IsFull, IsReading, LacksRoom, Session}
-use Rattle.nm_session.specs.Batch.{IsStarved}
+use Rattle.nm_session.specs.Reading.{IsStarved}
 use Rattle.nm_workers.specs.declared.round.NoRequest.{NoRequest}
 use Rattle.nm_workers.specs.declared.round.NoRequest.TheVariants as why
 use Rattle.nm_workers.specs.declared.round.Owner.{Owner}
@@ -104,7 +103,7 @@ module _ {F : Task → TaskResult → Type 0} where
         → IsOverAt served new known → Attends F served (owner_state old heard output) (owner_state new heard written)
     over_there served known sent is_known over = record {
       moves = reads_sends sent;
-      sent = none_after_send mid new mid.out sent.takes;
+      sent = ap (λ (s : Session). s.out) sent.takes.new_is;
       known = known;
       is_known = is_known;
       is_over = over;

@@ -9,7 +9,7 @@ use Rattle.nm_mailbox.specs.declared.message.Piece.{Piece}
 use Rattle.nm_mailbox.specs.declared.message.Piece.TheVariants as piece
 use Rattle.nm_mailbox.specs.Messages.{pieces_of}
 use Rattle.nm_requests.specs.declared.task.Task.{Task}
-use Rattle.nm_session.proofs.Motion.{fed-append, taken-append}
+use Rattle.nm_session.proofs.Events.{fed-append, taken-append}
 use Rattle.nm_session.specs.declared.serve_fault.ServeFault.{ServeFault}
 use Rattle.nm_session.specs.declared.serve_fault.ServeFault.TheVariants as fault
 use Rattle.nm_session.specs.CalledValue.{CalledValue}

@@ -1,12 +1,12 @@
 -- What a session's threads did together, and what of it goes out.
-use Rattle.std.proofs.Common.{◌≡◌, ℕ, ◌+◌, List, [], ◌∷◌, ◌++◌, length, take, drop, Option, refl, sym, ap, ◌∙◌, subst, append_assoc, append-nil, take-append-drop, arith}
+use Rattle.std.proofs.Common.{◌≡◌, ℕ, ◌+◌, List, [], ◌∷◌, ◌++◌, length, take, drop, Option, Result, Ok, Err, IfOk, IfErr, refl, sym, ap, ◌∙◌, subst, append_assoc, append-nil, take-append-drop, arith}
 use Rattle.std.specs.Io.KnownBytes.{Appends, Consumes, IsAtEnd}
 use Rattle.std.proofs.KnownBytes.{Appends-trans, Appends-nil, Consumes-trans, Consumes-nil}
 use Rattle.nm_mailbox.specs.declared.message.Message.{Message}
 use Rattle.nm_mailbox.specs.declared.message.Piece.{Piece}
 use Rattle.nm_mailbox.specs.declared.message.Piece.TheVariants as piece
 use Rattle.nm_mailbox.specs.Messages.{pieces_of, IsBeginning}
-use Rattle.nm_session.proofs.Motion.{fed-append, taken-append}
+use Rattle.nm_session.proofs.Events.{fed-append, taken-append}
 use Rattle.nm_session.specs.declared.end.End.{End}
 use Rattle.nm_session.specs.declared.end.End.TheVariants as end
 use Rattle.nm_session.specs.declared.serve_fault.ServeFault.{ServeFault}
@@ -20,7 +20,6 @@ use Rattle.nm_session.specs.Calling.{TaskResult}
 use Rattle.nm_session.specs.Event.{Event, Fed, Asked, Stopped, Answered, Took, Runs, fed_bytes, taken_bytes, messages}
 use Rattle.nm_session.specs.Feeding.{FeedsAt}
 use Rattle.nm_session.specs.Laws.{SoFar}
-use Rattle.nm_session.specs.Moving.{state}
 use Rattle.nm_session.specs.Serving.{IsEnd}
 use Rattle.nm_session.specs.Session.{Session, session_of, so_many}
 use Rattle.nm_session.specs.Text.{GoesOut}
@@ -33,6 +32,18 @@ use Rattle.nm_workers.specs.Serving.{Io, io, Goes, Ends, Breaks, IsServed, IsBro
 use Rattle.nm_workers.specs.Results.{no_result}
 use Rattle.nm_workers.proofs.ResultRuns.{runs_with-append, runs_of, unanswered_with}
 use Rattle.nm_workers.proofs.Steps.{bytes-append, heard-append, cause_on}
+
+-- what holds of a result's value, by what it gives
+pub if_ok : {A E : Type 0} (result : Result A E) (P Q : A → Type 0) → ((value : A) → P value → Q value)
+    → IfOk result P → IfOk result Q
+if_ok (Ok value) P Q gives holds = gives value holds
+if_ok (Err found) P Q gives holds = tt
+
+-- and of its error
+pub if_err : {A E : Type 0} (result : Result A E) (P Q : E → Type 0) → ((found : E) → P found → Q found)
+    → IfErr result P → IfErr result Q
+if_err (Ok value) P Q gives holds = tt
+if_err (Err found) P Q gives holds = gives found holds
 
 module _ {F : Task → TaskResult → Type 0} where
   -- one part of a session after the other
@@ -133,7 +144,7 @@ module _ (bytes unread output after : Option (List ℕ)) (pieces : List Piece)
       )
 
   come_to : (told : End) (known : ReadState) → IsKnown known heard → ComesTo told last known
-      → IsEnd told (state last (tt {0}) unread after) × (told ≡ end.EndOfInput → bytes_of begins.0 ++ read.unsent ≡ [])
+      → IsEnd told last unread × (told ≡ end.EndOfInput → bytes_of begins.0 ++ read.unsent ≡ [])
   come_to end.EndOfInput known is_known comes =
       let all = told_end (subst (λ (i : ReadState). IsKnown i heard) comes.1 is_known) in
       ((comes.0, all.0), λ same. all.1)

@@ -20,7 +20,7 @@ use Rattle.nm_session.specs.Event.{Event, fed_bytes, taken_bytes}
 use Rattle.nm_session.specs.Feeding.{IsEnded}
 use Rattle.nm_session.specs.Serving.{CoreEnds}
 use Rattle.nm_session.specs.Session.{Session, IsFull}
-use Rattle.nm_session.specs.Batch.{IsStarved}
+use Rattle.nm_session.specs.Reading.{IsStarved}
 use Rattle.nm_workers.specs.declared.round.Round.{Round}
 use Rattle.nm_workers.specs.declared.round.Round.TheVariants as round
 use Rattle.nm_workers.specs.declared.round.ReadState.{ReadState}

@@ -8,7 +8,6 @@ use Rattle.nm_session.specs.declared.served.Served.{Served}
 use Rattle.nm_requests.specs.declared.task.Task.{Task}
 use Rattle.nm_session.specs.Calling.{TaskResult}
 use Rattle.nm_session.specs.Event.{Event, fed_bytes, taken_bytes, messages}
-use Rattle.nm_session.specs.Moving.{state}
 use Rattle.nm_session.specs.Serving.{IsEnd}
 use Rattle.nm_session.specs.Session.{Session, session_of, so_many}
 use Rattle.nm_session.specs.Text.{GoesOut}
@@ -48,7 +47,7 @@ pub record Ends (HasResult : Task → TaskResult → Type 0) (served : Served) (
   pub answered : last.outstanding ≡ []
   pub sent : last.out ≡ []
   pub requests : served.requests ≡ last.count
-  pub end_is : IsEnd served.end (state last (tt {0}) unread written)
+  pub end_is : IsEnd served.end last unread
 
 -- from this core on a fault breaks the session off
 pub record Breaks (HasResult : Task → TaskResult → Type 0) (fault : ServeFault) (core : Session)

@@ -1,7 +1,7 @@
 //! The channel by which the owner of a session's core permits the reading thread to read. It
 //! takes no lock, and wakes the reading thread only where that one sleeps.
 ghost use Rattle.std.specs.Prelude.{◌≡◌, ◌<◌, []};
-ghost use Rattle.nm_session.specs.Batch.{IsStarved};
+ghost use Rattle.nm_session.specs.Reading.{IsStarved};
 ghost use Rattle.nm_workers.specs.declared.round.ReadState.TheVariants.{Idle};
 ghost use Rattle.nm_workers.specs.Moving.{HasNoRequest};
 ghost use Rattle.crossbeam_channel.specs.Claims.{IsSeatAt};

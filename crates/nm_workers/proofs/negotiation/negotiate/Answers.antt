@@ -1,9 +1,8 @@
 -- Each way through the loop goes on from the haggling so far.
 use Rattle.nm_replies.specs.Sending.{device_of}
-use Rattle.nm_session.proofs.Pieces.{haggling_stage}
 use Rattle.nm_workers.specs.Results.{no_result}
 use Rattle.nm_workers.specs.Serving.{io, Goes}
-use Rattle.nm_workers.proofs.Negotiations.{part_sent, sent_goes, mid_idle, mid_sent, fed_goes, fed_breaks, input_over, core_over}
+use Rattle.nm_workers.proofs.Negotiations.{haggling_stage, part_sent, sent_goes, mid_idle, mid_sent, fed_goes, fed_breaks, input_over, core_over}
 use Rattle.nm_workers.proofs.RequestLemmas.{export_stays}
 use Rattle.nm_workers.proofs.ResultRuns.{runs_of}
 use Rattle.nm_workers.proofs.negotiation.negotiate.Goals as goal

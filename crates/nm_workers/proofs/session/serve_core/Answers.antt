@@ -1,12 +1,11 @@
 -- A session is its haggling and then its requests.
 use Rattle.std.proofs.Common.{None}
 use Rattle.nm_replies.specs.Sending.{device_of}
-use Rattle.nm_session.proofs.WholeSessions.{if_ok, if_err}
 use Rattle.nm_workers.specs.Serving.{io, Negotiates, Ends, Breaks}
 use Rattle.nm_workers.proofs.Owning.{sizes_stay}
 use Rattle.nm_workers.specs.Results.{IsResult, no_result}
 use Rattle.nm_workers.proofs.ResultRuns.{runs_of}
-use Rattle.nm_workers.proofs.WholeSessions.{breaks_at_once, ends_on, breaks_on, haggled, haggled_ends, haggled_breaks}
+use Rattle.nm_workers.proofs.WholeSessions.{if_ok, if_err, breaks_at_once, ends_on, breaks_on, haggled, haggled_ends, haggled_breaks}
 use Rattle.nm_workers.proofs.session.serve_core.Goals as goal
 
 pub returns-in_default-clause-err : goal.returns-in_default-clause-err

@@ -1,12 +1,11 @@
 -- What goes out is told by the law so far.
 use Rattle.nm_replies.specs.Sending.{device_of}
-use Rattle.nm_session.proofs.WholeSessions.{if_ok, if_err}
 use Rattle.nm_session.specs.declared.serve_fault.ServeFault.TheVariants as fault
 use Rattle.nm_session.specs.Session.{session_of, so_many}
 use Rattle.nm_workers.specs.Results.{IsResult}
 use Rattle.nm_workers.specs.Serving.{io, Ends, Breaks, IsServed, IsBrokenOff}
 use Rattle.nm_workers.proofs.Owning.{whole_at, broken_at}
-use Rattle.nm_workers.proofs.WholeSessions.{breaks_at_once, broken}
+use Rattle.nm_workers.proofs.WholeSessions.{if_ok, if_err, breaks_at_once, broken}
 use Rattle.nm_workers.proofs.session.serve_many.Goals as goal
 
 pub returns-in_default-clause-err : goal.returns-in_default-clause-err
