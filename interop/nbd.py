@@ -106,7 +106,7 @@ class Server:
     superblocks = ("--superblock", "none")
 
     def __init__(self, legs=1, size=8 * MIB, options=(), address_space=None, stack=None, one_arena=False,
-                 folders=None, files=None, program=PROGRAM):
+                 folders=None, files=None, program=PROGRAM, environment=None):
         self.room = tempfile.mkdtemp(prefix="nbdmirror-")
         self.program = program
         self.files = files or [f"{(folders or {}).get(n, self.room)}/leg{n}" for n in range(legs)]
@@ -117,7 +117,8 @@ class Server:
         self.size = size
         self.options = [*(() if "--superblock" in options else self.superblocks), *options]
         self.bounds = {resource.RLIMIT_AS: address_space, resource.RLIMIT_STACK: stack}
-        self.one_arena = one_arena
+        # With one arena address space is what is used, and not what threads set aside.
+        self.environment = {**({"MALLOC_ARENA_MAX": "1"} if one_arena else {}), **(environment or {})}
         self.process = None
 
     def __enter__(self):
@@ -165,12 +166,10 @@ class Server:
                 if most:
                     resource.setrlimit(limit, (most, most))
 
-        # One arena, so that address space is what is used, and not what threads set aside.
-        own = {**os.environ, "MALLOC_ARENA_MAX": "1"} if self.one_arena else None
-
         with open(f"{self.room}/out", "wb") as out, open(f"{self.room}/err", "wb") as err:
             self.process = subprocess.Popen(words, stdin=subprocess.DEVNULL, stdout=out, stderr=err,
-                                            preexec_fn=bound if any(self.bounds.values()) else None, env=own)
+                                            preexec_fn=bound if any(self.bounds.values()) else None,
+                                            env={**os.environ, **self.environment})
 
     def try_start(self, options):
         self.launch(options)

@@ -22,11 +22,27 @@ const MOST_LONG: usize = 1024 * 1024;
 // How many bytes a header has.
 const HEADER: usize = 28;
 
+// After a long request so many headers in a row are read alone, unless another long one comes: the
+// payload of the next is then not copied either. A client that goes over to short requests pays no
+// more reads than these.
+const MOST_HEADERS: u8 = 2;
+
 // A room, and how many bytes are to be read into it before it is a piece, unless they end.
 #[derive(Drop)]
 pub struct Room {
     pub(crate) bytes: BytesMut,
     pub(crate) wanted: usize,
+}
+
+// What a room is for.
+#[derive(Clone, Copy, Drop)]
+pub enum Use {
+    // Whatever comes.
+    Any,
+    // So many bytes of a long request, and the header behind it.
+    Long(usize),
+    // A header, or the rest of one.
+    Header,
 }
 
 // The room for the next piece. A new one is filled up with zeroes, 128 KiB of which take longer
@@ -37,9 +53,13 @@ pub struct ReadBuffer {
     bytes: usize,
     // How many bytes of a long request are read at once.
     long: usize,
-    // How many the last room is for, where it is for a long request.
-    asked: Option<usize>,
-    // The room of the last piece, or none where it had another size.
+    // What the last room is for.
+    last_use: Use,
+    // How many headers are still read alone.
+    headers: u8,
+    // How many bytes come up to the end of the next header that has not come.
+    ahead: usize,
+    // The room of the last piece that was for whatever comes, or none where it had another size.
     last: BytesMut,
     ghost some: { 0 < bytes },
     ghost some_long: { 0 < long },
@@ -51,7 +71,9 @@ impl ReadBuffer {
         ReadBuffer {
             bytes: MOST,
             long: MOST,
-            asked: None,
+            last_use: Use::Any,
+            headers: 0,
+            ahead: HEADER,
             last: BytesMut::new(alloc),
         }
     }
@@ -62,10 +84,16 @@ impl ReadBuffer {
         ensures some { IfOk result (λ room. 0 < room.bytes.spare) }
         ensures wanted { IfOk result (λ room. 0 < room.wanted) }
     {
+        if 0 < missing || self.ahead == 0 {
+            self.ahead = missing.saturating_add(HEADER);
+        }
         if LONG <= missing {
             return self.take_long(alloc, missing.min(self.long));
         }
-        self.asked = None;
+        if missing == 0 && 0 < self.headers {
+            return self.take_header(alloc);
+        }
+        self.last_use = Use::Any;
         let mut bytes = replace(&mut self.last, BytesMut::new(alloc));
         bytes.clear();
         bytes.reserve(self.bytes)?;
@@ -79,20 +107,51 @@ impl ReadBuffer {
         ensures some { IfOk result (λ room. 0 < room.bytes.spare) }
         ensures wanted { IfOk result (λ room. 0 < room.wanted) }
     {
-        self.asked = Some(wanted);
+        self.last_use = Use::Long(wanted);
+        self.headers = MOST_HEADERS;
         let bytes = BytesMut::with_capacity(alloc, wanted.saturating_add(HEADER))?;
         Ok(Room { bytes, wanted })
     }
 
-    // What follows a piece of so many bytes: its own room, where that keeps its size. What is asked
-    // for of a long request at most doubles once so many bytes have come.
-    pub(crate) fn follow(&mut self, alloc: Global, count: usize, room: BytesMut) {
-        if let Some(asked) = self.asked {
-            if asked == self.long && asked <= count && asked < MOST_LONG {
-                self.long = asked * 2;
-            }
-            return;
+    // A room for what has not come of the next header, and for nothing behind it. A read may bring
+    // less, so no more than a byte is waited for.
+    fn take_header(&mut self, alloc: Global) -> Result<Room, Memory>
+        requires { 0 < self.old.ahead }
+        ensures empty { IfOk result (λ room. room.bytes.items ≡ []) }
+        ensures some { IfOk result (λ room. 0 < room.bytes.spare) }
+        ensures wanted { IfOk result (λ room. 0 < room.wanted) }
+    {
+        self.last_use = Use::Header;
+        let mut bytes = BytesMut::with_capacity(alloc, HEADER)?;
+        if self.ahead < HEADER {
+            // A block of its own would have room for eight bytes at least.
+            let _behind = bytes.split_off(self.ahead)?;
         }
+        Ok(Room { bytes, wanted: 1 })
+    }
+
+    // What follows a piece of so many bytes: its own room, where that was for whatever comes and
+    // keeps its size. What is asked for of a long request at most doubles once so many bytes have
+    // come.
+    pub(crate) fn follow(&mut self, alloc: Global, count: usize, room: BytesMut) {
+        self.ahead = self.ahead.saturating_sub(count);
+        match self.last_use {
+            Use::Any => self.follow_any(alloc, count, room),
+            Use::Long(asked) => {
+                if asked == self.long && asked <= count && asked < MOST_LONG {
+                    self.long = asked * 2;
+                }
+            }
+            Use::Header => {
+                if self.ahead == 0 {
+                    self.headers = self.headers.saturating_sub(1);
+                }
+            }
+        }
+    }
+
+    // The same, where the room was for whatever comes.
+    fn follow_any(&mut self, alloc: Global, count: usize, room: BytesMut) {
         let bytes = size_after(self.bytes, count);
         self.last = if bytes == self.bytes {
             room
