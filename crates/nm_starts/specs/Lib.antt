@@ -1,5 +1,8 @@
 pub mod Alike
+pub mod ByImage
 pub mod ChangedStart
+pub mod Kept
+pub mod NewestStart
 pub mod OpenedOn
 pub mod Replies
 pub mod Starting

@@ -1,16 +1,23 @@
 //! The stripes of a mirror of whose legs no superblock tells.
-ghost use Rattle.std.specs.Prelude.{◌≡◌, ◌<◌, ◌≤◌, ℕ, List, IfOk};
+ghost use Rattle.std.specs.Prelude.{◌≡◌, ◌≢◌, ◌<◌, ◌≤◌, ℕ, List, None, IfOk};
+ghost use Rattle.nm_commands.specs.declared.start.Start.TheVariants.{Equal};
+ghost use Rattle.nm_leg.specs.Leg.{leg_type};
+ghost use Rattle.nm_leg_files.specs.Files.{leg_place};
 ghost use Rattle.nm_rules.specs.Opening.{HoldEqual};
 ghost use Rattle.nm_stripe.specs.Opening.{NamesALeg};
 ghost use Rattle.nm_mirror.specs.Stripes.{AreStripesOf};
 ghost use Rattle.nm_starts.specs.Alike.{AreAlike};
+ghost use Rattle.nm_starts.specs.OpenedOn.{AreOpenedOn};
+ghost use Rattle.nm_starts.specs.Starting.{asked_by, named_master};
 
 use crate::alike::are_alike;
 use crate::starting::open_on_files;
 use nm_choice::Policy;
 use nm_commands::{Settings, Start};
+use nm_file_leg::FileLeg;
 use nm_geometry::Shape;
-use nm_leg_files::{BytesRead, Leg, LegFiles, mirror_legs};
+use nm_leg::LegPart;
+use nm_leg_files::{BytesRead, CountingFile, Leg, LegFiles, mirror_legs};
 use nm_mirror::Opening;
 use nm_reports::StartFault;
 use nm_stripe::Stripe;
@@ -67,7 +74,16 @@ pub fn open_untold<'a>(
     shape: &Shape,
     read: &BytesRead,
 ) -> Result<Vec<Stripe<Leg>>, StartFault<'a>>
-    ensures { IfOk result (λ stripes. AreStripesOf shape.now stripes.items) }
+    ensures stripes { IfOk result (λ stripes. AreStripesOf shape.now stripes.items) }
+    ensures opened { IfOk result (λ stripes. settings.now.opening.start ≢ Equal
+        → AreOpenedOn (leg_type ⟦<FileLeg<CountingFile> as LegPart>⟧.model
+        ⟦<FileLeg<CountingFile> as LegPart>⟧.honest)
+        (λ leg. leg_place leg.medium leg.stripe leg.shape)
+        files.now (asked_by settings.now shape.now) stripes.items) }
+    ensures equal { IfOk result (λ stripes. settings.now.opening.start ≡ Equal
+        → AreAlike stripes.items) }
+    ensures alike { IfOk result (λ stripes. named_master settings.now.opening ≡ None
+        → AreAlike stripes.items) }
 {
     match settings.opening.start {
         Start::Equal => open_equal(alloc, settings.mirror.policy, files, shape, read),

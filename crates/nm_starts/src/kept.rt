@@ -1,15 +1,18 @@
 //! Stripes behind their gates: what the start chose is saved, and each gate is told.
-ghost use Rattle.std.specs.Prelude.{IfOk, map};
+ghost use Rattle.std.specs.Prelude.{◌≡◌, ◌↔◌, IfOk, OnOk, IsTrue, map};
 ghost use Rattle.nm_mirror.specs.Stripes.{AreStripesOf};
+ghost use Rattle.nm_starts.specs.Kept.{AreAbsent, GatesKnow, HasOlder, IsOlder, IsSaved};
+ghost use Rattle.nm_starts.specs.Kept.{SavesOnce, SavesTimes};
 
 use crate::superblock_opening::{AllFiles, FoundFiles};
 use nm_gate::GatedStripe;
 use nm_geometry::Shape;
+use nm_leg::LegPart;
 use nm_leg_files::{LateSlots, LateSuperblock, Leg, SuperblockWriter};
 use nm_mirror::{gated, ungated};
 use nm_plans::durable_states;
 use nm_reports::{StartFault, Unopened};
-use nm_saves::SuperblockFiles;
+use nm_saves::{FailedFiles, SlotFile, SuperblockFiles};
 use nm_stripe::Stripe;
 use nm_superblock::Superblock;
 use std::alloc::Global;
@@ -55,22 +58,50 @@ pub fn open_gates<'a>(
     }
 }
 
-// Whether one of the superblocks that were found is of a version before that which is saved.
-fn has_older_version(found: &[Option<Superblock>; 8]) -> bool {
-    found.iter().any(|beside| match beside {
+// Whether a superblock, if there is one, is of a version before that which is saved.
+fn is_older(found: &Option<Superblock>) -> bool
+    ensures { IsTrue result ↔ IsOlder found.now }
+{
+    match found {
         Some(superblock) => superblock.version < 3,
         None => false,
-    })
+    }
+}
+
+// Whether one of the superblocks that were found is.
+fn has_older_version(found: &[Option<Superblock>; 8]) -> bool
+    ensures { IsTrue result ↔ HasOlder found.now }
+{
+    'legs: for leg in 0..8 {
+        if is_older(&found[leg]) {
+            return true;
+        }
+    }
+    false
+}
+
+// The legs whose files are not here.
+fn absent_legs(here: &[bool; 8]) -> [bool; 8]
+    ensures { AreAbsent 8 here.now result }
+{
+    let mut absent = [false; 8];
+    'legs: for leg in 0..8 {
+        absent[leg] = !here[leg];
+    }
+    absent
 }
 
 // Saves the image, into both slots where this is asked for: from then on no start finds another
 // one.
-fn save_image<'a>(
-    files: &mut SuperblockFiles<LateSlots>,
+fn save_image<'a, F: SlotFile>(
+    files: &mut SuperblockFiles<F>,
     image: &Superblock,
     here: &[bool; 8],
     is_twice: bool,
-) -> Result<(), StartFault<'a>> {
+) -> Result<(), StartFault<'a>>
+    ensures { OnOk result (SavesTimes is_twice (SavesOnce F.honest image.now here.now)
+        files.old files.new) }
+{
     save_once(files, image, here)?;
     if is_twice {
         save_once(files, image, here)?;
@@ -79,29 +110,80 @@ fn save_image<'a>(
 }
 
 // Saves the image once.
-fn save_once<'a>(
-    files: &mut SuperblockFiles<LateSlots>,
+fn save_once<'a, F: SlotFile>(
+    files: &mut SuperblockFiles<F>,
     image: &Superblock,
     here: &[bool; 8],
-) -> Result<(), StartFault<'a>> {
-    let mut out = [false; 8];
-    for leg in 0..8 {
-        if let Some(is_out) = out.get_mut(leg) {
-            *is_out = !here[leg];
-        }
+) -> Result<(), StartFault<'a>>
+    ensures { OnOk result (SavesOnce F.honest image.now here.now files.old files.new) }
+{
+    let out = absent_legs(here);
+    match files.save(&image.sets, &image.marked, false, &image.changed, &out) {
+        Ok(_) => Ok(()),
+        Err(failed) => Err(why_unsaved(files, &failed)),
     }
-    let saved = files.save(&image.sets, &image.marked, false, &image.changed, &out);
-    let Err(failed) = saved else {
-        return Ok(());
-    };
+}
+
+// Why it was not saved: the error of the first leg's file that has one.
+fn why_unsaved<'a, F: SlotFile>(
+    files: &SuperblockFiles<F>,
+    failed: &FailedFiles,
+) -> StartFault<'a> {
     for (leg, has_failed) in failed.legs.iter().enumerate() {
         if *has_failed {
             if let Some(error) = files.error(leg) {
-                return Err(StartFault::CannotSave(leg, Unopened::by(*error)));
+                return StartFault::CannotSave(leg, Unopened::by(*error));
             }
         }
     }
-    Err(StartFault::Memory)
+    StartFault::Memory
+}
+
+// The files that were found with those that are made, once the image is saved in them. Where that
+// fails those that were made are removed.
+fn save_into<'a, R: Files<File = File>>(
+    rt: &R,
+    alloc: Global,
+    found: FoundFiles,
+    image: &Superblock,
+    here: &[bool; 8],
+    went_by: Option<Superblock>,
+) -> Result<AllFiles, StartFault<'a>>
+    ensures { IfOk result (λ all. IsSaved ⟦<LateSlots as SlotFile>⟧.honest
+        image.now here.now found.files.items all.files) }
+{
+    let is_twice = has_older_version(&found.found());
+    let mut all = match found.complete(rt, alloc, here, *image, went_by) {
+        Ok(all) => all,
+        Err(fault) => return Err(fault),
+    };
+    match save_image(&mut all.files, image, here, is_twice) {
+        Ok(()) => Ok(all),
+        Err(fault) => {
+            all.remove_made(rt);
+            Err(fault)
+        }
+    }
+}
+
+// The stripes behind gates that go by the image.
+fn gate_stripes<'a, L: LegPart>(
+    alloc: Global,
+    image: &Superblock,
+    stripes: Vec<Stripe<L>>,
+) -> Result<Vec<GatedStripe<L>>, StartFault<'a>>
+    ensures stripes { IfOk result (λ all. map (λ own. own.stripe) all.items ≡ stripes.items) }
+    ensures gates { IfOk result (λ all.
+        GatesKnow image.now stripes.items (map (λ own. own.durable) all.items)) }
+{
+    let states = durable_states(alloc, image, &stripes)?;
+    if states.len() != stripes.len() {
+        return Err(StartFault::Memory);
+    }
+    match gated(alloc, stripes, states) {
+        Ok(all) => Ok(all),
+        Err(_) => Err(StartFault::Memory),
+    }
 }
 
 impl KeptImage {
@@ -114,8 +196,14 @@ impl KeptImage {
         stripes: Vec<Stripe<Leg>>,
     ) -> Result<(Vec<GatedStripe<Leg>>, Superblocks), StartFault<'a>>
         requires { AreStripesOf shape.now stripes.items }
-        ensures { IfOk result (λ all.
+        ensures fit { IfOk result (λ all.
             AreStripesOf shape.now (map (λ own. own.stripe) all.0.items)) }
+        ensures stripes { IfOk result (λ all.
+            map (λ own. own.stripe) all.0.items ≡ stripes.items) }
+        ensures gates { IfOk result (λ all.
+            GatesKnow self.image stripes.items (map (λ own. own.durable) all.0.items)) }
+        ensures saved { IfOk result (λ all. IsSaved ⟦<LateSlots as SlotFile>⟧.honest
+            self.image self.here self.files.files.items all.1.writer.files) }
     {
         let KeptImage {
             files,
@@ -124,16 +212,14 @@ impl KeptImage {
             went_by,
             ..
         } = self;
-        let states = durable_states(alloc, &image, &stripes)?;
-        if states.len() != stripes.len() {
-            return Err(StartFault::Memory);
-        }
-        let is_twice = has_older_version(&files.found());
-        let mut all = files.complete(rt, alloc, &here, image, went_by)?;
-        if let Err(fault) = save_image(&mut all.files, &image, &here, is_twice) {
-            all.remove_made(rt);
-            return Err(fault);
-        }
+        let gated = match gate_stripes(alloc, &image, stripes) {
+            Ok(gated) => gated,
+            Err(fault) => return Err(fault),
+        };
+        let all = match save_into(rt, alloc, files, &image, &here, went_by) {
+            Ok(all) => all,
+            Err(fault) => return Err(fault),
+        };
         let AllFiles {
             files,
             names,
@@ -142,9 +228,6 @@ impl KeptImage {
             ..
         } = all;
         let writer = SuperblockWriter::new(alloc, files, names, at, went_by);
-        match gated(alloc, stripes, states) {
-            Ok(all) => Ok((all, Superblocks { writer, late })),
-            Err(_) => Err(StartFault::Memory),
-        }
+        Ok((gated, Superblocks { writer, late }))
     }
 }

@@ -3,12 +3,12 @@ ghost use Rattle.std.specs.Prelude.{map};
 ghost use Rattle.nm_mirror.specs.Stripes.{AreStripesOf};
 
 use crate::adding::take_added;
-use crate::changed_start::{as_they_were, changed_here, open_compared};
+use crate::changed_start::{as_they_were, changed_here};
 use crate::equal_start::open_untold;
 use crate::found_legs::{find_legs, tell_compared};
+use crate::gated_starts::{gate_by_image, gate_compared};
 use crate::ids::draw_id;
 use crate::image_shape::shape_by;
-use crate::image_start::open_by_image;
 use crate::kept::{KeptImage, Superblocks, open_gates};
 use crate::meanwhile::Meanwhile;
 use crate::moving::{moved_legs, tell_unmoved};
@@ -19,7 +19,7 @@ use crate::superblock_choice::{FoundLegs, taken_legs};
 use crate::superblock_places::FoundPlaces;
 use crate::unknown::unknown_legs;
 use crossbeam_channel::bounded;
-use nm_assemble::{named_leg, newest_of};
+use nm_assemble::newest_of;
 use nm_commands::{MirrorSettings, OpeningSettings, Settings, SuperblockPlace};
 use nm_gate::GatedStripe;
 use nm_geometry::Shape;
@@ -72,9 +72,7 @@ fn open_changed<'a, R: Files<File = File>>(
     kept: KeptImage,
 ) -> Result<OpenedMirror, StartFault<'a>> {
     let shape = shape_by(mirror, files, &kept.image)?;
-    let master = named_leg(&kept.image, 0).unwrap_or(0) as u8;
-    let stripes = open_compared(alloc, mirror.policy, files, &shape, read, master)?;
-    let (gated, superblocks) = kept.gate(rt, alloc, &shape, stripes)?;
+    let (gated, superblocks) = gate_compared(rt, alloc, mirror.policy, files, &shape, read, kept)?;
     Ok(OpenedMirror {
         mirror: mirror_of(alloc, shape, gated)?,
         superblocks: Some(superblocks),
@@ -168,11 +166,8 @@ fn open_image<'a, R: Files<File = File>>(
     let Ok(read) = Arc::new(alloc, AtomicU64::new(0)) else {
         return Err(StartFault::Memory);
     };
-    let (image, here) = (kept.image, kept.here);
-    let shape = shape_by(mirror, files, &image)?;
-    let policy = mirror.policy;
-    let stripes = open_by_image(alloc, policy, files, &shape, &read, &image, &here)?;
-    let (gated, superblocks) = kept.gate(rt, alloc, &shape, stripes)?;
+    let shape = shape_by(mirror, files, &kept.image)?;
+    let (gated, superblocks) = gate_by_image(rt, alloc, mirror.policy, files, &shape, &read, kept)?;
     Ok(OpenedMirror {
         mirror: mirror_of(alloc, shape, gated)?,
         superblocks: Some(superblocks),

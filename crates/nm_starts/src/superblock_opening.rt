@@ -1,4 +1,6 @@
 //! The files of legs' superblocks, as a start opens, locks, reads and makes them.
+ghost use Rattle.std.specs.Prelude.{◌≡◌, IfOk};
+ghost use Rattle.nm_saves.specs.Files.{AreFound};
 
 use crate::inside_slots::{FoundSlots, holds_none, make_inside, read_inside};
 use nm_commands::{MirrorSettings, SuperblockPlace};
@@ -235,7 +237,9 @@ impl FoundFiles {
     }
 
     /// The superblocks that they hold: none in a file that is damaged.
-    pub fn found(&self) -> [Option<Superblock>; 8] {
+    pub fn found(&self) -> [Option<Superblock>; 8]
+        ensures { AreFound 8 self.now.files.items result }
+    {
         found_beside(&self.files)
     }
 
@@ -329,7 +333,9 @@ impl FoundFiles {
         here: &[bool; 8],
         image: Superblock,
         went_by: Option<Superblock>,
-    ) -> Result<AllFiles, StartFault<'a>> {
+    ) -> Result<AllFiles, StartFault<'a>>
+        ensures { IfOk result (λ all. all.files.image ≡ image) }
+    {
         let mut own = self;
         let late = match own.complete_legs(rt, alloc, here, went_by) {
             Ok(late) => late,
