@@ -1,5 +1,5 @@
 /// What clients are served, and how many.
-#[derive(Clone, Copy, Debug, PartialEq, Eq)]
+#[derive(Clone, Copy, PartialEq, Eq)]
 pub struct ClientSettings<'a> {
     /// The export's name.
     pub export: &'a str,

@@ -13,7 +13,7 @@ const MOST_SECONDS: u64 = 86_400;
 const MOST_MIB: u64 = 65_535;
 
 /// What follows a word in its line, behind a blank.
-#[derive(Clone, Copy, Debug, PartialEq, Eq)]
+#[derive(Clone, Copy, PartialEq, Eq)]
 pub enum Argument {
     /// Nothing.
     Nothing,
@@ -65,7 +65,7 @@ impl Argument {
 }
 
 /// A row of the table: a word, and what follows it.
-#[derive(Clone, Copy, Debug, PartialEq, Eq)]
+#[derive(Clone, Copy, PartialEq, Eq)]
 pub enum CommandWord {
     /// The state of each stripe.
     Status,

@@ -8,7 +8,7 @@ use crate::command_word::{Argument, CommandWord, ROWS};
 use std::str::from_utf8;
 
 /// What a line asks for.
-#[derive(Clone, Copy, Debug, PartialEq, Eq)]
+#[derive(Clone, Copy, PartialEq, Eq)]
 pub enum ControlCommand {
     /// The state of each stripe.
     Status,

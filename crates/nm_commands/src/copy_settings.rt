@@ -1,5 +1,5 @@
 /// How legs are copied, and when one is out that does not answer.
-#[derive(Clone, Copy, Debug, PartialEq, Eq)]
+#[derive(Clone, Copy, PartialEq, Eq)]
 pub struct CopySettings {
     /// Whether a leg that went out by a failed call is attached again by itself.
     pub auto_attach: bool,

@@ -7,7 +7,7 @@ use std::marker::Model;
 pub const MOST_BYTES: usize = 64;
 
 /// What a byte makes of a line.
-#[derive(Clone, Copy, Debug, PartialEq, Eq)]
+#[derive(Clone, Copy, PartialEq, Eq)]
 pub enum Fed {
     /// The line goes on.
     More,

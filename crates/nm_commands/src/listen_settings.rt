@@ -1,5 +1,5 @@
 /// Where clients and control connect.
-#[derive(Clone, Copy, Debug, PartialEq, Eq)]
+#[derive(Clone, Copy, PartialEq, Eq)]
 pub struct ListenSettings<'a> {
     /// Where sessions are taken: an address and a port.
     pub address: &'a str,

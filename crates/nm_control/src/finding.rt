@@ -6,7 +6,7 @@ use nm_reports::region_bytes;
 use std::alloc::AllocError;
 
 /// Whether a difference still stands.
-#[derive(Clone, Copy, Debug, PartialEq, Eq)]
+#[derive(Clone, Copy, PartialEq, Eq)]
 enum Stand {
     // No leg was replaced since it was found.
     Open,

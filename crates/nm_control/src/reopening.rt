@@ -10,7 +10,7 @@ use std::alloc::Global;
 use std::sync::Wait;
 
 /// What came of stripes that were to be opened anew.
-#[derive(Clone, Copy, Debug, Default, PartialEq, Eq)]
+#[derive(Clone, Copy, Default, PartialEq, Eq)]
 pub struct ReopenCounts {
     /// How many were.
     pub opened: u64,

@@ -14,7 +14,7 @@ use std::sync::atomic::AtomicU64;
 use std::sync::{Arc, Mutex, Wait};
 
 /// What came of a replacement.
-#[derive(Clone, Copy, Debug)]
+#[derive(Clone, Copy)]
 pub enum Replaced {
     /// It was done where it could be.
     Done(ReplaceCounts),

@@ -12,7 +12,7 @@ use std::fmt;
 use std::sync::Wait;
 
 /// What came of a leg that was to go out for good.
-#[derive(Clone, Copy, Debug)]
+#[derive(Clone, Copy)]
 pub enum Retired {
     /// It is out, no superblock says otherwise, and it has none.
     Out,

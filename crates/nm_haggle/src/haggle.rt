@@ -15,7 +15,7 @@ use std::marker::Model;
 
 /// The server's side of the fixed newstyle handshake after its greeting: takes the client's flags
 /// and options in pieces as they come, and answers each piece.
-#[derive(Debug, Drop)]
+#[derive(Drop)]
 pub struct Haggle {
     export: Export,
     phase: Phase,

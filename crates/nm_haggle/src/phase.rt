@@ -1,5 +1,5 @@
 /// What the client is to send next.
-#[derive(Clone, Copy, Debug)]
+#[derive(Clone, Copy)]
 pub(crate) enum Phase {
     /// Its flags.
     Flags,

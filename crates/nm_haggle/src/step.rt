@@ -1,7 +1,7 @@
 use crate::next::Next;
 
 /// How far a piece was taken, where its replies were appended to the caller's output.
-#[derive(Clone, Copy, Debug, PartialEq, Eq)]
+#[derive(Clone, Copy, PartialEq, Eq)]
 pub struct Step {
     /// How many bytes of the piece were used. The others are not the haggling's.
     pub used: usize,

@@ -1,7 +1,7 @@
 use crate::next::Next;
 
 /// What a piece was answered with.
-#[derive(Debug, Drop)]
+#[derive(Drop)]
 pub struct Turn {
     /// How many bytes of the piece were used. The others are not the haggling's.
     pub used: usize,

@@ -4,7 +4,7 @@ use crate::call_error_kind::CallErrorKind;
 /// was gone before zeroes of that stripe.
 ///
 /// What the call did before stays done.
-#[derive(Debug, Clone, Copy, PartialEq, Eq, Drop)]
+#[derive(Clone, Copy, Debug, PartialEq, Eq, Drop)]
 pub struct CallError {
     /// The stripe's number.
     pub stripe: u32,

@@ -1,5 +1,5 @@
 /// An answer that ends a call, or that its caller is gone.
-#[derive(Debug, Clone, Copy, PartialEq, Eq, Drop)]
+#[derive(Clone, Copy, Debug, PartialEq, Eq, Drop)]
 pub enum CallErrorKind {
     /// The only leg in sync failed: in a read, in a sync, or as a begin of a part or a copy read a
     /// block of it.

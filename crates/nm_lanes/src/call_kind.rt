@@ -1,5 +1,5 @@
 /// What was called of a mirror.
-#[derive(Debug, Clone, Copy, PartialEq, Eq, Drop)]
+#[derive(Clone, Copy, Debug, PartialEq, Eq, Drop)]
 pub enum CallKind {
     /// A read.
     Read,

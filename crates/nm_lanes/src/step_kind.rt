@@ -1,5 +1,5 @@
 /// What kind of step a stripe was asked for.
-#[derive(Debug, Clone, Copy, PartialEq, Eq, Drop)]
+#[derive(Clone, Copy, Debug, PartialEq, Eq, Drop)]
 pub enum StepKind {
     /// A write begins.
     Begin,

@@ -14,7 +14,7 @@ use std::sync::Arc;
 use std::{fmt, io};
 
 /// Why a leg's file is not here.
-#[derive(Clone, Copy, Debug)]
+#[derive(Clone, Copy)]
 pub(crate) enum Absence {
     /// The system did not open it.
     Unopened(io::Error),

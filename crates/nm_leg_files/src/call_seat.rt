@@ -30,7 +30,7 @@ const ANSWERED: u64 = 3;
 const LEFT: u64 = 4;
 
 /// A call of a file.
-#[derive(Clone, Copy, Debug, PartialEq, Eq)]
+#[derive(Clone, Copy, PartialEq, Eq)]
 pub(crate) enum Asked {
     /// A read of so many bytes.
     Read(usize),

@@ -13,7 +13,7 @@ use std::rt::Files;
 use std::sync::Wait;
 
 /// What superblocks record of the legs' files.
-#[derive(Clone, Copy, Debug, PartialEq, Eq)]
+#[derive(Clone, Copy, PartialEq, Eq)]
 pub struct RecordedFiles {
     /// Their identities.
     pub identities: LegIdentities,

@@ -25,7 +25,7 @@ pub const BLOCK_BYTES: u64 = nm_replay::BLOCK_BYTES as u64;
 const MOST_CALLS: u8 = 16;
 
 /// Which legs may be opened.
-#[derive(Clone, Copy, Debug)]
+#[derive(Clone, Copy)]
 pub struct LegRules {
     /// Some may be missing: the system does not open them.
     pub may_lack: bool,
@@ -74,7 +74,7 @@ impl LegRules {
 }
 
 /// A leg and how many blocks it has.
-#[derive(Clone, Copy, Debug, PartialEq, Eq)]
+#[derive(Clone, Copy, PartialEq, Eq)]
 pub struct LegLength {
     pub leg: usize,
     pub blocks: u64,

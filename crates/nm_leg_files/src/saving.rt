@@ -8,7 +8,7 @@ use nm_saves::{FailedFiles, Saved};
 use nm_superblock::{LegSets, SpanMap};
 
 /// What follows a try to save the superblocks.
-#[derive(Clone, Copy, Debug, PartialEq, Eq)]
+#[derive(Clone, Copy, PartialEq, Eq)]
 pub enum AfterTry {
     /// Each leg that the superblock calls in sync has it: the save ends.
     End,

@@ -10,7 +10,7 @@ use std::fs::File;
 use std::os::unix::fs::FileTypeExt;
 
 /// A file that a leg's name leads to, as it is found.
-#[derive(Clone, Copy, Debug)]
+#[derive(Clone, Copy)]
 pub struct SeenFile {
     /// The system has it in use, which is not allowed.
     pub is_in_use: bool,

@@ -7,7 +7,7 @@ use std::{fmt, io};
 
 /// Why a leg's file is not taken: at a start, or to attach or replace the leg. The log has it as it
 /// is displayed.
-#[derive(Clone, Copy, Debug)]
+#[derive(Clone, Copy)]
 pub enum Unfit {
     /// Its file was shorter than at the start for a while: what it lost is not known.
     WasCut,
@@ -106,7 +106,7 @@ impl Unfit {
 }
 
 /// The same, as it is answered to who wants the leg attached.
-#[derive(Clone, Copy, Debug)]
+#[derive(Clone, Copy)]
 pub struct AttachAnswer(pub Unfit);
 
 impl fmt::Display for AttachAnswer {
@@ -124,7 +124,7 @@ impl fmt::Display for AttachAnswer {
 }
 
 /// The same, as it is answered to who wants the leg replaced, or out for good.
-#[derive(Clone, Copy, Debug)]
+#[derive(Clone, Copy)]
 pub struct ReplaceAnswer(pub Unfit);
 
 impl fmt::Display for ReplaceAnswer {

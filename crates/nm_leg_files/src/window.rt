@@ -37,7 +37,7 @@ pub fn export_bytes(bytes: u64, window: u64) -> u64
 }
 
 /// Where the slots of legs' superblocks stand.
-#[derive(Clone, Copy, Debug, PartialEq, Eq)]
+#[derive(Clone, Copy, PartialEq, Eq)]
 pub enum SlotsAt {
     /// In a file beside each leg.
     Beside,

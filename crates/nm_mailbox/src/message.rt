@@ -1,7 +1,7 @@
 use bytes::BytesMut;
 
 /// What the thread that reads from the client sends.
-#[derive(Debug, Drop)]
+#[derive(Drop)]
 pub enum Piece {
     /// Bytes that were read, in the room that they were read into.
     Bytes(BytesMut),
@@ -12,7 +12,7 @@ pub enum Piece {
 }
 
 /// What is received: a piece, or the outcome of a request.
-#[derive(Debug, Drop)]
+#[derive(Drop)]
 pub enum Message<O: Drop> {
     /// A piece of what the client sent.
     Piece(Piece),

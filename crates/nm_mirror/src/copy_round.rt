@@ -13,7 +13,7 @@ use std::marker::Model;
 pub const MOST_TOLD: usize = 64;
 
 /// A region that could not be read.
-#[derive(Clone, Copy, Debug, PartialEq, Eq)]
+#[derive(Clone, Copy, PartialEq, Eq)]
 pub struct UnreadRegion {
     /// The stripe's number.
     pub stripe: u32,
@@ -24,7 +24,7 @@ pub struct UnreadRegion {
 }
 
 /// Where the copy of one leg of one stripe is in a round.
-#[derive(Clone, Copy, Debug, PartialEq, Eq)]
+#[derive(Clone, Copy, PartialEq, Eq)]
 pub struct LegRound {
     /// The lowest region that a step may open.
     pub from: u64,
@@ -33,7 +33,7 @@ pub struct LegRound {
 }
 
 /// What came of looking after one leg of one stripe.
-#[derive(Clone, Copy, Debug, PartialEq, Eq)]
+#[derive(Clone, Copy, PartialEq, Eq)]
 pub enum Visit {
     /// The leg does not join.
     Rests,

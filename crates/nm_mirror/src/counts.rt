@@ -1,7 +1,7 @@
 //! How many stripes answered how, where one leg was failed, attached or replaced in all of them.
 
 /// What came of taking a leg out in each stripe.
-#[derive(Clone, Copy, Debug, Default, PartialEq, Eq)]
+#[derive(Clone, Copy, Debug, PartialEq, Eq, Default)]
 pub struct FailCounts {
     /// Where the leg went out.
     pub failed: u64,
@@ -14,7 +14,7 @@ pub struct FailCounts {
 }
 
 /// What came of letting a leg join again in each stripe.
-#[derive(Clone, Copy, Debug, Default, PartialEq, Eq)]
+#[derive(Clone, Copy, Debug, PartialEq, Eq, Default)]
 pub struct AttachCounts {
     /// Where the leg joins: it was out, or was taken out for it.
     pub joining: u64,
@@ -27,7 +27,7 @@ pub struct AttachCounts {
 }
 
 /// What came of putting another leg in the place of one in each stripe.
-#[derive(Clone, Copy, Debug, Default, PartialEq, Eq)]
+#[derive(Clone, Copy, Default, PartialEq, Eq)]
 pub struct ReplaceCounts {
     /// Where the new leg joins.
     pub joining: u64,

@@ -1,7 +1,7 @@
 //! Which legs may have lost what was written to them.
 
 /// How a leg that is out comes back.
-#[derive(Clone, Copy, Debug, PartialEq, Eq)]
+#[derive(Clone, Copy, PartialEq, Eq)]
 pub enum Returning {
     /// It may have lost something in any stripe, and comes back to each of them.
     Everywhere,
@@ -21,7 +21,7 @@ pub trait Doubts {
 }
 
 /// No leg is ever in doubt.
-#[derive(Clone, Copy, Debug)]
+#[derive(Clone, Copy)]
 pub struct NoDoubts;
 
 impl Doubts for NoDoubts {

@@ -14,7 +14,7 @@ use std::alloc::Global;
 use std::sync::Wait;
 
 /// What came of a stripe that was to be opened anew.
-#[derive(Clone, Copy, Debug, PartialEq, Eq)]
+#[derive(Clone, Copy, PartialEq, Eq)]
 pub enum Reopened {
     /// It has not stopped, so nothing was done.
     Runs,

@@ -13,7 +13,7 @@ use std::fmt;
 use std::sync::Wait;
 
 /// What a leg of a stripe is doing.
-#[derive(Clone, Copy, Debug, PartialEq, Eq)]
+#[derive(Clone, Copy, PartialEq, Eq)]
 pub struct LegStatus {
     /// Its state.
     pub state: LegState,

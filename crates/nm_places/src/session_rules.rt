@@ -3,7 +3,7 @@ ghost use Rattle.std.specs.Prelude.{◌≡◌};
 use nm_commands::ClientSettings;
 
 /// What holds for each session.
-#[derive(Clone, Copy, Debug, PartialEq, Eq)]
+#[derive(Clone, Copy, PartialEq, Eq)]
 pub struct SessionRules {
     /// How many bytes the replies to what is outstanding in it may carry.
     pub reply_bytes: usize,

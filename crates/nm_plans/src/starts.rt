@@ -10,7 +10,7 @@ use nm_superblock::Superblock;
 use std::alloc::Global;
 
 /// Why stripes are not opened by an image.
-#[derive(Clone, Copy, Debug, PartialEq, Eq)]
+#[derive(Clone, Copy, PartialEq, Eq)]
 pub enum Unplanned {
     /// It names no leg in this stripe.
     Nameless(usize),

@@ -8,7 +8,7 @@ use std::marker::Model;
 /// The frame of the reply to a READ that succeeded ("Simple reply message"), in the buffer that it
 /// was read into. The data stand behind room for the header, which is written last. Contracts see
 /// it as the data.
-#[derive(Debug, Drop)]
+#[derive(Drop)]
 pub struct ReadFrame {
     whole: Vec<u8>,
 }

@@ -4,13 +4,13 @@ use nm_wire::SimpleReply;
 use std::marker::Model;
 
 /// A simple reply to one request ("Simple reply message").
-#[derive(Debug, Drop)]
+#[derive(Drop)]
 pub struct Reply {
     cookie: u64,
     content: Content,
 }
 
-#[derive(Debug, Drop)]
+#[derive(Drop)]
 enum Content {
     Done,
     WithData(Vec<u8>),

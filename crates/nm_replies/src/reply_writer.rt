@@ -5,7 +5,7 @@ use crate::send_fault::SendFault;
 use std::io::Write;
 
 /// Sends replies over a device until a write fails.
-#[derive(Debug, Drop)]
+#[derive(Drop)]
 pub struct ReplyWriter<W> {
     device: W,
     failed: bool,

@@ -8,7 +8,7 @@ use std::sync::atomic::{AtomicBool, AtomicU32, AtomicU64, Ordering};
 const MOST_PLACES: usize = 64;
 
 /// A place where a read failed.
-#[derive(Clone, Copy, Debug)]
+#[derive(Clone, Copy)]
 pub struct FailedRead {
     /// The byte at which the read failed.
     pub at: u64,

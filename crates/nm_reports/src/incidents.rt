@@ -10,7 +10,7 @@ const BETWEEN_MILLISECONDS: u64 = 1_000;
 const REFUSED_MILLISECONDS: u64 = 60_000;
 
 /// What may happen again and again.
-#[derive(Clone, Copy, Debug, PartialEq, Eq)]
+#[derive(Clone, Copy, PartialEq, Eq)]
 pub enum Incident {
     /// A session broke off.
     SessionFailed,

@@ -4,7 +4,7 @@ use std::io;
 use std::sync::atomic::{AtomicU64, Ordering};
 
 /// What a call of a leg's file does.
-#[derive(Clone, Copy, Debug, PartialEq, Eq)]
+#[derive(Clone, Copy, PartialEq, Eq)]
 pub enum LegCall {
     /// It reads.
     Read,
@@ -29,7 +29,7 @@ impl LegCall {
 }
 
 /// What is counted of a leg's calls.
-#[derive(Clone, Copy, Debug, PartialEq, Eq)]
+#[derive(Clone, Copy, PartialEq, Eq)]
 pub enum LegNumber {
     /// How many there were.
     Calls,

@@ -10,7 +10,7 @@ const READ: u64 = 1;
 const OTHER: u64 = (1 << 32) | 1;
 
 /// What failed of a leg since somebody last looked.
-#[derive(Clone, Copy, Debug, PartialEq, Eq)]
+#[derive(Clone, Copy, PartialEq, Eq)]
 pub enum Failure {
     /// Reads alone, the last one at this byte.
     Read(u64),

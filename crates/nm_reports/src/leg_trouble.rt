@@ -16,7 +16,7 @@ pub const NOT_MADE: i32 = 125;
 const NO_ANSWER: i32 = 62;
 
 /// A call of a leg's file.
-#[derive(Clone, Copy, Debug, PartialEq, Eq)]
+#[derive(Clone, Copy, PartialEq, Eq)]
 pub enum FileCall {
     Read,
     Write,
@@ -49,7 +49,7 @@ impl FileCall {
 /// A call of a leg's file that failed.
 ///
 /// It prints as `a write at byte 4096 failed: Input/output error (os error 5)`.
-#[derive(Clone, Copy, Debug)]
+#[derive(Clone, Copy)]
 pub struct Trouble {
     call: FileCall,
     at: u64,

@@ -10,7 +10,7 @@ use std::rt::{Env, Files};
 use std::time::{Clock, Duration, SystemTime};
 
 /// How log lines begin.
-#[derive(Clone, Copy, Debug, PartialEq, Eq)]
+#[derive(Clone, Copy, PartialEq, Eq)]
 pub enum LogForm {
     /// With their level, as the system's journal reads it.
     Journal,
@@ -19,7 +19,7 @@ pub enum LogForm {
 }
 
 /// What one line begins with.
-#[derive(Clone, Copy, Debug, Drop)]
+#[derive(Clone, Copy, Drop)]
 pub enum Stamp {
     /// The level.
     Level(Severity),

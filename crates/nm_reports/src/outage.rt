@@ -6,7 +6,7 @@ use std::sync::{Mutex, Wait};
 use std::time::Clock;
 
 /// Since when a leg is out, and by which call.
-#[derive(Clone, Copy, Debug)]
+#[derive(Clone, Copy)]
 pub struct Outage {
     /// The second, counted from 1970 on; 0 where the clock cannot be read.
     pub since: u64,

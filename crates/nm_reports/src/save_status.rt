@@ -4,7 +4,7 @@ use std::alloc::AllocError;
 use std::sync::atomic::{AtomicBool, AtomicU32, AtomicU64, Ordering};
 
 /// How the superblocks stand, at one look.
-#[derive(Clone, Copy, Debug)]
+#[derive(Clone, Copy)]
 pub struct Saved {
     /// The last generation that was saved, at least 1.
     pub generation: u64,

@@ -1,7 +1,7 @@
 //! What metrics tell of verifications.
 
 /// What is known of the verifications so far.
-#[derive(Clone, Copy, Debug)]
+#[derive(Clone, Copy)]
 pub struct Verified {
     /// How many regions differ by them.
     pub differing: u64,

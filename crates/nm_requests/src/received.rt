@@ -17,7 +17,7 @@ use std::mem::replace;
 //
 // Where no more than a request's header is there, it is taken off once a long piece comes: the
 // piece, which begins with the payload, then becomes the block of these bytes, and none is copied.
-#[derive(Debug, Drop)]
+#[derive(Drop)]
 pub struct Received {
     // The header of the first request, if it was taken off.
     head: Option<RequestHead>,

@@ -2,7 +2,7 @@ use bytes::Bytes;
 use nm_wire::CommandFlags;
 
 /// A request that was read ("Request message").
-#[derive(Debug, Drop)]
+#[derive(Drop)]
 pub struct Request {
     /// How many requests were read before it.
     pub index: u64,

@@ -18,7 +18,7 @@ use std::marker::Model;
 ///
 /// Contracts see the bytes that are not handed out yet, how many requests were, the fault at which
 /// the reader stopped, and its room: how many more bytes it takes with no allocation.
-#[derive(Debug, Drop)]
+#[derive(Drop)]
 pub struct RequestReader {
     // None until memory is first needed: a new reader takes none.
     buffer: Option<Received>,

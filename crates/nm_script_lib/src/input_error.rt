@@ -4,7 +4,7 @@ ghost use Rattle.nm_script_lib.specs.declared.input_error.InputError.TheVariants
 use std::alloc::AllocError;
 
 /// Why an input was not read whole.
-#[derive(Clone, Copy, Debug, PartialEq, Eq)]
+#[derive(Clone, Copy, PartialEq, Eq)]
 pub enum InputError {
     /// Out of memory for its bytes.
     Memory,

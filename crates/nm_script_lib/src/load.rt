@@ -7,7 +7,7 @@ use crate::mirror_line::MirrorLine;
 use crate::words::{Words, is_word};
 
 /// `load L B HH`: leg L has bytes HH in block B before the stripe opens.
-#[derive(Clone, Copy, Debug, PartialEq, Eq)]
+#[derive(Clone, Copy, PartialEq, Eq)]
 pub struct Load {
     /// The leg.
     pub leg: u8,

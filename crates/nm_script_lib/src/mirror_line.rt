@@ -6,7 +6,7 @@ use crate::words::{Words, is_word};
 use nm_choice::Policy;
 
 /// A script's first line: `mirror LEGS BLOCKS REGION CHUNK POLICY FIRST`.
-#[derive(Clone, Copy, Debug, PartialEq, Eq)]
+#[derive(Clone, Copy, PartialEq, Eq)]
 pub struct MirrorLine {
     /// How many legs there are, 1 to 8.
     pub legs: u8,

@@ -4,7 +4,7 @@ ghost use Rattle.nm_script_lib.specs.declared.parse_error.ParseError.TheVariants
 use std::alloc::AllocFailed;
 
 /// Why a text was not read as a script.
-#[derive(Clone, Copy, Debug, PartialEq, Eq)]
+#[derive(Clone, Copy, PartialEq, Eq)]
 pub enum ParseError {
     /// Out of memory for the steps.
     Memory,

@@ -8,7 +8,7 @@ use crate::write_error::WriteError;
 use std::alloc::{AllocError, AllocFailed};
 
 /// Why a run stops early.
-#[derive(Clone, Copy, Debug, PartialEq, Eq)]
+#[derive(Clone, Copy, PartialEq, Eq)]
 pub enum RunError {
     /// The text is no script. This line, counted from 1, is the one to name.
     BadStep { line: u64 },

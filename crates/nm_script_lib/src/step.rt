@@ -7,7 +7,7 @@ use crate::mirror_line::MirrorLine;
 use crate::words::{Words, is_word};
 
 /// A step of a script: what one of its lines asks for.
-#[derive(Clone, Copy, Debug, PartialEq, Eq)]
+#[derive(Clone, Copy, PartialEq, Eq)]
 pub enum Step {
     /// A step of the stripe.
     Ask(StripeStep),
@@ -22,7 +22,7 @@ pub enum Step {
 }
 
 /// A step of the stripe, as a script asks for it.
-#[derive(Clone, Copy, Debug, PartialEq, Eq)]
+#[derive(Clone, Copy, PartialEq, Eq)]
 pub enum StripeStep {
     /// `begin B HH`: a write of 512 bytes HH to block B begins.
     Begin {

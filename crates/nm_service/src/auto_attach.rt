@@ -10,7 +10,7 @@ const FIRST_WAIT: u64 = 10_000;
 const MOST_WAIT: u64 = 3_600_000;
 
 /// What happens to a leg that is to be attached again by itself.
-#[derive(Clone, Copy, Debug, PartialEq, Eq)]
+#[derive(Clone, Copy, PartialEq, Eq)]
 pub enum LegEvent {
     /// It is out since a call of it failed.
     OutByFault,
@@ -25,7 +25,7 @@ pub enum LegEvent {
 }
 
 /// When a leg is attached again by itself.
-#[derive(Clone, Copy, Debug, PartialEq, Eq)]
+#[derive(Clone, Copy, PartialEq, Eq)]
 pub enum AttachTime {
     /// Now, by the try of this number.
     Now(u64),
@@ -37,7 +37,7 @@ pub enum AttachTime {
 
 /// When a leg that went out by a failed call is attached again: after 10 seconds, then after twice
 /// as long each time, at most an hour, until it is in sync or taken out.
-#[derive(Debug, Drop)]
+#[derive(Drop)]
 pub struct AutoAttach {
     wait: u64,
     tries: u64,

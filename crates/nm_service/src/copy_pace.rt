@@ -5,7 +5,7 @@ ghost use Rattle.nm_service.specs.CopyPacing.{rest_after, rest_beside, time_for}
 const MOST_REST: u64 = 100_000;
 
 /// A turn of a copy that is over.
-#[derive(Clone, Copy, Debug)]
+#[derive(Clone, Copy)]
 pub struct CopyTurn {
     /// How many bytes it copied.
     pub bytes: u32,

@@ -3,7 +3,7 @@ ghost use Rattle.nm_service.specs.Health.{grave, slight, word_of};
 ghost use Rattle.nm_service.specs.declared.health.Health.TheVariants.{Good, Warning, Critical};
 
 /// What is not well in a mirror: how many of each.
-#[derive(Clone, Copy, Debug, PartialEq, Eq)]
+#[derive(Clone, Copy, PartialEq, Eq)]
 pub struct Ailments {
     /// Stripes that have stopped.
     pub stopped: u64,
@@ -24,7 +24,7 @@ pub struct Ailments {
 }
 
 /// How well a mirror is, as a monitoring check says it.
-#[derive(Clone, Copy, Debug, PartialEq, Eq)]
+#[derive(Clone, Copy, PartialEq, Eq)]
 pub enum Health {
     /// Every leg is in sync, and nothing is known that is not well.
     Good,

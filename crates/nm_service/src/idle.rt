@@ -3,7 +3,7 @@ ghost use Rattle.std.specs.Prelude.{◌≡◌, ◌↔◌, IsTrue};
 ghost use Rattle.nm_service.specs.Idle.{IsIdleFor, IsToClose, Looks};
 
 /// What a session does, as it is seen at one look.
-#[derive(Clone, Copy, Debug, PartialEq, Eq)]
+#[derive(Clone, Copy, PartialEq, Eq)]
 pub struct SessionUse {
     /// When it was last at work.
     pub last: u64,
@@ -35,7 +35,7 @@ impl SessionUse {
 }
 
 /// When a count was last seen to change, by looks now and then.
-#[derive(Debug, Drop)]
+#[derive(Drop)]
 pub struct LastChange {
     count: u64,
     at: u64,

@@ -2,7 +2,7 @@ ghost use Rattle.std.specs.Prelude.{◌≡◌, ◌↔◌, IsTrue, IsFalse, None,
 ghost use Rattle.nm_service.specs.Pacing.{IsDueAfter};
 
 /// What is done at most once in so many units of time.
-#[derive(Debug, Drop)]
+#[derive(Drop)]
 pub struct Interval {
     length: u64,
     last: Option<u64>,

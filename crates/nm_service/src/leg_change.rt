@@ -2,7 +2,7 @@ ghost use Rattle.std.specs.Prelude.{◌≡◌, ◌↔◌, ◌<◌, IsTrue, false
 ghost use Rattle.nm_service.specs.Changes.{HasChanged, LacksNothing};
 
 /// How a leg stands in the stripes of a mirror.
-#[derive(Clone, Copy, Debug, PartialEq, Eq)]
+#[derive(Clone, Copy, PartialEq, Eq)]
 pub struct LegSight {
     /// In how many stripes it is being copied.
     pub joining: u64,
@@ -17,7 +17,7 @@ pub struct LegSight {
 }
 
 /// What has happened to a leg from one look to the next.
-#[derive(Clone, Copy, Debug, PartialEq, Eq)]
+#[derive(Clone, Copy, PartialEq, Eq)]
 pub struct LegChange {
     /// It is out in more stripes.
     pub goes_out: bool,

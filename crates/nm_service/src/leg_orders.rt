@@ -7,7 +7,7 @@ ghost use Rattle.nm_service.specs.declared.leg_orders.LegOrder.TheVariants as or
 const MOST_LEGS: usize = 8;
 
 /// What is ordered of a leg.
-#[derive(Clone, Copy, Debug, PartialEq, Eq)]
+#[derive(Clone, Copy, PartialEq, Eq)]
 pub enum LegOrder {
     /// Nothing: where it goes out by a fault it may be attached again by itself.
     Free,
@@ -20,7 +20,7 @@ pub enum LegOrder {
 }
 
 /// What is ordered of each leg, of eight at most.
-#[derive(Clone, Copy, Debug)]
+#[derive(Clone, Copy)]
 pub struct LegOrders {
     legs: [LegOrder; MOST_LEGS],
 }

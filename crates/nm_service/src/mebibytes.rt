@@ -6,7 +6,7 @@ use std::fmt;
 const BLOCKS: u64 = 2_048;
 
 /// So many blocks as a person reads them: in MiB, rounded up to a tenth.
-#[derive(Clone, Copy, Debug, PartialEq, Eq)]
+#[derive(Clone, Copy, PartialEq, Eq)]
 pub struct Mebibytes {
     /// How many tenths of a MiB they are.
     pub tenths: u64,

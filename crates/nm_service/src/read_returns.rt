@@ -6,7 +6,7 @@ const DAY: u64 = 86_400_000;
 
 /// When a leg last came back by itself after reads of it had failed: three such returns are made in
 /// a day.
-#[derive(Debug, Drop)]
+#[derive(Drop)]
 pub struct ReadReturns {
     last: Option<u64>,
     second: Option<u64>,

@@ -4,7 +4,7 @@ ghost use Rattle.nm_service.specs.Repeating.{Counts, Flushes};
 use crate::interval::Interval;
 
 /// What happens again and again, of which a line tells at most once in so many units of time.
-#[derive(Debug, Drop)]
+#[derive(Drop)]
 pub struct Repeats {
     untold: u64,
     pace: Interval,

@@ -1,7 +1,7 @@
 ghost use Rattle.nm_service.specs.Seating.{PicksIdleLongest};
 
 /// A place in which a connection of the control port is served.
-#[derive(Clone, Copy, Debug, PartialEq, Eq)]
+#[derive(Clone, Copy, PartialEq, Eq)]
 pub enum Seat {
     /// Nobody has it.
     Free,

@@ -17,7 +17,7 @@ const MANY: usize = 16;
 
 /// Buffers whose bytes were sent, for READs to come to be read into: at most 16, each with room for
 /// at most 256 KiB of data and a header.
-#[derive(Debug, Drop)]
+#[derive(Drop)]
 pub struct BufferPool {
     spare: Vec<Vec<u8>>,
     // For how many READs no buffer has come back.

@@ -5,7 +5,7 @@ use nm_requests::Task;
 use std::marker::Model;
 
 /// What came of a task that was called for, with the index of its request. Only `call` makes one.
-#[derive(Debug, Drop)]
+#[derive(Drop)]
 pub struct Called {
     index: u64,
     task: Task,

@@ -1,5 +1,5 @@
 /// What ended a session that no fault broke off.
-#[derive(Clone, Copy, Debug, PartialEq, Eq)]
+#[derive(Clone, Copy, PartialEq, Eq)]
 pub enum End {
     /// The client sent DISC.
     Disc,

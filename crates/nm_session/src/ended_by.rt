@@ -1,5 +1,5 @@
 /// What ended a session.
-#[derive(Clone, Copy, Debug, PartialEq, Eq)]
+#[derive(Clone, Copy, PartialEq, Eq)]
 pub enum EndedBy {
     /// The client's DISC.
     Disconnect,

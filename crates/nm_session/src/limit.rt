@@ -1,5 +1,5 @@
 /// What a session may have outstanding: requests that were read and are not answered.
-#[derive(Clone, Copy, Debug, PartialEq, Eq)]
+#[derive(Clone, Copy, PartialEq, Eq)]
 pub struct Limit {
     /// How many requests.
     pub requests: usize,

@@ -1,7 +1,7 @@
 use nm_replies::ReadFrame;
 
 /// What came of a request's task.
-#[derive(Debug, Drop)]
+#[derive(Drop)]
 pub enum Outcome {
     /// It was done, and asked for no data.
     Done,

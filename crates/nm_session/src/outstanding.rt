@@ -1,7 +1,7 @@
 use nm_requests::Task;
 
 /// A request that was issued and is not answered yet.
-#[derive(Clone, Copy, Debug)]
+#[derive(Clone, Copy)]
 pub(crate) struct Outstanding {
     /// How many requests were read before it.
     pub(crate) index: u64,

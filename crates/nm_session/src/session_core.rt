@@ -43,7 +43,7 @@ use std::mem;
 /// Up to 16 requests are outstanding at once, and they are answered in any order. A request that
 /// was read is only taken where the replies to all that are outstanding then carry no more bytes
 /// than its limit says; a READ that is longer by itself is refused.
-#[derive(Debug, Drop)]
+#[derive(Drop)]
 pub struct SessionCore {
     limit: Limit,
     stage: Stage,

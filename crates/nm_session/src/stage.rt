@@ -1,7 +1,7 @@
 use crate::ended_by::EndedBy;
 
 /// What a session does with the client's bytes.
-#[derive(Clone, Copy, Debug)]
+#[derive(Clone, Copy)]
 pub(crate) enum Stage {
     /// They are the haggling's.
     Haggling,

@@ -6,7 +6,7 @@ use std::alloc::AllocError;
 use std::sync::Arc;
 
 /// Why the server closed a session.
-#[derive(Clone, Copy, Debug, PartialEq, Eq)]
+#[derive(Clone, Copy, PartialEq, Eq)]
 pub enum Closing {
     /// The server ends.
     Quit,

@@ -9,7 +9,7 @@ use std::sync::Wait;
 use std::time::Clock;
 
 /// How a session ended that no fault broke off.
-#[derive(Clone, Copy, Debug, PartialEq, Eq)]
+#[derive(Clone, Copy, PartialEq, Eq)]
 pub enum SessionEnd {
     /// In its handshake.
     InHandshake,

@@ -20,7 +20,7 @@ pub enum Stream {
 }
 
 /// Where a connection comes from.
-#[derive(Clone, Copy, Debug)]
+#[derive(Clone, Copy)]
 pub enum Peer {
     /// From this address.
     Inet(SocketAddr),

@@ -15,7 +15,7 @@ use nm_reports::StartFault;
 use nm_superblock::Superblock;
 
 /// What a start finds of the legs.
-#[derive(Clone, Copy, Debug, PartialEq, Eq)]
+#[derive(Clone, Copy, PartialEq, Eq)]
 pub struct FoundLegs {
     /// Their superblocks.
     pub found: [Option<Superblock>; 8],
@@ -24,7 +24,7 @@ pub struct FoundLegs {
 }
 
 /// What a start by superblocks goes by.
-#[derive(Clone, Copy, Debug, PartialEq, Eq)]
+#[derive(Clone, Copy, PartialEq, Eq)]
 pub enum Choice {
     /// No superblock was found: the mirror gets its first ones.
     First,

@@ -7,7 +7,7 @@ use nm_assemble::newest_of;
 use nm_superblock::{Superblock, newer};
 
 /// What was found of the legs' superblocks in one place.
-#[derive(Clone, Copy, Debug, PartialEq, Eq)]
+#[derive(Clone, Copy, PartialEq, Eq)]
 pub struct PlaceFound {
     /// The superblocks.
     pub found: [Option<Superblock>; 8],

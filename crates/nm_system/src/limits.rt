@@ -8,7 +8,7 @@ use std::fs::File;
 use std::rt::Files;
 
 /// What the process may use at most. None is unlimited, or not told.
-#[derive(Clone, Copy, Debug, PartialEq, Eq)]
+#[derive(Clone, Copy, PartialEq, Eq)]
 pub struct Limits {
     /// How many bytes of address space it may have.
     pub address_space: Option<u64>,

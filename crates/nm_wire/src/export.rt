@@ -6,7 +6,7 @@ use bitflags::Flags;
 use std::alloc::AllocError;
 
 /// The one disk that is served.
-#[derive(Debug, Drop)]
+#[derive(Drop)]
 pub struct Export {
     /// The name that clients ask for, at most 255 bytes.
     pub name: Name,

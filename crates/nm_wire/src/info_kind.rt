@@ -2,7 +2,7 @@ ghost use Rattle.std.specs.Prelude.{◌≡◌, ◌≢◌, IfSome, IfNone};
 ghost use Rattle.nm_wire.specs.InfoKind.{info_number};
 
 /// The types of information on an export that are sent ("Option reply types", NBD_REP_INFO).
-#[derive(Clone, Copy, Debug, PartialEq, Eq, Hash)]
+#[derive(Clone, Copy, PartialEq, Eq, Hash)]
 pub enum InfoKind {
     /// NBD_INFO_EXPORT: the export's size and its transmission flags.
     Export,

@@ -8,7 +8,7 @@ use crate::number::{get_u32, get_u64, put_u32, put_u64};
 use crate::wire_fault::WireFault;
 
 /// The header of an option that the client asks for ("Fixed newstyle negotiation").
-#[derive(Clone, Copy, Debug, PartialEq, Eq)]
+#[derive(Clone, Copy, PartialEq, Eq)]
 pub struct OptionHead {
     /// The option's number, known or not.
     pub option: u32,

@@ -2,7 +2,7 @@ ghost use Rattle.std.specs.Prelude.{◌≡◌, ◌≢◌, IfSome, IfNone};
 ghost use Rattle.nm_wire.specs.OptionKind.{option_number};
 
 /// The options that are served ("Option types").
-#[derive(Clone, Copy, Debug, PartialEq, Eq, Hash)]
+#[derive(Clone, Copy, PartialEq, Eq, Hash)]
 pub enum OptionKind {
     /// NBD_OPT_EXPORT_NAME: begin transmission; its reply has no header.
     ExportName,

@@ -8,7 +8,7 @@ use crate::number::{get_u32, get_u64, put_u32, put_u64};
 use crate::wire_fault::WireFault;
 
 /// The header of a reply to an option ("Fixed newstyle negotiation").
-#[derive(Clone, Copy, Debug, PartialEq, Eq)]
+#[derive(Clone, Copy, PartialEq, Eq)]
 pub struct OptionReply {
     /// The number of the option that is replied to.
     pub option: u32,

@@ -2,7 +2,7 @@ ghost use Rattle.std.specs.Prelude.{◌≡◌, ◌≢◌, IfSome, IfNone};
 ghost use Rattle.nm_wire.specs.ReplyKind.{reply_number};
 
 /// The types of replies to options that are sent ("Option reply types").
-#[derive(Clone, Copy, Debug, PartialEq, Eq, Hash)]
+#[derive(Clone, Copy, PartialEq, Eq, Hash)]
 pub enum ReplyKind {
     /// NBD_REP_ACK: done.
     Ack,

@@ -9,7 +9,7 @@ use crate::number::{get_u16, get_u32, get_u64, put_u16, put_u32, put_u64};
 use crate::wire_fault::WireFault;
 
 /// The header of a request ("Request message").
-#[derive(Clone, Copy, Debug, PartialEq, Eq)]
+#[derive(Clone, Copy, PartialEq, Eq)]
 pub struct RequestHead {
     /// The command flags, unknown bits included.
     pub flags: CommandFlags,

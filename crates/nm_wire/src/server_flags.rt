@@ -3,7 +3,7 @@ ghost use Rattle.std.specs.Prelude.{⊤, [], ◌∷◌, codes};
 use bitflags::{Flag, Flags, bitflag_items};
 
 /// What the server offers in its greeting, 16 bits ("Handshake flags").
-#[derive(Clone, Copy, PartialEq, Eq, Debug)]
+#[derive(Clone, Copy, PartialEq, Eq)]
 pub struct ServerFlags(pub u16);
 
 bitflag_items! {

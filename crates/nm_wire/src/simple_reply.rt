@@ -8,7 +8,7 @@ use crate::number::{get_u32, get_u64, put_u32, put_u64};
 use crate::wire_fault::WireFault;
 
 /// The header of a simple reply ("Simple reply message").
-#[derive(Clone, Copy, Debug, PartialEq, Eq)]
+#[derive(Clone, Copy, PartialEq, Eq)]
 pub struct SimpleReply {
     /// 0, or the error code of a request that failed ("Error values").
     pub error: u32,

@@ -13,7 +13,7 @@ pub struct Owner<O, M: Drop> {
 }
 
 // Why no further request is handed out.
-#[derive(Clone, Copy, Debug, PartialEq, Eq)]
+#[derive(Clone, Copy, PartialEq, Eq)]
 pub enum NoRequest {
     // No whole request is there.
     Starved,
@@ -24,7 +24,7 @@ pub enum NoRequest {
 }
 
 // What is known of the client's bytes that were not received yet.
-#[derive(Clone, Copy, Debug, PartialEq, Eq)]
+#[derive(Clone, Copy, PartialEq, Eq)]
 pub enum ReadState {
     // No read is under way.
     Idle,
@@ -35,7 +35,7 @@ pub enum ReadState {
 }
 
 // What came of a round. It tells what is known of the client's bytes.
-#[derive(Clone, Copy, Debug)]
+#[derive(Clone, Copy)]
 pub enum Round {
     // It goes on.
     Continue(ReadState),

@@ -27,7 +27,7 @@ use std::sync::Wait;
 use std::thread::{self, Threads};
 
 /// A session that is over, and its writer.
-#[derive(Debug, Drop)]
+#[derive(Drop)]
 pub struct Finished<O> {
     /// How it came to its end, or the fault that broke it off.
     pub result: Result<Served, ServeFault>,
