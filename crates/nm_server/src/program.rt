@@ -8,7 +8,7 @@ use crate::equipment::{Opened, metrics_of, open};
 use crate::serving::serve_and_copy;
 use clap::Error;
 use clap::error::ErrorKind;
-use nm_commands::{MirrorSettings, Settings, settings, write_words};
+use nm_commands::{MirrorSettings, OpeningSettings, Settings, settings, write_words};
 use nm_control::LegRenewer;
 use nm_geometry::{MOST_LEGS, Shape};
 use nm_leg_files::{FileMirror, Leg, LegFiles, LegMaker, LegPlace, LegRules, OpensLegs};
@@ -43,24 +43,31 @@ const OF_SESSION: usize = 2 + AT_ONCE;
 /// copies, the one that saves superblocks, and one that reads for a session.
 const OTHER_THREADS: usize = 9;
 
-// The export that the settings ask for, unless they are wrong by themselves.
-fn export_asked<'a>(settings: &Settings<'a>) -> Result<ExportName<'a>, StartFault<'a>> {
-    if settings.mirror.legs.len() > MOST_LEGS as usize {
-        return Err(StartFault::TooManyLegs);
-    }
-    let opening = &settings.opening;
+// Whether the masters that are named, if some are, are one leg of this many.
+fn check_masters<'a>(opening: &OpeningSettings<'a>, legs: usize) -> Result<(), StartFault<'a>> {
     for named in [opening.master, opening.force_master] {
         if let Some(master) = named {
-            if master as usize >= settings.mirror.legs.len() {
+            if master as usize >= legs {
                 return Err(StartFault::NoMaster(master));
             }
         }
     }
-    if let (Some(master), Some(forced)) = (opening.master, opening.force_master) {
-        if master != forced {
-            return Err(StartFault::TwoMasters(master, forced));
+    match (opening.master, opening.force_master) {
+        (Some(master), Some(forced)) if master != forced => {
+            Err(StartFault::TwoMasters(master, forced))
         }
+        _ => Ok(()),
     }
+}
+
+// The export that the settings ask for, unless they are wrong by themselves.
+fn export_asked<'a>(settings: &Settings<'a>) -> Result<ExportName<'a>, StartFault<'a>> {
+    let legs = settings.mirror.legs.len();
+    if legs > MOST_LEGS as usize {
+        return Err(StartFault::TooManyLegs);
+    }
+    let opening = &settings.opening;
+    check_masters(opening, legs)?;
     check_added(settings, true)?;
     check_moved(settings)?;
     check_from(opening)?;
@@ -164,6 +171,23 @@ fn state_of<'a, R: Threads + Wait + Sync + Clock>(
     Ok(state)
 }
 
+// Ends the mirror once it is served no more, and tells how many of its stripes have stopped.
+fn end<'a, O: Write>(
+    alloc: Global,
+    mirror: FileMirror,
+    passes: Vec<Pass<Leg>>,
+    stopped: u32,
+    is_verbose: bool,
+    out: &mut O,
+) -> Result<(), StartFault<'a>> {
+    let all = mirror.shape().stripes;
+    close(alloc, mirror, passes, is_verbose, out)?;
+    if stopped > 0 {
+        return Err(StartFault::StripesStopped(stopped, all));
+    }
+    Ok(())
+}
+
 // Serves the mirror that was opened until a `quit`, and ends it.
 fn serve<'a, 's, R, P: OpensLegs + Sync, O: Write>(
     rt: &R,
@@ -201,12 +225,15 @@ where
     if passes.push(own_pass).is_err() {
         return Err(StartFault::Memory);
     }
-    let (stopped, all) = (count_stopped(rt, &mirror), mirror.shape().stripes);
-    close(alloc, mirror, passes, settings.clients.verbose, out)?;
-    if stopped > 0 {
-        return Err(StartFault::StripesStopped(stopped, all));
-    }
-    Ok(())
+    let stopped = count_stopped(rt, &mirror);
+    end(
+        alloc,
+        mirror,
+        passes,
+        stopped,
+        settings.clients.verbose,
+        out,
+    )
 }
 
 // Opens what the settings ask for, and serves it until a `quit`.
