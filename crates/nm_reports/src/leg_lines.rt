@@ -2,11 +2,11 @@
 
 use crate::failed_reads::{FailedRead, FailedReads};
 use crate::leg_trouble::{LegTrouble, Trouble};
+use crate::leg_words::{Because, LegName, More, Still, Stripes};
 use crate::log_lines::LogLines;
 use nm_geometry::ByteRange;
 use nm_service::{Interval, LegChange, LegSight, Mebibytes};
 use std::alloc::{AllocError, Global};
-use std::fmt;
 use std::sync::{Arc, Wait};
 use std::time::Clock;
 
@@ -28,37 +28,6 @@ pub const UNSEEN: LegSight = LegSight {
     stopped: 0,
 };
 
-// The end of a line on a leg: what of its file failed last.
-#[derive(Clone, Copy, Drop)]
-struct Because {
-    trouble: Option<Trouble>,
-}
-
-impl fmt::Display for Because {
-    fn fmt<W: fmt::Write>(&self, f: &mut fmt::Formatter<W>) -> fmt::Result {
-        match &self.trouble {
-            Some(trouble) => write!(f, ": {trouble}"),
-            None => Ok(()),
-        }
-    }
-}
-
-// The end of a line on a leg that was attached: in how many stripes it is out still, if in some.
-#[derive(Clone, Copy, Drop)]
-struct Still {
-    out: u64,
-    all: usize,
-}
-
-impl fmt::Display for Still {
-    fn fmt<W: fmt::Write>(&self, f: &mut fmt::Formatter<W>) -> fmt::Result {
-        match self.out {
-            0 => Ok(()),
-            out => write!(f, ", and is out in {out} of {} stripes still", self.all),
-        }
-    }
-}
-
 /// How a leg stands as the server begins or ends.
 #[derive(Drop)]
 pub struct LegStand {
@@ -73,6 +42,35 @@ pub struct LegStand {
 }
 
 impl LegStand {
+    // Puts in how many stripes the leg is out or in sync, or what it lacks.
+    fn put_words(&self, text: &mut String) -> Result<(), AllocError> {
+        let [out, in_sync] = [self.sight.out, self.in_sync].map(|count| Stripes {
+            count,
+            all: self.all,
+        });
+        if out.count > 0 {
+            write!(text, "is out in {out}")
+        } else if self.sight.left > 0 {
+            write!(text, "lacks {}", Mebibytes::of_blocks(self.sight.left))
+        } else if self.sight.joining > 0 {
+            text.push_str("is current, its first sync is under way")
+        } else if in_sync.count < self.all as u64 {
+            write!(text, "is in sync in {in_sync}")
+        } else {
+            text.push_str("is in sync")
+        }
+    }
+
+    // Puts the numbers of the stripes that have stopped.
+    fn put_numbers(&self, text: &mut String) -> Result<(), AllocError> {
+        let mut before = " ";
+        for stripe in &self.stopped {
+            write!(text, "{before}{stripe}")?;
+            before = ", ";
+        }
+        Ok(())
+    }
+
     // Puts which stripes have stopped on this leg, if some have.
     fn put_stopped(&self, leg: usize, text: &mut String) -> Result<(), AllocError> {
         let (word, verb, whose) = match self.stopped.len() {
@@ -81,11 +79,7 @@ impl LegStand {
             _ => ("stripes", "are", "their"),
         };
         write!(text, "; {word}")?;
-        let mut before = " ";
-        for stripe in &self.stopped {
-            write!(text, "{before}{stripe}")?;
-            before = ", ";
-        }
+        self.put_numbers(text)?;
         write!(text, " {verb} stopped, {whose} last leg is leg {leg}")
     }
 }
@@ -93,8 +87,7 @@ impl LegStand {
 /// A leg, by its number and its file, and what was told of it so far.
 #[derive(Drop)]
 pub struct LegLines {
-    leg: usize,
-    file: String,
+    name: LegName,
     trouble: Arc<LegTrouble>,
     told: LegSight,
     changes: Interval,
@@ -102,28 +95,11 @@ pub struct LegLines {
     reads: Interval,
 }
 
-// The end of a line on reads that failed: how many more there are.
-#[derive(Clone, Copy, Drop)]
-struct More {
-    count: u64,
-}
-
-impl fmt::Display for More {
-    fn fmt<W: fmt::Write>(&self, f: &mut fmt::Formatter<W>) -> fmt::Result {
-        match self.count {
-            0 => Ok(()),
-            1 => f.write_str(" (and 1 more read)"),
-            count => write!(f, " (and {count} more reads)"),
-        }
-    }
-}
-
 impl LegLines {
     /// Nothing was told of this leg.
     pub fn new(leg: usize, file: String, trouble: Arc<LegTrouble>) -> LegLines {
         LegLines {
-            leg,
-            file,
+            name: LegName { leg, file },
             trouble,
             told: UNSEEN,
             changes: Interval::new(CHANGE_MILLISECONDS),
@@ -141,22 +117,9 @@ impl LegLines {
 
     // Puts how the leg stands.
     fn put_stand(&self, when: &str, stand: &LegStand, text: &mut String) -> Result<(), AllocError> {
-        let (leg, file) = (self.leg, self.file.as_str());
-        let (all, in_sync) = (stand.all, stand.in_sync);
-        let (out, left) = (stand.sight.out, Mebibytes::of_blocks(stand.sight.left));
-        write!(text, "{when}: leg {leg} ({file}) ")?;
-        if out > 0 {
-            write!(text, "is out in {out} of {all} stripes")?;
-        } else if stand.sight.left > 0 {
-            write!(text, "lacks {left}")?;
-        } else if stand.sight.joining > 0 {
-            text.push_str("is current, its first sync is under way")?;
-        } else if in_sync < all as u64 {
-            write!(text, "is in sync in {in_sync} of {all} stripes")?;
-        } else {
-            text.push_str("is in sync")?;
-        }
-        stand.put_stopped(leg, text)
+        write!(text, "{when}: {} ", self.name)?;
+        stand.put_words(text)?;
+        stand.put_stopped(self.name.leg, text)
     }
 
     /// Tells how the leg stands, as the server begins or ends: a warning where stripes have stopped
@@ -185,6 +148,18 @@ impl LegLines {
         }
     }
 
+    // Tells that the leg is out, in more stripes than before.
+    fn tell_outage<R: Wait + Clock>(&self, rt: &R, alloc: Global, lines: &LogLines, all: usize) {
+        let (name, because) = (&self.name, self.because());
+        let out = Stripes {
+            count: self.told.out,
+            all,
+        };
+        self.trouble.outage().begin(rt, because.trouble);
+        let text = format!(in alloc; "{name} is out in {out}{because}");
+        lines.warn(rt, text);
+    }
+
     // Tells what was lost with the leg.
     fn tell_losses<R: Wait + Clock>(
         &self,
@@ -194,29 +169,21 @@ impl LegLines {
         all: usize,
         change: &LegChange,
     ) {
-        let (leg, file) = (self.leg, self.file.as_str());
-        let (out, stopped) = (self.told.out, self.told.stopped);
         if change.goes_out {
-            let because = self.because();
-            self.trouble.outage().begin(rt, because.trouble);
-            lines.warn(
-                rt,
-                format!(in alloc; "leg {leg} ({file}) is out in {out} of {all} stripes{because}"),
-            );
+            self.tell_outage(rt, alloc, lines, all);
         }
         if change.stops {
-            let because = self.because();
-            lines.alert(
-                rt,
-                format!(in alloc;
-                    "{stopped} of {all} stripes have stopped: leg {leg} ({file}) failed as their \
-                     last leg in sync{because}"
-                ),
+            let (name, because) = (&self.name, self.because());
+            let count = self.told.stopped;
+            let stopped = Stripes { count, all };
+            let text = format!(in alloc;
+                "{stopped} have stopped: {name} failed as their last leg in sync{because}"
             );
+            lines.alert(rt, text);
         }
     }
 
-    // Tells what the leg does for the mirror, or the mirror for it.
+    // Tells that the leg gets a task, or has a file again.
     fn tell_gains<R: Wait>(
         &self,
         rt: &R,
@@ -225,33 +192,45 @@ impl LegLines {
         all: usize,
         change: &LegChange,
     ) {
-        let (leg, file) = (self.leg, self.file.as_str());
-        let (masters, still) = (
-            self.told.masters,
-            Still {
-                out: self.told.out,
-                all,
-            },
-        );
+        let (name, told) = (&self.name, &self.told);
+        let [masters, out] = [told.masters, told.out].map(|count| Stripes { count, all });
         if change.takes_over {
-            let text = format!(in alloc;
-                "leg {leg} ({file}) is now the master in {masters} of {all} stripes"
-            );
+            let text = format!(in alloc; "{name} is now the master in {masters}");
             lines.inform(rt, text);
         }
         if change.comes_back {
-            let text = format!(in alloc; "leg {leg} ({file}) is attached{still}");
+            let still = Still { out };
+            let text = format!(in alloc; "{name} is attached{still}");
             lines.inform(rt, text);
         }
+    }
+
+    // Tells that a copy to the leg begins, or that the leg has all again.
+    fn tell_copy<R: Wait>(
+        &self,
+        rt: &R,
+        alloc: Global,
+        lines: &LogLines,
+        all: usize,
+        change: &LegChange,
+    ) {
+        let name = &self.name;
         if change.begins_copy {
             let left = Mebibytes::of_blocks(self.told.left);
-            let text = format!(in alloc; "leg {leg} ({file}): its copy begins, {left} are left");
+            let text = format!(in alloc; "{name}: its copy begins, {left} are left");
             lines.inform(rt, text);
         }
         if change.is_whole {
-            let text = format!(in alloc; "leg {leg} ({file}) is in sync in {all} of {all} stripes");
+            let text = format!(in alloc; "{name} is in sync in {all} of {all} stripes");
             lines.inform(rt, text);
         }
+    }
+
+    // Tells how much is left to copy to the leg.
+    fn tell_left<R: Wait>(&self, rt: &R, alloc: Global, lines: &LogLines) {
+        let (name, left) = (&self.name, Mebibytes::of_blocks(self.told.left));
+        let text = format!(in alloc; "{name}: {left} are left to copy");
+        lines.inform(rt, text);
     }
 
     /// Tells what has changed by this time, in milliseconds, where it is time for a line.
@@ -271,18 +250,14 @@ impl LegLines {
                 let _ = self.progress.take(now);
                 self.tell_losses(rt, alloc, lines, all, &change);
                 self.tell_gains(rt, alloc, lines, all, &change);
+                self.tell_copy(rt, alloc, lines, all, &change);
                 if sight.out == 0 {
                     self.trouble.outage().end(rt);
                 }
             }
         } else if sight.left > 0 && self.progress.take(now) {
             self.told = sight;
-            let (leg, file) = (self.leg, self.file.as_str());
-            let left = Mebibytes::of_blocks(sight.left);
-            lines.inform(
-                rt,
-                format!(in alloc; "leg {leg} ({file}): {left} are left to copy"),
-            );
+            self.tell_left(rt, alloc, lines);
         }
     }
 
@@ -305,14 +280,12 @@ impl LegLines {
         failed: &FailedRead,
         more: u64,
     ) {
-        let (leg, file) = (self.leg, self.file.as_str());
+        let name = &self.name;
         self.trouble.forget_read(failed.at);
         let (trouble, more) = (Trouble::of_read(failed), More { count: more });
         lines.alert(
             rt,
-            format!(in alloc;
-                "leg {leg} ({file}): {trouble}; it stays, as the last leg in sync{more}"
-            ),
+            format!(in alloc; "{name}: {trouble}; it stays, as the last leg in sync{more}"),
         );
     }
 
@@ -330,6 +303,31 @@ impl LegLines {
         }
     }
 
+    // The line on one region that cannot be read.
+    fn unread_region(&self, alloc: Global, bytes: &ByteRange) -> Result<String, AllocError> {
+        let (name, because) = (&self.name, self.because_of(bytes));
+        let (offset, length) = (bytes.offset, bytes.length);
+        format!(in alloc;
+            "{name}: {length} bytes of the export at {offset} cannot be read, and are not copied \
+             to other legs{because}"
+        )
+    }
+
+    // The line on so many regions that cannot be read, of which this is the first.
+    fn unread_regions(
+        &self,
+        alloc: Global,
+        bytes: &ByteRange,
+        count: u64,
+    ) -> Result<String, AllocError> {
+        let (name, because) = (&self.name, self.because_of(bytes));
+        let (offset, length) = (bytes.offset, bytes.length);
+        format!(in alloc;
+            "{name}: {count} regions of the export cannot be read, and are not copied to other \
+             legs, the first with {length} bytes at {offset}{because}"
+        )
+    }
+
     /// Tells that these bytes of the export cannot be read from the leg, which alone has them: the
     /// first of so many regions.
     pub fn tell_unread<R: Wait>(
@@ -340,18 +338,10 @@ impl LegLines {
         bytes: &ByteRange,
         count: u64,
     ) {
-        let (leg, file, because) = (self.leg, self.file.as_str(), self.because_of(bytes));
-        let (offset, length) = (bytes.offset, bytes.length);
         let text = if count <= 1 {
-            format!(in alloc;
-                "leg {leg} ({file}): {length} bytes of the export at {offset} cannot be read, and \
-                 are not copied to other legs{because}"
-            )
+            self.unread_region(alloc, bytes)
         } else {
-            format!(in alloc;
-                "leg {leg} ({file}): {count} regions of the export cannot be read, and are not \
-                 copied to other legs, the first with {length} bytes at {offset}{because}"
-            )
+            self.unread_regions(alloc, bytes, count)
         };
         lines.alert(rt, text);
     }

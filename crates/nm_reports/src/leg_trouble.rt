@@ -65,18 +65,23 @@ impl Trouble {
             error: failed.error,
         }
     }
+
+    // Writes which call failed.
+    fn write_call<W: fmt::Write>(&self, f: &mut fmt::Formatter<W>) -> fmt::Result {
+        let at = self.at;
+        match self.call {
+            FileCall::Read => write!(f, "a read at byte {at} failed"),
+            FileCall::Write => write!(f, "a write at byte {at} failed"),
+            FileCall::Sync => f.write_str("a sync failed"),
+            FileCall::Length if self.error.is_some() => f.write_str("its length cannot be read"),
+            FileCall::Length => f.write_str("it has not the length that it had"),
+        }
+    }
 }
 
 impl fmt::Display for Trouble {
     fn fmt<W: fmt::Write>(&self, f: &mut fmt::Formatter<W>) -> fmt::Result {
-        let at = self.at;
-        match self.call {
-            FileCall::Read => write!(f, "a read at byte {at} failed")?,
-            FileCall::Write => write!(f, "a write at byte {at} failed")?,
-            FileCall::Sync => f.write_str("a sync failed")?,
-            FileCall::Length if self.error.is_some() => f.write_str("its length cannot be read")?,
-            FileCall::Length => f.write_str("it has not the length that it had")?,
-        }
+        self.write_call(f)?;
         match &self.error {
             Some(error) if error.kind() == ErrorKind::StorageFull => {
                 f.write_str(": no space left on its file system")

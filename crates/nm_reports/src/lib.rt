@@ -14,6 +14,7 @@ mod leg_doubts;
 mod leg_lines;
 mod leg_story;
 mod leg_trouble;
+mod leg_words;
 mod log_form;
 mod log_lines;
 mod metrics;

@@ -39,6 +39,18 @@ impl<'a> MetricsPage<'a> {
         put_heading(self.text, name, "histogram", help)
     }
 
+    /// Puts a number that only grows, the only one of its metric.
+    pub fn put_counter(&mut self, name: &str, help: &str, value: u64) -> Result<(), AllocError> {
+        self.begin_counter(name, help)?;
+        self.put(name, "", value)
+    }
+
+    /// Puts a number that goes up and down, the only one of its metric.
+    pub fn put_gauge(&mut self, name: &str, help: &str, value: u64) -> Result<(), AllocError> {
+        self.begin_gauge(name, help)?;
+        self.put(name, "", value)
+    }
+
     /// Puts a number under these labels.
     pub fn put(&mut self, name: &str, labels: &str, value: u64) -> Result<(), AllocError> {
         let value = format!(in self.alloc; "{value}")?;
@@ -67,17 +79,28 @@ impl<'a> MetricsPage<'a> {
         let (mut count, mut end) = (0u64, 1u64);
         for (number, own) in buckets.iter().enumerate() {
             count = count.saturating_add(*own);
-            let limit = if number + 1 < buckets.len() {
-                seconds(self.alloc, end)?
-            } else {
-                format!(in self.alloc; "+Inf")?
-            };
-            let labels = format!(in self.alloc; "operation=\"{operation}\",le=\"{limit}\"")?;
+            let is_last = number + 1 >= buckets.len();
+            let labels = labels_of_bucket(self.alloc, operation, end, is_last)?;
             self.put(name, labels.as_str(), count)?;
             end = end.saturating_mul(2);
         }
         Ok(())
     }
+}
+
+// The labels of the bucket that ends at so many microseconds: the last one takes all above too.
+fn labels_of_bucket(
+    alloc: Global,
+    operation: &str,
+    end: u64,
+    is_last: bool,
+) -> Result<String, AllocError> {
+    let limit = if is_last {
+        String::from_str(alloc, "+Inf")?
+    } else {
+        seconds(alloc, end)?
+    };
+    format!(in alloc; "operation=\"{operation}\",le=\"{limit}\"")
 }
 
 // So many microseconds, in seconds.

@@ -40,54 +40,108 @@ fn put_times(
     )
 }
 
-// Puts what clients asked for, and what came of it.
-fn put_requests(page: &mut MetricsPage<'_>, metrics: &Metrics) -> Result<(), AllocError> {
-    let alloc = page.alloc();
+// The requests of one kind.
+#[derive(Drop)]
+struct KindTotals {
+    kind: MirrorCallKind,
+    labels: String,
+    totals: CallTotals,
+}
+
+// Which number of the requests of a kind is told.
+#[derive(Clone, Copy)]
+enum KindNumber {
+    Calls,
+    Bytes,
+    Errors,
+}
+
+impl KindTotals {
+    // This number of theirs.
+    fn get(&self, number: KindNumber) -> u64 {
+        match number {
+            KindNumber::Calls => self.totals.calls(),
+            KindNumber::Bytes => self.totals.bytes,
+            KindNumber::Errors => self.totals.errors,
+        }
+    }
+}
+
+// The requests of each kind.
+fn all_requests(alloc: Global, metrics: &Metrics) -> Result<Vec<KindTotals>, AllocError> {
     let mut all = Vec::new(alloc);
     for kind in MirrorCallKind::ALL {
         let labels = format!(in alloc; "operation=\"{}\"", kind.name())?;
-        all.push((kind, labels, metrics.totals(alloc, kind)?))?;
+        let totals = metrics.totals(alloc, kind)?;
+        all.push(KindTotals {
+            kind,
+            labels,
+            totals,
+        })?;
     }
+    Ok(all)
+}
+
+// Puts a number of the requests of each kind.
+fn put_request_numbers(
+    page: &mut MetricsPage<'_>,
+    name: &str,
+    all: &[KindTotals],
+    number: KindNumber,
+) -> Result<(), AllocError> {
+    for own in all {
+        page.put(name, own.labels.as_str(), own.get(number))?;
+    }
+    Ok(())
+}
+
+// Puts what clients asked for, and what came of it.
+fn put_requests(page: &mut MetricsPage<'_>, metrics: &Metrics) -> Result<(), AllocError> {
+    let all = all_requests(page.alloc(), metrics)?;
     let name = "nbdmirror_requests_total";
     page.begin_counter(name, "Requests of clients that reached the mirror.")?;
-    for (_, labels, totals) in &all {
-        page.put(name, labels.as_str(), totals.calls())?;
-    }
+    put_request_numbers(page, name, &all, KindNumber::Calls)?;
     let name = "nbdmirror_request_bytes_total";
     page.begin_counter(name, "Bytes that requests read, wrote or zeroed.")?;
-    for (_, labels, totals) in &all {
-        page.put(name, labels.as_str(), totals.bytes)?;
-    }
+    put_request_numbers(page, name, &all, KindNumber::Bytes)?;
     let name = "nbdmirror_request_errors_total";
     page.begin_counter(name, "Requests that failed.")?;
-    for (_, labels, totals) in &all {
-        page.put(name, labels.as_str(), totals.errors)?;
-    }
+    put_request_numbers(page, name, &all, KindNumber::Errors)?;
     let name = "nbdmirror_request_seconds";
     page.begin_histogram(name, "How long requests took in the mirror.")?;
-    for (kind, _, totals) in &all {
-        put_times(page, *kind, totals)?;
+    for own in &all {
+        put_times(page, own.kind, &own.totals)?;
     }
     Ok(())
 }
 
 // Puts how many clients there were, and what came of them.
 fn put_clients(page: &mut MetricsPage<'_>, metrics: &Metrics) -> Result<(), AllocError> {
-    let name = "nbdmirror_sessions";
-    page.begin_gauge(name, "Clients that are connected.")?;
-    page.put(name, "", metrics.sessions_now())?;
-    let name = "nbdmirror_sessions_limit";
-    page.begin_gauge(name, "Clients that may be connected at once.")?;
-    page.put(name, "", metrics.places() as u64)?;
-    let name = "nbdmirror_sessions_total";
-    page.begin_counter(name, "Clients that were given a place.")?;
-    page.put(name, "", metrics.sessions())?;
-    let name = "nbdmirror_sessions_failed_total";
-    page.begin_counter(name, "Sessions that broke off.")?;
-    page.put(name, "", metrics.sessions_failed())?;
-    let name = "nbdmirror_clients_refused_total";
-    page.begin_counter(name, "Clients that found no free place.")?;
-    page.put(name, "", metrics.clients_refused())
+    page.put_gauge(
+        "nbdmirror_sessions",
+        "Clients that are connected.",
+        metrics.sessions_now(),
+    )?;
+    page.put_gauge(
+        "nbdmirror_sessions_limit",
+        "Clients that may be connected at once.",
+        metrics.places() as u64,
+    )?;
+    page.put_counter(
+        "nbdmirror_sessions_total",
+        "Clients that were given a place.",
+        metrics.sessions(),
+    )?;
+    page.put_counter(
+        "nbdmirror_sessions_failed_total",
+        "Sessions that broke off.",
+        metrics.sessions_failed(),
+    )?;
+    page.put_counter(
+        "nbdmirror_clients_refused_total",
+        "Clients that found no free place.",
+        metrics.clients_refused(),
+    )
 }
 
 // Puts a number of each kind of call of each leg's file.
@@ -178,6 +232,15 @@ impl LegStand {
         }
         stand
     }
+
+    // How each of so many legs stands.
+    fn of_all(alloc: Global, glances: &[Glance], legs: u8) -> Result<Vec<LegStand>, AllocError> {
+        let mut stands = Vec::new(alloc);
+        for leg in 0..usize::from(legs) {
+            stands.push(LegStand::of(glances, leg))?;
+        }
+        Ok(stands)
+    }
 }
 
 // Puts blocks of each leg, as bytes.
@@ -199,15 +262,13 @@ fn put_leg_bytes(
     Ok(())
 }
 
-// Puts in how many stripes each leg is how, how much it lacks, and how much it has not synced.
-fn put_stands(page: &mut MetricsPage<'_>, glances: &[Glance], legs: u8) -> Result<(), AllocError> {
+// Puts in how many stripes each leg is how.
+fn put_leg_stripes(
+    page: &mut MetricsPage<'_>,
+    name: &str,
+    stands: &[LegStand],
+) -> Result<(), AllocError> {
     let alloc = page.alloc();
-    let mut stands = Vec::new(alloc);
-    for leg in 0..usize::from(legs) {
-        stands.push(LegStand::of(glances, leg))?;
-    }
-    let name = "nbdmirror_leg_stripes";
-    page.begin_gauge(name, "Stripes in which the leg is in sync, copied, or out.")?;
     for (leg, stand) in stands.iter().enumerate() {
         for (state, count) in [
             ("in", stand.in_sync),
@@ -218,6 +279,15 @@ fn put_stands(page: &mut MetricsPage<'_>, glances: &[Glance], legs: u8) -> Resul
             page.put(name, labels.as_str(), count)?;
         }
     }
+    Ok(())
+}
+
+// Puts in how many stripes each leg is how, how much it lacks, and how much it has not synced.
+fn put_stands(page: &mut MetricsPage<'_>, glances: &[Glance], legs: u8) -> Result<(), AllocError> {
+    let stands = LegStand::of_all(page.alloc(), glances, legs)?;
+    let name = "nbdmirror_leg_stripes";
+    page.begin_gauge(name, "Stripes in which the leg is in sync, copied, or out.")?;
+    put_leg_stripes(page, name, &stands)?;
     let name = "nbdmirror_leg_left_bytes";
     page.begin_gauge(name, "Bytes that are left to copy to the leg.")?;
     put_leg_bytes(page, name, &stands, LegSum::Left)?;
@@ -261,9 +331,11 @@ fn put_all(
     put_leg_calls(page, metrics)?;
     put_stands(page, glances, legs)?;
     put_stripes(page, glances)?;
-    let name = "nbdmirror_unread_regions";
-    page.begin_gauge(name, "Regions that no leg in sync gives back.")?;
-    page.put(name, "", known.unread)?;
+    page.put_gauge(
+        "nbdmirror_unread_regions",
+        "Regions that no leg in sync gives back.",
+        known.unread,
+    )?;
     put_verified(page, &known.verified)?;
     put_superblocks(page, known.info.saves())
 }

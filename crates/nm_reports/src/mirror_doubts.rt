@@ -2,8 +2,10 @@
 
 use crate::leg_doubts::LegDoubts;
 use crate::leg_trouble::LegTrouble;
+use crate::outage::Outage;
 use nm_mirror::{Doubts, Returning};
 use std::alloc::AllocError;
+use std::fmt;
 use std::sync::{Arc, Wait};
 
 /// Which legs of a mirror are in doubt, by what failed of their files.
@@ -18,6 +20,33 @@ pub fn is_printable(name: &str) -> bool {
     name.as_bytes()
         .iter()
         .all(|byte| 0x20 <= *byte && *byte < 0x7f)
+}
+
+// Ends a line with why, where that is known.
+fn end_line<T: fmt::Display>(why: Option<&T>, text: &mut String) -> Result<(), AllocError> {
+    if let Some(why) = why {
+        write!(text, ": {why}")?;
+    }
+    text.push_str("\n")
+}
+
+// Puts a line with the name of the leg's file, if that is printable, and one on why it cannot be
+// opened, if so.
+fn put_file(leg: usize, own: &LegTrouble, text: &mut String) -> Result<(), AllocError> {
+    let name = own.name();
+    if is_printable(name) {
+        writeln!(text, "leg {leg}: file {name}")?;
+    }
+    if let Some(error) = &own.unopened() {
+        writeln!(text, "leg {leg}: cannot be opened: {error}")?;
+    }
+    Ok(())
+}
+
+// Puts a line on since which second the leg is out, and why.
+fn put_outage(leg: usize, outage: &Outage, text: &mut String) -> Result<(), AllocError> {
+    write!(text, "leg {leg}: out since {}", outage.since)?;
+    end_line(outage.why.as_ref(), text)
 }
 
 impl MirrorDoubts {
@@ -45,21 +74,10 @@ impl MirrorDoubts {
             return Ok(());
         };
         for (leg, own) in legs.iter().enumerate() {
-            let name = own.name();
-            if is_printable(name) {
-                writeln!(text, "leg {leg}: file {name}")?;
+            put_file(leg, own, text)?;
+            if let Some(outage) = &own.outage().known(rt) {
+                put_outage(leg, outage, text)?;
             }
-            if let Some(error) = &own.unopened() {
-                writeln!(text, "leg {leg}: cannot be opened: {error}")?;
-            }
-            let Some(outage) = own.outage().known(rt) else {
-                continue;
-            };
-            write!(text, "leg {leg}: out since {}", outage.since)?;
-            if let Some(why) = &outage.why {
-                write!(text, ": {why}")?;
-            }
-            text.push_str("\n")?;
         }
         Ok(())
     }
@@ -79,10 +97,7 @@ impl MirrorDoubts {
                 text,
                 "leg {leg}: failed reads {count}, the first at byte {at}"
             )?;
-            if let Some(error) = &first.error {
-                write!(text, ": {error}")?;
-            }
-            text.push_str("\n")?;
+            end_line(first.error.as_ref(), text)?;
         }
         Ok(())
     }

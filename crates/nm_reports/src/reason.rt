@@ -218,12 +218,24 @@ fn put_limit<E: Write>(name: &str, bytes: u64, limit: u64, err: &mut E) {
 }
 
 // Tells of which file a superblock is not, and what can be done.
-fn put_another<E: Write>(name: &str, superblock: &str, leg: usize, err: &mut E) {
+fn put_another<E: Write>(
+    alloc: Global,
+    settings: &Settings<'_>,
+    leg: usize,
+    err: &mut E,
+) -> Result<(), AllocError> {
+    let name = name_of(&settings.mirror.legs, leg);
+    let own = superblock_of(alloc, settings, leg)?;
+    let superblock = match settings.opening.superblock {
+        SuperblockPlace::Inside => "the superblock inside",
+        _ => own.as_str(),
+    };
     let _ = writeln!(
         err,
         "nbdmirror: {name}: is not the file that {superblock} is of: bring that one back, or give \
          --moved {leg} where it was moved with its superblock"
     );
+    Ok(())
 }
 
 // A time in nanoseconds, 0 where it is unknown.
@@ -258,6 +270,19 @@ fn put_changed<E: Write>(
     );
 }
 
+// Tells that this leg has a superblock where superblocks are not to be used.
+fn put_has_superblock<E: Write>(
+    alloc: Global,
+    settings: &Settings<'_>,
+    leg: usize,
+    err: &mut E,
+) -> Result<(), AllocError> {
+    let name = superblock_of(alloc, settings, leg)?;
+    let text = "give --superblock beside, or name the newest leg by --force-master";
+    put_line(name.as_str(), text, err);
+    Ok(())
+}
+
 // Tells of which superblock's file a refusal is, if it is of one, and why.
 fn put_of_superblocks<E: Write>(
     alloc: Global,
@@ -266,53 +291,31 @@ fn put_of_superblocks<E: Write>(
     err: &mut E,
 ) -> Result<(), AllocError> {
     match *fault {
-        StartFault::HasSuperblock(leg) => {
-            let name = superblock_of(alloc, settings, leg)?;
-            let text = "give --superblock beside, or name the newest leg by --force-master";
-            put_line(name.as_str(), text, err);
-        }
+        StartFault::HasSuperblock(leg) => put_has_superblock(alloc, settings, leg, err),
         StartFault::CannotSave(leg, why) => {
             let name = superblock_of(alloc, settings, leg)?;
-            put_unopened(alloc, name.as_str(), why, err)?;
+            put_unopened(alloc, name.as_str(), why, err)
         }
         StartFault::CannotMove(leg, why) => {
             let name = old_superblock_of(alloc, settings, leg)?;
-            put_unopened(alloc, name.as_str(), why, err)?;
+            put_unopened(alloc, name.as_str(), why, err)
         }
-        StartFault::PlacesApart(leg) => put_apart(alloc, settings, leg, err)?,
-        StartFault::AnotherFile(leg) => {
-            let own = superblock_of(alloc, settings, leg)?;
-            let name = match settings.opening.superblock {
-                SuperblockPlace::Inside => "the superblock inside",
-                _ => own.as_str(),
-            };
-            put_another(name_of(&settings.mirror.legs, leg), name, leg, err);
-        }
+        StartFault::PlacesApart(leg) => put_apart(alloc, settings, leg, err),
+        StartFault::AnotherFile(leg) => put_another(alloc, settings, leg, err),
         StartFault::WasChanged(leg, recorded, found) => {
             let file = name_of(&settings.mirror.legs, leg);
             let name = superblock_of(alloc, settings, leg)?;
             put_changed(file, name.as_str(), leg, recorded, found, err);
+            Ok(())
         }
-        _ => (),
+        _ => Ok(()),
     }
-    Ok(())
 }
 
-/// Tells which file or address is meant by a refusal, and why it is refused. A refusal that says
-/// all by itself has no such line.
-pub fn tell_reason<E: Write>(
-    alloc: Global,
-    fault: &StartFault<'_>,
-    settings: &Settings<'_>,
-    err: &mut E,
-) -> Result<(), AllocError> {
+// Tells which leg has a length that it cannot have, if a refusal is of one, and why not.
+fn put_of_lengths<E: Write>(fault: &StartFault<'_>, settings: &Settings<'_>, err: &mut E) {
     let names = settings.mirror.legs.as_slice();
     match *fault {
-        StartFault::CannotOpen(leg, why) => put_unopened(alloc, name_of(names, leg), why, err)?,
-        StartFault::InUse(leg) => {
-            let text = "is mounted, swapped to, held by another device, or behind a loop device";
-            put_line(name_of(names, leg), text, err);
-        }
         StartFault::BadLength(leg, bytes) => {
             let is_inside = settings.opening.superblock == SuperblockPlace::Inside;
             put_length(name_of(names, leg), bytes, is_inside, err);
@@ -327,13 +330,37 @@ pub fn tell_reason<E: Write>(
         StartFault::OverFileLimit(leg, bytes, limit) => {
             put_limit(name_of(names, leg), bytes, limit, err);
         }
+        _ => (),
+    }
+}
+
+/// Tells which file or address is meant by a refusal, and why it is refused. A refusal that says
+/// all by itself has no such line.
+pub fn tell_reason<E: Write>(
+    alloc: Global,
+    fault: &StartFault<'_>,
+    settings: &Settings<'_>,
+    err: &mut E,
+) -> Result<(), AllocError> {
+    let names = settings.mirror.legs.as_slice();
+    match *fault {
+        StartFault::CannotOpen(leg, why) => {
+            return put_unopened(alloc, name_of(names, leg), why, err);
+        }
+        StartFault::CannotListen(address, why) => {
+            return put_unbound(alloc, address, why, &settings.listening, err);
+        }
+        StartFault::InUse(leg) => {
+            let text = "is mounted, swapped to, held by another device, or behind a loop device";
+            put_line(name_of(names, leg), text, err);
+        }
         StartFault::CannotRead(leg) => {
             put_line(name_of(names, leg as usize), "a read failed", err);
         }
-        StartFault::CannotListen(address, why) => {
-            put_unbound(alloc, address, why, &settings.listening, err)?;
-        }
-        _ => put_of_superblocks(alloc, fault, settings, err)?,
+        StartFault::BadLength(_, _)
+        | StartFault::OtherLength(_, _, _, _)
+        | StartFault::OverFileLimit(_, _, _) => put_of_lengths(fault, settings, err),
+        _ => return put_of_superblocks(alloc, fault, settings, err),
     }
     Ok(())
 }

@@ -27,25 +27,28 @@ pub fn put_server(page: &mut MetricsPage<'_>, info: &ServerInfo) -> Result<(), A
     if info.started() == 0 {
         return Ok(());
     }
-    let name = "nbdmirror_start_time_seconds";
-    page.begin_gauge(name, "When the server began, in seconds since 1970.")?;
-    page.put(name, "", info.started())
+    page.put_gauge(
+        "nbdmirror_start_time_seconds",
+        "When the server began, in seconds since 1970.",
+        info.started(),
+    )
 }
 
 /// Puts how many regions differ by verifications, and how long ago the last one ended.
 pub fn put_verified(page: &mut MetricsPage<'_>, verified: &Verified) -> Result<(), AllocError> {
-    let name = "nbdmirror_differing_regions";
-    page.begin_gauge(
-        name,
+    page.put_gauge(
+        "nbdmirror_differing_regions",
         "Regions that differ by a verification, and were not repaired.",
+        verified.differing,
     )?;
-    page.put(name, "", verified.differing)?;
     let Some(age) = verified.age else {
         return Ok(());
     };
-    let name = "nbdmirror_verify_age_seconds";
-    page.begin_gauge(name, "Seconds since the last verification ended.")?;
-    page.put(name, "", age)
+    page.put_gauge(
+        "nbdmirror_verify_age_seconds",
+        "Seconds since the last verification ended.",
+        age,
+    )
 }
 
 /// Puts how the superblocks stand, where there are some.
@@ -53,19 +56,24 @@ pub fn put_superblocks(page: &mut MetricsPage<'_>, saves: &SaveStatus) -> Result
     let Some(saved) = saves.saved() else {
         return Ok(());
     };
-    let name = "nbdmirror_superblock_generation";
-    page.begin_gauge(name, "The last generation of superblocks that was saved.")?;
-    page.put(name, "", saved.generation)?;
-    let name = "nbdmirror_superblock_marked_spans";
-    page.begin_gauge(name, "Spans in which legs may differ after a crash.")?;
-    page.put(name, "", u64::from(saved.marked))?;
-    let name = "nbdmirror_superblock_unsaved_stripes";
-    page.begin_gauge(name, "Stripes in which the loss of a leg is being saved.")?;
-    page.put(name, "", u64::from(saved.unsaved))?;
-    let name = "nbdmirror_superblock_failed";
-    page.begin_gauge(
-        name,
-        "1 where superblocks cannot be written: the mirror is read-only.",
+    page.put_gauge(
+        "nbdmirror_superblock_generation",
+        "The last generation of superblocks that was saved.",
+        saved.generation,
     )?;
-    page.put(name, "", u64::from(saved.has_failed))
+    page.put_gauge(
+        "nbdmirror_superblock_marked_spans",
+        "Spans in which legs may differ after a crash.",
+        u64::from(saved.marked),
+    )?;
+    page.put_gauge(
+        "nbdmirror_superblock_unsaved_stripes",
+        "Stripes in which the loss of a leg is being saved.",
+        u64::from(saved.unsaved),
+    )?;
+    page.put_gauge(
+        "nbdmirror_superblock_failed",
+        "1 where superblocks cannot be written: the mirror is read-only.",
+        u64::from(saved.has_failed),
+    )
 }
