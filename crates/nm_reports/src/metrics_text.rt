@@ -95,6 +95,16 @@ fn put_request_numbers(
     Ok(())
 }
 
+// Puts how long the requests of each kind took.
+fn put_all_times(page: &mut MetricsPage<'_>, all: &[KindTotals]) -> Result<(), AllocError> {
+    let name = "nbdmirror_request_seconds";
+    page.begin_histogram(name, "How long requests took in the mirror.")?;
+    for own in all {
+        put_times(page, own.kind, &own.totals)?;
+    }
+    Ok(())
+}
+
 // Puts what clients asked for, and what came of it.
 fn put_requests(page: &mut MetricsPage<'_>, metrics: &Metrics) -> Result<(), AllocError> {
     let all = all_requests(page.alloc(), metrics)?;
@@ -107,12 +117,7 @@ fn put_requests(page: &mut MetricsPage<'_>, metrics: &Metrics) -> Result<(), All
     let name = "nbdmirror_request_errors_total";
     page.begin_counter(name, "Requests that failed.")?;
     put_request_numbers(page, name, &all, KindNumber::Errors)?;
-    let name = "nbdmirror_request_seconds";
-    page.begin_histogram(name, "How long requests took in the mirror.")?;
-    for own in &all {
-        put_times(page, own.kind, &own.totals)?;
-    }
-    Ok(())
+    put_all_times(page, &all)
 }
 
 // Puts how many clients there were, and what came of them.

@@ -209,6 +209,14 @@ fn put_apart<E: Write>(
     Ok(())
 }
 
+// Tells how long two legs are that should be as long as each other.
+fn put_lengths<E: Write>(name: &str, bytes: u64, other: &str, other_bytes: u64, err: &mut E) {
+    let _ = writeln!(
+        err,
+        "nbdmirror: {name}: has {bytes} bytes, and {other} has {other_bytes}"
+    );
+}
+
 // Tells that the name's file is longer than it may be.
 fn put_limit<E: Write>(name: &str, bytes: u64, limit: u64, err: &mut E) {
     let _ = writeln!(
@@ -255,19 +263,22 @@ impl fmt::Display for Moment {
 
 // Tells when a file was changed last that a superblock has another time of, and what can be done.
 fn put_changed<E: Write>(
-    name: &str,
-    superblock: &str,
+    alloc: Global,
+    settings: &Settings<'_>,
     leg: usize,
     recorded: u64,
     found: u64,
     err: &mut E,
-) {
+) -> Result<(), AllocError> {
+    let name = name_of(&settings.mirror.legs, leg);
+    let superblock = superblock_of(alloc, settings, leg)?;
     let [recorded, found] = [recorded, found].map(|nanoseconds| Moment { nanoseconds });
     let _ = writeln!(
         err,
         "nbdmirror: {name}: was changed at {found}, and {superblock} has {recorded}: bring back \
          what it held then, or give --moved {leg} where it holds that"
     );
+    Ok(())
 }
 
 // Tells that this leg has a superblock where superblocks are not to be used.
@@ -303,10 +314,7 @@ fn put_of_superblocks<E: Write>(
         StartFault::PlacesApart(leg) => put_apart(alloc, settings, leg, err),
         StartFault::AnotherFile(leg) => put_another(alloc, settings, leg, err),
         StartFault::WasChanged(leg, recorded, found) => {
-            let file = name_of(&settings.mirror.legs, leg);
-            let name = superblock_of(alloc, settings, leg)?;
-            put_changed(file, name.as_str(), leg, recorded, found, err);
-            Ok(())
+            put_changed(alloc, settings, leg, recorded, found, err)
         }
         _ => Ok(()),
     }
@@ -321,10 +329,12 @@ fn put_of_lengths<E: Write>(fault: &StartFault<'_>, settings: &Settings<'_>, err
             put_length(name_of(names, leg), bytes, is_inside, err);
         }
         StartFault::OtherLength(leg, bytes, other, other_bytes) => {
-            let (name, other_name) = (name_of(names, leg), name_of(names, other));
-            let _ = writeln!(
+            put_lengths(
+                name_of(names, leg),
+                bytes,
+                name_of(names, other),
+                other_bytes,
                 err,
-                "nbdmirror: {name}: has {bytes} bytes, and {other_name} has {other_bytes}"
             );
         }
         StartFault::OverFileLimit(leg, bytes, limit) => {

@@ -49,6 +49,26 @@ fn unbound_at<R: Files<File = File>>(
     }
 }
 
+// A Unix socket that listens at this path, which the address names.
+fn listen_at<'a, 'p, R>(
+    rt: &'a R,
+    alloc: Global,
+    address: Address<'p>,
+    path: &'p str,
+) -> Result<Listening<'a, 'p, R>, StartFault<'p>>
+where
+    R: Files<File = File> + Clock + Wait + Net<Listener = TcpListener, Stream = TcpStream>,
+{
+    match bind_at(rt, alloc, path) {
+        Ok((file, listener)) => Ok(Listening {
+            file: Some(file),
+            listener: Listener::Unix(listener),
+            address,
+        }),
+        Err(why) => Err(StartFault::CannotListen(address, why)),
+    }
+}
+
 /// A socket that listens at this address.
 pub fn listen<'a, 'p, R>(
     rt: &'a R,
@@ -59,14 +79,7 @@ where
     R: Files<File = File> + Clock + Wait + Net<Listener = TcpListener, Stream = TcpStream>,
 {
     if let Some(path) = address.unix_path() {
-        return match bind_at(rt, alloc, path) {
-            Ok((file, listener)) => Ok(Listening {
-                file: Some(file),
-                listener: Listener::Unix(listener),
-                address,
-            }),
-            Err(why) => Err(StartFault::CannotListen(address, why)),
-        };
+        return listen_at(rt, alloc, address, path);
     }
     let text = format!(in alloc; "{address}")?;
     match TcpListener::bind(rt, text.as_str()) {
@@ -108,15 +121,20 @@ fn is_same(alloc: Global, one: Address<'_>, other: Address<'_>) -> Result<bool, 
 }
 
 impl<R: Files<File = File> + Clock + Wait> Listening<'_, '_, R> {
+    // The address that a socket over TCP got, where the system tells it.
+    fn bound(&self) -> Option<SocketAddr> {
+        match &self.listener {
+            Listener::Tcp(listener) => listener.local_addr().ok(),
+            Listener::Unix(_) => None,
+        }
+    }
+
     /// Tells where the socket listens, with the port that it got where any was asked for.
     pub fn tell<O: Write>(&self, out: &mut O, words: &str) {
         let asked = self.address;
-        let _ = match &self.listener {
-            Listener::Tcp(listener) => match listener.local_addr() {
-                Ok(address) => writeln!(out, "{words} {address}"),
-                Err(_) => writeln!(out, "{words} {asked}"),
-            },
-            Listener::Unix(_) => writeln!(out, "{words} {asked}"),
+        let _ = match self.bound() {
+            Some(address) => writeln!(out, "{words} {address}"),
+            None => writeln!(out, "{words} {asked}"),
         };
         let _ = out.flush();
     }

@@ -38,6 +38,30 @@ fn words_of(end: SessionEnd, closing: Option<Closing>) -> &'static str {
     }
 }
 
+// Tells that a client was closed since it asked for nothing for so many seconds.
+fn tell_idle<R: Wait>(
+    rt: &R,
+    alloc: Global,
+    client: &ClientStream,
+    seconds: u64,
+    lines: &LogLines,
+) {
+    let address = client.address;
+    lines.warn(
+        rt,
+        format!(in alloc; "client {address}: idle for {seconds} s: closed"),
+    );
+}
+
+// Tells what ended a session that no fault broke off.
+fn tell_well<R: Wait>(rt: &R, alloc: Global, client: &ClientStream, words: &str, lines: &LogLines) {
+    let (number, address) = (client.number, client.address);
+    lines.inform(
+        rt,
+        format!(in alloc; "client {address}: session {number} ended: {words}"),
+    );
+}
+
 /// Tells how a session ended: always where a fault broke it off, or it was closed by itself, and
 /// otherwise where sessions are logged.
 pub fn tell_end<R: Wait + Clock>(
@@ -54,23 +78,14 @@ pub fn tell_end<R: Wait + Clock>(
         (Some(Closing::Kick), _) => {
             lines.warn(rt, format!(in alloc; "client {address}: closed by kick"));
         }
-        (Some(Closing::Idle(seconds)), _) => {
-            lines.warn(
-                rt,
-                format!(in alloc; "client {address}: idle for {seconds} s: closed"),
-            );
-        }
+        (Some(Closing::Idle(seconds)), _) => tell_idle(rt, alloc, client, seconds, lines),
         (_, Err(fault)) => {
             let text = format!(in alloc; "client {address}: a session broke off: {fault}");
             lines.warn_of(rt, Incident::SessionFailed, text);
         }
         (closing, Ok(end)) => {
             if is_verbose {
-                let (number, words) = (client.number, words_of(end, closing));
-                lines.inform(
-                    rt,
-                    format!(in alloc; "client {address}: session {number} ended: {words}"),
-                );
+                tell_well(rt, alloc, client, words_of(end, closing), lines);
             }
         }
     }

@@ -69,6 +69,22 @@ impl<R: Files<File = File> + Clock + Wait> Drop for SocketFile<'_, '_, R> {
     }
 }
 
+// Removes the file of this socket, unless somebody listens on it.
+fn remove_unused<R: Net + Files<File = File>>(
+    rt: &R,
+    alloc: Global,
+    path: &str,
+) -> Result<(), Unbound> {
+    match UnixStream::connect(rt, path) {
+        Ok(_) => Err(Unbound::Taken(holder_of_path(rt, alloc, path).unwrap_or(None))),
+        Err(error) if error.kind() == ErrorKind::ConnectionRefused => {
+            rt.remove_file(path)?;
+            Ok(())
+        }
+        Err(error) => Err(Unbound::System(error)),
+    }
+}
+
 // Removes a socket's file on which nobody listens. Any other file stays, and is a reason not to
 // listen there.
 fn remove_stale<R: Net + Files<File = File>>(
@@ -84,14 +100,7 @@ fn remove_stale<R: Net + Files<File = File>>(
     if !found.file_type().is_socket() {
         return Err(Unbound::NoSocket);
     }
-    match UnixStream::connect(rt, path) {
-        Ok(_) => Err(Unbound::Taken(holder_of_path(rt, alloc, path).unwrap_or(None))),
-        Err(error) if error.kind() == ErrorKind::ConnectionRefused => {
-            rt.remove_file(path)?;
-            Ok(())
-        }
-        Err(error) => Err(Unbound::System(error)),
-    }
+    remove_unused(rt, alloc, path)
 }
 
 /// A Unix socket that listens at this path, and its file. Who may connect is up to the rights of
