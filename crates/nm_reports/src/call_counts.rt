@@ -176,9 +176,14 @@ impl CallCounts {
         add(&mut totals.bytes, &own.bytes);
         add(&mut totals.microseconds, &own.microseconds);
         add(&mut totals.errors, &own.errors);
-        for (total, bucket) in totals.buckets.iter_mut().zip(own.buckets.iter()) {
-            add(total, bucket);
-        }
+        add_each(&mut totals.buckets, &own.buckets);
+    }
+}
+
+// Adds what each of these counters has by now to the total in its place.
+fn add_each(totals: &mut [u64], counters: &[AtomicU64]) {
+    for (total, counter) in totals.iter_mut().zip(counters.iter()) {
+        add(total, counter);
     }
 }
 

@@ -42,20 +42,21 @@ pub struct LegStand {
 }
 
 impl LegStand {
+    // Puts that the leg is so in so many of all stripes.
+    fn put_count(&self, words: &str, count: u64, text: &mut String) -> Result<(), AllocError> {
+        write!(text, "{words} in {count} of {} stripes", self.all)
+    }
+
     // Puts in how many stripes the leg is out or in sync, or what it lacks.
     fn put_words(&self, text: &mut String) -> Result<(), AllocError> {
-        let [out, in_sync] = [self.sight.out, self.in_sync].map(|count| Stripes {
-            count,
-            all: self.all,
-        });
-        if out.count > 0 {
-            write!(text, "is out in {out}")
+        if self.sight.out > 0 {
+            self.put_count("is out", self.sight.out, text)
         } else if self.sight.left > 0 {
             write!(text, "lacks {}", Mebibytes::of_blocks(self.sight.left))
         } else if self.sight.joining > 0 {
             text.push_str("is current, its first sync is under way")
-        } else if in_sync.count < self.all as u64 {
-            write!(text, "is in sync in {in_sync}")
+        } else if self.in_sync < self.all as u64 {
+            self.put_count("is in sync", self.in_sync, text)
         } else {
             text.push_str("is in sync")
         }
@@ -73,14 +74,14 @@ impl LegStand {
 
     // Puts which stripes have stopped on this leg, if some have.
     fn put_stopped(&self, leg: usize, text: &mut String) -> Result<(), AllocError> {
-        let (word, verb, whose) = match self.stopped.len() {
+        let (before, after) = match self.stopped.len() {
             0 => return Ok(()),
-            1 => ("stripe", "is", "its"),
-            _ => ("stripes", "are", "their"),
+            1 => ("; stripe", "is stopped, its"),
+            _ => ("; stripes", "are stopped, their"),
         };
-        write!(text, "; {word}")?;
+        text.push_str(before)?;
         self.put_numbers(text)?;
-        write!(text, " {verb} stopped, {whose} last leg is leg {leg}")
+        write!(text, " {after} last leg is leg {leg}")
     }
 }
 
@@ -151,10 +152,8 @@ impl LegLines {
     // Tells that the leg is out, in more stripes than before.
     fn tell_outage<R: Wait + Clock>(&self, rt: &R, alloc: Global, lines: &LogLines, all: usize) {
         let (name, because) = (&self.name, self.because());
-        let out = Stripes {
-            count: self.told.out,
-            all,
-        };
+        let count = self.told.out;
+        let out = Stripes { count, all };
         self.trouble.outage().begin(rt, because.trouble);
         let text = format!(in alloc; "{name} is out in {out}{because}");
         lines.warn(rt, text);
@@ -183,7 +182,7 @@ impl LegLines {
         }
     }
 
-    // Tells that the leg gets a task, or has a file again.
+    // Tells that the leg is the master in more stripes, or is attached.
     fn tell_gains<R: Wait>(
         &self,
         rt: &R,
@@ -192,14 +191,18 @@ impl LegLines {
         all: usize,
         change: &LegChange,
     ) {
-        let (name, told) = (&self.name, &self.told);
-        let [masters, out] = [told.masters, told.out].map(|count| Stripes { count, all });
+        let name = &self.name;
         if change.takes_over {
+            let count = self.told.masters;
+            let masters = Stripes { count, all };
             let text = format!(in alloc; "{name} is now the master in {masters}");
             lines.inform(rt, text);
         }
         if change.comes_back {
-            let still = Still { out };
+            let count = self.told.out;
+            let still = Still {
+                out: Stripes { count, all },
+            };
             let text = format!(in alloc; "{name} is attached{still}");
             lines.inform(rt, text);
         }
@@ -233,6 +236,23 @@ impl LegLines {
         lines.inform(rt, text);
     }
 
+    // Tells this change, of which it is known how the leg stands by it.
+    fn tell_change<R: Wait + Clock>(
+        &self,
+        rt: &R,
+        alloc: Global,
+        lines: &LogLines,
+        all: usize,
+        change: &LegChange,
+    ) {
+        self.tell_losses(rt, alloc, lines, all, change);
+        self.tell_gains(rt, alloc, lines, all, change);
+        self.tell_copy(rt, alloc, lines, all, change);
+        if self.told.out == 0 {
+            self.trouble.outage().end(rt);
+        }
+    }
+
     /// Tells what has changed by this time, in milliseconds, where it is time for a line.
     pub fn tell_changes<R: Wait + Clock>(
         &mut self,
@@ -248,12 +268,7 @@ impl LegLines {
             if self.changes.take(now) {
                 self.told = sight;
                 let _ = self.progress.take(now);
-                self.tell_losses(rt, alloc, lines, all, &change);
-                self.tell_gains(rt, alloc, lines, all, &change);
-                self.tell_copy(rt, alloc, lines, all, &change);
-                if sight.out == 0 {
-                    self.trouble.outage().end(rt);
-                }
+                self.tell_change(rt, alloc, lines, all, &change);
             }
         } else if sight.left > 0 && self.progress.take(now) {
             self.told = sight;
