@@ -24,17 +24,14 @@ fn are_free(slots: &mut LateSlots) -> io::Result<bool> {
     Ok(!are_marked(&first, &second))
 }
 
-/// Opens the file of this leg once more, and reads the superblock inside it.
-pub(crate) fn read_inside<R: Files<File = File>>(
-    rt: &R,
+// Reads the superblock that stands from this byte of the file on.
+fn read_slots(
     alloc: Global,
-    name: &str,
-    leg: &File,
+    file: File,
     from: u64,
     limit: &CallLimit,
 ) -> Result<FoundSlots, Unopened> {
-    let opened = OpenOptions::new().read(true).write(true).open(rt, name);
-    let Ok(slots) = LateSlots::here(alloc, again(opened, leg)?, from, limit) else {
+    let Ok(slots) = LateSlots::here(alloc, file, from, limit) else {
         return Err(no_memory());
     };
     let mut slots = slots;
@@ -47,6 +44,19 @@ pub(crate) fn read_inside<R: Files<File = File>>(
         Ok(found) => Ok((Some(found), None)),
         Err(error) => Err(Unopened::by(error)),
     }
+}
+
+/// Opens the file of this leg once more, and reads the superblock inside it.
+pub(crate) fn read_inside<R: Files<File = File>>(
+    rt: &R,
+    alloc: Global,
+    name: &str,
+    leg: &File,
+    from: u64,
+    limit: &CallLimit,
+) -> Result<FoundSlots, Unopened> {
+    let opened = OpenOptions::new().read(true).write(true).open(rt, name);
+    read_slots(alloc, again(opened, leg)?, from, limit)
 }
 
 // Blanks the slots inside a leg where they hold nothing that a start goes by: it takes part.

@@ -27,6 +27,7 @@ use nm_lanes::NoGate;
 use nm_leg_files::{BytesRead, FileMirror, Leg, LegFiles};
 use nm_mirror::{InitialSync, Mirror};
 use nm_reports::{Comparison, LogLines, StartFault, tell_progress};
+use nm_stripe::Stripe;
 use nm_superblock::Superblock;
 use std::alloc::Global;
 use std::fs::File;
@@ -79,6 +80,38 @@ fn open_changed<'a, R: Files<File = File>>(
     })
 }
 
+// The mirror of these stripes, without superblocks.
+fn open_unkept<'a>(
+    alloc: Global,
+    shape: Shape,
+    stripes: Vec<Stripe<Leg>>,
+) -> Result<OpenedMirror, StartFault<'a>>
+    requires { AreStripesOf shape stripes.items }
+{
+    let open = open_gates(alloc, &shape, stripes)?;
+    Ok(OpenedMirror {
+        mirror: mirror_of(alloc, shape, open)?,
+        superblocks: None,
+    })
+}
+
+// The mirror of these stripes, which gets its first superblocks.
+fn open_first<'a, R: Files<File = File>>(
+    rt: &R,
+    alloc: Global,
+    shape: Shape,
+    stripes: Vec<Stripe<Leg>>,
+    kept: KeptImage,
+) -> Result<OpenedMirror, StartFault<'a>>
+    requires { AreStripesOf shape stripes.items }
+{
+    let (gated, superblocks) = kept.gate(rt, alloc, &shape, stripes)?;
+    Ok(OpenedMirror {
+        mirror: mirror_of(alloc, shape, gated)?,
+        superblocks: Some(superblocks),
+    })
+}
+
 // The mirror over the legs' files, which its stripes share, as legs stand that no superblock tells
 // of, or that are compared. It gets its first superblocks, if they are kept.
 fn open_mirror<'a, R: Files<File = File>>(
@@ -100,20 +133,16 @@ fn open_mirror<'a, R: Files<File = File>>(
     };
     let stripes = open_untold(alloc, settings, files, &shape, read)?;
     match kept {
-        None => {
-            let open = open_gates(alloc, &shape, stripes)?;
-            Ok(OpenedMirror {
-                mirror: mirror_of(alloc, shape, open)?,
-                superblocks: None,
-            })
-        }
-        Some(kept) => {
-            let (gated, superblocks) = kept.gate(rt, alloc, &shape, stripes)?;
-            Ok(OpenedMirror {
-                mirror: mirror_of(alloc, shape, gated)?,
-                superblocks: Some(superblocks),
-            })
-        }
+        None => open_unkept(alloc, shape, stripes),
+        Some(kept) => open_first(rt, alloc, shape, stripes, kept),
+    }
+}
+
+// A count of the bytes that are read of all legs: none so far.
+fn none_read<'a>(alloc: Global) -> Result<BytesRead, StartFault<'a>> {
+    match Arc::new(alloc, AtomicU64::new(0)) {
+        Ok(read) => Ok(read),
+        Err(_) => Err(StartFault::Memory),
     }
 }
 
@@ -131,9 +160,7 @@ fn open_watched<'a, R, M: Meanwhile + Sync>(
 where
     R: Threads + Wait + Sync + Clock + Files<File = File>,
 {
-    let Ok(read) = Arc::new(alloc, AtomicU64::new(0)) else {
-        return Err(StartFault::Memory);
-    };
+    let read = none_read(alloc)?;
     if start_for(settings.opening.start) == InitialSync::Full || settings.mirror.legs.len() < 2 {
         return open_mirror(rt, alloc, settings, files, &read, kept);
     }
@@ -163,9 +190,7 @@ fn open_image<'a, R: Files<File = File>>(
     files: &LegFiles,
     kept: KeptImage,
 ) -> Result<OpenedMirror, StartFault<'a>> {
-    let Ok(read) = Arc::new(alloc, AtomicU64::new(0)) else {
-        return Err(StartFault::Memory);
-    };
+    let read = none_read(alloc)?;
     let shape = shape_by(mirror, files, &kept.image)?;
     let (gated, superblocks) = gate_by_image(rt, alloc, mirror.policy, files, &shape, &read, kept)?;
     Ok(OpenedMirror {
@@ -246,6 +271,49 @@ fn see_legs<'a, R: Files<File = File> + Wait>(
     Ok((seen, newest))
 }
 
+// What a start by superblocks goes by.
+#[derive(Clone, Copy)]
+struct GoneBy {
+    // The image that it saves.
+    image: Superblock,
+    // The newest superblock that was found.
+    newest: Option<Superblock>,
+    // Whether the mirror gets its first superblocks.
+    is_first: bool,
+    // Whether the legs are compared, since all of them were changed.
+    is_compared: bool,
+}
+
+// What the start goes by, of the superblocks in these places. The files of legs that it does not
+// take are let go of.
+fn choose_image<'a, R>(
+    rt: &R,
+    alloc: Global,
+    settings: &Settings<'a>,
+    files: &mut LegFiles,
+    places: &mut FoundPlaces,
+    lines: &LogLines,
+) -> Result<GoneBy, StartFault<'a>>
+where
+    R: Wait + RandomSource + Files<File = File>,
+{
+    let opening = &settings.opening;
+    let (seen, newest) = see_legs(rt, alloc, opening, files, places, lines)?;
+    let (told, is_compared) = gone_by(rt, alloc, opening, &seen, lines);
+    let (image, is_first) = image_for(rt, settings, files, &told, draw_id(rt)?)?;
+    if is_first {
+        check_first(opening, files, &places.new)?;
+    }
+    files.keep_own(alloc, &taken_legs(opening, &told), &changed_here(&seen))?;
+    files.record(&image);
+    Ok(GoneBy {
+        image,
+        newest,
+        is_first,
+        is_compared,
+    })
+}
+
 // The mirror that superblocks open, or that gets its first ones.
 fn open_kept<'a, R, M: Meanwhile + Sync>(
     rt: &R,
@@ -258,27 +326,19 @@ fn open_kept<'a, R, M: Meanwhile + Sync>(
 where
     R: Threads + Wait + Sync + Clock + RandomSource + Files<File = File>,
 {
-    let opening = &settings.opening;
-    check_all_named(opening, files)?;
+    check_all_named(&settings.opening, files)?;
     let mut places = FoundPlaces::open(rt, alloc, settings, files)?;
-    let (seen, went_by) = see_legs(rt, alloc, opening, files, &mut places, lines)?;
-    let (told, is_compared) = gone_by(rt, alloc, opening, &seen, lines);
-    let (image, is_first) = image_for(rt, settings, files, &told, draw_id(rt)?)?;
-    if is_first {
-        check_first(opening, files, &places.new)?;
-    }
-    files.keep_own(alloc, &taken_legs(opening, &told), &changed_here(&seen))?;
-    files.record(&image);
-    let above = places.above_old(image);
+    let by = choose_image(rt, alloc, settings, files, &mut places, lines)?;
+    let above = places.above_old(by.image);
     let FoundPlaces { new, old } = places;
     let kept = KeptImage {
         files: new,
         image: above,
         here: files.here(),
-        went_by,
-        is_compared,
+        went_by: by.newest,
+        is_compared: by.is_compared,
     };
-    let opened = if is_first || is_compared {
+    let opened = if by.is_first || by.is_compared {
         open_watched(rt, alloc, settings, files, meanwhile, lines, Some(kept))?
     } else {
         open_image(rt, alloc, &settings.mirror, files, kept)?

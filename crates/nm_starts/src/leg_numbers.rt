@@ -66,6 +66,21 @@ fn in_order<'a>(
     Ok(sorted)
 }
 
+// Tells which legs the files of these names are that say it.
+fn tell_numbers<R: Wait>(
+    rt: &R,
+    alloc: Global,
+    names: &[&str],
+    said: &[Option<u8>; 8],
+    lines: &LogLines,
+) {
+    for (name, own) in names.iter().zip(said.iter()) {
+        if let Some(leg) = own {
+            lines.inform(rt, format!(in alloc; "{name} is leg {leg}"));
+        }
+    }
+}
+
 /// Puts the legs' names in the order of the numbers that the superblocks inside their files say,
 /// and tells them. A file without one has one of the numbers that are left.
 pub fn sort_legs<'a, R: Files<File = File> + Wait>(
@@ -83,11 +98,7 @@ pub fn sort_legs<'a, R: Files<File = File> + Wait>(
         Ok(numbers) => numbers,
         Err(why) => return Err(misnumbered(&settings.mirror.legs, why)),
     };
-    for (name, own) in settings.mirror.legs.iter().zip(said.iter()) {
-        if let Some(leg) = own {
-            lines.inform(rt, format!(in alloc; "{name} is leg {leg}"));
-        }
-    }
+    tell_numbers(rt, alloc, &settings.mirror.legs, &said, lines);
     settings.mirror.legs = in_order(alloc, &settings.mirror.legs, &numbers)?;
     Ok(())
 }

@@ -19,6 +19,7 @@ mod kept;
 mod kept_mirror;
 pub mod laws;
 mod leg_numbers;
+mod made_files;
 mod meanwhile;
 mod moving;
 mod needs;

@@ -16,6 +16,17 @@ use std::random::RandomSource;
 /// How many regions the spans of one number have in all stripes: 64 MiB.
 const SPAN_REGIONS: u32 = 1024;
 
+// New ids of so many legs, leg 0's first.
+fn draw_leg_ids<'a, R: RandomSource>(rt: &R, legs: u8) -> Result<[u64; 8], StartFault<'a>> {
+    let mut leg_ids = [0; 8];
+    for leg in 0..legs as usize {
+        if let Some(id) = leg_ids.get_mut(leg) {
+            *id = draw_id(rt)?;
+        }
+    }
+    Ok(leg_ids)
+}
+
 // The image of a mirror's first superblocks: without a named master all legs are found equal, or
 // taken to be.
 fn first_image<'a, R: RandomSource>(
@@ -25,12 +36,7 @@ fn first_image<'a, R: RandomSource>(
     legs: &LegsHere,
     lineage: u64,
 ) -> Result<Superblock, StartFault<'a>> {
-    let mut leg_ids = [0; 8];
-    for leg in 0..shape.legs as usize {
-        if let Some(id) = leg_ids.get_mut(leg) {
-            *id = draw_id(rt)?;
-        }
-    }
+    let leg_ids = draw_leg_ids(rt, shape.legs)?;
     let new = NewMirror {
         mirror: draw_mirror_id(rt)?,
         blocks: shape.blocks,
@@ -72,6 +78,57 @@ fn renew_ids<'a, R: RandomSource>(
     Ok(())
 }
 
+// The image of the first superblocks of the mirror that the settings ask for.
+fn first_for<'a, R: RandomSource>(
+    rt: &R,
+    settings: &Settings<'a>,
+    files: &LegFiles,
+    seen: &FoundLegs,
+    lineage: u64,
+) -> Result<Superblock, StartFault<'a>> {
+    check_added(settings, false)?;
+    // Without superblocks nobody knows what a missing leg has.
+    if let Some((leg, why)) = files.missing() {
+        return Err(StartFault::CannotOpen(leg, why));
+    }
+    let Some(shape) = files.shape(settings.mirror.stripes, settings.mirror.history) else {
+        return Err(StartFault::Memory);
+    };
+    first_image(rt, &settings.opening, &shape, &seen.legs, lineage)
+}
+
+// Refuses legs beyond the first so many, which superblocks know, where they were not added, or are
+// missing.
+fn check_beyond<'a>(
+    settings: &Settings<'a>,
+    files: &LegFiles,
+    known: u8,
+) -> Result<(), StartFault<'a>> {
+    check_known(settings, known)?;
+    for leg in known..settings.mirror.legs.len().min(8) as u8 {
+        files.check_named(Some(leg))?;
+    }
+    Ok(())
+}
+
+// The image that superblocks have, with the legs that are added to those that it knows.
+fn with_all_legs<'a, R: RandomSource>(
+    rt: &R,
+    settings: &Settings<'a>,
+    files: &LegFiles,
+    seen: &FoundLegs,
+    image: Superblock,
+) -> Result<Superblock, StartFault<'a>> {
+    let mut image = image;
+    check_unshrunk(&settings.opening)?;
+    if settings.opening.force_master.is_none() {
+        check_beyond(settings, files, image.legs)?;
+    }
+    renew_ids(rt, &mut image, &taken_legs(&settings.opening, seen))?;
+    image.legs = image.legs.max(settings.mirror.legs.len().min(8) as u8);
+    Ok(image)
+}
+
 /// The image that the legs are opened by, and whether it is the first of a mirror.
 pub fn image_for<'a, R: RandomSource>(
     rt: &R,
@@ -81,30 +138,7 @@ pub fn image_for<'a, R: RandomSource>(
     lineage: u64,
 ) -> Result<(Superblock, bool), StartFault<'a>> {
     match choose(&settings.opening, seen, lineage)? {
-        Choice::First => {
-            check_added(settings, false)?;
-            // Without superblocks nobody knows what a missing leg has.
-            if let Some((leg, why)) = files.missing() {
-                return Err(StartFault::CannotOpen(leg, why));
-            }
-            let Some(shape) = files.shape(settings.mirror.stripes, settings.mirror.history) else {
-                return Err(StartFault::Memory);
-            };
-            let image = first_image(rt, &settings.opening, &shape, &seen.legs, lineage)?;
-            Ok((image, true))
-        }
-        Choice::Image(image) => {
-            let mut image = image;
-            check_unshrunk(&settings.opening)?;
-            if settings.opening.force_master.is_none() {
-                check_known(settings, image.legs)?;
-                for leg in image.legs..settings.mirror.legs.len().min(8) as u8 {
-                    files.check_named(Some(leg))?;
-                }
-            }
-            renew_ids(rt, &mut image, &taken_legs(&settings.opening, seen))?;
-            image.legs = image.legs.max(settings.mirror.legs.len().min(8) as u8);
-            Ok((image, false))
-        }
+        Choice::First => Ok((first_for(rt, settings, files, seen, lineage)?, true)),
+        Choice::Image(image) => Ok((with_all_legs(rt, settings, files, seen, image)?, false)),
     }
 }

@@ -3,6 +3,7 @@ ghost use Rattle.std.specs.Prelude.{◌≡◌, ◌⊎◌, ◌<◌, ◌≤◌, �
 ghost use Rattle.std.specs.Prelude.{slice_index_or};
 ghost use Rattle.nm_assemble.specs.Image.{IsClosedTo};
 ghost use Rattle.nm_assemble.specs.Start.{IsNewest};
+ghost use Rattle.nm_assemble.specs.declared.assembly.AssembleFault.TheVariants.{Unfit};
 ghost use Rattle.nm_starts.specs.SuperblockChoice.{Chooses, IsAssembled, IsSureOr, MayBeAsked};
 ghost use Rattle.nm_starts.specs.SuperblockChoice.{RefusesChoice, Takes, leg_said, told};
 
@@ -60,24 +61,33 @@ fn time_in(times: &[u64; 8], leg: usize) -> u64
     if leg < 8 { times[leg] } else { 0 }
 }
 
-// What is told where superblocks do not decide.
-fn told<'a>(why: AssembleFault, seen: &FoundLegs, newest: &Superblock) -> StartFault<'a>
-    ensures { result ≡ told why seen.now newest.now }
+// What is told of a leg whose superblock does not go with the newest one.
+fn misfit_told<'a>(leg: usize, why: Misfit, seen: &FoundLegs, newest: &Superblock) -> StartFault<'a>
+    ensures { result ≡ told (Unfit leg why) seen.now newest.now }
 {
     match why {
-        AssembleFault::NoSuperblock => StartFault::Memory,
-        AssembleFault::Unfit(leg, Misfit::OtherMirror) => StartFault::OtherMirror(leg),
-        AssembleFault::Unfit(leg, Misfit::OtherLeg) => {
+        Misfit::OtherMirror => StartFault::OtherMirror(leg),
+        Misfit::OtherLeg => {
             let said = match seen.found.get(leg) {
                 Some(beside) => leg_said(beside),
                 None => 0,
             };
             StartFault::OtherLeg(leg, said)
         }
-        AssembleFault::Unfit(leg, Misfit::Apart) => {
+        Misfit::Apart => {
             let other = newest.leg as usize;
             StartFault::WentApart(leg.min(other), leg.max(other))
         }
+    }
+}
+
+// What is told where superblocks do not decide.
+fn told<'a>(why: AssembleFault, seen: &FoundLegs, newest: &Superblock) -> StartFault<'a>
+    ensures { result ≡ told why seen.now newest.now }
+{
+    match why {
+        AssembleFault::NoSuperblock => StartFault::Memory,
+        AssembleFault::Unfit(leg, why) => misfit_told(leg, why, seen, newest),
         AssembleFault::Mixed(leg, other) => StartFault::WasLeg(leg, other),
         AssembleFault::Another(leg) => StartFault::AnotherFile(leg),
         AssembleFault::Changed(leg) => {

@@ -3,10 +3,11 @@ ghost use Rattle.std.specs.Prelude.{◌≡◌, IfOk};
 ghost use Rattle.nm_saves.specs.Files.{AreFound};
 
 use crate::inside_slots::{FoundSlots, holds_none, make_inside, read_inside};
+use crate::made_files::Made;
 use nm_commands::{MirrorSettings, SuperblockPlace};
 use nm_leg_files::{
-    CallLimit, LateFile, LateSlots, LateSuperblock, LegFiles, SlotsAt, blank_file, bytes_of,
-    no_memory, open_locked, open_or_make,
+    CallLimit, LateFile, LateSlots, LateSuperblock, LegFiles, SlotsAt, bytes_of, no_memory,
+    open_locked,
 };
 use nm_reports::{LogLines, StartFault, Unopened, superblock_name};
 use nm_saves::{SuperblockFile, SuperblockFiles, found_beside};
@@ -50,67 +51,20 @@ pub struct AllFiles {
     made: Made,
 }
 
-// What a start has made: these files, and what is inside legs in these slots.
-#[derive(Drop)]
-struct Made {
-    files: [bool; 8],
-    slots: Vec<LateSlots>,
-}
-
-// Removes these of the files of these names, and what is in these slots.
-fn remove<R: Files<File = File>>(rt: &R, names: &[String], made: &Made) {
-    for (name, is_made) in names.iter().zip(made.files.iter()) {
-        if *is_made {
-            let _ = rt.remove_file(name.as_str());
-        }
-    }
-    for slots in &made.slots {
-        let _ = slots.clear();
-    }
-}
-
-impl Made {
-    // Makes the superblock's file of this leg, with this superblock in it, or none yet. It is noted
-    // as made by this start where nothing had its name.
-    fn make<'a, R: Files<File = File>>(
-        &mut self,
-        rt: &R,
-        alloc: Global,
-        leg: usize,
-        name: &str,
-        first: Option<Superblock>,
-        limit: &CallLimit,
-    ) -> Result<SuperblockFile<LateSlots>, StartFault<'a>> {
-        if let Some(is_made) = self.files.get_mut(leg) {
-            *is_made = rt.symlink_metadata(name).is_err();
-        }
-        match make_file(rt, alloc, name, first, limit) {
-            Ok(made) => Ok(made),
-            Err(why) => Err(StartFault::CannotSave(leg, why)),
-        }
-    }
-}
-
 impl AllFiles {
     /// Removes the files that this start has made: it is refused.
     pub fn remove_made<R: Files<File = File>>(&self, rt: &R) {
-        remove(rt, &self.names, &self.made);
+        self.made.remove(rt, &self.names);
     }
 }
 
-// Opens, locks and reads the superblock's file of this name, if there is one. One that is shorter
-// than it is made to be was cut off while it was made, and never held a superblock.
-fn read_file<R: Files<File = File>>(
-    rt: &R,
+// Reads the superblock's file that was opened. One that is shorter than it is made to be was cut
+// off while it was made, and never held a superblock.
+fn read_opened(
     alloc: Global,
-    name: &str,
+    file: File,
     limit: &CallLimit,
 ) -> Result<Option<SuperblockFile<LateSlots>>, Unopened> {
-    let file = match open_locked(rt, name) {
-        Ok(file) => file,
-        Err(Unopened::System(error)) if error.kind() == ErrorKind::NotFound => return Ok(None),
-        Err(why) => return Err(why),
-    };
     match bytes_of(&file) {
         Some(bytes) if bytes >= FILE_BYTES => (),
         _ => return Ok(None),
@@ -124,22 +78,18 @@ fn read_file<R: Files<File = File>>(
     }
 }
 
-// Makes the superblock's file of this name, and has the folder keep it: with this superblock in it,
-// or none yet.
-fn make_file<R: Files<File = File>>(
+// Opens, locks and reads the superblock's file of this name, if there is one.
+fn read_file<R: Files<File = File>>(
     rt: &R,
     alloc: Global,
     name: &str,
-    first: Option<Superblock>,
     limit: &CallLimit,
-) -> Result<SuperblockFile<LateSlots>, Unopened> {
-    let mut made = blank_file(alloc, open_or_make(rt, name), limit)?;
-    if let Some(superblock) = first {
-        if let Err(error) = made.save(&superblock) {
-            return Err(Unopened::by(error));
-        }
+) -> Result<Option<SuperblockFile<LateSlots>>, Unopened> {
+    match open_locked(rt, name) {
+        Ok(file) => read_opened(alloc, file, limit),
+        Err(Unopened::System(error)) if error.kind() == ErrorKind::NotFound => Ok(None),
+        Err(why) => Err(why),
     }
-    Ok(made)
 }
 
 // The superblock that is moved as it is into the file of this leg, which is not here.
@@ -192,7 +142,58 @@ fn find_slots<R: Files<File = File>>(
     }
 }
 
+// Whether the superblock's file of a leg is still to be made or opened. What stands under the name
+// of a missing leg's superblock and holds none is opened anew with the leg.
+fn is_lacking(
+    place: &mut Option<SuperblockFile<LateSlots>>,
+    is_here: bool,
+    is_carried: bool,
+) -> bool {
+    if is_carried || !is_here && matches!(&*place, Some(file) if holds_none(file)) {
+        *place = None;
+    }
+    place.is_none()
+}
+
 impl FoundFiles {
+    // None so far, of superblocks that stand there in the files.
+    fn none(alloc: Global, at: SlotsAt, limits: Vec<CallLimit>) -> FoundFiles {
+        FoundFiles {
+            files: Vec::new(alloc),
+            names: Vec::new(alloc),
+            at,
+            free: Vec::new(alloc),
+            limits,
+            made: Made::nothing(alloc),
+            carried: Vec::new(alloc),
+        }
+    }
+
+    // Opens, locks and reads the file of this name for a leg, whose own file this one is. That of a
+    // leg that is not here may be unreadable: then none is there.
+    fn add<'a, R: Files<File = File>>(
+        &mut self,
+        rt: &R,
+        alloc: Global,
+        leg: usize,
+        name: String,
+        own: Option<&File>,
+    ) -> Result<(), StartFault<'a>> {
+        let Some(limit) = self.limits.get(leg) else {
+            return Ok(());
+        };
+        let (file, slots) = match find_slots(rt, alloc, name.as_str(), self.at, own, limit) {
+            Ok(found) => found,
+            Err(Unopened::System(_)) if own.is_none() => (None, None),
+            Err(why) => return Err(StartFault::CannotSave(leg, why)),
+        };
+        let is_kept = self.files.push(file).is_ok() && self.names.push(name).is_ok();
+        if !is_kept || self.free.push(slots).is_err() {
+            return Err(StartFault::Memory);
+        }
+        Ok(())
+    }
+
     /// Opens, locks and reads the files that are in this place, leg after leg. That of a leg that
     /// is not here may be unreadable: then none is there.
     pub fn open<'a, R: Files<File = File>>(
@@ -203,37 +204,14 @@ impl FoundFiles {
         legs: &LegFiles,
     ) -> Result<FoundFiles, StartFault<'a>> {
         let (at, limits) = (SlotsAt::of(place, legs.export_bytes()), legs.limits(alloc)?);
-        let (mut files, mut names, mut free) = (Vec::new(alloc), Vec::new(alloc), Vec::new(alloc));
+        let mut found = FoundFiles::none(alloc, at, limits);
         for (leg, own) in mirror.legs.iter().enumerate() {
             let Some(name) = superblock_name(alloc, place, leg, own)? else {
                 continue;
             };
-            let Some(limit) = limits.get(leg) else {
-                continue;
-            };
-            let own = legs.file(leg);
-            let (file, slots) = match find_slots(rt, alloc, name.as_str(), at, own, limit) {
-                Ok(found) => found,
-                Err(Unopened::System(_)) if own.is_none() => (None, None),
-                Err(why) => return Err(StartFault::CannotSave(leg, why)),
-            };
-            let is_kept = files.push(file).is_ok() && names.push(name).is_ok();
-            if !is_kept || free.push(slots).is_err() {
-                return Err(StartFault::Memory);
-            }
+            found.add(rt, alloc, leg, name, legs.file(leg))?;
         }
-        Ok(FoundFiles {
-            files,
-            names,
-            at,
-            free,
-            limits,
-            made: Made {
-                files: [false; 8],
-                slots: Vec::new(alloc),
-            },
-            carried: Vec::new(alloc),
-        })
+        Ok(found)
     }
 
     /// The superblocks that they hold: none in a file that is damaged.
@@ -259,6 +237,52 @@ impl FoundFiles {
         }
     }
 
+    // Makes the superblock's place inside a leg that has none so far.
+    fn complete_inside<'a>(&mut self, leg: usize) -> Result<(), StartFault<'a>> {
+        let Some(place) = self.files.get_mut(leg) else {
+            return Ok(());
+        };
+        match make_inside(place, self.free.get_mut(leg), &mut self.made.slots) {
+            Ok(()) => Ok(()),
+            Err(why) => Err(StartFault::CannotSave(leg, why)),
+        }
+    }
+
+    // Makes the file of a leg, with this superblock in it, or none yet.
+    fn make_file_of<'a, R: Files<File = File>>(
+        &mut self,
+        rt: &R,
+        alloc: Global,
+        leg: usize,
+        first: Option<Superblock>,
+    ) -> Result<(), StartFault<'a>> {
+        let (Some(name), Some(limit)) = (self.names.get(leg), self.limits.get(leg)) else {
+            return Ok(());
+        };
+        let made = self.made.make(rt, alloc, leg, name.as_str(), first, limit)?;
+        if let Some(place) = self.files.get_mut(leg) {
+            *place = Some(made);
+        }
+        Ok(())
+    }
+
+    // Has the file of a leg that is missing opened later.
+    fn leave_for_later<'a>(
+        &mut self,
+        alloc: Global,
+        leg: usize,
+        went_by: Superblock,
+    ) -> Result<Option<LateSuperblock>, StartFault<'a>> {
+        let (Some(name), Some(limit)) = (self.names.get(leg), self.limits.get(leg)) else {
+            return Ok(None);
+        };
+        let (slots, late) = late_file(alloc, leg, name.as_str(), self.at, went_by, limit)?;
+        if let Some(place) = self.files.get_mut(leg) {
+            *place = Some(slots);
+        }
+        Ok(Some(late))
+    }
+
     // Makes the file of a leg that has none so far; that of a missing leg is opened later.
     fn complete_leg<'a, R: Files<File = File>>(
         &mut self,
@@ -268,38 +292,26 @@ impl FoundFiles {
         is_here: bool,
         went_by: Option<Superblock>,
     ) -> Result<Option<LateSuperblock>, StartFault<'a>> {
-        let (Some(place), Some(name)) = (self.files.get_mut(leg), self.names.get(leg)) else {
-            return Ok(None);
-        };
-        let Some(limit) = self.limits.get(leg) else {
-            return Ok(None);
-        };
         if is_here && self.at.is_inside() {
-            return match make_inside(place, self.free.get_mut(leg), &mut self.made.slots) {
-                Ok(()) => Ok(None),
-                Err(why) => Err(StartFault::CannotSave(leg, why)),
-            };
+            self.complete_inside(leg)?;
+            return Ok(None);
         }
         let carried = carried_to(&self.carried, leg, is_here);
-        // What stands under the name of a missing leg's superblock and holds none is opened anew
-        // with the leg.
-        if carried.is_some() || !is_here && matches!(&*place, Some(file) if holds_none(file)) {
-            *place = None;
-        }
-        if place.is_some() {
-            return Ok(None);
-        }
-        if is_here || carried.is_some() {
-            let name = name.as_str();
-            *place = Some(self.made.make(rt, alloc, leg, name, carried, limit)?);
-            return Ok(None);
-        }
-        let Some(went_by) = went_by else {
+        let is_carried = carried.is_some();
+        let Some(place) = self.files.get_mut(leg) else {
             return Ok(None);
         };
-        let (slots, late) = late_file(alloc, leg, name.as_str(), self.at, went_by, limit)?;
-        *place = Some(slots);
-        Ok(Some(late))
+        if !is_lacking(place, is_here, is_carried) {
+            return Ok(None);
+        }
+        if is_here || is_carried {
+            self.make_file_of(rt, alloc, leg, carried)?;
+            return Ok(None);
+        }
+        match went_by {
+            Some(went_by) => self.leave_for_later(alloc, leg, went_by),
+            None => Ok(None),
+        }
     }
 
     // Does so for each leg. What is opened later is told.
@@ -340,7 +352,7 @@ impl FoundFiles {
         let late = match own.complete_legs(rt, alloc, here, went_by) {
             Ok(late) => late,
             Err(fault) => {
-                remove(rt, &own.names, &own.made);
+                own.made.remove(rt, &own.names);
                 return Err(fault);
             }
         };
