@@ -3,14 +3,14 @@
 //! A file is told by its number in its file system and the time of its birth, a device by what the
 //! system has of it in `/sys/dev/block`.
 
-use crate::in_use::{device_of, line_of};
+use crate::in_use::{device_folder, device_of, line_of};
 use crate::kernel_tables::{device_number, mount_of};
-use crate::system_files::contents;
+use crate::system_files::{contents, contents_in};
 use std::alloc::{AllocError, Global};
 use std::fs::{File, Metadata};
 use std::os::unix::fs::{FileTypeExt, MetadataExt};
 use std::rt::Files;
-use std::time::SystemTime;
+use std::time::{Duration, SystemTime};
 
 /// Where a device's folder has what it is told by: the first that is there.
 static NAMES: [&str; 6] = [
@@ -48,16 +48,19 @@ fn is_kept<R: Files<File = File>>(rt: &R, alloc: Global, device: u64) -> Result<
     Ok(true)
 }
 
+// When the file that has these metadata was born, from 1970 on.
+fn birth_of(metadata: &Metadata) -> Option<Duration> {
+    let born = metadata.created().ok()?;
+    born.duration_since(SystemTime::UNIX_EPOCH).ok()
+}
+
 // What tells the file that has these metadata, where its file system keeps that.
 fn of_file<R: Files<File = File>>(
     rt: &R,
     alloc: Global,
     metadata: &Metadata,
 ) -> Result<Option<String>, AllocError> {
-    let Ok(born) = metadata.created() else {
-        return Ok(None);
-    };
-    let Ok(since) = born.duration_since(SystemTime::UNIX_EPOCH) else {
+    let Some(since) = birth_of(metadata) else {
         return Ok(None);
     };
     if !is_kept(rt, alloc, metadata.dev())? {
@@ -75,10 +78,25 @@ fn word<R: Files<File = File>>(
     folder: &str,
     name: &str,
 ) -> Result<Option<String>, AllocError> {
-    let bytes = contents(rt, alloc, &format!(in alloc; "{folder}/{name}")?)?;
+    let bytes = contents_in(rt, alloc, folder, name)?;
     match str::from_utf8(line_of(&bytes)) {
         Ok(text) if !text.trim().is_empty() => Ok(Some(String::from_str(alloc, text.trim())?)),
         _ => Ok(None),
+    }
+}
+
+// What tells the file behind the loop device with this folder.
+fn of_backing<R: Files<File = File>>(
+    rt: &R,
+    alloc: Global,
+    folder: &str,
+) -> Result<Option<String>, AllocError> {
+    let Some(path) = word(rt, alloc, folder, "loop/backing_file")? else {
+        return Ok(None);
+    };
+    match rt.metadata(path.as_str()) {
+        Ok(metadata) => of_file(rt, alloc, &metadata),
+        Err(_) => Ok(None),
     }
 }
 
@@ -88,13 +106,7 @@ fn of_loop<R: Files<File = File>>(
     alloc: Global,
     folder: &str,
 ) -> Result<Option<String>, AllocError> {
-    let Some(path) = word(rt, alloc, folder, "loop/backing_file")? else {
-        return Ok(None);
-    };
-    let Ok(metadata) = rt.metadata(path.as_str()) else {
-        return Ok(None);
-    };
-    let Some(file) = of_file(rt, alloc, &metadata)? else {
+    let Some(file) = of_backing(rt, alloc, folder)? else {
         return Ok(None);
     };
     let offset = word(rt, alloc, folder, "loop/offset")?.unwrap_or(String::new(alloc));
@@ -115,6 +127,19 @@ fn of_disk<R: Files<File = File>>(
     of_loop(rt, alloc, folder)
 }
 
+// What tells the partition with this folder, which has this number on its disk.
+fn of_partition<R: Files<File = File>>(
+    rt: &R,
+    alloc: Global,
+    folder: &str,
+    partition: &str,
+) -> Result<Option<String>, AllocError> {
+    match of_disk(rt, alloc, &format!(in alloc; "{folder}/..")?)? {
+        Some(disk) => Ok(Some(format!(in alloc; "partition {partition} {disk}")?)),
+        None => Ok(None),
+    }
+}
+
 // What tells the block device of this number.
 fn of_device<R: Files<File = File>>(
     rt: &R,
@@ -122,13 +147,10 @@ fn of_device<R: Files<File = File>>(
     device: u64,
 ) -> Result<Option<String>, AllocError> {
     let (major, minor) = device_of(device);
-    let folder = format!(in alloc; "/sys/dev/block/{major}:{minor}")?;
-    let Some(partition) = word(rt, alloc, &folder, "partition")? else {
-        return of_disk(rt, alloc, &folder);
-    };
-    match of_disk(rt, alloc, &format!(in alloc; "{folder}/..")?)? {
-        Some(disk) => Ok(Some(format!(in alloc; "partition {partition} {disk}")?)),
-        None => Ok(None),
+    let folder = device_folder(alloc, major, minor)?;
+    match word(rt, alloc, &folder, "partition")? {
+        Some(partition) => of_partition(rt, alloc, &folder, &partition),
+        None => of_disk(rt, alloc, &folder),
     }
 }
 

@@ -6,7 +6,7 @@
 //! cannot be read counts as not in use.
 
 use crate::kernel_tables::{device_number, mount_of, swap_of, unescaped};
-use crate::system_files::{contents, names};
+use crate::system_files::{contents, contents_in, names};
 use std::alloc::{AllocError, Global};
 use std::fs::{File, Metadata};
 use std::os::unix::fs::{FileTypeExt, MetadataExt};
@@ -29,6 +29,11 @@ pub fn device_of(device: u64) -> (u64, u64) {
     let major = (device >> 8) & 0xfff | (device >> 32) & 0xffff_f000;
     let minor = device & 0xff | (device >> 12) & 0xffff_ff00;
     (major, minor)
+}
+
+/// The system's folder of the device of this major and minor number.
+pub fn device_folder(alloc: Global, major: u64, minor: u64) -> Result<String, AllocError> {
+    format!(in alloc; "/sys/dev/block/{major}:{minor}")
 }
 
 // What the metadata are of.
@@ -62,13 +67,23 @@ impl Storage {
         nodes.push(node)?;
         let mut storage = Storage { nodes };
         if let Node::Device(major, minor) = node {
-            let folder = format!(in alloc; "/sys/dev/block/{major}:{minor}")?;
-            storage.add_partitions(rt, alloc, &folder)?;
-            if !contents(rt, alloc, &format!(in alloc; "{folder}/partition")?)?.is_empty() {
-                storage.add_device(rt, alloc, &format!(in alloc; "{folder}/../dev")?)?;
-            }
+            storage.add_related(rt, alloc, &device_folder(alloc, major, minor)?)?;
         }
         Ok(storage)
+    }
+
+    // Adds the partitions of the device with this folder, and the disk that it is a partition of.
+    fn add_related<R: Files<File = File>>(
+        &mut self,
+        rt: &R,
+        alloc: Global,
+        folder: &str,
+    ) -> Result<(), AllocError> {
+        self.add_partitions(rt, alloc, folder)?;
+        if !contents_in(rt, alloc, folder, "partition")?.is_empty() {
+            self.add_device(rt, alloc, folder, "../dev")?;
+        }
+        Ok(())
     }
 
     // Adds the partitions that a device's folder has.
@@ -79,25 +94,35 @@ impl Storage {
         folder: &str,
     ) -> Result<(), AllocError> {
         for name in names(rt, alloc, folder)?.split(|byte| *byte == 0) {
-            let Ok(name) = str::from_utf8(name) else {
-                continue;
-            };
-            let partition = format!(in alloc; "{folder}/{name}/partition")?;
-            if !contents(rt, alloc, &partition)?.is_empty() {
-                self.add_device(rt, alloc, &format!(in alloc; "{folder}/{name}/dev")?)?;
+            if let Ok(name) = str::from_utf8(name) {
+                self.add_partition(rt, alloc, &format!(in alloc; "{folder}/{name}")?)?;
             }
         }
         Ok(())
     }
 
-    // Adds the device whose number this file has.
+    // Adds the partition with this folder, where it is one.
+    fn add_partition<R: Files<File = File>>(
+        &mut self,
+        rt: &R,
+        alloc: Global,
+        folder: &str,
+    ) -> Result<(), AllocError> {
+        if !contents_in(rt, alloc, folder, "partition")?.is_empty() {
+            self.add_device(rt, alloc, folder, "dev")?;
+        }
+        Ok(())
+    }
+
+    // Adds the device whose number the file of this name in this folder has.
     fn add_device<R: Files<File = File>>(
         &mut self,
         rt: &R,
         alloc: Global,
-        path: &str,
+        folder: &str,
+        name: &str,
     ) -> Result<(), AllocError> {
-        let text = contents(rt, alloc, path)?;
+        let text = contents_in(rt, alloc, folder, name)?;
         if let Some((major, minor)) = device_number(line_of(&text)) {
             self.nodes.push(Node::Device(major, minor))?;
         }
@@ -153,9 +178,7 @@ impl Storage {
     fn is_held<R: Files<File = File>>(&self, rt: &R, alloc: Global) -> Result<bool, AllocError> {
         for node in &self.nodes {
             if let Node::Device(major, minor) = *node {
-                let folder = format!(in alloc; "/sys/dev/block/{major}:{minor}/holders")?;
-                let holders = names(rt, alloc, &folder)?;
-                if holders.split(|byte| *byte == 0).any(|name| !is_dots(name)) {
+                if has_holders(rt, alloc, &device_folder(alloc, major, minor)?)? {
                     return Ok(true);
                 }
             }
@@ -174,19 +197,23 @@ impl Storage {
             let Ok(name) = str::from_utf8(name) else {
                 continue;
             };
-            let backing = format!(in alloc; "/sys/block/{name}/loop/backing_file")?;
-            let path = contents(rt, alloc, &backing)?;
-            if self.has_path(rt, line_of(&path)) {
-                let number = contents(rt, alloc, &format!(in alloc; "/sys/block/{name}/dev")?)?;
-                let own = device_number(line_of(&number)).map(|(major, minor)| Node::Device(
-                    major, minor,
-                ));
-                if but.is_none() || own != but {
-                    return Ok(true);
-                }
+            let folder = format!(in alloc; "/sys/block/{name}")?;
+            if self.has_backing(rt, alloc, &folder)? && is_other(rt, alloc, &folder, but)? {
+                return Ok(true);
             }
         }
         Ok(false)
+    }
+
+    // Whether the loop device with this folder stands on one of these.
+    fn has_backing<R: Files<File = File>>(
+        &self,
+        rt: &R,
+        alloc: Global,
+        folder: &str,
+    ) -> Result<bool, AllocError> {
+        let path = contents_in(rt, alloc, folder, "loop/backing_file")?;
+        Ok(self.has_path(rt, line_of(&path)))
     }
 
     // The loop device among these, and what it stands on.
@@ -197,18 +224,69 @@ impl Storage {
     ) -> Result<Option<(Node, Node)>, AllocError> {
         for node in &self.nodes {
             if let Node::Device(major, minor) = *node {
-                let backing = format!(in alloc;
-                    "/sys/dev/block/{major}:{minor}/loop/backing_file"
-                )?;
-                let path = contents(rt, alloc, &backing)?;
-                if let Ok(path) = str::from_utf8(line_of(&path)) {
-                    if let Ok(metadata) = rt.metadata(path) {
-                        return Ok(Some((*node, node_of(&metadata))));
-                    }
+                let folder = device_folder(alloc, major, minor)?;
+                if let Some(behind) = backing_node(rt, alloc, &folder)? {
+                    return Ok(Some((*node, behind)));
                 }
             }
         }
         Ok(None)
+    }
+
+    // Whether one of these is in use, by another loop device than this one, or otherwise.
+    fn is_used<R: Files<File = File>>(
+        &self,
+        rt: &R,
+        alloc: Global,
+        but: Option<Node>,
+    ) -> Result<bool, AllocError> {
+        Ok(
+            self.is_mounted(rt, alloc)?
+                || self.is_swap(rt, alloc)?
+                || self.is_held(rt, alloc)?
+                || self.is_looped(rt, alloc, but)?,
+        )
+    }
+}
+
+// Whether another device holds the one with this folder.
+fn has_holders<R: Files<File = File>>(
+    rt: &R,
+    alloc: Global,
+    folder: &str,
+) -> Result<bool, AllocError> {
+    let holders = names(rt, alloc, &format!(in alloc; "{folder}/holders")?)?;
+    Ok(holders.split(|byte| *byte == 0).any(|name| !is_dots(name)))
+}
+
+// Whether the device with this folder is another one than this.
+fn is_other<R: Files<File = File>>(
+    rt: &R,
+    alloc: Global,
+    folder: &str,
+    but: Option<Node>,
+) -> Result<bool, AllocError> {
+    let number = contents_in(rt, alloc, folder, "dev")?;
+    let own = match device_number(line_of(&number)) {
+        Some((major, minor)) => Some(Node::Device(major, minor)),
+        None => None,
+    };
+    Ok(but.is_none() || own != but)
+}
+
+// What the loop device with this folder stands on.
+fn backing_node<R: Files<File = File>>(
+    rt: &R,
+    alloc: Global,
+    folder: &str,
+) -> Result<Option<Node>, AllocError> {
+    let path = contents_in(rt, alloc, folder, "loop/backing_file")?;
+    let Ok(path) = str::from_utf8(line_of(&path)) else {
+        return Ok(None);
+    };
+    match rt.metadata(path) {
+        Ok(metadata) => Ok(Some(node_of(&metadata))),
+        Err(_) => Ok(None),
     }
 }
 
@@ -229,11 +307,7 @@ pub fn is_in_use<R: Files<File = File>>(
     let (mut node, mut but) = (node_of(&metadata), None);
     for _ in 0..MOST_LAYERS {
         let storage = Storage::of(rt, alloc, node)?;
-        if storage.is_mounted(rt, alloc)?
-            || storage.is_swap(rt, alloc)?
-            || storage.is_held(rt, alloc)?
-            || storage.is_looped(rt, alloc, but)?
-        {
+        if storage.is_used(rt, alloc, but)? {
             return Ok(true);
         }
         let Some((over, behind)) = storage.behind(rt, alloc)? else {

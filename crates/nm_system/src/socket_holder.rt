@@ -45,11 +45,18 @@ impl Process {
     }
 }
 
-// Whether this descriptor is of the socket of this number.
-fn is_socket<R: Files<File = File>>(rt: &R, descriptor: &str, socket: u64) -> bool {
-    match rt.metadata(descriptor) {
-        Ok(found) => found.file_type().is_socket() && found.ino() == socket,
-        Err(_) => false,
+// Whether this descriptor, of those in a process's folder, is of the socket of this number.
+fn is_socket<R: Files<File = File>>(
+    rt: &R,
+    alloc: Global,
+    folder: &str,
+    descriptor: u64,
+    socket: u64,
+) -> Result<bool, AllocError> {
+    let path = format!(in alloc; "{folder}/{descriptor}")?;
+    match rt.metadata(path.as_str()) {
+        Ok(found) => Ok(found.file_type().is_socket() && found.ino() == socket),
+        Err(_) => Ok(false),
     }
 }
 
@@ -63,7 +70,7 @@ fn has_socket<R: Files<File = File>>(
     let folder = format!(in alloc; "/proc/{id}/fd")?;
     for name in names(rt, alloc, &folder)?.split(|byte| *byte == 0) {
         if let Some(descriptor) = number(name) {
-            if is_socket(rt, &format!(in alloc; "{folder}/{descriptor}")?, socket) {
+            if is_socket(rt, alloc, &folder, descriptor, socket)? {
                 return Ok(true);
             }
         }

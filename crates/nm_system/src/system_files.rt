@@ -35,6 +35,34 @@ pub fn contents<R: Files<File = File>>(
     unless_no_memory(bytes, read)
 }
 
+/// What the file of this name in this folder holds.
+pub fn contents_in<R: Files<File = File>>(
+    rt: &R,
+    alloc: Global,
+    folder: &str,
+    name: &str,
+) -> Result<Vec<u8>, AllocError> {
+    contents(rt, alloc, &format!(in alloc; "{folder}/{name}")?)
+}
+
+// Reads names of the folder once, and adds them to these. Whether there may be more.
+fn read_some<F: Read>(
+    folder: &mut F,
+    room: &mut [u8],
+    bytes: &mut Vec<u8>,
+) -> Result<bool, AllocError> {
+    match folder.read(room) {
+        Ok(read) if read > 0 => {
+            if let Some(some) = room.get(..read) {
+                bytes.extend_from_slice(some)?;
+            }
+            Ok(true)
+        }
+        Err(error) if error.kind() == ErrorKind::Interrupted => Ok(true),
+        _ => Ok(false),
+    }
+}
+
 /// The names in the folder, each ended by a NUL.
 pub fn names<R: Files<File = File>>(
     rt: &R,
@@ -47,14 +75,8 @@ pub fn names<R: Files<File = File>>(
     };
     let mut room = [0; AT_ONCE];
     for _ in 0..MOST_READS {
-        match folder.read(&mut room) {
-            Ok(read) if read > 0 => {
-                if let Some(some) = room.get(..read) {
-                    bytes.extend_from_slice(some)?;
-                }
-            }
-            Err(error) if error.kind() == ErrorKind::Interrupted => (),
-            _ => break,
+        if !read_some(&mut folder, &mut room, &mut bytes)? {
+            break;
         }
     }
     Ok(bytes)
