@@ -36,6 +36,15 @@ pub fn identity_by(leg: usize, text: Option<&str>) -> LegIdentities {
     all
 }
 
+// Tells of a leg's file that has no identity.
+fn tell_nameless<R: Wait>(rt: &R, alloc: Global, leg: usize, name: &str, lines: &LogLines) {
+    let text = format!(in alloc;
+        "leg {leg} ({name}): its name alone tells it from other files: see that no other one gets \
+         it"
+    );
+    lines.warn(rt, text);
+}
+
 impl LegFiles {
     /// The identities of the files that are here. Each file is told of that has none.
     pub fn identities<R: Files<File = File> + Wait>(
@@ -52,12 +61,7 @@ impl LegFiles {
             let text = identity_of(rt, alloc, own)?;
             // A superblock inside tells it too.
             if text.is_none() && self.rules.window == 0 {
-                let name = file.name.as_str();
-                let text = format!(in alloc;
-                    "leg {leg} ({name}): its name alone tells it from other files: see that no \
-                     other one gets it"
-                );
-                lines.warn(rt, text);
+                tell_nameless(rt, alloc, leg, file.name.as_str(), lines);
             }
             if leg < 8 {
                 all.put(leg, &identity_by(leg, text.as_deref()), leg);

@@ -129,19 +129,24 @@ impl LateSuperblock {
         }
     }
 
+    // Opens its file and locks it, where it is there.
+    fn open_there<O: OpensLegs>(&self, opener: &O, leg: &File) -> Result<File, Unfit> {
+        match self.open(opener, leg) {
+            Ok(file) => Ok(file),
+            Err(Unopened::System(error)) if error.kind() == ErrorKind::NotFound => {
+                Err(Unfit::Unknown)
+            }
+            Err(why) => Err(Unfit::NoSuperblock(why)),
+        }
+    }
+
     /// Opens the file anew and locks it, for the leg on this file, which is copied whole. From then
     /// on saves go into it.
     pub fn take<O: OpensLegs>(&self, opener: &O, leg: &File) -> Result<(), Unfit> {
         if self.file.file().is_some() {
             return Ok(());
         }
-        let file = match self.open(opener, leg) {
-            Ok(file) => file,
-            Err(Unopened::System(error)) if error.kind() == ErrorKind::NotFound => {
-                return Err(Unfit::Unknown);
-            }
-            Err(why) => return Err(Unfit::NoSuperblock(why)),
-        };
+        let file = self.open_there(opener, leg)?;
         self.check(&file)?;
         // Its leg is to be copied whole.
         match blank_from(&file, self.at.first_byte()) {

@@ -104,18 +104,17 @@ fn missing_line(
     name: &str,
     why: &Absence,
 ) -> Result<String, AllocError> {
-    match why {
-        Absence::Unopened(error) => format!(in alloc;
-            "leg {leg} ({name}): cannot be opened: {error}; the mirror starts without it"
-        ),
-        Absence::Another | Absence::Changed => format!(in alloc;
-            "leg {leg} ({name}): {why}; the mirror starts without it"
-        ),
-        Absence::Unknown => format!(in alloc;
-            "leg {leg} ({name}): {why}; the mirror starts without it, until replace {leg} copies \
-             it over"
-        ),
+    let before = match why {
+        Absence::Unopened(_) => "cannot be opened: ",
+        _ => "",
+    };
+    let mut text = format!(in alloc;
+        "leg {leg} ({name}): {before}{why}; the mirror starts without it"
+    )?;
+    if matches!(why, Absence::Unknown) {
+        write!(text, ", until replace {leg} copies it over")?;
     }
+    Ok(text)
 }
 
 impl LegFiles {

@@ -149,6 +149,38 @@ fn fault_of<'a>(
     }
 }
 
+// How many bytes a leg has for the export: as many as the first that is here, or its own.
+fn bytes_wanted(first: Option<LegLength>, own: Option<u64>) -> u64
+    requires first { IfSome first (λ other. other.blocks ≤ 2 ^ 31) }
+    requires own { IfSome own (λ blocks. blocks ≤ 2 ^ 31) }
+{
+    match (first, own) {
+        (Some(other), _) => other.blocks * BLOCK_BYTES,
+        (None, Some(blocks)) => blocks * BLOCK_BYTES,
+        (None, None) => u64::MAX,
+    }
+}
+
+// How many blocks the file of this leg has, by what was seen of it.
+fn blocks_seen<'a>(
+    number: usize,
+    seen: &SeenFile,
+    first: Option<LegLength>,
+    rules: &LegRules,
+) -> Result<u64, StartFault<'a>>
+    requires { IfSome first (λ other. other.blocks ≤ 2 ^ 31) }
+    ensures { IfOk result (λ blocks. blocks ≤ 2 ^ 31) }
+{
+    let own = blocks_of(seen.bytes, rules.window);
+    let bytes = rules.bytes_for(bytes_wanted(first, own));
+    match (seen.fits(rules, bytes), own) {
+        (Ok(()), Some(blocks)) => Ok(blocks),
+        (Ok(()), None) => Err(StartFault::BadLength(number, seen.bytes)),
+        (Err(why), Some(_)) => Err(fault_of(number, seen, why, bytes, first)),
+        (Err(why), None) => Err(fault_of(number, seen, why, bytes, None)),
+    }
+}
+
 // Locks and measures the file of this leg, where the first that is here has so many blocks.
 fn measure<'a, R: Files<File = File>>(
     rt: &R,
@@ -164,22 +196,13 @@ fn measure<'a, R: Files<File = File>>(
 {
     let is_in_use = !rules.force_in_use && is_in_use(rt, alloc, &file)?;
     let seen = SeenFile::of(&file, is_in_use);
-    let own = blocks_of(seen.bytes, rules.window);
-    let export = match (first, own) {
-        (Some(other), _) => other.blocks * BLOCK_BYTES,
-        (None, Some(blocks)) => blocks * BLOCK_BYTES,
-        (None, None) => u64::MAX,
-    };
-    let bytes = rules.bytes_for(export);
-    match (seen.fits(rules, bytes), own) {
-        (Ok(()), Some(blocks)) => Ok(FoundLeg {
+    match blocks_seen(number, &seen, first, rules) {
+        Ok(blocks) => Ok(FoundLeg {
             file: Some(file),
             blocks,
             unopened: None,
         }),
-        (Ok(()), None) => Err(StartFault::BadLength(number, seen.bytes)),
-        (Err(why), Some(_)) => Err(fault_of(number, &seen, why, bytes, first)),
-        (Err(why), None) => Err(fault_of(number, &seen, why, bytes, None)),
+        Err(fault) => Err(fault),
     }
 }
 

@@ -190,25 +190,37 @@ impl LegPlace {
         self.file.lock(rt).shared.file().settled_time()
     }
 
-    // Opens and locks the file that was missing at the start, and its superblock.
-    fn open_late<O: OpensLegs>(&self, opener: &O, late: &LateFile) -> Result<(), Unfit> {
-        let file = match lock_opened(opener.open(self.name.as_str())) {
-            Ok(file) => file,
-            Err(Unopened::System(error)) => return Err(Unfit::Unopened(error)),
-            Err(Unopened::Locked) => return Err(Unfit::Locked),
-            Err(_) => return Err(Unfit::OtherFile),
-        };
-        self.see(opener, &file)
-            .fits(&self.rules, self.file_bytes())?;
-        self.check_own(opener, &file)?;
+    // Opens and locks the file that has the name.
+    fn open_own<O: OpensLegs>(&self, opener: &O) -> Result<File, Unfit> {
+        match lock_opened(opener.open(self.name.as_str())) {
+            Ok(file) => Ok(file),
+            Err(Unopened::System(error)) => Err(Unfit::Unopened(error)),
+            Err(Unopened::Locked) => Err(Unfit::Locked),
+            Err(_) => Err(Unfit::OtherFile),
+        }
+    }
+
+    // Opens and locks the superblock of the file that was missing at the start, if it is missing
+    // too.
+    fn take_superblock<O: OpensLegs>(&self, opener: &O, file: &File) -> Result<(), Unfit> {
         let Some(mut superblock) = self.superblock.try_lock() else {
             return Err(Unfit::Command);
         };
         if let Some(own) = &*superblock {
-            own.take(opener, &file)?;
+            own.take(opener, file)?;
         }
         // From now on what saves it has its file alone.
         *superblock = None;
+        Ok(())
+    }
+
+    // Opens and locks the file that was missing at the start, and its superblock.
+    fn open_late<O: OpensLegs>(&self, opener: &O, late: &LateFile) -> Result<(), Unfit> {
+        let file = self.open_own(opener)?;
+        self.see(opener, &file)
+            .fits(&self.rules, self.file_bytes())?;
+        self.check_own(opener, &file)?;
+        self.take_superblock(opener, &file)?;
         late.open_later(file);
         Ok(())
     }

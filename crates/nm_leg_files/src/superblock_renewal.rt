@@ -11,7 +11,7 @@ use crate::superblock_writer::SuperblockWriter;
 use crate::window::SlotsAt;
 use nm_reports::Unopened;
 use nm_saves::SuperblockFile;
-use nm_superblock::LegIdentities;
+use nm_superblock::{LegIdentities, Superblock};
 use std::fs::File;
 use std::io::ErrorKind;
 
@@ -55,6 +55,14 @@ impl SuperblockWriter<LateSlots> {
         }
     }
 
+    // Whether this superblock, if there is one, is the mirror's for this leg.
+    fn is_of(&self, found: Option<Superblock>, leg: u8) -> bool {
+        match found {
+            Some(found) => found.mirror == self.files.image().mirror && found.leg == leg,
+            None => false,
+        }
+    }
+
     // Leaves no superblock inside the leg of this number, whose name leads to this file. Of a leg
     // that is missing another file may have the name: that is left as it is.
     fn retire_inside(&self, file: File, leg: u8, held: Option<&File>) -> Result<(), Unopened> {
@@ -63,11 +71,10 @@ impl SuperblockWriter<LateSlots> {
             Some(held) => again(Ok(file), held)?,
             None => {
                 let file = lock_opened(Ok(file))?;
-                match held_from(&file, from) {
-                    Some(found) if found.mirror == self.files.image().mirror && found.leg == leg =>
-                        { file }
-                    _ => return Ok(()),
+                if !self.is_of(held_from(&file, from), leg) {
+                    return Ok(());
                 }
+                file
             }
         };
         match blank_from(&own, from) {

@@ -70,6 +70,13 @@ fn is_partial(last: &Superblock, leg: u8) -> bool {
     false
 }
 
+// Adds to a line that so many spans are to be copied to this leg.
+fn put_copy(text: &mut String, count: u32, leg: u8) -> Result<(), AllocError> {
+    let spans = if count == 1 { "span" } else { "spans" };
+    write!(text, ", {count} {spans} to copy to leg {leg}")?;
+    Ok(())
+}
+
 /// The superblocks' files while the server serves, their names, and the superblock that its start
 /// went by, if there was one.
 #[derive(Drop)]
@@ -115,8 +122,7 @@ impl<S: SlotFile> SuperblockWriter<S> {
         let count = marks(&last.marked);
         for leg in 0..last.legs {
             if count > 0 && is_partial(last, leg) {
-                let spans = if count == 1 { "span" } else { "spans" };
-                write!(text, ", {count} {spans} to copy to leg {leg}")?;
+                put_copy(&mut text, count, leg)?;
             }
         }
         Ok(text)
@@ -146,6 +152,20 @@ impl<S: SlotFile> SuperblockWriter<S> {
         }
     }
 
+    // The line on a leg that is the last in sync in some stripe, and whose file failed.
+    fn last_line(&self, leg: u8) -> Result<String, AllocError> {
+        let (name, why) = (self.name(leg), self.reason(leg));
+        format!(in self.alloc;
+            "leg {leg} is the last in sync somewhere, and its superblock ({name}){why}"
+        )
+    }
+
+    // The line on a leg that is taken out, since its file failed.
+    fn out_line(&self, leg: u8) -> Result<String, AllocError> {
+        let (name, why) = (self.name(leg), self.reason(leg));
+        format!(in self.alloc; "leg {leg} is taken out: its superblock ({name}){why}")
+    }
+
     // Takes a leg out whose file failed. Whether saves go on without it.
     fn take_out<R: Wait, L: LegPart, G: Gate + Drop>(
         &self,
@@ -158,16 +178,11 @@ impl<S: SlotFile> SuperblockWriter<S> {
             return false;
         }
         let counts = mirror.fail_leg(rt, leg);
-        let (name, why) = (self.name(leg), self.reason(leg));
         if is_last_somewhere(&counts) {
-            let text = format!(in self.alloc;
-                "leg {leg} is the last in sync somewhere, and its superblock ({name}){why}"
-            );
-            lines.alert(rt, text);
+            lines.alert(rt, self.last_line(leg));
             return false;
         }
-        let text = format!(in self.alloc; "leg {leg} is taken out: its superblock ({name}){why}");
-        lines.warn(rt, text);
+        lines.warn(rt, self.out_line(leg));
         true
     }
 
@@ -179,6 +194,14 @@ impl<S: SlotFile> SuperblockWriter<S> {
             }
         }
         false
+    }
+
+    // The times of legs' last changes that a save records without these legs: at the end those that
+    // were read then.
+    fn recorded_times(&self, ended: Option<[u64; 8]>, out: &[bool; 8]) -> [u64; 8] {
+        let last = self.files.image();
+        let known = known_times(&ended.unwrap_or([0; 8]), &last.identities);
+        saved_times(&known, &last.changed, out)
     }
 
     // Tries once to save what the mirror is, and says what follows. The files of legs that have
@@ -203,9 +226,7 @@ impl<S: SlotFile> SuperblockWriter<S> {
         );
         let legs = mirror.legs().min(MOST_LEGS);
         let clean = ended.is_some() && is_clean(sets, marked, stripes, legs);
-        let last = self.files.image();
-        let known = known_times(&ended.unwrap_or([0; 8]), &last.identities);
-        let changed = saved_times(&known, &last.changed, &out);
+        let changed = self.recorded_times(ended, &out);
         let tried = self.files.save(sets, marked, clean, &changed, &out);
         let after = after_try(&tried);
         if let Ok(saved) = tried {

@@ -60,29 +60,36 @@ fn misfit_text(why: &Misfit) -> &'static str {
     }
 }
 
+// The words that tell why a leg's file is not taken, up to what they name, if they do.
+fn first_words(why: &Unfit) -> &'static str {
+    match why {
+        Unfit::WasCut => "its file was made shorter, and is not to be trusted",
+        Unfit::CallLeft => "a call of its file has not returned yet",
+        Unfit::Unopened(_) => "it cannot be opened: ",
+        Unfit::Locked => "it is locked by another process, or is another leg",
+        Unfit::InUse => "the system has it in use",
+        Unfit::OtherFile => "another file has its name now",
+        Unfit::Changed => "it was changed since the mirror ended",
+        Unfit::OtherLength(_, _) => "it has ",
+        Unfit::OverFileLimit(_) => "it is longer than ",
+        Unfit::NoPlaceBeside => "it is a block device: give --superblock FOLDER",
+        Unfit::NoSuperblock(_) => "its superblock cannot be written: ",
+        Unfit::Unknown => "it has no superblock of this mirror",
+        Unfit::OtherSuperblock(why) => misfit_text(why),
+        Unfit::Command => "a command on legs is under way",
+        Unfit::Stopped => "its stripes have stopped",
+    }
+}
+
 impl fmt::Display for Unfit {
     fn fmt<W: fmt::Write>(&self, f: &mut fmt::Formatter<W>) -> fmt::Result {
+        f.write_str(first_words(self))?;
         match self {
-            Unfit::WasCut => f.write_str("its file was made shorter, and is not to be trusted"),
-            Unfit::CallLeft => f.write_str("a call of its file has not returned yet"),
-            Unfit::Unopened(error) => write!(f, "it cannot be opened: {error}"),
-            Unfit::Locked => f.write_str("it is locked by another process, or is another leg"),
-            Unfit::InUse => f.write_str("the system has it in use"),
-            Unfit::OtherFile => f.write_str("another file has its name now"),
-            Unfit::Changed => f.write_str("it was changed since the mirror ended"),
-            Unfit::OtherLength(bytes, _) => write!(f, "it has {bytes} bytes now"),
-            Unfit::OverFileLimit(limit) => {
-                write!(f, "it is longer than {limit} bytes, the file size limit")
-            }
-            Unfit::NoPlaceBeside => f.write_str("it is a block device: give --superblock FOLDER"),
-            Unfit::NoSuperblock(why) => {
-                f.write_str("its superblock cannot be written: ")?;
-                put_unopened(why, f)
-            }
-            Unfit::Unknown => f.write_str("it has no superblock of this mirror"),
-            Unfit::OtherSuperblock(why) => f.write_str(misfit_text(why)),
-            Unfit::Command => f.write_str("a command on legs is under way"),
-            Unfit::Stopped => f.write_str("its stripes have stopped"),
+            Unfit::Unopened(error) => write!(f, "{error}"),
+            Unfit::OtherLength(bytes, _) => write!(f, "{bytes} bytes now"),
+            Unfit::OverFileLimit(limit) => write!(f, "{limit} bytes, the file size limit"),
+            Unfit::NoSuperblock(why) => put_unopened(why, f),
+            _ => Ok(()),
         }
     }
 }
