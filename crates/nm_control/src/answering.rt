@@ -2,31 +2,27 @@
 
 use crate::controlled::Controlled;
 use crate::copy_orders::CopyOrders;
+use crate::leg_answers::put_of_leg;
 use crate::reopening::reopen;
-use crate::replacing::{RenewsLegs, Replaced};
-use crate::retiring::{is_retired, put_retire};
+use crate::replacing::RenewsLegs;
 use crate::stopped::put_stopped;
 use crate::stripe_history::put_history;
 use crate::verify_answers::{put_known, put_verify, put_verify_stop};
-use crate::whole::{put_pause, put_resume, put_status};
+use crate::whole::put_status;
 use nm_commands::{ControlCommand, Fed, LineRoom, control_line};
 use nm_lanes::Gate;
 use nm_leg::LegPart;
-use nm_leg_files::{AttachAnswer, MakesLegs, Unfit};
-use nm_mirror::Mirror;
+use nm_leg_files::MakesLegs;
 use nm_places::{Quit, SessionPlaces};
 use nm_reports::{Known, put_metrics};
 use std::alloc::{AllocError, Global};
 use std::io;
 use std::io::{Read, Write};
 use std::sync::Wait;
-use std::time::{Clock, Duration};
+use std::time::Clock;
 
 /// How many bytes of a connection are read at once.
 const ROOM: usize = 256;
-
-/// How many seconds an answer waits for the superblock that says what was done to a leg.
-const SAVE_SECONDS: u64 = 2;
 
 /// What a connection does after a line.
 #[derive(Clone, Copy, PartialEq, Eq)]
@@ -34,105 +30,6 @@ enum After {
     GoOn,
     Close,
     Quit(Quit),
-}
-
-// Ends an answer on what was done to a leg, once a superblock says so, or has not for so long.
-fn put_saved<R: Wait + Clock, L: LegPart, G: Gate + Drop>(
-    rt: &R,
-    mirror: &Mirror<L, G>,
-    text: &mut String,
-) -> Result<(), AllocError> {
-    let is_saved = mirror.save_within(rt, Duration::from_secs(SAVE_SECONDS));
-    text.push_str(if is_saved { "\n" } else { " unsaved\n" })
-}
-
-// The answer to `fail`.
-fn put_fail<R: Wait + Clock, L: LegPart, G: Gate + Drop, N: RenewsLegs<L>, M: MakesLegs<L>>(
-    rt: &R,
-    server: &Controlled<'_, L, G, N, M>,
-    leg: u8,
-    text: &mut String,
-) -> Result<(), AllocError> {
-    if leg >= server.mirror.legs() {
-        return text.push_str("bad command\n");
-    }
-    let Some(counts) = server.orders.fail(rt, server.mirror, leg) else {
-        return writeln!(text, "fail {leg}: busy");
-    };
-    write!(
-        text,
-        "fail {leg}: failed {} last {} out {} stopped {}",
-        counts.failed, counts.last, counts.out, counts.stopped
-    )?;
-    put_saved(rt, server.mirror, text)
-}
-
-// Looks for the file of a leg that is to be attached: why it cannot be. One that is being replaced
-// is not looked for.
-fn find_leg<R: Wait + Clock, L: LegPart, G: Gate + Drop, N: RenewsLegs<L>, M: MakesLegs<L>>(
-    rt: &R,
-    server: &Controlled<'_, L, G, N, M>,
-    leg: u8,
-) -> Result<(), Unfit> {
-    if server.orders.is_replaced(rt, leg) {
-        return Err(Unfit::Command);
-    }
-    let missing = server.orders.missing();
-    if !missing.find(rt, leg) {
-        return Err(missing.why_not(leg));
-    }
-    server.legs.check(leg)
-}
-
-// The answer to `attach`.
-fn put_attach<R: Wait + Clock, L: LegPart, G: Gate + Drop, N: RenewsLegs<L>, M: MakesLegs<L>>(
-    rt: &R,
-    server: &Controlled<'_, L, G, N, M>,
-    leg: u8,
-    text: &mut String,
-) -> Result<(), AllocError> {
-    if leg >= server.mirror.legs() {
-        return text.push_str("bad command\n");
-    }
-    if is_retired(server, leg) {
-        return writeln!(text, "attach {leg}: retired");
-    }
-    if let Err(why) = find_leg(rt, server, leg) {
-        return writeln!(text, "attach {leg}: {}", AttachAnswer(why));
-    }
-    let Some(counts) = server.orders.attach(rt, server.mirror, leg) else {
-        return writeln!(text, "attach {leg}: busy");
-    };
-    write!(
-        text,
-        "attach {leg}: joining {} left {} notout {} stopped {}",
-        counts.joining, counts.left, counts.not_out, counts.stopped
-    )?;
-    put_saved(rt, server.mirror, text)
-}
-
-// The answer to `replace`.
-fn put_replace<R: Wait + Clock, L: LegPart, G: Gate + Drop, N: RenewsLegs<L>, M: MakesLegs<L>>(
-    rt: &R,
-    alloc: Global,
-    server: &Controlled<'_, L, G, N, M>,
-    leg: u8,
-    text: &mut String,
-) -> Result<(), AllocError> {
-    if leg >= server.mirror.legs() {
-        return text.push_str("bad command\n");
-    }
-    if is_retired(server, leg) {
-        return writeln!(text, "replace {leg}: retired");
-    }
-    let replaced = server
-        .orders
-        .replace(rt, alloc, server.mirror, leg, server.legs);
-    write!(text, "replace {leg}: {replaced}")?;
-    match replaced {
-        Replaced::Done(_) => put_saved(rt, server.mirror, text),
-        _ => text.push_str("\n"),
-    }
 }
 
 // The answer to `reopen`: of this stripe, or of all.
@@ -235,11 +132,6 @@ fn say_bye(quit: Quit, text: &mut String) -> After {
     After::Quit(quit)
 }
 
-// The leg of this number: none has 255 or more.
-fn leg_of(number: u64) -> u8 {
-    number.min(255) as u8
-}
-
 // The stripe of this number: none has 2^32 - 1 or more.
 fn stripe_of(number: u64) -> u32 {
     number.min(u64::from(u32::MAX)) as u32
@@ -248,6 +140,46 @@ fn stripe_of(number: u64) -> u32 {
 // So many MiB a second, as the rate of copies.
 fn rate_of(mib: u64) -> u16 {
     mib.min(65_535) as u16
+}
+
+// The answer to a command that tells of something, or to another.
+fn put_told<R: Wait + Clock, L: LegPart, G: Gate + Drop, N: RenewsLegs<L>, M: MakesLegs<L>>(
+    rt: &R,
+    alloc: Global,
+    command: ControlCommand,
+    server: &Controlled<'_, L, G, N, M>,
+    text: &mut String,
+) -> Result<(), AllocError> {
+    match command {
+        ControlCommand::Status => put_status(rt, alloc, server, text),
+        ControlCommand::Unread => server.unread.put(rt, server.mirror.shape(), text),
+        ControlCommand::History(one) => put_history(rt, alloc, server.mirror, stripe_of(one), text),
+        ControlCommand::Info => put_info(rt, alloc, server, text),
+        ControlCommand::Metrics => put_numbers(rt, alloc, server, text),
+        ControlCommand::Clients => server.sessions.put(rt, text),
+        ControlCommand::CopyRate => put_copy_rate(server.orders, text),
+        _ => put_ordered(rt, alloc, command, server, text),
+    }
+}
+
+// The answer to a command that orders something, or names a leg, and to what is no command.
+fn put_ordered<R: Wait + Clock, L: LegPart, G: Gate + Drop, N: RenewsLegs<L>, M: MakesLegs<L>>(
+    rt: &R,
+    alloc: Global,
+    command: ControlCommand,
+    server: &Controlled<'_, L, G, N, M>,
+    text: &mut String,
+) -> Result<(), AllocError> {
+    match command {
+        ControlCommand::Reopen(one) => put_reopen(rt, alloc, server, Some(stripe_of(one)), text),
+        ControlCommand::ReopenAll => put_reopen(rt, alloc, server, None, text),
+        ControlCommand::SetCopyRate(mib) => set_copy_rate(server.orders, Some(rate_of(mib)), text),
+        ControlCommand::DefaultCopyRate => set_copy_rate(server.orders, None, text),
+        ControlCommand::Verify => put_verify(rt, alloc, server, None, text),
+        ControlCommand::VerifyStop => put_verify_stop(rt, server.orders.verify(), text),
+        ControlCommand::Kick(client) => put_kick(rt, server.sessions, client, text),
+        _ => put_of_leg(rt, alloc, command, server, text),
+    }
 }
 
 // Does what a line asks for, and puts the answer.
@@ -259,30 +191,9 @@ fn do_line<R: Wait + Clock, L: LegPart, G: Gate + Drop, N: RenewsLegs<L>, M: Mak
     text: &mut String,
 ) -> After {
     let put = match control_line(line) {
-        ControlCommand::Status => put_status(rt, alloc, server, text),
-        ControlCommand::Unread => server.unread.put(rt, server.mirror.shape(), text),
-        ControlCommand::History(one) => put_history(rt, alloc, server.mirror, stripe_of(one), text),
-        ControlCommand::Info => put_info(rt, alloc, server, text),
-        ControlCommand::Metrics => put_numbers(rt, alloc, server, text),
-        ControlCommand::Fail(leg) => put_fail(rt, server, leg_of(leg), text),
-        ControlCommand::Attach(leg) => put_attach(rt, server, leg_of(leg), text),
-        ControlCommand::Replace(leg) => put_replace(rt, alloc, server, leg_of(leg), text),
-        ControlCommand::Retire(leg) => put_retire(rt, server, leg_of(leg), text),
-        ControlCommand::Pause(leg) => put_pause(server.mirror, leg_of(leg), text),
-        ControlCommand::Resume(leg) => put_resume(server.mirror, leg_of(leg), text),
-        ControlCommand::Reopen(one) => put_reopen(rt, alloc, server, Some(stripe_of(one)), text),
-        ControlCommand::ReopenAll => put_reopen(rt, alloc, server, None, text),
-        ControlCommand::Clients => server.sessions.put(rt, text),
-        ControlCommand::CopyRate => put_copy_rate(server.orders, text),
-        ControlCommand::SetCopyRate(mib) => set_copy_rate(server.orders, Some(rate_of(mib)), text),
-        ControlCommand::DefaultCopyRate => set_copy_rate(server.orders, None, text),
-        ControlCommand::Verify => put_verify(rt, alloc, server, None, text),
-        ControlCommand::VerifyRepair(leg) => put_verify(rt, alloc, server, Some(leg_of(leg)), text),
-        ControlCommand::VerifyStop => put_verify_stop(rt, server.orders.verify(), text),
-        ControlCommand::Kick(client) => put_kick(rt, server.sessions, client, text),
         ControlCommand::Quit => return say_bye(Quit::WhenTheyLeave, text),
         ControlCommand::QuitWithin(seconds) => return say_bye(Quit::Within(seconds), text),
-        ControlCommand::Bad => text.push_str("bad command\n"),
+        command => put_told(rt, alloc, command, server, text),
     };
     match put {
         Ok(()) => After::GoOn,

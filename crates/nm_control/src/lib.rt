@@ -14,6 +14,7 @@ mod copy_pacer;
 mod due_syncs;
 mod finding;
 mod healing;
+mod leg_answers;
 mod leg_watch;
 mod missing_legs;
 mod reopening;
