@@ -43,6 +43,48 @@ fn look<R: Wait + Clock, O: OpensLegs, L: LegPart, G: Gate + Drop>(
     copied.shared.lines.flush_incidents(rt);
 }
 
+// When what does not come with each turn was done last.
+#[derive(Drop)]
+struct Turns {
+    looks: Interval,
+    tries: Interval,
+    settles: Interval,
+}
+
+impl Turns {
+    // What could not be read is not tried again at once.
+    fn new() -> Turns {
+        let mut tries = Interval::new(AGAIN_MILLISECONDS);
+        let _ = tries.take(0);
+        Turns {
+            looks: Interval::new(LOOK_MILLISECONDS),
+            tries,
+            settles: Interval::new(SETTLE_MILLISECONDS),
+        }
+    }
+
+    // Does at this time what is due: looks, begins the round again, and settles stripes.
+    fn take<R: Wait + Clock, O: OpensLegs, L: LegPart, G: Gate + Drop>(
+        &mut self,
+        rt: &R,
+        opener: &O,
+        copier: &mut Copier,
+        copied: &CopiedMirror<'_, L, G>,
+        now: u64,
+    ) {
+        if self.looks.take(now) {
+            look(rt, opener, copier, copied, now);
+        }
+        let orders = copied.orders;
+        if orders.take_new_round() || copier.has_unread() && self.tries.take(now) {
+            copier.begin_again();
+        }
+        if self.settles.take(now) {
+            copied.mirror.settle_turn(rt, orders.doubts());
+        }
+    }
+}
+
 // Takes a turn at copying, or at comparing legs through the pass; a pause where neither did
 // something.
 fn take_turn<R: Wait + Clock, L: LegPart, G: Gate + Drop>(
@@ -75,28 +117,15 @@ pub fn resynchronise<R: Wait + Clock, O: OpensLegs, L: LegPart, G: Gate + Drop>(
     copied: &CopiedMirror<'_, L, G>,
     pass: &mut Pass<L>,
 ) {
-    let (mirror, orders, shared) = (copied.mirror, copied.orders, copied.shared);
-    let (mut copier, mut pacer) = (copier, CopyPacer::new());
+    let (mut copier, mut pacer, mut turns) = (copier, CopyPacer::new(), Turns::new());
     let begun = Instant::now(rt).ok();
-    let mut looks = Interval::new(LOOK_MILLISECONDS);
-    let mut tries = Interval::new(AGAIN_MILLISECONDS);
-    let mut settles = Interval::new(SETTLE_MILLISECONDS);
-    let _ = tries.take(0);
     copier.tell_all(rt, copied, "serving");
     for _ in rt.forever() {
-        if shared.state.has_ended.load(Ordering::SeqCst) {
+        if copied.shared.state.has_ended.load(Ordering::SeqCst) {
             break;
         }
         let now = milliseconds_since(rt, &begun);
-        if looks.take(now) {
-            look(rt, opener, &mut copier, copied, now);
-        }
-        if orders.take_new_round() || copier.has_unread() && tries.take(now) {
-            copier.begin_again();
-        }
-        if settles.take(now) {
-            mirror.settle_turn(rt, orders.doubts());
-        }
+        turns.take(rt, opener, &mut copier, copied, now);
         let both = (&mut copier, &mut pacer);
         take_turn(rt, both, copied, pass, now);
     }
