@@ -3,15 +3,15 @@
 use crate::answering::AnswersControl;
 use nm_places::{Quit, Shared};
 use nm_reports::Incident;
-use nm_sockets::{CONNECTIONS, ControlPlaces, ControlStream, Stream, TimedStream};
+use nm_sockets::{CONNECTIONS, ControlPlaces, ControlStream, Peer, Stream, TimedStream};
 use std::alloc::Global;
 use std::cell::Cell;
 use std::net::{Net, Shutdown, TcpListener, TcpStream};
 use std::sync::Wait;
 use std::sync::atomic::Ordering;
-use std::thread;
 use std::thread::Threads;
 use std::time::{Clock, Duration, Instant};
+use std::{io, thread};
 
 /// How many seconds a control connection has for a line and its answer.
 const LINE_SECONDS: u64 = 60;
@@ -72,28 +72,36 @@ where
     }
 }
 
+// Gives a connection a place, or warns that all are taken.
+fn seat<R: Wait + Clock>(rt: &R, shared: &Shared<'_>, stream: Stream, address: Peer) {
+    if shared.state.seats.offer(rt, stream) {
+        return;
+    }
+    let alloc = shared.alloc;
+    let text = format!(in alloc;
+        "control port: {address}: refused: all {CONNECTIONS} places are taken"
+    );
+    shared.lines.warn_of(rt, Incident::ControlDropped, text);
+}
+
+// Warns that a connection was not taken, and pauses.
+fn tell_not_taken<R: Wait + Clock>(rt: &R, shared: &Shared<'_>, error: io::Error) {
+    let alloc = shared.alloc;
+    let text = format!(in alloc; "control port: a connection was not taken: {error}");
+    shared.lines.warn_of(rt, Incident::ControlNotAccepted, text);
+    thread::sleep(rt, Duration::from_millis(AFTER_FAILURE_MILLISECONDS));
+}
+
 // Takes the control port's connections and gives them places, until the server has ended.
 fn take_connections<R: Wait + Clock>(rt: &R, shared: &Shared<'_>) {
-    let (alloc, state, lines) = (shared.alloc, shared.state, shared.lines);
     for _ in rt.forever() {
         let accepted = shared.control.accept();
-        if state.has_ended.load(Ordering::SeqCst) {
+        if shared.state.has_ended.load(Ordering::SeqCst) {
             return;
         }
         match accepted {
-            Ok((stream, address)) => {
-                if !state.seats.offer(rt, stream) {
-                    let text = format!(in alloc;
-                        "control port: {address}: refused: all {CONNECTIONS} places are taken"
-                    );
-                    lines.warn_of(rt, Incident::ControlDropped, text);
-                }
-            }
-            Err(error) => {
-                let text = format!(in alloc; "control port: a connection was not taken: {error}");
-                lines.warn_of(rt, Incident::ControlNotAccepted, text);
-                thread::sleep(rt, Duration::from_millis(AFTER_FAILURE_MILLISECONDS));
-            }
+            Ok((stream, address)) => seat(rt, shared, stream, address),
+            Err(error) => tell_not_taken(rt, shared, error),
         }
     }
 }

@@ -5,7 +5,7 @@ use nm_lanes::Gate;
 use nm_leg::LegPart;
 use nm_leg_files::LegPlace;
 use nm_mirror::{Mirror, StripeStatus};
-use nm_reports::Failure;
+use nm_reports::{Failure, LogLines};
 use nm_stripe::LegState;
 use std::alloc::Global;
 use std::sync::{Arc, Wait};
@@ -56,6 +56,43 @@ fn is_in_sync_at<R: Wait + Clock, L: LegPart, G: Gate + Drop>(
     }
 }
 
+// Tells that the leg stays in the stripes in which no read of it failed.
+fn tell_stays<R: Wait>(rt: &R, alloc: Global, lines: &LogLines, leg: usize, place: &LegPlace) {
+    let name = place.name();
+    let text = format!(in alloc;
+        "leg {leg} ({name}): a read failed, and others do not: it stays in the other stripes"
+    );
+    lines.inform(rt, text);
+}
+
+// Takes the leg out where a call of it failed since the last look.
+fn look_at<R: Wait + Clock, L: LegPart, G: Gate + Drop>(
+    rt: &R,
+    alloc: Global,
+    copied: &CopiedMirror<'_, L, G>,
+    leg: usize,
+    place: &LegPlace,
+) {
+    let (mirror, orders) = (copied.mirror, copied.orders);
+    let number = leg.min(255) as u8;
+    let Some(doubts) = orders.doubts().leg(number) else {
+        return;
+    };
+    let Some((failure, seen)) = doubts.new_failure() else {
+        return;
+    };
+    let Some(is_whole) = fails_as_a_whole(place, failure) else {
+        return;
+    };
+    let is_first = orders.take_out_failed(rt, mirror, number, is_whole, seen);
+    let Failure::Read(at) = failure else {
+        return;
+    };
+    if is_first && !is_whole && !is_in_sync_at(rt, alloc, mirror, leg, at) {
+        tell_stays(rt, alloc, copied.shared.lines, leg, place);
+    }
+}
+
 impl LegWatch {
     /// Looks at the legs on these files, from leg 0 on.
     pub fn new(places: Vec<Arc<LegPlace>>) -> LegWatch {
@@ -80,30 +117,8 @@ impl LegWatch {
         alloc: Global,
         copied: &CopiedMirror<'_, L, G>,
     ) {
-        let (mirror, orders) = (copied.mirror, copied.orders);
         for (leg, place) in self.places.iter().enumerate() {
-            let number = leg.min(255) as u8;
-            let Some(doubts) = orders.doubts().leg(number) else {
-                continue;
-            };
-            let Some((failure, seen)) = doubts.new_failure() else {
-                continue;
-            };
-            let Some(is_whole) = fails_as_a_whole(place, failure) else {
-                continue;
-            };
-            let is_first = orders.take_out_failed(rt, mirror, number, is_whole, seen);
-            let Failure::Read(at) = failure else {
-                continue;
-            };
-            if is_first && !is_whole && !is_in_sync_at(rt, alloc, mirror, leg, at) {
-                let name = place.name();
-                let text = format!(in alloc;
-                    "leg {leg} ({name}): a read failed, and others do not: it stays in the other \
-                     stripes"
-                );
-                copied.shared.lines.inform(rt, text);
-            }
+            look_at(rt, alloc, copied, leg, place);
         }
     }
 }
