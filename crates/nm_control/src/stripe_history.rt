@@ -21,13 +21,19 @@ fn digest(block: &Block) -> [u8; 8]
     first
 }
 
-// Puts the line of an entry. Who wrote a part of a block wrote the block.
-fn put_entry(entry: &Entry, text: &mut String) -> Result<(), AllocError> {
-    let (seq, block) = (entry.seq, entry.block);
+// Puts an entry's number, and who made it. Who wrote a part of a block wrote the block.
+fn put_kind(entry: &Entry, text: &mut String) -> Result<(), AllocError> {
+    let seq = entry.seq;
     match entry.kind {
-        Kind::Read => write!(text, "{seq} read")?,
-        Kind::Write(ticket) | Kind::Patch(ticket, _, _) => write!(text, "{seq} write {ticket}")?,
+        Kind::Read => write!(text, "{seq} read"),
+        Kind::Write(ticket) | Kind::Patch(ticket, _, _) => write!(text, "{seq} write {ticket}"),
     }
+}
+
+// Puts the line of an entry.
+fn put_entry(entry: &Entry, text: &mut String) -> Result<(), AllocError> {
+    put_kind(entry, text)?;
+    let block = entry.block;
     let digest = u64::from_be_bytes(digest(&entry.bytes));
     writeln!(text, " {block} {digest:016x}")
 }

@@ -53,6 +53,24 @@ pub fn put_known<R: Wait, L: LegPart, G: Gate + Drop, N: RenewsLegs<L>, M: Makes
     text.push_str("\n")
 }
 
+// Whether this leg is the only one in sync of one of these stripes.
+fn is_last_of_any(stripes: &[Glance], leg: u8) -> bool {
+    stripes.iter().any(|glance| is_last(glance, leg))
+}
+
+// Asks for a verification, and puts that it is started, or how the one stands that goes on.
+fn put_asked<R: Wait, L: LegPart, G: Gate + Drop, N: RenewsLegs<L>, M: MakesLegs<L>>(
+    rt: &R,
+    server: &Controlled<'_, L, G, N, M>,
+    repaired: Option<u8>,
+    text: &mut String,
+) -> Result<(), AllocError> {
+    if server.orders.verify().ask(rt, repaired) {
+        return text.push_str("verify: started\n");
+    }
+    put_known(rt, server, text)
+}
+
 /// The answer to `verify`, and where a leg is named, which is repaired, to `verify repair`: it is
 /// started, unless one goes on, no stripe has two legs in sync, or that leg is the last one in sync
 /// of a stripe.
@@ -70,17 +88,14 @@ pub fn put_verify<R: Wait + Clock, L: LegPart, G: Gate + Drop, N: RenewsLegs<L>,
         if leg >= server.mirror.legs() {
             return text.push_str("bad command\n");
         }
-        if stripes.iter().any(|glance| is_last(glance, leg)) {
+        if is_last_of_any(&stripes, leg) {
             return writeln!(text, "verify: leg {leg} is the last in sync");
         }
     }
     if !stripes.iter().any(has_two) {
         return text.push_str("verify: none in sync to compare\n");
     }
-    if server.orders.verify().ask(rt, repaired) {
-        return text.push_str("verify: started\n");
-    }
-    put_known(rt, server, text)
+    put_asked(rt, server, repaired, text)
 }
 
 /// The answer to `verify stop`.

@@ -44,19 +44,27 @@ impl Verifying {
         self.stage == VerifyStage::Asked || self.stage == VerifyStage::Running
     }
 
+    // Puts what is done with it by this word, and how much of the mirror it has compared.
+    fn put_so_far(&self, word: &str, shape: &Shape, text: &mut String) -> Result<(), AllocError> {
+        let so_far = percent(&self.round, shape);
+        write!(text, "verify: {word} {so_far} %")
+    }
+
+    // Puts what is done with it.
+    fn put_stage(&self, shape: &Shape, text: &mut String) -> Result<(), AllocError> {
+        match self.stage {
+            VerifyStage::Never => text.push_str("verify: none yet"),
+            VerifyStage::Asked | VerifyStage::Running => self.put_so_far("running", shape, text),
+            VerifyStage::Stopping | VerifyStage::Stopped => {
+                self.put_so_far("stopped at", shape, text)
+            }
+            VerifyStage::Done => put_end(&self.round.found, text),
+        }
+    }
+
     /// Puts how it stands, without an end of the line.
     pub fn put(&self, shape: &Shape, text: &mut String) -> Result<(), AllocError> {
-        let so_far = percent(&self.round, shape);
-        match self.stage {
-            VerifyStage::Never => text.push_str("verify: none yet")?,
-            VerifyStage::Asked | VerifyStage::Running => {
-                write!(text, "verify: running {so_far} %")?
-            }
-            VerifyStage::Stopping | VerifyStage::Stopped => {
-                write!(text, "verify: stopped at {so_far} %")?
-            }
-            VerifyStage::Done => put_end(&self.round.found, text)?,
-        }
+        self.put_stage(shape, text)?;
         match &self.repairs {
             Some(repairs) if !self.goes_on() => put_written(repairs, text),
             _ => Ok(()),

@@ -31,6 +31,12 @@ fn put_places(found: &Findings, text: &mut String) -> Result<(), AllocError> {
     Ok(())
 }
 
+// Puts, after these words, where a leg could not be read.
+fn put_unread_at(before: &str, place: &RegionPlace, text: &mut String) -> Result<(), AllocError> {
+    let (leg, stripe, region) = (place.leg, place.stripe, place.region);
+    write!(text, "{before} leg {leg} stripe {stripe} region {region}")
+}
+
 // Puts what could not be read, if there is something.
 fn put_unread(found: &Findings, text: &mut String) -> Result<(), AllocError> {
     if found.unread == 0 {
@@ -43,8 +49,7 @@ fn put_unread(found: &Findings, text: &mut String) -> Result<(), AllocError> {
     )?;
     let mut before = " at";
     for place in told(&found.unread_places, found.unread) {
-        let (leg, stripe, region) = (place.leg, place.stripe, place.region);
-        write!(text, "{before} leg {leg} stripe {stripe} region {region}")?;
+        put_unread_at(before, place, text)?;
         before = ",";
     }
     Ok(())
@@ -58,18 +63,24 @@ fn put_missed(found: &Findings, text: &mut String) -> Result<(), AllocError> {
     write!(text, "; {} regions could not be compared", found.missed)
 }
 
+// Puts how many of the regions that were compared differ, and where.
+fn put_differing(found: &Findings, text: &mut String) -> Result<(), AllocError> {
+    let (compared, differing) = (found.compared, found.differing);
+    write!(
+        text,
+        "verify: {differing} of {compared} regions differ, the first at"
+    )?;
+    put_places(found, text)?;
+    text.push_str("; replace one leg to repair it")
+}
+
 /// Puts what a verification found in all.
 pub fn put_end(found: &Findings, text: &mut String) -> Result<(), AllocError> {
-    let (compared, differing) = (found.compared, found.differing);
-    if differing == 0 {
+    if found.differing == 0 {
+        let compared = found.compared;
         write!(text, "verify: {compared} regions compared, none differs")?;
     } else {
-        write!(
-            text,
-            "verify: {differing} of {compared} regions differ, the first at"
-        )?;
-        put_places(found, text)?;
-        text.push_str("; replace one leg to repair it")?;
+        put_differing(found, text)?;
     }
     put_unread(found, text)?;
     put_missed(found, text)

@@ -68,6 +68,15 @@ fn ailments<R: Wait + Clock, L: LegPart, G: Gate + Drop, N: RenewsLegs<L>, M: Ma
     found
 }
 
+// Puts the export: its size, and its name if that is printable.
+fn put_export(size: u64, name: &str, text: &mut String) -> Result<(), AllocError> {
+    write!(text, "export: size {size}")?;
+    if is_printable(name) {
+        write!(text, " name {name}")?;
+    }
+    text.push_str("\n")
+}
+
 // Puts how well the mirror is, in one word, its export, whose name stands there if it is printable,
 // and the server's version.
 fn put_whole<R: Wait + Clock, L: LegPart, G: Gate + Drop, N: RenewsLegs<L>, M: MakesLegs<L>>(
@@ -78,11 +87,9 @@ fn put_whole<R: Wait + Clock, L: LegPart, G: Gate + Drop, N: RenewsLegs<L>, M: M
 ) -> Result<(), AllocError> {
     let word = ailments(rt, server, glances).health().word();
     let bytes = server.mirror.shape().blocks.saturating_mul(BLOCK_BYTES);
-    write!(text, "mirror: {word}\nexport: size {bytes}")?;
-    if is_printable(server.name) {
-        write!(text, " name {}", server.name)?;
-    }
-    writeln!(text, "\nserver: version {VERSION}")
+    writeln!(text, "mirror: {word}")?;
+    put_export(bytes, server.name, text)?;
+    writeln!(text, "server: version {VERSION}")
 }
 
 // Puts a line a leg that is paused.
