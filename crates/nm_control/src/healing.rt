@@ -58,6 +58,12 @@ impl HealingLeg {
             return self.is_given_up;
         }
         self.is_given_up = true;
+        self.tell_given_up(rt, lines);
+        true
+    }
+
+    // Tells that the leg stays out.
+    fn tell_given_up<R: Wait>(&self, rt: &R, lines: &LogLines) {
         let (alloc, leg, name) = (self.alloc, self.number, self.place.name());
         lines.warn(
             rt,
@@ -66,7 +72,6 @@ impl HealingLeg {
                  day after reads that failed; replace it, or attach it by hand"
             ),
         );
-        true
     }
 
     // Takes how the leg stands, and tells when the next try comes where that is new.
@@ -95,7 +100,7 @@ impl HealingLeg {
         orders: &CopyOrders,
         lines: &LogLines,
     ) {
-        let (alloc, leg, name) = (self.alloc, self.number, self.place.name());
+        let leg = self.number;
         if !orders.missing().is_wanted(leg) {
             return;
         }
@@ -103,11 +108,17 @@ impl HealingLeg {
             Ok(()) => orders.missing().remove(leg),
             Err(why) => {
                 orders.missing().note(leg, &why);
-                let text = format!(in alloc; "leg {leg} ({name}): not attached: {why}");
-                lines.warn(rt, text);
+                self.tell_not_attached(rt, why, lines);
             }
         }
         orders.missing().answer(leg);
+    }
+
+    // Tells why the leg is not attached.
+    fn tell_not_attached<R: Wait>(&self, rt: &R, why: Unfit, lines: &LogLines) {
+        let (alloc, leg, name) = (self.alloc, self.number, self.place.name());
+        let text = format!(in alloc; "leg {leg} ({name}): not attached: {why}");
+        lines.warn(rt, text);
     }
 
     // Checks the leg's file, and attaches the leg.
@@ -174,6 +185,11 @@ impl HealingLeg {
             self.returns.note(now);
         }
         self.told = None;
+        self.tell_attached(rt, number, lines);
+    }
+
+    // Tells that the leg was attached by the try of this number.
+    fn tell_attached<R: Wait>(&self, rt: &R, number: u64, lines: &LogLines) {
         let (alloc, leg, name) = (self.alloc, self.number, self.place.name());
         lines.inform(
             rt,

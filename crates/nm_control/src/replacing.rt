@@ -29,14 +29,19 @@ pub enum Replaced {
     Unfit(Unfit),
 }
 
+// Writes in how many stripes what came of a replacement.
+fn write_counts<W: fmt::Write>(counts: &ReplaceCounts, f: &mut fmt::Formatter<W>) -> fmt::Result {
+    write!(
+        f,
+        "joining {} left {} out {} stopped {}",
+        counts.joining, counts.left, counts.out, counts.stopped
+    )
+}
+
 impl fmt::Display for Replaced {
     fn fmt<W: fmt::Write>(&self, f: &mut fmt::Formatter<W>) -> fmt::Result {
         match self {
-            Replaced::Done(counts) => write!(
-                f,
-                "joining {} left {} out {} stopped {}",
-                counts.joining, counts.left, counts.out, counts.stopped
-            ),
+            Replaced::Done(counts) => write_counts(counts, f),
             Replaced::Last => f.write_str("last"),
             Replaced::Busy => f.write_str("busy"),
             Replaced::NotSaved => f.write_str("not saved"),
@@ -132,6 +137,26 @@ impl<'x, O: OpensLegs> RenewsLegs<Leg> for LegRenewer<'x, O> {
     }
 }
 
+// Has the file of a leg that is out opened anew, and puts the leg back.
+fn put_back<R: Wait, L: LegPart, G: Gate + Drop, N: RenewsLegs<L>>(
+    rt: &R,
+    alloc: Global,
+    mirror: &Mirror<L, G>,
+    leg: u8,
+    legs: &N,
+) -> Replaced
+    requires { leg < mirror.now.shape.legs }
+{
+    let parts = match legs.renew(rt, alloc, leg) {
+        Ok(parts) => parts,
+        Err(why) => return Replaced::Unfit(why),
+    };
+    match mirror.replace_leg(rt, leg, parts) {
+        Ok(counts) => Replaced::Done(counts),
+        Err(_) => Replaced::Unfit(Unfit::WasCut),
+    }
+}
+
 /// Takes the leg out of every stripe, has its file opened anew, and puts it back.
 pub fn replace_now<R: Wait, L: LegPart, G: Gate + Drop, N: RenewsLegs<L>>(
     rt: &R,
@@ -143,20 +168,12 @@ pub fn replace_now<R: Wait, L: LegPart, G: Gate + Drop, N: RenewsLegs<L>>(
     requires { leg < mirror.now.shape.legs }
 {
     match mirror.withdraw_leg(rt, leg) {
-        Withdrawal::Last => return Replaced::Last,
-        Withdrawal::NotSaved => return Replaced::NotSaved,
+        Withdrawal::Last => Replaced::Last,
+        Withdrawal::NotSaved => Replaced::NotSaved,
         Withdrawal::Stopped(stopped) => {
             let none = ReplaceCounts::default();
-            return Replaced::Done(ReplaceCounts { stopped, ..none });
+            Replaced::Done(ReplaceCounts { stopped, ..none })
         }
-        Withdrawal::Out => (),
-    }
-    let parts = match legs.renew(rt, alloc, leg) {
-        Ok(parts) => parts,
-        Err(why) => return Replaced::Unfit(why),
-    };
-    match mirror.replace_leg(rt, leg, parts) {
-        Ok(counts) => Replaced::Done(counts),
-        Err(_) => Replaced::Unfit(Unfit::WasCut),
+        Withdrawal::Out => put_back(rt, alloc, mirror, leg, legs),
     }
 }

@@ -25,6 +25,15 @@ const TELL_MILLISECONDS: u64 = 10_000;
 /// How many milliseconds pass after a write came between two looks.
 const PAUSE_MILLISECONDS: u64 = 1;
 
+// Puts that a verification of so many legs has started, and which of them is repaired, if one is.
+fn put_started(legs: u8, repairs: &Option<Repairs>, text: &mut String) -> Result<(), AllocError> {
+    write!(text, "verify: started, {legs} legs")?;
+    match repairs {
+        Some(repairs) => write!(text, ", leg {} is repaired", repairs.leg()),
+        None => Ok(()),
+    }
+}
+
 /// Compares the legs in sync of a mirror, where that is asked for.
 #[derive(Drop)]
 pub struct Verifier {
@@ -145,13 +154,10 @@ impl Verifier {
     ) {
         let _ = desk.note(rt, VerifyStage::Running, known);
         let _ = self.tells.take(now);
-        let (alloc, legs) = (self.alloc, mirror.legs());
-        let line = match &known.repairs {
-            Some(repairs) => {
-                let leg = repairs.leg();
-                format!(in alloc; "verify: started, {legs} legs, leg {leg} is repaired")
-            }
-            None => format!(in alloc; "verify: started, {legs} legs"),
+        let mut text = String::new(self.alloc);
+        let line = match put_started(mirror.legs(), &known.repairs, &mut text) {
+            Ok(()) => Ok(text),
+            Err(error) => Err(error),
         };
         lines.inform(rt, line);
     }
