@@ -1,9 +1,11 @@
 //! The calls of the mirror that the program serves.
-ghost use Rattle.std.specs.Prelude.{◌≡◌, length};
+ghost use Rattle.std.specs.Prelude.{◌≡◌, ◌≤◌, ◌+◌, ◌*◌, length};
 ghost use Rattle.nm_leg.specs.Leg.{leg_type};
 ghost use Rattle.nm_serving.specs.Calls.{Acts, IsEven, IsInside, answered, told};
+ghost use Rattle.nm_session.specs.Target.{Writes, Zeroes};
 
 use crate::mirror_calls::MirrorCalls;
+use bytes::Bytes;
 use nm_geometry::Shape;
 use nm_lanes::{Gate, WriteFault};
 use nm_leg::LegPart;
@@ -99,6 +101,47 @@ impl<'a, R: Wait + Copy + Clock> MirrorCalls<Leg> for FileCalls<'a, R> {
     }
 }
 
+// Writes these bytes to the mirror through the pass.
+fn write_mirror<R: Wait, L: LegPart, G: Gate + Drop>(
+    rt: &R,
+    alloc: Global,
+    mirror: &Mirror<L, G>,
+    pass: &mut Pass<L>,
+    offset: u64,
+    payload: Bytes,
+) -> Result<(), TargetFault>
+    requires even { IsEven mirror.now.shape pass.old.parts.items }
+    requires inside { offset + length payload ≤ 512 * mirror.now.shape.blocks }
+    ensures { Acts (leg_type L.model L.honest) mirror.now.shape (Writes offset payload result)
+        (pass.old.parts.items, pass.new.parts.items) }
+{
+    match mirror.write_at(rt, alloc, pass, offset, payload) {
+        Ok(()) => Ok(()),
+        Err(WriteFault::Memory) => Err(TargetFault::Memory),
+        Err(WriteFault::Io(_)) => Err(TargetFault::Io),
+    }
+}
+
+// Writes so many zeroes to the mirror through the pass.
+fn zero_mirror<R: Wait, L: LegPart, G: Gate + Drop>(
+    rt: &R,
+    mirror: &Mirror<L, G>,
+    pass: &mut Pass<L>,
+    offset: u64,
+    count: u64,
+    is_gone: Option<&AtomicBool>,
+) -> Result<(), TargetFault>
+    requires even { IsEven mirror.now.shape pass.old.parts.items }
+    requires inside { offset + count ≤ 512 * mirror.now.shape.blocks }
+    ensures { Acts (leg_type L.model L.honest) mirror.now.shape (Zeroes offset count result)
+        (pass.old.parts.items, pass.new.parts.items) }
+{
+    match mirror.zero_at(rt, pass, offset, count, is_gone) {
+        Ok(()) => Ok(()),
+        Err(_) => Err(TargetFault::Io),
+    }
+}
+
 /// Makes this call of the mirror through the pass, a read's into the buffer. Refused memory is told
 /// as such, and a fault of the mirror as an I/O fault; so are zeroes that ended before their next
 /// region, since their client `is_gone`.
@@ -122,16 +165,9 @@ pub fn call_mirror<R: Wait, L: LegPart, G: Gate + Drop>(
             Err(_) => Err(TargetFault::Io),
         },
         MirrorCall::Write(offset, payload) => {
-            match mirror.write_at(rt, alloc, pass, offset, payload) {
-                Ok(()) => Ok(()),
-                Err(WriteFault::Memory) => Err(TargetFault::Memory),
-                Err(WriteFault::Io(_)) => Err(TargetFault::Io),
-            }
+            write_mirror(rt, alloc, mirror, pass, offset, payload)
         }
-        MirrorCall::Zero(offset, count) => match mirror.zero_at(rt, pass, offset, count, is_gone) {
-            Ok(()) => Ok(()),
-            Err(_) => Err(TargetFault::Io),
-        },
+        MirrorCall::Zero(offset, count) => zero_mirror(rt, mirror, pass, offset, count, is_gone),
         MirrorCall::Flush => match mirror.flush(rt, pass) {
             Ok(()) => Ok(()),
             Err(_) => Err(TargetFault::Io),

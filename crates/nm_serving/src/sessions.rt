@@ -26,9 +26,9 @@ use std::alloc::Global;
 use std::cell::Cell;
 use std::net::Shutdown;
 use std::sync::Wait;
-use std::thread;
 use std::thread::Threads;
 use std::time::{Clock, Duration, Instant};
+use std::{io, thread};
 
 /// How many requests of a session are served at once: each goes through a pass of its own.
 pub const AT_ONCE: usize = 16;
@@ -101,6 +101,12 @@ fn export_of(alloc: Global, named: &ExportName<'_>, blocks: u64) -> Option<Expor
     })
 }
 
+// Has reads and writes of the stream wait for as long as they must.
+fn lift_limits(stream: &Stream) {
+    let _ = stream.set_read_timeout(None);
+    let _ = stream.set_write_timeout(None);
+}
+
 // Negotiates with a client within its time, and tells whether requests follow. After it no limit
 // stands.
 fn negotiate_in_time<R: Wait + Clock>(
@@ -126,8 +132,7 @@ fn negotiate_in_time<R: Wait + Clock>(
     let mut sender = ReplyWriter::new(TimedStream::new(rt, stream, &begun, within));
     match negotiate(rt, alloc, core, &mut room, &mut reader, &mut sender) {
         Ok(None) => {
-            let _ = stream.set_read_timeout(None);
-            let _ = stream.set_write_timeout(None);
+            lift_limits(stream);
             Ok(true)
         }
         Ok(Some(_)) => Ok(false),
@@ -273,34 +278,41 @@ where
     }
 }
 
+// Gives a connection a place, or warns that all are taken.
+fn seat<R: Wait + Clock>(rt: &R, shared: &Shared<'_>, stream: Stream, address: Peer) {
+    let (alloc, state) = (shared.alloc, shared.state);
+    if state.places.offer(rt, ClientStream::new(stream, address)) {
+        return;
+    }
+    state.metrics.refuse_client();
+    let count = state.places.count();
+    let text = format!(in alloc;
+        "client {address}: refused: all {count} places are taken (--sessions)"
+    );
+    shared.lines.warn_of(rt, Incident::ClientRefused, text);
+}
+
+// Warns that a connection could not be taken, and pauses.
+fn tell_not_taken<R: Wait + Clock>(rt: &R, shared: &Shared<'_>, error: io::Error) {
+    let alloc = shared.alloc;
+    let text = format!(in alloc; "a client's connection could not be taken: {error}");
+    shared.lines.warn_of(rt, Incident::ClientNotAccepted, text);
+    thread::sleep(rt, Duration::from_millis(AFTER_FAILURE_MILLISECONDS));
+}
+
 /// Takes connections and gives them places, until the server ends.
 ///
 /// An accept that fails, as where there are no descriptors left, ends nothing: the next comes after
 /// a pause.
 pub fn take_clients<R: Wait + Clock>(rt: &R, shared: &Shared<'_>) {
-    let (alloc, state, lines) = (shared.alloc, shared.state, shared.lines);
-    let places = &state.places;
     for _ in rt.forever() {
         let accepted = shared.clients.accept();
-        if state.ending.has_begun() {
+        if shared.state.ending.has_begun() {
             return;
         }
         match accepted {
-            Ok((stream, address)) => {
-                if !places.offer(rt, ClientStream::new(stream, address)) {
-                    state.metrics.refuse_client();
-                    let count = places.count();
-                    let text = format!(in alloc;
-                        "client {address}: refused: all {count} places are taken (--sessions)"
-                    );
-                    lines.warn_of(rt, Incident::ClientRefused, text);
-                }
-            }
-            Err(error) => {
-                let text = format!(in alloc; "a client's connection could not be taken: {error}");
-                lines.warn_of(rt, Incident::ClientNotAccepted, text);
-                thread::sleep(rt, Duration::from_millis(AFTER_FAILURE_MILLISECONDS));
-            }
+            Ok((stream, address)) => seat(rt, shared, stream, address),
+            Err(error) => tell_not_taken(rt, shared, error),
         }
     }
 }
