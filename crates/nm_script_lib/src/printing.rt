@@ -4,6 +4,7 @@ ghost use Rattle.std.specs.Prelude.{OnOk};
 ghost use Rattle.std.specs.Fmt.{digit_glyph};
 ghost use Rattle.nm_script_lib.specs.Forms.{hex_byte};
 ghost use Rattle.nm_rules.specs.Refusal.{text_of};
+ghost use Rattle.nm_stripe.specs.declared.answer.Answer.TheVariants.{Value as ValueAnswer};
 ghost use Rattle.nm_script_lib.specs.Printing.{fill_text, ended_line, answer_text, holds_text};
 ghost use Rattle.nm_script_lib.specs.Printing.{loss_text};
 ghost use Rattle.nm_script_lib.specs.Printing.{kind_text, span_text, place_text, entry_line};
@@ -12,7 +13,7 @@ ghost use Rattle.nm_script_lib.specs.Printing.{counts_line, legal_line};
 use crate::fill::{Fill, fill_of};
 use crate::power_leg::PowerLeg;
 use nm_replay::{Block, Entry, Kind};
-use nm_stripe::{Answer, Refusal};
+use nm_stripe::{Answer, Refusal, Value};
 use std::alloc::AllocError;
 
 /// Adds bytes to a text.
@@ -84,6 +85,15 @@ fn put_counted(text: &mut Vec<u8>, word: &[u8], number: u64) -> Result<(), Alloc
     put_number(text, number)
 }
 
+/// Adds the answer to a read to a text.
+fn put_value(text: &mut Vec<u8>, value: &Value<PowerLeg>) -> Result<(), AllocError>
+    ensures { OnOk result (text.new.items ≡ text.old.items ++ answer_text (ValueAnswer value.now)) }
+{
+    put_counted(text, b"value ", value.number())?;
+    put(text, b" ")?;
+    put_fill(text, fill_of(value.bytes()))
+}
+
 /// Adds an answer to a text.
 fn put_answer_text(text: &mut Vec<u8>, answer: &Answer<PowerLeg>) -> Result<(), AllocError>
     ensures { OnOk result (text.new.items ≡ text.old.items ++ answer_text answer.now) }
@@ -94,11 +104,7 @@ fn put_answer_text(text: &mut Vec<u8>, answer: &Answer<PowerLeg>) -> Result<(), 
         Answer::Complete(number) => put_counted(text, b"complete ", *number),
         Answer::Halted => put(text, b"halted"),
         Answer::Written(written) => put_counted(text, b"written ", written.number()),
-        Answer::Value(value) => {
-            put_counted(text, b"value ", value.number())?;
-            put(text, b" ")?;
-            put_fill(text, fill_of(value.bytes()))
-        }
+        Answer::Value(value) => put_value(text, value),
         Answer::Failed => put(text, b"failed"),
         Answer::MasterChanged(master) => put_counted(text, b"master ", u64::from(*master)),
         Answer::Joining(blocks) => put_counted(text, b"joining ", *blocks),
