@@ -31,19 +31,24 @@ look_form m = keywords (
     (codes "lose", one (Below m.legs) Lose) ∷
     (codes "state", Makes State) ∷ []) NoForm
 
--- The steps of the stripe that change a leg, and those above.
-unfoldable pub leg_form : MirrorLine → Form Step
-leg_form m = keywords (
-    (codes "fail", one (Below m.legs) (λ leg. Ask (Fail leg))) ∷
-    (codes "attach", one (Below m.legs) (λ leg. Ask (Attach leg))) ∷
-    (codes "return", one (Below m.legs) (λ leg. Ask (Return leg))) ∷
-    (codes "replace", two (Below m.legs) Byte (λ leg fill. Ask (Replace leg fill))) ∷
+-- The steps of the stripe that copy a leg, or make it the master or durable, and those above.
+abbrev pub copy_form : MirrorLine → Form Step
+copy_form m = keywords (
     (codes "copy", one (Below m.legs) (λ leg. Ask (Copy leg 1))) ∷
     (codes "copies", two (Below m.legs) (Within 1 (2 ^ 64 - 1)) (λ leg most. Ask (Copy leg most))) ∷
     (codes "promote", one (Below m.legs) (λ leg. Ask (Promote leg))) ∷
     (codes "sync", one (Below m.legs) (λ leg. Ask (Sync leg))) ∷
     (codes "flush", one (Below m.legs) (λ leg. Ask (Flush leg))) ∷ [])
     (look_form m)
+
+-- The steps of the stripe that change a leg, and those above.
+unfoldable pub leg_form : MirrorLine → Form Step
+leg_form m = keywords (
+    (codes "fail", one (Below m.legs) (λ leg. Ask (Fail leg))) ∷
+    (codes "attach", one (Below m.legs) (λ leg. Ask (Attach leg))) ∷
+    (codes "return", one (Below m.legs) (λ leg. Ask (Return leg))) ∷
+    (codes "replace", two (Below m.legs) Byte (λ leg fill. Ask (Replace leg fill))) ∷ [])
+    (copy_form m)
 
 -- How many blocks a run may have that begins with this block: up to the end of its region and of
 -- the mirror, and 128 at most.
@@ -70,16 +75,21 @@ run_form m = keywords (
     (codes "get", get_args m) ∷ [])
     (leg_form m)
 
--- All steps on such a mirror: those that write and read blocks, and those above.
-unfoldable pub step_form : MirrorLine → Form Step
-step_form m = keywords (
-    (codes "begin", two (Below m.blocks) Byte (λ block fill. Ask (Begin block fill))) ∷
-    (codes "zero", one (Below m.blocks) (λ block. Ask (Zero block))) ∷
-    (codes "patch", patch_args m) ∷
+-- The steps that go on with a write, or read a block, and those above.
+abbrev pub ticket_form : MirrorLine → Form Step
+ticket_form m = keywords (
     (codes "push", two Number (Below m.legs) (λ ticket leg. Ask (Push ticket leg))) ∷
     (codes "claim", one Number (λ ticket. Ask (Claim ticket))) ∷
     (codes "read", one (Below m.blocks) (λ block. Ask (Read block))) ∷ [])
     (run_form m)
+
+-- All steps on such a mirror: those that begin a write of a block, and those above.
+unfoldable pub step_form : MirrorLine → Form Step
+step_form m = keywords (
+    (codes "begin", two (Below m.blocks) Byte (λ block fill. Ask (Begin block fill))) ∷
+    (codes "zero", one (Below m.blocks) (λ block. Ask (Zero block))) ∷
+    (codes "patch", patch_args m) ∷ [])
+    (ticket_form m)
 
 -- The arguments of the mirror line: LEGS BLOCKS REGION CHUNK POLICY FIRST, each in its range.
 abbrev pub mirror_args : Form MirrorLine

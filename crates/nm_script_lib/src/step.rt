@@ -1,6 +1,7 @@
 ghost use Rattle.std.specs.Prelude.{◌≡◌, ℕ, ◌<◌, ◌∷◌, List, Option};
 ghost use Rattle.nm_script_lib.specs.Grammar.{step_form, patch_args, run_args, get_args};
-ghost use Rattle.nm_script_lib.specs.Grammar.{leg_form, look_form, most_run, run_form};
+ghost use Rattle.nm_script_lib.specs.Grammar.{ticket_form};
+ghost use Rattle.nm_script_lib.specs.Grammar.{copy_form, leg_form, look_form, most_run, run_form};
 ghost use Rattle.nm_script_lib.specs.Reading.{Gives, read, read_line, rest_words};
 
 use crate::mirror_line::MirrorLine;
@@ -126,7 +127,34 @@ fn look_of(mirror: &MirrorLine, word: &[u8], words: &mut Words<'_>) -> Option<St
     })
 }
 
-/// The step that this word begins, of those that change a leg and of `look_of`'s.
+/// The step that this word begins, of those that copy a leg, or make it the master or durable, and
+/// of `look_of`'s.
+fn copy_step_of(mirror: &MirrorLine, word: &[u8], words: &mut Words<'_>) -> Option<Step>
+    ensures { Gives result (rest_words words.new)
+        (read (copy_form mirror.now) (word.now ∷ rest_words words.old)) }
+{
+    Some(Step::Ask(if is_word(word, b"copy") {
+        let leg = words.below_u8(mirror.legs)?;
+        StripeStep::Copy { leg, most: 1 }
+    } else if is_word(word, b"copies") {
+        let leg = words.below_u8(mirror.legs)?;
+        let most = words.within(1, u64::MAX)?;
+        StripeStep::Copy { leg, most }
+    } else if is_word(word, b"promote") {
+        let leg = words.below_u8(mirror.legs)?;
+        StripeStep::Promote { leg }
+    } else if is_word(word, b"sync") {
+        let leg = words.below_u8(mirror.legs)?;
+        StripeStep::Sync { leg }
+    } else if is_word(word, b"flush") {
+        let leg = words.below_u8(mirror.legs)?;
+        StripeStep::Flush { leg }
+    } else {
+        return look_of(mirror, word, words);
+    }))
+}
+
+/// The step that this word begins, of those that change a leg and of `copy_step_of`'s.
 #[tactic(auto, unfolding(crate::specs::Grammar::leg_form))]
 fn leg_step_of(mirror: &MirrorLine, word: &[u8], words: &mut Words<'_>) -> Option<Step>
     ensures { Gives result (rest_words words.new)
@@ -145,24 +173,8 @@ fn leg_step_of(mirror: &MirrorLine, word: &[u8], words: &mut Words<'_>) -> Optio
         let leg = words.below_u8(mirror.legs)?;
         let fill = words.byte()?;
         StripeStep::Replace { leg, fill }
-    } else if is_word(word, b"copy") {
-        let leg = words.below_u8(mirror.legs)?;
-        StripeStep::Copy { leg, most: 1 }
-    } else if is_word(word, b"copies") {
-        let leg = words.below_u8(mirror.legs)?;
-        let most = words.within(1, u64::MAX)?;
-        StripeStep::Copy { leg, most }
-    } else if is_word(word, b"promote") {
-        let leg = words.below_u8(mirror.legs)?;
-        StripeStep::Promote { leg }
-    } else if is_word(word, b"sync") {
-        let leg = words.below_u8(mirror.legs)?;
-        StripeStep::Sync { leg }
-    } else if is_word(word, b"flush") {
-        let leg = words.below_u8(mirror.legs)?;
-        StripeStep::Flush { leg }
     } else {
-        return look_of(mirror, word, words);
+        return copy_step_of(mirror, word, words);
     }))
 }
 
@@ -234,6 +246,27 @@ fn run_step_of(mirror: &MirrorLine, word: &[u8], words: &mut Words<'_>) -> Optio
     }
 }
 
+/// The step that this word begins, of those that go on with a write or read a block, and of
+/// `run_step_of`'s.
+fn ticket_step_of(mirror: &MirrorLine, word: &[u8], words: &mut Words<'_>) -> Option<Step>
+    ensures { Gives result (rest_words words.new)
+        (read (ticket_form mirror.now) (word.now ∷ rest_words words.old)) }
+{
+    Some(Step::Ask(if is_word(word, b"push") {
+        let ticket = words.number()?;
+        let leg = words.below_u8(mirror.legs)?;
+        StripeStep::Push { ticket, leg }
+    } else if is_word(word, b"claim") {
+        let ticket = words.number()?;
+        StripeStep::Claim { ticket }
+    } else if is_word(word, b"read") {
+        let block = words.below(mirror.blocks)?;
+        StripeStep::Read { block }
+    } else {
+        return run_step_of(mirror, word, words);
+    }))
+}
+
 /// The step that this word begins, with its arguments.
 #[tactic(auto, unfolding(crate::specs::Grammar::step_form))]
 fn any_step_of(mirror: &MirrorLine, word: &[u8], words: &mut Words<'_>) -> Option<Step>
@@ -249,18 +282,8 @@ fn any_step_of(mirror: &MirrorLine, word: &[u8], words: &mut Words<'_>) -> Optio
         StripeStep::Zero { block }
     } else if is_word(word, b"patch") {
         return patch_of(mirror, words);
-    } else if is_word(word, b"push") {
-        let ticket = words.number()?;
-        let leg = words.below_u8(mirror.legs)?;
-        StripeStep::Push { ticket, leg }
-    } else if is_word(word, b"claim") {
-        let ticket = words.number()?;
-        StripeStep::Claim { ticket }
-    } else if is_word(word, b"read") {
-        let block = words.below(mirror.blocks)?;
-        StripeStep::Read { block }
     } else {
-        return run_step_of(mirror, word, words);
+        return ticket_step_of(mirror, word, words);
     }))
 }
 
