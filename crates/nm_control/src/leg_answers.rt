@@ -153,7 +153,28 @@ fn put_of_copies<R: Wait + Clock, L: LegPart, G: Gate + Drop, N: RenewsLegs<L>, 
         ControlCommand::Pause(leg) => put_pause(server.mirror, leg_of(leg), text),
         ControlCommand::Resume(leg) => put_resume(server.mirror, leg_of(leg), text),
         ControlCommand::VerifyRepair(leg) => put_verify(rt, alloc, server, Some(leg_of(leg)), text),
-        _ => text.push_str("bad command\n"),
+        // What is answered elsewhere, and what is no command.
+        ControlCommand::Status
+        | ControlCommand::Unread
+        | ControlCommand::History(_)
+        | ControlCommand::Info
+        | ControlCommand::Metrics
+        | ControlCommand::Fail(_)
+        | ControlCommand::Attach(_)
+        | ControlCommand::Replace(_)
+        | ControlCommand::Retire(_)
+        | ControlCommand::Reopen(_)
+        | ControlCommand::ReopenAll
+        | ControlCommand::CopyRate
+        | ControlCommand::SetCopyRate(_)
+        | ControlCommand::DefaultCopyRate
+        | ControlCommand::Verify
+        | ControlCommand::VerifyStop
+        | ControlCommand::Quit
+        | ControlCommand::QuitWithin(_)
+        | ControlCommand::Clients
+        | ControlCommand::Kick(_)
+        | ControlCommand::Bad => text.push_str("bad command\n"),
     }
 }
 
