@@ -11,7 +11,7 @@ use crate::own::{LegsHere, first_another, first_mixed};
 use nm_superblock::Superblock;
 
 /// What a start goes by.
-#[derive(Clone, Copy, Debug, PartialEq, Eq)]
+#[derive(Clone, Copy, PartialEq, Eq)]
 pub struct Assembly {
     /// The newest superblock.
     pub newest: Superblock,

@@ -9,7 +9,7 @@ use crate::stripe_sets::{put, with_leg};
 use nm_superblock::{LegIdentities, LegSets, SpanMap, Superblock};
 
 /// A mirror that has no superblock yet.
-#[derive(Clone, Copy, Debug, PartialEq, Eq)]
+#[derive(Clone, Copy, PartialEq, Eq)]
 pub struct NewMirror {
     /// Its id, drawn at random.
     pub mirror: u128,

@@ -6,7 +6,7 @@ ghost use Rattle.nm_superblock.specs.Spans.{in_sync_of};
 use nm_superblock::Superblock;
 
 /// How a leg starts in a stripe.
-#[derive(Clone, Copy, Debug, PartialEq, Eq)]
+#[derive(Clone, Copy, PartialEq, Eq)]
 pub enum LegStart {
     /// The stripe opens on it.
     Master,

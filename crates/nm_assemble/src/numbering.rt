@@ -5,7 +5,7 @@ ghost use Rattle.nm_assemble.specs.Numbering.{AreApart, AreNumbers, IsLast, IsMi
 ghost use Rattle.nm_assemble.specs.Numbering.{IsSaid, Says, number_of};
 
 /// Why legs have no numbers.
-#[derive(Clone, Copy, Debug, PartialEq, Eq)]
+#[derive(Clone, Copy, PartialEq, Eq)]
 pub enum Misnumbered {
     /// Both legs say this number.
     Twice(usize, usize, u8),

@@ -7,7 +7,7 @@ ghost use Rattle.nm_assemble.specs.Own.{IsOtherLegs, IsOwn, NoneAnother, NoneMix
 use nm_superblock::{LegIdentities, Superblock};
 
 /// What is here of the legs, and what a person said of them.
-#[derive(Clone, Copy, Debug, PartialEq, Eq)]
+#[derive(Clone, Copy, PartialEq, Eq)]
 pub struct LegsHere {
     /// Whose files are here.
     pub here: [bool; 8],

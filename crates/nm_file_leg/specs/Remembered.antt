@@ -1,5 +1,6 @@
 -- What a leg remembers of its regions, and what becomes of it.
-use Rattle.std.specs.Prelude.{◌≡◌, ℕ, zero, suc, ◌+◌, ◌-◌, ◌*◌, ◌/◌, ◌<◌, ◌≤◌, ◌==◌, ◌&&◌, ◌||◌, min}
+use Rattle.std.specs.Prelude.{◌≡◌, ℕ, zero, suc, ◌+◌, ◌-◌, ◌*◌, ◌/◌, ◌<◌, ◌≤◌, ◌==◌, ◌&&◌, ◌||◌}
+use Rattle.std.specs.Prelude.{min}
 use Rattle.std.specs.Prelude.{if◌then◌else◌, Bool, IsTrue, IsFalse, nat_le, nat_lt, get_or}
 use Rattle.std.specs.Prelude.{◌^◌, List, [], ◌∷◌, length, map, false, true}
 use Rattle.nm_geometry.specs.Geometry.{regions_for}

@@ -1,10 +1,12 @@
 ghost use Rattle.std.specs.Prelude.{◌≡◌, ℕ, ◌+◌, ◌-◌, ◌*◌, ◌/◌, ◌^◌, ◌<◌, ◌≤◌, ◌↔◌, ◌==◌};
-ghost use Rattle.std.specs.Prelude.{if◌then◌else◌, IsTrue, IsFalse, IfOk, length, replicate, get_or};
+ghost use Rattle.std.specs.Prelude.{if◌then◌else◌, IsTrue, IsFalse, IfOk};
+ghost use Rattle.std.specs.Prelude.{length, replicate, get_or};
 ghost use Rattle.nm_leg.specs.Leg.{is_marked_in};
 ghost use Rattle.nm_file_leg.specs.FileLeg.{written_from};
 ghost use Rattle.nm_file_leg.specs.Remembered.{count_regions, region_end, AreWhole, Begins};
 ghost use Rattle.nm_file_leg.specs.Remembered.{NotesWrite, NotesSync, NotesFailure};
-ghost use Rattle.nm_file_leg.specs.Remembered.{Changes, EndsPeriod, LearnsLoss, WritesNone, WritesOne};
+ghost use Rattle.nm_file_leg.specs.Remembered.{Changes, EndsPeriod, LearnsLoss};
+ghost use Rattle.nm_file_leg.specs.Remembered.{WritesNone, WritesOne};
 ghost use Rattle.nm_file_leg.specs.Remembered.{cursor_moved};
 
 use std::alloc::{AllocError, Global};

@@ -4,8 +4,8 @@ use Rattle.std.specs.Prelude.{Option, None, Some, length}
 use Rattle.nm_choice.specs.declared.leg_state.LegState.TheVariants.{InSync}
 use Rattle.nm_rules.specs.State.{StripeState, leg_state}
 use Rattle.nm_stripe.specs.declared.step.Step.{Step}
-use Rattle.nm_stripe.specs.declared.step.Step.TheVariants.{Attach, Begin, Claim, Copy, Flush, Promote}
-use Rattle.nm_stripe.specs.declared.step.Step.TheVariants.{Replace, Return, Sync}
+use Rattle.nm_stripe.specs.declared.step.Step.TheVariants.{Attach, Begin, Claim, Copy, Flush}
+use Rattle.nm_stripe.specs.declared.step.Step.TheVariants.{Promote, Replace, Return, Sync}
 use Rattle.nm_stripe.specs.Copy.{region_to_copy}
 use Rattle.nm_gate.specs.declared.gate_refusal.GateRefusal.{GateRefusal}
 use Rattle.nm_gate.specs.declared.gate_refusal.GateRefusal.TheVariants.{SaveFailed, Unmarked}

@@ -1,5 +1,5 @@
 /// Why the gate refuses a step. A refused step changes nothing.
-#[derive(Clone, Copy, Debug, PartialEq, Eq)]
+#[derive(Clone, Copy, PartialEq, Eq)]
 pub enum GateRefusal {
     /// A leg's new state is not saved yet.
     Unsaved,

@@ -9,7 +9,7 @@ use nm_leg::LegPart;
 use nm_stripe::Stripe;
 
 /// What a superblock says of the legs of one stripe.
-#[derive(Clone, Copy, Debug, PartialEq, Eq)]
+#[derive(Clone, Copy, PartialEq, Eq)]
 pub struct LegClaims {
     /// Those in sync.
     pub in_sync: [bool; 8],

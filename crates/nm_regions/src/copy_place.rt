@@ -3,7 +3,7 @@ ghost use Rattle.nm_regions.specs.Table.{copies, has_copied, copied};
 ghost use Rattle.nm_regions.specs.Changes.{copy_but_of, moved};
 
 /// Where the open copy stands.
-#[derive(Clone, Copy, Debug, PartialEq, Eq)]
+#[derive(Clone, Copy, PartialEq, Eq)]
 pub struct CopyPlace {
     /// The leg that is copied to.
     pub leg: u8,

@@ -1,5 +1,5 @@
 /// The state of one region.
-#[derive(Clone, Copy, Debug, PartialEq, Eq)]
+#[derive(Clone, Copy, PartialEq, Eq)]
 pub enum RegionState {
     /// Nothing is under way in the region.
     Clean,

@@ -165,8 +165,8 @@ impl Received {
         }
     }
 
-    // The same as `cut_payload`, where there is a payload. Inlined, it would slow requests down that
-    // have none.
+    // The same as `cut_payload`, where there is a payload. Inlined, it would slow requests down
+    // that have none.
     #[inline(never)]
     fn cut_bytes(&mut self, len: u32) -> Result<Bytes, AllocError>
         requires { 28 + len ≤ length self.old.items }
@@ -186,8 +186,8 @@ impl Received {
     }
 
     // Moves the bytes to a new block if the payload cut before them was long, and no shorter than
-    // they are, so that moving costs no more than feeding it did. They stay where memory is refused,
-    // and where they begin with another long request, which may use the block again.
+    // they are, so that moving costs no more than feeding it did. They stay where memory is
+    // refused, and where they begin with another long request, which may use the block again.
     fn leave_long_block(&mut self, payload: usize)
         ensures { self.new.items ≡ self.old.items }
     {

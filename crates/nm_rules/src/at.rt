@@ -1,5 +1,5 @@
 /// The place of a stripe in the mirror, and its shape.
-#[derive(Clone, Copy, Debug, PartialEq, Eq)]
+#[derive(Clone, Copy, PartialEq, Eq)]
 pub struct At {
     /// The stripe's number.
     pub stripe: u32,

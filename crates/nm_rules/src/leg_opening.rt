@@ -1,5 +1,5 @@
 /// How a leg stands as a stripe opens by what a superblock says of it.
-#[derive(Clone, Copy, Debug, PartialEq, Eq)]
+#[derive(Clone, Copy, PartialEq, Eq)]
 pub enum LegOpening {
     /// It joins, behind in the marked spans alone.
     Partial,

@@ -11,7 +11,7 @@ use std::io::ErrorKind;
 
 /// The legs that were named by a superblock and lack it: they have no file, or writing it failed.
 /// Where there is none, the save could not begin.
-#[derive(Clone, Copy, Debug, PartialEq, Eq)]
+#[derive(Clone, Copy, PartialEq, Eq)]
 pub struct FailedFiles {
     /// For each leg whether it is one.
     pub legs: [bool; 8],

@@ -122,8 +122,8 @@ impl SessionCore {
         }
     }
 
-    /// Takes the next piece of what the client sends with its memory: past the haggling the bytes of
-    /// a long one are not copied where nothing is unread, or no more than a request's header.
+    /// Takes the next piece of what the client sends with its memory: past the haggling the bytes
+    /// of a long one are not copied where nothing is unread, or no more than a request's header.
     pub fn take_piece(&mut self, alloc: Global, piece: &mut BytesMut) -> Result<(), Refused>
         ensures ok { OnOk result (Feeds self.old piece.old.items self.new) }
         ensures closed { (result ≡ Err Refused.Closed) ↔ IsEnded self.old.stage }

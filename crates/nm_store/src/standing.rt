@@ -1,5 +1,5 @@
 /// What a claim takes away: the entries of a finished run.
-#[derive(Clone, Copy, Debug, PartialEq, Eq)]
+#[derive(Clone, Copy, PartialEq, Eq)]
 pub struct Claimed {
     /// The run's first block.
     pub block: u64,
@@ -10,7 +10,7 @@ pub struct Claimed {
 }
 
 /// Where a run stands that has not been claimed.
-#[derive(Clone, Copy, Debug, PartialEq, Eq)]
+#[derive(Clone, Copy, PartialEq, Eq)]
 pub struct Standing {
     /// How many legs it has still to reach.
     pub owed: u64,

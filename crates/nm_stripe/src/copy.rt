@@ -10,7 +10,7 @@ use nm_leg::LegPart;
 use nm_rules::Refusal;
 
 /// What a step of a copy answers.
-#[derive(Clone, Copy, Debug, PartialEq, Eq)]
+#[derive(Clone, Copy, PartialEq, Eq)]
 pub enum Copying {
     /// So many blocks were read from the master, or written to the leg; so many are left to copy.
     Copied { moved: u64, left: u64 },

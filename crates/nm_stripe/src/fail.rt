@@ -9,7 +9,7 @@ use nm_leg::LegPart;
 use nm_rules::Refusal;
 
 /// What the taking out of a leg answers.
-#[derive(Clone, Copy, Debug, PartialEq, Eq)]
+#[derive(Clone, Copy, PartialEq, Eq)]
 pub enum Failing {
     /// The leg has gone out. It was not the master.
     Failed,

@@ -18,8 +18,9 @@ impl<L: LegPart> Stripe<L> {
     /// joins, behind in the regions of marked spans alone or everywhere, or is out and behind
     /// everywhere. Where a leg is not behind it holds what the master holds, if legs are honest.
     ///
-    /// No leg is called, and no step goes over blocks. All the memory that the stripe will ever need
-    /// is taken; where it is refused the legs come back. `first` is the number of the first entry.
+    /// No leg is called, and no step goes over blocks. All the memory that the stripe will ever
+    /// need is taken; where it is refused the legs come back. `first` is the number of the first
+    /// entry.
     pub fn open_marked(
         alloc: Global,
         place: At,

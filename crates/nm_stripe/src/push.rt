@@ -15,7 +15,7 @@ use nm_rules::Refusal;
 use nm_store::Store;
 
 /// What a push answers.
-#[derive(Clone, Copy, Debug, PartialEq, Eq)]
+#[derive(Clone, Copy, PartialEq, Eq)]
 pub enum Reach {
     /// The write reached the leg, and still owes this many.
     Pushed(u64),

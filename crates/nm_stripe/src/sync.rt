@@ -10,7 +10,7 @@ use nm_leg::LegPart;
 use nm_rules::Refusal;
 
 /// What a promotion answers.
-#[derive(Clone, Copy, Debug, PartialEq, Eq)]
+#[derive(Clone, Copy, PartialEq, Eq)]
 pub enum Promotion {
     /// The leg is in sync.
     InSync,
@@ -19,7 +19,7 @@ pub enum Promotion {
 }
 
 /// What a sync or a flush answers.
-#[derive(Clone, Copy, Debug, PartialEq, Eq)]
+#[derive(Clone, Copy, PartialEq, Eq)]
 pub enum Syncing {
     /// What the leg held is durable.
     Synced,

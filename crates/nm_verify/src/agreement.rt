@@ -15,7 +15,7 @@ use nm_replay::BLOCK_BYTES;
 use nm_stripe::Stripe;
 
 /// A run of which all legs in sync but one hold the same.
-#[derive(Clone, Copy, Debug, PartialEq, Eq)]
+#[derive(Clone, Copy, PartialEq, Eq)]
 pub struct Agreed {
     /// How many blocks the run has.
     pub count: u64,

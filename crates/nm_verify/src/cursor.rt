@@ -10,7 +10,7 @@ pub const MOST_TRIES: u32 = 100;
 
 /// Where a verification is: the run that begins at this block of this stripe is compared, from this
 /// leg on, after so many tries between which a write came.
-#[derive(Clone, Copy, Debug, PartialEq, Eq)]
+#[derive(Clone, Copy, PartialEq, Eq)]
 pub struct Cursor {
     /// The stripe's number.
     pub stripe: u32,

@@ -9,7 +9,7 @@ use crate::looks::Seen;
 pub const MOST_TOLD: usize = 16;
 
 /// A region, and the leg for which it is told.
-#[derive(Clone, Copy, Debug, PartialEq, Eq)]
+#[derive(Clone, Copy, PartialEq, Eq)]
 pub struct RegionPlace {
     /// The stripe's number.
     pub stripe: u32,
@@ -20,7 +20,7 @@ pub struct RegionPlace {
 }
 
 /// What was found so far in the region that is compared.
-#[derive(Clone, Copy, Debug, PartialEq, Eq)]
+#[derive(Clone, Copy, PartialEq, Eq)]
 pub struct RegionFindings {
     /// The first leg that differs from the lowest leg in sync.
     pub differs: Option<u8>,
@@ -33,7 +33,7 @@ pub struct RegionFindings {
 
 /// What a verification found in the regions that it has left behind: each is counted once in each
 /// of the counts that it belongs to.
-#[derive(Clone, Copy, Debug, PartialEq, Eq)]
+#[derive(Clone, Copy, PartialEq, Eq)]
 pub struct Findings {
     /// How many regions were compared as a whole, or differ.
     pub compared: u64,

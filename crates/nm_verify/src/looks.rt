@@ -15,7 +15,7 @@ use nm_stripe::Stripe;
 pub const MOST_BYTES: usize = BLOCK_BYTES * MOST_RUN;
 
 /// What two looks found.
-#[derive(Clone, Copy, Debug, PartialEq, Eq)]
+#[derive(Clone, Copy, PartialEq, Eq)]
 pub enum Seen {
     /// The stripe has no run there.
     NoRun,
@@ -33,7 +33,7 @@ pub enum Seen {
 }
 
 /// A run of which the lowest leg in sync was read.
-#[derive(Clone, Copy, Debug, PartialEq, Eq)]
+#[derive(Clone, Copy, PartialEq, Eq)]
 pub struct Half {
     /// The lowest leg in sync.
     pub first: u8,
@@ -46,7 +46,7 @@ pub struct Half {
 }
 
 /// What a look at the first of two legs found.
-#[derive(Clone, Copy, Debug, PartialEq, Eq)]
+#[derive(Clone, Copy, PartialEq, Eq)]
 pub enum Begun {
     /// That there is nothing to compare now, and why.
     Ends(Seen),

@@ -14,7 +14,7 @@ use nm_stripe::At;
 ///
 /// It goes through the stripes, the runs of each and the legs in sync, by rising numbers, and never
 /// back: so each region is left behind once.
-#[derive(Clone, Copy, Debug, PartialEq, Eq)]
+#[derive(Clone, Copy, PartialEq, Eq)]
 pub struct Verification {
     /// Where it is.
     pub at: Cursor,
