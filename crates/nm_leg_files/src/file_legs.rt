@@ -44,13 +44,13 @@ impl LegFile {
 }
 
 /// The legs of all stripes on this leg's file, stripe 0's first: each is a user of its own of it.
-pub(crate) fn legs_on<'a>(
+pub(crate) fn legs_on(
     alloc: Global,
     file: &LegFile,
     number: usize,
     shape: &Shape,
     read: &BytesRead,
-) -> Result<Vec<Leg>, StartFault<'a>>
+) -> Result<Vec<Leg>, StartFault>
     ensures { IfOk result (λ legs.
         map (λ leg. leg_place leg.medium leg.stripe leg.shape) legs.items
         ≡ file_places shape.now.stripes shape.now file.now) }

@@ -53,14 +53,14 @@ pub struct LegFiles {
 
 // Opens, locks and measures the file of this leg, and says which leg is the first that is here,
 // where so far this one is, or none.
-fn open_leg<'a, R: Files<File = File>>(
+fn open_leg<R: Files<File = File>>(
     rt: &R,
     alloc: Global,
     number: usize,
     name: &str,
     first: Option<LegLength>,
     rules: &LegRules,
-) -> Result<(LegFile, Option<LegLength>), StartFault<'a>>
+) -> Result<(LegFile, Option<LegLength>), StartFault>
     requires { IfSome first (λ own. own.blocks ≤ 2 ^ 31) }
     ensures name { IfOk result (λ opened. name_of opened.0 ≡ name.now) }
     ensures blocks { IfOk result (λ opened. IfSome opened.1 (λ own. own.blocks ≤ 2 ^ 31)) }
@@ -90,7 +90,7 @@ fn first_missing(files: &[LegFile]) -> Option<(usize, Unopened)> {
 }
 
 // What is told where no leg is here.
-fn none_here<'a>(files: &[LegFile]) -> StartFault<'a> {
+fn none_here(files: &[LegFile]) -> StartFault {
     match first_missing(files) {
         Some((leg, why)) => StartFault::CannotOpen(leg, why),
         None => StartFault::Memory,
@@ -121,12 +121,12 @@ impl LegFiles {
     /// Opens, locks and measures the legs' files, one after the other, leg 0's by the first name.
     /// One that does not fit is refused, or the first that is here. One that the system does not
     /// open may be missing where the rules say so; some leg is here.
-    pub fn open<'a, R: Files<File = File>>(
+    pub fn open<R: Files<File = File>>(
         rt: &R,
         alloc: Global,
         names: &[&str],
         rules: &LegRules,
-    ) -> Result<LegFiles, StartFault<'a>>
+    ) -> Result<LegFiles, StartFault>
         ensures names { IfOk result (λ files. names_of files ≡ map (λ name. name.now) names.now) }
         ensures some { IfOk result SomeHere }
         ensures all { rules.now.may_lack ≡ false → IfOk result AllHere }
@@ -167,7 +167,7 @@ impl LegFiles {
     }
 
     /// Starts the threads that make the legs' calls, where these are limited.
-    pub fn start_threads<'a, R>(&self, rt: &R) -> Result<(), StartFault<'a>>
+    pub fn start_threads<R>(&self, rt: &R) -> Result<(), StartFault>
     where
         R: Threads + Wait + Copy + Send + 'static,
     {
@@ -208,7 +208,7 @@ impl LegFiles {
     }
 
     /// Refuses a leg that was named as the newest one, and is missing.
-    pub fn check_named<'a>(&self, named: Option<u8>) -> Result<(), StartFault<'a>>
+    pub fn check_named(&self, named: Option<u8>) -> Result<(), StartFault>
         ensures { IfOk result (λ _. IfSome named (λ leg. IsTrue (is_here_at leg self.now))) }
     {
         let Some(leg) = named else {
@@ -300,14 +300,14 @@ impl LegFiles {
 }
 
 // The leg of a stripe on this file, whose user of that number it is.
-pub(crate) fn stripe_leg<'a>(
+pub(crate) fn stripe_leg(
     alloc: Global,
     file: &LegFile,
     number: usize,
     shape: &Shape,
     stripe: u32,
     read: &BytesRead,
-) -> Result<Leg, StartFault<'a>>
+) -> Result<Leg, StartFault>
     requires { stripe < shape.now.stripes }
     ensures { IfOk result (λ leg. leg_place leg.medium leg.stripe leg.shape
         ≡ place_on stripe shape.now file.now) }
@@ -328,13 +328,13 @@ pub(crate) fn stripe_leg<'a>(
 }
 
 // The legs of one stripe, one on each leg's file in their order, and what is read of them counted.
-pub(crate) fn stripe_legs<'a>(
+pub(crate) fn stripe_legs(
     alloc: Global,
     files: &LegFiles,
     shape: &Shape,
     stripe: u32,
     read: &BytesRead,
-) -> Result<Vec<Leg>, StartFault<'a>>
+) -> Result<Vec<Leg>, StartFault>
     requires { stripe < shape.now.stripes }
     ensures { IfOk result (λ legs.
         map (λ leg. leg_place leg.medium leg.stripe leg.shape) legs.items
@@ -355,12 +355,12 @@ pub(crate) fn stripe_legs<'a>(
 
 /// The legs of all stripes of a mirror, one list a stripe: each is a user of its own of its leg's
 /// file, the first leg of each stripe of the first file.
-pub fn mirror_legs<'a>(
+pub fn mirror_legs(
     alloc: Global,
     files: &LegFiles,
     shape: &Shape,
     read: &BytesRead,
-) -> Result<Vec<Vec<Leg>>, StartFault<'a>>
+) -> Result<Vec<Vec<Leg>>, StartFault>
     ensures { IfOk result (λ legs. map (λ own.
         map (λ leg. leg_place leg.medium leg.stripe leg.shape) own.items) legs.items
         ≡ mirror_places shape.now files.now) }

@@ -131,13 +131,13 @@ fn blocks_of(bytes: Option<u64>, window: u64) -> Option<u64>
 }
 
 // Why a start refuses this leg, whose file does not fit so many bytes, as that leg has, if any.
-fn fault_of<'a>(
+fn fault_of(
     number: usize,
     file: &SeenFile,
     why: Unfit,
     bytes: u64,
     other: Option<LegLength>,
-) -> StartFault<'a> {
+) -> StartFault {
     match (why, other) {
         (Unfit::InUse, _) => StartFault::InUse(number),
         (Unfit::OtherLength(own, _), Some(other)) => {
@@ -162,12 +162,12 @@ fn bytes_wanted(first: Option<LegLength>, own: Option<u64>) -> u64
 }
 
 // How many blocks the file of this leg has, by what was seen of it.
-fn blocks_seen<'a>(
+fn blocks_seen(
     number: usize,
     seen: &SeenFile,
     first: Option<LegLength>,
     rules: &LegRules,
-) -> Result<u64, StartFault<'a>>
+) -> Result<u64, StartFault>
     requires { IfSome first (λ other. other.blocks ≤ 2 ^ 31) }
     ensures { IfOk result (λ blocks. blocks ≤ 2 ^ 31) }
 {
@@ -182,14 +182,14 @@ fn blocks_seen<'a>(
 }
 
 // Locks and measures the file of this leg, where the first that is here has so many blocks.
-fn measure<'a, R: Files<File = File>>(
+fn measure<R: Files<File = File>>(
     rt: &R,
     alloc: Global,
     number: usize,
     file: File,
     first: Option<LegLength>,
     rules: &LegRules,
-) -> Result<FoundLeg, StartFault<'a>>
+) -> Result<FoundLeg, StartFault>
     requires { IfSome first (λ other. other.blocks ≤ 2 ^ 31) }
     ensures blocks { IfOk result (λ found. found.blocks ≤ 2 ^ 31) }
     ensures here { IfOk result (λ found. found.unopened ≡ None) }
@@ -208,14 +208,14 @@ fn measure<'a, R: Files<File = File>>(
 
 /// Opens, locks and measures the file of this leg, where the first that is here has so many blocks.
 /// One that the system does not open is missing, where that is allowed.
-pub fn find_leg<'a, R: Files<File = File>>(
+pub fn find_leg<R: Files<File = File>>(
     rt: &R,
     alloc: Global,
     number: usize,
     name: &str,
     first: Option<LegLength>,
     rules: &LegRules,
-) -> Result<FoundLeg, StartFault<'a>>
+) -> Result<FoundLeg, StartFault>
     requires { IfSome first (λ other. other.blocks ≤ 2 ^ 31) }
     ensures blocks { IfOk result (λ found. found.blocks ≤ 2 ^ 31) }
     ensures here { rules.now.may_lack ≡ false → IfOk result (λ found. found.unopened ≡ None) }

@@ -26,7 +26,7 @@ status_of (fault.NoLegToAdd leg) = 3
 status_of (fault.NothingToAddTo leg) = 3
 status_of fault.AlreadyShrunk = 3
 status_of (fault.TwoOfLeg one other leg) = 3
-status_of (fault.LegBeyond name leg legs) = 3
+status_of (fault.LegBeyond place leg) = 3
 status_of fault.BadName = 3
 status_of (fault.CannotOpen leg why) = 3
 status_of (fault.InUse leg) = 3
@@ -34,8 +34,8 @@ status_of (fault.BadLength leg bytes) = 3
 status_of (fault.OtherLength leg bytes other other_bytes) = 3
 status_of (fault.OverFileLimit leg bytes limit) = 3
 status_of (fault.HasSuperblock leg) = 3
-status_of (fault.HeldBeside leg name) = 3
-status_of (fault.KeptBeside leg name) = 3
+status_of (fault.HeldBeside leg) = 3
+status_of (fault.KeptBeside leg) = 3
 status_of (fault.HeldInside leg) = 3
 status_of (fault.HoldsData leg) = 3
 status_of (fault.CannotMove leg why) = 3
@@ -50,7 +50,7 @@ status_of (fault.OtherStripes asked said) = 3
 status_of (fault.NotInSync leg) = 3
 status_of fault.NoRandomNumbers = 3
 status_of (fault.CannotRead leg) = 3
-status_of (fault.CannotListen address error) = 4
+status_of (fault.CannotListen port why) = 4
 status_of fault.Memory = 5
 status_of fault.CannotClose = 6
 status_of (fault.StripesStopped stopped all) = 8
@@ -62,7 +62,7 @@ status_of fault.ChangedDiffer = 7
 status_of (fault.WentApart leg other) = 7
 status_of (fault.PlacesApart leg) = 7
 status_of (fault.NoneInSync stripe) = 7
-status_of (fault.NotKnown leg name) = 7
+status_of (fault.NotKnown leg) = 7
 
 -- the exit status where the words of the command line are none, or ask for the help or the version
 abbrev pub status_of_words : ErrorKind → ℕ

@@ -4,8 +4,17 @@ ghost use Rattle.nm_reports.specs.Address.{IsAtPath};
 use nm_commands::ListenSettings;
 use std::fmt;
 
+/// Whom a socket is for.
+#[derive(Clone, Copy, Debug)]
+pub enum Port {
+    /// Clients.
+    Clients,
+    /// Who controls the server.
+    Control,
+}
+
 /// Where a socket is to listen.
-#[derive(Clone, Copy, Debug, PartialEq, Eq)]
+#[derive(Clone, Copy)]
 pub enum Address<'a> {
     /// At an address and port that were named, or at `unix:` and a path.
     Named(&'a str),
@@ -14,11 +23,12 @@ pub enum Address<'a> {
 }
 
 impl<'a> Address<'a> {
-    /// Where clients connect: a port that was named stands in place of the address.
-    pub fn of_clients(listening: &ListenSettings<'a>) -> Address<'a> {
-        match listening.port {
-            Some(port) => Address::LocalPort(port),
-            None => Address::Named(listening.address),
+    /// Where they connect: for clients a port that was named stands in place of the address.
+    pub fn of(port: Port, listening: &ListenSettings<'a>) -> Address<'a> {
+        match (port, listening.port) {
+            (Port::Clients, Some(number)) => Address::LocalPort(number),
+            (Port::Clients, None) => Address::Named(listening.address),
+            (Port::Control, _) => Address::Named(listening.control),
         }
     }
 

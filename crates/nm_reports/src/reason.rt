@@ -1,6 +1,6 @@
 //! What a refusal does not say: which file or address, and why. It stands in the line before it.
 
-use crate::address::Address;
+use crate::address::{Address, Port};
 use crate::start_fault::StartFault;
 use crate::superblock_names::superblock_name;
 use crate::unbound::Unbound;
@@ -36,7 +36,7 @@ impl Unopened {
 }
 
 // The name of the leg of this number.
-fn name_of<'a>(names: &[&'a str], leg: usize) -> &'a str {
+pub(crate) fn name_of<'a>(names: &[&'a str], leg: usize) -> &'a str {
     names.get(leg).copied().unwrap_or("")
 }
 
@@ -77,11 +77,10 @@ fn put_unopened<E: Write>(
 }
 
 // What the option of an address is, and the port that it has where none is given.
-fn option_of(address: Address<'_>, listening: &ListenSettings<'_>) -> (&'static str, u16) {
-    if address == Address::of_clients(listening) {
-        ("--listen", 10809)
-    } else {
-        ("--control", 10810)
+fn option_of(port: Port) -> (&'static str, u16) {
+    match port {
+        Port::Clients => ("--listen", 10809),
+        Port::Control => ("--control", 10810),
     }
 }
 
@@ -116,17 +115,18 @@ fn put_taken<E: Write>(name: &str, holder: Option<Process>, option: &str, err: &
     };
 }
 
-// Why no socket listens at this address.
+// Why no socket listens there.
 fn put_unbound<E: Write>(
     alloc: Global,
-    address: Address<'_>,
+    port: Port,
     why: Unbound,
     listening: &ListenSettings<'_>,
     err: &mut E,
 ) -> Result<(), AllocError> {
+    let address = Address::of(port, listening);
     let text = format!(in alloc; "{address}")?;
     let name = text.as_str();
-    let (option, port) = option_of(address, listening);
+    let (option, port) = option_of(port);
     match why {
         Unbound::System(error) => return put_system(alloc, name, error, err),
         Unbound::NoAddress => put_no_address(name, err),
@@ -297,7 +297,7 @@ fn put_has_superblock<E: Write>(
 // Tells of which superblock's file a refusal is, if it is of one, and why.
 fn put_of_superblocks<E: Write>(
     alloc: Global,
-    fault: &StartFault<'_>,
+    fault: &StartFault,
     settings: &Settings<'_>,
     err: &mut E,
 ) -> Result<(), AllocError> {
@@ -321,7 +321,7 @@ fn put_of_superblocks<E: Write>(
 }
 
 // Tells which leg has a length that it cannot have, if a refusal is of one, and why not.
-fn put_of_lengths<E: Write>(fault: &StartFault<'_>, settings: &Settings<'_>, err: &mut E) {
+fn put_of_lengths<E: Write>(fault: &StartFault, settings: &Settings<'_>, err: &mut E) {
     let names = settings.mirror.legs.as_slice();
     match *fault {
         StartFault::BadLength(leg, bytes) => {
@@ -348,7 +348,7 @@ fn put_of_lengths<E: Write>(fault: &StartFault<'_>, settings: &Settings<'_>, err
 /// all by itself has no such line.
 pub fn tell_reason<E: Write>(
     alloc: Global,
-    fault: &StartFault<'_>,
+    fault: &StartFault,
     settings: &Settings<'_>,
     err: &mut E,
 ) -> Result<(), AllocError> {
@@ -357,8 +357,8 @@ pub fn tell_reason<E: Write>(
         StartFault::CannotOpen(leg, why) => {
             return put_unopened(alloc, name_of(names, leg), why, err);
         }
-        StartFault::CannotListen(address, why) => {
-            return put_unbound(alloc, address, why, &settings.listening, err);
+        StartFault::CannotListen(port, why) => {
+            return put_unbound(alloc, port, why, &settings.listening, err);
         }
         StartFault::InUse(leg) => {
             let text = "is mounted, swapped to, held by another device, or behind a loop device";

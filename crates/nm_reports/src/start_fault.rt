@@ -2,15 +2,16 @@ ghost use Rattle.std.specs.Prelude.{◌≡◌};
 ghost use Rattle.nm_reports.specs.StartFault.{status_of};
 ghost use Rattle.nm_reports.specs.declared.start_fault.StartFault.TheVariants.{Memory};
 
-use crate::address::Address;
+use crate::address::Port;
 use crate::reason::Unopened;
 use crate::unbound::Unbound;
 use std::alloc::AllocError;
 use thiserror::Error;
 
-/// Why the server does not start, or does not end well.
-#[derive(Debug, Drop, Error)]
-pub enum StartFault<'a> {
+/// Why the server does not start, or does not end well. It prints without the names of files and
+/// addresses; [`put_fault`](crate::put_fault) writes it with them.
+#[derive(Clone, Copy, Debug, Error)]
+pub enum StartFault {
     /// A word of the command line is not UTF-8.
     #[error("nbdmirror: a word is not UTF-8")]
     NotUtf8,
@@ -63,12 +64,14 @@ pub enum StartFault<'a> {
     /// The same, and the superblocks are there already.
     #[error("nbdmirror: --shrink: the legs have superblocks")]
     AlreadyShrunk,
-    /// The superblocks in the files of both names say that they are of this leg.
-    #[error("nbdmirror: {0} and {1}: each is leg {2} by its superblock")]
-    TwoOfLeg(&'a str, &'a str, u8),
-    /// The superblock in the file of this name says this leg, and only so many legs are named.
-    #[error("nbdmirror: {0}: is leg {1} by its superblock, and {2} legs are named")]
-    LegBeyond(&'a str, u8, usize),
+    /// The superblocks in the files at both places of the command line say that they are of this
+    /// leg.
+    #[error("nbdmirror: two files: each is leg {2} by its superblock")]
+    TwoOfLeg(usize, usize, u8),
+    /// The superblock in the file at this place of the command line says this leg, and there are
+    /// fewer.
+    #[error("nbdmirror: a file is leg {1} by its superblock, and fewer legs are named")]
+    LegBeyond(usize, u8),
     /// The export's name is empty or too long.
     #[error("nbdmirror: name must be 1 to 255 bytes")]
     BadName,
@@ -91,14 +94,12 @@ pub enum StartFault<'a> {
     /// This leg has a superblock, and the server was asked to keep none.
     #[error("nbdmirror: leg {0}: has a superblock")]
     HasSuperblock(usize),
-    /// A superblock stands beside this leg of this name, and the server was asked to keep them in a
-    /// folder.
-    #[error("nbdmirror: leg {0}: {1}.nbdmirror holds a superblock: give --superblock-from beside")]
-    HeldBeside(usize, &'a str),
-    /// A superblock stands beside this leg of this name, and the server was asked to keep them
-    /// inside the legs.
-    #[error("nbdmirror: leg {0}: {1}.nbdmirror holds a superblock: give --superblock beside")]
-    KeptBeside(usize, &'a str),
+    /// A superblock stands beside this leg, and the server was asked to keep them in a folder.
+    #[error("nbdmirror: leg {0}: holds a superblock beside it: give --superblock-from beside")]
+    HeldBeside(usize),
+    /// A superblock stands beside this leg, and the server was asked to keep them inside the legs.
+    #[error("nbdmirror: leg {0}: holds a superblock beside it: give --superblock beside")]
+    KeptBeside(usize),
     /// This leg has a superblock inside it, and the server was asked to keep them elsewhere.
     #[error("nbdmirror: leg {0}: has a superblock inside: give --superblock inside")]
     HeldInside(usize),
@@ -173,13 +174,13 @@ pub enum StartFault<'a> {
     #[error("nbdmirror: stripe {0}: no leg in sync is here: bring its disk back, or name the \
          newest leg that is here by --force-master")]
     NoneInSync(usize),
-    /// The superblocks do not know this leg of this name.
-    #[error("nbdmirror: leg {0} ({1}): has no superblock of this mirror: --add-leg {0} copies the \
+    /// The superblocks do not know this leg.
+    #[error("nbdmirror: leg {0}: has no superblock of this mirror: --add-leg {0} copies the \
          mirror over it")]
-    NotKnown(usize, &'a str),
-    /// No socket listens at this address.
-    #[error("nbdmirror: cannot listen on {0}")]
-    CannotListen(Address<'a>, Unbound),
+    NotKnown(usize),
+    /// No socket listens for this port.
+    #[error("nbdmirror: cannot listen")]
+    CannotListen(Port, Unbound),
     /// Out of memory, or out of threads.
     #[error("nbdmirror: no memory")]
     Memory,
@@ -191,7 +192,7 @@ pub enum StartFault<'a> {
     StripesStopped(u32, u32),
 }
 
-impl StartFault<'_> {
+impl StartFault {
     /// The exit status.
     pub fn status(&self) -> u8
         ensures { result ≡ status_of self.now }
@@ -216,14 +217,14 @@ impl StartFault<'_> {
             | StartFault::WentApart(_, _)
             | StartFault::PlacesApart(_)
             | StartFault::NoneInSync(_)
-            | StartFault::NotKnown(_, _) => 7,
+            | StartFault::NotKnown(_) => 7,
             // Settings or legs that do not fit.
             _ => 3,
         }
     }
 }
 
-impl From<AllocError> for StartFault<'_> {
+impl From<AllocError> for StartFault {
     ghost from_gives = { λ _ fault. fault ≡ Memory };
 
     fn from(_: AllocError) -> Self {

@@ -54,7 +54,7 @@ fn tell_superblock<P: OpensLegs, E: Write>(
 pub fn tell_absent<P: OpensLegs, E: Write>(
     alloc: Global,
     opener: &P,
-    fault: &StartFault<'_>,
+    fault: &StartFault,
     settings: &Settings<'_>,
     err: &mut E,
 ) -> Result<(), AllocError> {

@@ -21,12 +21,12 @@ use std::time::Clock;
 
 // The passes of who copies legs, and of so many sessions, as far as a mirror makes so many: the
 // last of 64 sessions has one less than others.
-fn passes_of<'a, R: Wait>(
+fn passes_of<R: Wait>(
     rt: &R,
     alloc: Global,
     mirror: &FileMirror,
     sessions: u8,
-) -> Result<Vec<Pass<Leg>>, StartFault<'a>> {
+) -> Result<Vec<Pass<Leg>>, StartFault> {
     let mut passes = Vec::new(alloc);
     let wanted = 1 + sessions as usize * AT_ONCE;
     for _ in 0..wanted.min(MOST_PASSES as usize) {
@@ -69,12 +69,12 @@ fn shares_of(alloc: Global, places: &[Arc<LegPlace>]) -> Result<Vec<Arc<LegPlace
 }
 
 // What attaches legs again, where that is asked for, or where one is missing.
-fn healing_of<'a>(
+fn healing_of(
     alloc: Global,
     copies: &CopySettings,
     files: &LegFiles,
     places: &[Arc<LegPlace>],
-) -> Result<Option<Healing>, StartFault<'a>> {
+) -> Result<Option<Healing>, StartFault> {
     if !copies.auto_attach && files.missing().is_none() {
         return Ok(None);
     }
@@ -83,11 +83,11 @@ fn healing_of<'a>(
 }
 
 // What an administrator wants of copies at first, and which legs are missing.
-fn orders_of<'a>(
+fn orders_of(
     alloc: Global,
     copies: &CopySettings,
     files: &LegFiles,
-) -> Result<CopyOrders, StartFault<'a>> {
+) -> Result<CopyOrders, StartFault> {
     let reasons = files.reasons(alloc)?;
     let orders = CopyOrders::new(copies.copy_rate).with_missing(MissingLegs::of(reasons));
     let doubts = MirrorDoubts::of(files.troubles(alloc)?);
@@ -95,13 +95,13 @@ fn orders_of<'a>(
 }
 
 // The copier of the mirror, which tells of its legs by their files' names.
-fn copier_of<'a>(
+fn copier_of(
     alloc: Global,
     mirror: &FileMirror,
     files: &LegFiles,
     places: &[Arc<LegPlace>],
     copies: &CopySettings,
-) -> Result<Copier, StartFault<'a>> {
+) -> Result<Copier, StartFault> {
     let Ok(legs) = files.lines(alloc) else {
         return Err(StartFault::Memory);
     };
@@ -114,11 +114,11 @@ fn copier_of<'a>(
 }
 
 /// What is counted of the clients of so many places, and of these files.
-pub fn metrics_of<'a>(
+pub fn metrics_of(
     alloc: Global,
     files: &LegFiles,
     sessions: u8,
-) -> Result<Metrics, StartFault<'a>> {
+) -> Result<Metrics, StartFault> {
     let Ok(legs) = files.counts(alloc) else {
         return Err(StartFault::Memory);
     };
@@ -156,12 +156,12 @@ pub struct Equipment {
 }
 
 // What is at hand beside the mirror over these files.
-fn equip<'a>(
+fn equip(
     alloc: Global,
     copies: &CopySettings,
     files: &LegFiles,
     superblocks: Option<Superblocks>,
-) -> Result<Equipment, StartFault<'a>> {
+) -> Result<Equipment, StartFault> {
     let (superblocks, late) = locked(alloc, superblocks);
     let places = places_of(alloc, files, late)?;
     Ok(Equipment {
@@ -187,14 +187,14 @@ pub struct Opened {
 
 /// Opens the mirror over these files. From then on a leg's file is held by its place and its
 /// stripes alone, which another may get.
-pub fn open<'a, R>(
+pub fn open<R>(
     rt: &R,
     alloc: Global,
-    settings: &Settings<'a>,
+    settings: &Settings<'_>,
     mut files: LegFiles,
     control: &Listener,
     lines: &LogLines,
-) -> Result<Opened, StartFault<'a>>
+) -> Result<Opened, StartFault>
 where
     R: Threads + Wait + Sync + Clock + RandomSource + Files<File = File>,
 {

@@ -14,7 +14,7 @@ use nm_geometry::{MOST_LEGS, Shape};
 use nm_leg_files::{FileMirror, Leg, LegFiles, LegMaker, LegPlace, LegRules, OpensLegs};
 use nm_mirror::Pass;
 use nm_places::{ServingState, SessionRules, Shared};
-use nm_reports::{Address, LogForm, LogLines, Metrics, StartFault, tell_reason};
+use nm_reports::{LogForm, LogLines, Metrics, Port, StartFault, put_fault, tell_reason};
 use nm_serving::{AT_ONCE, ExportName, ServedExport};
 use nm_sockets::{Listener, listen, listen_beside};
 use nm_starts::{
@@ -44,7 +44,7 @@ const OF_SESSION: usize = 2 + AT_ONCE;
 const OTHER_THREADS: usize = 9;
 
 // Whether the masters that are named, if some are, are one leg of this many.
-fn check_masters<'a>(opening: &OpeningSettings<'a>, legs: usize) -> Result<(), StartFault<'a>> {
+fn check_masters(opening: &OpeningSettings<'_>, legs: usize) -> Result<(), StartFault> {
     for named in [opening.master, opening.force_master] {
         if let Some(master) = named {
             if master as usize >= legs {
@@ -61,7 +61,7 @@ fn check_masters<'a>(opening: &OpeningSettings<'a>, legs: usize) -> Result<(), S
 }
 
 // The export that the settings ask for, unless they are wrong by themselves.
-fn export_asked<'a>(settings: &Settings<'a>) -> Result<ExportName<'a>, StartFault<'a>> {
+fn export_asked<'a>(settings: &Settings<'a>) -> Result<ExportName<'a>, StartFault> {
     let legs = settings.mirror.legs.len();
     if legs > MOST_LEGS as usize {
         return Err(StartFault::TooManyLegs);
@@ -79,12 +79,12 @@ fn export_asked<'a>(settings: &Settings<'a>) -> Result<ExportName<'a>, StartFaul
 }
 
 // What makes the legs of stripes that are opened anew.
-fn maker_of<'a, 'x>(
+fn maker_of<'x>(
     alloc: Global,
-    mirror: &MirrorSettings<'a>,
+    mirror: &MirrorSettings<'_>,
     places: &'x [Arc<LegPlace>],
     shape: &Shape,
-) -> Result<LegMaker<'x>, StartFault<'a>> {
+) -> Result<LegMaker<'x>, StartFault> {
     match Arc::new(alloc, AtomicU64::new(0)) {
         Ok(read) => Ok(LegMaker::new(places, shape, read, mirror.policy)),
         Err(_) => Err(StartFault::Memory),
@@ -104,13 +104,13 @@ fn count_stopped<R: Wait>(rt: &R, mirror: &FileMirror) -> u32 {
 
 // Ends the mirror, and tells how many entries the history of each stripe has had where that is
 // asked for.
-fn close<'a, O: Write>(
+fn close<O: Write>(
     alloc: Global,
     mirror: FileMirror,
     passes: Vec<Pass<Leg>>,
     is_verbose: bool,
     out: &mut O,
-) -> Result<(), StartFault<'a>> {
+) -> Result<(), StartFault> {
     let Ok(totals) = mirror.close(alloc, passes) else {
         return Err(StartFault::CannotClose);
     };
@@ -138,12 +138,12 @@ fn warn_if_open<R: Wait>(rt: &R, alloc: Global, control: &Listener, port: &str, 
 }
 
 // The files of the legs that the settings name, where the limits allow them.
-fn open_files<'a, R: Files<File = File>>(
+fn open_files<R: Files<File = File>>(
     rt: &R,
     alloc: Global,
-    settings: &Settings<'a>,
+    settings: &Settings<'_>,
     limits: &Limits,
-) -> Result<LegFiles, StartFault<'a>> {
+) -> Result<LegFiles, StartFault> {
     let rules = LegRules::of(settings, limits);
     let files = LegFiles::open(rt, alloc, &settings.mirror.legs, &rules)?;
     let legs = settings.mirror.legs.len().min(MOST_LEGS as usize) as u8;
@@ -152,13 +152,13 @@ fn open_files<'a, R: Files<File = File>>(
 }
 
 // A server that serves nobody yet, where its threads can be had.
-fn state_of<'a, R: Threads + Wait + Sync + Clock>(
+fn state_of<R: Threads + Wait + Sync + Clock>(
     rt: &R,
     alloc: Global,
-    settings: &Settings<'a>,
+    settings: &Settings<'_>,
     limits: &Limits,
     metrics: Metrics,
-) -> Result<ServingState, StartFault<'a>> {
+) -> Result<ServingState, StartFault> {
     let sessions = settings.clients.sessions as usize;
     let bytes = reply_bytes_of(limits, settings.clients.sessions) as usize;
     let rules = SessionRules::of(&settings.clients, bytes);
@@ -172,14 +172,14 @@ fn state_of<'a, R: Threads + Wait + Sync + Clock>(
 }
 
 // Ends the mirror once it is served no more, and tells how many of its stripes have stopped.
-fn end<'a, O: Write>(
+fn end<O: Write>(
     alloc: Global,
     mirror: FileMirror,
     passes: Vec<Pass<Leg>>,
     stopped: u32,
     is_verbose: bool,
     out: &mut O,
-) -> Result<(), StartFault<'a>> {
+) -> Result<(), StartFault> {
     let all = mirror.shape().stripes;
     close(alloc, mirror, passes, is_verbose, out)?;
     if stopped > 0 {
@@ -197,7 +197,7 @@ fn serve<'a, 's, R, P: OpensLegs + Sync, O: Write>(
     opened: Opened,
     shared: &'s Shared<'s>,
     out: &mut O,
-) -> Result<(), StartFault<'a>>
+) -> Result<(), StartFault>
 where
     R: Threads + Wait + Sync + Copy + Clock + Net<Listener = TcpListener, Stream = TcpStream>,
 {
@@ -237,15 +237,15 @@ where
 }
 
 // Opens what the settings ask for, and serves it until a `quit`.
-fn run<'a, R, P: OpensLegs + Sync, O: Write>(
+fn run<R, P: OpensLegs + Sync, O: Write>(
     rt: &R,
     alloc: Global,
     opener: &P,
-    settings: &mut Settings<'a>,
+    settings: &mut Settings<'_>,
     limits: &Limits,
     out: &mut O,
     lines: &LogLines,
-) -> Result<(), StartFault<'a>>
+) -> Result<(), StartFault>
 where
     R: Threads
         + Wait
@@ -265,8 +265,8 @@ where
     let named = export_asked(settings)?;
     let files = open_files(rt, alloc, settings, limits)?;
     let listening = &settings.listening;
-    let clients = listen(rt, alloc, Address::of_clients(listening))?;
-    let control = listen_beside(rt, alloc, Address::Named(listening.control), &clients)?;
+    let clients = listen(rt, alloc, Port::Clients, listening)?;
+    let control = listen_beside(rt, alloc, listening, &clients)?;
     files.start_threads(rt)?;
     let metrics = metrics_of(alloc, &files, settings.clients.sessions)?;
     // Whatever may be refused is, before a superblock is made.
@@ -280,7 +280,7 @@ where
 }
 
 // Tells why the server does not start or does not end well. What cannot be written is lost.
-fn tell_fault<E: Write>(fault: &StartFault<'_>, err: &mut E) -> u8
+fn tell_fault<E: Write>(fault: &StartFault, err: &mut E) -> u8
     ensures { result ≡ status_of fault.now }
 {
     let _ = writeln!(err, "{fault}");
@@ -293,14 +293,16 @@ fn tell_ended<P: OpensLegs, E: Write>(
     alloc: Global,
     opener: &P,
     settings: &Settings<'_>,
-    fault: &StartFault<'_>,
+    fault: &StartFault,
     err: &mut E,
 ) -> u8
     ensures { result ≡ status_of fault.now }
 {
     let _ = tell_reason(alloc, fault, settings, err);
     let _ = tell_absent(alloc, opener, fault, settings, err);
-    tell_fault(fault, err)
+    put_fault(fault, settings, err);
+    let _ = err.flush();
+    fault.status()
 }
 
 // Writes what clap says, and returns the exit status. What cannot be written is lost.
@@ -326,7 +328,7 @@ fn tell_words<O: Write, E: Write>(error: &Error, out: &mut O, err: &mut E) -> u8
 
 // The limits of the process, unless a thread would run out of its stack: this one too, in what
 // reads the words.
-fn limits_of<'a, R: Files<File = File>>(rt: &R, alloc: Global) -> Result<Limits, StartFault<'a>> {
+fn limits_of<R: Files<File = File>>(rt: &R, alloc: Global) -> Result<Limits, StartFault> {
     let limits = Limits::read(rt, alloc)?;
     check_stack(&limits)?;
     Ok(limits)

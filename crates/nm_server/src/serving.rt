@@ -193,7 +193,7 @@ where
 /// Serves until the last session has ended, while one thread copies legs and tells what happens
 /// to them, one saves superblocks where there are some, and others serve the control port. Copies
 /// begin as they are ordered. Gives the copier's pass back.
-pub fn serve_and_copy<'a, 's, R, O: OpensLegs + Sync>(
+pub fn serve_and_copy<'s, R, O: OpensLegs + Sync>(
     rt: &R,
     shared: &'s Shared<'s>,
     export: &ServedExport<'_, '_>,
@@ -201,7 +201,7 @@ pub fn serve_and_copy<'a, 's, R, O: OpensLegs + Sync>(
     copying: Copying,
     own: &Equipment,
     (legs, maker): (&LegRenewer<'_, O>, &LegMaker<'_>),
-) -> Result<Pass<Leg>, StartFault<'a>>
+) -> Result<Pass<Leg>, StartFault>
 where
     R: Threads + Wait + Sync + Copy + Clock + Net<Listener = TcpListener, Stream = TcpStream>,
 {

@@ -2,7 +2,8 @@
 
 use crate::listener::Listener;
 use crate::socket_file::{SocketFile, bind_at};
-use nm_reports::{Address, StartFault, Unbound};
+use nm_commands::ListenSettings;
+use nm_reports::{Address, Port, StartFault, Unbound};
 use nm_system::holder_of_port;
 use std::alloc::{AllocError, Global};
 use std::fs::File;
@@ -55,31 +56,34 @@ fn listen_at<'a, 'p, R>(
     alloc: Global,
     address: Address<'p>,
     path: &'p str,
-) -> Result<Listening<'a, 'p, R>, StartFault<'p>>
+) -> Result<Listening<'a, 'p, R>, Unbound>
 where
     R: Files<File = File> + Clock + Wait + Net<Listener = TcpListener, Stream = TcpStream>,
 {
-    match bind_at(rt, alloc, path) {
-        Ok((file, listener)) => Ok(Listening {
-            file: Some(file),
-            listener: Listener::Unix(listener),
-            address,
-        }),
-        Err(why) => Err(StartFault::CannotListen(address, why)),
-    }
+    let (file, listener) = bind_at(rt, alloc, path)?;
+    Ok(Listening {
+        file: Some(file),
+        listener: Listener::Unix(listener),
+        address,
+    })
 }
 
-/// A socket that listens at this address.
+/// A socket that listens where this one is to.
 pub fn listen<'a, 'p, R>(
     rt: &'a R,
     alloc: Global,
-    address: Address<'p>,
-) -> Result<Listening<'a, 'p, R>, StartFault<'p>>
+    port: Port,
+    listening: &ListenSettings<'p>,
+) -> Result<Listening<'a, 'p, R>, StartFault>
 where
     R: Files<File = File> + Clock + Wait + Net<Listener = TcpListener, Stream = TcpStream>,
 {
+    let address = Address::of(port, listening);
     if let Some(path) = address.unix_path() {
-        return listen_at(rt, alloc, address, path);
+        return match listen_at(rt, alloc, address, path) {
+            Ok(own) => Ok(own),
+            Err(why) => Err(StartFault::CannotListen(port, why)),
+        };
     }
     let text = format!(in alloc; "{address}")?;
     match TcpListener::bind(rt, text.as_str()) {
@@ -90,28 +94,29 @@ where
         }),
         Err(error) => {
             let why = unbound_at(rt, alloc, text.as_str(), error);
-            Err(StartFault::CannotListen(address, why))
+            Err(StartFault::CannotListen(port, why))
         }
     }
 }
 
-/// A socket that listens at this address beside that of clients.
+/// The control port's socket, beside that of clients.
 pub fn listen_beside<'a, 'p, R>(
     rt: &'a R,
     alloc: Global,
-    address: Address<'p>,
+    listening: &ListenSettings<'p>,
     clients: &Listening<'_, '_, R>,
-) -> Result<Listening<'a, 'p, R>, StartFault<'p>>
+) -> Result<Listening<'a, 'p, R>, StartFault>
 where
     R: Files<File = File> + Clock + Wait + Net<Listener = TcpListener, Stream = TcpStream>,
 {
-    let listening = listen(rt, alloc, address);
-    if let Err(StartFault::CannotListen(_, Unbound::Taken(_))) = &listening {
+    let own = listen(rt, alloc, Port::Control, listening);
+    if let Err(StartFault::CannotListen(_, Unbound::Taken(_))) = &own {
+        let address = Address::of(Port::Control, listening);
         if is_same(alloc, address, clients.address)? {
-            return Err(StartFault::CannotListen(address, Unbound::OfClients));
+            return Err(StartFault::CannotListen(Port::Control, Unbound::OfClients));
         }
     }
-    listening
+    own
 }
 
 // Whether two addresses are written alike.

@@ -32,7 +32,7 @@ pub fn take_added(found: &mut [Option<Superblock>; 8], legs: u8) {
 
 /// Refuses a leg that is to be added and is none; and where there are no superblocks, or are none
 /// yet, all that are to be added.
-pub fn check_added<'a>(settings: &Settings<'_>, is_known: bool) -> Result<(), StartFault<'a>> {
+pub fn check_added(settings: &Settings<'_>, is_known: bool) -> Result<(), StartFault> {
     for word in settings.opening.added.iter() {
         let leg = number_of(word);
         if leg as usize >= settings.mirror.legs.len() {
@@ -46,10 +46,10 @@ pub fn check_added<'a>(settings: &Settings<'_>, is_known: bool) -> Result<(), St
 }
 
 /// Refuses the first leg that superblocks of so many legs do not know, and that is not to be added.
-pub fn check_known<'a>(settings: &Settings<'a>, legs: u8) -> Result<(), StartFault<'a>> {
-    for (leg, name) in settings.mirror.legs.iter().enumerate() {
-        if leg >= legs as usize && !is_added(&settings.opening, leg) {
-            return Err(StartFault::NotKnown(leg, *name));
+pub fn check_known(settings: &Settings<'_>, legs: u8) -> Result<(), StartFault> {
+    for leg in legs as usize..settings.mirror.legs.len() {
+        if !is_added(&settings.opening, leg) {
+            return Err(StartFault::NotKnown(leg));
         }
     }
     Ok(())

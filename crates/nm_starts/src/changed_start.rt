@@ -51,14 +51,14 @@ pub fn changed_here(seen: &FoundLegs) -> [bool; 8] {
 
 /// Opens the stripes on the legs' files, which are compared with this leg's. Refused are legs that
 /// differ, or one that cannot be read: nothing was written to them.
-pub fn open_compared<'a>(
+pub fn open_compared(
     alloc: Global,
     policy: Policy,
     files: &LegFiles,
     shape: &Shape,
     read: &BytesRead,
     master: u8,
-) -> Result<Vec<Stripe<Leg>>, StartFault<'a>>
+) -> Result<Vec<Stripe<Leg>>, StartFault>
     ensures stripes { IfOk result (λ stripes. AreStripesOf shape.now stripes.items) }
     ensures alike { IfOk result (λ stripes. AreAlike stripes.items) }
 {

@@ -32,13 +32,13 @@ fn all_legs() -> u8
 
 // Opens the stripes on the legs' files with all legs in sync: they are taken to hold the same, and
 // none is read.
-fn open_equal<'a>(
+fn open_equal(
     alloc: Global,
     policy: Policy,
     files: &LegFiles,
     shape: &Shape,
     read: &BytesRead,
-) -> Result<Vec<Stripe<Leg>>, StartFault<'a>>
+) -> Result<Vec<Stripe<Leg>>, StartFault>
     ensures stripes { IfOk result (λ stripes. AreStripesOf shape.now stripes.items) }
     ensures alike { IfOk result (λ stripes. AreAlike stripes.items) }
 {
@@ -67,13 +67,13 @@ fn open_equal<'a>(
 
 /// Opens the stripes that the settings ask for on the legs' files, as legs stand that no superblock
 /// tells of.
-pub fn open_untold<'a>(
+pub fn open_untold(
     alloc: Global,
     settings: &Settings<'_>,
     files: &LegFiles,
     shape: &Shape,
     read: &BytesRead,
-) -> Result<Vec<Stripe<Leg>>, StartFault<'a>>
+) -> Result<Vec<Stripe<Leg>>, StartFault>
     ensures stripes { IfOk result (λ stripes. AreStripesOf shape.now stripes.items) }
     ensures opened { IfOk result (λ stripes. settings.now.opening.start ≢ Equal
         → AreOpenedOn (leg_type ⟦<FileLeg<CountingFile> as LegPart>⟧.model

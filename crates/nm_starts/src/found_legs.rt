@@ -13,14 +13,14 @@ use std::rt::Files;
 use std::sync::Wait;
 
 /// What is found of the legs: these superblocks, and their files.
-pub fn find_legs<'a, R: Files<File = File> + Wait>(
+pub fn find_legs<R: Files<File = File> + Wait>(
     rt: &R,
     alloc: Global,
     opening: &OpeningSettings<'_>,
     files: &LegFiles,
     superblocks: &[Option<Superblock>; 8],
     lines: &LogLines,
-) -> Result<FoundLegs, StartFault<'a>> {
+) -> Result<FoundLegs, StartFault> {
     let legs = LegsHere {
         here: files.here(),
         settled: files.settle(),

@@ -21,7 +21,7 @@ use std::fs::File;
 use std::rt::Files;
 
 /// Those that the image opens.
-pub fn gate_by_image<'a, R: Files<File = File>>(
+pub fn gate_by_image<R: Files<File = File>>(
     rt: &R,
     alloc: Global,
     policy: Policy,
@@ -29,7 +29,7 @@ pub fn gate_by_image<'a, R: Files<File = File>>(
     shape: &Shape,
     read: &BytesRead,
     kept: KeptImage,
-) -> Result<(Vec<GatedStripe<Leg>>, Superblocks), StartFault<'a>>
+) -> Result<(Vec<GatedStripe<Leg>>, Superblocks), StartFault>
     ensures fit { IfOk result (λ all.
         AreStripesOf shape.now (map (λ own. own.stripe) all.0.items)) }
     ensures opened { IfOk result (λ all. AreOpenedBy
@@ -54,7 +54,7 @@ pub fn gate_by_image<'a, R: Files<File = File>>(
 
 /// Those of legs that were all changed, and hold the same: they are compared with the leg that the
 /// image names first.
-pub fn gate_compared<'a, R: Files<File = File>>(
+pub fn gate_compared<R: Files<File = File>>(
     rt: &R,
     alloc: Global,
     policy: Policy,
@@ -62,7 +62,7 @@ pub fn gate_compared<'a, R: Files<File = File>>(
     shape: &Shape,
     read: &BytesRead,
     kept: KeptImage,
-) -> Result<(Vec<GatedStripe<Leg>>, Superblocks), StartFault<'a>>
+) -> Result<(Vec<GatedStripe<Leg>>, Superblocks), StartFault>
     ensures fit { IfOk result (λ all.
         AreStripesOf shape.now (map (λ own. own.stripe) all.0.items)) }
     ensures alike { IfOk result (λ all. AreAlike (map (λ own. own.stripe) all.0.items)) }

@@ -5,7 +5,7 @@ use nm_reports::StartFault;
 use std::random::RandomSource;
 
 /// A number that is not 0.
-pub fn draw_id<'a, R: RandomSource>(rt: &R) -> Result<u64, StartFault<'a>>
+pub fn draw_id<R: RandomSource>(rt: &R) -> Result<u64, StartFault>
     ensures { IfOk result (λ id. 0 < id) }
 {
     let mut bytes = [0; 8];
@@ -16,7 +16,7 @@ pub fn draw_id<'a, R: RandomSource>(rt: &R) -> Result<u64, StartFault<'a>>
 }
 
 /// The number of a new mirror, that is not 0.
-pub fn draw_mirror_id<'a, R: RandomSource>(rt: &R) -> Result<u128, StartFault<'a>>
+pub fn draw_mirror_id<R: RandomSource>(rt: &R) -> Result<u128, StartFault>
     ensures { IfOk result (λ id. 0 < id) }
 {
     let high = draw_id(rt)?;

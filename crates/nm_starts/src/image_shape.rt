@@ -7,11 +7,11 @@ use nm_reports::StartFault;
 use nm_superblock::Superblock;
 
 /// The shape of the mirror that the image is of, over these files.
-pub fn shape_by<'a>(
+pub fn shape_by(
     mirror: &MirrorSettings<'_>,
     files: &LegFiles,
     image: &Superblock,
-) -> Result<Shape, StartFault<'a>> {
+) -> Result<Shape, StartFault> {
     let shape = match files.shape(image.stripes, mirror.history) {
         Some(shape) if fits(&shape, image) => shape,
         _ => return Err(StartFault::OtherMirror(image.leg as usize)),
@@ -22,11 +22,11 @@ pub fn shape_by<'a>(
 
 // Refuses another number of stripes than the image's, where one was named. More than there are
 // regions are as many as these.
-fn check_stripes<'a>(
+fn check_stripes(
     mirror: &MirrorSettings<'_>,
     files: &LegFiles,
     image: &Superblock,
-) -> Result<(), StartFault<'a>> {
+) -> Result<(), StartFault> {
     if !mirror.names_stripes {
         return Ok(());
     }

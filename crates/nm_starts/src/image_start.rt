@@ -15,7 +15,7 @@ use nm_superblock::Superblock;
 use std::alloc::Global;
 
 /// Opens the stripes on the legs' files by the image: each as that has it start.
-pub fn open_by_image<'a>(
+pub fn open_by_image(
     alloc: Global,
     policy: Policy,
     files: &LegFiles,
@@ -23,7 +23,7 @@ pub fn open_by_image<'a>(
     read: &BytesRead,
     image: &Superblock,
     here: &[bool; 8],
-) -> Result<Vec<Stripe<Leg>>, StartFault<'a>>
+) -> Result<Vec<Stripe<Leg>>, StartFault>
     ensures stripes { IfOk result (λ stripes. AreStripesOf shape.now stripes.items) }
     ensures opened { IfOk result (λ stripes. AreOpenedBy
         (λ leg. leg_place leg.medium leg.stripe leg.shape) files.now (record {

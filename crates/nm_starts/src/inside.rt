@@ -23,7 +23,7 @@ pub fn settle_place<R: Files<File = File>>(rt: &R, settings: &mut Settings<'_>) 
 }
 
 /// Refuses that what legs have may go for superblocks inside them, where these are to be elsewhere.
-pub fn check_shrink<'a>(opening: &OpeningSettings<'_>) -> Result<(), StartFault<'a>> {
+pub fn check_shrink(opening: &OpeningSettings<'_>) -> Result<(), StartFault> {
     if opening.shrink && opening.superblock != SuperblockPlace::Inside {
         return Err(StartFault::NothingToShrink);
     }
@@ -31,7 +31,7 @@ pub fn check_shrink<'a>(opening: &OpeningSettings<'_>) -> Result<(), StartFault<
 }
 
 /// Refuses that what legs have may go for superblocks inside them, where they have some.
-pub fn check_unshrunk<'a>(opening: &OpeningSettings<'_>) -> Result<(), StartFault<'a>> {
+pub fn check_unshrunk(opening: &OpeningSettings<'_>) -> Result<(), StartFault> {
     if opening.shrink {
         return Err(StartFault::AlreadyShrunk);
     }
@@ -40,7 +40,7 @@ pub fn check_unshrunk<'a>(opening: &OpeningSettings<'_>) -> Result<(), StartFaul
 
 /// Refuses the first leg that has a superblock inside it, where they are to be elsewhere and none
 /// was found there: it would be lost to the export, or believed again later.
-pub fn check_none_inside<'a>(files: &LegFiles) -> Result<(), StartFault<'a>> {
+pub fn check_none_inside(files: &LegFiles) -> Result<(), StartFault> {
     for leg in 0..files.count() {
         if files
             .file(leg)
@@ -54,10 +54,10 @@ pub fn check_none_inside<'a>(files: &LegFiles) -> Result<(), StartFault<'a>> {
 
 /// Refuses the first leg that has a superblock inside it, where none are kept. Where a leg was
 /// named as the newest by force, these superblocks are made invalid.
-pub fn leave_none_inside<'a>(
+pub fn leave_none_inside(
     opening: &OpeningSettings<'_>,
     files: &LegFiles,
-) -> Result<(), StartFault<'a>> {
+) -> Result<(), StartFault> {
     if opening.force_master.is_none() {
         return check_none_inside(files);
     }
@@ -80,7 +80,7 @@ pub fn leave_none_inside<'a>(
 
 impl FoundFiles {
     // Whether anything is there where a superblock is to be inside this leg.
-    fn holds_data<'a>(&self, leg: usize) -> Result<bool, StartFault<'a>> {
+    fn holds_data(&self, leg: usize) -> Result<bool, StartFault> {
         if matches!(self.files.get(leg), Some(Some(_))) {
             return Ok(true);
         }
@@ -95,7 +95,7 @@ impl FoundFiles {
 
     /// Refuses the first leg of a new mirror that has data where its superblock is to be inside it,
     /// unless these may go, or a master is named.
-    pub fn check_free<'a>(&self, opening: &OpeningSettings<'_>) -> Result<(), StartFault<'a>> {
+    pub fn check_free(&self, opening: &OpeningSettings<'_>) -> Result<(), StartFault> {
         if !self.at.is_inside() || opening.shrink || named_master(opening).is_some() {
             return Ok(());
         }

@@ -44,11 +44,11 @@ pub struct Superblocks {
 }
 
 /// The stripes of a mirror without superblocks.
-pub fn open_gates<'a>(
+pub fn open_gates(
     alloc: Global,
     shape: &Shape,
     stripes: Vec<Stripe<Leg>>,
-) -> Result<Vec<GatedStripe<Leg>>, StartFault<'a>>
+) -> Result<Vec<GatedStripe<Leg>>, StartFault>
     requires { AreStripesOf shape.now stripes.items }
     ensures { IfOk result (λ all. AreStripesOf shape.now (map (λ own. own.stripe) all.items)) }
 {
@@ -93,12 +93,12 @@ fn absent_legs(here: &[bool; 8]) -> [bool; 8]
 
 // Saves the image, into both slots where this is asked for: from then on no start finds another
 // one.
-fn save_image<'a, F: SlotFile>(
+fn save_image<F: SlotFile>(
     files: &mut SuperblockFiles<F>,
     image: &Superblock,
     here: &[bool; 8],
     is_twice: bool,
-) -> Result<(), StartFault<'a>>
+) -> Result<(), StartFault>
     ensures { OnOk result (SavesTimes is_twice (SavesOnce F.honest image.now here.now)
         files.old files.new) }
 {
@@ -110,11 +110,11 @@ fn save_image<'a, F: SlotFile>(
 }
 
 // Saves the image once.
-fn save_once<'a, F: SlotFile>(
+fn save_once<F: SlotFile>(
     files: &mut SuperblockFiles<F>,
     image: &Superblock,
     here: &[bool; 8],
-) -> Result<(), StartFault<'a>>
+) -> Result<(), StartFault>
     ensures { OnOk result (SavesOnce F.honest image.now here.now files.old files.new) }
 {
     let out = absent_legs(here);
@@ -125,10 +125,10 @@ fn save_once<'a, F: SlotFile>(
 }
 
 // Why it was not saved: the error of the first leg's file that has one.
-fn why_unsaved<'a, F: SlotFile>(
+fn why_unsaved<F: SlotFile>(
     files: &SuperblockFiles<F>,
     failed: &FailedFiles,
-) -> StartFault<'a> {
+) -> StartFault {
     for (leg, has_failed) in failed.legs.iter().enumerate() {
         if *has_failed {
             if let Some(error) = files.error(leg) {
@@ -141,14 +141,14 @@ fn why_unsaved<'a, F: SlotFile>(
 
 // The files that were found with those that are made, once the image is saved in them. Where that
 // fails those that were made are removed.
-fn save_into<'a, R: Files<File = File>>(
+fn save_into<R: Files<File = File>>(
     rt: &R,
     alloc: Global,
     found: FoundFiles,
     image: &Superblock,
     here: &[bool; 8],
     went_by: Option<Superblock>,
-) -> Result<AllFiles, StartFault<'a>>
+) -> Result<AllFiles, StartFault>
     ensures { IfOk result (λ all. IsSaved ⟦<LateSlots as SlotFile>⟧.honest
         image.now here.now found.files.items all.files) }
 {
@@ -167,11 +167,11 @@ fn save_into<'a, R: Files<File = File>>(
 }
 
 // The stripes behind gates that go by the image.
-fn gate_stripes<'a, L: LegPart>(
+fn gate_stripes<L: LegPart>(
     alloc: Global,
     image: &Superblock,
     stripes: Vec<Stripe<L>>,
-) -> Result<Vec<GatedStripe<L>>, StartFault<'a>>
+) -> Result<Vec<GatedStripe<L>>, StartFault>
     ensures stripes { IfOk result (λ all. map (λ own. own.stripe) all.items ≡ stripes.items) }
     ensures gates { IfOk result (λ all.
         GatesKnow image.now stripes.items (map (λ own. own.durable) all.items)) }
@@ -188,13 +188,13 @@ fn gate_stripes<'a, L: LegPart>(
 
 impl KeptImage {
     /// The stripes behind their gates, once the image is saved, and what saves from then on.
-    pub fn gate<'a, R: Files<File = File>>(
+    pub fn gate<R: Files<File = File>>(
         self,
         rt: &R,
         alloc: Global,
         shape: &Shape,
         stripes: Vec<Stripe<Leg>>,
-    ) -> Result<(Vec<GatedStripe<Leg>>, Superblocks), StartFault<'a>>
+    ) -> Result<(Vec<GatedStripe<Leg>>, Superblocks), StartFault>
         requires { AreStripesOf shape.now stripes.items }
         ensures fit { IfOk result (λ all.
             AreStripesOf shape.now (map (λ own. own.stripe) all.0.items)) }

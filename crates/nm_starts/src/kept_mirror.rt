@@ -49,11 +49,11 @@ pub struct OpenedMirror {
 }
 
 // The mirror of these stripes.
-fn mirror_of<'a>(
+fn mirror_of(
     alloc: Global,
     shape: Shape,
     stripes: Vec<GatedStripe<Leg>>,
-) -> Result<FileMirror, StartFault<'a>>
+) -> Result<FileMirror, StartFault>
     requires { AreStripesOf shape (map (λ own. own.stripe) stripes.items) }
 {
     match Mirror::new(alloc, shape, stripes, NoGate) {
@@ -64,14 +64,14 @@ fn mirror_of<'a>(
 
 // The mirror over the legs' files, which its stripes share: they are compared, since all of them
 // were changed.
-fn open_changed<'a, R: Files<File = File>>(
+fn open_changed<R: Files<File = File>>(
     rt: &R,
     alloc: Global,
-    mirror: &MirrorSettings<'a>,
+    mirror: &MirrorSettings<'_>,
     files: &LegFiles,
     read: &BytesRead,
     kept: KeptImage,
-) -> Result<OpenedMirror, StartFault<'a>> {
+) -> Result<OpenedMirror, StartFault> {
     let shape = shape_by(mirror, files, &kept.image)?;
     let (gated, superblocks) = gate_compared(rt, alloc, mirror.policy, files, &shape, read, kept)?;
     Ok(OpenedMirror {
@@ -81,11 +81,11 @@ fn open_changed<'a, R: Files<File = File>>(
 }
 
 // The mirror of these stripes, without superblocks.
-fn open_unkept<'a>(
+fn open_unkept(
     alloc: Global,
     shape: Shape,
     stripes: Vec<Stripe<Leg>>,
-) -> Result<OpenedMirror, StartFault<'a>>
+) -> Result<OpenedMirror, StartFault>
     requires { AreStripesOf shape stripes.items }
 {
     let open = open_gates(alloc, &shape, stripes)?;
@@ -96,13 +96,13 @@ fn open_unkept<'a>(
 }
 
 // The mirror of these stripes, which gets its first superblocks.
-fn open_first<'a, R: Files<File = File>>(
+fn open_first<R: Files<File = File>>(
     rt: &R,
     alloc: Global,
     shape: Shape,
     stripes: Vec<Stripe<Leg>>,
     kept: KeptImage,
-) -> Result<OpenedMirror, StartFault<'a>>
+) -> Result<OpenedMirror, StartFault>
     requires { AreStripesOf shape stripes.items }
 {
     let (gated, superblocks) = kept.gate(rt, alloc, &shape, stripes)?;
@@ -114,14 +114,14 @@ fn open_first<'a, R: Files<File = File>>(
 
 // The mirror over the legs' files, which its stripes share, as legs stand that no superblock tells
 // of, or that are compared. It gets its first superblocks, if they are kept.
-fn open_mirror<'a, R: Files<File = File>>(
+fn open_mirror<R: Files<File = File>>(
     rt: &R,
     alloc: Global,
-    settings: &Settings<'a>,
+    settings: &Settings<'_>,
     files: &LegFiles,
     read: &BytesRead,
     kept: Option<KeptImage>,
-) -> Result<OpenedMirror, StartFault<'a>> {
+) -> Result<OpenedMirror, StartFault> {
     let kept = match kept {
         Some(kept) if kept.is_compared => {
             return open_changed(rt, alloc, &settings.mirror, files, read, kept);
@@ -139,7 +139,7 @@ fn open_mirror<'a, R: Files<File = File>>(
 }
 
 // A count of the bytes that are read of all legs: none so far.
-fn none_read<'a>(alloc: Global) -> Result<BytesRead, StartFault<'a>> {
+fn none_read(alloc: Global) -> Result<BytesRead, StartFault> {
     match Arc::new(alloc, AtomicU64::new(0)) {
         Ok(read) => Ok(read),
         Err(_) => Err(StartFault::Memory),
@@ -148,15 +148,15 @@ fn none_read<'a>(alloc: Global) -> Result<BytesRead, StartFault<'a>> {
 
 // Opens the mirror, while one thread tells how far the comparison of its legs is, and another one
 // answers. Where no thread can be had nothing is told.
-fn open_watched<'a, R, M: Meanwhile + Sync>(
+fn open_watched<R, M: Meanwhile + Sync>(
     rt: &R,
     alloc: Global,
-    settings: &Settings<'a>,
+    settings: &Settings<'_>,
     files: &LegFiles,
     meanwhile: &M,
     lines: &LogLines,
     kept: Option<KeptImage>,
-) -> Result<OpenedMirror, StartFault<'a>>
+) -> Result<OpenedMirror, StartFault>
 where
     R: Threads + Wait + Sync + Clock + Files<File = File>,
 {
@@ -183,13 +183,13 @@ where
 }
 
 // The mirror that this image opens.
-fn open_image<'a, R: Files<File = File>>(
+fn open_image<R: Files<File = File>>(
     rt: &R,
     alloc: Global,
-    mirror: &MirrorSettings<'a>,
+    mirror: &MirrorSettings<'_>,
     files: &LegFiles,
     kept: KeptImage,
-) -> Result<OpenedMirror, StartFault<'a>> {
+) -> Result<OpenedMirror, StartFault> {
     let read = none_read(alloc)?;
     let shape = shape_by(mirror, files, &kept.image)?;
     let (gated, superblocks) = gate_by_image(rt, alloc, mirror.policy, files, &shape, &read, kept)?;
@@ -201,13 +201,13 @@ fn open_image<'a, R: Files<File = File>>(
 
 // Lets go of the files under names of legs that the newest superblock knows, and of which none was
 // found: nothing is copied over them by a start that nobody forced.
-fn lay_unknown_aside<'a>(
+fn lay_unknown_aside(
     alloc: Global,
     opening: &OpeningSettings<'_>,
     newest: Option<Superblock>,
     found: &[Option<Superblock>; 8],
     files: &mut LegFiles,
-) -> Result<(), StartFault<'a>> {
+) -> Result<(), StartFault> {
     match newest {
         Some(newest) if opening.force_master.is_none() => {
             files.lay_aside(alloc, &unknown_legs(&newest, found))?;
@@ -218,10 +218,10 @@ fn lay_unknown_aside<'a>(
 }
 
 // Refuses a leg that was named as the newest one, or as one that was moved, and is missing.
-fn check_all_named<'a>(
+fn check_all_named(
     opening: &OpeningSettings<'_>,
     files: &LegFiles,
-) -> Result<(), StartFault<'a>> {
+) -> Result<(), StartFault> {
     files.check_named(named_master(opening))?;
     for (leg, is_moved) in moved_legs(opening).iter().enumerate() {
         if *is_moved {
@@ -251,14 +251,14 @@ fn gone_by<R: Wait>(
 
 // What is found of the legs by the superblocks in these places, and the newest of these. Files
 // under names of legs that it knows and of which none was found are let go of.
-fn see_legs<'a, R: Files<File = File> + Wait>(
+fn see_legs<R: Files<File = File> + Wait>(
     rt: &R,
     alloc: Global,
-    opening: &OpeningSettings<'a>,
+    opening: &OpeningSettings<'_>,
     files: &mut LegFiles,
     places: &mut FoundPlaces,
     lines: &LogLines,
-) -> Result<(FoundLegs, Option<Superblock>), StartFault<'a>> {
+) -> Result<(FoundLegs, Option<Superblock>), StartFault> {
     places.tell(rt, alloc, lines);
     let mut superblocks = places.superblocks(alloc, opening)?;
     let newest = newest_of(&superblocks);
@@ -286,14 +286,14 @@ struct GoneBy {
 
 // What the start goes by, of the superblocks in these places. The files of legs that it does not
 // take are let go of.
-fn choose_image<'a, R>(
+fn choose_image<R>(
     rt: &R,
     alloc: Global,
-    settings: &Settings<'a>,
+    settings: &Settings<'_>,
     files: &mut LegFiles,
     places: &mut FoundPlaces,
     lines: &LogLines,
-) -> Result<GoneBy, StartFault<'a>>
+) -> Result<GoneBy, StartFault>
 where
     R: Wait + RandomSource + Files<File = File>,
 {
@@ -315,14 +315,14 @@ where
 }
 
 // The mirror that superblocks open, or that gets its first ones.
-fn open_kept<'a, R, M: Meanwhile + Sync>(
+fn open_kept<R, M: Meanwhile + Sync>(
     rt: &R,
     alloc: Global,
-    settings: &Settings<'a>,
+    settings: &Settings<'_>,
     files: &mut LegFiles,
     meanwhile: &M,
     lines: &LogLines,
-) -> Result<OpenedMirror, StartFault<'a>>
+) -> Result<OpenedMirror, StartFault>
 where
     R: Threads + Wait + Sync + Clock + RandomSource + Files<File = File>,
 {
@@ -352,14 +352,14 @@ where
 
 /// Opens the mirror that the settings ask for: by superblocks, where they are kept. Who answers
 /// meanwhile does so while its legs are compared.
-pub fn open_asked_for<'a, R, M: Meanwhile + Sync>(
+pub fn open_asked_for<R, M: Meanwhile + Sync>(
     rt: &R,
     alloc: Global,
-    settings: &Settings<'a>,
+    settings: &Settings<'_>,
     files: &mut LegFiles,
     meanwhile: &M,
     lines: &LogLines,
-) -> Result<OpenedMirror, StartFault<'a>>
+) -> Result<OpenedMirror, StartFault>
 where
     R: Threads + Wait + Sync + Clock + RandomSource + Files<File = File>,
 {

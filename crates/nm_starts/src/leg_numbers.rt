@@ -30,21 +30,12 @@ fn numbers_inside<R: Files<File = File>>(rt: &R, names: &[&str]) -> [Option<u8>;
     said
 }
 
-// The name of this place among these.
-fn name_at<'a>(names: &[&'a str], place: usize) -> &'a str {
-    names.get(place).copied().unwrap_or("")
-}
-
-// Why the legs of these names have no numbers. That none is left cannot be: each number is said by
-// one leg at most.
-fn misnumbered<'a>(names: &[&'a str], why: Misnumbered) -> StartFault<'a> {
+// Why the legs have no numbers. That none is left cannot be: each number is said by one leg at
+// most.
+fn misnumbered(why: Misnumbered) -> StartFault {
     match why {
-        Misnumbered::Twice(one, other, leg) => {
-            StartFault::TwoOfLeg(name_at(names, one), name_at(names, other), leg)
-        }
-        Misnumbered::Beyond(one, leg) => {
-            StartFault::LegBeyond(name_at(names, one), leg, names.len())
-        }
+        Misnumbered::Twice(one, other, leg) => StartFault::TwoOfLeg(one, other, leg),
+        Misnumbered::Beyond(one, leg) => StartFault::LegBeyond(one, leg),
         Misnumbered::NoneLeft => StartFault::Memory,
     }
 }
@@ -83,12 +74,12 @@ fn tell_numbers<R: Wait>(
 
 /// Puts the legs' names in the order of the numbers that the superblocks inside their files say,
 /// and tells them. A file without one has one of the numbers that are left.
-pub fn sort_legs<'a, R: Files<File = File> + Wait>(
+pub fn sort_legs<R: Files<File = File> + Wait>(
     rt: &R,
     alloc: Global,
-    settings: &mut Settings<'a>,
+    settings: &mut Settings<'_>,
     lines: &LogLines,
-) -> Result<(), StartFault<'a>> {
+) -> Result<(), StartFault> {
     let count = settings.mirror.legs.len();
     if settings.opening.superblock != SuperblockPlace::Inside || count > MOST_LEGS as usize {
         return Ok(());
@@ -96,7 +87,7 @@ pub fn sort_legs<'a, R: Files<File = File> + Wait>(
     let said = numbers_inside(rt, &settings.mirror.legs);
     let numbers = match leg_numbers(&said, count as u8) {
         Ok(numbers) => numbers,
-        Err(why) => return Err(misnumbered(&settings.mirror.legs, why)),
+        Err(why) => return Err(misnumbered(why)),
     };
     tell_numbers(rt, alloc, &settings.mirror.legs, &said, lines);
     settings.mirror.legs = in_order(alloc, &settings.mirror.legs, &numbers)?;

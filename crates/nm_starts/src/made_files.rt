@@ -56,7 +56,7 @@ impl Made {
 
     /// Makes the superblock's file of this leg, with this superblock in it, or none yet. It is
     /// noted as made by this start where nothing had its name.
-    pub(crate) fn make<'a, R: Files<File = File>>(
+    pub(crate) fn make<R: Files<File = File>>(
         &mut self,
         rt: &R,
         alloc: Global,
@@ -64,7 +64,7 @@ impl Made {
         name: &str,
         first: Option<Superblock>,
         limit: &CallLimit,
-    ) -> Result<SuperblockFile<LateSlots>, StartFault<'a>> {
+    ) -> Result<SuperblockFile<LateSlots>, StartFault> {
         if let Some(is_made) = self.files.get_mut(leg) {
             *is_made = rt.symlink_metadata(name).is_err();
         }

@@ -21,7 +21,7 @@ pub fn moved_legs(opening: &OpeningSettings<'_>) -> [bool; 8] {
 
 /// Refuses a leg that was moved and is none, and where there are no superblocks all that were
 /// moved.
-pub fn check_moved<'a>(settings: &Settings<'_>) -> Result<(), StartFault<'a>> {
+pub fn check_moved(settings: &Settings<'_>) -> Result<(), StartFault> {
     for word in settings.opening.moved.iter() {
         let leg = number_of(word);
         if leg as usize >= settings.mirror.legs.len() {

@@ -44,7 +44,7 @@ pub fn reply_bytes_of(limits: &Limits, sessions: u8) -> u64
 }
 
 /// Refuses limits under which a thread would run out of its stack.
-pub fn check_stack<'a>(limits: &Limits) -> Result<(), StartFault<'a>> {
+pub fn check_stack(limits: &Limits) -> Result<(), StartFault> {
     if is_below(limits.stack_bytes, LEAST_STACK_KIB << 10) {
         return Err(StartFault::SmallStack(LEAST_STACK_KIB));
     }
@@ -53,12 +53,12 @@ pub fn check_stack<'a>(limits: &Limits) -> Result<(), StartFault<'a>> {
 
 /// Refuses limits under which so many sessions over so many legs would run out of descriptors. The
 /// thread of a leg that makes its calls needs one.
-pub fn check_files<'a>(
+pub fn check_files(
     limits: &Limits,
     legs: u8,
     rules: &LegRules,
     sessions: u8,
-) -> Result<(), StartFault<'a>> {
+) -> Result<(), StartFault> {
     let threads = if rules.leg_timeout.is_some() {
         rules.threads
     } else {

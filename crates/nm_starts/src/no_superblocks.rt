@@ -32,11 +32,11 @@ fn file_beside<R: Files<File = File>>(
 
 /// Refuses the first leg that has a superblock's file beside it. Where a leg was named as the
 /// newest by force, these files are removed.
-pub fn check_no_superblocks<'a, R: Files<File = File>>(
+pub fn check_no_superblocks<R: Files<File = File>>(
     rt: &R,
     alloc: Global,
     settings: &Settings<'_>,
-) -> Result<(), StartFault<'a>> {
+) -> Result<(), StartFault> {
     for (leg, name) in settings.mirror.legs.iter().enumerate() {
         let Some(own) = file_beside(rt, alloc, leg, name)? else {
             continue;
@@ -82,11 +82,11 @@ fn may_go_by<R: Files<File = File>>(rt: &R, name: &str) -> bool {
 
 /// Refuses the first leg that has a superblock beside it, where they are kept in a folder, unless
 /// they are moved there, or inside the legs. It would be believed again later.
-pub fn check_none_beside<'a, R: Files<File = File>>(
+pub fn check_none_beside<R: Files<File = File>>(
     rt: &R,
     alloc: Global,
-    settings: &Settings<'a>,
-) -> Result<(), StartFault<'a>> {
+    settings: &Settings<'_>,
+) -> Result<(), StartFault> {
     if settings.opening.superblock_from == Some(SuperblockPlace::Beside) {
         return Ok(());
     }
@@ -96,8 +96,8 @@ pub fn check_none_beside<'a, R: Files<File = File>>(
         };
         if may_go_by(rt, own.as_str()) {
             return Err(match settings.opening.superblock {
-                SuperblockPlace::Inside => StartFault::KeptBeside(leg, *name),
-                _ => StartFault::HeldBeside(leg, *name),
+                SuperblockPlace::Inside => StartFault::KeptBeside(leg),
+                _ => StartFault::HeldBeside(leg),
             });
         }
     }

@@ -11,12 +11,12 @@ use std::fs::File;
 use std::rt::Files;
 
 /// Refuses superblocks that are in another place, as far as that is known before any are read.
-pub fn check_place<'a, R: Files<File = File>>(
+pub fn check_place<R: Files<File = File>>(
     rt: &R,
     alloc: Global,
-    settings: &Settings<'a>,
+    settings: &Settings<'_>,
     files: &LegFiles,
-) -> Result<(), StartFault<'a>> {
+) -> Result<(), StartFault> {
     match settings.opening.superblock {
         SuperblockPlace::Nowhere => {
             check_no_superblocks(rt, alloc, settings)?;
@@ -31,11 +31,11 @@ pub fn check_place<'a, R: Files<File = File>>(
 
 /// Refuses the first superblocks of a mirror where legs have some inside, and inside legs that have
 /// something else there.
-pub fn check_first<'a>(
+pub fn check_first(
     opening: &OpeningSettings<'_>,
     files: &LegFiles,
     found: &FoundFiles,
-) -> Result<(), StartFault<'a>> {
+) -> Result<(), StartFault> {
     if opening.superblock == SuperblockPlace::Inside {
         found.check_free(opening)
     } else {

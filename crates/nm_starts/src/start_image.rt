@@ -17,7 +17,7 @@ use std::random::RandomSource;
 const SPAN_REGIONS: u32 = 1024;
 
 // New ids of so many legs, leg 0's first.
-fn draw_leg_ids<'a, R: RandomSource>(rt: &R, legs: u8) -> Result<[u64; 8], StartFault<'a>> {
+fn draw_leg_ids<R: RandomSource>(rt: &R, legs: u8) -> Result<[u64; 8], StartFault> {
     let mut leg_ids = [0; 8];
     for leg in 0..legs as usize {
         if let Some(id) = leg_ids.get_mut(leg) {
@@ -29,13 +29,13 @@ fn draw_leg_ids<'a, R: RandomSource>(rt: &R, legs: u8) -> Result<[u64; 8], Start
 
 // The image of a mirror's first superblocks: without a named master all legs are found equal, or
 // taken to be.
-fn first_image<'a, R: RandomSource>(
+fn first_image<R: RandomSource>(
     rt: &R,
     opening: &OpeningSettings<'_>,
     shape: &Shape,
     legs: &LegsHere,
     lineage: u64,
-) -> Result<Superblock, StartFault<'a>> {
+) -> Result<Superblock, StartFault> {
     let leg_ids = draw_leg_ids(rt, shape.legs)?;
     let new = NewMirror {
         mirror: draw_mirror_id(rt)?,
@@ -59,11 +59,11 @@ fn first_image<'a, R: RandomSource>(
 
 // Gives each leg a new id that is here and that the image knows in no stripe: what was kept of it
 // says nothing any more.
-fn renew_ids<'a, R: RandomSource>(
+fn renew_ids<R: RandomSource>(
     rt: &R,
     image: &mut Superblock,
     here: &[bool; 8],
-) -> Result<(), StartFault<'a>> {
+) -> Result<(), StartFault> {
     let mut known = 0u8;
     for stripe in 0..64 {
         known |= image.sets.in_sync(stripe) | image.sets.partial(stripe);
@@ -79,13 +79,13 @@ fn renew_ids<'a, R: RandomSource>(
 }
 
 // The image of the first superblocks of the mirror that the settings ask for.
-fn first_for<'a, R: RandomSource>(
+fn first_for<R: RandomSource>(
     rt: &R,
-    settings: &Settings<'a>,
+    settings: &Settings<'_>,
     files: &LegFiles,
     seen: &FoundLegs,
     lineage: u64,
-) -> Result<Superblock, StartFault<'a>> {
+) -> Result<Superblock, StartFault> {
     check_added(settings, false)?;
     // Without superblocks nobody knows what a missing leg has.
     if let Some((leg, why)) = files.missing() {
@@ -99,11 +99,11 @@ fn first_for<'a, R: RandomSource>(
 
 // Refuses legs beyond the first so many, which superblocks know, where they were not added, or are
 // missing.
-fn check_beyond<'a>(
-    settings: &Settings<'a>,
+fn check_beyond(
+    settings: &Settings<'_>,
     files: &LegFiles,
     known: u8,
-) -> Result<(), StartFault<'a>> {
+) -> Result<(), StartFault> {
     check_known(settings, known)?;
     for leg in known..settings.mirror.legs.len().min(8) as u8 {
         files.check_named(Some(leg))?;
@@ -112,13 +112,13 @@ fn check_beyond<'a>(
 }
 
 // The image that superblocks have, with the legs that are added to those that it knows.
-fn with_all_legs<'a, R: RandomSource>(
+fn with_all_legs<R: RandomSource>(
     rt: &R,
-    settings: &Settings<'a>,
+    settings: &Settings<'_>,
     files: &LegFiles,
     seen: &FoundLegs,
     image: Superblock,
-) -> Result<Superblock, StartFault<'a>> {
+) -> Result<Superblock, StartFault> {
     let mut image = image;
     check_unshrunk(&settings.opening)?;
     if settings.opening.force_master.is_none() {
@@ -130,13 +130,13 @@ fn with_all_legs<'a, R: RandomSource>(
 }
 
 /// The image that the legs are opened by, and whether it is the first of a mirror.
-pub fn image_for<'a, R: RandomSource>(
+pub fn image_for<R: RandomSource>(
     rt: &R,
-    settings: &Settings<'a>,
+    settings: &Settings<'_>,
     files: &LegFiles,
     seen: &FoundLegs,
     lineage: u64,
-) -> Result<(Superblock, bool), StartFault<'a>> {
+) -> Result<(Superblock, bool), StartFault> {
     match choose(&settings.opening, seen, lineage)? {
         Choice::First => Ok((first_for(rt, settings, files, seen, lineage)?, true)),
         Choice::Image(image) => Ok((with_all_legs(rt, settings, files, seen, image)?, false)),

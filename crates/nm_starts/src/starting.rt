@@ -49,7 +49,7 @@ fn master_or_first(named: Option<u8>) -> u8
 }
 
 // What is told where the master cannot be read, which this leg was named to be, or none.
-fn unread_master<'a>(named: Option<u8>) -> StartFault<'a>
+fn unread_master(named: Option<u8>) -> StartFault
     ensures { result ≡ unread_master named }
 {
     match named {
@@ -62,12 +62,12 @@ fn unread_master<'a>(named: Option<u8>) -> StartFault<'a>
 ///
 /// Where no master is named, leg 0 is the master, and legs that may differ are refused: nothing was
 /// written to them.
-pub fn open_asked<'a, L: LegPart>(
+pub fn open_asked<L: LegPart>(
     alloc: Global,
     settings: &Settings<'_>,
     shape: &Shape,
     legs: Vec<Vec<L>>,
-) -> Result<Vec<Stripe<L>>, StartFault<'a>>
+) -> Result<Vec<Stripe<L>>, StartFault>
     ensures stripes { IfOk result (λ stripes. AreStripesOf shape.now stripes.items) }
     ensures opened { IfOk result (λ stripes. AreAllOpened (leg_type L.model L.honest)
         (asked_by settings.now shape.now) (map (λ own. own.items) legs.items) stripes.items) }
@@ -94,13 +94,13 @@ pub fn open_asked<'a, L: LegPart>(
 
 /// Opens the stripes that the settings ask for on the legs' files: each stripe has a leg on each
 /// file, the first on the first.
-pub fn open_on_files<'a>(
+pub fn open_on_files(
     alloc: Global,
     settings: &Settings<'_>,
     files: &LegFiles,
     shape: &Shape,
     read: &BytesRead,
-) -> Result<Vec<Stripe<Leg>>, StartFault<'a>>
+) -> Result<Vec<Stripe<Leg>>, StartFault>
     ensures stripes { IfOk result (λ stripes. AreStripesOf shape.now stripes.items) }
     ensures opened { IfOk result (λ stripes. AreOpenedOn
         (leg_type ⟦<FileLeg<CountingFile> as LegPart>⟧.model

@@ -62,7 +62,7 @@ fn time_in(times: &[u64; 8], leg: usize) -> u64
 }
 
 // What is told of a leg whose superblock does not go with the newest one.
-fn misfit_told<'a>(leg: usize, why: Misfit, seen: &FoundLegs, newest: &Superblock) -> StartFault<'a>
+fn misfit_told(leg: usize, why: Misfit, seen: &FoundLegs, newest: &Superblock) -> StartFault
     ensures { result ≡ told (Unfit leg why) seen.now newest.now }
 {
     match why {
@@ -82,7 +82,7 @@ fn misfit_told<'a>(leg: usize, why: Misfit, seen: &FoundLegs, newest: &Superbloc
 }
 
 // What is told where superblocks do not decide.
-fn told<'a>(why: AssembleFault, seen: &FoundLegs, newest: &Superblock) -> StartFault<'a>
+fn told(why: AssembleFault, seen: &FoundLegs, newest: &Superblock) -> StartFault
     ensures { result ≡ told why seen.now newest.now }
 {
     match why {
@@ -131,12 +131,12 @@ fn sure_or_forked(
 }
 
 // The image of a start that nobody forced.
-fn assembled<'a>(
+fn assembled(
     opening: &OpeningSettings<'_>,
     seen: &FoundLegs,
     newest: &Superblock,
     lineage: u64,
-) -> Result<Superblock, StartFault<'a>>
+) -> Result<Superblock, StartFault>
     requires newest { IsNewest 8 newest.now seen.now.found }
     requires unforced { opening.now.force_master ≡ None }
     requires leg { IfSome opening.now.master (λ leg. leg < 8) }
@@ -175,11 +175,11 @@ pub fn taken_legs(opening: &OpeningSettings<'_>, seen: &FoundLegs) -> [bool; 8]
 
 /// What a start by superblocks goes by: where a leg was forced on it that leg, else the newest
 /// superblock, if it decides. A start that is not sure, or that is forced, begins this lineage.
-pub fn choose<'a>(
+pub fn choose(
     opening: &OpeningSettings<'_>,
     seen: &FoundLegs,
     lineage: u64,
-) -> Result<Choice, StartFault<'a>>
+) -> Result<Choice, StartFault>
     ensures ok { IfOk result (Chooses opening.now seen.now lineage) }
     ensures refused { IfErr result (RefusesChoice opening.now seen.now) }
 {

@@ -102,14 +102,14 @@ fn carried_to(all: &[Option<Superblock>], leg: usize, is_here: bool) -> Option<S
 
 // The superblock's file of this name, of a leg that is missing, as is the file: both are opened
 // later.
-fn late_file<'a>(
+fn late_file(
     alloc: Global,
     leg: usize,
     name: &str,
     at: SlotsAt,
     went_by: Superblock,
     limit: &CallLimit,
-) -> Result<(SuperblockFile<LateSlots>, LateSuperblock), StartFault<'a>> {
+) -> Result<(SuperblockFile<LateSlots>, LateSuperblock), StartFault> {
     let Ok(file) = Arc::new(alloc, LateFile::missing(0)) else {
         return Err(StartFault::Memory);
     };
@@ -171,14 +171,14 @@ impl FoundFiles {
 
     // Opens, locks and reads the file of this name for a leg, whose own file this one is. That of a
     // leg that is not here may be unreadable: then none is there.
-    fn add<'a, R: Files<File = File>>(
+    fn add<R: Files<File = File>>(
         &mut self,
         rt: &R,
         alloc: Global,
         leg: usize,
         name: String,
         own: Option<&File>,
-    ) -> Result<(), StartFault<'a>> {
+    ) -> Result<(), StartFault> {
         let Some(limit) = self.limits.get(leg) else {
             return Ok(());
         };
@@ -196,13 +196,13 @@ impl FoundFiles {
 
     /// Opens, locks and reads the files that are in this place, leg after leg. That of a leg that
     /// is not here may be unreadable: then none is there.
-    pub fn open<'a, R: Files<File = File>>(
+    pub fn open<R: Files<File = File>>(
         rt: &R,
         alloc: Global,
         mirror: &MirrorSettings<'_>,
         place: SuperblockPlace<'_>,
         legs: &LegFiles,
-    ) -> Result<FoundFiles, StartFault<'a>> {
+    ) -> Result<FoundFiles, StartFault> {
         let (at, limits) = (SlotsAt::of(place, legs.export_bytes()), legs.limits(alloc)?);
         let mut found = FoundFiles::none(alloc, at, limits);
         for (leg, own) in mirror.legs.iter().enumerate() {
@@ -238,7 +238,7 @@ impl FoundFiles {
     }
 
     // Makes the superblock's place inside a leg that has none so far.
-    fn complete_inside<'a>(&mut self, leg: usize) -> Result<(), StartFault<'a>> {
+    fn complete_inside(&mut self, leg: usize) -> Result<(), StartFault> {
         let Some(place) = self.files.get_mut(leg) else {
             return Ok(());
         };
@@ -249,13 +249,13 @@ impl FoundFiles {
     }
 
     // Makes the file of a leg, with this superblock in it, or none yet.
-    fn make_file_of<'a, R: Files<File = File>>(
+    fn make_file_of<R: Files<File = File>>(
         &mut self,
         rt: &R,
         alloc: Global,
         leg: usize,
         first: Option<Superblock>,
-    ) -> Result<(), StartFault<'a>> {
+    ) -> Result<(), StartFault> {
         let (Some(name), Some(limit)) = (self.names.get(leg), self.limits.get(leg)) else {
             return Ok(());
         };
@@ -267,12 +267,12 @@ impl FoundFiles {
     }
 
     // Has the file of a leg that is missing opened later.
-    fn leave_for_later<'a>(
+    fn leave_for_later(
         &mut self,
         alloc: Global,
         leg: usize,
         went_by: Superblock,
-    ) -> Result<Option<LateSuperblock>, StartFault<'a>> {
+    ) -> Result<Option<LateSuperblock>, StartFault> {
         let (Some(name), Some(limit)) = (self.names.get(leg), self.limits.get(leg)) else {
             return Ok(None);
         };
@@ -284,14 +284,14 @@ impl FoundFiles {
     }
 
     // Makes the file of a leg that has none so far; that of a missing leg is opened later.
-    fn complete_leg<'a, R: Files<File = File>>(
+    fn complete_leg<R: Files<File = File>>(
         &mut self,
         rt: &R,
         alloc: Global,
         leg: usize,
         is_here: bool,
         went_by: Option<Superblock>,
-    ) -> Result<Option<LateSuperblock>, StartFault<'a>> {
+    ) -> Result<Option<LateSuperblock>, StartFault> {
         if is_here && self.at.is_inside() {
             self.complete_inside(leg)?;
             return Ok(None);
@@ -315,13 +315,13 @@ impl FoundFiles {
     }
 
     // Does so for each leg. What is opened later is told.
-    fn complete_legs<'a, R: Files<File = File>>(
+    fn complete_legs<R: Files<File = File>>(
         &mut self,
         rt: &R,
         alloc: Global,
         here: &[bool; 8],
         went_by: Option<Superblock>,
-    ) -> Result<Vec<LateSuperblock>, StartFault<'a>> {
+    ) -> Result<Vec<LateSuperblock>, StartFault> {
         let mut late = Vec::new(alloc);
         for leg in 0..self.names.len() {
             let is_here = here.get(leg).copied().unwrap_or(false);
@@ -338,14 +338,14 @@ impl FoundFiles {
     /// Makes the files that are not there, of legs that are here; those of missing legs are opened
     /// later, if the start went by a superblock. What saves go on from is this image. Where one
     /// cannot be made none is.
-    pub fn complete<'a, R: Files<File = File>>(
+    pub fn complete<R: Files<File = File>>(
         self,
         rt: &R,
         alloc: Global,
         here: &[bool; 8],
         image: Superblock,
         went_by: Option<Superblock>,
-    ) -> Result<AllFiles, StartFault<'a>>
+    ) -> Result<AllFiles, StartFault>
         ensures { IfOk result (λ all. all.files.image ≡ image) }
     {
         let mut own = self;

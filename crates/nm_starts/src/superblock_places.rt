@@ -35,7 +35,7 @@ pub struct OldPlace {
 
 /// Refuses a place from which superblocks are to be moved, where it is the one to which they are,
 /// or where one of the two is none.
-pub fn check_from<'a>(opening: &OpeningSettings<'_>) -> Result<(), StartFault<'a>> {
+pub fn check_from(opening: &OpeningSettings<'_>) -> Result<(), StartFault> {
     let Some(from) = opening.superblock_from else {
         return Ok(());
     };
@@ -68,12 +68,12 @@ fn are_one_folder<R: Files<File = File>>(
 }
 
 // The files in the place from which superblocks are moved, opened, locked and read.
-fn open_old<'a, R: Files<File = File>>(
+fn open_old<R: Files<File = File>>(
     rt: &R,
     alloc: Global,
     settings: &Settings<'_>,
     legs: &LegFiles,
-) -> Result<Option<OldPlace>, StartFault<'a>> {
+) -> Result<Option<OldPlace>, StartFault> {
     let Some(from) = settings.opening.superblock_from else {
         return Ok(None);
     };
@@ -150,11 +150,11 @@ impl OldPlace {
     }
 
     // Makes each superblock invalid that is moved, durably.
-    fn leave<'a, R: Files<File = File>>(
+    fn leave<R: Files<File = File>>(
         self,
         rt: &R,
         superblocks: &Superblocks,
-    ) -> Result<(), StartFault<'a>> {
+    ) -> Result<(), StartFault> {
         let OldPlace { files: own } = self;
         let FoundFiles { files, names, .. } = own;
         for (leg, (file, name)) in files.into_iter().zip(names.iter()).enumerate() {
@@ -190,11 +190,11 @@ fn found_in(files: &FoundFiles) -> PlaceFound {
 }
 
 // Refuses superblocks that do not count and that the newest one did not come after.
-fn check_left<'a>(
+fn check_left(
     counted: &[Option<Superblock>; 8],
     new: &PlaceFound,
     old: &PlaceFound,
-) -> Result<(), StartFault<'a>> {
+) -> Result<(), StartFault> {
     let Some(newest) = newest_of(counted) else {
         return Ok(());
     };
@@ -208,12 +208,12 @@ fn check_left<'a>(
 
 impl FoundPlaces {
     /// Opens, locks and reads the files that are in both places.
-    pub fn open<'a, R: Files<File = File>>(
+    pub fn open<R: Files<File = File>>(
         rt: &R,
         alloc: Global,
         settings: &Settings<'_>,
         legs: &LegFiles,
-    ) -> Result<FoundPlaces, StartFault<'a>> {
+    ) -> Result<FoundPlaces, StartFault> {
         let old = open_old(rt, alloc, settings, legs)?;
         let place = settings.opening.superblock;
         let new = FoundFiles::open(rt, alloc, &settings.mirror, place, legs)?;
@@ -234,11 +234,11 @@ impl FoundPlaces {
     }
 
     /// The superblocks that count. What is moved as it is, where its leg is not here, is noted.
-    pub fn superblocks<'a>(
+    pub fn superblocks(
         &mut self,
         alloc: Global,
         opening: &OpeningSettings<'_>,
-    ) -> Result<[Option<Superblock>; 8], StartFault<'a>> {
+    ) -> Result<[Option<Superblock>; 8], StartFault> {
         let Some(own) = &self.old else {
             return Ok(self.new.found());
         };
@@ -268,13 +268,13 @@ impl FoundPlaces {
 impl OldPlace {
     /// Makes the superblocks invalid that were moved, which are saved in their new place, and tells
     /// so.
-    pub fn leave_moved<'a, R: Files<File = File> + Wait>(
+    pub fn leave_moved<R: Files<File = File> + Wait>(
         self,
         rt: &R,
         alloc: Global,
         superblocks: Option<&Superblocks>,
         lines: &LogLines,
-    ) -> Result<(), StartFault<'a>> {
+    ) -> Result<(), StartFault> {
         let Some(superblocks) = superblocks else {
             return Ok(());
         };

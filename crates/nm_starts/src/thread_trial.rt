@@ -14,11 +14,11 @@ use std::thread::Threads;
 const OWN_BYTES: usize = 4096;
 
 /// Starts so many threads that are there at once, and ends them.
-pub fn try_threads<'a, R: Threads + Wait + Sync>(
+pub fn try_threads<R: Threads + Wait + Sync>(
     rt: &R,
     alloc: Global,
     count: usize,
-) -> Result<(), StartFault<'a>> {
+) -> Result<(), StartFault> {
     match are_there(rt, alloc, &[], count) {
         Some(true) => Ok(()),
         _ => Err(StartFault::Memory),
@@ -27,12 +27,12 @@ pub fn try_threads<'a, R: Threads + Wait + Sync>(
 
 /// Refuses an address space into which so many threads do not fit at once beside the replies of all
 /// sessions.
-pub fn try_address_space<'a, R: Threads + Wait + Sync>(
+pub fn try_address_space<R: Threads + Wait + Sync>(
     rt: &R,
     alloc: Global,
     limits: &Limits,
     threads: usize,
-) -> Result<(), StartFault<'a>> {
+) -> Result<(), StartFault> {
     if limits.address_space.is_none() {
         return Ok(());
     }
