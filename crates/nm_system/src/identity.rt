@@ -5,7 +5,7 @@
 
 use crate::in_use::{device_folder, device_of, line_of};
 use crate::kernel_tables::{device_number, mount_of};
-use crate::system_files::{contents, contents_in};
+use crate::system_files::{contents, contents_in, ends_line};
 use std::alloc::{AllocError, Global};
 use std::fs::{File, Metadata};
 use std::os::unix::fs::{FileTypeExt, MetadataExt};
@@ -38,7 +38,7 @@ fn keeps_numbers(kind: &[u8]) -> bool {
 // Whether the file system on this device keeps its files' numbers.
 fn is_kept<R: Files<File = File>>(rt: &R, alloc: Global, device: u64) -> Result<bool, AllocError> {
     let mounts = contents(rt, alloc, "/proc/self/mountinfo")?;
-    for line in mounts.split(|byte| *byte == b'\n') {
+    for line in mounts.split(ends_line) {
         if let Some(mount) = mount_of(line) {
             if device_number(mount.device) == Some(device_of(device)) {
                 return Ok(keeps_numbers(mount.kind));

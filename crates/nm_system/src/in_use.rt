@@ -6,7 +6,7 @@
 //! cannot be read counts as not in use.
 
 use crate::kernel_tables::{device_number, mount_of, swap_of, unescaped};
-use crate::system_files::{contents, contents_in, names};
+use crate::system_files::{contents, contents_in, ends_line, ends_name, names};
 use std::alloc::{AllocError, Global};
 use std::fs::{File, Metadata};
 use std::os::unix::fs::{FileTypeExt, MetadataExt};
@@ -93,7 +93,7 @@ impl Storage {
         alloc: Global,
         folder: &str,
     ) -> Result<(), AllocError> {
-        for name in names(rt, alloc, folder)?.split(|byte| *byte == 0) {
+        for name in names(rt, alloc, folder)?.split(ends_name) {
             if let Ok(name) = str::from_utf8(name) {
                 self.add_partition(rt, alloc, &format!(in alloc; "{folder}/{name}")?)?;
             }
@@ -152,7 +152,7 @@ impl Storage {
     // Whether a file system on one of these is mounted.
     fn is_mounted<R: Files<File = File>>(&self, rt: &R, alloc: Global) -> Result<bool, AllocError> {
         let mounts = contents(rt, alloc, "/proc/self/mountinfo")?;
-        for line in mounts.split(|byte| *byte == b'\n') {
+        for line in mounts.split(ends_line) {
             if let Some(mount) = mount_of(line) {
                 let source = unescaped(alloc, mount.source)?;
                 if self.has_device(mount.device) || self.has_path(rt, &source) {
@@ -166,7 +166,7 @@ impl Storage {
     // Whether the system swaps to one of these.
     fn is_swap<R: Files<File = File>>(&self, rt: &R, alloc: Global) -> Result<bool, AllocError> {
         let swaps = contents(rt, alloc, "/proc/swaps")?;
-        for line in swaps.split(|byte| *byte == b'\n') {
+        for line in swaps.split(ends_line) {
             if self.has_path(rt, &unescaped(alloc, swap_of(line))?) {
                 return Ok(true);
             }
@@ -193,7 +193,7 @@ impl Storage {
         alloc: Global,
         but: Option<Node>,
     ) -> Result<bool, AllocError> {
-        for name in names(rt, alloc, "/sys/block")?.split(|byte| *byte == 0) {
+        for name in names(rt, alloc, "/sys/block")?.split(ends_name) {
             let Ok(name) = str::from_utf8(name) else {
                 continue;
             };
@@ -256,7 +256,7 @@ fn has_holders<R: Files<File = File>>(
     folder: &str,
 ) -> Result<bool, AllocError> {
     let holders = names(rt, alloc, &format!(in alloc; "{folder}/holders")?)?;
-    Ok(holders.split(|byte| *byte == 0).any(|name| !is_dots(name)))
+    Ok(holders.split(ends_name).any(|name| !is_dots(name)))
 }
 
 // Whether the device with this folder is another one than this.

@@ -1,6 +1,7 @@
 //! Lines of the files in which the kernel tells what it has mounted, swaps to, and limits.
 ghost use Rattle.std.specs.Prelude.{◌≡◌, ◌+◌, ◌*◌, ◌-◌, IfSome};
 
+use crate::system_files::ends_line;
 use std::alloc::{AllocError, Global};
 
 /// What a line of `/proc/self/mountinfo` tells of a mount.
@@ -14,10 +15,15 @@ pub struct MountLine<'a> {
     pub source: &'a [u8],
 }
 
+// Whether the byte stands between the words of a line.
+fn is_space(byte: &u8) -> bool {
+    *byte == b' '
+}
+
 /// The mount of a line of `/proc/self/mountinfo`: the device is the third word, and the kind and
 /// the source the two after a word that is a dash.
 pub fn mount_of(line: &[u8]) -> Option<MountLine<'_>> {
-    let mut words = line.split(|byte| *byte == b' ');
+    let mut words = line.split(is_space);
     let device = words.nth(2)?;
     for word in &mut words {
         if word == b"-".as_slice() {
@@ -92,9 +98,9 @@ pub fn unescaped(alloc: Global, text: &[u8]) -> Result<Vec<u8>, AllocError> {
 
 /// The soft limit of this name in `/proc/self/limits`; none where it is unlimited, or not there.
 pub fn soft_limit(limits: &[u8], name: &str) -> Option<u64> {
-    for line in limits.split(|byte| *byte == b'\n') {
+    for line in limits.split(ends_line) {
         if let Some(rest) = line.strip_prefix(name.as_bytes()) {
-            let mut words = rest.split(|byte| *byte == b' ');
+            let mut words = rest.split(is_space);
             return number(words.find(|word| !word.is_empty())?);
         }
     }
@@ -104,7 +110,7 @@ pub fn soft_limit(limits: &[u8], name: &str) -> Option<u64> {
 // The word of a line at this place, where blanks stand between words.
 fn word_at(line: &[u8], place: usize) -> Option<&[u8]> {
     let mut words = line
-        .split(|byte| *byte == b' ')
+        .split(is_space)
         .filter(|word| !word.is_empty());
     words.nth(place)
 }

@@ -2,7 +2,7 @@
 
 use crate::in_use::line_of;
 use crate::kernel_tables::{listens_at_path, listens_at_port, number};
-use crate::system_files::{contents, names};
+use crate::system_files::{contents, ends_line, ends_name, names};
 use std::alloc::{AllocError, Global};
 use std::fmt;
 use std::fs::File;
@@ -68,7 +68,7 @@ fn has_socket<R: Files<File = File>>(
     socket: u64,
 ) -> Result<bool, AllocError> {
     let folder = format!(in alloc; "/proc/{id}/fd")?;
-    for name in names(rt, alloc, &folder)?.split(|byte| *byte == 0) {
+    for name in names(rt, alloc, &folder)?.split(ends_name) {
         if let Some(descriptor) = number(name) {
             if is_socket(rt, alloc, &folder, descriptor, socket)? {
                 return Ok(true);
@@ -84,7 +84,7 @@ fn holder_of<R: Files<File = File>>(
     alloc: Global,
     socket: u64,
 ) -> Result<Option<Process>, AllocError> {
-    for name in names(rt, alloc, "/proc")?.split(|byte| *byte == 0) {
+    for name in names(rt, alloc, "/proc")?.split(ends_name) {
         if let Some(id) = number(name) {
             if has_socket(rt, alloc, id, socket)? {
                 return Ok(Some(Process::named(rt, alloc, id)?));
@@ -102,7 +102,7 @@ pub fn holder_of_port<R: Files<File = File>>(
 ) -> Result<Option<Process>, AllocError> {
     let port = format!(in alloc; ":{port:04X}")?;
     for table in ["/proc/net/tcp", "/proc/net/tcp6"] {
-        for line in contents(rt, alloc, table)?.split(|byte| *byte == b'\n') {
+        for line in contents(rt, alloc, table)?.split(ends_line) {
             if let Some(socket) = listens_at_port(line, port.as_bytes()) {
                 return holder_of(rt, alloc, socket);
             }
@@ -117,7 +117,7 @@ pub fn holder_of_path<R: Files<File = File>>(
     alloc: Global,
     path: &str,
 ) -> Result<Option<Process>, AllocError> {
-    for line in contents(rt, alloc, "/proc/net/unix")?.split(|byte| *byte == b'\n') {
+    for line in contents(rt, alloc, "/proc/net/unix")?.split(ends_line) {
         if let Some(socket) = listens_at_path(line, path.as_bytes()) {
             return holder_of(rt, alloc, socket);
         }

@@ -21,6 +21,16 @@ fn unless_no_memory(bytes: Vec<u8>, read: io::Result<usize>) -> Result<Vec<u8>, 
     }
 }
 
+/// Whether the byte ends a line.
+pub fn ends_line(byte: &u8) -> bool {
+    *byte == b'\n'
+}
+
+/// Whether the byte ends a name in what [`names`] returns.
+pub fn ends_name(byte: &u8) -> bool {
+    *byte == 0
+}
+
 /// What the file holds.
 pub fn contents<R: Files<File = File>>(
     rt: &R,
