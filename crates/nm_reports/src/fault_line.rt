@@ -11,7 +11,10 @@ fn put_numbers<E: Write>(fault: &StartFault, names: &[&str], err: &mut E) {
     let _ = match *fault {
         StartFault::TwoOfLeg(one, other, leg) => {
             let (one, other) = (name_of(names, one), name_of(names, other));
-            writeln!(err, "nbdmirror: {one} and {other}: each is leg {leg} by its superblock")
+            writeln!(
+                err,
+                "nbdmirror: {one} and {other}: each is leg {leg} by its superblock"
+            )
         }
         StartFault::LegBeyond(place, leg) => {
             let (name, legs) = (name_of(names, place), names.len());

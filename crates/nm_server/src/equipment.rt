@@ -1,6 +1,7 @@
 //! The mirror of the program, with all that it is served by.
 
 use crate::control_meanwhile::ControlMeanwhile;
+use crate::sessions::AT_ONCE;
 use nm_commands::{CopySettings, Settings};
 use nm_control::{Copier, CopyOrders, Healing, LegWatch, MissingLegs};
 use nm_leg_files::{
@@ -8,7 +9,6 @@ use nm_leg_files::{
 };
 use nm_mirror::{MOST_PASSES, Pass};
 use nm_reports::{LogLines, Metrics, MirrorDoubts, StartFault};
-use nm_serving::AT_ONCE;
 use nm_sockets::Listener;
 use nm_starts::{Superblocks, open_asked_for};
 use std::alloc::{AllocError, Global};
@@ -114,11 +114,7 @@ fn copier_of(
 }
 
 /// What is counted of the clients of so many places, and of these files.
-pub fn metrics_of(
-    alloc: Global,
-    files: &LegFiles,
-    sessions: u8,
-) -> Result<Metrics, StartFault> {
+pub fn metrics_of(alloc: Global, files: &LegFiles, sessions: u8) -> Result<Metrics, StartFault> {
     let Ok(legs) = files.counts(alloc) else {
         return Err(StartFault::Memory);
     };

@@ -1,13 +1,24 @@
-//! The server `nbdmirror` as a library: the threads of a server, and the program itself.
+//! The server `nbdmirror` as a library: the sessions over the mirror, the threads of a server, and
+//! the program itself.
 //!
 //! `start` reads the command line, opens the legs, listens, and serves until a `quit`: that it is
-//! safe is proved.
+//! safe is proved, and that a request's call moves the counts of its pass as the mirror's own call
+//! does.
 #![tactic(auto)]
 
 mod absent;
 mod control_meanwhile;
+mod counted_calls;
 mod equipment;
+mod file_calls;
+mod mirror_calls;
+mod mirror_target;
 mod program;
 mod serving;
+mod sessions;
 
+pub use crate::file_calls::{FileCalls, call_mirror};
+pub use crate::mirror_calls::MirrorCalls;
+pub use crate::mirror_target::MirrorTarget;
 pub use crate::program::{refuse_words, start};
+pub use crate::sessions::{AT_ONCE, ExportName, ServedExport, see_off, serve_place, take_clients};

@@ -6,6 +6,7 @@ ghost use Rattle.nm_reports.specs.StartFault.{status_of, status_of_words};
 use crate::absent::tell_absent;
 use crate::equipment::{Opened, metrics_of, open};
 use crate::serving::serve_and_copy;
+use crate::sessions::{AT_ONCE, ExportName, ServedExport};
 use clap::Error;
 use clap::error::ErrorKind;
 use nm_commands::{MirrorSettings, OpeningSettings, Settings, settings, write_words};
@@ -15,7 +16,6 @@ use nm_leg_files::{FileMirror, Leg, LegFiles, LegMaker, LegPlace, LegRules, Open
 use nm_mirror::Pass;
 use nm_places::{ServingState, SessionRules, Shared};
 use nm_reports::{LogForm, LogLines, Metrics, Port, StartFault, put_fault, tell_reason};
-use nm_serving::{AT_ONCE, ExportName, ServedExport};
 use nm_sockets::{Listener, listen, listen_beside};
 use nm_starts::{
     check_added, check_files, check_from, check_moved, check_shrink, check_stack, reply_bytes_of,

@@ -125,10 +125,7 @@ fn save_once<F: SlotFile>(
 }
 
 // Why it was not saved: the error of the first leg's file that has one.
-fn why_unsaved<F: SlotFile>(
-    files: &SuperblockFiles<F>,
-    failed: &FailedFiles,
-) -> StartFault {
+fn why_unsaved<F: SlotFile>(files: &SuperblockFiles<F>, failed: &FailedFiles) -> StartFault {
     for (leg, has_failed) in failed.legs.iter().enumerate() {
         if *has_failed {
             if let Some(error) = files.error(leg) {

@@ -218,10 +218,7 @@ fn lay_unknown_aside(
 }
 
 // Refuses a leg that was named as the newest one, or as one that was moved, and is missing.
-fn check_all_named(
-    opening: &OpeningSettings<'_>,
-    files: &LegFiles,
-) -> Result<(), StartFault> {
+fn check_all_named(opening: &OpeningSettings<'_>, files: &LegFiles) -> Result<(), StartFault> {
     files.check_named(named_master(opening))?;
     for (leg, is_moved) in moved_legs(opening).iter().enumerate() {
         if *is_moved {

@@ -99,11 +99,7 @@ fn first_for<R: RandomSource>(
 
 // Refuses legs beyond the first so many, which superblocks know, where they were not added, or are
 // missing.
-fn check_beyond(
-    settings: &Settings<'_>,
-    files: &LegFiles,
-    known: u8,
-) -> Result<(), StartFault> {
+fn check_beyond(settings: &Settings<'_>, files: &LegFiles, known: u8) -> Result<(), StartFault> {
     check_known(settings, known)?;
     for leg in known..settings.mirror.legs.len().min(8) as u8 {
         files.check_named(Some(leg))?;

@@ -109,9 +109,7 @@ pub fn soft_limit(limits: &[u8], name: &str) -> Option<u64> {
 
 // The word of a line at this place, where blanks stand between words.
 fn word_at(line: &[u8], place: usize) -> Option<&[u8]> {
-    let mut words = line
-        .split(is_space)
-        .filter(|word| !word.is_empty());
+    let mut words = line.split(is_space).filter(|word| !word.is_empty());
     words.nth(place)
 }
 

@@ -1,6 +1,6 @@
 //! A session's calls of the mirror, counted while they are under way.
 ghost use Rattle.std.specs.Prelude.{length};
-ghost use Rattle.nm_serving.specs.Calls.{Acts, IsEven, IsInside, answered};
+ghost use Rattle.nm_server.specs.Calls.{Acts, IsEven, IsInside, answered};
 
 use crate::mirror_calls::MirrorCalls;
 use nm_geometry::Shape;

@@ -1,7 +1,7 @@
 //! The calls of the mirror that the program serves.
 ghost use Rattle.std.specs.Prelude.{◌≡◌, ◌≤◌, ◌+◌, ◌*◌, length};
 ghost use Rattle.nm_leg.specs.Leg.{leg_type};
-ghost use Rattle.nm_serving.specs.Calls.{Acts, IsEven, IsInside, answered, told};
+ghost use Rattle.nm_server.specs.Calls.{Acts, IsEven, IsInside, answered, told};
 ghost use Rattle.nm_session.specs.Target.{Writes, Zeroes};
 
 use crate::mirror_calls::MirrorCalls;

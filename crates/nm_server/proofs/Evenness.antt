@@ -4,7 +4,7 @@ use Rattle.nm_geometry.specs.Geometry.{Geometry}
 use Rattle.nm_lanes.specs.Ends.{EachLane}
 use Rattle.nm_leg.specs.Leg.{LegType}
 use Rattle.nm_part.specs.PartState.{PartState}
-use Rattle.nm_serving.specs.Calls.{Acts}
+use Rattle.nm_server.specs.Calls.{Acts}
 use Rattle.nm_session.specs.declared.target_fault.TargetFault.TheVariants.{Memory, Io, Full}
 use Rattle.nm_session.specs.Target.{TargetCall, Reads, Writes, Zeroes, Flushes, Syncs}
 

@@ -3,7 +3,7 @@ use Rattle.std.proofs.Common.{◌≡◌, ℕ, Bool, true, false, ◌&&◌, List,
 use Rattle.nm_geometry.specs.Geometry.{Geometry}
 use Rattle.nm_leg.specs.Leg.{LegType}
 use Rattle.nm_reports.specs.MirrorCall.{changes}
-use Rattle.nm_serving.specs.Calls.{Acts, Parts, answered, told}
+use Rattle.nm_server.specs.Calls.{Acts, Parts, answered, told}
 use Rattle.nm_reports.specs.declared.mirror_call.MirrorCall.{MirrorCall}
 use Rattle.nm_reports.specs.declared.mirror_call.MirrorCall.TheVariants as mirror
 use Rattle.nm_session.specs.declared.target_fault.TargetFault.TheVariants.{Memory, Io, Full}

@@ -1,6 +1,6 @@
 -- So far there is a target for each pass, each of this mirror.
 use Rattle.std.proofs.Common.{◌≡◌, map, take, All}
-use Rattle.nm_serving.proofs.sessions.targets_of.Given as goal
+use Rattle.nm_server.proofs.sessions.targets_of.Given as goal
 
 abbrev pub invariant-passes : goal.invariant-passes
 invariant-passes g l = record {

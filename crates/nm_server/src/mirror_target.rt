@@ -1,8 +1,8 @@
 //! What a session's requests act on: a mirror, through a pass.
 ghost use Rattle.std.specs.Prelude.{◌≡◌, ◌*◌, ◌↔◌, [], ◌∷◌, length, IsSome, IfSome};
 ghost use Rattle.nm_leg.specs.Leg.{leg_type};
-ghost use Rattle.nm_serving.specs.Calls.{IsEven, IsInside, Leads, answered, leads-nowhere};
-ghost use Rattle.nm_serving.specs.Calls.{leads-on, state_of};
+ghost use Rattle.nm_server.specs.Calls.{IsEven, IsInside, Leads, answered, leads-nowhere};
+ghost use Rattle.nm_server.specs.Calls.{leads-on, state_of};
 
 use crate::mirror_calls::MirrorCalls;
 use bytes::Bytes;

@@ -1,7 +1,7 @@
 //! Sessions: who takes clients, who serves them.
 ghost use Rattle.std.specs.Prelude.{◌≡◌, ◌*◌, ◌≤◌, ◌^◌, ◌↔◌, [], length, map, true, All};
 ghost use Rattle.std.specs.Prelude.{IsSome, IfSome, IfOk, IfErr};
-ghost use Rattle.nm_serving.specs.Handshake.{HasNegotiated};
+ghost use Rattle.nm_server.specs.Handshake.{HasNegotiated};
 ghost use Rattle.nm_session.specs.declared.serve_fault.ServeFault.TheVariants.{Memory};
 ghost use Rattle.nm_wire.specs.Export.{size_of};
 

@@ -2,7 +2,7 @@
 ghost use Rattle.std.specs.Prelude.{◌≡◌, length};
 ghost use Rattle.nm_geometry.specs.Geometry.{Geometry};
 ghost use Rattle.nm_leg.specs.Leg.{leg_type};
-ghost use Rattle.nm_serving.specs.Calls.{Acts, IsEven, IsInside, answered};
+ghost use Rattle.nm_server.specs.Calls.{Acts, IsEven, IsInside, answered};
 
 use nm_geometry::Shape;
 use nm_leg::LegPart;

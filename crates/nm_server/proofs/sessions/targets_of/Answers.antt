@@ -1,7 +1,7 @@
 -- The target that was pushed is this mirror through the next pass.
 use Rattle.std.proofs.Common.{arith, ◌≡◌, ◌<◌, length, true, not, is_ok, ap, ◌∙◌}
 use Rattle.nm_leg_files.proofs.Pushing.{has-one-more, one-more, all-more}
-use Rattle.nm_serving.proofs.sessions.targets_of.Goals as goal
+use Rattle.nm_server.proofs.sessions.targets_of.Goals as goal
 
 pub passes-preserved : goal.passes-preserved
 passes-preserved g c =

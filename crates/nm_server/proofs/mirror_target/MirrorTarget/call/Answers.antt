@@ -1,8 +1,8 @@
 -- A call leaves the pass a part for each stripe.
 use Rattle.std.proofs.Common.{◌∙◌}
-use Rattle.nm_serving.specs.Calls.{answered}
-use Rattle.nm_serving.proofs.Evenness.{as-many}
-use Rattle.nm_serving.proofs.mirror_target.MirrorTarget.call.Goals as goal
+use Rattle.nm_server.specs.Calls.{answered}
+use Rattle.nm_server.proofs.Evenness.{as-many}
+use Rattle.nm_server.proofs.mirror_target.MirrorTarget.call.Goals as goal
 
 pub invariant_of-self : goal.invariant_of-self
 invariant_of-self g c = record {
