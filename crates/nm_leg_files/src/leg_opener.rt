@@ -51,7 +51,7 @@ fn folder_of(name: &str) -> &str {
 
 // Makes the names durable that are in the folder of this one.
 fn sync_folder<R: Files<File = File>>(rt: &R, name: &str) -> io::Result<()> {
-    let folder = OpenOptions::new().read(true).open(rt, folder_of(name))?;
+    let folder = File::open(rt, folder_of(name))?;
     folder.sync_all()
 }
 
@@ -61,24 +61,29 @@ pub fn remove_durably<R: Files<File = File>>(rt: &R, name: &str) -> io::Result<(
     sync_folder(rt, name)
 }
 
+/// Opens the file of this name for reading and writing.
+pub fn open_writable<R: Files<File = File>>(rt: &R, name: &str) -> io::Result<File> {
+    let mut options = OpenOptions::new();
+    options.read(true);
+    options.write(true);
+    options.open(rt, name)
+}
+
 /// Opens the file of this name for reading and writing, and makes it where it is not there: then
 /// its folder keeps it durably.
 pub fn open_or_make<R: Files<File = File>>(rt: &R, name: &str) -> io::Result<File> {
-    let file = OpenOptions::new()
-        .read(true)
-        .write(true)
-        .create(true)
-        .open(rt, name)?;
+    let mut options = OpenOptions::new();
+    options.read(true);
+    options.write(true);
+    options.create(true);
+    let file = options.open(rt, name)?;
     sync_folder(rt, name)?;
     Ok(file)
 }
 
 impl<'a, R: Files<File = File> + RandomSource> OpensLegs for LegOpener<'a, R> {
     fn open(&self, name: &str) -> io::Result<File> {
-        OpenOptions::new()
-            .read(true)
-            .write(true)
-            .open(self.rt, name)
+        open_writable(self.rt, name)
     }
 
     fn make(&self, name: &str) -> io::Result<File> {

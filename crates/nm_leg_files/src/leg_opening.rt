@@ -2,6 +2,7 @@
 ghost use Rattle.std.specs.Prelude.{◌≡◌, ◌≤◌, ◌*◌, ◌-◌, ◌^◌, ◌||◌, false, not, None, IfSome};
 ghost use Rattle.std.specs.Prelude.{IfOk, is_some};
 
+use crate::leg_opener::open_writable;
 use crate::limited_file::CallLimit;
 use crate::seen_file::SeenFile;
 use crate::timed_calls::TimedCalls;
@@ -12,7 +13,7 @@ use nm_geometry::MOST_BLOCKS;
 use nm_reports::{StartFault, Unopened};
 use nm_system::{Limits, is_in_use};
 use std::alloc::{AllocError, Global};
-use std::fs::{File, OpenOptions, TryLockError};
+use std::fs::{File, TryLockError};
 use std::io;
 use std::io::{ErrorKind, Seek, SeekFrom};
 use std::rt::Files;
@@ -91,7 +92,7 @@ pub struct FoundLeg {
 
 /// Opens a file for reading and writing, and locks it.
 pub fn open_locked<R: Files<File = File>>(rt: &R, name: &str) -> Result<File, Unopened> {
-    lock_opened(OpenOptions::new().read(true).write(true).open(rt, name))
+    lock_opened(open_writable(rt, name))
 }
 
 /// Locks a file that was opened, if it was.
@@ -220,8 +221,7 @@ pub fn find_leg<R: Files<File = File>>(
     ensures blocks { IfOk result (λ found. found.blocks ≤ 2 ^ 31) }
     ensures here { rules.now.may_lack ≡ false → IfOk result (λ found. found.unopened ≡ None) }
 {
-    let opened = OpenOptions::new().read(true).write(true).open(rt, name);
-    match opened {
+    match open_writable(rt, name) {
         Err(error) if rules.may_lack && error.kind() != ErrorKind::IsADirectory => Ok(FoundLeg {
             file: None,
             blocks: 0,

@@ -41,7 +41,7 @@ pub use crate::late_slots::LateSlots;
 pub use crate::late_superblock::{LateSuperblock, again, blank_from, slot_at, with_added};
 pub use crate::leg_files::{FileMirror, Leg, LegFiles, REGION, mirror_legs};
 pub use crate::leg_maker::{LegMaker, MakesLegs};
-pub use crate::leg_opener::{LegOpener, OpensLegs, open_or_make, remove_durably};
+pub use crate::leg_opener::{LegOpener, OpensLegs, open_or_make, open_writable, remove_durably};
 pub use crate::leg_opening::{LegRules, bytes_of, open_locked};
 pub use crate::leg_place::{LegPlace, is_same};
 pub use crate::leg_syncs::LegSyncs;

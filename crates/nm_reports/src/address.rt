@@ -5,7 +5,7 @@ use nm_commands::ListenSettings;
 use std::fmt;
 
 /// Whom a socket is for.
-#[derive(Clone, Copy, Debug)]
+#[derive(Clone, Copy)]
 pub enum Port {
     /// Clients.
     Clients,

@@ -12,7 +12,7 @@ use std::io::{ErrorKind, Write};
 use std::{fmt, io};
 
 /// Why a leg's file is not opened.
-#[derive(Clone, Copy, Debug)]
+#[derive(Clone, Copy)]
 pub enum Unopened {
     /// The system does not open it.
     System(io::Error),

@@ -6,11 +6,12 @@ use crate::address::Port;
 use crate::reason::Unopened;
 use crate::unbound::Unbound;
 use std::alloc::AllocError;
+use std::fmt;
 use thiserror::Error;
 
 /// Why the server does not start, or does not end well. It prints without the names of files and
 /// addresses; [`put_fault`](crate::put_fault) writes it with them.
-#[derive(Clone, Copy, Debug, Error)]
+#[derive(Clone, Copy, Error)]
 pub enum StartFault {
     /// A word of the command line is not UTF-8.
     #[error("nbdmirror: a word is not UTF-8")]
@@ -221,6 +222,12 @@ impl StartFault {
             // Settings or legs that do not fit.
             _ => 3,
         }
+    }
+}
+
+impl fmt::Debug for StartFault {
+    fn fmt<W: fmt::Write>(&self, f: &mut fmt::Formatter<W>) -> fmt::Result {
+        fmt::Display::fmt(self, f)
     }
 }
 

@@ -2,7 +2,7 @@ use nm_system::Process;
 use std::io;
 
 /// Why no socket listens at an address.
-#[derive(Clone, Copy, Debug)]
+#[derive(Clone, Copy)]
 pub enum Unbound {
     /// The system does not let it.
     System(io::Error),

@@ -1,10 +1,12 @@
 //! The superblocks inside legs, in slots at the end of each leg's own file.
 
-use nm_leg_files::{CallLimit, LateSlots, again, are_marked, blank_window, no_memory};
+use nm_leg_files::{
+    CallLimit, LateSlots, again, are_marked, blank_window, no_memory, open_writable,
+};
 use nm_reports::Unopened;
 use nm_saves::{SlotFile, SuperblockFile};
 use std::alloc::Global;
-use std::fs::{File, OpenOptions};
+use std::fs::File;
 use std::io;
 use std::rt::Files;
 
@@ -55,8 +57,7 @@ pub(crate) fn read_inside<R: Files<File = File>>(
     from: u64,
     limit: &CallLimit,
 ) -> Result<FoundSlots, Unopened> {
-    let opened = OpenOptions::new().read(true).write(true).open(rt, name);
-    read_slots(alloc, again(opened, leg)?, from, limit)
+    read_slots(alloc, again(open_writable(rt, name), leg)?, from, limit)
 }
 
 // Blanks the slots inside a leg where they hold nothing that a start goes by: it takes part.

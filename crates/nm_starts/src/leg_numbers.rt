@@ -6,7 +6,7 @@ use nm_geometry::MOST_LEGS;
 use nm_leg_files::superblock_inside;
 use nm_reports::{LogLines, StartFault};
 use std::alloc::{AllocError, Global};
-use std::fs::{File, OpenOptions};
+use std::fs::File;
 use std::os::unix::fs::FileTypeExt;
 use std::rt::Files;
 use std::sync::Wait;
@@ -17,7 +17,7 @@ fn number_inside<R: Files<File = File>>(rt: &R, name: &str) -> Option<u8> {
         Ok(found) if found.is_file() || found.file_type().is_block_device() => (),
         _ => return None,
     }
-    let file = OpenOptions::new().read(true).open(rt, name).ok()?;
+    let file = File::open(rt, name).ok()?;
     Some(superblock_inside(&file)?.leg)
 }
 

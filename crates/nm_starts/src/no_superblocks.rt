@@ -6,7 +6,7 @@ use nm_leg_files::{bytes_of, slot_at};
 use nm_reports::{StartFault, Unopened, superblock_name};
 use nm_superblock::{Superblock, is_place_damaged};
 use std::alloc::{AllocError, Global};
-use std::fs::{File, OpenOptions};
+use std::fs::File;
 use std::io::ErrorKind;
 use std::os::unix::fs::FileTypeExt;
 use std::rt::Files;
@@ -74,7 +74,7 @@ fn may_go_by<R: Files<File = File>>(rt: &R, name: &str) -> bool {
         Ok(found) if found.is_file() || found.file_type().is_block_device() => (),
         _ => return false,
     }
-    match OpenOptions::new().read(true).open(rt, name) {
+    match File::open(rt, name) {
         Ok(file) => may_hold(&file),
         Err(error) => error.kind() != ErrorKind::NotFound,
     }

@@ -13,23 +13,19 @@ use std::rt::Files;
 const MOST_NAME: usize = 15;
 
 /// A process.
-#[derive(Clone, Copy, Debug)]
+#[derive(Clone, Copy)]
 pub struct Process {
     // Its number.
     id: u64,
-    // Its name, with zeroes behind it.
+    // Its name, blanks in place of what cannot be printed and behind it.
     name: [u8; MOST_NAME],
 }
 
 impl fmt::Display for Process {
     fn fmt<W: fmt::Write>(&self, f: &mut fmt::Formatter<W>) -> fmt::Result {
-        for byte in &self.name {
-            if byte.is_ascii_graphic() {
-                f.write_char(char::from(*byte))?;
-            }
-        }
+        let name = self.name();
         let id = self.id;
-        write!(f, " (process {id})")
+        write!(f, "{name} (process {id})")
     }
 }
 
@@ -37,11 +33,18 @@ impl Process {
     // The process of this number, by the name that the system has of it.
     fn named<R: Files<File = File>>(rt: &R, alloc: Global, id: u64) -> Result<Process, AllocError> {
         let text = contents(rt, alloc, &format!(in alloc; "/proc/{id}/comm")?)?;
-        let mut name = [0; MOST_NAME];
+        let mut name = [b' '; MOST_NAME];
         for (own, byte) in name.iter_mut().zip(line_of(&text)) {
-            *own = *byte;
+            if byte.is_ascii_graphic() {
+                *own = *byte;
+            }
         }
         Ok(Process { id, name })
+    }
+
+    // Its name.
+    fn name(&self) -> &str {
+        str::from_utf8(&self.name).unwrap_or("").trim_end()
     }
 }
 

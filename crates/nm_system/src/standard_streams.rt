@@ -8,6 +8,14 @@ use std::rt::Files;
 /// The highest number of a standard stream's descriptor.
 const LAST: i32 = 2;
 
+// A file that takes all and holds nothing.
+fn open_null<R: Files<File = File>>(rt: &R) -> Option<File> {
+    let mut both = OpenOptions::new();
+    both.read(true);
+    both.write(true);
+    both.open(rt, "/dev/null").ok()
+}
+
 /// Takes the descriptors of standard streams that are closed, so that no leg gets one of them and
 /// has text written into it. They are taken as long as these files are kept.
 ///
@@ -15,11 +23,7 @@ const LAST: i32 = 2;
 pub fn take_standard_streams<R: Files<File = File>>(rt: &R, alloc: Global) -> Option<Vec<File>> {
     let mut taken = Vec::new(alloc);
     for _ in 0..=LAST + 1 {
-        let file = OpenOptions::new()
-            .read(true)
-            .write(true)
-            .open(rt, "/dev/null")
-            .ok()?;
+        let file = open_null(rt)?;
         if file.as_raw_fd() > LAST {
             return Some(taken);
         }
