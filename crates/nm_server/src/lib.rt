@@ -14,6 +14,7 @@ mod file_calls;
 mod mirror_calls;
 mod mirror_target;
 mod program;
+mod run;
 mod serving;
 mod sessions;
 
