@@ -94,24 +94,27 @@ impl Storage {
         folder: &str,
     ) -> Result<(), AllocError> {
         for name in names(rt, alloc, folder)?.split(ends_name) {
-            if let Ok(name) = str::from_utf8(name) {
-                self.add_partition(rt, alloc, &format!(in alloc; "{folder}/{name}")?)?;
-            }
+            self.add_partition(rt, alloc, folder, name)?;
         }
         Ok(())
     }
 
-    // Adds the partition with this folder, where it is one.
+    // Adds the partition with a folder of this name in the device's, where it is one.
     fn add_partition<R: Files<File = File>>(
         &mut self,
         rt: &R,
         alloc: Global,
         folder: &str,
+        name: &[u8],
     ) -> Result<(), AllocError> {
-        if !contents_in(rt, alloc, folder, "partition")?.is_empty() {
-            self.add_device(rt, alloc, folder, "dev")?;
+        let Ok(name) = str::from_utf8(name) else {
+            return Ok(());
+        };
+        let own = format!(in alloc; "{folder}/{name}")?;
+        if contents_in(rt, alloc, &own, "partition")?.is_empty() {
+            return Ok(());
         }
-        Ok(())
+        self.add_device(rt, alloc, &own, "dev")
     }
 
     // Adds the device whose number the file of this name in this folder has.
@@ -194,26 +197,31 @@ impl Storage {
         but: Option<Node>,
     ) -> Result<bool, AllocError> {
         for name in names(rt, alloc, "/sys/block")?.split(ends_name) {
-            let Ok(name) = str::from_utf8(name) else {
-                continue;
-            };
-            let folder = format!(in alloc; "/sys/block/{name}")?;
-            if self.has_backing(rt, alloc, &folder)? && is_other(rt, alloc, &folder, but)? {
+            if self.is_under(rt, alloc, name, but)? {
                 return Ok(true);
             }
         }
         Ok(false)
     }
 
-    // Whether the loop device with this folder stands on one of these.
-    fn has_backing<R: Files<File = File>>(
+    // Whether the device of this name is a loop device other than this one, and stands on one of
+    // these.
+    fn is_under<R: Files<File = File>>(
         &self,
         rt: &R,
         alloc: Global,
-        folder: &str,
+        name: &[u8],
+        but: Option<Node>,
     ) -> Result<bool, AllocError> {
-        let path = contents_in(rt, alloc, folder, "loop/backing_file")?;
-        Ok(self.has_path(rt, line_of(&path)))
+        let Ok(name) = str::from_utf8(name) else {
+            return Ok(false);
+        };
+        let folder = format!(in alloc; "/sys/block/{name}")?;
+        let path = contents_in(rt, alloc, &folder, "loop/backing_file")?;
+        if !self.has_path(rt, line_of(&path)) {
+            return Ok(false);
+        }
+        is_other(rt, alloc, &folder, but)
     }
 
     // The loop device among these, and what it stands on.

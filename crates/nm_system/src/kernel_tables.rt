@@ -96,21 +96,25 @@ pub fn unescaped(alloc: Global, text: &[u8]) -> Result<Vec<u8>, AllocError> {
     Ok(name)
 }
 
-/// The soft limit of this name in `/proc/self/limits`; none where it is unlimited, or not there.
-pub fn soft_limit(limits: &[u8], name: &str) -> Option<u64> {
-    for line in limits.split(ends_line) {
+// The word of a line at this place, where blanks stand between words.
+fn word_at(line: &[u8], place: usize) -> Option<&[u8]> {
+    let mut words = line.split(is_space).filter(|word| !word.is_empty());
+    words.nth(place)
+}
+
+// What follows this name on the first line that begins with it.
+fn behind_name<'a>(lines: &'a [u8], name: &str) -> Option<&'a [u8]> {
+    for line in lines.split(ends_line) {
         if let Some(rest) = line.strip_prefix(name.as_bytes()) {
-            let mut words = rest.split(is_space);
-            return number(words.find(|word| !word.is_empty())?);
+            return Some(rest);
         }
     }
     None
 }
 
-// The word of a line at this place, where blanks stand between words.
-fn word_at(line: &[u8], place: usize) -> Option<&[u8]> {
-    let mut words = line.split(is_space).filter(|word| !word.is_empty());
-    words.nth(place)
+/// The soft limit of this name in `/proc/self/limits`; none where it is unlimited, or not there.
+pub fn soft_limit(limits: &[u8], name: &str) -> Option<u64> {
+    number(word_at(behind_name(limits, name)?, 0)?)
 }
 
 /// The number of the socket that listens at this port, by a line of `/proc/net/tcp`, where the port

@@ -97,6 +97,21 @@ fn holder_of<R: Files<File = File>>(
     Ok(None)
 }
 
+// The number of the socket that listens at this port, by this table of the system's.
+fn socket_at_port<R: Files<File = File>>(
+    rt: &R,
+    alloc: Global,
+    table: &str,
+    port: &str,
+) -> Result<Option<u64>, AllocError> {
+    for line in contents(rt, alloc, table)?.split(ends_line) {
+        if let Some(socket) = listens_at_port(line, port.as_bytes()) {
+            return Ok(Some(socket));
+        }
+    }
+    Ok(None)
+}
+
 /// The process that listens at this port over TCP.
 pub fn holder_of_port<R: Files<File = File>>(
     rt: &R,
@@ -105,10 +120,8 @@ pub fn holder_of_port<R: Files<File = File>>(
 ) -> Result<Option<Process>, AllocError> {
     let port = format!(in alloc; ":{port:04X}")?;
     for table in ["/proc/net/tcp", "/proc/net/tcp6"] {
-        for line in contents(rt, alloc, table)?.split(ends_line) {
-            if let Some(socket) = listens_at_port(line, port.as_bytes()) {
-                return holder_of(rt, alloc, socket);
-            }
+        if let Some(socket) = socket_at_port(rt, alloc, table, &port)? {
+            return holder_of(rt, alloc, socket);
         }
     }
     Ok(None)

@@ -16,6 +16,19 @@ fn open_null<R: Files<File = File>>(rt: &R) -> Option<File> {
     both.open(rt, "/dev/null").ok()
 }
 
+// Opens a file, and keeps it where it got a standard stream's descriptor. None where it cannot be
+// opened or kept, else whether it was kept.
+fn take_one<R: Files<File = File>>(rt: &R, taken: &mut Vec<File>) -> Option<bool> {
+    let file = open_null(rt)?;
+    if file.as_raw_fd() > LAST {
+        return Some(false);
+    }
+    match taken.push(file) {
+        Ok(()) => Some(true),
+        Err(_) => None,
+    }
+}
+
 /// Takes the descriptors of standard streams that are closed, so that no leg gets one of them and
 /// has text written into it. They are taken as long as these files are kept.
 ///
@@ -23,11 +36,11 @@ fn open_null<R: Files<File = File>>(rt: &R) -> Option<File> {
 pub fn take_standard_streams<R: Files<File = File>>(rt: &R, alloc: Global) -> Option<Vec<File>> {
     let mut taken = Vec::new(alloc);
     for _ in 0..=LAST + 1 {
-        let file = open_null(rt)?;
-        if file.as_raw_fd() > LAST {
-            return Some(taken);
+        match take_one(rt, &mut taken) {
+            Some(true) => (),
+            Some(false) => return Some(taken),
+            None => return None,
         }
-        taken.push(file).ok()?;
     }
     None
 }
