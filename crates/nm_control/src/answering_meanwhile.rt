@@ -2,8 +2,8 @@
 
 use crossbeam_channel::{Receiver, RecvTimeoutError};
 use nm_commands::{Fed, LineRoom};
+use nm_connections::{Listener, Stream, TimedStream};
 use nm_reports::Comparison;
-use nm_sockets::{Listener, Stream, TimedStream};
 use std::alloc::Global;
 use std::cell::Cell;
 use std::io;

@@ -1,9 +1,10 @@
 //! The control port's threads.
 
 use crate::answering::AnswersControl;
-use nm_places::{Quit, Shared};
+use nm_connections::{
+    CONNECTIONS, ControlPlaces, ControlStream, Peer, Quit, Shared, Stream, TimedStream,
+};
 use nm_reports::Incident;
-use nm_sockets::{CONNECTIONS, ControlPlaces, ControlStream, Peer, Stream, TimedStream};
 use std::alloc::Global;
 use std::cell::Cell;
 use std::net::{Net, Shutdown, TcpListener, TcpStream};

@@ -2,11 +2,11 @@
 
 use crate::copy_orders::CopyOrders;
 use crate::replacing::RenewsLegs;
+use nm_connections::SessionPlaces;
 use nm_lanes::Gate;
 use nm_leg::LegPart;
 use nm_leg_files::MakesLegs;
 use nm_mirror::Mirror;
-use nm_places::SessionPlaces;
 use nm_reports::{Metrics, ServerInfo, UnreadList};
 
 /// What the control port's commands tell of and change: the mirror, the name of its export, and

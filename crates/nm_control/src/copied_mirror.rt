@@ -1,10 +1,10 @@
 //! A mirror whose legs are copied.
 
 use crate::copy_orders::CopyOrders;
+use nm_connections::Shared;
 use nm_lanes::Gate;
 use nm_leg::LegPart;
 use nm_mirror::Mirror;
-use nm_places::Shared;
 
 /// A mirror whose legs are copied and compared, as an administrator orders it.
 #[derive(Drop)]

@@ -1,9 +1,9 @@
 //! The control port while a start compares the legs.
 
 use crossbeam_channel::Receiver;
+use nm_connections::Listener;
 use nm_control::answer_meanwhile;
 use nm_reports::Comparison;
-use nm_sockets::Listener;
 use nm_starts::Meanwhile;
 use std::alloc::Global;
 use std::sync::Wait;

@@ -3,12 +3,12 @@ ghost use Rattle.std.specs.Prelude.{length};
 ghost use Rattle.nm_server.specs.Calls.{Acts, IsEven, IsInside, answered};
 
 use crate::mirror_calls::MirrorCalls;
+use nm_connections::Activity;
 use nm_geometry::Shape;
 use nm_leg::LegPart;
 use nm_mirror::Pass;
 use nm_reports::MirrorCall;
 use nm_session::TargetFault;
-use nm_sockets::Activity;
 use std::sync::atomic::AtomicBool;
 
 /// Calls of a mirror, of which the session's activity tells while they are under way.

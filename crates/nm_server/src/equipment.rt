@@ -3,13 +3,13 @@
 use crate::control_meanwhile::ControlMeanwhile;
 use crate::sessions::AT_ONCE;
 use nm_commands::{CopySettings, Settings};
+use nm_connections::Listener;
 use nm_control::{Copier, CopyOrders, Healing, LegWatch, MissingLegs};
 use nm_leg_files::{
     FileMirror, LateSlots, LateSuperblock, Leg, LegFiles, LegPlace, LegSyncs, SuperblockWriter,
 };
 use nm_mirror::{MOST_PASSES, Pass};
 use nm_reports::{LogLines, Metrics, MirrorDoubts, StartFault};
-use nm_sockets::Listener;
 use nm_starts::{Superblocks, open_asked_for};
 use std::alloc::{AllocError, Global};
 use std::fs::File;

@@ -6,12 +6,12 @@ ghost use Rattle.nm_session.specs.Target.{Writes, Zeroes};
 
 use crate::mirror_calls::MirrorCalls;
 use bytes::Bytes;
+use nm_connections::SessionPlaces;
 use nm_geometry::Shape;
 use nm_lanes::{Gate, WriteFault};
 use nm_leg::LegPart;
 use nm_leg_files::{FileMirror, Leg, LegSyncs};
 use nm_mirror::{Mirror, Pass};
-use nm_places::SessionPlaces;
 use nm_reports::{Metrics, MirrorCall, MirrorCallKind, bytes_of, microseconds_since};
 use nm_session::TargetFault;
 use std::alloc::Global;

@@ -4,13 +4,12 @@ use crate::equipment::{Equipment, Opened, metrics_of, open};
 use crate::serving::{Copying, serve_and_copy};
 use crate::sessions::{AT_ONCE, ExportName, ServedExport};
 use nm_commands::{MirrorSettings, OpeningSettings, Settings};
+use nm_connections::{Listener, ServingState, SessionRules, Shared, listen, listen_beside};
 use nm_control::LegRenewer;
 use nm_geometry::{MOST_LEGS, Shape};
 use nm_leg_files::{FileMirror, Leg, LegFiles, LegMaker, LegPlace, LegRules, OpensLegs};
 use nm_mirror::Pass;
-use nm_places::{ServingState, SessionRules, Shared};
 use nm_reports::{LogLines, Metrics, Port, StartFault};
-use nm_sockets::{Listener, listen, listen_beside};
 use nm_starts::{
     check_added, check_files, check_from, check_moved, check_shrink, reply_bytes_of, settle_place,
     sort_legs, try_address_space, try_threads,

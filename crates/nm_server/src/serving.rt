@@ -2,11 +2,11 @@
 
 use crate::equipment::Equipment;
 use crate::sessions::{AT_ONCE, ServedExport, see_off, serve_place, take_clients};
+use nm_connections::Shared;
 use nm_control::{Controlled, CopiedMirror, Copier, LegRenewer, resynchronise, serve_control};
 use nm_lanes::NoGate;
 use nm_leg_files::{FileMirror, LateSlots, Leg, LegMaker, OpensLegs, SuperblockWriter};
 use nm_mirror::Pass;
-use nm_places::Shared;
 use nm_reports::StartFault;
 use std::net::{Net, TcpListener, TcpStream};
 use std::sync::atomic::Ordering;

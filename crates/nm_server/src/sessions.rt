@@ -9,17 +9,16 @@ use crate::counted_calls::CountedCalls;
 use crate::file_calls::FileCalls;
 use crate::mirror_calls::MirrorCalls;
 use crate::mirror_target::MirrorTarget;
+use nm_connections::{
+    ClientReader, ClientStream, ClientWriter, Ending, HangUp, Peer, SessionEnd, SessionPlaces,
+    Shared, Stream, TimedStream, tell_begin, tell_end,
+};
 use nm_leg::LegPart;
 use nm_leg_files::{FileMirror, Leg, LegSyncs};
 use nm_mirror::Pass;
-use nm_places::{Ending, SessionPlaces, Shared};
 use nm_replies::ReplyWriter;
 use nm_reports::Incident;
 use nm_session::{Limit, ServeFault, Served, SessionCore};
-use nm_sockets::{
-    ClientReader, ClientStream, ClientWriter, HangUp, Peer, SessionEnd, Stream, TimedStream,
-    tell_begin, tell_end,
-};
 use nm_wire::{Export, Name};
 use nm_workers::{negotiate, transmit};
 use std::alloc::Global;

@@ -1,11 +1,12 @@
 //! What the threads share while the server serves.
 
+use crate::control_places::ControlPlaces;
 use crate::ending::Ending;
+use crate::listener::Listener;
 use crate::session_places::SessionPlaces;
 use crate::session_rules::SessionRules;
 use nm_replay::Memory;
 use nm_reports::{LogLines, Metrics, ServerInfo, UnreadList};
-use nm_sockets::{ControlPlaces, Listener};
 use std::alloc::Global;
 use std::sync::atomic::AtomicBool;
 use std::time::Clock;

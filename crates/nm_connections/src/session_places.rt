@@ -1,9 +1,10 @@
 //! The places of sessions: who is served now, and who is served next.
 
+use crate::client_stream::ClientStream;
+use crate::served_client::{Closing, ServedClient};
 use crate::session_rules::SessionRules;
 use nm_replay::Memory;
 use nm_reports::milliseconds_since;
-use nm_sockets::{ClientStream, Closing, ServedClient};
 use nm_workers::SpinToken;
 use std::alloc::{AllocError, Global};
 use std::sync::atomic::{AtomicBool, AtomicU64, Ordering};
