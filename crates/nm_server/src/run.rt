@@ -1,4 +1,5 @@
-//! A run of the server: what the settings ask for is found, opened, served until a `quit`, and ended.
+//! A run of the server: what the settings ask for is found, opened, served until a `quit`, and
+//! ended.
 
 use crate::equipment::{Equipment, Opened, metrics_of, open};
 use crate::serving::{Copying, serve_and_copy};
