@@ -10,7 +10,7 @@ use nm_leg_files::{
 };
 use nm_mirror::{MOST_PASSES, Pass};
 use nm_reports::{LogLines, Metrics, MirrorDoubts, StartFault};
-use nm_starts::{Superblocks, open_asked_for};
+use nm_starts::{OpenedMirror, Superblocks, open_asked_for};
 use std::alloc::{AllocError, Global};
 use std::fs::File;
 use std::random::RandomSource;
@@ -181,6 +181,42 @@ pub struct Opened {
     pub own: Equipment,
 }
 
+// Who copies the mirror's legs, and the passes of who does so and of its sessions.
+fn attended<R: Wait>(
+    rt: &R,
+    alloc: Global,
+    settings: &Settings<'_>,
+    files: &LegFiles,
+    mirror: &FileMirror,
+    own: &Equipment,
+) -> Result<(Copier, Vec<Pass<Leg>>), StartFault> {
+    let copier = copier_of(alloc, mirror, files, &own.places, &settings.copies)?;
+    let passes = passes_of(rt, alloc, mirror, settings.clients.sessions)?;
+    Ok((copier, passes))
+}
+
+// The mirror with all that it is served by.
+fn equipped<R: Wait>(
+    rt: &R,
+    alloc: Global,
+    settings: &Settings<'_>,
+    files: &LegFiles,
+    opened: OpenedMirror,
+) -> Result<Opened, StartFault> {
+    let OpenedMirror {
+        mirror,
+        superblocks,
+    } = opened;
+    let own = equip(alloc, &settings.copies, files, superblocks)?;
+    let (copier, passes) = attended(rt, alloc, settings, files, &mirror, &own)?;
+    Ok(Opened {
+        mirror,
+        passes,
+        copier,
+        own,
+    })
+}
+
 /// Opens the mirror over these files. From then on a leg's file is held by its place and its
 /// stripes alone, which another may get.
 pub fn open<R>(
@@ -197,14 +233,5 @@ where
     let meanwhile = ControlMeanwhile { control };
     let opened = open_asked_for(rt, alloc, settings, &mut files, &meanwhile, lines)?;
     files.tell_missing(rt, alloc, lines);
-    let mirror = opened.mirror;
-    let own = equip(alloc, &settings.copies, &files, opened.superblocks)?;
-    let copier = copier_of(alloc, &mirror, &files, &own.places, &settings.copies)?;
-    let passes = passes_of(rt, alloc, &mirror, settings.clients.sessions)?;
-    Ok(Opened {
-        mirror,
-        passes,
-        copier,
-        own,
-    })
+    equipped(rt, alloc, settings, &files, opened)
 }

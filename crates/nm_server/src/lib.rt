@@ -18,8 +18,7 @@ mod run;
 mod serving;
 mod sessions;
 
-pub use crate::file_calls::{FileCalls, call_mirror};
+pub use crate::file_calls::call_mirror;
 pub use crate::mirror_calls::MirrorCalls;
 pub use crate::mirror_target::MirrorTarget;
 pub use crate::program::{refuse_words, start};
-pub use crate::sessions::{AT_ONCE, ExportName, ServedExport, see_off, serve_place, take_clients};

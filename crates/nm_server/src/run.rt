@@ -1,13 +1,16 @@
-//! A run of the server: what the settings ask for is found, opened, served until a `quit`, and ended.
+//! A run of the server: what the settings ask for is found, opened, served until a `quit`, and
+//! ended.
 
 use crate::equipment::{Equipment, Opened, metrics_of, open};
-use crate::serving::{Copying, serve_and_copy};
+use crate::serving::Server;
 use crate::sessions::{AT_ONCE, ExportName, ServedExport};
-use nm_commands::{MirrorSettings, OpeningSettings, Settings};
-use nm_connections::{Listener, ServingState, SessionRules, Shared, listen, listen_beside};
-use nm_control::LegRenewer;
-use nm_geometry::{MOST_LEGS, Shape};
-use nm_leg_files::{FileMirror, Leg, LegFiles, LegMaker, LegPlace, LegRules, OpensLegs};
+use nm_commands::{ListenSettings, MirrorSettings, OpeningSettings, Settings};
+use nm_connections::{
+    Listener, Listening, ServingState, SessionRules, Shared, listen, listen_beside,
+};
+use nm_control::Copier;
+use nm_geometry::MOST_LEGS;
+use nm_leg_files::{FileMirror, Leg, LegFiles, LegRules, OpensLegs};
 use nm_mirror::Pass;
 use nm_reports::{LogLines, Metrics, Port, StartFault};
 use nm_starts::{
@@ -21,8 +24,7 @@ use std::io::Write;
 use std::net::{Net, TcpListener, TcpStream};
 use std::random::RandomSource;
 use std::rt::Files;
-use std::sync::atomic::AtomicU64;
-use std::sync::{Arc, Wait};
+use std::sync::Wait;
 use std::thread::Threads;
 use std::time::Clock;
 
@@ -66,19 +68,6 @@ fn export_asked<'a>(settings: &Settings<'a>) -> Result<ExportName<'a>, StartFaul
     match ExportName::new(settings.clients.export, settings.clients.read_only) {
         Some(named) => Ok(named),
         None => Err(StartFault::BadName),
-    }
-}
-
-// What makes the legs of stripes that are opened anew.
-fn maker_of<'x>(
-    alloc: Global,
-    mirror: &MirrorSettings<'_>,
-    places: &'x [Arc<LegPlace>],
-    shape: &Shape,
-) -> Result<LegMaker<'x>, StartFault> {
-    match Arc::new(alloc, AtomicU64::new(0)) {
-        Ok(read) => Ok(LegMaker::new(places, shape, read, mirror.policy)),
-        Err(_) => Err(StartFault::Memory),
     }
 }
 
@@ -179,26 +168,29 @@ fn end<O: Write>(
     Ok(())
 }
 
-// Serves a mirror until a `quit`, beside what is at hand for it, and copies its legs meanwhile. The
-// copier's pass comes back.
-fn work<'x, R, P: OpensLegs + Sync>(
+// Serves the export until a `quit`, and copies its legs meanwhile; the last of these passes is the
+// copier's. They are given back.
+fn serve_export<'x, R, P: OpensLegs + Sync>(
     rt: &R,
-    opener: &P,
-    settings: &Settings<'_>,
+    opener: &'x P,
+    mirror: &MirrorSettings<'_>,
     shared: &'x Shared<'x>,
-    export: &ServedExport<'_, '_>,
-    passes: &mut [Pass<Leg>],
-    (copying, own): (Copying, &Equipment),
-) -> Result<Pass<Leg>, StartFault>
+    export: &'x ServedExport<'x, 'x>,
+    (copier, own): (Copier, &'x Equipment),
+    mut passes: Vec<Pass<Leg>>,
+) -> Result<Vec<Pass<Leg>>, StartFault>
 where
     R: Threads + Wait + Sync + Copy + Clock + Net<Listener = TcpListener, Stream = TcpStream>,
 {
-    let (alloc, shape) = (shared.alloc, export.mirror.shape());
-    let (places, writer) = (own.places.as_slice(), own.superblocks.as_ref());
-    let legs = LegRenewer::new(alloc, opener, places, writer, shape)?;
-    let maker = maker_of(alloc, &settings.mirror, places, shape)?;
-    own.orders.begin_limits();
-    serve_and_copy(rt, shared, export, passes, copying, own, (&legs, &maker))
+    let Some(pass) = passes.pop() else {
+        return Err(StartFault::Memory);
+    };
+    let server = Server::new(opener, mirror, shared, export, own)?;
+    let pass = server.serve(rt, &mut passes, (copier, pass))?;
+    match passes.push(pass) {
+        Ok(()) => Ok(passes),
+        Err(_) => Err(StartFault::Memory),
+    }
 }
 
 // Serves the mirror that was opened until a `quit`, and ends it.
@@ -214,18 +206,19 @@ fn serve<'s, R, P: OpensLegs + Sync, O: Write>(
 where
     R: Threads + Wait + Sync + Copy + Clock + Net<Listener = TcpListener, Stream = TcpStream>,
 {
-    let (mirror, own, mut passes) = (opened.mirror, opened.own, opened.passes);
+    let Opened {
+        mirror,
+        passes,
+        copier,
+        own,
+    } = opened;
     let export = ServedExport {
         named,
         mirror: &mirror,
         syncs: &own.syncs,
     };
-    let own_pass = passes.pop().ok_or(StartFault::Memory)?;
-    let at_work = ((opened.copier, own_pass), &own);
-    let own_pass = work(rt, opener, settings, shared, &export, &mut passes, at_work)?;
-    if passes.push(own_pass).is_err() {
-        return Err(StartFault::Memory);
-    }
+    let (legs, at_hand) = (&settings.mirror, (copier, &own));
+    let passes = serve_export(rt, opener, legs, shared, &export, at_hand, passes)?;
     let stopped = count_stopped(rt, &mirror);
     let is_verbose = settings.clients.verbose;
     end(shared.alloc, mirror, passes, stopped, is_verbose, out)
@@ -256,6 +249,42 @@ fn ready_state<R: Threads + Wait + Sync + Copy + Send + Clock + 'static>(
     state_of(rt, alloc, settings, limits, metrics)
 }
 
+// The sockets that the settings ask for: of clients, and of the control port.
+fn listen_both<'r, 'p, R>(
+    rt: &'r R,
+    alloc: Global,
+    settings: &ListenSettings<'p>,
+) -> Result<Sockets<'r, 'p, R>, StartFault>
+where
+    R: Files<File = File> + Clock + Wait + Net<Listener = TcpListener, Stream = TcpStream>,
+{
+    let clients = listen(rt, alloc, Port::Clients, settings)?;
+    let control = listen_beside(rt, alloc, settings, &clients)?;
+    Ok((clients, control))
+}
+
+// Where clients and where the control port are listened for.
+type Sockets<'r, 'p, R> = (Listening<'r, 'p, R>, Listening<'r, 'p, R>);
+
+// A server that serves nobody yet, and the mirror over these files. Whatever may be refused is,
+// before a superblock is made.
+fn open_ready<R>(
+    rt: &R,
+    alloc: Global,
+    settings: &Settings<'_>,
+    limits: &Limits,
+    files: LegFiles,
+    control: &Listener,
+    lines: &LogLines,
+) -> Result<(ServingState, Opened), StartFault>
+where
+    R: Threads + Wait + Sync + Copy + Send + Clock + RandomSource + Files<File = File> + 'static,
+{
+    let state = ready_state(rt, alloc, settings, limits, &files)?;
+    let opened = open(rt, alloc, settings, files, control, lines)?;
+    Ok((state, opened))
+}
+
 // Opens what the settings ask for, and serves it until a `quit`.
 fn open_and_serve<R, P: OpensLegs + Sync, O: Write>(
     rt: &R,
@@ -279,16 +308,13 @@ where
         + 'static,
 {
     let (named, files) = find_export(rt, alloc, settings, limits)?;
-    let listening = &settings.listening;
-    let clients = listen(rt, alloc, Port::Clients, listening)?;
-    let control = listen_beside(rt, alloc, listening, &clients)?;
-    // Whatever may be refused is, before a superblock is made.
-    let state = ready_state(rt, alloc, settings, limits, &files)?;
-    let opened = open(rt, alloc, settings, files, &control.listener, lines)?;
-    warn_if_open(rt, alloc, &control.listener, listening.control, lines);
+    let (clients, control) = listen_both(rt, alloc, &settings.listening)?;
+    let at = &control.listener;
+    let (state, opened) = open_ready(rt, alloc, settings, limits, files, at, lines)?;
+    warn_if_open(rt, alloc, at, settings.listening.control, lines);
     clients.tell(out, "listening on");
     control.tell(out, "control on");
-    let shared = Shared::new(alloc, &clients.listener, &control.listener, lines, &state);
+    let shared = Shared::new(alloc, &clients.listener, at, lines, &state);
     serve(rt, opener, settings, &named, opened, &shared, out)
 }
 
