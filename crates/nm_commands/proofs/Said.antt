@@ -1,5 +1,5 @@
 -- What the getters of matches give is what the rows of the command line have.
-use Rattle.std.proofs.Common.{◌≡◌, ◌∙◌, ℕ, List, Option, None, Some, IfSome, Bool, true, false, option_map, refl, ap, sym, codes, [], inl, inr, Result, Ok, Err, IsErrAnd, IfErr}
+use Rattle.std.proofs.Common.{◌≡◌, ◌∙◌, ◌⊎◌, ℕ, List, Option, None, Some, IfSome, Bool, true, false, option_map, refl, ap, sym, codes, [], inl, inr, Result, Ok, Err, IsErrAnd, IfErr}
 use Rattle.std.specs.Borrow.{Bor}
 use Rattle.clap.specs.Words.{App, HasKind, Row, Text, fault_of, kind_of, matches_of, is_simple, is_simple_and_free, first_of, one_of, all_of, first_value, one_text, matched_of, raw_values, rows_of}
 use Rattle.clap.specs.declared.parser.matches.Found.{Found}
@@ -13,7 +13,7 @@ use Rattle.std.specs.Prelude.{option_and_then}
 use Rattle.std.specs.Str.{bytes_eq}
 use Rattle.nm_commands.specs.CommandLine.{nbdmirror}
 use Rattle.clap.specs.declared.error.Error.{Error}
-use Rattle.clap.specs.declared.error.kind.ErrorKind.TheVariants.{ArgumentConflict}
+use Rattle.clap.specs.declared.error.kind.ErrorKind.TheVariants.{ArgumentConflict, OutOfMemory}
 use Rattle.nm_commands.specs.CommandLine.{ArePolicies, AreStarts}
 use Rattle.nm_commands.specs.Settings.{IsNumber, IsPlaceOf, HasPlace, IsRefusal, AreAll, HasFlag, HasNumber, NamesTwo, source_of}
 use Rattle.nm_commands.specs.declared.superblock_place.SuperblockPlace.{SuperblockPlace}
@@ -43,16 +43,18 @@ said_fault policies starts app words e known known_starts same (inr among) = inr
 
 pub said_two : (policies starts : Bor (List (Bor Text))) (words : List Text) (e : Error) →
     ArePolicies policies → AreStarts starts → fault_of (nbdmirror policies starts) words ≡ [] →
-    NamesTwo (matches_of (nbdmirror policies starts) words) → kind_of e ≡ ArgumentConflict →
+    (kind_of e ≡ OutOfMemory)
+    ⊎ (NamesTwo (matches_of (nbdmirror policies starts) words) × (kind_of e ≡ ArgumentConflict)) →
     IsRefusal words e
-said_two policies starts words e known known_starts faultless two is = inr (inr (record {
+said_two policies starts words e known known_starts faultless (inl memory) = inl memory
+said_two policies starts words e known known_starts faultless (inr two) = inr (inr (record {
   policies = policies;
   known = known;
   starts = starts;
   known_starts = known_starts;
   faultless = faultless;
-  two = two;
-  kind = is;
+  two = two.0;
+  kind = two.1;
 }))
 
 pub said_text : (f : Found) (rows : List Row) (id text : Text) → rows_of f ≡ rows →

@@ -1,6 +1,7 @@
 -- The command line of nbdmirror, as clap is told of it.
 use Rattle.std.specs.Prelude.{◌≡◌, ℕ, ℤ, List, [], ◌∷◌, Some, true, codes, pos, map, ◌^◌, ◌-◌}
 use Rattle.std.specs.Borrow.{Bor}
+use Rattle.std.specs.List.{fold}
 use Rattle.clap.specs.Words.{App, Rule, Text, new_app, new_rule, with_rule}
 use Rattle.clap.specs.Simple.{on_top}
 use Rattle.clap.specs.declared.builder.value_parser.ValueParser.{ValueParser}
@@ -20,26 +21,21 @@ parsed_rule id default parser = record (option_rule id default) { parser = Some 
 abbrev pub number_rule : Text → Text → ℤ → ℤ → Rule
 number_rule id default least most = parsed_rule id default (vp.Signed least most)
 
--- The option --ID with one value, a text that is not empty, and none where the words have none.
-abbrev pub bare_rule : Text → Rule
-bare_rule id = record (new_rule id) {
+-- The option --ID with one value that passes a parser, and none where the words have none.
+abbrev pub bare_rule : Text → ValueParser → Rule
+bare_rule id parser = record (new_rule id) {
   long = Some id;
   value_names = 1;
-  parser = Some vp.NonEmptyString;
+  parser = Some parser;
 }
 
--- The option --ID with one value, a number from `least` to `most`, and none where the words have
--- none.
+-- The same, whose value is a number from `least` to `most`.
 abbrev pub bare_number_rule : Text → ℤ → ℤ → Rule
-bare_number_rule id least most = record (new_rule id) {
-  long = Some id;
-  value_names = 1;
-  parser = Some (vp.Signed least most);
-}
+bare_number_rule id least most = bare_rule id (vp.Signed least most)
 
--- The same, which may come more than once.
-abbrev pub repeated_rule : Text → ℤ → ℤ → Rule
-repeated_rule id least most = record (bare_number_rule id least most) { action = Some Append }
+-- The option --ID that may come more than once, each time with one value that passes a parser.
+abbrev pub repeated_rule : Text → ValueParser → Rule
+repeated_rule id parser = record (bare_rule id parser) { action = Some Append }
 
 -- The option --ID, without a value.
 abbrev pub flag_rule : Text → Rule
@@ -71,55 +67,40 @@ AreStarts names =
 abbrev pub program : App
 program = on_top (λ shape. record shape { has_version = true }) (new_app (codes "nbdmirror"))
 
--- The program, with the options that say where clients and control connect, and to what. `p` is
--- 112.
-abbrev pub base_command : App
-base_command = with_rule (with_rule (with_rule (with_rule program
-    (option_rule (codes "listen") (codes "127.0.0.1:10809")))
-    (lettered 112 (bare_number_rule (codes "port") (pos 0) (pos 65535))))
-    (option_rule (codes "control") (codes "127.0.0.1:10810")))
-    (option_rule (codes "name") (codes "disk"))
+-- The options, with their defaults and ranges. `p` is 112, `v` 118, and `r` 114.
+abbrev pub option_rules : (policies starts : Bor (List (Bor Text))) → List Rule
+option_rules policies starts =
+    option_rule (codes "listen") (codes "127.0.0.1:10809")
+    ∷ lettered 112 (bare_number_rule (codes "port") (pos 0) (pos 65535))
+    ∷ option_rule (codes "control") (codes "127.0.0.1:10810")
+    ∷ option_rule (codes "name") (codes "disk")
+    ∷ number_rule (codes "stripes") (codes "16") (pos 1) (pos 64)
+    ∷ parsed_rule (codes "policy") (codes "round-robin") (vp.Names policies)
+    ∷ bare_number_rule (codes "master") (pos 0) (pos 7)
+    ∷ parsed_rule (codes "start") (codes "compare") (vp.Names starts)
+    ∷ flag_rule (codes "auto-attach")
+    ∷ bare_number_rule (codes "copy-rate") (pos 1) (pos 65535)
+    ∷ bare_number_rule (codes "leg-timeout") (pos 1) (pos 86400)
+    ∷ parsed_rule (codes "superblock") (codes "beside") vp.NonEmptyString
+    ∷ bare_rule (codes "superblock-from") vp.NonEmptyString
+    ∷ flag_rule (codes "degraded")
+    ∷ bare_number_rule (codes "force-master") (pos 0) (pos 7)
+    ∷ repeated_rule (codes "add-leg") (vp.Signed (pos 0) (pos 7))
+    ∷ repeated_rule (codes "moved") (vp.Signed (pos 0) (pos 7))
+    ∷ flag_rule (codes "shrink")
+    ∷ bare_number_rule (codes "idle-limit") (pos 1) (pos 86400)
+    ∷ lettered 118 (flag_rule (codes "verbose"))
+    ∷ number_rule (codes "sessions") (codes "16") (pos 1) (pos 64)
+    ∷ number_rule (codes "history") (codes "16") (pos 0) (pos 1024)
+    ∷ lettered 114 (flag_rule (codes "read-only"))
+    ∷ flag_rule (codes "force-in-use")
+    ∷ []
 
--- The same, and the options that say what mirror it is.
-abbrev pub mirror_command : (policies starts : Bor (List (Bor Text))) → App
-mirror_command policies starts = with_rule (with_rule (with_rule (with_rule base_command
-    (number_rule (codes "stripes") (codes "16") (pos 1) (pos 64)))
-    (parsed_rule (codes "policy") (codes "round-robin") (vp.Names policies)))
-    (bare_number_rule (codes "master") (pos 0) (pos 7)))
-    (parsed_rule (codes "start") (codes "compare") (vp.Names starts))
+-- The app, and the options of these rules in turn.
+abbrev pub with_rules : App → List Rule → App
+with_rules app rules = fold with_rule app rules
 
--- The same, and the options that say how legs are copied, and when one is out that hangs.
-abbrev pub copying_command : (policies starts : Bor (List (Bor Text))) → App
-copying_command policies starts = with_rule (with_rule (with_rule (mirror_command policies starts)
-    (flag_rule (codes "auto-attach")))
-    (bare_number_rule (codes "copy-rate") (pos 1) (pos 65535)))
-    (bare_number_rule (codes "leg-timeout") (pos 1) (pos 86400))
-
--- The same, and the options that say where superblocks are and what a start makes of them.
-abbrev pub with_superblock_options : App → App
-with_superblock_options app =
-    with_rule (with_rule (with_rule (with_rule (with_rule (with_rule (with_rule app
-    (parsed_rule (codes "superblock") (codes "beside") vp.NonEmptyString))
-    (bare_rule (codes "superblock-from")))
-    (flag_rule (codes "degraded")))
-    (bare_number_rule (codes "force-master") (pos 0) (pos 7)))
-    (repeated_rule (codes "add-leg") (pos 0) (pos 7)))
-    (repeated_rule (codes "moved") (pos 0) (pos 7)))
-    (flag_rule (codes "shrink"))
-
--- The same, and the options that say what the server does with its clients. `v` is 118.
-abbrev pub with_client_options : App → App
-with_client_options app = with_rule (with_rule app
-    (bare_number_rule (codes "idle-limit") (pos 1) (pos 86400)))
-    (lettered 118 (flag_rule (codes "verbose")))
-
--- The command line, with its options' defaults and ranges. `r` is 114.
+-- The command line: the program, its options, and the legs.
 abbrev pub nbdmirror : (policies starts : Bor (List (Bor Text))) → App
 nbdmirror policies starts =
-    with_rule (with_rule (with_rule (with_rule (with_rule
-    (with_client_options (with_superblock_options (copying_command policies starts)))
-    (number_rule (codes "sessions") (codes "16") (pos 1) (pos 64)))
-    (number_rule (codes "history") (codes "16") (pos 0) (pos 1024)))
-    (lettered 114 (flag_rule (codes "read-only"))))
-    (flag_rule (codes "force-in-use")))
-    (words_rule (codes "leg"))
+    with_rule (with_rules program (option_rules policies starts)) (words_rule (codes "leg"))

@@ -2,3 +2,4 @@ pub mod CommandLine
 pub mod ControlLine
 pub mod Feeding
 pub mod Settings
+pub mod OptionRows

@@ -1,5 +1,6 @@
-use Rattle.std.proofs.Common.{◌∙◌, ◌≡◌, [], ap, sym, map, List, true≢false}
-use Rattle.clap.specs.Words.{Text, App, app_of, fault_of, found_of, is_simple, is_simple_and_free, matches_of, rows_of}
+use Rattle.std.proofs.Common.{◌∙◌, ◌≡◌, ◌⊎◌, [], ap, sym, map, List}
+use Rattle.clap.specs.Words.{Text, App, app_of, fault_of, found_of, is_simple, is_simple_and_free, kind_of, matches_of, rows_of}
+use Rattle.clap.specs.declared.error.kind.ErrorKind.TheVariants.{ArgumentConflict, OutOfMemory}
 use Rattle.nm_commands.proofs.Said.{simple, simple_and_free, handed_on, said_fault, said_two}
 use Rattle.nm_commands.specs.CommandLine.{nbdmirror}
 use Rattle.nm_commands.specs.Settings.{IsRefusal, NamesTwo}
@@ -23,12 +24,12 @@ returns-clause-asked g c =
           ∙ c.in_ok-matches.ensures.kinds (ap is_simple_and_free line.2.2 ∙ simple_and_free line.0 line.2.0);
       one_place = λ two.
           let both : NamesTwo (rows_of f) = rw e two in
-          true≢false (sym (c.names_two.ensures.1 both) ∙ c.if-names_two.false);
+          c.in_ok-refuse_two.ensures.ok both;
       settings = rw (← e) c.in_ok-settings.ensures.ok;
     }
 
-pub returns-then-names_two-clause-refused : goal.returns-then-names_two-clause-refused
-returns-then-names_two-clause-refused g c =
+pub returns-in_err-refuse_two-clause-refused : goal.returns-in_err-refuse_two-clause-refused
+returns-in_err-refuse_two-clause-refused g c =
     let line = c.in_ok-command.ensures.ok in
     let words : List Text = map g.S.AsStr.text c.args.words.now in
     let f = found_of c.in_ok-matches.matches in
@@ -39,9 +40,12 @@ returns-then-names_two-clause-refused g c =
     let faultless : fault_of (nbdmirror line.0 line.2.0) words ≡ [] =
     ap (λ (a : App). fault_of a words) (sym line.2.2)
     ∙ c.in_ok-matches.ensures.kinds (ap is_simple_and_free line.2.2 ∙ simple_and_free line.0 line.2.0) in
-    let two : NamesTwo rows = rw (← e) (c.names_two.ensures.0 c.if-names_two.true) in
-    said_two line.0 line.2.0 words c.in_ok-error.error line.1 line.2.1 faultless two
-    c.in_ok-error.ensures.kind
+    let error = c.in_err-refuse_two.field-0.0 in
+    let two : (kind_of error ≡ OutOfMemory) ⊎ (NamesTwo rows × (kind_of error ≡ ArgumentConflict)) =
+    rw (← e) c.in_err-refuse_two.ensures.refused in
+    let refusal = said_two line.0 line.2.0 words error line.1 line.2.1 faultless two in
+    handed_on c.from_residual-in_err-refuse_two.result error (IsRefusal words)
+    c.from_residual-in_err-refuse_two.ensures.1 refusal
 
 pub returns-in_err-matches-clause-refused : goal.returns-in_err-matches-clause-refused
 returns-in_err-matches-clause-refused g c =
