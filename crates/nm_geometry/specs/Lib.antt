@@ -3,3 +3,4 @@ pub mod Inside
 pub mod Laws
 pub mod Pieces
 pub mod PieceLaws
+pub mod LegSets

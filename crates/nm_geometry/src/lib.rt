@@ -5,10 +5,12 @@
 #![tactic(auto)]
 
 pub use byte_range::ByteRange;
+pub use leg_set::LegSet;
 pub use piece::Piece;
 pub use shape::{MOST_BLOCKS, MOST_LEGS, MOST_REGION, MOST_STRIPES, Shape};
 
 mod byte_range;
 pub mod laws;
+mod leg_set;
 mod piece;
 mod shape;
