@@ -3,18 +3,11 @@ use Rattle.std.specs.Prelude.{◌≡◌, ℕ, ◌/◌, Bool, true, false, not, �
 use Rattle.std.specs.Prelude.{List, [], ◌∷◌, map, length, replicate, Option, None, Some}
 use Rattle.std.specs.Prelude.{slice_index_or}
 use Rattle.nm_choice.specs.Choice.{is_in_sync}
+pub use Rattle.nm_geometry.specs.LegSets.{has, legs_where}
 use Rattle.nm_rules.specs.State.{StripeState, is_joining, leg_state, left}
 use Rattle.nm_stripe.specs.Copy.{region_to_copy}
 use Rattle.nm_gate.specs.declared.leg_claims.LegClaims.{LegClaims}
 use Rattle.nm_gate.specs.Durable.{Durable, is_lacking, is_named}
-
--- the leg is in the set
-abbrev pub has : ℕ → List Bool → Bool
-has leg set = slice_index_or set leg false
-
--- of eight legs the set of those that this is true of
-abbrev pub legs_where : (ℕ → Bool) → List Bool
-legs_where is = map is (0 ∷ 1 ∷ 2 ∷ 3 ∷ 4 ∷ 5 ∷ 6 ∷ 7 ∷ [])
 
 -- the leg is one of the stripe's, and in sync
 abbrev pub is_current_leg : {L : Type 0} → StripeState L → ℕ → Bool

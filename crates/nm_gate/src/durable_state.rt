@@ -2,19 +2,19 @@
 ghost use Rattle.std.specs.Prelude.{◌≡◌, ◌<◌, ◌≤◌, false, length, slice_index_or};
 ghost use Rattle.nm_gate.specs.Durable.{is_lacking, is_listed, is_marked, is_named};
 
+use nm_geometry::LegSet;
 use std::marker::Model;
 
 /// What the durable superblock may say of a stripe. While a save is under way both the old one and
 /// the new one may be the durable one, so these are bounds: what it may say, or surely says.
 #[derive(Drop)]
 pub struct DurableState {
-    pub(crate) named: [bool; 8],
-    pub(crate) listed: [bool; 8],
-    pub(crate) lacking: [bool; 8],
+    pub(crate) named: LegSet,
+    pub(crate) listed: LegSet,
+    pub(crate) lacking: LegSet,
     pub(crate) marked: Vec<bool>,
     pub(crate) span: u64,
     pub(crate) broken: bool,
-    ghost eight: { (length named ≡ 8) × (length lacking ≡ 8) },
     ghost some: { 0 < span },
     ghost few: { length marked.items ≤ 16384 },
 }
@@ -50,9 +50,9 @@ impl DurableState {
     /// in sync or about to be, those that lack no more than marked spans, and the marks of spans of
     /// so many regions. A superblock has 16,384 marks at most, and a stripe always as many as here.
     pub fn new(
-        named: [bool; 8],
-        listed: [bool; 8],
-        lacking: [bool; 8],
+        named: LegSet,
+        listed: LegSet,
+        lacking: LegSet,
         marked: Vec<bool>,
         span: u64,
     ) -> DurableState
@@ -81,21 +81,21 @@ impl DurableState {
     pub fn is_named(&self, leg: u8) -> bool
         ensures { result ≡ is_named leg self.now }
     {
-        bit(&self.named, u64::from(leg))
+        self.named.has(leg as usize)
     }
 
     /// Whether it surely lists the leg: in sync, or about to be.
     pub fn is_listed(&self, leg: u8) -> bool
         ensures { result ≡ is_listed leg self.now }
     {
-        bit(&self.listed, u64::from(leg))
+        self.listed.has(leg as usize)
     }
 
     /// Whether it may say that the leg lacks no more than marked spans.
     pub fn is_lacking(&self, leg: u8) -> bool
         ensures { result ≡ is_lacking leg self.now }
     {
-        bit(&self.lacking, u64::from(leg))
+        self.lacking.has(leg as usize)
     }
 
     /// Whether it surely marks the region's span.
@@ -133,6 +133,7 @@ impl DurableState {
         ensures named { length self.now.named ≡ 8 }
         ensures lacking { length self.now.lacking ≡ 8 }
     {
-        let _first = self.named[0];
+        self.named.eight_legs();
+        self.lacking.eight_legs();
     }
 }

@@ -1,10 +1,11 @@
 //! What a save says of a stripe's legs.
 ghost use Rattle.std.specs.Prelude.{◌≡◌, ◌<◌, ◌&&◌, ◌||◌, length};
 ghost use Rattle.nm_gate.specs.Claims.{claims_of, is_candidate, is_current_leg, is_partial};
-ghost use Rattle.nm_gate.specs.Claims.{has, is_listed_by, legs_where, lies_marked, no_claims};
+ghost use Rattle.nm_gate.specs.Claims.{is_listed_by, legs_where, lies_marked, no_claims};
 
 use crate::durable_state::{DurableState, bit};
 use nm_choice::LegState;
+use nm_geometry::LegSet;
 use nm_leg::LegPart;
 use nm_stripe::Stripe;
 
@@ -12,11 +13,11 @@ use nm_stripe::Stripe;
 #[derive(Clone, Copy, PartialEq, Eq)]
 pub struct LegClaims {
     /// Those in sync.
-    pub in_sync: [bool; 8],
+    pub in_sync: LegSet,
     /// Those that join, with nothing left to copy: they may be called in sync once this is saved.
-    pub candidates: [bool; 8],
+    pub candidates: LegSet,
     /// Those that are not in sync, and lack no more than marked spans.
-    pub partial: [bool; 8],
+    pub partial: LegSet,
 }
 
 impl LegClaims {
@@ -29,7 +30,7 @@ impl LegClaims {
         ensures { result ≡ claims_of stripe.now durable.now marked.now }
     {
         LegClaims {
-            in_sync: [
+            in_sync: LegSet::of([
                 is_in_sync(stripe, 0),
                 is_in_sync(stripe, 1),
                 is_in_sync(stripe, 2),
@@ -38,8 +39,8 @@ impl LegClaims {
                 is_in_sync(stripe, 5),
                 is_in_sync(stripe, 6),
                 is_in_sync(stripe, 7),
-            ],
-            candidates: [
+            ]),
+            candidates: LegSet::of([
                 is_candidate(stripe, 0),
                 is_candidate(stripe, 1),
                 is_candidate(stripe, 2),
@@ -48,8 +49,8 @@ impl LegClaims {
                 is_candidate(stripe, 5),
                 is_candidate(stripe, 6),
                 is_candidate(stripe, 7),
-            ],
-            partial: [
+            ]),
+            partial: LegSet::of([
                 durable.is_partial(stripe, marked, 0),
                 durable.is_partial(stripe, marked, 1),
                 durable.is_partial(stripe, marked, 2),
@@ -58,7 +59,7 @@ impl LegClaims {
                 durable.is_partial(stripe, marked, 5),
                 durable.is_partial(stripe, marked, 6),
                 durable.is_partial(stripe, marked, 7),
-            ],
+            ]),
         }
     }
 
@@ -67,9 +68,9 @@ impl LegClaims {
         ensures { result ≡ no_claims }
     {
         LegClaims {
-            in_sync: [false; 8],
-            candidates: [false; 8],
-            partial: [false; 8],
+            in_sync: LegSet::none(),
+            candidates: LegSet::none(),
+            partial: LegSet::none(),
         }
     }
 
@@ -77,13 +78,16 @@ impl LegClaims {
     pub(crate) fn eight_legs(&self)
         ensures in_sync { length self.now.in_sync ≡ 8 }
         ensures partial { length self.now.partial ≡ 8 }
-    {}
+    {
+        self.in_sync.eight_legs();
+        self.partial.eight_legs();
+    }
 
     // The legs that are listed: in sync, or about to be.
-    pub(crate) fn listed(&self) -> [bool; 8]
+    pub(crate) fn listed(&self) -> LegSet
         ensures { result ≡ legs_where (is_listed_by self.now) }
     {
-        either(&self.in_sync, &self.candidates)
+        self.in_sync.or(&self.candidates)
     }
 }
 
@@ -125,36 +129,4 @@ fn lies_marked(span: u64, marked: &[bool], region: Option<u64>) -> bool
         Some(region) => bit(marked, region / span),
         None => true,
     }
-}
-
-// The legs of one set or the other.
-pub(crate) fn either(one: &[bool; 8], other: &[bool; 8]) -> [bool; 8]
-    ensures { result ≡ legs_where (λ leg. has leg one.now || has leg other.now) }
-{
-    [
-        bit(one, 0) || bit(other, 0),
-        bit(one, 1) || bit(other, 1),
-        bit(one, 2) || bit(other, 2),
-        bit(one, 3) || bit(other, 3),
-        bit(one, 4) || bit(other, 4),
-        bit(one, 5) || bit(other, 5),
-        bit(one, 6) || bit(other, 6),
-        bit(one, 7) || bit(other, 7),
-    ]
-}
-
-// The legs of both sets.
-pub(crate) fn both(one: &[bool; 8], other: &[bool; 8]) -> [bool; 8]
-    ensures { result ≡ legs_where (λ leg. has leg one.now && has leg other.now) }
-{
-    [
-        bit(one, 0) && bit(other, 0),
-        bit(one, 1) && bit(other, 1),
-        bit(one, 2) && bit(other, 2),
-        bit(one, 3) && bit(other, 3),
-        bit(one, 4) && bit(other, 4),
-        bit(one, 5) && bit(other, 5),
-        bit(one, 6) && bit(other, 6),
-        bit(one, 7) && bit(other, 7),
-    ]
 }

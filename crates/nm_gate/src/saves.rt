@@ -9,7 +9,8 @@ ghost use Rattle.nm_gate.specs.Claims.{HasMarks, Says, claims_of, no_claims, sup
 
 use crate::durable_state::{DurableState, bit};
 use crate::gated_stripe::GatedStripe;
-use crate::leg_claims::{LegClaims, both, either, is_in_sync};
+use crate::leg_claims::{LegClaims, is_in_sync};
+use nm_geometry::LegSet;
 use nm_leg::LegPart;
 use nm_stripe::Stripe;
 
@@ -110,9 +111,9 @@ impl DurableState {
     fn widen(&mut self, claims: &LegClaims)
         ensures { self.new ≡ widened claims.now self.old }
     {
-        self.named = either(&self.named, &claims.in_sync);
-        self.listed = both(&self.listed, &claims.listed());
-        self.lacking = either(&self.lacking, &claims.partial);
+        self.named = self.named.or(&claims.in_sync);
+        self.listed = self.listed.and(&claims.listed());
+        self.lacking = self.lacking.or(&claims.partial);
     }
 
     // Whether the superblock with these claims and marks may be the durable one alone.
@@ -171,18 +172,18 @@ impl DurableState {
     fn may_say_of<L: LegPart>(&self, stripe: &Stripe<L>, claims: &LegClaims, leg: u8) -> bool
         ensures { result ≡ may_say stripe.now self.now claims.now leg }
     {
-        let at = u64::from(leg);
+        let at = leg as usize;
         let current = is_in_sync(stripe, leg);
         let named = self.is_named(leg) || current;
-        let listed = bit(&claims.in_sync, at) || bit(&claims.candidates, at);
-        (!bit(&claims.in_sync, at) || named)
-            && (!bit(&claims.partial, at) || self.is_lacking(leg) || named)
+        let listed = claims.in_sync.has(at) || claims.candidates.has(at);
+        (!claims.in_sync.has(at) || named)
+            && (!claims.partial.has(at) || self.is_lacking(leg) || named)
             && (!(current && self.is_listed(leg)) || listed)
     }
 }
 
 // Whether the sets are the same.
-fn same(one: &[bool; 8], other: &[bool; 8]) -> bool
+fn same(one: &LegSet, other: &LegSet) -> bool
     ensures { IsTrue result ↔ (one.now ≡ other.now) }
 {
     one == other

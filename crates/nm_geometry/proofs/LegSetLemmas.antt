@@ -31,10 +31,10 @@ bit-set byte legs done are inside is_in =
     let new : ℕ = bit_or byte (1 * 2 ^ done % 256) in (
       (λ leg below. ⊎_elim
           (λ same. subst (λ (k : ℕ). IsTrue (has k legs) ↔ (bit_at new k ≡ 1)) (sym same)
-              ((λ _. bit_at_set_same w8 byte done inside), (λ _. is_in)))
+          ((λ _. bit_at_set_same w8 byte done inside), (λ _. is_in)))
           (λ before. subst (λ (b : ℕ). IsTrue (has leg legs) ↔ (b ≡ 1))
-              (sym (bit_at_set_other w8 byte done inside leg (λ same. absurd (omega (arith, same, before)))))
-              (are.0 leg before))
+          (sym (bit_at_set_other w8 byte done inside leg (λ same. absurd (omega (arith, same, before)))))
+          (are.0 leg before))
           (last-or-before leg done below)),
       (λ leg within after. bit_at_set_other w8 byte done inside leg (λ same. absurd (omega (arith, same, after)))
           ∙ are.1 leg within (omega (arith, after))),
@@ -45,9 +45,10 @@ pub bit-kept : (byte : ℕ) (legs : List Bool) (done : ℕ) → AreBits byte leg
     → has done legs ≡ false → AreBits byte legs (done + 1)
 bit-kept byte legs done are inside is_out = (
   (λ leg below. ⊎_elim
-      (λ same. subst (λ (k : ℕ). IsTrue (has k legs) ↔ (bit_at byte k ≡ 1)) (sym same)
-          ((λ is. absurd (true≢false (sym is ∙ is_out))),
-          (λ one. absurd (omega (arith, one, are.1 done inside (omega arith))))))
+      (λ same. subst (λ (k : ℕ). IsTrue (has k legs) ↔ (bit_at byte k ≡ 1)) (sym same) (
+        (λ is. absurd (true≢false (sym is ∙ is_out))),
+        (λ one. absurd (omega (arith, one, are.1 done inside (omega arith)))),
+      ))
       (λ before. are.0 leg before)
       (last-or-before leg done below)),
   (λ leg within after. are.1 leg within (omega (arith, after))),

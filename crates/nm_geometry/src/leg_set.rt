@@ -1,6 +1,6 @@
 //! Sets of a mirror's legs.
 ghost use Rattle.std.specs.Prelude.{◌≡◌, ◌<◌, ◌↔◌, ◌&&◌, ◌||◌, IsTrue, false, not, replicate};
-ghost use Rattle.std.specs.Prelude.{slice_set};
+ghost use Rattle.std.specs.Prelude.{length, slice_set};
 ghost use Rattle.std.specs.Int.{bit_at};
 ghost use Rattle.nm_geometry.specs.LegSets.{AreBitsOf, HasSome, has, legs_where};
 
@@ -118,6 +118,13 @@ impl LegSet {
         ensures { result ≡ has leg self.now }
     {
         is_in(&self.legs, leg)
+    }
+
+    /// Says that it has a place for each of eight legs, and does nothing: for proofs.
+    pub fn eight_legs(&self)
+        ensures { length self.now ≡ 8 }
+    {
+        let _ = &self.legs;
     }
 
     /// Has the leg be in the set, or not.
