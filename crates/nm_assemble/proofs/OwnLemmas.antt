@@ -1,9 +1,10 @@
 -- Identities that are recorded leg by leg.
 use Rattle.std.proofs.Common.{◌≡◌, ◌<◌, ◌≤◌, ◌+◌, ◌∙◌, ℕ, Bool, false, List, IsTrue, arith, refl, sym, subst, ⊎_elim}
 use Rattle.std.proofs.lemmas.Bool.{cases_eq}
+use Rattle.nm_geometry.specs.LegSets.{has}
 use Rattle.nm_superblock.specs.declared.leg_identities.LegIdentities.{LegIdentities}
 use Rattle.nm_superblock.specs.Identities.{IsSameIdentity, Puts}
-use Rattle.nm_assemble.specs.Own.{Records, said}
+use Rattle.nm_assemble.specs.Own.{Records}
 
 -- the first legs are recorded, and the others as before
 pub record RecordsUpTo (count : ℕ) (own : List Bool) (here old new : LegIdentities) : Type 0 where
@@ -30,11 +31,11 @@ records-none own here old = record {
 
 -- one leg more, which is its own
 pub records-own : (count : ℕ) (own : List Bool) (here old new next : LegIdentities) → RecordsUpTo count own here old new
-    → IsTrue (said count own) → Puts count count here new next → count < 8 → RecordsUpTo (count + 1) own here old next
+    → IsTrue (has count own) → Puts count count here new next → count < 8 → RecordsUpTo (count + 1) own here old next
 records-own count own here old new next so is puts bound = record {
   told = λ leg below. ⊎_elim
-      (λ same. subst (λ (n : ℕ). (IsTrue (said n own) → IsSameIdentity n next n here) × (said n own ≡ false → IsSameIdentity n next n old)) (sym same)
-      ((λ its. puts.here), (λ other. absurd (never (said count own) is other))))
+      (λ same. subst (λ (n : ℕ). (IsTrue (has n own) → IsSameIdentity n next n here) × (has n own ≡ false → IsSameIdentity n next n old)) (sym same)
+      ((λ its. puts.here), (λ other. absurd (never (has count own) is other))))
       (λ differs.
       let kept = puts.rest leg (omega (arith, below, bound)) differs in
       let before = so.told leg (omega (arith, differs, below)) in
@@ -51,11 +52,11 @@ records-own count own here old new next so is puts bound = record {
 
 -- one leg more, which is not
 pub records-other : (count : ℕ) (own : List Bool) (here old new : LegIdentities) → RecordsUpTo count own here old new
-    → said count own ≡ false → count < 8 → RecordsUpTo (count + 1) own here old new
+    → has count own ≡ false → count < 8 → RecordsUpTo (count + 1) own here old new
 records-other count own here old new so is bound = record {
   told = λ leg below. ⊎_elim
-      (λ same. subst (λ (n : ℕ). (IsTrue (said n own) → IsSameIdentity n new n here) × (said n own ≡ false → IsSameIdentity n new n old)) (sym same)
-      ((λ its. absurd (never (said count own) its is)), (λ other. so.rest count (omega arith) bound)))
+      (λ same. subst (λ (n : ℕ). (IsTrue (has n own) → IsSameIdentity n new n here) × (has n own ≡ false → IsSameIdentity n new n old)) (sym same)
+      ((λ its. absurd (never (has count own) its is)), (λ other. so.rest count (omega arith) bound)))
       (λ differs. so.told leg (omega (arith, differs, below)))
       (cases_eq leg count);
   rest = λ leg above inside. so.rest leg (omega (arith, above)) inside;

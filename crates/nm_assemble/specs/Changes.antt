@@ -2,21 +2,22 @@
 -- changes.
 use Rattle.std.specs.Prelude.{◌≡◌, ◌<◌, ◌↔◌, ℕ, Bool, List, if◌then◌else◌}
 use Rattle.std.specs.Prelude.{slice_index, IsTrue}
+use Rattle.nm_geometry.specs.LegSets.{has}
 use Rattle.nm_superblock.specs.declared.superblock.Superblock.{Superblock}
 use Rattle.nm_superblock.specs.Identities.{IsSameIdentity}
-use Rattle.nm_assemble.specs.Own.{IsOwn, said}
+use Rattle.nm_assemble.specs.Own.{IsOwn}
 use Rattle.nm_assemble.specs.declared.own.LegsHere.{LegsHere}
 
 -- a leg's file was changed: it is the one that the superblock is of, and no longer its own
 pub record WasChanged (newest : Superblock) (legs : LegsHere) (leg : ℕ) : Type 0 where
-  pub is_here : IsTrue (said leg legs.here)
+  pub is_here : IsTrue (has leg legs.here)
   pub same : IsSameIdentity leg legs.identities leg newest.identities
   pub other : IsOwn newest legs leg → ⊥
 
--- so were those of the first legs of which it is said
+-- of the first legs, the set has those whose files were
 abbrev pub WereChanged : ℕ → Superblock → LegsHere → List Bool → Type 0
 WereChanged count newest legs changed =
-    (leg : ℕ) → leg < count → IsTrue (said leg changed) ↔ WasChanged newest legs leg
+    (leg : ℕ) → leg < count → IsTrue (has leg changed) ↔ WasChanged newest legs leg
 
 -- so were those of the first legs that the superblock has
 abbrev pub AreChanged : ℕ → Superblock → LegsHere → Type 0
@@ -33,4 +34,4 @@ pub record AreAllChanged (newest : Superblock) (legs : LegsHere) : Type 0 where
 abbrev pub KeepsTimes : ℕ → (own : List Bool) → (old new : List ℕ) → Type 0
 KeepsTimes count own old new =
     (leg : ℕ) → leg < count
-    → slice_index new leg ≡ (if said leg own then 0 else slice_index old leg)
+    → slice_index new leg ≡ (if has leg own then 0 else slice_index old leg)

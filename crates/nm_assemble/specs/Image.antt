@@ -1,7 +1,8 @@
 -- What a start chose, as a superblock: its image.
 use Rattle.std.specs.Prelude.{◌≡◌, ◌≢◌, ◌⊎◌, ◌<◌, ◌≤◌, ◌↔◌, ◌+◌, ℕ, Bool, false, List}
-use Rattle.std.specs.Prelude.{IsTrue, Option, None, Some, replicate, slice_index, slice_index_or}
+use Rattle.std.specs.Prelude.{IsTrue, Option, None, Some, replicate, slice_index}
 use Rattle.std.specs.Int.{bit_at}
+use Rattle.nm_geometry.specs.LegSets.{has}
 use Rattle.nm_superblock.specs.declared.leg_sets.LegSets.{LegSets}
 use Rattle.nm_superblock.specs.declared.superblock.Superblock.{Superblock}
 use Rattle.nm_superblock.specs.Spans.{IsUnmarked, candidates_of, in_sync_of, partial_of}
@@ -63,13 +64,13 @@ pub record IsPartial (asked : Option ℕ) (a : Assembly) (here : List Bool) (str
     : Type 0 where
   pub other : OpensOn asked a stripe leg → ⊥
   pub known : IsKnown a.newest stripe leg
-  pub told : IsTrue (slice_index_or a.fresh leg false) ⊎ (slice_index_or here leg false ≡ false)
+  pub told : IsTrue (has leg a.fresh) ⊎ (has leg here ≡ false)
 
 -- it lacks nothing, is here, and so about to be in sync
 pub record IsCandidate (asked : Option ℕ) (a : Assembly) (here : List Bool) (stripe leg : ℕ)
     : Type 0 where
   pub partial : IsPartial asked a here stripe leg
-  pub is_here : IsTrue (slice_index_or here leg false)
+  pub is_here : IsTrue (has leg here)
   pub unmarked : IsUnmarked 16384 a.newest.marked
 
 -- what the sets of the first stripes say of each that the mirror has, and nothing of the others
@@ -88,7 +89,7 @@ AreSetsOf count asked a here sets =
 -- the leg is another one than the master, and taken to be equal to it
 pub record IsEqualTo (master : ℕ) (legs : List Bool) (leg : ℕ) : Type 0 where
   pub other : leg ≢ master
-  pub equal : IsTrue (slice_index_or legs leg false)
+  pub equal : IsTrue (has leg legs)
 
 -- in every stripe this leg is named alone, and these others are said to lack nothing
 abbrev pub NamesAlone : (count stripes master : ℕ) → (equal : List Bool) → LegSets → Type 0

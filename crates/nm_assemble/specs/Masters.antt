@@ -1,13 +1,14 @@
 -- On which leg a stripe opens.
-use Rattle.std.specs.Prelude.{◌≡◌, ◌<◌, ℕ, Bool, false, List, slice_index_or, IsTrue}
+use Rattle.std.specs.Prelude.{◌≡◌, ◌<◌, ℕ, Bool, List, IsTrue}
 use Rattle.std.specs.Int.{bit_at}
+use Rattle.nm_geometry.specs.LegSets.{has}
 use Rattle.nm_superblock.specs.declared.superblock.Superblock.{Superblock}
 use Rattle.nm_superblock.specs.Spans.{in_sync_of}
 
 -- the leg is in sync in the stripe by the superblock, and fresh
 abbrev pub MayOpenOn : (leg stripe : ℕ) → Superblock → List Bool → Type 0
 MayOpenOn leg stripe newest fresh =
-    (bit_at (in_sync_of stripe newest.sets) leg ≡ 1) × IsTrue (slice_index_or fresh leg false)
+    (bit_at (in_sync_of stripe newest.sets) leg ≡ 1) × IsTrue (has leg fresh)
 
 -- it is the first such leg
 pub record IsMaster (leg stripe : ℕ) (newest : Superblock) (fresh : List Bool) : Type 0 where

@@ -1,17 +1,14 @@
 -- Which legs' files are those that the newest superblock is of, by their identities, and are as
 -- they were, by the times of their last changes.
 use Rattle.std.specs.Prelude.{◌≡◌, ◌⊎◌, ◌<◌, ◌≤◌, ◌↔◌, ℕ, Bool, false, List}
-use Rattle.std.specs.Prelude.{slice_index, slice_index_or, IsTrue}
+use Rattle.std.specs.Prelude.{slice_index, IsTrue}
 use Rattle.std.specs.Int.{bit_at}
+use Rattle.nm_geometry.specs.LegSets.{has}
 use Rattle.nm_superblock.specs.declared.leg_identities.LegIdentities.{LegIdentities}
 use Rattle.nm_superblock.specs.declared.superblock.Superblock.{Superblock}
 use Rattle.nm_superblock.specs.Identities.{IsKnown, IsSameIdentity}
 use Rattle.nm_superblock.specs.Spans.{in_sync_of}
 use Rattle.nm_assemble.specs.declared.own.LegsHere.{LegsHere}
-
--- what is said of a leg
-abbrev pub said : (leg : ℕ) → List Bool → Bool
-said leg legs = slice_index_or legs leg false
 
 -- the leg's file was changed last at the time that the superblock has, or it has none
 abbrev pub HasItsTime : Superblock → LegsHere → (leg : ℕ) → Type 0
@@ -24,22 +21,22 @@ HasItsTime newest legs leg =
 -- leg was moved to it; an unknown identity is the same as an unknown one alone
 abbrev pub IsOfFile : Superblock → LegsHere → (leg : ℕ) → Type 0
 IsOfFile newest legs leg =
-    ((newest.version ≡ 1) ⊎ (newest.legs ≤ leg)) ⊎ (IsTrue (said leg legs.moved)
+    ((newest.version ≡ 1) ⊎ (newest.legs ≤ leg)) ⊎ (IsTrue (has leg legs.moved)
     ⊎ (IsSameIdentity leg legs.identities leg newest.identities × HasItsTime newest legs leg))
 
 -- a leg's file is its own: it is here, and the superblock is of it
 pub record IsOwn (newest : Superblock) (legs : LegsHere) (leg : ℕ) : Type 0 where
-  pub is_here : IsTrue (said leg legs.here)
+  pub is_here : IsTrue (has leg legs.here)
   pub file : IsOfFile newest legs leg
 
--- so are those of the first legs of which it is said
+-- of the first legs, the set has those whose files are
 abbrev pub AreOwn : ℕ → Superblock → LegsHere → List Bool → Type 0
 AreOwn count newest legs own =
-    (leg : ℕ) → leg < count → IsTrue (said leg own) ↔ IsOwn newest legs leg
+    (leg : ℕ) → leg < count → IsTrue (has leg own) ↔ IsOwn newest legs leg
 
 -- a leg's file is here, and is not the one that it was, but the one that the other leg was
 pub record IsOtherLegs (leg other : ℕ) (newest : Superblock) (legs : LegsHere) : Type 0 where
-  pub is_here : IsTrue (said leg legs.here)
+  pub is_here : IsTrue (has leg legs.here)
   pub known : IsKnown leg legs.identities
   pub unlike : IsSameIdentity leg legs.identities leg newest.identities → ⊥
   pub same : IsSameIdentity leg legs.identities other newest.identities
@@ -59,7 +56,7 @@ pub record IsFirstMixed (leg other : ℕ) (newest : Superblock) (legs : LegsHere
 -- the leg is in sync in the stripe by the superblock, and the file that is here is not its own
 pub record IsAnother (leg stripe : ℕ) (newest : Superblock) (legs : LegsHere) : Type 0 where
   pub in_sync : bit_at (in_sync_of stripe newest.sets) leg ≡ 1
-  pub is_here : IsTrue (said leg legs.here)
+  pub is_here : IsTrue (has leg legs.here)
   pub other : IsOwn newest legs leg → ⊥
 
 -- none of the first legs is such a one
@@ -78,5 +75,5 @@ pub record IsFirstAnother (leg stripe : ℕ) (newest : Superblock) (legs : LegsH
 abbrev pub Records : ℕ → (own : List Bool) → (here old new : LegIdentities) → Type 0
 Records count own here old new =
     (leg : ℕ) → leg < count
-    → (IsTrue (said leg own) → IsSameIdentity leg new leg here)
-    × (said leg own ≡ false → IsSameIdentity leg new leg old)
+    → (IsTrue (has leg own) → IsSameIdentity leg new leg here)
+    × (has leg own ≡ false → IsSameIdentity leg new leg old)

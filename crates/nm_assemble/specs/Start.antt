@@ -2,12 +2,13 @@
 use Rattle.std.specs.Prelude.{◌≡◌, ◌≢◌, ◌⊎◌, ◌<◌, ◌≤◌, ◌↔◌, ℕ, Bool, List, slice_index}
 use Rattle.std.specs.Prelude.{slice_index_or, IsTrue, Option, None, Some}
 use Rattle.std.specs.Int.{bit_at}
+use Rattle.nm_geometry.specs.LegSets.{has}
 use Rattle.nm_superblock.specs.declared.superblock.Superblock.{Superblock}
 use Rattle.nm_superblock.specs.Spans.{candidates_of, in_sync_of}
 use Rattle.nm_assemble.specs.declared.misfit.Misfit.{Misfit}
 use Rattle.nm_assemble.specs.declared.misfit.Misfit.TheVariants.{Apart, OtherLeg, OtherMirror}
 use Rattle.nm_assemble.specs.Lineages.{LeadsTo, lineage_of}
-use Rattle.nm_assemble.specs.Own.{IsOwn, said}
+use Rattle.nm_assemble.specs.Own.{IsOwn}
 use Rattle.nm_assemble.specs.declared.own.LegsHere.{LegsHere}
 
 -- the superblock that was found beside a leg
@@ -93,10 +94,10 @@ pub record IsFreshAs (newest s : Superblock) (leg : ℕ) : Type 0 where
 abbrev pub IsFresh : (newest : Superblock) → LegsHere → ℕ → Option Superblock → Type 0
 IsFresh newest legs leg None = ⊥
 IsFresh newest legs leg (Some s) =
-    IsOwn newest legs leg × IsTrue (said leg legs.settled) × IsFreshAs newest s leg
+    IsOwn newest legs leg × IsTrue (has leg legs.settled) × IsFreshAs newest s leg
 
--- of the first legs, those that are said to be fresh are
+-- of the first legs, the set has those that are fresh
 abbrev pub AreFresh : ℕ → Superblock → List (Option Superblock) → LegsHere → List Bool → Type 0
 AreFresh count newest found legs fresh =
     (leg : ℕ) → leg < count
-    → IsTrue (said leg fresh) ↔ IsFresh newest legs leg (beside leg found)
+    → IsTrue (has leg fresh) ↔ IsFresh newest legs leg (beside leg found)

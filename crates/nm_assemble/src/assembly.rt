@@ -8,6 +8,7 @@ use crate::misfit::{Misfit, first_misfit};
 use crate::missing::missing_leg;
 use crate::newest::newest_of;
 use crate::own::{LegsHere, first_another, first_mixed};
+use nm_geometry::LegSet;
 use nm_superblock::Superblock;
 
 /// What a start goes by.
@@ -16,7 +17,7 @@ pub struct Assembly {
     /// The newest superblock.
     pub newest: Superblock,
     /// Which legs' contents are what it says of them.
-    pub fresh: [bool; 8],
+    pub fresh: LegSet,
 }
 
 /// Why a start cannot go by what it found.

@@ -4,16 +4,17 @@ ghost use Rattle.nm_assemble.specs.Changes.{AreAllChanged, AreChanged, KeepsTime
 ghost use Rattle.nm_assemble.specs.Changes.{WereChanged};
 
 use crate::own::{LegsHere, is_own};
+use nm_geometry::LegSet;
 use nm_superblock::Superblock;
 
 /// The legs whose files are here, and are those that the superblock is of, but were changed since
 /// the mirror ended.
-pub fn changed_legs(newest: &Superblock, legs: &LegsHere) -> [bool; 8]
+pub fn changed_legs(newest: &Superblock, legs: &LegsHere) -> LegSet
     ensures { WereChanged 8 newest.now legs.now result }
 {
-    let mut changed = [false; 8];
+    let mut changed = LegSet::none();
     'legs: for leg in 0..8 {
-        changed[leg] = was_changed(newest, legs, leg);
+        changed.set(leg, was_changed(newest, legs, leg));
     }
     changed
 }
@@ -24,7 +25,7 @@ pub(crate) fn was_changed(newest: &Superblock, legs: &LegsHere, leg: usize) -> b
     ensures { IsTrue result ↔ WasChanged newest.now legs.now leg }
 {
     let same = legs.identities.is_same(leg, &newest.identities, leg);
-    legs.here[leg] && same && !is_own(newest, legs, leg)
+    legs.here.has(leg) && same && !is_own(newest, legs, leg)
 }
 
 /// Whether the mirror ended with all legs in sync, and the file of each of them was changed since.
@@ -48,12 +49,12 @@ fn are_changed(newest: &Superblock, legs: &LegsHere) -> bool
 
 // The times that a start records which takes these legs: none of theirs, and the old ones of
 // others.
-pub(crate) fn kept_times(old: &[u64; 8], own: &[bool; 8]) -> [u64; 8]
+pub(crate) fn kept_times(old: &[u64; 8], own: &LegSet) -> [u64; 8]
     ensures { KeepsTimes 8 own.now old.now result }
 {
     let mut new = *old;
     'legs: for leg in 0..8 {
-        if own[leg] {
+        if own.has(leg) {
             new[leg] = 0;
         }
     }

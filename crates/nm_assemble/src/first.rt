@@ -1,11 +1,12 @@
 //! The images of starts that no superblock decides: a first one, and one that a person forced.
-ghost use Rattle.std.specs.Prelude.{◌≡◌, ◌<◌, ◌↔◌, IsTrue};
-ghost use Rattle.nm_assemble.specs.Image.{IsEqualTo, IsFirst, IsForced, IsFork, IsSetOf};
-ghost use Rattle.nm_assemble.specs.Image.{NamesAlone};
+ghost use Rattle.std.specs.Prelude.{◌≡◌};
+ghost use Rattle.nm_assemble.specs.Image.{IsFirst, IsForced, IsFork, NamesAlone};
+ghost use Rattle.nm_assemble.specs.StripeSets.{HasThese};
 ghost use Rattle.nm_superblock.specs.Spans.{IsUnmarked};
 
 use crate::own::{LegsHere, recorded};
-use crate::stripe_sets::{put, with_leg};
+use crate::stripe_sets::put;
+use nm_geometry::LegSet;
 use nm_superblock::{LegIdentities, LegSets, SpanMap, Superblock};
 
 /// A mirror that has no superblock yet.
@@ -33,7 +34,7 @@ pub struct NewMirror {
 
 /// The first image of a mirror: this leg is the master, and these others are taken to be equal to
 /// it.
-pub fn first_superblock(new: &NewMirror, master: usize, equal: &[bool; 8]) -> Superblock
+pub fn first_superblock(new: &NewMirror, master: usize, equal: &LegSet) -> Superblock
     ensures { IsFirst new.now master equal.now result }
 {
     Superblock {
@@ -68,7 +69,7 @@ pub fn forced_image(newest: &Superblock, leg: usize, lineage: u64, legs: &LegsHe
         version: 3,
         leg: 0,
         clean: false,
-        sets: sets_alone(newest.stripes, leg, &[false; 8]),
+        sets: sets_alone(newest.stripes, leg, &LegSet::none()),
         marked: no_marks(),
         identities: recorded(&newest.identities, &legs.here, &legs.identities),
         changed: [0; 8],
@@ -98,38 +99,27 @@ fn no_marks() -> SpanMap
 }
 
 // The sets of so many stripes, in each of which this leg is named alone.
-fn sets_alone(stripes: u8, master: usize, equal: &[bool; 8]) -> LegSets
+fn sets_alone(stripes: u8, master: usize, equal: &LegSet) -> LegSets
     ensures { NamesAlone 64 stripes master equal.now result }
 {
     let named = alone(master);
-    let others = others_of(master, equal);
+    let others = equal.without(&named);
     let mut sets = LegSets { bytes: [0; 256] };
     'stripes: for stripe in 0..64 {
         if stripe < stripes as usize {
-            put(&mut sets, stripe, named, others, others);
+            put(&mut sets, stripe, &named, &others, &others);
         }
     }
     sets
 }
 
 // The set of this leg alone.
-fn alone(master: usize) -> u8
-    ensures { IsSetOf (λ leg. leg ≡ master) result }
+fn alone(master: usize) -> LegSet
+    ensures { HasThese 8 (λ leg. leg ≡ master) result }
 {
-    let mut set = 0;
+    let mut set = LegSet::none();
     'legs: for leg in 0..8 {
-        set = with_leg(set, leg, leg == master);
-    }
-    set
-}
-
-// The set of these legs without the master.
-fn others_of(master: usize, equal: &[bool; 8]) -> u8
-    ensures { IsSetOf (IsEqualTo master equal.now) result }
-{
-    let mut set = 0;
-    'legs: for leg in 0..8 {
-        set = with_leg(set, leg, equal[leg] && leg != master);
+        set.set(leg, leg == master);
     }
     set
 }

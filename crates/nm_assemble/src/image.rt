@@ -1,14 +1,16 @@
 //! What a start chose, as a superblock.
 ghost use Rattle.std.specs.Prelude.{◌≡◌, ◌<◌, ◌↔◌, false, IsTrue, IfSome, IfNone};
 ghost use Rattle.nm_assemble.specs.Image.{AreSetsOf, IsCandidate, IsClosedTo, IsImage, IsKnown};
-ghost use Rattle.nm_assemble.specs.Image.{IsPartial, IsSetOf, OpensAll, OpensOn};
+ghost use Rattle.nm_assemble.specs.Image.{IsPartial, OpensAll, OpensOn};
 ghost use Rattle.nm_assemble.specs.Masters.{MayOpenOn};
+ghost use Rattle.nm_assemble.specs.StripeSets.{HasThese};
 
 use crate::assembly::Assembly;
 use crate::changes::kept_times;
 use crate::masters::{is_master, may_open_on};
 use crate::own::recorded;
-use crate::stripe_sets::{put, with_leg};
+use crate::stripe_sets::put;
+use nm_geometry::LegSet;
 use nm_superblock::{LegIdentities, LegSets, Superblock};
 
 impl Assembly {
@@ -18,7 +20,7 @@ impl Assembly {
     /// not taken by a later start either.
     pub fn image(
         &self,
-        here: &[bool; 8],
+        here: &LegSet,
         identities: &LegIdentities,
         asked: Option<usize>,
     ) -> Superblock
@@ -62,7 +64,7 @@ impl Assembly {
     }
 
     // The sets of all stripes.
-    fn sets(&self, here: &[bool; 8], asked: Option<usize>) -> LegSets
+    fn sets(&self, here: &LegSet, asked: Option<usize>) -> LegSets
         ensures { AreSetsOf 64 asked self.now here.now result }
     {
         let mut sets = LegSets { bytes: [0; 256] };
@@ -71,44 +73,44 @@ impl Assembly {
                 let named = self.named_set(asked, stripe);
                 let candidates = self.candidate_set(here, asked, stripe);
                 let partial = self.partial_set(here, asked, stripe);
-                put(&mut sets, stripe, named, candidates, partial);
+                put(&mut sets, stripe, &named, &candidates, &partial);
             }
         }
         sets
     }
 
     // The leg that the stripe opens on.
-    fn named_set(&self, asked: Option<usize>, stripe: usize) -> u8
+    fn named_set(&self, asked: Option<usize>, stripe: usize) -> LegSet
         requires { stripe < 64 }
-        ensures { IsSetOf (OpensOn asked self.now stripe) result }
+        ensures { HasThese 8 (OpensOn asked self.now stripe) result }
     {
-        let mut set = 0;
+        let mut set = LegSet::none();
         'legs: for leg in 0..8 {
-            set = with_leg(set, leg, self.opens_on(asked, stripe, leg));
+            set.set(leg, self.opens_on(asked, stripe, leg));
         }
         set
     }
 
     // The legs that are about to be in sync.
-    fn candidate_set(&self, here: &[bool; 8], asked: Option<usize>, stripe: usize) -> u8
+    fn candidate_set(&self, here: &LegSet, asked: Option<usize>, stripe: usize) -> LegSet
         requires { stripe < 64 }
-        ensures { IsSetOf (IsCandidate asked self.now here.now stripe) result }
+        ensures { HasThese 8 (IsCandidate asked self.now here.now stripe) result }
     {
-        let mut set = 0;
+        let mut set = LegSet::none();
         'legs: for leg in 0..8 {
-            set = with_leg(set, leg, self.is_candidate(here, asked, stripe, leg));
+            set.set(leg, self.is_candidate(here, asked, stripe, leg));
         }
         set
     }
 
     // The legs that lack no more than marked spans.
-    fn partial_set(&self, here: &[bool; 8], asked: Option<usize>, stripe: usize) -> u8
+    fn partial_set(&self, here: &LegSet, asked: Option<usize>, stripe: usize) -> LegSet
         requires { stripe < 64 }
-        ensures { IsSetOf (IsPartial asked self.now here.now stripe) result }
+        ensures { HasThese 8 (IsPartial asked self.now here.now stripe) result }
     {
-        let mut set = 0;
+        let mut set = LegSet::none();
         'legs: for leg in 0..8 {
-            set = with_leg(set, leg, self.is_partial(here, asked, stripe, leg));
+            set.set(leg, self.is_partial(here, asked, stripe, leg));
         }
         set
     }
@@ -126,27 +128,21 @@ impl Assembly {
     }
 
     // Whether the leg is about to be in sync in the stripe.
-    fn is_candidate(
-        &self,
-        here: &[bool; 8],
-        asked: Option<usize>,
-        stripe: usize,
-        leg: usize,
-    ) -> bool
+    fn is_candidate(&self, here: &LegSet, asked: Option<usize>, stripe: usize, leg: usize) -> bool
         requires stripe { stripe < 64 }
         requires leg { leg < 8 }
         ensures { IsTrue result ↔ IsCandidate asked self.now here.now stripe leg }
     {
-        here[leg] && self.newest.marked.is_empty() && self.is_partial(here, asked, stripe, leg)
+        here.has(leg) && self.newest.marked.is_empty() && self.is_partial(here, asked, stripe, leg)
     }
 
     // Whether the leg lacks no more than marked spans in the stripe, which does not open on it.
-    fn is_partial(&self, here: &[bool; 8], asked: Option<usize>, stripe: usize, leg: usize) -> bool
+    fn is_partial(&self, here: &LegSet, asked: Option<usize>, stripe: usize, leg: usize) -> bool
         requires stripe { stripe < 64 }
         requires leg { leg < 8 }
         ensures { IsTrue result ↔ IsPartial asked self.now here.now stripe leg }
     {
-        let is_told = self.fresh[leg] || !here[leg];
+        let is_told = self.fresh.has(leg) || !here.has(leg);
         is_told && is_known(&self.newest, leg, stripe) && !self.opens_on(asked, stripe, leg)
     }
 }

@@ -4,31 +4,32 @@ ghost use Rattle.nm_assemble.specs.Own.{AreOwn, HasItsTime, IsAnother, IsFirstAn
 ghost use Rattle.nm_assemble.specs.Own.{IsFirstMixed};
 ghost use Rattle.nm_assemble.specs.Own.{IsOtherLegs, IsOwn, NoneAnother, NoneMixed, Records};
 
+use nm_geometry::LegSet;
 use nm_superblock::{LegIdentities, Superblock};
 
 /// What is here of the legs, and what a person said of them.
 #[derive(Clone, Copy, PartialEq, Eq)]
 pub struct LegsHere {
     /// Whose files are here.
-    pub here: [bool; 8],
+    pub here: LegSet,
     /// Whose files hold what was written to them.
-    pub settled: [bool; 8],
+    pub settled: LegSet,
     /// The identities of the files.
     pub identities: LegIdentities,
     /// The times of the files' last changes, in nanoseconds; 0 where one is unknown.
     pub changed: [u64; 8],
     /// Which legs were moved to another file or device, each with its superblock.
-    pub moved: [bool; 8],
+    pub moved: LegSet,
 }
 
 /// The legs whose files are here, and are those that the superblock is of, which nothing else has
 /// changed since the mirror ended.
-pub fn own_legs(newest: &Superblock, legs: &LegsHere) -> [bool; 8]
+pub fn own_legs(newest: &Superblock, legs: &LegsHere) -> LegSet
     ensures { AreOwn 8 newest.now legs.now result }
 {
-    let mut own = [false; 8];
+    let mut own = LegSet::none();
     'legs: for leg in 0..8 {
-        own[leg] = is_own(newest, legs, leg);
+        own.set(leg, is_own(newest, legs, leg));
     }
     own
 }
@@ -41,7 +42,7 @@ pub(crate) fn is_own(newest: &Superblock, legs: &LegsHere, leg: usize) -> bool
     let untold = newest.version == 1 || newest.legs as usize <= leg;
     let same = legs.identities.is_same(leg, &newest.identities, leg);
     let as_it_was = same && has_its_time(newest, legs, leg);
-    legs.here[leg] && (untold || legs.moved[leg] || as_it_was)
+    legs.here.has(leg) && (untold || legs.moved.has(leg) || as_it_was)
 }
 
 // Whether the leg's file was changed last at the time that the superblock has, or it has none.
@@ -88,7 +89,7 @@ fn is_other_legs(newest: &Superblock, legs: &LegsHere, leg: usize, other: usize)
     requires other { other < 8 }
     ensures { IsTrue result ↔ IsOtherLegs leg other newest.now legs.now }
 {
-    let known = legs.here[leg] && legs.identities.is_known(leg);
+    let known = legs.here.has(leg) && legs.identities.is_known(leg);
     let own = legs.identities.is_same(leg, &newest.identities, leg);
     known && !own && legs.identities.is_same(leg, &newest.identities, other)
 }
@@ -115,17 +116,17 @@ fn is_another(newest: &Superblock, legs: &LegsHere, stripe: usize, leg: usize) -
     ensures { IsTrue result ↔ IsAnother leg stripe newest.now legs.now }
 {
     let in_sync = (newest.sets.in_sync(stripe) >> leg) & 1 == 1;
-    let other = legs.here[leg] && !is_own(newest, legs, leg);
+    let other = legs.here.has(leg) && !is_own(newest, legs, leg);
     in_sync && other
 }
 
 // The identities that are recorded once these legs' files were looked at: theirs are the files'.
-pub(crate) fn recorded(old: &LegIdentities, own: &[bool; 8], here: &LegIdentities) -> LegIdentities
+pub(crate) fn recorded(old: &LegIdentities, own: &LegSet, here: &LegIdentities) -> LegIdentities
     ensures { Records 8 own.now here.now old.now result }
 {
     let mut new = *old;
     'legs: for leg in 0..8 {
-        if own[leg] {
+        if own.has(leg) {
             new.put(leg, here, leg);
         }
     }

@@ -4,5 +4,5 @@ use Rattle.nm_assemble.proofs.assembly.Assembly.candidate_set.Goals as goal
 
 pub legs-preserved : goal.legs-preserved
 legs-preserved c =
-    one-more _ c.legs.leg c.legs.set c.with_leg-set.result _ c.legs.invariant c.with_leg-set.ensures.here
-    c.is_candidate.ensures c.with_leg-set.ensures.others
+    one-more _ c.legs.leg c.legs.set _ _ c.legs.invariant c.set.ensures c.is_candidate.ensures
+    c.legs-test.true
