@@ -4,3 +4,4 @@ pub mod Rounds
 pub mod ErrorLemmas
 pub mod BothRounds
 pub mod Reread
+pub mod LegSetLemmas

@@ -2,8 +2,9 @@
 use Rattle.std.specs.Prelude.{◌≡◌, ℕ, Bool, IsTrue, IsFalse, is_some, List, slice_index_or}
 use Rattle.std.specs.Prelude.{Option, None, Some}
 use Rattle.std.specs.declared.io.Error.{Error}
+use Rattle.nm_geometry.specs.LegSets.{has}
 use Rattle.nm_saves.specs.FileState.{FileState}
-use Rattle.nm_saves.specs.Files.{has_failed_in, told}
+use Rattle.nm_saves.specs.Files.{has_failed_in}
 
 -- the error that is kept of a leg, if there is one
 abbrev pub error_of : (leg : ℕ) → List (Option Error) → Option Error
@@ -17,7 +18,7 @@ KeepsFirst failed (Some error) new = new ≡ Some error
 -- so it is of each leg, of which this tells where the save failed
 abbrev pub KeepsErrors : (failed : List Bool) → (old new : List (Option Error)) → Type 0
 KeepsErrors failed old new =
-    (leg : ℕ) → KeepsFirst (told leg failed) (error_of leg old) (error_of leg new)
+    (leg : ℕ) → KeepsFirst (has leg failed) (error_of leg old) (error_of leg new)
 
 -- A leg whose file had failed and was read again has an error then if that failed; else it keeps
 -- what it had.

@@ -3,6 +3,7 @@ use Rattle.std.specs.Prelude.{◌≡◌, ◌<◌, ◌≤◌, ◌↔◌, ◌&&◌
 use Rattle.std.specs.Prelude.{IsTrue, IsFalse, if◌then◌else◌, List, slice_index, slice_index_or}
 use Rattle.std.specs.Prelude.{Option, None, Some}
 use Rattle.std.specs.Int.{bit_at}
+use Rattle.nm_geometry.specs.LegSets.{has}
 use Rattle.nm_superblock.specs.declared.superblock.Superblock.{Superblock}
 use Rattle.nm_superblock.specs.declared.leg_sets.LegSets.{LegSets}
 use Rattle.nm_superblock.specs.Spans.{in_sync_of}
@@ -32,10 +33,6 @@ abbrev pub has_failed_in : Option FileState → Bool
 has_failed_in None = false
 has_failed_in (Some f) = f.failed
 
--- what is told of a leg
-abbrev pub told : (leg : ℕ) → List Bool → Bool
-told leg legs = slice_index_or legs leg false
-
 -- the superblocks that a start finds beside the first legs
 abbrev pub AreFound : ℕ → List (Option FileState) → List (Option Superblock) → Type 0
 AreFound count files found =
@@ -53,7 +50,7 @@ IsLeastUpTo count after highest files =
 -- those of the first legs whose file has failed
 abbrev pub AreFailed : ℕ → List (Option FileState) → List Bool → Type 0
 AreFailed count files failed =
-    (leg : ℕ) → leg < count → told leg failed ≡ has_failed_in (file_of leg files)
+    (leg : ℕ) → leg < count → has leg failed ≡ has_failed_in (file_of leg files)
 
 -- the sets name a leg: it is in sync in some stripe
 abbrev pub IsNamed : (leg : ℕ) → LegSets → Type 0
@@ -62,7 +59,7 @@ IsNamed leg sets = (stripe : ℕ) × (stripe < 64) × (bit_at (in_sync_of stripe
 -- those of the first legs that are named
 abbrev pub AreNamed : ℕ → LegSets → List Bool → Type 0
 AreNamed count sets named =
-    (leg : ℕ) → leg < count → IsTrue (told leg named) ↔ IsNamed leg sets
+    (leg : ℕ) → leg < count → IsTrue (has leg named) ↔ IsNamed leg sets
 
 -- in some of these stripes no leg is in sync
 abbrev pub IsNameless : (stripes : ℕ) → LegSets → Type 0
@@ -72,7 +69,7 @@ IsNameless stripes sets =
 -- those of the first legs that are neither named nor out
 abbrev pub AreOthers : ℕ → (named out others : List Bool) → Type 0
 AreOthers count named out others =
-    (leg : ℕ) → leg < count → told leg others ≡ not (told leg named) && not (told leg out)
+    (leg : ℕ) → leg < count → has leg others ≡ not (has leg named) && not (has leg out)
 
 -- the superblock as it is kept beside a leg
 abbrev pub copy_of : (leg : ℕ) → Superblock → Superblock
@@ -111,18 +108,14 @@ PassesBeside honest goes failed leg s old new =
 -- the round has passed the first legs, and has touched no other file
 pub record SavesTo (count : ℕ) (honest : Bool) (r : Round) (old new : List (Option FileState))
     : Type 0 where
-  pub passed : (leg : ℕ) → leg < count → PassesBeside honest (told leg r.to) (told leg r.failed)
+  pub passed : (leg : ℕ) → leg < count → PassesBeside honest (has leg r.to) (has leg r.failed)
       leg r.superblock (file_of leg old) (file_of leg new)
   pub others : (leg : ℕ) → count ≤ leg → file_of leg new ≡ file_of leg old
-
--- it failed beside one of 8 legs
-abbrev pub HasFailed : List Bool → Type 0
-HasFailed failed = (leg : ℕ) × (leg < 8) × IsTrue (told leg failed)
 
 -- Beside the first legs the last generation that was surely written is the superblock's, where it
 -- was named or the round did not fail, and else as the superblock says.
 abbrev pub IsSeenAfter : ℕ → (named : List Bool) → Round → (seen : List ℕ) → Type 0
 IsSeenAfter count named r seen =
     (leg : ℕ) → leg < count → slice_index seen leg
-    ≡ (if told leg named || (told leg r.to && not (told leg r.failed))
+    ≡ (if has leg named || (has leg r.to && not (has leg r.failed))
     then r.superblock.generation else slice_index r.superblock.seen leg)

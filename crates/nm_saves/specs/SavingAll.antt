@@ -5,10 +5,10 @@ use Rattle.nm_superblock.specs.declared.superblock.Superblock.{Superblock}
 use Rattle.nm_superblock.specs.declared.leg_sets.LegSets.{LegSets}
 use Rattle.nm_superblock.specs.declared.span_map.SpanMap.{SpanMap}
 use Rattle.std.specs.declared.io.Error.{Error}
+use Rattle.nm_geometry.specs.LegSets.{HasSome, has}
 use Rattle.nm_saves.specs.Errors.{KeepsFirst, error_of}
 use Rattle.nm_saves.specs.FileState.{FileState}
 use Rattle.nm_saves.specs.Files.{IsNamed, IsNameless, SavesBeside, copy_of, file_of, newest_of}
-use Rattle.nm_saves.specs.Files.{told}
 
 -- the files, the last superblock whose save was done, the highest generation that was tried or
 -- stamp that was found, and the error that is kept of each leg's file
@@ -62,9 +62,9 @@ Leaves leg old new =
 -- file.
 pub record IsDone (honest : Bool) (r : Request) (old new : FilesState) : Type 0 where
   pub named : (leg : ℕ) → leg < 8 → IsNamed leg r.sets → Makes honest true leg r old new
-  pub others : (leg : ℕ) → leg < 8 → (IsNamed leg r.sets → ⊥) → IsFalse (told leg r.out)
+  pub others : (leg : ℕ) → leg < 8 → (IsNamed leg r.sets → ⊥) → IsFalse (has leg r.out)
       → (done : Bool) × Makes honest done leg r old new
-  pub out : (leg : ℕ) → leg < 8 → (IsNamed leg r.sets → ⊥) → IsTrue (told leg r.out)
+  pub out : (leg : ℕ) → leg < 8 → (IsNamed leg r.sets → ⊥) → IsTrue (has leg r.out)
       → Leaves leg old new
   pub generation : new.highest ≡ old.highest + 1
   pub image : new.image ≡ record (next_of old r) { seen = new.image.seen }
@@ -79,15 +79,15 @@ pub record IsDone (honest : Bool) (r : Request) (old new : FilesState) : Type 0 
 pub record IsUndone (honest : Bool) (r : Request) (failed : List Bool) (old new : FilesState)
     : Type 0 where
   pub named : (leg : ℕ) → leg < 8 → IsNamed leg r.sets
-      → Makes honest (not (told leg failed)) leg r old new
+      → Makes honest (not (has leg failed)) leg r old new
   pub others : (leg : ℕ) → leg < 8 → (IsNamed leg r.sets → ⊥)
-      → IsFalse (told leg failed) × Leaves leg old new
-  pub some : (leg : ℕ) × (leg < 8) × IsTrue (told leg failed)
+      → IsFalse (has leg failed) × Leaves leg old new
+  pub some : HasSome failed
   pub generation : new.highest ≡ old.highest + 1
   pub image : new.image ≡ old.image
 
 -- A save that does not begin: no generation is left, or it names no leg in some stripe.
 pub record TakesNone (r : Request) (failed : List Bool) (old new : FilesState) : Type 0 where
   pub cause : (2 ^ 64 ≤ old.highest + 1) ⊎ IsNameless old.image.stripes r.sets
-  pub none : (leg : ℕ) → leg < 8 → IsFalse (told leg failed)
+  pub none : (leg : ℕ) → leg < 8 → IsFalse (has leg failed)
   pub same : new ≡ old

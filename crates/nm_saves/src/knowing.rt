@@ -6,6 +6,7 @@ ghost use Rattle.nm_saves.specs.Files.{has_failed_in, round_of, stamp_in};
 
 use crate::slot_file::SlotFile;
 use crate::superblock_file::SuperblockFile;
+use nm_geometry::LegSet;
 use nm_superblock::Superblock;
 
 // The highest of this generation and the files' stamps.
@@ -35,12 +36,12 @@ fn stamp_at<F: SlotFile>(files: &[Option<SuperblockFile<F>>], leg: usize) -> u64
 }
 
 // The legs whose file has failed.
-pub(crate) fn failed_legs<F: SlotFile>(files: &[Option<SuperblockFile<F>>]) -> [bool; 8]
+pub(crate) fn failed_legs<F: SlotFile>(files: &[Option<SuperblockFile<F>>]) -> LegSet
     ensures { AreFailed 8 files.now result }
 {
-    let mut failed = [false; 8];
+    let mut failed = LegSet::none();
     'legs: for leg in 0..8 {
-        failed[leg] = failed_at(files, leg);
+        failed.set(leg, failed_at(files, leg));
     }
     failed
 }
@@ -59,29 +60,25 @@ fn failed_at<F: SlotFile>(files: &[Option<SuperblockFile<F>>], leg: usize) -> bo
 }
 
 // The legs that are not named, and not out.
-pub(crate) fn other_legs(named: &[bool; 8], out: &[bool; 8]) -> [bool; 8]
+pub(crate) fn other_legs(named: &LegSet, out: &LegSet) -> LegSet
     ensures { AreOthers 8 named.now out.now result }
 {
-    let mut others = [false; 8];
-    'legs: for leg in 0..8 {
-        others[leg] = !named[leg] && !out[leg];
-    }
-    others
+    LegSet::of([true; 8]).without(&named.or(out))
 }
 
 // The last generation that was surely written beside each leg, after this superblock was saved
 // beside those that it names, and beside others where it did not fail.
 pub(crate) fn seen_after(
     next: &Superblock,
-    named: &[bool; 8],
-    others: &[bool; 8],
-    lacking: &[bool; 8],
+    named: &LegSet,
+    others: &LegSet,
+    lacking: &LegSet,
 ) -> [u64; 8]
     ensures { IsSeenAfter 8 named.now (round_of next.now others.now lacking.now) result }
 {
     let mut seen = next.seen;
     'legs: for leg in 0..8 {
-        if named[leg] || others[leg] && !lacking[leg] {
+        if named.has(leg) || others.has(leg) && !lacking.has(leg) {
             seen[leg] = next.generation;
         }
     }

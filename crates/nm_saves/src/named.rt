@@ -4,15 +4,16 @@ ghost use Rattle.nm_saves.specs.Files.{AreNamed, IsNameless, IsNamed};
 ghost use Rattle.std.specs.Int.{bit_at};
 ghost use Rattle.nm_superblock.specs.Spans.{in_sync_of};
 
+use nm_geometry::LegSet;
 use nm_superblock::LegSets;
 
 // Which legs are named.
-pub(crate) fn named_legs(sets: &LegSets) -> [bool; 8]
+pub(crate) fn named_legs(sets: &LegSets) -> LegSet
     ensures { AreNamed 8 sets.now result }
 {
-    let mut named = [false; 8];
+    let mut named = LegSet::none();
     'legs: for leg in 0..8 {
-        named[leg] = is_named(sets, leg);
+        named.set(leg, is_named(sets, leg));
     }
     named
 }

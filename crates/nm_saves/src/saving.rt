@@ -1,10 +1,11 @@
 //! Saving one superblock into the files of some legs, one after the other.
-ghost use Rattle.std.specs.Prelude.{◌<◌, ◌↔◌, IsTrue, is_ok, not};
+ghost use Rattle.std.specs.Prelude.{◌≡◌, ◌<◌, false, is_ok, not, replicate};
 ghost use Rattle.nm_saves.specs.Errors.{KeepsErrors, KeepsFirst};
-ghost use Rattle.nm_saves.specs.Files.{HasFailed, SavesAt, SavesTo, round_of};
+ghost use Rattle.nm_saves.specs.Files.{SavesAt, SavesTo, round_of};
 
 use crate::slot_file::SlotFile;
 use crate::superblock_file::SuperblockFile;
+use nm_geometry::LegSet;
 use nm_superblock::Superblock;
 use std::io;
 use std::io::ErrorKind;
@@ -13,8 +14,19 @@ use std::io::ErrorKind;
 /// Where there is none, the save could not begin.
 #[derive(Clone, Copy, PartialEq, Eq)]
 pub struct FailedFiles {
-    /// For each leg whether it is one.
-    pub legs: [bool; 8],
+    /// These legs.
+    pub legs: LegSet,
+}
+
+impl FailedFiles {
+    // What is answered for a save that could not begin.
+    pub(crate) fn none() -> FailedFiles
+        ensures { result.legs ≡ replicate 8 false }
+    {
+        FailedFiles {
+            legs: LegSet::none(),
+        }
+    }
 }
 
 // Saves into the files of these legs. The answer is where that failed; the first error of each leg
@@ -23,15 +35,15 @@ pub(crate) fn save_to<F: SlotFile>(
     files: &mut [Option<SuperblockFile<F>>],
     errors: &mut [Option<io::Error>; 8],
     next: &Superblock,
-    to: &[bool; 8],
-) -> [bool; 8]
+    to: &LegSet,
+) -> LegSet
     ensures files { SavesTo 8 F.honest (round_of next.now to.now result) files.old files.new }
     ensures errors { KeepsErrors result errors.old errors.new }
 {
-    let mut failed = [false; 8];
+    let mut failed = LegSet::none();
     'legs: for leg in 0..8 {
-        if to[leg] {
-            failed[leg] = !has_saved(files, &mut errors[leg], next, leg);
+        if to.has(leg) {
+            failed.set(leg, !has_saved(files, &mut errors[leg], next, leg));
         }
     }
     failed
@@ -82,16 +94,4 @@ fn save_at<F: SlotFile>(
 // The error of a leg that has no file.
 fn no_file() -> io::Error {
     io::Error::from(ErrorKind::NotFound)
-}
-
-// Whether it failed for some leg.
-pub(crate) fn has_failed(failed: &[bool; 8]) -> bool
-    ensures { IsTrue result ↔ HasFailed failed.now }
-{
-    'legs: for leg in 0..8 {
-        if failed[leg] {
-            return true;
-        }
-    }
-    false
 }

@@ -7,9 +7,10 @@ ghost use Rattle.nm_saves.specs.SavingAll.{IsDone, IsUndone, TakesNone, request_
 use crate::knowing::{failed_legs, highest_of, other_legs, seen_after};
 use crate::named::{is_nameless, named_legs};
 use crate::saved::Saved;
-use crate::saving::{FailedFiles, has_failed, save_to};
+use crate::saving::{FailedFiles, save_to};
 use crate::slot_file::SlotFile;
 use crate::superblock_file::SuperblockFile;
+use nm_geometry::LegSet;
 use nm_superblock::{LegSets, SpanMap, Superblock};
 use std::io;
 use std::marker::Model;
@@ -80,7 +81,7 @@ impl<F: SlotFile> SuperblockFiles<F> {
     }
 
     /// The legs whose file has failed, so that it is not written again.
-    pub fn failed(&self) -> [bool; 8]
+    pub fn failed(&self) -> LegSet
         ensures { AreFailed 8 self.now.files result }
     {
         failed_legs(&self.files)
@@ -110,7 +111,7 @@ impl<F: SlotFile> SuperblockFiles<F> {
         marked: &SpanMap,
         clean: bool,
         changed: &[u64; 8],
-        out: &[bool; 8],
+        out: &LegSet,
     ) -> Result<Saved, FailedFiles>
         ensures done { OnOk result (IsDone F.honest
             (request_of sets.now marked.now clean changed.now out.now) self.old self.new) }
@@ -123,10 +124,10 @@ impl<F: SlotFile> SuperblockFiles<F> {
             self.old self.new) }
     {
         if is_nameless(sets, self.image.stripes) {
-            return Err(FailedFiles { legs: [false; 8] });
+            return Err(FailedFiles::none());
         }
         let Some(generation) = self.highest.checked_add(1) else {
-            return Err(FailedFiles { legs: [false; 8] });
+            return Err(FailedFiles::none());
         };
         let mut next = self.image;
         next.generation = generation;
@@ -137,7 +138,7 @@ impl<F: SlotFile> SuperblockFiles<F> {
         self.highest = generation;
         let named = named_legs(sets);
         let failed = save_to(&mut self.files, &mut self.errors, &next, &named);
-        if has_failed(&failed) {
+        if failed.has_some() {
             return Err(FailedFiles { legs: failed });
         }
         let others = other_legs(&named, out);

@@ -1,11 +1,6 @@
--- One leg more is told, and the others stay.
-use Rattle.std.proofs.Common.{arith}
-use Rattle.std.proofs.lemmas.Bool.{cases_eq}
-use Rattle.std.proofs.lemmas.List.{get_or-set_other, get_or-set_same, length-set}
+-- They are all legs but those that are named or out.
+use Rattle.nm_saves.proofs.LegSetLemmas.{in-neither}
 use Rattle.nm_saves.proofs.knowing.other_legs.Goals as goal
 
-pub legs-preserved : goal.legs-preserved
-legs-preserved c = (
-  grind (arith, length-set),
-  λ leg below. grind (arith, cases_eq leg c.legs.leg, get_or-set_other, get_or-set_same),
-)
+pub returns : goal.returns
+returns c = in-neither c.args.named.now c.args.out.now c.of.result c.or.result c.without.result c.of.ensures c.or.ensures c.without.ensures

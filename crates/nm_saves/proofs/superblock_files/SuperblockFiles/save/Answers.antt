@@ -9,8 +9,8 @@ use Rattle.nm_saves.specs.SavingAll.{FilesState, IsDone, IsUndone, Request, next
 use Rattle.nm_saves.proofs.BothRounds.{is-done, not-so, undone}
 use Rattle.nm_saves.proofs.superblock_files.SuperblockFiles.save.Goals as goal
 
-pub returns-then-has_failed-clause-undone : goal.returns-then-has_failed-clause-undone
-returns-then-has_failed-clause-undone g c =
+pub returns-then-has_some-clause-undone : goal.returns-then-has_some-clause-undone
+returns-then-has_some-clause-undone g c =
     let honest = g.F.SlotFile.honest in
     let r : Request = request_of c.args.sets.now c.args.marked.now c.args.clean c.args.changed.now c.args.out.now in
     let named = c.named_legs-named.result in
@@ -27,7 +27,7 @@ returns-then-has_failed-clause-undone g c =
     inr (subst (λ (fs : List (Option FileState)). IsUndone honest r failed c.args.self.now (record new { files = fs }))
     (sym (with_items_is c.self.inside.files new.files long))
     (subst (λ (f : FilesState). IsUndone honest r failed f new) c.self.view_is
-    (undone honest r named failed old new next is c.named_legs-named.ensures saves c.save_to-failed.ensures.errors (c.has_failed.ensures.0 c.if-has_failed.true) number refl)))
+    (undone honest r named failed old new next is c.named_legs-named.ensures saves c.save_to-failed.ensures.errors (c.has_some.ensures.0 c.if-has_some.true) number refl)))
 
 pub returns-clause-done : goal.returns-clause-done
 returns-clause-done g c =
@@ -55,5 +55,5 @@ returns-clause-done g c =
     (sym (with_items_is (with_items c.self.inside.files mid) new.files longer))
     (subst (λ (f : FilesState). IsDone honest r f new) c.self.view_is
     (is-done honest r named failed others lacking old new mid next c.save_to-failed.new.errors c.save_to-failed.ensures.errors c.save_to-lacking.ensures.errors is c.named_legs-named.ensures first
-    (not-so c.has_failed.result c.has_failed.ensures.1 c.if-has_failed.false)
+    (not-so c.has_some.result c.has_some.ensures.1 c.if-has_some.false)
     c.other_legs-others.ensures second c.seen_after-next.ensures number (ap (λ (s : Superblock). record s { seen = c.seen_after-next.result }) is)))
