@@ -63,8 +63,8 @@ impl LegClaims {
         }
     }
 
-    // Those of no superblock.
-    pub(crate) fn none() -> LegClaims
+    /// Those of no superblock: on no leg.
+    pub fn none() -> LegClaims
         ensures { result ≡ no_claims }
     {
         LegClaims {

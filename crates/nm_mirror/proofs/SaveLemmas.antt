@@ -9,7 +9,8 @@ use Rattle.nm_gate.specs.declared.leg_claims.LegClaims.{LegClaims}
 use Rattle.nm_superblock.specs.declared.leg_sets.LegSets.{LegSets}
 use Rattle.nm_superblock.specs.Spans.{mark_of}
 use Rattle.nm_superblock.specs.declared.span_map.SpanMap.{SpanMap}
-use Rattle.nm_mirror.specs.Saves.{IsJoined, IsSetOf, Says, SetsClaims, bit}
+use Rattle.nm_geometry.specs.LegSets.{AreBitsOf}
+use Rattle.nm_mirror.specs.Saves.{IsJoined, Says, SetsClaims, bit}
 
 -- the first bits are those of the flags, and the others are 0
 abbrev pub AreBits : (ℕ → ℕ) → List Bool → (count done : ℕ) → Type 0
@@ -71,12 +72,12 @@ at-other xs k a b c i first second third =
 -- the sets of a stripe once its three bytes are written
 pub sets-claims : (claims : LegClaims) (stripe a b c : ℕ) (old new : LegSets) → 4 * stripe + 2 < length old.bytes
     → new.bytes ≡ set (set (set old.bytes (4 * stripe) a) (4 * stripe + 1) b) (4 * stripe + 2) c
-    → IsSetOf claims.in_sync a → IsSetOf claims.candidates b → IsSetOf claims.partial c → SetsClaims claims stripe old new
+    → AreBitsOf claims.in_sync a → AreBitsOf claims.candidates b → AreBitsOf claims.partial c → SetsClaims claims stripe old new
 sets-claims claims stripe a b c old new inside is in_sync candidates partial = record {
   says = (
-    subst (IsSetOf claims.in_sync) (sym (at (4 * stripe) ∙ at-first old.bytes (4 * stripe) a b c inside)) in_sync,
-    subst (IsSetOf claims.candidates) (sym (at (4 * stripe + 1) ∙ at-second old.bytes (4 * stripe) a b c inside)) candidates,
-    subst (IsSetOf claims.partial) (sym (at (4 * stripe + 2) ∙ at-third old.bytes (4 * stripe) a b c inside)) partial,
+    subst (AreBitsOf claims.in_sync) (sym (at (4 * stripe) ∙ at-first old.bytes (4 * stripe) a b c inside)) in_sync,
+    subst (AreBitsOf claims.candidates) (sym (at (4 * stripe + 1) ∙ at-second old.bytes (4 * stripe) a b c inside)) candidates,
+    subst (AreBitsOf claims.partial) (sym (at (4 * stripe + 2) ∙ at-third old.bytes (4 * stripe) a b c inside)) partial,
   );
   others = λ other differs. (
     at (4 * other) ∙ at-other old.bytes (4 * stripe) a b c (4 * other)
@@ -149,14 +150,6 @@ marks-among marks old now few joined span mark = ⊎_elim
     (λ past. let none : get_or marks span false ≡ false = get_or_past marks span false (omega (arith, few, past)) in cc)
     (cases_lt span 16384)
 
--- a byte in which one bit more is set
-pub byte-set : (byte : ℕ) (flags : List Bool) (done : ℕ) → AreBits (bit_at byte) flags 8 done → done < 8
-    → get_or flags done false ≡ true → AreBits (bit_at (bit_or byte (1 * 2 ^ done % 256))) flags 8 (done + 1)
-byte-set byte flags done are inside flag =
-    bit-set (bit_at byte) (bit_at (bit_or byte (1 * 2 ^ done % 256))) flags 8 done are inside flag
-    (bit_at_set_same w8 byte done inside)
-    (λ i within differs. bit_at_set_other w8 byte done inside i differs)
-
 -- a map that marks nothing
 abbrev pub unmarked : SpanMap
 unmarked = record { bytes = replicate 2048 0 }
@@ -185,8 +178,8 @@ says-more claims d done old new inside said writes = λ number one below at. ⊎
     (λ before.
     let before_it = said number one before at in
     let others = writes.others number (λ same. absurd (omega (arith, same, before))) in (
-      subst (IsSetOf one.in_sync) (sym others.0) before_it.0,
-      subst (IsSetOf one.candidates) (sym others.1) before_it.1,
-      subst (IsSetOf one.partial) (sym others.2) before_it.2,
+      subst (AreBitsOf one.in_sync) (sym others.0) before_it.0,
+      subst (AreBitsOf one.candidates) (sym others.1) before_it.1,
+      subst (AreBitsOf one.partial) (sym others.2) before_it.2,
     ))
     (last-or-before number done below)

@@ -3,6 +3,7 @@ use Rattle.std.specs.Prelude.{◌≡◌, ◌≢◌, ℕ, ◌<◌, Bool, true, fa
 use Rattle.std.specs.Prelude.{slice_get, slice_index_or}
 use Rattle.std.specs.Int.{bit_at}
 use Rattle.nm_gate.specs.declared.leg_claims.LegClaims.{LegClaims}
+use Rattle.nm_geometry.specs.LegSets.{AreBitsOf}
 use Rattle.nm_superblock.specs.Spans.{candidates_of, in_sync_of, mark_of, partial_of}
 use Rattle.nm_superblock.specs.declared.leg_sets.LegSets.{LegSets}
 use Rattle.nm_superblock.specs.declared.span_map.SpanMap.{SpanMap}
@@ -12,17 +13,12 @@ abbrev pub bit : Bool → ℕ
 bit true = 1
 bit false = 0
 
--- the byte is the set of legs: bit `l` is leg `l`
-abbrev pub IsSetOf : List Bool → ℕ → Type 0
-IsSetOf set byte =
-    (leg : ℕ) → leg < 8 → bit_at byte leg ≡ bit (slice_index_or set leg false)
-
 -- the sets say of the stripe what is claimed
 abbrev pub Says : LegClaims → ℕ → LegSets → Type 0
 Says claims stripe sets =
-    IsSetOf claims.in_sync (in_sync_of stripe sets)
-    × IsSetOf claims.candidates (candidates_of stripe sets)
-    × IsSetOf claims.partial (partial_of stripe sets)
+    AreBitsOf claims.in_sync (in_sync_of stripe sets)
+    × AreBitsOf claims.candidates (candidates_of stripe sets)
+    × AreBitsOf claims.partial (partial_of stripe sets)
 
 -- the sets say of each stripe what is claimed
 abbrev pub SaysClaims : List LegClaims → LegSets → Type 0

@@ -2,6 +2,7 @@
 ghost use Rattle.std.specs.Prelude.{◌≡◌, ◌&&◌, false, nat_le, not, true};
 ghost use Rattle.nm_mirror.specs.SaveDesk.{asked, asked_again, no_wants, taken, wanted_of};
 
+use nm_geometry::LegSet;
 use std::sync::{Condvar, Mutex, Wait};
 use std::time::{Clock, Duration};
 
@@ -14,7 +15,7 @@ pub(crate) struct Wanted {
     /// The spans that it is to mark.
     pub spans: [bool; MOST_SPANS],
     /// The legs that it is to call partial in no stripe.
-    pub whole: [bool; 8],
+    pub whole: LegSet,
 }
 
 // What is wanted of the next save, and how many there were.
@@ -23,7 +24,7 @@ struct Wants {
     // The spans that it is to mark.
     spans: [bool; MOST_SPANS],
     // The legs that it is to call partial in no stripe.
-    whole: [bool; 8],
+    whole: LegSet,
     is_wanted: bool,
     begun: u64,
     ended: u64,
@@ -41,7 +42,7 @@ impl Wants {
     {
         Wants {
             spans: [false; MOST_SPANS],
-            whole: [false; 8],
+            whole: LegSet::none(),
             is_wanted: false,
             begun: 0,
             ended: 0,
@@ -67,7 +68,7 @@ impl Wants {
         }
         if let Some(leg) = whole {
             if leg < 8 {
-                self.whole[leg as usize] = true;
+                self.whole.set(leg as usize, true);
             }
         }
     }
@@ -106,7 +107,7 @@ impl Wants {
             whole: self.whole,
         };
         self.spans = [false; MOST_SPANS];
-        self.whole = [false; 8];
+        self.whole = LegSet::none();
         self.is_wanted = false;
         self.begun = self.begun.saturating_add(1);
         wanted

@@ -1,22 +1,16 @@
 //! What the next superblock says of each stripe.
 ghost use Rattle.std.specs.Prelude.{◌≡◌, ◌<◌, slice_index_or};
 ghost use Rattle.nm_gate.specs.Claims.{no_claims};
-ghost use Rattle.nm_mirror.specs.Saves.{IsMapOf, IsSetOf, SaysClaims, SetsClaims};
+ghost use Rattle.nm_mirror.specs.Saves.{IsMapOf, SaysClaims, SetsClaims};
 
 use crate::save_desk::MOST_SPANS;
 use crate::save_taking::Taken;
 use nm_gate::LegClaims;
+use nm_geometry::LegSet;
 use nm_superblock::{LegSets, SpanMap};
 
 /// How many stripes a mirror has at most.
 pub(crate) const MOST_STRIPES: usize = nm_geometry::MOST_STRIPES as usize;
-
-/// The claims on no leg.
-pub(crate) const NO_CLAIMS: LegClaims = LegClaims {
-    in_sync: [false; 8],
-    candidates: [false; 8],
-    partial: [false; 8],
-};
 
 /// What the next superblock says of each stripe: what each claims of its legs, but for those that
 /// are to be whole, and the spans that are marked. Only a mirror makes one, as a save begins, and
@@ -25,25 +19,12 @@ pub(crate) const NO_CLAIMS: LegClaims = LegClaims {
 pub struct SaveOrder {
     pub(crate) claims: [LegClaims; MOST_STRIPES],
     pub(crate) spans: [bool; MOST_SPANS],
-    pub(crate) whole: [bool; 8],
+    pub(crate) whole: LegSet,
     sets: LegSets,
     marked: SpanMap,
-    out: [bool; 8],
+    out: LegSet,
     ghost said: { SaysClaims claims sets },
     ghost mapped: { IsMapOf spans marked },
-}
-
-/// The set of legs as a byte.
-fn byte_of(set: &[bool; 8]) -> u8
-    ensures { IsSetOf set.now result }
-{
-    let mut byte = 0u8;
-    'legs: for leg in 0..8 {
-        if set[leg] {
-            byte |= 1 << leg;
-        }
-    }
-    byte
 }
 
 /// Writes what is claimed in the stripe.
@@ -51,9 +32,9 @@ fn put_claims(sets: &mut LegSets, stripe: usize, claims: &LegClaims)
     requires { stripe < 64 }
     ensures { SetsClaims claims.now stripe sets.old sets.new }
 {
-    sets.bytes[4 * stripe] = byte_of(&claims.in_sync);
-    sets.bytes[4 * stripe + 1] = byte_of(&claims.candidates);
-    sets.bytes[4 * stripe + 2] = byte_of(&claims.partial);
+    sets.bytes[4 * stripe] = claims.in_sync.bits();
+    sets.bytes[4 * stripe + 1] = claims.candidates.bits();
+    sets.bytes[4 * stripe + 2] = claims.partial.bits();
 }
 
 /// The sets of each stripe that are claimed.
@@ -83,7 +64,7 @@ fn map_of(spans: &[bool; MOST_SPANS]) -> SpanMap
 impl SaveOrder {
     /// What a superblock says that makes the claims that were taken, and marks the spans; and the
     /// legs that are out in every stripe, and those that are to be whole.
-    pub(crate) fn new(taken: Taken, whole: [bool; 8]) -> SaveOrder
+    pub(crate) fn new(taken: Taken, whole: LegSet) -> SaveOrder
         ensures claims { result.claims ≡ taken.claims }
         ensures spans { result.spans ≡ taken.spans }
         ensures out { result.out ≡ taken.out }
@@ -127,7 +108,7 @@ impl SaveOrder {
     }
 
     /// The legs that are out in every stripe.
-    pub fn out(&self) -> [bool; 8]
+    pub fn out(&self) -> LegSet
         ensures { result ≡ self.now.out }
     {
         self.out

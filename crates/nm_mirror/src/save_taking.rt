@@ -9,9 +9,10 @@ ghost use Rattle.nm_rules.specs.Invariant.{HasLegs};
 ghost use Rattle.nm_rules.specs.State.{is_out};
 
 use crate::save_desk::MOST_SPANS;
-use crate::save_order::{MOST_STRIPES, NO_CLAIMS, SaveOrder};
+use crate::save_order::{MOST_STRIPES, SaveOrder};
 use crate::whole::called_whole;
 use nm_gate::{GatedStripe, LegClaims};
+use nm_geometry::LegSet;
 use nm_leg::LegPart;
 use nm_stripe::{LegState, Stripe};
 
@@ -52,19 +53,19 @@ fn stays_out<L: LegPart>(out: bool, stripe: &Stripe<L>, leg: u8) -> bool
 }
 
 /// The legs of the set that are out in the stripe, too.
-fn kept_out<L: LegPart>(stripe: &Stripe<L>, out: &[bool; 8]) -> [bool; 8]
+fn kept_out<L: LegPart>(stripe: &Stripe<L>, out: &LegSet) -> LegSet
     ensures { KeepsOut stripe.now out.now result }
 {
-    [
-        stays_out(out[0], stripe, 0),
-        stays_out(out[1], stripe, 1),
-        stays_out(out[2], stripe, 2),
-        stays_out(out[3], stripe, 3),
-        stays_out(out[4], stripe, 4),
-        stays_out(out[5], stripe, 5),
-        stays_out(out[6], stripe, 6),
-        stays_out(out[7], stripe, 7),
-    ]
+    LegSet::of([
+        stays_out(out.has(0), stripe, 0),
+        stays_out(out.has(1), stripe, 1),
+        stays_out(out.has(2), stripe, 2),
+        stays_out(out.has(3), stripe, 3),
+        stays_out(out.has(4), stripe, 4),
+        stays_out(out.has(5), stripe, 5),
+        stays_out(out.has(6), stripe, 6),
+        stays_out(out.has(7), stripe, 7),
+    ])
 }
 
 /// What a save has taken from the stripes so far: what each claims of its legs, the spans that are
@@ -72,7 +73,7 @@ fn kept_out<L: LegPart>(stripe: &Stripe<L>, out: &[bool; 8]) -> [bool; 8]
 pub(crate) struct Taken {
     pub claims: [LegClaims; MOST_STRIPES],
     pub spans: [bool; MOST_SPANS],
-    pub out: [bool; 8],
+    pub out: LegSet,
 }
 
 impl Taken {
@@ -83,15 +84,15 @@ impl Taken {
         ensures out { result.out ≡ replicate 8 true }
     {
         Taken {
-            claims: [NO_CLAIMS; MOST_STRIPES],
+            claims: [LegClaims::none(); MOST_STRIPES],
             spans,
-            out: [true; 8],
+            out: LegSet::of([true; 8]),
         }
     }
 
     /// Begins a save in this stripe, and takes from it what the next superblock says of it, which
     /// calls these legs partial no more.
-    pub(crate) fn take<L: LegPart>(&mut self, gated: &mut GatedStripe<L>, whole: &[bool; 8])
+    pub(crate) fn take<L: LegPart>(&mut self, gated: &mut GatedStripe<L>, whole: &LegSet)
         requires { gated.old.stripe.place.stripe < 64 }
         ensures takes { Takes gated.old whole.now self.old self.new }
         ensures begins { BeginsAt self.new.spans gated.old gated.new }

@@ -8,6 +8,7 @@ use crate::mirror::Mirror;
 use crate::save_desk::{MOST_SPANS, Wanted};
 use crate::save_order::SaveOrder;
 use crate::save_taking::{Taken, end_at, fail_at, join_marks};
+use nm_geometry::LegSet;
 use nm_lanes::Gate;
 use nm_leg::LegPart;
 use nm_saves::Saved;
@@ -66,7 +67,7 @@ impl<L: LegPart, G: Gate + Drop> Mirror<L, G> {
             Some(desk) => desk.begin(rt),
             None => Wanted {
                 spans: [false; MOST_SPANS],
-                whole: [false; 8],
+                whole: LegSet::none(),
             },
         }
     }
@@ -83,7 +84,7 @@ impl<L: LegPart, G: Gate + Drop> Mirror<L, G> {
 
     /// Takes from each stripe what the next superblock says of it, with these spans.
     #[tactic(auto, using(crate::proofs::TakingLemmas::none_taken, crate::proofs::TakingLemmas::none_long, crate::proofs::TakingLemmas::take_more, crate::proofs::TakingLemmas::take_long, crate::proofs::TakingLemmas::take_among, crate::proofs::TakingLemmas::among_same))]
-    fn take_all<R: Wait>(&self, rt: &R, spans: [bool; MOST_SPANS], whole: &[bool; 8]) -> Taken
+    fn take_all<R: Wait>(&self, rt: &R, spans: [bool; MOST_SPANS], whole: &LegSet) -> Taken
         ensures taken { IsTaken L self.now.shape.stripes whole.now result }
         ensures wanted { AreAmong spans result.spans }
     {

@@ -1,20 +1,21 @@
 //! Syncs that no client asks for: of what was not flushed, and of stripes that are at rest, whose
 //! marks are cleared.
-ghost use Rattle.std.specs.Prelude.{◌≡◌, ◌<◌, ◌&&◌, ℕ, false, length, IfSome, IsTrue, None};
+ghost use Rattle.std.specs.Prelude.{◌≡◌, ◌<◌, ◌↔◌, ℕ, false, length, IfSome, IsTrue, None};
 ghost use Rattle.std.specs.Prelude.{slice_index_or};
 ghost use Rattle.std.specs.List.{list_any};
 ghost use Rattle.nm_leg.specs.Leg.{leg_type};
-ghost use Rattle.nm_gate.specs.Claims.{has, legs_where, marks_of};
+ghost use Rattle.nm_gate.specs.Claims.{legs_where, marks_of};
 ghost use Rattle.nm_gate.specs.Settling.{EndsInFailure, MaySettle, TriesSync};
-ghost use Rattle.nm_mirror.specs.Saves.{IsSetOf};
+ghost use Rattle.nm_geometry.specs.LegSets.{AreBitsOf};
 ghost use Rattle.nm_mirror.specs.Settling.{WasSynced, SyncsFirst, SyncsSome};
-ghost use Rattle.nm_mirror.specs.Settling.{has_at_work, is_at_work};
+ghost use Rattle.nm_mirror.specs.Settling.{HasAtWork, is_at_work};
 
 use crate::ask::{Ask, refusal_of};
 use crate::doubts::Doubts;
 use crate::lock::Lock;
 use crate::mirror::Mirror;
 use nm_gate::GatedStripe;
+use nm_geometry::LegSet;
 use nm_lanes::Gate;
 use nm_leg::LegPart;
 use nm_stripe::{LegState, Refusal, Stripe, Syncing};
@@ -63,10 +64,10 @@ fn is_at_work<L: LegPart>(stripe: &Stripe<L>, leg: u8) -> bool
 }
 
 /// The legs that are not out in the stripe.
-fn at_work<L: LegPart>(stripe: &Stripe<L>) -> [bool; 8]
+fn at_work<L: LegPart>(stripe: &Stripe<L>) -> LegSet
     ensures { result ≡ legs_where (is_at_work stripe.now) }
 {
-    [
+    LegSet::of([
         is_at_work(stripe, 0),
         is_at_work(stripe, 1),
         is_at_work(stripe, 2),
@@ -75,28 +76,12 @@ fn at_work<L: LegPart>(stripe: &Stripe<L>) -> [bool; 8]
         is_at_work(stripe, 5),
         is_at_work(stripe, 6),
         is_at_work(stripe, 7),
-    ]
-}
-
-/// The legs of the one set that are in the other, too.
-fn in_both(one: &[bool; 8], other: &[bool; 8]) -> [bool; 8]
-    ensures { result ≡ legs_where (λ leg. has leg one.now && has leg other.now) }
-{
-    [
-        one[0] && other[0],
-        one[1] && other[1],
-        one[2] && other[2],
-        one[3] && other[3],
-        one[4] && other[4],
-        one[5] && other[5],
-        one[6] && other[6],
-        one[7] && other[7],
-    ]
+    ])
 }
 
 /// The legs that are in doubt.
-fn doubted_of<D: Doubts>(doubts: &D) -> [bool; 8] {
-    [
+fn doubted_of<D: Doubts>(doubts: &D) -> LegSet {
+    LegSet::of([
         doubts.is_doubted(0),
         doubts.is_doubted(1),
         doubts.is_doubted(2),
@@ -105,15 +90,15 @@ fn doubted_of<D: Doubts>(doubts: &D) -> [bool; 8] {
         doubts.is_doubted(5),
         doubts.is_doubted(6),
         doubts.is_doubted(7),
-    ]
+    ])
 }
 
 /// Whether a leg of those in doubt is not out in the stripe. A sync of it tells nothing of what it
 /// was written before.
-fn has_doubted<L: LegPart>(stripe: &Stripe<L>, doubted: &[bool; 8]) -> bool
-    ensures { result ≡ has_at_work stripe.now doubted.now }
+fn has_doubted<L: LegPart>(stripe: &Stripe<L>, doubted: &LegSet) -> bool
+    ensures { IsTrue result ↔ HasAtWork stripe.now doubted.now }
 {
-    in_both(&at_work(stripe), doubted).iter().any(|on| *on)
+    at_work(stripe).and(doubted).has_some()
 }
 
 /// Clears the stripe's marks where its legs are equal and none is in doubt. Whether it had some,
@@ -152,16 +137,9 @@ fn settle<L: LegPart, R: Wait, D: Doubts>(rt: &R, lock: &Lock<L>, doubts: &D) ->
 
 /// The legs that are not out in the stripe, a bit each.
 fn legs_at_work<L: LegPart>(stripe: &Stripe<L>) -> u8
-    ensures { IsSetOf (legs_where (is_at_work stripe.now)) result }
+    ensures { AreBitsOf (legs_where (is_at_work stripe.now)) result }
 {
-    let at_work = at_work(stripe);
-    let mut legs = 0u8;
-    'legs: for leg in 0..8 {
-        if at_work[leg] {
-            legs |= 1 << leg;
-        }
-    }
-    legs
+    at_work(stripe).bits()
 }
 
 impl<L: LegPart, G: Gate + Drop> Mirror<L, G> {

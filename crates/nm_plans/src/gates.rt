@@ -2,8 +2,9 @@
 ghost use Rattle.std.specs.Prelude.{◌≡◌, ◌<◌, ◌≤◌, min, IfOk, length};
 ghost use Rattle.nm_plans.specs.Plan.{AreDurablesOf, IsDurableOf, spans_of};
 
-use crate::sets::{legs_in, marks_in};
+use crate::sets::marks_in;
 use nm_gate::DurableState;
+use nm_geometry::LegSet;
 use nm_leg::LegPart;
 use nm_mirror::MOST_SPANS;
 use nm_stripe::{At, Stripe};
@@ -33,9 +34,9 @@ pub fn durable_state(
     let named = image.sets.in_sync(stripe);
     let marks = marks_in(alloc, &image.marked, spans)?;
     Ok(DurableState::new(
-        legs_in(named),
-        legs_in(named | image.sets.candidates(stripe)),
-        legs_in(image.sets.partial(stripe)),
+        LegSet::of_bits(named),
+        LegSet::of_bits(named | image.sets.candidates(stripe)),
+        LegSet::of_bits(image.sets.partial(stripe)),
         marks,
         u64::from(image.span_regions.max(1)),
     ))

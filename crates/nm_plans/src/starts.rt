@@ -4,6 +4,7 @@ ghost use Rattle.nm_assemble.specs.Legs.{IsNameless};
 ghost use Rattle.nm_plans.specs.Plan.{AreStartsOf, IsStartOf, IsUnplanned, OpensBy, opening_of};
 
 use nm_assemble::{LegStart, leg_start, named_leg};
+use nm_geometry::LegSet;
 use nm_mirror::StripeStart;
 use nm_rules::LegOpening;
 use nm_superblock::Superblock;
@@ -40,7 +41,7 @@ fn leg_opening(image: &Superblock, leg: usize, stripe: usize, is_here: bool) -> 
 
 /// How a stripe opens by the image, where the files of these legs are here: on the first leg that
 /// it names. None where it names none.
-pub fn stripe_start(image: &Superblock, stripe: usize, here: &[bool; 8]) -> Option<StripeStart>
+pub fn stripe_start(image: &Superblock, stripe: usize, here: &LegSet) -> Option<StripeStart>
     requires { stripe < 64 }
     ensures some { IfSome result (λ opens. IsStartOf image.now stripe here.now opens) }
     ensures none { IfNone result (IsNameless 8 stripe image.now) }
@@ -48,7 +49,7 @@ pub fn stripe_start(image: &Superblock, stripe: usize, here: &[bool; 8]) -> Opti
     let master = named_leg(image, stripe)?;
     let mut legs = [LegOpening::Missing; 8];
     'legs: for leg in 0..8 {
-        legs[leg] = leg_opening(image, leg, stripe, here[leg]);
+        legs[leg] = leg_opening(image, leg, stripe, here.has(leg));
     }
     Some(StripeStart {
         master: master as u8,
@@ -60,7 +61,7 @@ pub fn stripe_start(image: &Superblock, stripe: usize, here: &[bool; 8]) -> Opti
 pub fn stripe_starts(
     alloc: Global,
     image: &Superblock,
-    here: &[bool; 8],
+    here: &LegSet,
 ) -> Result<Vec<StripeStart>, Unplanned>
     ensures ok { IfOk result (λ starts.
         AreStartsOf (min image.now.stripes 64) image.now here.now starts.items) }
