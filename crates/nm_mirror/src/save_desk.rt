@@ -40,9 +40,10 @@ impl Wants {
     fn new() -> Wants
         ensures { result ≡ no_wants }
     {
+        let whole = LegSet::none();
         Wants {
             spans: [false; MOST_SPANS],
-            whole: LegSet::none(),
+            whole,
             is_wanted: false,
             begun: 0,
             ended: 0,
@@ -67,6 +68,7 @@ impl Wants {
             }
         }
         if let Some(leg) = whole {
+            self.whole.eight_legs();
             if leg < 8 {
                 self.whole.set(leg as usize, true);
             }
