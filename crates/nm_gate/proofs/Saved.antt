@@ -1,5 +1,5 @@
 -- A save's begin and end are moves.
-use Rattle.std.proofs.Common.{◌≡◌, ◌⊎◌, ⊎_elim, inl, inr, ℕ, zero, suc, ◌<◌, ◌≤◌, ◌/◌, arith, Bool, true, false, not, ◌&&◌, ◌||◌, List, [], ◌∷◌, Option, Some, IfSome, length, nat_lt, refl, sym, ap, ◌∙◌, subst, slice_index_or}
+use Rattle.std.proofs.Common.{◌≡◌, ◌⊎◌, ⊎_elim, inl, inr, ℕ, ◌<◌, ◌≤◌, ◌/◌, arith, Bool, true, false, not, ◌&&◌, ◌||◌, List, [], ◌∷◌, Option, Some, IfSome, length, nat_lt, refl, sym, ap, ◌∙◌, subst, slice_index_or}
 use Rattle.std.proofs.lemmas.Bool.{cases_lt}
 use Rattle.std.proofs.lemmas.List.{get_or_past}
 use Rattle.nm_choice.specs.declared.leg_state.LegState.{LegState}
@@ -17,22 +17,11 @@ use Rattle.nm_gate.specs.Durable.{Durable, is_lacking, is_listed, is_marked, is_
 use Rattle.nm_gate.specs.Moves.{Gated, Saves}
 use Rattle.nm_gate.specs.Saves.{IsCovered, Resaves}
 use Rattle.nm_gate.proofs.Bounded.{saves-safe}
+use Rattle.nm_geometry.proofs.LegSetLemmas.{has-where}
 
 -- what is kept of a value that is there
 pub some-of : {A : Type 0} (P : A → Type 0) (o : Option A) (x : A) → o ≡ Some x → P x → IfSome o P
 some-of {A} P o x is p = subst (λ (v : Option A). IfSome v P) (sym is) p
-
--- of a set of eight legs each is in it of which the test is true
-pub where-below : (is : ℕ → Bool) (leg : ℕ) → leg < 8 → has leg (legs_where is) ≡ is leg
-where-below is zero below = refl
-where-below is (suc zero) below = refl
-where-below is (suc (suc zero)) below = refl
-where-below is (suc (suc (suc zero))) below = refl
-where-below is (suc (suc (suc (suc zero)))) below = refl
-where-below is (suc (suc (suc (suc (suc zero))))) below = refl
-where-below is (suc (suc (suc (suc (suc (suc zero)))))) below = refl
-where-below is (suc (suc (suc (suc (suc (suc (suc zero))))))) below = refl
-where-below is (suc (suc (suc (suc (suc (suc (suc (suc leg)))))))) below = absurd (omega (arith, below))
 
 where-past : (is : ℕ → Bool) (leg : ℕ) → 8 ≤ leg → has leg (legs_where is) ≡ false
 where-past is leg past = get_or_past (legs_where is) leg false past
@@ -45,7 +34,7 @@ eight-or leg = cases_lt leg 8
 where-true : (is : ℕ → Bool) (leg : ℕ) → has leg (legs_where is) ≡ true → (leg < 8) × (is leg ≡ true)
 where-true is leg on =
     ⊎_elim
-    (λ below. (below, sym (where-below is leg below) ∙ on))
+    (λ below. (below, sym (has-where is leg below) ∙ on))
     (λ past. absurd (let clash : true ≡ false = sym on ∙ where-past is leg past in cc))
     (eight-or leg)
 
@@ -124,8 +113,8 @@ module _ {L : Type 0} (model : L → Leg) (stripe : StripeState L) (d : Durable)
   listed-on : (leg : ℕ) → leg_state leg stripe ≡ InSync → is_listed leg new ≡ true
   listed-on leg in_sync =
       let on = current-on leg in_sync in
-      where-below (is_listed_by claims) leg on.0
-      ∙ first-on (has leg claims.in_sync) (has leg claims.candidates) (where-below (is_current_leg stripe) leg on.0 ∙ on.1)
+      has-where (is_listed_by claims) leg on.0
+      ∙ first-on (has leg claims.in_sync) (has leg claims.candidates) (has-where (is_current_leg stripe) leg on.0 ∙ on.1)
 
   partial-covered : (leg : ℕ) → is_partial stripe d marked leg ≡ true → IsCovered stripe d leg
   partial-covered leg on =
@@ -148,18 +137,18 @@ module _ (d : Durable) (claims : LegClaims) (marked : List Bool) (named : length
   pub is-widened : IsWidened d (superblock_of claims marked d) (widened claims d)
   is-widened = record {
     named = λ leg. ⊎_elim
-        (λ below. where-below (λ (l : ℕ). is_named l d || has l claims.in_sync) leg below)
+        (λ below. has-where (λ (l : ℕ). is_named l d || has l claims.in_sync) leg below)
         (λ past. where-past (λ (l : ℕ). is_named l d || has l claims.in_sync) leg past
         ∙ sym (or-off (is_named leg d) (has leg claims.in_sync) (past-of d.named leg named past) (past-of claims.in_sync leg in_sync past)))
         (eight-or leg);
     lacking = λ leg. ⊎_elim
-        (λ below. where-below (λ (l : ℕ). is_lacking l d || has l claims.partial) leg below)
+        (λ below. has-where (λ (l : ℕ). is_lacking l d || has l claims.partial) leg below)
         (λ past. where-past (λ (l : ℕ). is_lacking l d || has l claims.partial) leg past
         ∙ sym (or-off (is_lacking leg d) (has leg claims.partial) (past-of d.lacking leg lacking past) (past-of claims.partial leg partial past)))
         (eight-or leg);
     listed = λ leg. ⊎_elim
-        (λ below. where-below (λ (l : ℕ). is_listed l d && is_listed_by claims l) leg below
-        ∙ ap (λ (b : Bool). is_listed leg d && b) (sym (where-below (is_listed_by claims) leg below)))
+        (λ below. has-where (λ (l : ℕ). is_listed l d && is_listed_by claims l) leg below
+        ∙ ap (λ (b : Bool). is_listed leg d && b) (sym (has-where (is_listed_by claims) leg below)))
         (λ past. where-past (λ (l : ℕ). is_listed l d && is_listed_by claims l) leg past
         ∙ sym (and-off (is_listed leg d) (is_listed leg (superblock_of claims marked d)) (where-past (is_listed_by claims) leg past)))
         (eight-or leg);
@@ -226,7 +215,7 @@ module _ {L : Type 0} (type : LegType L) (stripe : StripeState L) (d e : Durable
       let may_be = may.legs leg on.0 in
       let rest = right-of _ _ (right-of _ _ may_be) in
       let listed = not-or (is_current_leg stripe leg && is_listed leg d) (is_listed_by claims leg) rest (both-on (is_current_leg stripe leg) (is_listed leg d) on.1 was) in
-      ap (λ (x : Durable). is_listed leg x) is.after ∙ where-below (is_listed_by claims) leg on.0 ∙ listed
+      ap (λ (x : Durable). is_listed leg x) is.after ∙ has-where (is_listed_by claims) leg on.0 ∙ listed
 
   marked-said : (region : ℕ) → is_marked region d ≡ true → is_marked region e ≡ true
   marked-said region on =

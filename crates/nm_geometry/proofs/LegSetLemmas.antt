@@ -1,9 +1,21 @@
--- The bits of a set of legs, set one after the other.
-use Rattle.std.proofs.Common.{◌≡◌, ◌≢◌, ◌⊎◌, ◌↔◌, ⊎_elim, inl, inr, ℕ, ◌+◌, ◌*◌, ◌%◌, ◌^◌, ◌<◌, ◌≤◌, bit_or, Bool, true, false, List, IsTrue, true≢false, sym, ◌∙◌, subst, arith}
+-- Which legs are in a set, and the bits of a set, set one after the other.
+use Rattle.std.proofs.Common.{◌≡◌, ◌≢◌, ◌⊎◌, ◌↔◌, ⊎_elim, inl, inr, ℕ, zero, suc, refl, ◌+◌, ◌*◌, ◌%◌, ◌^◌, ◌<◌, ◌≤◌, bit_or, Bool, true, false, List, IsTrue, true≢false, sym, ◌∙◌, subst, arith}
 use Rattle.std.specs.Int.{bit_at, w8}
 use Rattle.std.proofs.lemmas.Bool.{cases_lt}
 use Rattle.std.proofs.lemmas.Nat.Bits.{bit_at-zero, bit_at_set_other, bit_at_set_same}
-use Rattle.nm_geometry.specs.LegSets.{has}
+use Rattle.nm_geometry.specs.LegSets.{has, legs_where}
+
+-- a leg is in a set of legs of which something is true where it is true of this leg
+pub has-where : (is : ℕ → Bool) (leg : ℕ) → leg < 8 → has leg (legs_where is) ≡ is leg
+has-where is zero below = refl
+has-where is (suc zero) below = refl
+has-where is (suc (suc zero)) below = refl
+has-where is (suc (suc (suc zero))) below = refl
+has-where is (suc (suc (suc (suc zero)))) below = refl
+has-where is (suc (suc (suc (suc (suc zero))))) below = refl
+has-where is (suc (suc (suc (suc (suc (suc zero)))))) below = refl
+has-where is (suc (suc (suc (suc (suc (suc (suc zero))))))) below = refl
+has-where is (suc (suc (suc (suc (suc (suc (suc (suc leg)))))))) below = absurd (omega (arith, below))
 
 -- the first bits are those of the set, and the others are 0
 abbrev pub AreBits : ℕ → List Bool → ℕ → Type 0

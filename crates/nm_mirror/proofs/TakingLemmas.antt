@@ -1,9 +1,10 @@
 -- A save takes from one stripe after the other: what it has of the earlier ones stays among the
 -- spans, and no leg comes back into the set of those that are out.
-use Rattle.std.proofs.Common.{◌≡◌, ⊎_elim, ℕ, zero, suc, IfSome, Option, None, Some, ◌+◌, ◌<◌, ◌≤◌, ◌&&◌, ◌||◌, Bool, true, false, List, length, replicate, get_or, set, refl, sym, ap, ◌∙◌, subst, arith}
+use Rattle.std.proofs.Common.{◌≡◌, ⊎_elim, ℕ, IfSome, Option, None, Some, ◌+◌, ◌<◌, ◌≤◌, ◌&&◌, ◌||◌, Bool, true, false, List, length, replicate, get_or, set, refl, sym, ap, ◌∙◌, subst, arith}
 use Rattle.std.proofs.lemmas.Bool.{cases_lt}
 use Rattle.std.proofs.lemmas.List.{get_or-replicate, get_or-set_other, get_or-set_same, get_or_past, length-replicate, length-set}
 use Rattle.nm_gate.specs.Claims.{claims_of, has, legs_where, marks_of, no_claims}
+use Rattle.nm_geometry.proofs.LegSetLemmas.{has-where}
 use Rattle.nm_gate.specs.declared.gated_stripe.GatedStripe.{GatedStripe}
 use Rattle.nm_gate.specs.declared.leg_claims.LegClaims.{LegClaims}
 use Rattle.nm_mirror.specs.Replacing.{called_whole}
@@ -25,18 +26,6 @@ and-left false b is = is
 and-right : (a b : Bool) → (a && b) ≡ true → b ≡ true
 and-right true b is = is
 and-right false b is = absurd (cc)
-
--- what a set of eight legs has
-where-at : (f : ℕ → Bool) (leg : ℕ) → leg < 8 → has leg (legs_where f) ≡ f leg
-where-at f zero below = refl
-where-at f (suc zero) below = refl
-where-at f (suc (suc zero)) below = refl
-where-at f (suc (suc (suc zero))) below = refl
-where-at f (suc (suc (suc (suc zero)))) below = refl
-where-at f (suc (suc (suc (suc (suc zero))))) below = refl
-where-at f (suc (suc (suc (suc (suc (suc zero)))))) below = refl
-where-at f (suc (suc (suc (suc (suc (suc (suc zero))))))) below = refl
-where-at f (suc (suc (suc (suc (suc (suc (suc (suc k)))))))) below = absurd (omega arith)
 
 -- what is joined stays
 pub joined_among : (marks old new : List Bool) → IsJoined marks old new → AreAmong old new
@@ -82,7 +71,7 @@ take_more L count whole held old new inside is takes before = record {
           among = among_same new.spans;
           claims = ap (λ (claims : List LegClaims). get_or claims number no_claims) written
               ∙ subst (λ (n : ℕ). get_or (set old.claims count one) n no_claims ≡ one) (sym same) (get_or-set_same old.claims count one no_claims inside);
-          out = λ leg room out. and-right (has leg old.out) (is_out_in leg held.stripe) (sym (ap (has leg) takes.out ∙ where-at (λ l. has l old.out && is_out_in l held.stripe) leg room) ∙ out);
+          out = λ leg room out. and-right (has leg old.out) (is_out_in leg held.stripe) (sym (ap (has leg) takes.out ∙ has-where (λ l. has l old.out && is_out_in l held.stripe) leg room) ∙ out);
         },
       ))
       (λ earlier.
@@ -95,7 +84,7 @@ take_more L count whole held old new inside is takes before = record {
           marks = of.marks;
           among = among_twice was.1 old.spans new.spans of.among (joined_among (marks_of held.durable) old.spans new.spans takes.spans);
           claims = other-claims number count one old.claims new.claims written (λ same. absurd (omega (arith, same, earlier))) ∙ of.claims;
-          out = λ leg room out. of.out leg room (and-left (has leg old.out) (is_out_in leg held.stripe) (sym (ap (has leg) takes.out ∙ where-at (λ l. has l old.out && is_out_in l held.stripe) leg room) ∙ out));
+          out = λ leg room out. of.out leg room (and-left (has leg old.out) (is_out_in leg held.stripe) (sym (ap (has leg) takes.out ∙ has-where (λ l. has l old.out && is_out_in l held.stripe) leg room) ∙ out));
         },
       ))
       (last-or-before number count below);

@@ -1,18 +1,7 @@
--- Which legs are in a set that is said by what is true of its legs.
-use Rattle.std.proofs.Common.{◌≡◌, ℕ, ◌<◌, zero, suc, ◌&&◌, ◌||◌, Bool, true, false, not, List, replicate, refl, ap, ◌∙◌, arith}
+-- Which legs are in neither of two sets.
+use Rattle.std.proofs.Common.{◌≡◌, ℕ, ◌<◌, ◌&&◌, ◌||◌, Bool, true, false, not, List, replicate, refl, ap, ◌∙◌}
 use Rattle.nm_geometry.specs.LegSets.{has, legs_where}
-
--- a leg is in it where this is true of it
-has-where : (is : ℕ → Bool) (leg : ℕ) → leg < 8 → has leg (legs_where is) ≡ is leg
-has-where is zero below = refl
-has-where is (suc zero) below = refl
-has-where is (suc (suc zero)) below = refl
-has-where is (suc (suc (suc zero))) below = refl
-has-where is (suc (suc (suc (suc zero)))) below = refl
-has-where is (suc (suc (suc (suc (suc zero))))) below = refl
-has-where is (suc (suc (suc (suc (suc (suc zero)))))) below = refl
-has-where is (suc (suc (suc (suc (suc (suc (suc zero))))))) below = refl
-has-where is (suc (suc (suc (suc (suc (suc (suc (suc leg)))))))) below = absurd (omega (arith, below))
+use Rattle.nm_geometry.proofs.LegSetLemmas.{has-where}
 
 neither : (a e n o : Bool) → a ≡ true → e ≡ n || o → a && not e ≡ not n && not o
 neither false e n o all either = absurd (cc)
