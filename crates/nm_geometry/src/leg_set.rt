@@ -31,20 +31,34 @@ fn is_in(legs: &[bool; 8], leg: usize) -> bool
     leg < 8 && legs[leg]
 }
 
+// Whether the leg is in one set or the other.
+fn is_in_either(one: &[bool; 8], other: &[bool; 8], leg: usize) -> bool
+    ensures { result ≡ (has leg one.now || has leg other.now) }
+{
+    is_in(one, leg) || is_in(other, leg)
+}
+
 // The legs of one set or the other.
 fn either(one: &[bool; 8], other: &[bool; 8]) -> [bool; 8]
     ensures { result ≡ legs_where (λ leg. has leg one.now || has leg other.now) }
 {
     [
-        is_in(one, 0) || is_in(other, 0),
-        is_in(one, 1) || is_in(other, 1),
-        is_in(one, 2) || is_in(other, 2),
-        is_in(one, 3) || is_in(other, 3),
-        is_in(one, 4) || is_in(other, 4),
-        is_in(one, 5) || is_in(other, 5),
-        is_in(one, 6) || is_in(other, 6),
-        is_in(one, 7) || is_in(other, 7),
+        is_in_either(one, other, 0),
+        is_in_either(one, other, 1),
+        is_in_either(one, other, 2),
+        is_in_either(one, other, 3),
+        is_in_either(one, other, 4),
+        is_in_either(one, other, 5),
+        is_in_either(one, other, 6),
+        is_in_either(one, other, 7),
     ]
+}
+
+// Whether the leg is in both sets.
+fn is_in_both(one: &[bool; 8], other: &[bool; 8], leg: usize) -> bool
+    ensures { result ≡ (has leg one.now && has leg other.now) }
+{
+    is_in(one, leg) && is_in(other, leg)
 }
 
 // The legs of both sets.
@@ -52,15 +66,22 @@ fn both(one: &[bool; 8], other: &[bool; 8]) -> [bool; 8]
     ensures { result ≡ legs_where (λ leg. has leg one.now && has leg other.now) }
 {
     [
-        is_in(one, 0) && is_in(other, 0),
-        is_in(one, 1) && is_in(other, 1),
-        is_in(one, 2) && is_in(other, 2),
-        is_in(one, 3) && is_in(other, 3),
-        is_in(one, 4) && is_in(other, 4),
-        is_in(one, 5) && is_in(other, 5),
-        is_in(one, 6) && is_in(other, 6),
-        is_in(one, 7) && is_in(other, 7),
+        is_in_both(one, other, 0),
+        is_in_both(one, other, 1),
+        is_in_both(one, other, 2),
+        is_in_both(one, other, 3),
+        is_in_both(one, other, 4),
+        is_in_both(one, other, 5),
+        is_in_both(one, other, 6),
+        is_in_both(one, other, 7),
     ]
+}
+
+// Whether the leg is in the one set and not in the other.
+fn is_in_one(one: &[bool; 8], other: &[bool; 8], leg: usize) -> bool
+    ensures { result ≡ (has leg one.now && not (has leg other.now)) }
+{
+    is_in(one, leg) && !is_in(other, leg)
 }
 
 // The legs of the one set that are not in the other.
@@ -68,14 +89,14 @@ fn but(one: &[bool; 8], other: &[bool; 8]) -> [bool; 8]
     ensures { result ≡ legs_where (λ leg. has leg one.now && not (has leg other.now)) }
 {
     [
-        is_in(one, 0) && !is_in(other, 0),
-        is_in(one, 1) && !is_in(other, 1),
-        is_in(one, 2) && !is_in(other, 2),
-        is_in(one, 3) && !is_in(other, 3),
-        is_in(one, 4) && !is_in(other, 4),
-        is_in(one, 5) && !is_in(other, 5),
-        is_in(one, 6) && !is_in(other, 6),
-        is_in(one, 7) && !is_in(other, 7),
+        is_in_one(one, other, 0),
+        is_in_one(one, other, 1),
+        is_in_one(one, other, 2),
+        is_in_one(one, other, 3),
+        is_in_one(one, other, 4),
+        is_in_one(one, other, 5),
+        is_in_one(one, other, 6),
+        is_in_one(one, other, 7),
     ]
 }
 
