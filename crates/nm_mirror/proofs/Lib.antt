@@ -1,5 +1,6 @@
 mod ClaimingLemmas
 mod CountedLemmas
+mod GlanceLemmas
 mod ListLemmas
 mod MarkedLemmas
 mod NumberLemmas

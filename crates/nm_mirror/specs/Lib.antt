@@ -6,6 +6,7 @@ pub mod CopyRound
 pub mod Counted
 pub mod Counting
 pub mod Counts
+pub mod Glances
 pub mod Holding
 pub mod Marked
 pub mod Numbers

@@ -1,6 +1,7 @@
 //! What each stripe is doing, without waiting for one whose leg does not answer; and what one has
 //! done last.
-ghost use Rattle.std.specs.Prelude.{◌≡◌, ◌<◌, ◌≤◌, length, IfOk, IfSome};
+ghost use Rattle.std.specs.Prelude.{◌≡◌, ◌<◌, ◌≤◌, length, map, None, IfOk, IfSome, OnOk};
+ghost use Rattle.nm_mirror.specs.Glances.{AreGlancesAt, EachIsGlanceAt, IsGlanceAt};
 
 use crate::last_entries::LastEntries;
 use crate::lock::Lock;
@@ -63,7 +64,9 @@ impl Glance {
         lock: &Lock<L>,
         unsynced: Option<[u64; 8]>,
         last: Option<LastEntries>,
-    ) -> Glance {
+    ) -> Glance
+        ensures { result.told ≡ None }
+    {
         Glance {
             told: None,
             master: 0,
@@ -98,14 +101,15 @@ impl Glance {
         }
     }
 
-    // Looks at the stripe, if nobody has it right now. Where the same thread may have had it since
-    // the first look, it stays busy once that is `long` ago.
-    fn look<L: LegPart>(
-        &mut self,
-        lock: &Lock<L>,
-        alloc: Global,
-        long: bool,
-    ) -> Result<(), Memory> {
+    // Looks at the stripe, if that is still to be done and nobody has it right now. Where the same
+    // thread may have had it since the first look, it stays busy once that is `long` ago.
+    fn look<L: LegPart>(&mut self, lock: &Lock<L>, alloc: Global, long: bool) -> Result<(), Memory>
+        requires { IsGlanceAt L lock.now.number self.old }
+        ensures { IsGlanceAt L lock.now.number self.new }
+    {
+        if !self.is_open {
+            return Ok(());
+        }
         match lock.try_hold() {
             Some(held) => {
                 self.told = Some(status_of(&held.gated.stripe, alloc)?);
@@ -145,13 +149,15 @@ fn look_once<L: LegPart>(
     glances: &mut [Glance],
     alloc: Global,
     long: bool,
-) -> Result<bool, Memory> {
+) -> Result<bool, Memory>
+    requires { AreGlancesAt L (map (λ lock. lock.number) locks.now) glances.old }
+    ensures { OnOk result (AreGlancesAt L (map (λ lock. lock.number) locks.now) glances.new) }
+{
     let mut some_left = false;
-    for (lock, glance) in locks.iter().zip(glances.iter_mut()) {
-        if glance.is_open {
-            glance.look(lock, alloc, long)?;
-            some_left = some_left || glance.is_open;
-        }
+    for place in 0..glances.len() {
+        let glance = &mut glances[place];
+        glance.look(&locks[place], alloc, long)?;
+        some_left |= glance.is_open;
     }
     Ok(some_left)
 }
@@ -162,7 +168,10 @@ fn look_all<R: Clock, L: LegPart>(
     locks: &[Lock<L>],
     glances: &mut [Glance],
     alloc: Global,
-) -> Result<(), Memory> {
+) -> Result<(), Memory>
+    requires { AreGlancesAt L (map (λ lock. lock.number) locks.now) glances.old }
+    ensures { OnOk result (AreGlancesAt L (map (λ lock. lock.number) locks.now) glances.new) }
+{
     let begun = Instant::now(rt).ok();
     for _ in 0..MOST_LOOKS {
         let passed = match begun {
@@ -185,7 +194,8 @@ impl<L: LegPart, G: Gate + Drop> Mirror<L, G> {
     /// What each stripe is doing, by rising number of the stripes, within about a second and a half
     /// however many of them stay taken.
     pub fn glance<R: Wait + Clock>(&self, rt: &R, alloc: Global) -> Result<Vec<Glance>, Memory>
-        ensures { IfOk result (λ all. length all.items ≡ length self.now.locks.items) }
+        ensures all { IfOk result (λ all. length all.items ≡ self.now.shape.stripes) }
+        ensures each { IfOk result (λ all. EachIsGlanceAt L all.items) }
     {
         self.glance_with(rt, alloc, None)
     }
@@ -196,7 +206,8 @@ impl<L: LegPart, G: Gate + Drop> Mirror<L, G> {
         rt: &R,
         alloc: Global,
     ) -> Result<Vec<Glance>, Memory>
-        ensures { IfOk result (λ all. length all.items ≡ length self.now.locks.items) }
+        ensures all { IfOk result (λ all. length all.items ≡ self.now.shape.stripes) }
+        ensures each { IfOk result (λ all. EachIsGlanceAt L all.items) }
     {
         self.glance_with(rt, alloc, Some([0; 8]))
     }
@@ -233,7 +244,8 @@ impl<L: LegPart, G: Gate + Drop> Mirror<L, G> {
         alloc: Global,
         unsynced: Option<[u64; 8]>,
     ) -> Result<Vec<Glance>, Memory>
-        ensures { IfOk result (λ all. length all.items ≡ length self.now.locks.items) }
+        ensures all { IfOk result (λ all. length all.items ≡ self.now.shape.stripes) }
+        ensures each { IfOk result (λ all. EachIsGlanceAt L all.items) }
     {
         let mut all = Vec::new(alloc);
         all.reserve(self.locks.len())?;

@@ -1,0 +1,8 @@
+-- Each glance is at the stripe behind the lock in its place.
+use Rattle.std.proofs.Common.{map}
+use Rattle.nm_mirror.specs.Glances.{AreGlancesAt}
+use Rattle.nm_mirror.proofs.glance.look_all.Given as goal
+
+abbrev pub invariant-loop : goal.invariant-loop
+invariant-loop g l =
+    AreGlancesAt g.row.L.Denot (map (λ lock. lock.number) l.locks) l.glances
